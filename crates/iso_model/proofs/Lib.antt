@@ -1,0 +1,10 @@
+pub mod Agreement
+pub mod Counting
+pub mod Ends
+pub mod ExampleLemmas
+pub mod Finishing
+pub mod Keeps
+pub mod LawLemmas
+pub mod Pairs
+pub mod PropertyLemmas
+pub mod Untouched

@@ -1,0 +1,50 @@
+-- The map of a list of entries answers as a search of the list does.
+use Rattle.std.proofs.Common.{◌≡◌, ℕ, List, [], ◌∷◌, Option, Some, None, Bool, cond, string_bytes, bytes_eq, sym, ap, ◌∙◌}
+use Rattle.std.specs.FinMap.{get, insert, remove, get-insert, get-empty, get-remove, same_map, slice_cmp-IsAntisymmetric, nat_cmp-IsAntisymmetric}
+use Rattle.std.specs.Ordering.{nat_cmp, is_eq}
+use Rattle.std.specs.Cmp.Lexicographic.{slice_cmp}
+use Rattle.std.specs.Map.{lookup}
+use Rattle.std.specs.declared.string.String.{String}
+use Rattle.std.specs.declared.alloc.Global.{Global}
+use Rattle.std.specs.BTreeMap.{BTreeMap, UpdatesBy}
+use Rattle.std.specs.String.{string_cmp}
+use Rattle.std.proofs.lemmas.Map.Text.{btree_map_updates_text, is_eq-slice_cmp}
+use Rattle.std.proofs.lemmas.Slice.Eq.{bytes_eq-Decides}
+use Rattle.std.proofs.lemmas.Bool.Decides.{same_from_decides}
+use Rattle.std.proofs.lemmas.Cmp.{nat_list_cmp_total}
+use Rattle.iso_model.specs.Properties.{Map, map_of}
+
+-- whether a key of the list is spelled so
+abbrev pub is_at : List ℕ → String Global → Bool
+is_at q k = is_eq (slice_cmp nat_cmp q (string_bytes k))
+
+pub get-map_of : (es : List (String Global × List ℕ)) (q : List ℕ) → get (map_of es) q ≡ lookup (is_at q) es
+get-map_of [] q = get-empty (slice_cmp nat_cmp) q
+get-map_of (e ∷ es) q = get-insert nat_list_cmp_total (map_of es) (string_bytes e.0) e.1 q ∙ ap (λ (o : Option (List ℕ)). cond (is_at q e.0) (Some e.1) o) (get-map_of es q)
+
+-- a `BTreeMap` of these entries
+abbrev Entries : Type 0
+Entries = BTreeMap (String Global) (List ℕ)
+
+bytes_eq-sym : (x y : List ℕ) → bytes_eq x y ≡ bytes_eq y x
+bytes_eq-sym x y = same_from_decides _ _ (bytes_eq-Decides x y) (λ e. sym ((bytes_eq-Decides y x).0 e), λ e. (bytes_eq-Decides y x).1 (sym e))
+
+tested-both : (q k : List ℕ) → bytes_eq k q ≡ is_eq (slice_cmp nat_cmp q k)
+tested-both q k = bytes_eq-sym k q ∙ sym (is_eq-slice_cmp q k)
+
+-- where entries were updated at a name, so was their map
+updated : (m n : Entries) (k : List ℕ) (w : Option (List ℕ)) → UpdatesBy string_cmp (λ j. slice_cmp nat_cmp k (string_bytes j)) m n w → (q : List ℕ) → get (map_of n.entries) q ≡ cond (is_eq (slice_cmp nat_cmp q k)) w (get (map_of m.entries) q)
+updated m n k w updates q =
+    get-map_of n.entries q
+    ∙ btree_map_updates_text k m n w updates q
+    ∙ ap (λ (b : Bool). cond b w (lookup (is_at q) m.entries)) (tested-both q k)
+    ∙ ap (λ (o : Option (List ℕ)). cond (is_eq (slice_cmp nat_cmp q k)) w o) (sym (get-map_of m.entries q))
+
+same : (a b : Map) → ((q : List ℕ) → get a q ≡ get b q) → a ≡ b
+same = same_map nat_list_cmp_total (slice_cmp-IsAntisymmetric nat_cmp-IsAntisymmetric)
+
+pub map_of-insert : (m n : Entries) (k text : List ℕ) → UpdatesBy string_cmp (λ j. slice_cmp nat_cmp k (string_bytes j)) m n (Some text) → map_of n.entries ≡ insert (map_of m.entries) k text
+map_of-insert m n k text updates = same _ _ (λ q. updated m n k (Some text) updates q ∙ sym (get-insert nat_list_cmp_total (map_of m.entries) k text q))
+
+pub map_of-remove : (m n : Entries) (k : List ℕ) → UpdatesBy string_cmp (λ j. slice_cmp nat_cmp k (string_bytes j)) m n None → map_of n.entries ≡ remove (map_of m.entries) k
+map_of-remove m n k updates = same _ _ (λ q. updated m n k None updates q ∙ sym (get-remove nat_list_cmp_total (map_of m.entries) k q))

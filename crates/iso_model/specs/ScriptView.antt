@@ -1,0 +1,58 @@
+-- What the tree of a script stands for.
+use Rattle.std.specs.Prelude.{List, [], ◌∷◌, map}
+use Rattle.iso_model.specs.Chains as C
+use Rattle.iso_model.specs.Scripts.{Class, class, Member, class_member, test_member, Members, no_members, member}
+use Rattle.iso_model.specs.Scripts as S
+use Rattle.iso_model.specs.SyntaxView.{block_of}
+use Rattle.iso_model.specs.declared.heads.ClassHead.{ClassHead}
+use Rattle.iso_model.specs.declared.heads.TestHead.{TestHead}
+use Rattle.iso_model.specs.declared.script.Class as D
+use Rattle.iso_model.specs.declared.script.Member as M
+use Rattle.iso_model.specs.declared.script.Member.TheOpen.{Member-F, Class-F}
+use Rattle.iso_model.specs.declared.script.Script.{Script}
+use Rattle.iso_model.specs.declared.script.Test.{Test}
+
+-- what a class's head stands for
+abbrev pub class_head_of : ClassHead → C.ClassHead
+class_head_of h =
+    record {
+      statics = h.statics.items;
+      fields = h.fields.items;
+      marks = h.marks.items;
+      before_all = block_of h.before_all.items;
+      after_all = block_of h.after_all.items;
+      before_each = block_of h.before_each.items;
+      after_each = block_of h.after_each.items;
+    }
+
+-- what a test's head stands for
+abbrev pub test_head_of : TestHead → C.TestHead
+test_head_of h = record { marks = h.marks.items; body = block_of h.body.items }
+
+-- what a test stands for
+abbrev pub test_of : Test → S.Test
+test_of t = record { name = t.name; display = t.display; mode = t.mode; head = test_head_of t.head }
+
+abbrev pub members_of : List Member → Members
+members_of [] = no_members
+members_of (m ∷ ms) = member m (members_of ms)
+
+abbrev pub member_step : Member-F Member Class → Member
+member_step (Member-F.Class c) = class_member c
+member_step (Member-F.Test t) = test_member (test_of t)
+
+abbrev pub class_step : Class-F Member Class → Class
+class_step c =
+    class (record { name = c.name; display = c.display; mode = c.mode; isolated = c.isolated; head = class_head_of c.head }) (members_of c.members.items)
+
+-- what a member of a class stands for
+abbrev pub member_of : M.Member → Member
+member_of = M.fold-Member Member Class member_step class_step
+
+-- what a class stands for
+abbrev pub class_of : D.Class → Class
+class_of = D.fold-Class Member Class member_step class_step
+
+-- what a script stands for
+abbrev pub script_of : Script → S.Script
+script_of s = record { team = s.team; classes = map class_of s.classes.items }

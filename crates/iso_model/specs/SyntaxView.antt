@@ -1,0 +1,63 @@
+-- What the tree of expressions and statements stands for.
+use Rattle.std.specs.Prelude.{ℕ, List, [], ◌∷◌, map}
+use Rattle.iso_model.specs.Syntax.{Term, literal, name, chain, compare, call, locale, Terms, no_terms, term, let_name, assign, print, assert, assert_equal, assume, fail, set_prop, clear_prop, set_locale, write_file, append_file, delete_file, Act, plain, choice, repeat, Acts, no_acts, act}
+use Rattle.iso_model.specs.declared.tree.Expr.{Expr, fold-Expr}
+use Rattle.iso_model.specs.declared.tree.Expr.TheOpen.{Expr-F}
+use Rattle.iso_model.specs.declared.tree.Form.{Form, fold-Form}
+use Rattle.iso_model.specs.declared.tree.Stmt.{Stmt, fold-Stmt}
+use Rattle.iso_model.specs.declared.tree.Form.TheOpen.{Form-F, Stmt-F}
+
+abbrev pub terms_of : List Term → Terms
+terms_of [] = no_terms
+terms_of (t ∷ ts) = term t (terms_of ts)
+
+abbrev pub term_step : Expr-F Term → Term
+term_step (Expr-F.Literal d) = literal d
+term_step (Expr-F.Name x) = name x
+term_step (Expr-F.Chain op e es) = chain op e.value (terms_of es.items)
+term_step (Expr-F.Compare c a b) = compare c a.value b.value
+term_step (Expr-F.Call f e) = call f e.value
+term_step Expr-F.Locale = locale
+
+-- what an expression stands for
+abbrev pub term_of : Expr → Term
+term_of = fold-Expr Term term_step
+
+-- what several expressions stand for
+abbrev pub terms_of_all : List Expr → Terms
+terms_of_all es = terms_of (map term_of es)
+
+abbrev pub acts_of : List (ℕ × Act) → Acts
+acts_of [] = no_acts
+acts_of (p ∷ ps) = act p.0 p.1 (acts_of ps)
+
+abbrev pub form_step : Form-F Act (ℕ × Act) → Act
+form_step (Form-F.Let x e) = plain (let_name x (term_of e))
+form_step (Form-F.Assign x e) = plain (assign x (term_of e))
+form_step (Form-F.Print e) = plain (print (term_of e))
+form_step (Form-F.Assert e) = plain (assert (term_of e))
+form_step (Form-F.AssertEqual a b) = plain (assert_equal (term_of a) (term_of b))
+form_step (Form-F.Assume e reason) = plain (assume (term_of e) reason)
+form_step (Form-F.Fail message) = plain (fail message)
+form_step (Form-F.SetProp a b) = plain (set_prop (term_of a) (term_of b))
+form_step (Form-F.ClearProp e) = plain (clear_prop (term_of e))
+form_step (Form-F.SetLocale e) = plain (set_locale (term_of e))
+form_step (Form-F.WriteFile a b) = plain (write_file (term_of a) (term_of b))
+form_step (Form-F.AppendFile a b) = plain (append_file (term_of a) (term_of b))
+form_step (Form-F.DeleteFile e) = plain (delete_file (term_of e))
+form_step (Form-F.If e a b) = choice (term_of e) (acts_of a.items) (acts_of b.items)
+form_step (Form-F.Repeat e a) = repeat (term_of e) (acts_of a.items)
+
+abbrev pub stmt_step : Stmt-F Act (ℕ × Act) → ℕ × Act
+stmt_step s = (s.row, s.form)
+
+abbrev pub form_of : Form → Act
+form_of = fold-Form Act (ℕ × Act) form_step stmt_step
+
+-- what a statement stands for: its row, and what it does
+abbrev pub stmt_of : Stmt → ℕ × Act
+stmt_of = fold-Stmt Act (ℕ × Act) form_step stmt_step
+
+-- what the statements of a body stand for
+abbrev pub block_of : List Stmt → Acts
+block_of stmts = acts_of (map stmt_of stmts)

@@ -1,0 +1,24 @@
+//! The test language: its types, and in `specs/` what a test means, defined.
+#![tactic(auto)]
+
+pub mod access;
+pub mod chain;
+pub mod data;
+pub mod examples;
+pub mod fault;
+pub mod heads;
+pub mod key;
+pub mod laws;
+pub mod limits;
+pub mod lines;
+pub mod names;
+pub mod outcome;
+pub mod place;
+pub mod properties;
+pub mod resource;
+pub mod rights;
+pub mod script;
+#[cfg(test)]
+mod tests;
+pub mod text;
+pub mod tree;

@@ -1,0 +1,63 @@
+ghost use Rattle.std.specs.Prelude.{◌≡◌, OnOk, OnErr, option_copied, string_bytes};
+ghost use Rattle.std.specs.FinMap as map;
+
+use crate::text::Text;
+use std::alloc::{AllocError, Global};
+use std::collections::BTreeMap;
+use std::marker::Model;
+
+/// A map of texts, as a set of properties is.
+#[derive(Drop)]
+pub struct Properties {
+    entries: BTreeMap<String, Text>,
+}
+
+impl Model for Properties {
+    ghost use Rattle.std.specs.Prelude.{List, ℕ};
+    ghost use Rattle.std.specs.FinMap as map;
+    ghost use Rattle.std.specs.Ordering.{nat_cmp};
+    ghost use Rattle.std.specs.Cmp.Lexicographic.{slice_cmp};
+    ghost use Rattle.std.specs.Coded.{coded_list, coded_ℕ};
+
+    ghost Value = { map.FinMap (slice_cmp nat_cmp) (List ℕ) };
+
+    ghost coded = { map.code (coded_list coded_ℕ) (coded_list coded_ℕ) };
+
+    ghost use Rattle.iso_model.specs.Properties.{map_of};
+
+    ghost view = { λ p. map_of p.entries.entries };
+}
+
+impl Properties {
+    /// No properties.
+    pub fn new(alloc: Global) -> Properties
+        ensures { result ≡ map.empty }
+    {
+        Properties {
+            entries: BTreeMap::new(alloc),
+        }
+    }
+
+    /// The text of a property, or `None` where it is absent.
+    pub fn get(&self, name: &str) -> Option<&Text>
+        ensures { option_copied result ≡ map.get self.now name.now }
+    {
+        self.entries.get(name)
+    }
+
+    /// Sets a property, in place of the text that it had.
+    pub fn set(&mut self, name: String, text: Text) -> Result<(), AllocError>
+        ensures ok { OnOk result (self.new ≡ map.insert self.old (string_bytes name) text) }
+        ensures err { OnErr result (self.new ≡ self.old) }
+    {
+        self.entries.insert(name, text)?;
+        Ok(())
+    }
+
+    /// Makes a property absent. An absent one stays absent.
+    pub fn clear(&mut self, name: &str)
+        ensures { self.new ≡ map.remove self.old name.now }
+    {
+        self.entries.remove(name);
+    }
+}
