@@ -1,0 +1,16 @@
+pub mod Decisions
+pub mod Numbered
+pub mod Afters
+pub mod Texts
+pub mod Numbers
+pub mod Names
+pub mod Fuel
+pub mod Gaps
+pub mod Prefixes
+pub mod Words
+pub mod Fronts
+pub mod NameLemmas
+pub mod NumberLemmas
+pub mod TextLemmas
+pub mod SymbolLemmas
+pub mod Pieces

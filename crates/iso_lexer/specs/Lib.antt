@@ -1,0 +1,7 @@
+pub mod Piece
+pub mod Spelling
+pub mod Text
+pub mod Lexical
+pub mod Tokens
+pub mod Scan
+pub mod Scanned

@@ -1,0 +1,14 @@
+//! The lexer of the script language: bytes to tokens, each with its place.
+#![tactic(auto)]
+
+mod cursor;
+mod gap;
+pub mod laws;
+pub mod lexer;
+mod scan;
+pub mod symbol;
+#[cfg(test)]
+mod tests;
+pub mod text;
+pub mod token;
+pub mod word;

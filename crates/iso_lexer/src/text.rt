@@ -1,0 +1,52 @@
+ghost use Rattle.std.specs.Prelude.{◌≡◌, length, IfOk, string_bytes};
+ghost use Rattle.iso_lexer.specs.Text.{IsQuoted, IsText};
+
+use std::alloc::{AllocError, Global};
+
+/// A text as it stands between its quotes in the script: printable bytes, in which each quote and each
+/// backslash is escaped by a backslash, and nothing else is; at most 4,096 bytes without the escapes.
+#[derive(Clone, Copy, Debug)]
+pub struct QuotedText<'a> {
+    pub(crate) raw: &'a [u8],
+    ghost quoted: { IsQuoted raw.now },
+}
+
+impl QuotedText<'_> {
+    ghost use Rattle.iso_lexer.specs.Tokens.{text_of};
+
+    /// The text that is meant, without its escapes.
+    #[tactic(auto, unfolding(crate::specs::Text::decoded))]
+    pub fn decode(self, alloc: Global) -> Result<String, AllocError>
+        ensures value { IfOk result (λ t. string_bytes t ≡ text_of self.entry) }
+        ensures text { IsText (text_of self.entry) }
+    {
+        let mut text = String::new(alloc);
+        let mut escaped = false;
+        'decode: for byte in self.raw {
+            if *byte == b'\\' && !escaped {
+                escaped = true;
+            } else {
+                text.push(char::from(*byte))?;
+                escaped = false;
+            }
+        }
+        Ok(text)
+    }
+
+    /// How many bytes the text that is meant has, at most 4,096.
+    #[tactic(auto, unfolding(crate::specs::Text::decoded))]
+    pub fn decoded_len(self) -> usize
+        ensures value { result ≡ length (text_of self.entry) }
+        ensures text { IsText (text_of self.entry) }
+    {
+        let mut length = 0;
+        let mut escaped = false;
+        'count: for byte in self.raw {
+            escaped = *byte == b'\\' && !escaped;
+            if !escaped {
+                length += 1;
+            }
+        }
+        length
+    }
+}
