@@ -1,10 +1,13 @@
 pub mod Agreement
+pub mod ChainLemmas
 pub mod Counting
 pub mod Ends
 pub mod ExampleLemmas
 pub mod Finishing
 pub mod Keeps
 pub mod LawLemmas
+pub mod NameLemmas
 pub mod Pairs
 pub mod PropertyLemmas
+pub mod RightsLemmas
 pub mod Untouched

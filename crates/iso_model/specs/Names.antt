@@ -1,9 +1,11 @@
 -- The names that a block sees, and which of them it may assign.
-use Rattle.std.specs.Prelude.{ℕ, List, [], ◌∷◌, Option, Some, None, Result, Ok, Err, Bool, true, false, cond, bytes_eq, map}
+use Rattle.std.specs.Prelude.{ℕ, suc, List, [], ◌∷◌, Option, Some, None, Result, Ok, Err, Bool, true, false, cond, bytes_eq, map}
 use Rattle.iso_model.specs.declared.data.Data.{Data}
 use Rattle.iso_model.specs.declared.heads.Variable.{Variable}
 use Rattle.iso_model.specs.declared.names.Sort.{Sort}
 use Rattle.iso_model.specs.declared.names.Sort.TheVariants.{Static, Frozen, Field, Local}
+use Rattle.iso_model.specs.declared.names.AssignFault.{AssignFault}
+use Rattle.iso_model.specs.declared.names.AssignFault.TheVariants as A
 use Rattle.iso_model.specs.declared.names.Binding.{Binding}
 use Rattle.iso_model.specs.declared.fault.Fault.{Fault}
 use Rattle.iso_model.specs.declared.fault.Fault.TheVariants as F
@@ -21,6 +23,11 @@ abbrev pub rebound : List Binding → List ℕ → Data → List Binding
 rebound [] x d = []
 rebound (b ∷ bs) x d = cond (bytes_eq x b.name) (bound b.sort b.name d ∷ bs) (b ∷ rebound bs x d)
 
+-- where a name stands first, or the number of names
+abbrev pub place_of : List Binding → List ℕ → ℕ
+place_of [] x = 0
+place_of (b ∷ bs) x = cond (bytes_eq x b.name) 0 (suc (place_of bs x))
+
 abbrev pub is_frozen : Sort → Bool
 is_frozen Frozen = true
 is_frozen Static = false
@@ -35,6 +42,12 @@ assigned_to (Some b) names x d = cond (is_frozen b.sort) (Err (F.Frozen x)) (Ok 
 -- what an assignment makes of the names: `x` has to be visible, and not frozen
 abbrev pub assigned : List Binding → List ℕ → Data → Result (List Binding) Fault
 assigned names x d = assigned_to (binding_of names x) names x d
+
+-- what the answer of an assignment says of the names that it leaves
+abbrev pub assignment : Result (Unit {0}) AssignFault → List ℕ → List Binding → Result (List Binding) Fault
+assignment (Ok done) x names = Ok names
+assignment (Err A.UnknownName) x names = Err (F.UnknownName x)
+assignment (Err A.Frozen) x names = Err (F.Frozen x)
 
 -- variables at their literals
 abbrev pub at_literals : Sort → List Variable → List Binding

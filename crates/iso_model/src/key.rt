@@ -42,4 +42,11 @@ impl Key {
     {
         self.spelling.as_str()
     }
+
+    /// An equal key.
+    pub fn copy(&self, alloc: Global) -> Result<Key, AllocError>
+        ensures { IfOk result (λ k. k ≡ self.now) }
+    {
+        Ok(Key::new(self.spelling.copy(alloc)?))
+    }
 }

@@ -1,6 +1,7 @@
-ghost use Rattle.std.specs.Prelude.{◌≡◌, ◌∷◌, ◌++◌, [], length, take, option_copied, OnOk, OnErr};
+ghost use Rattle.std.specs.Prelude.{◌≡◌, ◌∷◌, ◌++◌, [], length, take, option_copied, OnOk, OnErr, ◌+◌};
+ghost use Rattle.std.specs.Bool.{OnTrue, OnFalse};
 ghost use Rattle.iso_model.specs.declared.names.Sort.TheVariants.{Local};
-ghost use Rattle.iso_model.specs.Names.{bound, binding_of};
+ghost use Rattle.iso_model.specs.Names.{bound, binding_of, assigned, assignment, is_frozen, place_of};
 ghost use Rattle.iso_model.specs.Environments.{environment};
 
 use crate::data::Data;
@@ -19,6 +20,18 @@ pub enum Sort {
     Frozen,
     Field,
     Local,
+}
+
+impl Sort {
+    /// Whether a name of this sort may not be assigned.
+    pub fn is_frozen(self) -> bool
+        ensures { result ≡ is_frozen self }
+    {
+        match self {
+            Sort::Frozen => true,
+            Sort::Static | Sort::Field | Sort::Local => false,
+        }
+    }
 }
 
 /// A visible name, with its value.
@@ -107,4 +120,49 @@ impl Names {
     {
         self.bindings.truncate(count);
     }
+
+    /// Gives a visible name another value, which may be of another kind.
+    /// `UnknownName` where it isn't visible, before `Frozen` where it may not be assigned.
+    pub fn assign(&mut self, name: &str, value: Data) -> Result<(), AssignFault>
+        ensures answer { assigned self.old.names name.now value ≡ assignment result name.now self.new.names }
+        ensures rest { self.new ≡ record self.old { names = self.new.names } }
+        ensures err { OnErr result (self.new ≡ self.old) }
+    {
+        let place = place_of(&self.bindings, name);
+        if place == self.bindings.len() {
+            return Err(AssignFault::UnknownName);
+        }
+        let binding = &mut self.bindings[place];
+        if binding.sort.is_frozen() {
+            return Err(AssignFault::Frozen);
+        }
+        binding.value = value;
+        Ok(())
+    }
+
+    /// Takes a step, and answers whether one was left.
+    pub fn take_step(&mut self) -> bool
+        ensures taken { OnTrue result (self.old ≡ record self.new { steps = self.new.steps + 1 }) }
+        ensures none_left { OnFalse result ((self.old.steps ≡ 0) × (self.new ≡ self.old)) }
+    {
+        if self.steps == 0 {
+            return false;
+        }
+        self.steps -= 1;
+        true
+    }
+}
+
+/// Where a name stands first, or the number of names.
+fn place_of(bindings: &[Binding], name: &str) -> usize
+    ensures { result ≡ place_of bindings.now name.now }
+{
+    let mut place = 0;
+    for binding in bindings {
+        if name == binding.name.as_str() {
+            return place;
+        }
+        place += 1;
+    }
+    place
 }

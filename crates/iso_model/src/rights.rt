@@ -1,10 +1,25 @@
-ghost use Rattle.std.specs.Prelude.{◌≡◌, [], ◌∷◌, OnOk, OnErr};
-ghost use Rattle.iso_model.specs.Rights.{access_in};
+ghost use Rattle.std.specs.Prelude.{◌≡◌, ℕ, List, [], ◌∷◌, IfOk, OnOk, OnErr};
+ghost use Rattle.std.specs.Bool.{OnTrue, OnFalse};
+ghost use Rattle.iso_model.specs.Rights.{access_in, declared_by, rights_of, strongest};
 
 use crate::access::Access;
+use crate::chain::Chain;
+use crate::heads::{ClassHead, Mark};
 use crate::key::Key;
 use std::alloc::{AllocError, Global};
 use std::marker::Model;
+use std::sync::Arc;
+
+/// Whether a known access lets do what is wanted.
+fn covers(known: Option<Access>, wanted: Access) -> bool
+    ensures kept { OnTrue result (strongest (Some wanted) known ≡ known) }
+    ensures changed { OnFalse result (strongest (Some wanted) known ≡ Some wanted) }
+{
+    match (known, wanted) {
+        (None, _) | (Some(Access::Read), Access::Write) => false,
+        (Some(Access::Read), Access::Read) | (Some(Access::Write), _) => true,
+    }
+}
 
 /// The keys that a block may look at or change. Of a key that was declared anew the newest access counts.
 #[derive(Drop)]
@@ -22,6 +37,9 @@ impl Model for Rights {
 }
 
 impl Rights {
+    ghost use Rattle.iso_model.specs.ChainView.{innermost_first, rights_in};
+    ghost use Rattle.iso_model.specs.Chains.{class_rights};
+
     /// No rights.
     pub fn new(alloc: Global) -> Rights
         ensures { result ≡ [] }
@@ -50,5 +68,51 @@ impl Rights {
             }
         }
         None
+    }
+
+    /// What one mark declares besides.
+    fn mark(&mut self, alloc: Global, mark: &Mark) -> Result<(), AllocError>
+        ensures { OnOk result ((k : List ℕ) → access_in self.new k ≡ strongest (declared_by mark.now k) (access_in self.old k)) }
+    {
+        if covers(self.access(&mark.key), mark.access) {
+            return Ok(());
+        }
+        self.declare(mark.key.copy(alloc)?, mark.access)
+    }
+
+    /// What marks declare besides.
+    fn mark_all(&mut self, alloc: Global, marks: &[Mark]) -> Result<(), AllocError>
+        ensures { OnOk result ((k : List ℕ) → access_in self.new k ≡ strongest (rights_of marks.now k) (access_in self.old k)) }
+    {
+        'marks: for mark in marks {
+            self.mark(alloc, mark)?;
+        }
+        Ok(())
+    }
+
+    /// The rights of a class chain: each key that is marked anywhere on it, with the strongest access
+    /// of its marks.
+    pub fn of(alloc: Global, chain: Chain<'_>) -> Result<Rights, AllocError>
+        ensures { IfOk result (λ r. access_in r ≡ rights_in chain.entry) }
+    {
+        let mut rights = Rights::of_classes(alloc, chain.classes)?;
+        match chain.test {
+            Some(test) => {
+                rights.mark_all(alloc, &test.marks)?;
+                Ok(rights)
+            }
+            None => Ok(rights),
+        }
+    }
+
+    /// The rights of class heads, outermost first.
+    fn of_classes(alloc: Global, classes: &[Arc<ClassHead>]) -> Result<Rights, AllocError>
+        ensures { IfOk result (λ r. (k : List ℕ) → access_in r k ≡ class_rights (innermost_first classes.now) k) }
+    {
+        let mut rights = Rights::new(alloc);
+        'classes: for class in classes {
+            rights.mark_all(alloc, &class.marks)?;
+        }
+        Ok(rights)
     }
 }

@@ -1,15 +1,18 @@
 //! Each call once with memory at hand, on the texts that the language gives.
 use crate::access::Access;
+use crate::chain::Chain;
 use crate::data::Data;
 use crate::fault::Fault;
+use crate::heads::{ClassHead, Mark, TestHead};
 use crate::key::Key;
-use crate::names::{Names, Sort};
+use crate::names::{AssignFault, Names, Sort};
 use crate::place::{BlockName, Lifecycle, Place};
 use crate::properties::Properties;
 use crate::resource::Resource;
 use crate::rights::Rights;
 use crate::text::Text;
 use std::alloc::{AllocError, Global};
+use std::sync::Arc;
 
 #[test]
 fn values_are_written_in_decimal_and_words(rt: HostRuntime) -> Result<(), AllocError> {
@@ -133,6 +136,55 @@ fn local_is_visible_until_it_is_dropped(rt: HostRuntime) -> Result<(), AllocErro
     );
     names.keep(0);
     assert!(rt; names.get("x").is_none());
+    Ok(())
+}
+
+#[test]
+fn visible_name_is_assigned(rt: HostRuntime) -> Result<(), AllocError> {
+    let alloc = rt.alloc();
+    let mut names = Names::new(Vec::new(alloc), 0, BlockName::Test);
+    names.declare(Text::copied(alloc, "x")?, Data::Whole(1))?;
+    assert!(rt; names.assign("y", Data::Whole(2)) == Err(AssignFault::UnknownName));
+    assert!(rt; names.assign("x", Data::Flag(true)).is_ok());
+    assert!(rt; names.take_step());
+    Ok(())
+}
+
+/// A mark on the key of file `a`.
+fn mark(alloc: Global, access: Access) -> Result<Mark, AllocError> {
+    let key = Key::of_file(alloc, "a")?;
+    Ok(Mark { access, key })
+}
+
+/// A class with this mark alone.
+fn marked_class(alloc: Global, access: Access) -> Result<ClassHead, AllocError> {
+    Ok(ClassHead {
+        statics: Vec::new(alloc),
+        fields: Vec::new(alloc),
+        marks: vec![in alloc; mark(alloc, access)?]?,
+        before_all: Vec::new(alloc),
+        after_all: Vec::new(alloc),
+        before_each: Vec::new(alloc),
+        after_each: Vec::new(alloc),
+    })
+}
+
+#[test]
+fn strongest_mark_of_a_chain_counts(rt: HostRuntime) -> Result<(), AllocError> {
+    let alloc = rt.alloc();
+    let class = Arc::new(alloc, marked_class(alloc, Access::Write)?)?;
+    let classes = vec![in alloc; class]?;
+    let test = TestHead {
+        marks: vec![in alloc; mark(alloc, Access::Read)?]?,
+        body: Vec::new(alloc),
+    };
+    let chain = Chain {
+        classes: &classes,
+        test: Some(&test),
+    };
+    let rights = Rights::of(alloc, chain)?;
+    assert!(rt; rights.access(&Key::of_file(alloc, "a")?) == Some(Access::Write));
+    assert!(rt; rights.access(&Key::of_file(alloc, "b")?).is_none());
     Ok(())
 }
 
