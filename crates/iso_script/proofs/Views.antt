@@ -1,0 +1,35 @@
+-- Variants of the tree, as they are seen.
+use Rattle.std.proofs.Common.{◌≡◌, ℕ, List, Option, Bool, Vec, Global, map, rules}
+use Rattle.iso_model.specs.Syntax.{literal, print, assert_equal, plain}
+use Rattle.iso_model.specs.SyntaxView.{term_of, form_of, stmt_of}
+use Rattle.iso_model.specs.declared.tree.Form.{Form}
+use Rattle.iso_model.specs.declared.tree.Stmt.{roll-Stmt}
+use Rattle.iso_model.specs.declared.data.Data.{Data}
+use Rattle.iso_model.specs.Scripts.{test_member, class}
+use Rattle.iso_model.specs.ScriptView.{member_of, members_of, test_of, class_of, class_head_of}
+use Rattle.iso_model.specs.declared.heads.ClassHead.{ClassHead}
+use Rattle.iso_model.specs.declared.script.Mode.{Mode}
+use Rattle.iso_model.specs.declared.script.Test.{Test}
+use Rattle.iso_model.specs.declared.script.Class.{roll-Class}
+use Rattle.iso_model.specs.declared.script.Member as M
+use Rattle.iso_model.specs.declared.tree.Expr.{Expr}
+use Rattle.iso_model.specs.declared.tree.Expr as E
+use Rattle.iso_model.specs.declared.tree.Form as F
+
+pub term_of-literal : (x : Data) → term_of (E.Literal x) ≡ literal x
+term_of-literal x = search (rules, E.the_lemmas)
+
+pub form_of-print : (e : Expr) → form_of (F.Print e) ≡ plain (print (term_of e))
+form_of-print e = search (rules, F.the_lemmas)
+
+pub form_of-assert_equal : (e f : Expr) → form_of (F.AssertEqual e f) ≡ plain (assert_equal (term_of e) (term_of f))
+form_of-assert_equal e f = search (rules, F.the_lemmas)
+
+pub stmt_of-parts : (row : ℕ) (f : Form) → stmt_of (roll-Stmt (record { row = row; form = f })) ≡ (row, form_of f)
+stmt_of-parts row f = search (rules, F.the_lemmas)
+
+pub member_of-test : (t : Test) → member_of (M.Test t) ≡ test_member (test_of t)
+member_of-test t = search (rules, M.the_lemmas)
+
+pub class_of-parts : (name : List ℕ) (display : Option (List ℕ)) (mode : Option Mode) (isolated : Bool) (head : ClassHead) (members : Vec M.Member Global) → class_of (roll-Class (record { name = name; display = display; mode = mode; isolated = isolated; head = head; members = members })) ≡ class (record { name = name; display = display; mode = mode; isolated = isolated; head = class_head_of head }) (members_of (map member_of members.items))
+class_of-parts name display mode isolated head members = search (rules, M.the_lemmas)

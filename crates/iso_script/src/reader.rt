@@ -1,0 +1,71 @@
+//! Whole scripts.
+ghost use Rattle.std.specs.Prelude.{◌≡◌, ◌<◌, ℕ, List, IfOk, MatchResult, Err, length, map};
+ghost use Rattle.iso_lexer.specs.Piece.{Piece};
+ghost use Rattle.iso_model.specs.Scripts as S;
+ghost use Rattle.iso_model.specs.ScriptView.{class_of, script_of};
+ghost use Rattle.iso_model.specs.declared.limits.TheConstants.{FILE_BYTES};
+ghost use Rattle.iso_script.specs.Faults.{IsMemory};
+ghost use Rattle.iso_script.specs.Grammar.{IsClasses, IsScript, Reads};
+
+use crate::fault::{ScriptError, ScriptFaultKind};
+use crate::parser::Parser;
+use iso_lexer::token::Place;
+use iso_lexer::word::Word;
+use iso_model::limits::FILE_BYTES;
+use iso_model::script::{Class, Script};
+use iso_model::text::Text;
+use std::alloc::Global;
+
+/// Reads a script of at most 1,048,576 bytes: the name of a team, and its top-level classes in order. The tree
+/// takes memory from `alloc`, and where that is refused, the answer is `OutOfMemory`.
+///
+/// What is no script is answered with its first fault from the left, with one token of look-ahead: a token that
+/// the grammar or a rule does not allow comes before anything in the bytes that follow it. A script above the
+/// limit is `TooLong` at line 1, column 1, before all else.
+///
+/// So far a class has tests alone, and a test `print` and `assert_equal` of literals. Whatever else the language
+/// has is `Expected` at its token.
+pub fn read_script(alloc: Global, bytes: &[u8]) -> Result<Script, ScriptError>
+    // What is read is the script of the bytes.
+    ensures found { IfOk result (λ s. Reads bytes.now (script_of s)) }
+    // The script of the bytes is read, unless memory runs out.
+    ensures only { (s : S.Script) → Reads bytes.now s → MatchResult result (λ v. script_of v ≡ s) IsMemory }
+    ensures too_long { FILE_BYTES < length bytes.now
+        → result ≡ Err (ScriptError.Fault (record { kind = ScriptFaultKind.TooLong; line = 1; column = 1 })) }
+{
+    if bytes.len() > FILE_BYTES as usize {
+        let start = Place { line: 1, column: 1 };
+        return Err(ScriptError::fault(ScriptFaultKind::TooLong, start));
+    }
+    Parser::new(alloc, bytes).script()
+}
+
+impl Parser<'_> {
+    /// A script, up to the end.
+    fn script(&mut self) -> Result<Script, ScriptError>
+        ensures found { IfOk result (λ s. IsScript (script_of s) self.old.lexer) }
+        ensures only { (s : S.Script) → IsScript s self.old.lexer
+            → MatchResult result (λ v. script_of v ≡ s) IsMemory }
+    {
+        self.expect_word(Word::Team)?;
+        let name = self.name()?;
+        let classes = self.classes()?;
+        Ok(Script {
+            team: Text::copied(self.alloc, name)?,
+            classes,
+        })
+    }
+
+    /// Classes, up to the end.
+    fn classes(&mut self) -> Result<Vec<Class>, ScriptError>
+        ensures found { IfOk result (λ v. IsClasses (map class_of v.items) self.old.lexer) }
+        ensures only { (cs : List S.Class) → IsClasses cs self.old.lexer
+            → MatchResult result (λ v. map class_of v.items ≡ cs) IsMemory }
+    {
+        let mut classes = Vec::new(self.alloc);
+        'classes: while !self.is_at_end() {
+            classes.push(self.class()?)?;
+        }
+        Ok(classes)
+    }
+}
