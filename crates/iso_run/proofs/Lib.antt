@@ -1,0 +1,4 @@
+pub mod FirstPart
+pub mod ReadScripts
+mod Sequences
+mod Turns

@@ -1,0 +1,9 @@
+pub mod Reports
+pub mod Results
+pub mod ResultView
+pub mod Suites
+pub mod Plans
+pub mod FirstPart
+pub mod Runs
+pub mod Sinks
+pub mod Pieces

@@ -1,0 +1,161 @@
+//! The program, over a reader and two sinks.
+ghost use Rattle.std.specs.Prelude.{◌≡◌, ◌≤◌};
+
+use crate::plan::PlanFault;
+use crate::run::{Inputs, RunFault, run_serial};
+use crate::sink::Sink;
+use iso_model::limits::FILE_BYTES;
+use iso_script::fault::{ScriptFault, ScriptFaultKind};
+use std::alloc::{AllocError, Global};
+use std::io::Read;
+
+/// The status where every top-level point is ok.
+const ALL_OK: u8 = 0;
+/// The status where some top-level point is not ok.
+const NOT_OK: u8 = 1;
+/// The status of refused input.
+const REFUSED: u8 = 2;
+/// The status of a run fault: memory, reading, writing.
+const FAILED: u8 = 3;
+
+/// Why standard input was not read.
+enum ReadFault {
+    Memory,
+    Unreadable,
+}
+
+impl From<AllocError> for ReadFault {
+    fn from(_error: AllocError) -> ReadFault {
+        ReadFault::Memory
+    }
+}
+
+/// Runs the program: reads a script, named `stdin`, from `input`, writes its report to `output`, and
+/// a fault's line to `errors`. Answers the exit status: 0 where every top-level point is ok, 1 where
+/// some is not, 2 for refused input, 3 for want of memory and failed reads and writes.
+/// It takes no words yet. A failed write to `errors` changes nothing.
+pub fn command<G: AllocGlobal, R: Read, W: Sink, E: Sink>(
+    rt: &G,
+    words: &[String],
+    input: &mut R,
+    output: &mut W,
+    errors: &mut E,
+) -> u8
+    ensures { result ≤ 3 }
+{
+    if !words.is_empty() {
+        say(errors, "jtap: unexpected word\n");
+        return REFUSED;
+    }
+    let script = match read_input(rt.alloc(), input) {
+        Ok(script) => script,
+        Err(ReadFault::Memory) => return out_of_memory(errors),
+        Err(ReadFault::Unreadable) => {
+            say(errors, "jtap: stdin: cannot be read\n");
+            return FAILED;
+        }
+    };
+    let inputs = Inputs {
+        scripts: &[script.as_slice()],
+        settings: &[],
+        world: &[],
+        processors: 1,
+    };
+    match run_serial(rt.alloc(), inputs, output) {
+        Ok(summary) if summary.all_ok => ALL_OK,
+        Ok(_) => NOT_OK,
+        Err(fault) => refuse(rt.alloc(), fault, errors),
+    }
+}
+
+/// Reads standard input, at most one byte past the limit of a script.
+fn read_input<R: Read>(alloc: Global, input: &mut R) -> Result<Vec<u8>, ReadFault> {
+    let mut bytes = Vec::new(alloc);
+    let mut chunk = [0u8; 4096];
+    for _ in 0..=FILE_BYTES {
+        if bytes.len() > FILE_BYTES as usize {
+            break;
+        }
+        let room = (FILE_BYTES as usize + 1 - bytes.len()).min(chunk.len());
+        let Ok(count) = input.read(&mut chunk[..room]) else {
+            return Err(ReadFault::Unreadable);
+        };
+        if count == 0 {
+            break;
+        }
+        bytes.extend_from_slice(&chunk[..count])?;
+    }
+    Ok(bytes)
+}
+
+/// Writes a fault's line, and answers its status.
+fn refuse<E: Sink>(alloc: Global, fault: RunFault, errors: &mut E) -> u8
+    ensures { result ≤ 3 }
+{
+    match fault {
+        RunFault::NotYet => say(errors, "jtap: not yet\n"),
+        RunFault::Plan(PlanFault::DoubleClass) => say(errors, "jtap: plan: DoubleClass\n"),
+        RunFault::Plan(PlanFault::TooManyNodes) => say(errors, "jtap: plan: TooManyNodes\n"),
+        RunFault::Script(fault) => match script_line(alloc, fault) {
+            Ok(line) => say(errors, line.as_str()),
+            Err(_) => return out_of_memory(errors),
+        },
+        RunFault::Memory => return out_of_memory(errors),
+        RunFault::Write(_) => return write_failed(errors),
+    }
+    REFUSED
+}
+
+/// Writes the line of memory that ran out, and answers its status, 3.
+pub fn out_of_memory<E: Sink>(errors: &mut E) -> u8
+    ensures { result ≡ 3 }
+{
+    say(errors, "jtap: out of memory\n");
+    FAILED
+}
+
+/// Writes the line of a failed write or flush, and answers its status, 3.
+pub fn write_failed<E: Sink>(errors: &mut E) -> u8
+    ensures { result ≡ 3 }
+{
+    say(errors, "jtap: write failed\n");
+    FAILED
+}
+
+/// The line of a script's fault.
+fn script_line(alloc: Global, fault: ScriptFault) -> Result<String, AllocError> {
+    let ScriptFault { kind, line, column } = fault;
+    let kind = kind_name(kind);
+    format!(in alloc; "jtap: stdin:{line}:{column}: {kind}\n")
+}
+
+/// The name of a kind of fault.
+fn kind_name(kind: ScriptFaultKind) -> &'static str {
+    match kind {
+        ScriptFaultKind::BadByte => "BadByte",
+        ScriptFaultKind::BadToken => "BadToken",
+        ScriptFaultKind::NumberTooBig => "NumberTooBig",
+        ScriptFaultKind::OpenText => "OpenText",
+        ScriptFaultKind::Expected => "Expected",
+        ScriptFaultKind::DoubleBlock => "DoubleBlock",
+        ScriptFaultKind::DoubleMember => "DoubleMember",
+        ScriptFaultKind::NameTaken => "NameTaken",
+        ScriptFaultKind::EmptyClass => "EmptyClass",
+        ScriptFaultKind::TooDeep => "TooDeep",
+        ScriptFaultKind::TooLong => "TooLong",
+        ScriptFaultKind::BadDisplay => "BadDisplay",
+        ScriptFaultKind::GlobalKey => "GlobalKey",
+        ScriptFaultKind::EndOfInput => "EndOfInput",
+    }
+}
+
+/// Writes a line as far as the sink takes it.
+fn say<E: Sink>(errors: &mut E, line: &str) {
+    let mut rest = line.as_bytes();
+    while !rest.is_empty() {
+        match errors.write(rest) {
+            Ok(count) if count > 0 => rest = &rest[count..],
+            _ => return,
+        }
+    }
+}

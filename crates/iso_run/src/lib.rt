@@ -1,0 +1,10 @@
+//! Runs of suites.
+#![tactic(auto)]
+
+pub mod command;
+pub mod plan;
+pub mod report;
+pub mod results;
+pub mod run;
+pub mod runner;
+pub mod sink;
