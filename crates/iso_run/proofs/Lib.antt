@@ -1,4 +1,5 @@
 pub mod FirstPart
 pub mod ReadScripts
+mod Refusals
 mod Sequences
 mod Turns

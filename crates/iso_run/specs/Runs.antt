@@ -1,5 +1,5 @@
 -- What a run answers and what its sink took.
-use Rattle.std.specs.Prelude.{◌≡◌, ℕ, ◌<◌, List, [], ◌∷◌, Bool, Option, Some, None, length, take}
+use Rattle.std.specs.Prelude.{◌≡◌, ℕ, ◌<◌, List, [], ◌∷◌, Bool, true, false, Option, Some, None, length, take}
 use Rattle.std.specs.Borrow.{Bor}
 use Rattle.iso_model.specs.Scripts.{Script}
 use Rattle.iso_script.specs.Grammar.{Reads}
@@ -38,6 +38,11 @@ pub record Reported (bytes : List ℕ) (old new : Account) (ok : Bool) : Type 0 
   pub wrote : Wrote old new (report (suite_results script))
   pub tells : ok ≡ all_ok (suite_results script)
 
+-- The report of some suite was written, whole, and this tells whether every top-level point is ok.
+pub record ReportedSome (old new : Account) (ok : Bool) : Type 0 where
+  pub bytes : List ℕ
+  pub reported : Reported bytes old new ok
+
 -- The sink failed while a text was written; its first bytes were taken.
 pub record Broken (text : List ℕ) (old new : Account) (written : ℕ) : Type 0 where
   pub took : Took old new (take written text)
@@ -63,6 +68,14 @@ Refused bytes old new (ScriptFault fault) = ((s : Script) → Reads bytes s → 
 Refused bytes old new (Plan fault) = IsNoPlan bytes (Some fault) × TookNothing old new
 Refused bytes old new Memory = TookNothing old new
 Refused bytes old new (Write written) = CutShort bytes old new written
+
+-- whether it is the input that a fault refuses
+abbrev pub is_of_input : RunFault → Bool
+is_of_input NotYet = true
+is_of_input (ScriptFault fault) = true
+is_of_input (Plan fault) = true
+is_of_input Memory = false
+is_of_input (Write written) = false
 
 -- Why no report of this text was written, or only its beginning.
 abbrev pub NotWritten : List ℕ → Account → Account → RunFault → Type 0

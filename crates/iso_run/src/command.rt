@@ -1,5 +1,7 @@
 //! The program, over a reader and two sinks.
-ghost use Rattle.std.specs.Prelude.{◌≡◌, ◌≤◌};
+ghost use Rattle.std.specs.Prelude.{◌≡◌, ◌≢◌, ◌≤◌, [], true, false};
+ghost use Rattle.iso_run.specs.Runs.{ReportedSome, is_of_input};
+ghost use Rattle.iso_run.specs.Sinks.{TookNothing};
 
 use crate::plan::PlanFault;
 use crate::run::{Inputs, RunFault, run_serial};
@@ -41,7 +43,11 @@ pub fn command<G: AllocGlobal, R: Read, W: Sink, E: Sink>(
     output: &mut W,
     errors: &mut E,
 ) -> u8
-    ensures { result ≤ 3 }
+    ensures status { result ≤ 3 }
+    ensures word { words.now ≢ [] → result ≡ 2 }
+    ensures all_ok { result ≡ 0 → ReportedSome (W.account output.old) (W.account output.new) true }
+    ensures not_ok { result ≡ 1 → ReportedSome (W.account output.old) (W.account output.new) false }
+    ensures refused { result ≡ 2 → TookNothing (W.account output.old) (W.account output.new) }
 {
     if !words.is_empty() {
         say(errors, "jtap: unexpected word\n");
@@ -90,7 +96,9 @@ fn read_input<R: Read>(alloc: Global, input: &mut R) -> Result<Vec<u8>, ReadFaul
 
 /// Writes a fault's line, and answers its status.
 fn refuse<E: Sink>(alloc: Global, fault: RunFault, errors: &mut E) -> u8
-    ensures { result ≤ 3 }
+    ensures status { result ≤ 3 }
+    ensures refused { 2 ≤ result }
+    ensures of_input { result ≡ 2 → is_of_input fault ≡ true }
 {
     match fault {
         RunFault::NotYet => say(errors, "jtap: not yet\n"),
