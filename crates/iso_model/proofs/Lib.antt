@@ -1,12 +1,17 @@
 pub mod Agreement
 pub mod ChainLemmas
+pub mod ChainRights
+pub mod ChainRuns
 pub mod Counting
+pub mod Effects
 pub mod Ends
 pub mod ExampleLemmas
 pub mod Finishing
 pub mod Keeps
+pub mod LastingNames
 pub mod LawLemmas
 pub mod NameLemmas
+pub mod Output
 pub mod Pairs
 pub mod PropertyLemmas
 pub mod RightsLemmas

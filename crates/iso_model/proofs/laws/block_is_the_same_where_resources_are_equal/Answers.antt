@@ -1,6 +1,6 @@
-use Rattle.iso_model.proofs.LawLemmas.{block-alike}
+use Rattle.iso_model.proofs.ChainRuns.{block-alike}
 use Rattle.iso_model.proofs.Pairs.{finish-alike, step-alike}
-use Rattle.iso_model.proofs.laws.block_is_the_same_where_resources_agree.Goals as goal
+use Rattle.iso_model.proofs.laws.block_is_the_same_where_resources_are_equal.Goals as goal
 
 pub returns-clause-block : goal.returns-clause-block
 returns-clause-block c = block-alike
