@@ -15,6 +15,7 @@ use iso_model::script::{Class, Member, Script, Test};
 use iso_model::text::Text;
 use iso_model::tree::{Expr, Form, Stmt};
 use std::alloc::{AllocError, Global};
+use std::sync::Arc;
 use std::test::Fail;
 
 /// A simple statement.
@@ -55,10 +56,13 @@ fn test(alloc: Global, name: &str, lines: Vec<(u32, Line)>) -> Result<Member, Al
         name: Text::copied(alloc, name)?,
         display: None,
         mode: None,
-        head: TestHead {
-            marks: Vec::new(alloc),
-            body: body(alloc, lines)?,
-        },
+        head: Arc::new(
+            alloc,
+            TestHead {
+                marks: Vec::new(alloc),
+                body: body(alloc, lines)?,
+            },
+        )?,
     }))
 }
 
@@ -72,7 +76,7 @@ fn class(alloc: Global, members: Vec<Member>) -> Result<Class, AllocError>
         display: None,
         mode: None,
         isolated: false,
-        head: empty_head(alloc),
+        head: Arc::new(alloc, empty_head(alloc))?,
         members,
     })
 }
