@@ -18,7 +18,5 @@ pub mod properties;
 pub mod resource;
 pub mod rights;
 pub mod script;
-#[cfg(test)]
-mod tests;
 pub mod text;
 pub mod tree;

@@ -304,6 +304,3 @@ fn difference_message(alloc: Global, expected: &Data, actual: &Data) -> Result<T
     let (expected, actual) = (expected.as_str(), actual.as_str());
     Ok(Text::new(format!(in alloc; "expected: <{expected}> but was: <{actual}>")?))
 }
-
-#[cfg(test)]
-mod tests;

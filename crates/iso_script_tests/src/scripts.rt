@@ -1,8 +1,8 @@
-use crate::fault::{ScriptError, ScriptFault, ScriptFaultKind};
-use crate::reader::read_script;
 use iso_model::data::Data;
 use iso_model::script::{Class, Member, Script, Test};
 use iso_model::tree::{Expr, Form};
+use iso_script::fault::{ScriptError, ScriptFault, ScriptFaultKind};
+use iso_script::reader::read_script;
 use std::alloc::{AllocError, Global};
 use std::test::Fail;
 

@@ -1,16 +1,16 @@
 //! Each call once with memory at hand, on the texts that the language gives.
-use crate::access::Access;
-use crate::chain::Chain;
-use crate::data::Data;
-use crate::fault::Fault;
-use crate::heads::{ClassHead, Mark, TestHead};
-use crate::key::Key;
-use crate::names::{AssignFault, Names, Sort};
-use crate::place::{BlockName, Lifecycle, Place};
-use crate::properties::Properties;
-use crate::resource::Resource;
-use crate::rights::Rights;
-use crate::text::Text;
+use iso_model::access::Access;
+use iso_model::chain::Chain;
+use iso_model::data::Data;
+use iso_model::fault::Fault;
+use iso_model::heads::{ClassHead, Mark, TestHead};
+use iso_model::key::Key;
+use iso_model::names::{AssignFault, Names, Sort};
+use iso_model::place::{BlockName, Lifecycle, Place};
+use iso_model::properties::Properties;
+use iso_model::resource::Resource;
+use iso_model::rights::Rights;
+use iso_model::text::Text;
 use std::alloc::{AllocError, Global};
 use std::sync::Arc;
 

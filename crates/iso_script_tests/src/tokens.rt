@@ -1,8 +1,8 @@
 //! Places, faults and tokens, as the description of the script language gives them.
-use crate::lexer::Lexer;
-use crate::symbol::Symbol;
-use crate::token::{Place, Token, TokenFault};
-use crate::word::Word;
+use iso_lexer::lexer::Lexer;
+use iso_lexer::symbol::Symbol;
+use iso_lexer::token::{Place, Token, TokenFault};
+use iso_lexer::word::Word;
 use std::alloc::{AllocError, Global};
 use std::test::Fail;
 

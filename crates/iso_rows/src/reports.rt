@@ -1,12 +1,11 @@
-ghost use Rattle.std.specs.Prelude.{Some, length};
-
-use super::{TapFault, all_ok, escape, write_report};
-use crate::results::{ClassResult, NodeResult, TestResult};
-use crate::sink::{MemorySink, OutputSink, Sink, SinkFailed};
+//! Reports of results that no script of today comes to.
 use iso_model::lines::Lines;
 use iso_model::outcome::{Note, Outcome, Verdict};
 use iso_model::place::{BlockName, Lifecycle, Place};
 use iso_model::text::Text;
+use iso_run::report::{escape, write_report};
+use iso_run::results::{ClassResult, NodeResult, TestResult};
+use iso_run::sink::{MemorySink, OutputSink};
 use std::alloc::{AllocError, Global};
 use std::io;
 use std::test::Fail;
@@ -57,27 +56,6 @@ fn is_report(alloc: Global, class: NodeResult, expected: &str) -> Result<bool, F
     let mut sink = MemorySink::new(alloc);
     let written = write_report(&[class], &mut sink).is_ok();
     Ok(written && sink.bytes() == expected.as_bytes())
-}
-
-#[test]
-fn passing_test(rt: HostRuntime) -> Result<(), Fail> {
-    let alloc = rt.alloc();
-    let adds = test(alloc, "adds", outcome(alloc, Verdict::Pass, &[])?)?;
-    let cart = class(
-        alloc,
-        "shop.Cart",
-        outcome(alloc, Verdict::Pass, &[])?,
-        adds,
-    )?;
-    let expected = "TAP version 14
-1..1
-# Subtest: shop.Cart
-    1..1
-    ok 1 - adds
-ok 1 - shop.Cart
-";
-    assert!(rt; is_report(alloc, cart, expected)?);
-    Ok(())
 }
 
 #[test]
@@ -184,70 +162,15 @@ ok 1 - shop.A \"b\" \\# \\\\
 }
 
 #[test]
-fn failed_test(rt: HostRuntime) -> Result<(), Fail> {
-    let alloc = rt.alloc();
-    let place = Place::Row(BlockName::Test, 2);
-    let fail = Verdict::Fail(note(alloc, "expected: <3> but was: <4>", place)?);
-    let t = test(alloc, "t", outcome(alloc, fail, &[])?)?;
-    let results = [class(alloc, "shop.C", outcome(alloc, Verdict::Pass, &[])?, t)?];
-    let expected = "TAP version 14
-1..1
-# Subtest: shop.C
-    1..1
-    not ok 1 - t
-      ---
-      verdict: fail
-      message: \"expected: <3> but was: <4>\"
-      at: \"test row 2\"
-      output: []
-      ...
-not ok 1 - shop.C
-";
-    let mut sink = MemorySink::new(alloc);
-    assert!(rt; write_report(&results, &mut sink).is_ok());
-    assert_eq!(rt; sink.bytes(), expected.as_bytes());
-    assert!(rt; !all_ok(&results));
-    let mut output = OutputSink::new(io::writer(&rt));
-    assert!(rt; escape("", &mut output).is_ok());
-    assert!(rt; output.flush().is_ok());
-    Ok(())
-}
-
-/// Takes 7 bytes a call, and fails once it has 14.
-#[derive(Drop)]
-struct ShortSink {
-    bytes: Vec<u8>,
-    failures: u64,
-}
-
-impl Sink for ShortSink {
-    ghost use Rattle.iso_run.specs.Sinks.{Account};
-
-    ghost account = { λ s. record {
-      bytes = Some s.bytes.items;
-      count = length s.bytes.items;
-      failures = s.failures;
-    } };
-
-    fn write(&mut self, bytes: &[u8]) -> Result<usize, SinkFailed> {
-        let taken = bytes.len().min(7);
-        if self.bytes.len() < 14 {
-            if self.bytes.extend_from_slice(&bytes[..taken]).is_ok() {
-                return Ok(taken);
-            }
-        }
-        self.failures = self.failures.saturating_add(1);
-        Err(SinkFailed)
-    }
+fn title_is_escaped(rt: HostRuntime) {
+    let mut sink = MemorySink::new(rt.alloc());
+    assert!(rt; escape("a # \\", &mut sink).is_ok());
+    assert!(rt; sink.bytes() == "a \\# \\\\".as_bytes());
 }
 
 #[test]
-fn nothing_after_a_failed_write(rt: HostRuntime) {
-    let mut sink = ShortSink {
-        bytes: Vec::new(rt.alloc()),
-        failures: 0,
-    };
-    assert!(rt; write_report(&[], &mut sink) == Err(TapFault { written: 14 }));
-    assert_eq!(rt; sink.bytes.as_slice(), "TAP version 14".as_bytes());
-    assert_eq!(rt; sink.failures, 1);
+fn writer_takes_a_report(rt: HostRuntime) {
+    let mut output = OutputSink::new(io::writer(&rt));
+    assert!(rt; write_report(&[], &mut output).is_ok());
+    assert!(rt; output.flush().is_ok());
 }
