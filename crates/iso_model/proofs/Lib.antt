@@ -10,9 +10,11 @@ pub mod Finishing
 pub mod Keeps
 pub mod LastingNames
 pub mod LawLemmas
+pub mod MemoryLemmas
 pub mod NameLemmas
 pub mod Output
 pub mod Pairs
 pub mod PropertyLemmas
 pub mod RightsLemmas
+pub mod TouchLemmas
 pub mod Untouched
