@@ -6,8 +6,10 @@ pub mod ExampleLemmas
 pub mod Finishing
 pub mod Keeps
 pub mod LawLemmas
+pub mod MemoryLemmas
 pub mod NameLemmas
 pub mod Pairs
 pub mod PropertyLemmas
 pub mod RightsLemmas
+pub mod TouchLemmas
 pub mod Untouched

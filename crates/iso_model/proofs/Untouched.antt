@@ -4,7 +4,7 @@ use Rattle.std.proofs.lemmas.Slice.Eq.{bytes_eq-Decides}
 use Rattle.iso_model.specs.Rights.{Rights, is_writable}
 use Rattle.iso_model.specs.Resources.{changed}
 use Rattle.iso_model.specs.Syntax.{Acts, act, no_acts}
-use Rattle.iso_model.specs.Statements.{State, locally, with_steps, run}
+use Rattle.iso_model.specs.Statements.{State, is_live, locally, with_steps, run}
 use Rattle.iso_model.specs.Steps.{Piece, rest, turning, Machine, step_at, step, finish}
 use Rattle.iso_model.specs.declared.resource.Change.{Change}
 use Rattle.iso_model.specs.declared.resource.Resource.{Resource}
@@ -49,4 +49,8 @@ module _ (r : Rights) (k : List ℕ) (locked : is_writable (r k) ≡ false) wher
   step_at-untouched (turning row (suc t) a ∷ ps) (suc n) s = refl
 
   pub step-untouched : (m : Machine) → (step r m).state.resources k ≡ m.state.resources k
-  step-untouched m = step_at-untouched m.pieces m.state.here.env.steps m.state
+  step-untouched m =
+      elim (is_live m.state) as (λ b. (cond b (step_at r m.pieces m.state.here.env.steps m.state) m).state.resources k ≡ m.state.resources k) [
+        | true ↦ step_at-untouched m.pieces m.state.here.env.steps m.state
+        | false ↦ refl
+      ]

@@ -7,9 +7,11 @@ pub mod Environments
 pub mod Evaluation
 pub mod Examples
 pub mod Keys
+pub mod Memory
 pub mod Names
 pub mod Openings
 pub mod Properties
+pub mod ResourceKeys
 pub mod Resources
 pub mod Rights
 pub mod Scripts
@@ -20,4 +22,5 @@ pub mod Syntax
 pub mod SyntaxView
 pub mod Tests
 pub mod Texts
+pub mod Touch
 pub mod Verdicts
