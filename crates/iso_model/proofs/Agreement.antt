@@ -62,3 +62,8 @@ agree-changed r m n agree k change = record { same = λ q readable. ap (λ (o : 
 pub writable-readable : (a : Option Access) → is_writable a ≡ true → is_readable a ≡ true
 writable-readable None w = absurd (true≢false (sym w))
 writable-readable (Some a) w = refl
+
+-- what may not be looked at may not be changed
+pub unreadable-locked : (a : Option Access) → is_readable a ≡ false → is_writable a ≡ false
+unreadable-locked None h = refl
+unreadable-locked (Some a) h = absurd (true≢false h)

@@ -1,18 +1,19 @@
 -- The whole meaning of a block takes as many steps as its single steps do.
-use Rattle.std.proofs.Common.{◌≡◌, ℕ, zero, suc, ◌+◌, ◌<◌, List, [], ◌∷◌, ◌++◌, length, Bool, true, false, cond, ◌⊎◌, inl, inr, refl, sym, ap, ◌∙◌, subst, arith, true≢false}
+use Rattle.std.proofs.Common.{◌≡◌, ℕ, zero, suc, ◌+◌, ◌<◌, ◌≤◌, List, [], ◌∷◌, ◌++◌, length, Bool, true, false, cond, ◌⊎◌, inl, inr, refl, sym, ap, ◌∙◌, subst, arith, true≢false}
 use Rattle.iso_model.specs.Rights.{Rights}
 use Rattle.iso_model.specs.Resources.{Resources}
 use Rattle.iso_model.specs.Syntax.{Act, Acts, act, no_acts}
 use Rattle.iso_model.specs.Texts.{kind_of}
 use Rattle.iso_model.specs.Statements.{Local, State, is_live, is_well, locally, with_steps, runs_out}
-use Rattle.iso_model.specs.Steps.{Piece, rest, turning, Machine, machine, machine_at, point, point_of, leave_done, next_point, begin, step_at, step, steps, finished, is_done, is_ready, step_past, steps_to}
+use Rattle.iso_model.specs.Steps.{Piece, rest, turning, Machine, machine, machine_at, point, leave_done, next_point, begin, step_at, step, steps, finished, is_done, is_ready, step_past, steps_to}
 use Rattle.iso_model.specs.declared.fault.Fault.{Fault}
 use Rattle.iso_model.specs.declared.fault.Fault.TheVariants as F
+use Rattle.iso_model.specs.declared.fault.FaultKind.TheVariants as K
 use Rattle.iso_model.specs.declared.outcome.Note.{Note}
 use Rattle.iso_model.specs.declared.outcome.Ending.{Ending}
 use Rattle.iso_model.specs.declared.outcome.Ending.TheVariants as E
-use Rattle.iso_model.proofs.Keeps.{Keeps, begin-keeps}
-use Rattle.iso_model.proofs.Ends.{begin-steps, next-steps, leave-ending, next-ready, step-ready, step-live}
+use Rattle.iso_model.proofs.Effects.{Effect, nothing, local, assignment, line, fault, failure, skip, change, begin-effect}
+use Rattle.iso_model.proofs.Ends.{begin-steps, next-steps, leave-ending, step-ready, step-live, step-none}
 use Rattle.iso_model.proofs.Finishing.{finish-step}
 
 live-past : (e : Ending) → is_well e ≡ true → step_past e ≡ 0
@@ -35,15 +36,15 @@ fault-past F.BadCount note = refl
 fault-past F.OutputFull note = refl
 fault-past F.TextTooLong note = refl
 
-past-kept : (r : Rights) → Keeps r (λ s. step_past s.here.ending ≡ 0)
-past-kept r = record {
-  names = λ s names h. h;
-  line = λ s line h. h;
-  fault = λ s row fault h. fault-past fault _;
-  fail = λ s row message h. refl;
-  skip = λ s row reason h. refl;
-  change = λ s k change w h. h;
-}
+effect-past : (r : Rights) (s t : State) → Effect r s t → step_past s.here.ending ≡ 0 → step_past t.here.ending ≡ 0
+effect-past r s t nothing past = past
+effect-past r s t (local b) past = past
+effect-past r s t (assignment x d names e) past = past
+effect-past r s t (line text room) past = past
+effect-past r s t (fault row f) past = fault-past f _
+effect-past r s t (failure row message) past = refl
+effect-past r s t (skip row reason) past = refl
+effect-past r s t (change k c w) past = past
 
 -- what is left after a step that was left: an end that is no OutOfSteps, or a block that goes on
 abbrev GoesOn : Machine → Type 0
@@ -98,7 +99,7 @@ module _ (r : Rights) where
       let t : State = locally (with_steps k) s in
       let m = begin r row a t in (
         next-steps (m.pieces ++ rest j acts ∷ ps) m.state.here ∙ begin-steps r row a t,
-        goes_on (m.pieces ++ rest j acts ∷ ps) m.state.here m.state.resources (begin-keeps r (λ u. step_past u.here.ending ≡ 0) (past-kept r) row a t (live-past s.here.ending live)),
+        goes_on (m.pieces ++ rest j acts ∷ ps) m.state.here m.state.resources (effect-past r t m.state (begin-effect r t row a) (live-past s.here.ending live)),
       )
 
   after_turn : (k row n : ℕ) (a : Acts) (ps : List Piece) (s : State) → is_live s ≡ true → let q = step_at r (turning row (suc n) a ∷ ps) (suc k) s in (q.state.here.env.steps ≡ k) × GoesOn q
@@ -144,3 +145,20 @@ module _ (r : Rights) where
       let adds = c.1.adds in
       let same : c.0 ≡ steps_to m.state.here (finished r m).here = omega arith in
       subst (λ t. Counted m t) same c.1
+
+steps-none : (r : Rights) (n : ℕ) (s : State) → steps r n (machine [] s) ≡ machine [] s
+steps-none r zero s = refl
+steps-none r (suc n) s = ap (λ (m : Machine). steps r n m) (step-none r s) ∙ steps-none r n s
+
+-- more steps than those to the end change nothing
+pub steps-past : (r : Rights) (t n : ℕ) (m : Machine) (s : State) → t ≤ n → steps r t m ≡ machine [] s → steps r n m ≡ machine [] s
+steps-past r zero n m s less e = ap (λ (x : Machine). steps r n x) e ∙ steps-none r n s
+steps-past r (suc t) zero m s less e = absurd (omega arith)
+steps-past r (suc t) (suc n) m s less e = steps-past r t n (step r m) s (omega arith) e
+
+pub step_past-le : (e : Ending) → step_past e ≤ 1
+step_past-le E.Well = omega arith
+step_past-le (E.Fail note) = omega arith
+step_past-le (E.Assumed note) = omega arith
+step_past-le (E.Fault K.OutOfSteps note) = omega arith
+step_past-le (E.Fault kind note) = omega arith

@@ -4,7 +4,9 @@ use Rattle.iso_model.specs.Chains.{ClassHead, TestHead, class_rights, test_right
 use Rattle.iso_model.specs.Rights.{Rights, is_readable}
 use Rattle.iso_model.specs.Resources.{Resources}
 use Rattle.iso_model.specs.Statements.{State}
+use Rattle.iso_model.specs.Openings.{Opening}
 use Rattle.iso_model.specs.Steps.{Machine}
+use Rattle.iso_model.specs.Tests.{Body}
 
 -- two resource maps are equal at the keys of the rights: those that a block with these rights may look at
 pub record EqualAt (r : Rights) (m n : Resources) : Type 0 where
@@ -22,10 +24,27 @@ pub record ClassesAgree (c : ClassHead) (cs : List ClassHead) (m : Resources) (d
   pub classes : cs ≡ ds
   pub starts : EqualAt (class_rights (c ∷ cs)) m n
 
+-- the second rights let look wherever the first do
+pub record LooksWithin (q r : Rights) : Type 0 where
+  pub looks : (k : List ℕ) → is_readable (q k) ≡ true → is_readable (r k) ≡ true
+
 -- two states are equal but for resources at keys that may not be looked at
 pub record Alike (r : Rights) (s t : State) : Type 0 where
   pub here : s.here ≡ t.here
   pub resources : EqualAt r s.resources t.resources
+
+-- the same of what the opening of a chain leaves, and of how far a test has come
+pub record AlikeOpenings (r : Rights) (o p : Opening) : Type 0 where
+  pub frames : o.frames ≡ p.frames
+  pub resources : EqualAt r o.resources p.resources
+  pub well : o.well ≡ p.well
+
+pub record AlikeBodies (r : Rights) (b d : Body) : Type 0 where
+  pub names : b.names ≡ d.names
+  pub resources : EqualAt r b.resources d.resources
+  pub printed : b.printed ≡ d.printed
+  pub lines : b.lines ≡ d.lines
+  pub endings : b.endings ≡ d.endings
 
 -- the same of two machines, with the pieces that are left
 pub record AlikeAt (r : Rights) (x y : Machine) : Type 0 where

@@ -1,6 +1,7 @@
 pub mod Agreement
 pub mod Alone
 pub mod Blocks
+pub mod Changes
 pub mod Chains
 pub mod ChainView
 pub mod Environments

@@ -122,14 +122,18 @@ abbrev pub some_left : List Piece → ℕ
 some_left [] = 0
 some_left (p ∷ ps) = 1
 
+-- the steps that are left to the block
+abbrev pub steps_left : Machine → ℕ
+steps_left m = m.state.here.env.steps
+
 -- how far the end is: no more steps than this are left
 abbrev pub distance : Machine → ℕ
-distance m = m.state.here.env.steps + some_left m.pieces
+distance m = steps_left m + some_left m.pieces
 
 -- what a block is at its beginning and after each step: the first piece has something to do, and only a block that goes on has pieces
 pub record IsReady (p : Point) : Type 0 where
   pub first : is_ready p.pieces ≡ true
-  pub live : some_left p.pieces ≡ 1 → is_well p.here.ending ≡ true
+  pub live : is_done p.pieces ≡ false → is_well p.here.ending ≡ true
 
 -- 1 where the block ended because no step was left, which is a step of its own, else 0
 abbrev pub step_past : Ending → ℕ

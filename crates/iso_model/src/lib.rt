@@ -20,8 +20,6 @@ pub mod resource;
 pub mod resource_key;
 pub mod rights;
 pub mod script;
-#[cfg(test)]
-mod tests;
 pub mod text;
 pub mod touch;
 pub mod touch_laws;

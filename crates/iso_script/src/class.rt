@@ -19,6 +19,7 @@ use iso_model::script::{Class, Member, Test};
 use iso_model::text::Text;
 use std::alloc::Global;
 use std::collections::BTreeSet;
+use std::sync::Arc;
 
 impl<'a> Parser<'a> {
     /// A top-level class.
@@ -36,7 +37,7 @@ impl<'a> Parser<'a> {
             display: None,
             mode: None,
             isolated: false,
-            head: empty_head(self.alloc),
+            head: Arc::new(self.alloc, empty_head(self.alloc))?,
             members,
         })
     }
@@ -83,10 +84,13 @@ impl<'a> Parser<'a> {
             name: Text::copied(self.alloc, name)?,
             display: None,
             mode: None,
-            head: TestHead {
-                marks: Vec::new(self.alloc),
-                body,
-            },
+            head: Arc::new(
+                self.alloc,
+                TestHead {
+                    marks: Vec::new(self.alloc),
+                    body,
+                },
+            )?,
         }))
     }
 }

@@ -9,5 +9,3 @@ mod names;
 mod parser;
 pub mod reader;
 mod statement;
-#[cfg(test)]
-mod tests;
