@@ -7,3 +7,4 @@ mod find;
 mod rules;
 pub mod settings;
 mod table;
+pub mod world;
