@@ -26,15 +26,7 @@ pub digits-5 : digits 10 false 5 ≡ codes "5"
 unfolding digits
 digits-5 = refl
 
-pub digits-20 : digits 10 false 20 ≡ codes "20"
-unfolding digits
-digits-20 = refl
-
-pub digits-least : digits 10 false 9223372036854775808 ≡ codes "9223372036854775808"
-unfolding digits
-digits-least = refl
-
-pub ruleset numerals = (digits-1, digits-2, digits-3, digits-4, digits-5, digits-20, digits-least)
+pub ruleset numerals = (digits-1, digits-2, digits-3, digits-4, digits-5)
 
 abbrev pub no_properties : Map
 no_properties = empty
@@ -48,8 +40,8 @@ get-a_is_1 = get-insert nat_list_cmp_total no_properties (codes "a") (codes "1")
 pub get-a_is_x : get (insert a_is_1 (codes "a") (codes "x")) (codes "a") ≡ Some (codes "x")
 get-a_is_x = get-insert nat_list_cmp_total a_is_1 (codes "a") (codes "x") (codes "a")
 
-pub get-cleared : get (remove no_properties (codes "a")) (codes "a") ≡ None
-get-cleared = get-remove nat_list_cmp_total no_properties (codes "a") (codes "a")
+pub get-cleared : get (remove (remove a_is_1 (codes "a")) (codes "a")) (codes "a") ≡ None
+get-cleared = get-remove nat_list_cmp_total (remove a_is_1 (codes "a")) (codes "a") (codes "a")
 
 pub get-absent : get no_properties (codes "a") ≡ None
 get-absent = get-empty (slice_cmp nat_cmp) (codes "a")

@@ -1,7 +1,7 @@
 -- The class chain of a test or a class, and the access rights that it gives.
 use Rattle.std.specs.Prelude.{List, [], ◌∷◌, ◌++◌}
 use Rattle.iso_model.specs.Rights.{Rights, rights_of}
-use Rattle.iso_model.specs.Syntax.{Acts}
+use Rattle.iso_model.specs.Syntax.{Acts, no_acts}
 use Rattle.iso_model.specs.declared.heads.Mark.{Mark}
 use Rattle.iso_model.specs.declared.heads.Variable.{Variable}
 
@@ -14,6 +14,10 @@ pub record ClassHead : Type 0 where
   pub after_all : Acts
   pub before_each : Acts
   pub after_each : Acts
+
+-- the head of a class in which nothing but members is written
+abbrev pub empty_head : ClassHead
+empty_head = record { statics = []; fields = []; marks = []; before_all = no_acts; after_all = no_acts; before_each = no_acts; after_each = no_acts }
 
 -- what a test itself has
 pub record TestHead : Type 0 where

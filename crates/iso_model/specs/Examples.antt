@@ -3,5 +3,3 @@ pub mod Words
 pub mod Resources
 pub mod Lifecycles
 pub mod Names
-pub mod Statements
-pub mod Forms

@@ -48,6 +48,10 @@ starting_value k =
     (cond (bytes_eq k locale_key) (Locale (codes "en"))
     (cond (starts_with nat_eq k file_prefix) (File None) Plain))
 
+-- the starting values of a world that says nothing
+abbrev pub empty_world : Resources
+empty_world k = Some (starting_value k)
+
 -- the resources at the keys that may be looked at, and nothing at any other
 abbrev pub restricted : Rights → Resources → Resources
 restricted r m k = cond (is_readable (r k)) (m k) None

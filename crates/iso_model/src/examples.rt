@@ -1,26 +1,30 @@
 //! Worked examples of the definitions, as public laws.
 
-ghost use Rattle.std.specs.Prelude.{◌≡◌, ◌-◌, [], ◌∷◌, codes, true, false};
-ghost use Rattle.iso_model.specs.Alone.{test_alone, class_alone};
+ghost use Rattle.std.specs.Prelude.{◌≡◌, ◌-◌, [], ◌∷◌, Ok, Err, codes, map, replicate, true, false, pos, negsuc};
+ghost use Rattle.iso_model.specs.Alone.{after_all, test_alone, class_alone};
+ghost use Rattle.iso_model.specs.Chains.{empty_head};
 ghost use Rattle.iso_model.specs.Openings.{opening};
+ghost use Rattle.iso_model.specs.Resources.{empty_world};
 ghost use Rattle.iso_model.specs.Steps.{is_done};
+ghost use Rattle.iso_model.specs.Syntax.{choice, locale, no_acts, repeat};
 ghost use Rattle.iso_model.specs.Tests.{test};
 ghost use Rattle.iso_model.specs.Texts.{place_text};
+ghost use Rattle.iso_model.specs.declared.access.Access.TheVariants.{Read};
+ghost use Rattle.iso_model.specs.declared.data.Data.TheVariants.{Flag, Text, Whole};
+ghost use Rattle.iso_model.specs.declared.fault.Fault.TheVariants as F;
 ghost use Rattle.iso_model.specs.declared.fault.FaultKind.TheVariants as K;
-ghost use Rattle.iso_model.specs.declared.outcome.Ending.TheVariants.{Well};
-ghost use Rattle.iso_model.specs.declared.place.Lifecycle.TheVariants.{BeforeAll, BeforeEach, AfterEach};
-ghost use Rattle.iso_model.specs.Examples.Words.{bare_class, nothing_said, property_a_is_1, block_after, by_itself, by_single_steps, steps_left};
-ghost use Rattle.iso_model.specs.Examples.Words.{in_test, in_class, passed, failed, faulted, skipped, blocked, fault_here};
-ghost use Rattle.iso_model.specs.Examples.Resources.{sets_x_first, sets_y, expects_x, sets_2, writes_properties, sets_1, reads_and_sets_1};
-ghost use Rattle.iso_model.specs.Examples.Resources.{prints_a, reads_properties, sets_by_number, clears_a, prints_locale};
-ghost use Rattle.iso_model.specs.Examples.Lifecycles.{outer, inner, prints_t, no_database, does_nothing, opens_inside, fails_before_each};
+ghost use Rattle.iso_model.specs.declared.outcome.Ending.TheVariants.{Assumed, Fail, Fault, Well};
+ghost use Rattle.iso_model.specs.declared.place.Lifecycle.TheVariants.{BeforeAll, AfterAll, BeforeEach, AfterEach};
+ghost use Rattle.iso_model.specs.Examples.Words.{quoted, number, minus, flag, name, add, subtract, multiply, join, equal, not_equal, less, text, len, prop, has_prop, file, has_file};
+ghost use Rattle.iso_model.specs.Examples.Words.{body, on_row, let_name, assign, print, assert, assert_equal, assume, fail, if_then, if_else, set_prop, clear_prop, set_locale, append_file, write_file, delete_file, repeats, repeats_twice, takes_name_twice, long, writes, file_a};
+ghost use Rattle.iso_model.specs.Examples.Words.{property_a_is_1, values_of, endings_of, block_with, by_itself, by_single_steps, steps_left};
+ghost use Rattle.iso_model.specs.Examples.Words.{in_test, in_class, note, lines, passed, failed, faulted, skipped, blocked, fault_here};
+ghost use Rattle.iso_model.specs.Examples.Resources.{sets_x_first, sets_y, expects_x, marks_locale, marks_locale_inside, prints_all, closes_file};
+ghost use Rattle.iso_model.specs.Examples.Resources.{sets_2, writes_properties, sets_1, reads_and_sets_1, prints_a, reads_and_prints_a, reads_properties, clears_a, writes_and_deletes, prints_locale};
+ghost use Rattle.iso_model.specs.Examples.Lifecycles.{outer, inner, prints_t, no_database, does_nothing, opens_inside, assumes_before_each};
 ghost use Rattle.iso_model.specs.Examples.Lifecycles.{assumes_false, fails_late, assumes_false_first};
-ghost use Rattle.iso_model.specs.Examples.Names.{counts_up, prints_n, sets_static, has_static, assigns_n, assigns_outer_static};
-ghost use Rattle.iso_model.specs.Examples.Names.{assigns_inner_field, has_field, prints_field_first, takes_name_twice, takes_name_again};
-ghost use Rattle.iso_model.specs.Examples.Forms.{writes_and_deletes, appends_to_nothing, deletes_nothing, prints_absent, sets_locale};
-ghost use Rattle.iso_model.specs.Examples.Forms.{compares, measures_and_joins, chooses, asserts_falsely, repeats_negatively, joins_kinds, joins_to};
-ghost use Rattle.iso_model.specs.Examples.Statements.{exceeds_64_bits, prints_least, prints_product, prints_difference};
-ghost use Rattle.iso_model.specs.Examples.Statements.{compares_kinds, expects_3_on_row_2, repeats_twice, repeats, prints_empty_line};
+ghost use Rattle.iso_model.specs.Examples.Names.{counts_up, prints_n, sets_static, has_static, assigns_n, declares_n, assigns_static_before_each, assigns_outer_static};
+ghost use Rattle.iso_model.specs.Examples.Names.{assigns_inner_field, has_field, prints_field_first};
 
 /// A test sees what `before_all` left, and nothing that another test changed.
 #[tactic(auto, using(crate::proofs::ExampleLemmas::properties))]
@@ -30,76 +34,97 @@ pub fn tests_start_alike()
     ensures class { class_alone sets_x_first [] property_a_is_1 ≡ passed [] }
 {}
 
+/// The blocks of a test see the resources as the earlier ones left them, and the statics and fields
+/// of all enclosing classes. A local ends with its block.
+#[tactic(auto, using(crate::proofs::ExampleLemmas::numerals))]
+pub fn blocks_go_on_from_one_another()
+    ensures { test_alone prints_all (marks_locale_inside ∷ marks_locale ∷ []) empty_world
+        ≡ faulted K.UnknownName "unknown name x" (in_test 1) ("32en-A-a-B-b" ∷ []) }
+{}
+
+/// `after_all` has the rights of its own class, goes on from what `before_all` left, assigns no
+/// static, and has its whole output before it.
+#[tactic(auto, using(crate::proofs::ExampleLemmas::numerals))]
+pub fn after_all_goes_on_from_before_all()
+    ensures class { class_alone closes_file (empty_head ∷ []) empty_world
+        ≡ faulted K.Frozen "n is frozen" (in_class 2 AfterAll) ("in" ∷ "mn2" ∷ []) }
+    ensures bytes { let opened = opening (closes_file ∷ empty_head ∷ []) empty_world in
+        (after_all closes_file (empty_head ∷ []) opened).here.env.printed ≡ 4 }
+{}
+
 /// A test has the rights of its own marks and of those of all enclosing classes.
 /// Where several name one key, the stronger counts.
 #[tactic(auto, using(crate::proofs::ExampleLemmas::properties))]
 pub fn marks_of_the_whole_chain_count()
-    ensures own { test_alone sets_2 (bare_class ∷ []) property_a_is_1 ≡ passed [] }
-    ensures enclosing { test_alone sets_1 (bare_class ∷ writes_properties ∷ []) nothing_said
+    ensures own { test_alone sets_2 (empty_head ∷ []) property_a_is_1 ≡ passed [] }
+    ensures enclosing { test_alone sets_1 (empty_head ∷ writes_properties ∷ []) empty_world
         ≡ passed [] }
-    ensures stronger { test_alone reads_and_sets_1 (bare_class ∷ writes_properties ∷ []) nothing_said
+    ensures stronger { test_alone reads_and_sets_1 (empty_head ∷ writes_properties ∷ []) empty_world
         ≡ passed [] }
 {}
 
 /// Without a mark nothing may be looked at, and a `read` lets nothing be changed.
-/// The kinds of the operands are tested before the rights.
 pub fn undeclared_access_is_a_fault()
-    ensures look { test_alone prints_a (bare_class ∷ []) nothing_said
+    ensures look { test_alone prints_a (empty_head ∷ []) empty_world
         ≡ faulted K.Undeclared "undeclared READ of java.lang.System.properties" (in_test 1) [] }
-    ensures change { test_alone sets_1 (reads_properties ∷ []) nothing_said
+    ensures change { test_alone sets_1 (reads_properties ∷ []) empty_world
         ≡ faulted K.Undeclared "undeclared READ_WRITE of java.lang.System.properties" (in_test 1) [] }
-    ensures kind { test_alone sets_by_number (reads_properties ∷ []) nothing_said
-        ≡ faulted K.WrongKind "wrong kind" (in_test 1) [] }
+    ensures looks { values_of (has_prop (quoted "a") ∷ locale ∷ file (quoted "a") ∷ has_file (quoted "a") ∷ [])
+        ≡ map (λ k. Err (F.Undeclared Read (codes k)))
+        ("java.lang.System.properties" ∷ "java.util.Locale.default" ∷ "file:a" ∷ "file:a" ∷ []) }
+    ensures changes { endings_of (clear_prop (quoted "a") ∷ set_locale (quoted "de") ∷ write_file (quoted "a") (quoted "m") ∷ append_file (quoted "a") (quoted "m") ∷ delete_file (quoted "a") ∷ [])
+        ≡ map (fault_here K.Undeclared)
+        ("undeclared READ_WRITE of java.lang.System.properties" ∷ "undeclared READ_WRITE of java.util.Locale.default"
+        ∷ replicate 3 "undeclared READ_WRITE of file:a") }
 {}
 
-/// An absent property stays absent when it is cleared.
+/// A property is absent once it is cleared, and stays so.
 #[tactic(auto, using(crate::proofs::ExampleLemmas::properties))]
-pub fn absent_property_stays_absent()
-    ensures { test_alone clears_a (writes_properties ∷ []) nothing_said ≡ passed ("false" ∷ []) }
+pub fn cleared_property_is_absent()
+    ensures { test_alone clears_a (writes_properties ∷ []) property_a_is_1
+        ≡ passed ("true" ∷ "false" ∷ []) }
 {}
 
 /// The locale starts as "en" where the world says nothing of it.
 pub fn locale_starts_as_en()
-    ensures { test_alone prints_locale (bare_class ∷ []) nothing_said ≡ passed ("en" ∷ []) }
+    ensures { test_alone prints_locale (empty_head ∷ []) empty_world ≡ passed ("en" ∷ []) }
 {}
 
 /// The blocks around a test run from the outermost class inwards, and out again.
 /// What they print counts together, each line with its end.
 pub fn lifecycle_blocks_nest()
-    ensures order { test_alone prints_t (inner ∷ outer ∷ []) nothing_said
+    ensures order { test_alone prints_t (inner ∷ outer ∷ []) empty_world
         ≡ passed ("ob" ∷ "ib" ∷ "t" ∷ "ia" ∷ "oa" ∷ []) }
     ensures bytes { let chain = inner ∷ outer ∷ [] in
-        (test prints_t chain (opening chain nothing_said)).printed ≡ 14 }
+        (test prints_t chain (opening chain empty_world)).printed ≡ 14 }
 {}
 
 /// A fail in `before_all` blocks all tests and classes under it.
 /// The `after_all` of its class runs nevertheless.
 #[tactic(auto, using(crate::proofs::ExampleLemmas::numerals))]
 pub fn failed_before_all_blocks()
-    ensures test { test_alone does_nothing (no_database ∷ []) nothing_said
+    ensures test { test_alone does_nothing (no_database ∷ []) empty_world
         ≡ blocked "no db" (in_class 1 BeforeAll) [] }
-    ensures class { class_alone no_database [] nothing_said
+    ensures class { class_alone no_database [] empty_world
         ≡ failed "no db" (in_class 1 BeforeAll) ("open" ∷ "close" ∷ []) }
-    ensures inner_test { test_alone does_nothing (opens_inside ∷ no_database ∷ []) nothing_said
+    ensures inner_test { test_alone does_nothing (opens_inside ∷ no_database ∷ []) empty_world
         ≡ blocked "no db" (in_class 1 BeforeAll) [] }
-    ensures inner_class { class_alone opens_inside (no_database ∷ []) nothing_said
+    ensures inner_class { class_alone opens_inside (no_database ∷ []) empty_world
         ≡ blocked "no db" (in_class 1 BeforeAll) [] }
     ensures place { place_text (in_class 1 BeforeAll) ≡ codes "class 1 before_all row 1" }
 {}
 
-/// After a `before_each` that failed neither a further one nor the test is run.
+/// After a `before_each` that didn't end well neither a further one nor the test is run.
 /// Each `after_each` is.
-pub fn after_each_runs_after_a_failure()
-    ensures one { test_alone prints_t (fails_before_each ∷ []) nothing_said
-        ≡ failed "no" (in_class 1 BeforeEach) ("a" ∷ []) }
-    ensures nested { test_alone prints_t (inner ∷ fails_before_each ∷ []) nothing_said
-        ≡ failed "no" (in_class 1 BeforeEach) ("ia" ∷ "a" ∷ []) }
+pub fn after_each_runs_in_every_case()
+    ensures { test_alone prints_t (inner ∷ assumes_before_each ∷ []) empty_world
+        ≡ skipped "no" (in_class 1 BeforeEach) ("ia" ∷ "a" ∷ []) }
 {}
 
 /// A false assumption skips its test.
 #[tactic(auto, using(crate::proofs::ExampleLemmas::numerals))]
 pub fn false_assumption_skips()
-    ensures test { test_alone assumes_false (bare_class ∷ []) nothing_said
+    ensures test { test_alone assumes_false (empty_head ∷ []) empty_world
         ≡ skipped "no #1" (in_test 1) [] }
     ensures place { place_text (in_test 1) ≡ codes "test row 1" }
 {}
@@ -107,85 +132,130 @@ pub fn false_assumption_skips()
 /// A later fail is stronger than an earlier false assumption.
 #[tactic(auto, using(crate::proofs::ExampleLemmas::numerals))]
 pub fn later_fail_is_stronger()
-    ensures test { test_alone assumes_false (fails_late ∷ []) nothing_said
-        ≡ failed "late" (in_class 1 AfterEach) [] }
-    ensures place { place_text (in_class 1 AfterEach) ≡ codes "class 1 after_each row 1" }
+    ensures test { test_alone assumes_false (fails_late ∷ empty_head ∷ []) empty_world
+        ≡ failed "late" (in_class 2 AfterEach) [] }
+    ensures place { place_text (in_class 2 AfterEach) ≡ codes "class 2 after_each row 1" }
 {}
 
 /// A false assumption in `before_all` skips the class and the tests under it.
 pub fn false_assumption_in_before_all_skips_all()
-    ensures test { test_alone does_nothing (assumes_false_first ∷ []) nothing_said
+    ensures test { test_alone does_nothing (assumes_false_first ∷ []) empty_world
         ≡ skipped "no #1" (in_class 1 BeforeAll) [] }
-    ensures class { class_alone assumes_false_first [] nothing_said
+    ensures class { class_alone assumes_false_first [] empty_world
         ≡ skipped "no #1" (in_class 1 BeforeAll) [] }
 {}
 
 /// Each test begins with the fields at their literals.
 #[tactic(auto, using(crate::proofs::ExampleLemmas::numerals))]
 pub fn fields_begin_anew()
-    ensures { test_alone prints_n (counts_up ∷ []) nothing_said ≡ passed ("2" ∷ []) }
+    ensures { test_alone prints_n (counts_up ∷ []) empty_world ≡ passed ("2" ∷ []) }
 {}
 
 /// Tests and `after_all` see a static as `before_all` left it.
 #[tactic(auto, using(crate::proofs::ExampleLemmas::numerals))]
 pub fn statics_stay_as_before_all_left_them()
-    ensures test { test_alone prints_n (sets_static ∷ []) nothing_said ≡ passed ("5" ∷ []) }
-    ensures class { class_alone sets_static [] nothing_said ≡ passed ("5" ∷ []) }
+    ensures test { test_alone prints_n (sets_static ∷ []) empty_world ≡ passed ("5" ∷ []) }
+    ensures class { class_alone sets_static [] empty_world ≡ passed ("5" ∷ []) }
 {}
 
-/// A static is frozen in a test, and in the `before_all` of a class inside its own.
+/// A static is assigned in its own class's `before_all` alone, and its name is taken elsewhere.
 pub fn statics_are_frozen_elsewhere()
-    ensures test { test_alone assigns_n (has_static ∷ []) nothing_said
+    ensures test { test_alone assigns_n (has_static ∷ []) empty_world
         ≡ faulted K.Frozen "n is frozen" (in_test 1) [] }
-    ensures inner { class_alone assigns_outer_static (has_static ∷ []) nothing_said
+    ensures taken { test_alone declares_n (has_static ∷ []) empty_world
+        ≡ faulted K.DoubleName "name n is taken" (in_test 1) [] }
+    ensures before_each { test_alone does_nothing (assigns_static_before_each ∷ empty_head ∷ []) empty_world
+        ≡ faulted K.Frozen "n is frozen" (in_class 2 BeforeEach) [] }
+    ensures inner { class_alone assigns_outer_static (has_static ∷ []) empty_world
         ≡ faulted K.Frozen "n is frozen" (in_class 2 BeforeAll) [] }
 {}
 
 /// A block sees no name of a class inside its own, and `before_all` no field.
 pub fn other_names_are_unknown()
-    ensures inner { test_alone does_nothing (has_field ∷ assigns_inner_field ∷ []) nothing_said
+    ensures inner { test_alone does_nothing (has_field ∷ assigns_inner_field ∷ []) empty_world
         ≡ faulted K.UnknownName "unknown name n" (in_class 1 BeforeEach) [] }
-    ensures field { class_alone prints_field_first [] nothing_said
+    ensures field { class_alone prints_field_first [] empty_world
         ≡ faulted K.UnknownName "unknown name n" (in_class 1 BeforeAll) [] }
+    ensures fault_blocks { test_alone does_nothing (prints_field_first ∷ []) empty_world
+        ≡ blocked "unknown name n" (in_class 1 BeforeAll) [] }
 {}
 
 /// A `let` of a visible name is a fault, here after three steps.
 pub fn visible_name_is_taken()
-    ensures fault { (by_itself takes_name_twice).here.ending
-        ≡ fault_here K.DoubleName "name x is taken" }
+    ensures taken { (by_itself takes_name_twice).here.ending ≡ fault_here K.DoubleName "name x is taken" }
     ensures steps { steps_left (by_itself takes_name_twice) ≡ 10000 - 3 }
 {}
 
 /// A local ends with the body that holds its `let`.
 pub fn locals_end_with_their_body()
-    ensures { (by_itself takes_name_again).here.ending ≡ Well }
+    ensures { (by_itself (if_then (flag true) (let_name "x" (number 1) ∷ []) ∷ let_name "x" (number 2) ∷ [])).here.ending
+        ≡ Well }
 {}
 
 /// Whole numbers have 64 bits.
-#[tactic(auto, using(crate::proofs::ExampleLemmas::numerals))]
 pub fn numbers_have_64_bits()
-    ensures overflow { test_alone exceeds_64_bits (bare_class ∷ []) nothing_said
-        ≡ faulted K.Overflow "overflow" (in_test 1) [] }
-    ensures least { test_alone prints_least (bare_class ∷ []) nothing_said
-        ≡ passed ("-9223372036854775808" ∷ []) }
+    ensures overflow { values_of (add (number 9223372036854775807) (number 1 ∷ [])
+        ∷ add (minus 9223372036854775808) (minus 1 ∷ [])
+        ∷ multiply (number 3037000500) (number 3037000500 ∷ []) ∷ [])
+        ≡ replicate 3 (Err F.Overflow) }
+    ensures least { values_of (subtract (minus 9223372036854775807) (number 1 ∷ []) ∷ [])
+        ≡ Ok (Whole (negsuc 9223372036854775807)) ∷ [] }
 {}
 
-/// Operands are grouped by parentheses, and else to the left.
-#[tactic(auto, using(crate::proofs::ExampleLemmas::numerals))]
-pub fn chains_group_to_the_left()
-    ensures parentheses { test_alone prints_product (bare_class ∷ []) nothing_said
-        ≡ passed ("20" ∷ []) }
-    ensures left { test_alone prints_difference (bare_class ∷ []) nothing_said
-        ≡ passed ("-5" ∷ []) }
+/// Operands come from the left, all of them before the first pair and before what the form itself
+/// tests. Chains group to the left.
+pub fn operands_come_first()
+    ensures faults { values_of (add (number 1) (quoted "a" ∷ name "x" ∷ name "y" ∷ []) ∷ equal (name "x") (name "y") ∷ [])
+        ≡ replicate 2 (Err (F.UnknownName (codes "x"))) }
+    ensures statements { endings_of (assert_equal (name "x") (name "y") ∷ set_prop (name "x") (name "y") ∷ write_file (name "x") (name "y") ∷ append_file (name "x") (name "y") ∷ assign "y" (name "x") ∷ [])
+        ≡ replicate 5 (fault_here K.UnknownName "unknown name x") }
+    ensures pairs { values_of (subtract (number 2) (number 3 ∷ number 4 ∷ [])
+        ∷ multiply (add (number 2) (number 3 ∷ [])) (number 4 ∷ []) ∷ [])
+        ≡ Ok (Whole (negsuc 4)) ∷ Ok (Whole (pos 20)) ∷ [] }
 {}
 
-/// `assert_equal` compares no values of two kinds, and names two that differ.
+/// Values of one kind are compared.
+pub fn comparisons_give_flags()
+    ensures hold { values_of (less (minus 1) (number 0) ∷ equal (flag false) (flag false) ∷ not_equal (quoted "a") (quoted "b") ∷ [])
+        ≡ replicate 3 (Ok (Flag true)) }
+    ensures fail { values_of (less (number 1) (number 1) ∷ equal (flag true) (flag false) ∷ not_equal (number 1) (number 1) ∷ [])
+        ≡ replicate 3 (Ok (Flag false)) }
+{}
+
+/// Texts are joined and measured, and any value has a text.
 #[tactic(auto, using(crate::proofs::ExampleLemmas::numerals))]
-pub fn assert_equal_names_both_values()
-    ensures kinds { test_alone compares_kinds (bare_class ∷ []) nothing_said
-        ≡ faulted K.WrongKind "wrong kind" (in_test 1) [] }
-    ensures values { test_alone expects_3_on_row_2 (bare_class ∷ []) nothing_said
-        ≡ failed "expected: <3> but was: <4>" (in_test 2) [] }
+pub fn texts_are_joined_and_measured()
+    ensures { values_of (join (text (number 5)) (text (flag true) ∷ []) ∷ len (quoted "abc") ∷ [])
+        ≡ Ok (Text (codes "5true")) ∷ Ok (Whole (pos 3)) ∷ [] }
+{}
+
+/// The kinds of operands are tested before rights, resources and values.
+pub fn kinds_come_first()
+    ensures values { values_of (add (number 1) (quoted "a" ∷ []) ∷ join (number 1) (quoted "a" ∷ [])
+        ∷ equal (number 1) (quoted "1") ∷ less (quoted "a") (quoted "b")
+        ∷ len (number 1) ∷ prop (number 1) ∷ has_prop (number 1) ∷ file (number 1) ∷ has_file (number 1) ∷ [])
+        ≡ replicate 9 (Err F.WrongKind) }
+    ensures statements { endings_of (assert (number 1) ∷ assume (number 1) "no" ∷ if_then (number 1) [] ∷ repeat (flag true) no_acts
+        ∷ assert_equal (number 1) (quoted "1") ∷ set_prop (number 1) (quoted "x") ∷ set_prop (quoted "x") (number 1) ∷ clear_prop (number 1) ∷ set_locale (number 1)
+        ∷ write_file (quoted "a") (number 1) ∷ append_file (quoted "a") (number 1) ∷ delete_file (number 1) ∷ [])
+        ≡ replicate 12 (fault_here K.WrongKind "wrong kind") }
+    ensures count { endings_of (repeat (minus 1) no_acts ∷ []) ≡ fault_here K.BadCount "bad count" ∷ [] }
+{}
+
+/// A false `assert` says so, and `assert_equal` names both values, the expected one first.
+#[tactic(auto, using(crate::proofs::ExampleLemmas::numerals))]
+pub fn assertions_name_what_differs()
+    ensures { endings_of (assert (flag false) ∷ assert_equal (number 3) (number 4) ∷ assume (flag false) "no" ∷ [])
+        ≡ Fail (note "assertion failed" (in_test 1)) ∷ Fail (note "expected: <3> but was: <4>" (in_test 1)) ∷ Assumed (note "no" (in_test 1)) ∷ [] }
+{}
+
+/// A place has the row of the innermost statement.
+#[tactic(auto, using(crate::proofs::ExampleLemmas::numerals))]
+pub fn rows_are_of_the_innermost_statement()
+    ensures statement { (block_with [] 0 (on_row 1 (repeat (number 1) (on_row 2 (choice (flag true) (on_row 3 (fail "no" ∷ [])) no_acts ∷ [])) ∷ []))).here.ending
+        ≡ Fail (note "no" (in_test 3)) }
+    ensures turn { (block_with [] 0 (on_row 2 (repeats 10000 ∷ []))).here.ending
+        ≡ Fault K.OutOfSteps (note "out of steps" (in_test 2)) }
     ensures place { place_text (in_test 2) ≡ codes "test row 2" }
 {}
 
@@ -202,67 +272,44 @@ pub fn turns_take_steps()
 
 /// A block has 10,000 steps.
 pub fn steps_are_limited()
-    ensures last { (by_itself (repeats 9999)).here.ending ≡ Well }
-    ensures past { (by_itself (repeats 10000)).here.ending
-        ≡ fault_here K.OutOfSteps "out of steps" }
+    ensures { (by_itself (repeats 9999 ∷ [])).here.ending ≡ Well }
 {}
 
 /// A body prints 65,536 bytes at most, each line with its end.
 pub fn output_is_limited()
-    ensures last { (block_after 65535 prints_empty_line).here.ending ≡ Well }
-    ensures past { (block_after 65536 prints_empty_line).here.ending
+    ensures last { (block_with [] 65535 (body (print (quoted "") ∷ []))).here.ending ≡ Well }
+    ensures past { (block_with [] 65536 (body (print (quoted "") ∷ []))).here.ending
         ≡ fault_here K.OutputFull "output is full" }
+{}
+
+/// A text has 4,096 bytes at most, and so has a file.
+pub fn texts_are_limited()
+    ensures last { (by_itself (let_name "x" (join (long 4095) (quoted "b" ∷ [])) ∷ [])).here.ending ≡ Well }
+    ensures past { (by_itself (let_name "x" (join (long 4096) (quoted "b" ∷ [])) ∷ [])).here.ending
+        ≡ fault_here K.TextTooLong "text is too long" }
+    ensures file { (block_with (writes file_a ∷ []) 0 (body (write_file (quoted "a") (long 4096) ∷ append_file (quoted "a") (quoted "b") ∷ []))).here.ending
+        ≡ fault_here K.TextTooLong "text is too long" }
 {}
 
 /// A file is made or replaced, grows, and is missing once it is deleted.
 pub fn files_are_written_and_deleted()
-    ensures { test_alone writes_and_deletes (bare_class ∷ []) nothing_said
+    ensures { test_alone writes_and_deletes (empty_head ∷ []) empty_world
         ≡ passed ("mn" ∷ "true" ∷ "false" ∷ []) }
 {}
 
 /// What isn't there is missing, by its name.
 #[tactic(auto, using(crate::proofs::ExampleLemmas::properties))]
 pub fn absent_resources_are_missing()
-    ensures append { test_alone appends_to_nothing (bare_class ∷ []) nothing_said
-        ≡ faulted K.Missing "missing file a" (in_test 1) [] }
-    ensures delete { test_alone deletes_nothing (bare_class ∷ []) nothing_said
-        ≡ faulted K.Missing "missing file a" (in_test 1) [] }
-    ensures property { test_alone prints_absent (bare_class ∷ []) nothing_said
+    ensures append { (block_with (writes file_a ∷ []) 0 (body (append_file (quoted "a") (quoted "n") ∷ []))).here.ending
+        ≡ fault_here K.Missing "missing file a" }
+    ensures delete { (block_with (writes file_a ∷ []) 0 (body (delete_file (quoted "a") ∷ []))).here.ending
+        ≡ fault_here K.Missing "missing file a" }
+    ensures property { test_alone reads_and_prints_a (empty_head ∷ []) empty_world
         ≡ faulted K.Missing "missing property a" (in_test 1) [] }
-{}
-
-/// A locale is set by a test that declares it for writing.
-pub fn locale_is_set()
-    ensures { test_alone sets_locale (bare_class ∷ []) nothing_said ≡ passed ("de" ∷ []) }
-{}
-
-/// Comparisons, lengths and joins give values that are printed as by `text`.
-#[tactic(auto, using(crate::proofs::ExampleLemmas::numerals))]
-pub fn expressions_give_values()
-    ensures comparisons { test_alone compares (bare_class ∷ []) nothing_said
-        ≡ passed ("true" ∷ "false" ∷ "true" ∷ "false" ∷ []) }
-    ensures texts { test_alone measures_and_joins (bare_class ∷ []) nothing_said
-        ≡ passed ("3" ∷ "5x" ∷ []) }
-    ensures kinds { test_alone joins_kinds (bare_class ∷ []) nothing_said
-        ≡ faulted K.WrongKind "wrong kind" (in_test 1) [] }
 {}
 
 /// An `if` does one of its two bodies.
 pub fn one_body_is_chosen()
-    ensures { test_alone chooses (bare_class ∷ []) nothing_said ≡ passed ("a" ∷ "b" ∷ []) }
-{}
-
-/// A false `assert` is a fail, and a negative count a fault.
-pub fn false_assert_fails()
-    ensures assertion { test_alone asserts_falsely (bare_class ∷ []) nothing_said
-        ≡ failed "assertion failed" (in_test 1) [] }
-    ensures count { test_alone repeats_negatively (bare_class ∷ []) nothing_said
-        ≡ faulted K.BadCount "bad count" (in_test 1) [] }
-{}
-
-/// A text has 4,096 bytes at most.
-pub fn texts_are_limited()
-    ensures last { (by_itself (joins_to 4095)).here.ending ≡ Well }
-    ensures past { (by_itself (joins_to 4096)).here.ending
-        ≡ fault_here K.TextTooLong "text is too long" }
+    ensures { (by_itself (if_else (flag true) (print (quoted "a") ∷ []) (print (quoted "b") ∷ []) ∷ if_else (flag false) (print (quoted "a") ∷ []) (print (quoted "b") ∷ []) ∷ [])).here.lines
+        ≡ lines ("a" ∷ "b" ∷ []) }
 {}

@@ -1,18 +1,19 @@
 -- The words in which example scripts are written and their outcomes said. Most are spelled as in a script.
 -- All of a script stands on one line, so every row is 1 where none is given.
 use Prim.Native.String.{String}
-use Rattle.std.specs.Prelude.{ℕ, zero, suc, List, [], ◌∷◌, Bool, Some, None, codes, map, pos, negsuc, cond, bytes_eq}
+use Rattle.std.specs.Prelude.{ℕ, zero, suc, List, [], ◌∷◌, Bool, Some, codes, true, map, pos, negsuc, cond, bytes_eq, replicate}
 use Rattle.std.specs.FinMap.{empty, insert}
-use Rattle.iso_model.specs.Rights.{Rights}
-use Rattle.iso_model.specs.Chains.{ClassHead, TestHead}
+use Rattle.iso_model.specs.Rights.{rights_of}
+use Rattle.iso_model.specs.Chains.{TestHead}
 use Rattle.iso_model.specs.Blocks.{block}
 use Rattle.iso_model.specs.Environments.{environment}
-use Rattle.iso_model.specs.Keys.{properties_key}
-use Rattle.iso_model.specs.Resources.{Resources, starting_value}
+use Rattle.iso_model.specs.Evaluation.{Given, evaluated}
+use Rattle.iso_model.specs.Keys.{properties_key, file_key}
+use Rattle.iso_model.specs.Resources.{Resources, empty_world}
 use Rattle.iso_model.specs.Statements.{State}
 use Rattle.iso_model.specs.Steps.{Machine, first_point, machine_at, steps}
 use Rattle.iso_model.specs.Syntax as S
-use Rattle.iso_model.specs.Syntax.{Term, literal, chain, call, Terms, no_terms, term, Act, plain, choice, Acts, no_acts, act}
+use Rattle.iso_model.specs.Syntax.{Term, literal, chain, compare, call, Terms, no_terms, term, Act, plain, choice, Acts, no_acts, act}
 use Rattle.iso_model.specs.declared.access.Access.TheVariants.{Read, Write}
 use Rattle.iso_model.specs.declared.data.Data.TheVariants.{Whole, Flag, Text}
 use Rattle.iso_model.specs.declared.fault.FaultKind.{FaultKind}
@@ -28,12 +29,16 @@ use Rattle.iso_model.specs.declared.place.Place.TheVariants.{Row}
 use Rattle.iso_model.specs.declared.place.BlockName.TheVariants.{Test, Class}
 use Rattle.iso_model.specs.declared.place.Lifecycle.{Lifecycle}
 use Rattle.iso_model.specs.declared.resource.Resource.TheVariants.{Props}
-use Rattle.iso_model.specs.declared.tree.Operator.TheVariants.{Add, Subtract, Multiply}
-use Rattle.iso_model.specs.declared.tree.Function.TheVariants.{Prop, HasProp}
+use Rattle.iso_model.specs.declared.tree.Operator.TheVariants.{Add, Subtract, Multiply, Join}
+use Rattle.iso_model.specs.declared.tree.Comparison.TheVariants.{Equal, NotEqual, Less}
+use Rattle.iso_model.specs.declared.tree.Function.TheVariants as F
 
--- literals: `"t"`, `n`, `-n`, and `true` or `false`
+-- literals: `"t"`, a text of so many bytes, `n`, `-n`, and `true` or `false`
 abbrev pub quoted : String → Term
 quoted t = literal (Text (codes t))
+
+abbrev pub long : ℕ → Term
+long length = literal (Text (replicate length 97))
 
 abbrev pub number : ℕ → Term
 number n = literal (Whole (pos n))
@@ -45,7 +50,7 @@ minus (suc n) = literal (Whole (negsuc n))
 abbrev pub flag : Bool → Term
 flag b = literal (Flag b)
 
--- expressions: a name, the chains `e + ..`, `e - ..` and `e * ..`, `prop(e)` and `has_prop(e)`
+-- expressions: a name, chains, comparisons, and functions by their own words
 abbrev pub name : String → Term
 name x = S.name (codes x)
 
@@ -62,11 +67,35 @@ subtract e es = chain Subtract e (terms es)
 abbrev pub multiply : Term → List Term → Term
 multiply e es = chain Multiply e (terms es)
 
+abbrev pub join : Term → List Term → Term
+join e es = chain Join e (terms es)
+
+abbrev pub equal : Term → Term → Term
+equal a b = compare Equal a b
+
+abbrev pub not_equal : Term → Term → Term
+not_equal a b = compare NotEqual a b
+
+abbrev pub less : Term → Term → Term
+less a b = compare Less a b
+
+abbrev pub text : Term → Term
+text e = call F.Text e
+
+abbrev pub len : Term → Term
+len e = call F.Len e
+
 abbrev pub prop : Term → Term
-prop e = call Prop e
+prop e = call F.Prop e
 
 abbrev pub has_prop : Term → Term
-has_prop e = call HasProp e
+has_prop e = call F.HasProp e
+
+abbrev pub file : Term → Term
+file e = call F.File e
+
+abbrev pub has_file : Term → Term
+has_file e = call F.HasFile e
 
 -- a body with all its statements on one row, and one with all on its first
 abbrev pub on_row : ℕ → List Act → Acts
@@ -86,6 +115,9 @@ assign x e = plain (S.assign (codes x) e)
 abbrev pub print : Term → Act
 print e = plain (S.print e)
 
+abbrev pub assert : Term → Act
+assert e = plain (S.assert e)
+
 abbrev pub assert_equal : Term → Term → Act
 assert_equal a b = plain (S.assert_equal a b)
 
@@ -101,11 +133,38 @@ set_prop a b = plain (S.set_prop a b)
 abbrev pub clear_prop : Term → Act
 clear_prop e = plain (S.clear_prop e)
 
+abbrev pub set_locale : Term → Act
+set_locale e = plain (S.set_locale e)
+
+abbrev pub write_file : Term → Term → Act
+write_file a b = plain (S.write_file a b)
+
+abbrev pub append_file : Term → Term → Act
+append_file a b = plain (S.append_file a b)
+
+abbrev pub delete_file : Term → Act
+delete_file e = plain (S.delete_file e)
+
 abbrev pub if_then : Term → List Act → Act
 if_then e acts = choice e (body acts) no_acts
 
+abbrev pub if_else : Term → List Act → List Act → Act
+if_else e acts others = choice e (body acts) (body others)
+
 abbrev pub repeat : Term → List Act → Act
 repeat e acts = S.repeat e (body acts)
+
+-- let x = 1; if true { let x = 2; }
+abbrev pub takes_name_twice : List Act
+takes_name_twice = let_name "x" (number 1) ∷ if_then (flag true) (let_name "x" (number 2) ∷ []) ∷ []
+
+-- repeat n { }
+abbrev pub repeats : ℕ → Act
+repeats n = repeat (number n) []
+
+-- repeat 2 { let x = 1; print x; }
+abbrev pub repeats_twice : List Act
+repeats_twice = repeat (number 2) (let_name "x" (number 1) ∷ print (name "x") ∷ []) ∷ []
 
 -- marks, statics and fields
 abbrev pub reads : List ℕ → Mark
@@ -117,33 +176,36 @@ writes key = record { access = Write; key = key }
 abbrev pub variable : String → ℕ → Variable
 variable x n = record { name = codes x; value = Whole (pos n) }
 
--- a class in which nothing is written, and a test without marks
-abbrev pub bare_class : ClassHead
-bare_class = record { statics = []; fields = []; marks = []; before_all = no_acts; after_all = no_acts; before_each = no_acts; after_each = no_acts }
+-- the key of file a
+abbrev pub file_a : List ℕ
+file_a = file_key (codes "a")
 
+-- a test without marks
 abbrev pub a_test : List Act → TestHead
 a_test acts = record { marks = []; body = body acts }
 
--- the starting resources of a world that says nothing, and of one that says that property a is "1"
-abbrev pub nothing_said : Resources
-nothing_said k = Some (starting_value k)
-
+-- the starting resources of a world that says that property a is "1"
 abbrev pub property_a_is_1 : Resources
-property_a_is_1 k = cond (bytes_eq k properties_key) (Some (Props (insert empty (codes "a") (codes "1")))) (nothing_said k)
+property_a_is_1 k = cond (bytes_eq k properties_key) (Some (Props (insert empty (codes "a") (codes "1")))) (empty_world k)
 
--- a body as the block of a test, by itself: it has no rights, sees no names, and so many bytes were printed before it
-abbrev pub no_rights : Rights
-no_rights k = None
+-- expressions by themselves, with the rights of no mark: what each gives where no name is visible
+abbrev pub values_of : List Term → List Given
+values_of = map (evaluated [] empty_world (rights_of []))
 
-abbrev pub block_after : ℕ → Acts → State
-block_after printed acts = block no_rights acts (environment [] printed Test) nothing_said
+-- a body as the block of a test, by itself: with the rights of these marks, where no name is visible and so many bytes were printed before it
+abbrev pub block_with : List Mark → ℕ → Acts → State
+block_with marks printed acts = block (rights_of marks) acts (environment [] printed Test) empty_world
 
-abbrev pub by_itself : Acts → State
-by_itself acts = block_after 0 acts
+abbrev pub by_itself : List Act → State
+by_itself acts = block_with [] 0 (body acts)
 
--- the same block after so many single steps
-abbrev pub by_single_steps : ℕ → Acts → Machine
-by_single_steps n acts = steps no_rights n (machine_at (first_point acts (environment [] 0 Test)) nothing_said)
+-- statements by themselves: how each ends
+abbrev pub endings_of : List Act → List Ending
+endings_of = map (λ a. (by_itself (a ∷ [])).here.ending)
+
+-- a block after so many single steps
+abbrev pub by_single_steps : ℕ → List Act → Machine
+by_single_steps n acts = steps (rights_of []) n (machine_at (first_point (body acts) (environment [] 0 Test)) empty_world)
 
 -- the steps that a block has left
 abbrev pub steps_left : State → ℕ
@@ -178,6 +240,6 @@ skipped message place output = record { verdict = V.Skipped (note message place)
 abbrev pub blocked : String → Place → List String → Outcome
 blocked message place output = record { verdict = V.Blocked (note message place); output = lines output }
 
--- the fault that ends a test's block at its first row
+-- the ending of a test's block by a fault, at its first row
 abbrev pub fault_here : FaultKind → String → Ending
 fault_here kind message = E.Fault kind (note message (in_test 1))
