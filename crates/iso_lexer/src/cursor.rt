@@ -4,7 +4,7 @@ use crate::token::Place;
 use iso_model::limits::FILE_BYTES;
 
 /// The bytes that are left of a script, and the place of the first of them.
-#[derive(Clone, Copy, Debug)]
+#[derive(Clone, Copy)]
 pub(crate) struct Cursor<'a> {
     pub place: Place,
     pub rest: &'a [u8],

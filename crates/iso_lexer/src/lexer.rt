@@ -15,7 +15,7 @@ use iso_model::limits::FILE_BYTES;
 use std::marker::Model;
 
 /// The tokens of a script, from the one that is next on.
-#[derive(Debug, Drop)]
+#[derive(Drop)]
 pub struct Lexer<'a> {
     token: Token<'a>,
     place: Place,

@@ -24,7 +24,7 @@ const TEXT_LIMIT: usize = TEXT_BYTES as usize;
 const NUMBER_LIMIT: u64 = 9_223_372_036_854_775_808;
 
 /// What makes bytes no token, and how many bytes from their first it lies.
-#[derive(Clone, Copy, Debug)]
+#[derive(Clone, Copy)]
 pub(crate) struct Misspelling {
     pub fault: TokenFault,
     pub offset: usize,

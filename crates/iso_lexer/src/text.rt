@@ -5,7 +5,7 @@ use std::alloc::{AllocError, Global};
 
 /// A text as it stands between its quotes in the script: printable bytes, in which each quote and each
 /// backslash is escaped by a backslash, and nothing else is; at most 4,096 bytes without the escapes.
-#[derive(Clone, Copy, Debug)]
+#[derive(Clone, Copy)]
 pub struct QuotedText<'a> {
     pub(crate) raw: &'a [u8],
     ghost quoted: { IsQuoted raw.now },

@@ -3,7 +3,7 @@ use crate::text::QuotedText;
 use crate::word::Word;
 
 /// A place in a script: line and column count from 1, and a column counts bytes.
-#[derive(Clone, Copy, Debug, PartialEq, Eq)]
+#[derive(Clone, Copy, PartialEq, Eq)]
 pub struct Place {
     pub line: u32,
     pub column: u32,
@@ -25,7 +25,7 @@ pub enum TokenFault {
 }
 
 /// A token of the script language.
-#[derive(Clone, Copy, Debug)]
+#[derive(Clone, Copy)]
 pub enum Token<'a> {
     /// A name that is no reserved word.
     Name(&'a str),

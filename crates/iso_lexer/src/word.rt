@@ -2,7 +2,7 @@ ghost use Rattle.std.specs.Prelude.{◌≡◌, ◌↔◌, IsTrue};
 ghost use Rattle.iso_lexer.specs.Spelling.{same_word, spelling, word_of};
 
 /// A reserved word of the script language. `Children` and `Disabled` are reserved for later use.
-#[derive(Clone, Copy, Debug, PartialEq, Eq)]
+#[derive(Clone, Copy, PartialEq, Eq)]
 pub enum Word {
     Team,
     Class,

@@ -6,7 +6,7 @@ ghost use Rattle.iso_model.specs.Chains.{empty_head};
 ghost use Rattle.iso_model.specs.Openings.{opening};
 ghost use Rattle.iso_model.specs.Resources.{empty_world};
 ghost use Rattle.iso_model.specs.Steps.{is_done};
-ghost use Rattle.iso_model.specs.Syntax.{choice, locale, no_acts, repeat};
+ghost use Rattle.iso_model.specs.Syntax.{act, locale, no_acts, repeat};
 ghost use Rattle.iso_model.specs.Tests.{test};
 ghost use Rattle.iso_model.specs.Texts.{place_text};
 ghost use Rattle.iso_model.specs.declared.access.Access.TheVariants.{Read};
@@ -17,10 +17,10 @@ ghost use Rattle.iso_model.specs.declared.outcome.Ending.TheVariants.{Assumed, F
 ghost use Rattle.iso_model.specs.declared.place.Lifecycle.TheVariants.{BeforeAll, AfterAll, BeforeEach, AfterEach};
 ghost use Rattle.iso_model.specs.Examples.Words.{quoted, number, minus, flag, name, add, subtract, multiply, join, equal, not_equal, less, text, len, prop, has_prop, file, has_file};
 ghost use Rattle.iso_model.specs.Examples.Words.{body, on_row, let_name, assign, print, assert, assert_equal, assume, fail, if_then, if_else, set_prop, clear_prop, set_locale, append_file, write_file, delete_file, repeats, repeats_twice, takes_name_twice, long, writes, file_a};
-ghost use Rattle.iso_model.specs.Examples.Words.{property_a_is_1, values_of, endings_of, block_with, by_itself, by_single_steps, steps_left};
+ghost use Rattle.iso_model.specs.Examples.Words.{property_a_is_1, values_of, endings_of, block_with, by_itself, ending_on_row_3, by_single_steps, steps_left};
 ghost use Rattle.iso_model.specs.Examples.Words.{in_test, in_class, note, lines, passed, failed, faulted, skipped, blocked, fault_here};
 ghost use Rattle.iso_model.specs.Examples.Resources.{sets_x_first, sets_y, expects_x, marks_locale, marks_locale_inside, prints_all, closes_file};
-ghost use Rattle.iso_model.specs.Examples.Resources.{sets_2, writes_properties, sets_1, reads_and_sets_1, prints_a, reads_and_prints_a, reads_properties, clears_a, writes_and_deletes, prints_locale};
+ghost use Rattle.iso_model.specs.Examples.Resources.{sets_2, writes_properties, sets_1, reads_and_sets_1, prints_a, reads_and_prints_a, reads_properties, looks_around, clears_a, writes_and_deletes, prints_locale};
 ghost use Rattle.iso_model.specs.Examples.Lifecycles.{outer, inner, prints_t, no_database, does_nothing, opens_inside, assumes_before_each};
 ghost use Rattle.iso_model.specs.Examples.Lifecycles.{assumes_false, fails_late, assumes_false_first};
 ghost use Rattle.iso_model.specs.Examples.Names.{counts_up, prints_n, sets_static, has_static, assigns_n, declares_n, assigns_static_before_each, assigns_outer_static};
@@ -39,17 +39,17 @@ pub fn tests_start_alike()
 #[tactic(auto, using(crate::proofs::ExampleLemmas::numerals))]
 pub fn blocks_go_on_from_one_another()
     ensures { test_alone prints_all (marks_locale_inside ∷ marks_locale ∷ []) empty_world
-        ≡ faulted K.UnknownName "unknown name x" (in_test 1) ("32en-A-a-B-b" ∷ []) }
+        ≡ faulted K.UnknownName "unknown name x" (in_test 1) ("325en-A-a-B-b" ∷ []) }
 {}
 
 /// `after_all` has the rights of its own class, goes on from what `before_all` left, assigns no
 /// static, and has its whole output before it.
 #[tactic(auto, using(crate::proofs::ExampleLemmas::numerals))]
 pub fn after_all_goes_on_from_before_all()
-    ensures class { class_alone closes_file (empty_head ∷ []) empty_world
-        ≡ faulted K.Frozen "n is frozen" (in_class 2 AfterAll) ("in" ∷ "mn2" ∷ []) }
-    ensures bytes { let opened = opening (closes_file ∷ empty_head ∷ []) empty_world in
-        (after_all closes_file (empty_head ∷ []) opened).here.env.printed ≡ 4 }
+    ensures class { class_alone closes_file (marks_locale ∷ []) empty_world
+        ≡ faulted K.Frozen "n is frozen" (in_class 2 AfterAll) ("in" ∷ "mn23" ∷ []) }
+    ensures bytes { let opened = opening (closes_file ∷ marks_locale ∷ []) empty_world in
+        (after_all closes_file (marks_locale ∷ []) opened).here.env.printed ≡ 5 }
 {}
 
 /// A test has the rights of its own marks and of those of all enclosing classes.
@@ -61,6 +61,8 @@ pub fn marks_of_the_whole_chain_count()
         ≡ passed [] }
     ensures stronger { test_alone reads_and_sets_1 (empty_head ∷ writes_properties ∷ []) empty_world
         ≡ passed [] }
+    ensures around { test_alone reads_and_prints_a (looks_around ∷ []) property_a_is_1
+        ≡ passed ("true" ∷ "1" ∷ "true" ∷ []) }
 {}
 
 /// Without a mark nothing may be looked at, and a `read` lets nothing be changed.
@@ -132,8 +134,8 @@ pub fn false_assumption_skips()
 /// A later fail is stronger than an earlier false assumption.
 #[tactic(auto, using(crate::proofs::ExampleLemmas::numerals))]
 pub fn later_fail_is_stronger()
-    ensures test { test_alone assumes_false (fails_late ∷ empty_head ∷ []) empty_world
-        ≡ failed "late" (in_class 2 AfterEach) [] }
+    ensures test { test_alone assumes_false (fails_late ∷ outer ∷ []) empty_world
+        ≡ failed "late" (in_class 2 AfterEach) ("ob" ∷ "oa" ∷ []) }
     ensures place { place_text (in_class 2 AfterEach) ≡ codes "class 2 after_each row 1" }
 {}
 
@@ -249,11 +251,12 @@ pub fn assertions_name_what_differs()
         ≡ Fail (note "assertion failed" (in_test 1)) ∷ Fail (note "expected: <3> but was: <4>" (in_test 1)) ∷ Assumed (note "no" (in_test 1)) ∷ [] }
 {}
 
-/// A place has the row of the innermost statement.
+/// A place has the row of the innermost statement, and of the `repeat` for the beginning of a turn.
 #[tactic(auto, using(crate::proofs::ExampleLemmas::numerals))]
 pub fn rows_are_of_the_innermost_statement()
-    ensures statement { (block_with [] 0 (on_row 1 (repeat (number 1) (on_row 2 (choice (flag true) (on_row 3 (fail "no" ∷ [])) no_acts ∷ [])) ∷ []))).here.ending
-        ≡ Fail (note "no" (in_test 3)) }
+    ensures statements { map ending_on_row_3 (fail "no" ∷ assume (flag false) "no" ∷ print (name "x") ∷ [])
+        ≡ Fail (note "no" (in_test 3)) ∷ Assumed (note "no" (in_test 3))
+        ∷ Fault K.UnknownName (note "unknown name x" (in_test 3)) ∷ [] }
     ensures turn { (block_with [] 0 (on_row 2 (repeats 10000 ∷ []))).here.ending
         ≡ Fault K.OutOfSteps (note "out of steps" (in_test 2)) }
     ensures place { place_text (in_test 2) ≡ codes "test row 2" }
@@ -270,9 +273,11 @@ pub fn turns_take_steps()
     ensures same_end { (by_single_steps 7 repeats_twice).state ≡ by_itself repeats_twice }
 {}
 
-/// A block has 10,000 steps.
+/// A block has 10,000 steps. Past them a statement does nothing more.
 pub fn steps_are_limited()
-    ensures { (by_itself (repeats 9999 ∷ [])).here.ending ≡ Well }
+    ensures last { (by_itself (repeats 9999 ∷ [])).here.ending ≡ Well }
+    ensures past { let s = block_with [] 0 (act 1 (repeats 9999) (on_row 2 (print (name "x") ∷ []))) in
+        s.here.ending ≡ Fault K.OutOfSteps (note "out of steps" (in_test 2)) }
 {}
 
 /// A body prints 65,536 bytes at most, each line with its end.

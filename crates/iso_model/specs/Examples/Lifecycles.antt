@@ -41,7 +41,7 @@ assumes_before_each = record empty_head { before_each = body (assume (flag false
 abbrev pub assumes_false : TestHead
 assumes_false = a_test (assume (flag false) "no #1" ∷ [])
 
--- class Out { class In { after_each { fail "late"; } test t { assume false, "no #1"; } } }
+-- class Out { before_each { print "ob"; } after_each { print "oa"; } class In { after_each { fail "late"; } test t { assume false, "no #1"; } } }
 -- A later fail is stronger than an earlier false assumption.
 abbrev pub fails_late : ClassHead
 fails_late = record empty_head { after_each = body (fail "late" ∷ []) }

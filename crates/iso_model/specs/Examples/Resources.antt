@@ -18,8 +18,8 @@ expects_x = a_test (assert_equal (quoted "x") (prop (quoted "a")) ∷ [])
 
 -- write "L" class Out {
 --   static s = 1; field f = 2; before_all { s = 3; set_locale locale() ++ "-A"; } before_each { let x = 4; set_locale locale() ++ "-B"; }
---   class In { before_all { set_locale locale() ++ "-a"; } before_each { set_locale locale() ++ "-b"; }
---     test t { print text(s) ++ text(f) ++ locale(); print x; } } }
+--   class In { field g = 5; before_all { set_locale locale() ++ "-a"; } before_each { set_locale locale() ++ "-b"; }
+--     test t { print text(s) ++ text(f) ++ text(g) ++ locale(); print x; } } }
 -- Each block sees what the earlier ones changed, the statics and fields of all enclosing classes, and no local of another.
 abbrev pub marks_locale : ClassHead
 marks_locale =
@@ -34,23 +34,25 @@ marks_locale =
 abbrev pub marks_locale_inside : ClassHead
 marks_locale_inside =
     record empty_head {
+      fields = variable "g" 5 ∷ [];
       before_all = body (set_locale (join locale (quoted "-a" ∷ [])) ∷ []);
       before_each = body (set_locale (join locale (quoted "-b" ∷ [])) ∷ []);
     }
 
 abbrev pub prints_all : TestHead
-prints_all = a_test (print (join (text (name "s")) (text (name "f") ∷ locale ∷ [])) ∷ print (name "x") ∷ [])
+prints_all = a_test (print (join (text (name "s")) (text (name "f") ∷ text (name "g") ∷ locale ∷ [])) ∷ print (name "x") ∷ [])
 
--- class Out { write "file:a" class In {
---   static n = 1; before_all { print "in"; write_file "a", "m"; n = 2; } after_all { append_file "a", "n"; print file("a") ++ text(n); n = 3; } test t { } } }
--- `after_all` has the rights of its own class, the resources and statics as `before_all` left them, and may assign none; it begins to print anew.
+-- class Out { .. write "file:a" class In {
+--   static n = 1; before_all { print "in"; write_file "a", "m"; n = 2; }
+--   after_all { append_file "a", "n"; print file("a") ++ text(n) ++ text(s); n = 3; } test t { } } }, with Out as above
+-- `after_all` has the rights of its own class, the resources and all statics as they were left, and may assign none; it begins to print anew.
 abbrev pub closes_file : ClassHead
 closes_file =
     record empty_head {
       marks = writes file_a ∷ [];
       statics = variable "n" 1 ∷ [];
       before_all = body (print (quoted "in") ∷ write_file (quoted "a") (quoted "m") ∷ assign "n" (number 2) ∷ []);
-      after_all = body (append_file (quoted "a") (quoted "n") ∷ print (join (file (quoted "a")) (text (name "n") ∷ [])) ∷ assign "n" (number 3) ∷ []);
+      after_all = body (append_file (quoted "a") (quoted "n") ∷ print (join (file (quoted "a")) (text (name "n") ∷ text (name "s") ∷ [])) ∷ assign "n" (number 3) ∷ []);
     }
 
 -- class Env { write "P" test one { assert_equal "1", prop("a"); set_prop "a", "2"; } .. }
@@ -76,6 +78,11 @@ prints_a = a_test (print (prop (quoted "a")) ∷ [])
 
 abbrev pub reads_and_prints_a : TestHead
 reads_and_prints_a = record prints_a { marks = reads properties_key ∷ [] }
+
+-- class C { before_each { print has_prop("a"); } after_each { print has_prop("a"); } read "P" test t { print prop("a"); } }
+-- The blocks around a test have its rights.
+abbrev pub looks_around : ClassHead
+looks_around = record empty_head { before_each = body (print (has_prop (quoted "a")) ∷ []); after_each = body (print (has_prop (quoted "a")) ∷ []) }
 
 -- read "P" class C { test t { set_prop "a", "1"; } }
 -- A `read` lets nothing be changed.

@@ -203,6 +203,10 @@ by_itself acts = block_with [] 0 (body acts)
 abbrev pub endings_of : List Act → List Ending
 endings_of = map (λ a. (by_itself (a ∷ [])).here.ending)
 
+-- how a statement on row 3 ends, in an `if` on row 2 in a `repeat` on row 1
+abbrev pub ending_on_row_3 : Act → Ending
+ending_on_row_3 a = (block_with [] 0 (on_row 1 (S.repeat (number 1) (on_row 2 (choice (flag true) (on_row 3 (a ∷ [])) no_acts ∷ [])) ∷ []))).here.ending
+
 -- a block after so many single steps
 abbrev pub by_single_steps : ℕ → List Act → Machine
 by_single_steps n acts = steps (rights_of []) n (machine_at (first_point (body acts) (environment [] 0 Test)) empty_world)
