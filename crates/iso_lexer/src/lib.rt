@@ -7,8 +7,6 @@ pub mod laws;
 pub mod lexer;
 mod scan;
 pub mod symbol;
-#[cfg(test)]
-mod tests;
 pub mod text;
 pub mod token;
 pub mod word;

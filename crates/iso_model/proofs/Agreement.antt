@@ -3,7 +3,7 @@ use Rattle.std.proofs.Common.{◌≡◌, ℕ, List, [], ◌∷◌, Bool, true, f
 use Rattle.iso_model.specs.Keys.{properties_key, locale_key, file_key}
 use Rattle.iso_model.specs.Rights.{Rights, is_readable, is_writable}
 use Rattle.iso_model.specs.Resources.{Resources, property_in, text_in, locale_in, changed, changed_at}
-use Rattle.iso_model.specs.Agreement.{Agree}
+use Rattle.iso_model.specs.Agreement.{EqualAt}
 use Rattle.iso_model.specs.Syntax.{Term, literal, name, chain, compare, call, locale, Terms, no_terms, term}
 use Rattle.iso_model.specs.Evaluation.{then, or_fault, as_text, looked, called, compared, joined_all, evaluated, evaluated_all}
 use Rattle.iso_model.specs.declared.access.Access.{Access}
@@ -22,14 +22,14 @@ looked-agree_at : {A : Type 0} (b : Bool) (k : List ℕ) (found : Option Resourc
 looked-agree_at true k found x y same = ap found (same refl)
 looked-agree_at false k found x y same = refl
 
-looked-agree : {A : Type 0} (r : Rights) (m n : Resources) → Agree r m n → (k : List ℕ) (found : Option Resource → Result A Fault) → looked r k (found (m k)) ≡ looked r k (found (n k))
+looked-agree : {A : Type 0} (r : Rights) (m n : Resources) → EqualAt r m n → (k : List ℕ) (found : Option Resource → Result A Fault) → looked r k (found (m k)) ≡ looked r k (found (n k))
 looked-agree r m n agree k found = looked-agree_at (is_readable (r k)) k found (m k) (n k) (agree.same k)
 
 pub then-agree : {A B : Type 0} (x y : Result A Fault) (f g : A → Result B Fault) → x ≡ y → ((a : A) → f a ≡ g a) → then x f ≡ then y g
 then-agree (Ok a) y f g e same = same a ∙ ap (λ z. then z g) e
 then-agree (Err fault) y f g e same = ap (λ z. then z g) e
 
-called-agree : (r : Rights) (m n : Resources) → Agree r m n → (f : Function) (d : Data) → called m r f d ≡ called n r f d
+called-agree : (r : Rights) (m n : Resources) → EqualAt r m n → (f : Function) (d : Data) → called m r f d ≡ called n r f d
 called-agree r m n agree F.Text d = refl
 called-agree r m n agree F.Len d = refl
 called-agree r m n agree F.Prop d = then-agree (as_text d) (as_text d) _ _ refl (λ x. looked-agree r m n agree properties_key (λ o. or_fault (option_map Text (property_in o x)) (MissingProperty x)))
@@ -39,7 +39,7 @@ called-agree r m n agree F.HasFile d = then-agree (as_text d) (as_text d) _ _ re
 
 mutual
   -- an expression gives the same over both
-  pub evaluated-agree : (names : List Binding) (r : Rights) (m n : Resources) → Agree r m n → (e : Term) → evaluated names m r e ≡ evaluated names n r e
+  pub evaluated-agree : (names : List Binding) (r : Rights) (m n : Resources) → EqualAt r m n → (e : Term) → evaluated names m r e ≡ evaluated names n r e
   evaluated-agree names r m n agree (literal d) = refl
   evaluated-agree names r m n agree (name x) = refl
   evaluated-agree names r m n agree (chain op e es) =
@@ -49,16 +49,21 @@ mutual
   evaluated-agree names r m n agree (call f e) = then-agree _ _ _ _ (evaluated-agree names r m n agree e) (called-agree r m n agree f)
   evaluated-agree names r m n agree locale = looked-agree r m n agree locale_key (λ o. Ok (Text (unwrap_or (locale_in o) [])))
 
-  pub evaluated_all-agree : (names : List Binding) (r : Rights) (m n : Resources) → Agree r m n → (es : Terms) → evaluated_all names m r es ≡ evaluated_all names n r es
+  pub evaluated_all-agree : (names : List Binding) (r : Rights) (m n : Resources) → EqualAt r m n → (es : Terms) → evaluated_all names m r es ≡ evaluated_all names n r es
   evaluated_all-agree names r m n agree no_terms = refl
   evaluated_all-agree names r m n agree (term e es) =
       then-agree _ _ _ _ (evaluated-agree names r m n agree e) (λ d. ap (λ z. then z (λ ds. Ok (d ∷ ds))) (evaluated_all-agree names r m n agree es))
 
 -- a change keeps two maps in agreement
-pub agree-changed : (r : Rights) (m n : Resources) → Agree r m n → (k : List ℕ) (change : Change) → Agree r (changed_at m k change) (changed_at n k change)
+pub agree-changed : (r : Rights) (m n : Resources) → EqualAt r m n → (k : List ℕ) (change : Change) → EqualAt r (changed_at m k change) (changed_at n k change)
 agree-changed r m n agree k change = record { same = λ q readable. ap (λ (o : Option Resource). cond (bytes_eq q k) (option_map (changed change) o) o) (agree.same q readable) }
 
 -- what may be changed may be looked at
 pub writable-readable : (a : Option Access) → is_writable a ≡ true → is_readable a ≡ true
 writable-readable None w = absurd (true≢false (sym w))
 writable-readable (Some a) w = refl
+
+-- what may not be looked at may not be changed
+pub unreadable-locked : (a : Option Access) → is_readable a ≡ false → is_writable a ≡ false
+unreadable-locked None h = refl
+unreadable-locked (Some a) h = absurd (true≢false h)

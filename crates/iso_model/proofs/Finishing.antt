@@ -5,7 +5,7 @@ use Rattle.iso_model.specs.Resources.{Resources}
 use Rattle.iso_model.specs.Syntax.{Act, plain, choice, repeat, Acts, no_acts, act}
 use Rattle.iso_model.specs.Evaluation.{then, as_flag, as_count}
 use Rattle.iso_model.specs.Statements.{Local, State, is_live, is_well, value, runs_out, locally, with_names, with_steps, keeping, scoped, taking, turns, upon, run, ran}
-use Rattle.iso_model.specs.Steps.{Piece, rest, turning, Machine, over, place, settle, settled, chosen, counted, begin, step_at, step, finish, finished}
+use Rattle.iso_model.specs.Steps.{Piece, rest, turning, Machine, machine_at, point, leave_done, next_point, chosen, counted, begin, step_at, step, finish, finished}
 use Rattle.iso_model.specs.declared.fault.Fault.{Fault}
 
 -- an ended block stays as it is
@@ -41,19 +41,19 @@ pub taking-in : (row : ℕ) (s : State) (f : State → State) (n : ℕ) → is_l
 taking-in row s f n live some = rw (live, some)
 
 -- leaving pieces in which nothing is left changes nothing of what the block comes to
-pub finish-settle : (r : Rights) (ps : List Piece) (l : Local) (m : Resources) → is_well l.ending ≡ true → finished r (over (settle ps l) m) ≡ finish r ps (record { here = l; resources = m })
-finish-settle r [] l m live = refl
-finish-settle r (rest k no_acts ∷ ps) l m live = rw live (finish-settle r ps (with_names (take k l.env.names) l) m live)
-finish-settle r (rest k (act row a acts) ∷ ps) l m live = refl
-finish-settle r (turning row zero a ∷ ps) l m live = finish-settle r ps l m live
-finish-settle r (turning row (suc n) a ∷ ps) l m live = refl
+pub finish-leave : (r : Rights) (ps : List Piece) (l : Local) (m : Resources) → is_well l.ending ≡ true → finished r (machine_at (leave_done ps l) m) ≡ finish r ps (record { here = l; resources = m })
+finish-leave r [] l m live = refl
+finish-leave r (rest k no_acts ∷ ps) l m live = rw live (finish-leave r ps (with_names (take k l.env.names) l) m live)
+finish-leave r (rest k (act row a acts) ∷ ps) l m live = refl
+finish-leave r (turning row zero a ∷ ps) l m live = finish-leave r ps l m live
+finish-leave r (turning row (suc n) a ∷ ps) l m live = refl
 
-finish-settled_at : (r : Rights) (ps : List Piece) (l : Local) (m : Resources) (b : Bool) → is_well l.ending ≡ b → finished r (over (cond b (settle ps l) (place [] l)) m) ≡ finish r ps (record { here = l; resources = m })
-finish-settled_at r ps l m true live = finish-settle r ps l m live
-finish-settled_at r ps l m false ended = sym (finish-ended r ps (record { here = l; resources = m }) ended)
+finish-next_at : (r : Rights) (ps : List Piece) (l : Local) (m : Resources) (b : Bool) → is_well l.ending ≡ b → finished r (machine_at (cond b (leave_done ps l) (point [] l)) m) ≡ finish r ps (record { here = l; resources = m })
+finish-next_at r ps l m true live = finish-leave r ps l m live
+finish-next_at r ps l m false ended = sym (finish-ended r ps (record { here = l; resources = m }) ended)
 
-pub finish-settled : (r : Rights) (ps : List Piece) (l : Local) (m : Resources) → finished r (over (settled ps l) m) ≡ finish r ps (record { here = l; resources = m })
-finish-settled r ps l m = finish-settled_at r ps l m (is_well l.ending) refl
+pub finish-next : (r : Rights) (ps : List Piece) (l : Local) (m : Resources) → finished r (machine_at (next_point ps l) m) ≡ finish r ps (record { here = l; resources = m })
+finish-next r ps l m = finish-next_at r ps l m (is_well l.ending) refl
 
 pub finish-append : (r : Rights) (qs ps : List Piece) (s : State) → finish r (qs ++ ps) s ≡ finish r ps (finish r qs s)
 finish-append r [] ps s = refl
@@ -82,21 +82,25 @@ ran-out r row (repeat e a) s live none = rw (live, none)
 
 finish-step_at : (r : Rights) (ps : List Piece) (n : ℕ) (s : State) → is_live s ≡ true → s.here.env.steps ≡ n → finished r (step_at r ps n s) ≡ finish r ps s
 finish-step_at r [] n s live some = refl
-finish-step_at r (rest k no_acts ∷ ps) n s live some = finish-settled r (rest k no_acts ∷ ps) s.here s.resources
+finish-step_at r (rest k no_acts ∷ ps) n s live some = refl
 finish-step_at r (rest k (act row a acts) ∷ ps) zero s live some =
     sym (finish-ended r (rest k acts ∷ ps) (runs_out row s) refl) ∙ ap (λ (t : State). finish r (rest k acts ∷ ps) t) (sym (ran-out r row a s live some))
 finish-step_at r (rest k (act row a acts) ∷ ps) (suc n) s live some =
     let m = begin r row a (locally (with_steps n) s) in
-    finish-settled r (m.pieces ++ rest k acts ∷ ps) m.state.here m.state.resources
+    finish-next r (m.pieces ++ rest k acts ∷ ps) m.state.here m.state.resources
     ∙ finish-append r m.pieces (rest k acts ∷ ps) m.state
     ∙ ap (λ (t : State). finish r (rest k acts ∷ ps) t) (sym (ran-begin r row a s n live some))
-finish-step_at r (turning row zero a ∷ ps) n s live some = finish-settled r (turning row zero a ∷ ps) s.here s.resources
+finish-step_at r (turning row zero a ∷ ps) n s live some = refl
 finish-step_at r (turning row (suc t) a ∷ ps) zero s live some =
     sym (finish-ended r (turning row t a ∷ ps) (runs_out row s) refl) ∙ ap (λ (u : State). finish r (turning row t a ∷ ps) u) (sym (taking-out row s (scoped (run r a)) live some))
 finish-step_at r (turning row (suc t) a ∷ ps) (suc n) s live some =
-    finish-settled r (rest (length s.here.env.names) a ∷ turning row t a ∷ ps) (with_steps n s.here) s.resources
+    finish-next r (rest (length s.here.env.names) a ∷ turning row t a ∷ ps) (with_steps n s.here) s.resources
     ∙ ap (λ (u : State). finish r (turning row t a ∷ ps) u) (sym (taking-in row s (scoped (run r a)) n live some))
 
+finish-step_if : (r : Rights) (m : Machine) (b : Bool) → is_live m.state ≡ b → finished r (cond b (step_at r m.pieces m.state.here.env.steps m.state) m) ≡ finished r m
+finish-step_if r m true live = finish-step_at r m.pieces m.state.here.env.steps m.state live refl
+finish-step_if r m false ended = refl
+
 -- what is left, done, is the same before and after a step
-pub finish-step : (r : Rights) (m : Machine) → is_live m.state ≡ true → finished r (step r m) ≡ finished r m
-finish-step r m live = finish-step_at r m.pieces m.state.here.env.steps m.state live refl
+pub finish-step : (r : Rights) (m : Machine) → finished r (step r m) ≡ finished r m
+finish-step r m = finish-step_if r m (is_live m.state) refl

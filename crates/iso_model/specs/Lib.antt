@@ -1,15 +1,18 @@
 pub mod Agreement
 pub mod Alone
 pub mod Blocks
+pub mod Changes
 pub mod Chains
 pub mod ChainView
 pub mod Environments
 pub mod Evaluation
 pub mod Examples
 pub mod Keys
+pub mod Memory
 pub mod Names
 pub mod Openings
 pub mod Properties
+pub mod ResourceKeys
 pub mod Resources
 pub mod Rights
 pub mod Scripts
@@ -20,4 +23,5 @@ pub mod Syntax
 pub mod SyntaxView
 pub mod Tests
 pub mod Texts
+pub mod Touch
 pub mod Verdicts

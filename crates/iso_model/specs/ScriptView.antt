@@ -1,5 +1,6 @@
 -- What the tree of a script stands for.
 use Rattle.std.specs.Prelude.{List, [], ◌∷◌, map}
+use Rattle.std.specs.Arc.{arc_value}
 use Rattle.iso_model.specs.Chains as C
 use Rattle.iso_model.specs.Scripts.{Class, class, Member, class_member, test_member, Members, no_members, member}
 use Rattle.iso_model.specs.Scripts as S
@@ -31,7 +32,7 @@ test_head_of h = record { marks = h.marks.items; body = block_of h.body.items }
 
 -- what a test stands for
 abbrev pub test_of : Test → S.Test
-test_of t = record { name = t.name; display = t.display; mode = t.mode; head = test_head_of t.head }
+test_of t = record { name = t.name; display = t.display; mode = t.mode; head = test_head_of (arc_value t.head) }
 
 abbrev pub members_of : List Member → Members
 members_of [] = no_members
@@ -43,7 +44,7 @@ member_step (Member-F.Test t) = test_member (test_of t)
 
 abbrev pub class_step : Class-F Member Class → Class
 class_step c =
-    class (record { name = c.name; display = c.display; mode = c.mode; isolated = c.isolated; head = class_head_of c.head }) (members_of c.members.items)
+    class (record { name = c.name; display = c.display; mode = c.mode; isolated = c.isolated; head = class_head_of (arc_value c.head) }) (members_of c.members.items)
 
 -- what a member of a class stands for
 abbrev pub member_of : M.Member → Member

@@ -11,6 +11,7 @@ use Rattle.iso_model.specs.Texts.{text_of, kind_of, fault_message, out_of_steps_
 use Rattle.iso_model.specs.Evaluation.{Given, then, as_text, as_texts, as_flag, as_count, is_equal, is_short, evaluated}
 use Rattle.iso_model.specs.declared.limits.TheConstants.{OUTPUT_BYTES}
 use Rattle.iso_model.specs.declared.access.Access.TheVariants.{Write}
+use Rattle.iso_model.specs.declared.data.Data.{Data}
 use Rattle.iso_model.specs.declared.fault.Fault.{Fault}
 use Rattle.iso_model.specs.declared.fault.Fault.TheVariants.{Undeclared, DoubleName, MissingFile, OutputFull, TextTooLong}
 use Rattle.iso_model.specs.declared.fault.FaultKind.TheVariants as K
@@ -81,12 +82,41 @@ abbrev pub upon : {A : Type 0} → ℕ → Result A Fault → State → (A → S
 upon row (Ok x) s f = f x
 upon row (Err fault) s f = faults row fault s
 
+-- the value of an expression
 abbrev pub value : Rights → State → Term → Given
 value r s e = evaluated s.here.env.names s.resources r e
+
+-- the value of an expression that has to be a text, a truth value or a count, and of two that have to be texts
+abbrev pub text_value : Rights → State → Term → Result (List ℕ) Fault
+text_value r s e = then (value r s e) as_text
+
+abbrev pub flag_value : Rights → State → Term → Result Bool Fault
+flag_value r s e = then (value r s e) as_flag
+
+abbrev pub count_value : Rights → State → Term → Result ℕ Fault
+count_value r s e = then (value r s e) as_count
+
+abbrev pub text_values : Rights → State → Term → Term → Result (List ℕ × List ℕ) Fault
+text_values r s a b = then (value r s a) (λ x. then (value r s b) (as_texts x))
+
+-- a local more, unless its name is visible already
+abbrev pub declares : ℕ → List ℕ → Data → State → State
+declares row x d s =
+    cond (is_some (binding_of s.here.env.names x))
+    (faults row (DoubleName x) s)
+    (locally (with_names (s.here.env.names ++ bound S.Local x d ∷ [])) s)
 
 -- whether a line fits into the output of the body
 abbrev pub has_room : Local → List ℕ → Bool
 has_room l line = nat_le (l.env.printed + length line + 1) OUTPUT_BYTES
+
+-- a line more, where it fits
+abbrev pub prints : ℕ → List ℕ → State → State
+prints row line s = cond (has_room s.here line) (locally (with_line line) s) (faults row OutputFull s)
+
+-- goes on where two values are equal
+abbrev pub expects : ℕ → Data → Data → State → State
+expects row x y s = upon row (is_equal x y) s (λ holds. cond holds s (fails row (difference_message x y) s))
 
 -- goes on where the rights let a key be changed
 abbrev pub allowed : Rights → ℕ → List ℕ → State → State → State
@@ -94,6 +124,14 @@ allowed r row k s after = cond (is_writable (r k)) after (faults row (Undeclared
 
 abbrev pub changing : List ℕ → Change → State → State
 changing k change s = record s { resources = changed_at s.resources k change }
+
+-- changes a key, where the rights let it
+abbrev pub changes : Rights → ℕ → List ℕ → Change → State → State
+changes r row k change s = allowed r row k s (changing k change s)
+
+-- the text of a file, where the file is there
+abbrev pub file_text : State → List ℕ → Option (List ℕ)
+file_text s p = text_in (s.resources (file_key p))
 
 -- appends to a file that is there
 abbrev pub appending : ℕ → List ℕ → List ℕ → Option (List ℕ) → State → State
@@ -108,19 +146,21 @@ deleting row p (Some before) s = changing (file_key p) C.DeleteFile s
 
 -- a statement without a body, once its step is taken
 abbrev pub performed : Rights → ℕ → Plain → State → State
-performed r row (let_name x e) s = upon row (value r s e) s (λ d. cond (is_some (binding_of s.here.env.names x)) (faults row (DoubleName x) s) (locally (with_names (s.here.env.names ++ bound S.Local x d ∷ [])) s))
+performed r row (let_name x e) s = upon row (value r s e) s (λ d. declares row x d s)
 performed r row (assign x e) s = upon row (then (value r s e) (assigned s.here.env.names x)) s (λ names. locally (with_names names) s)
-performed r row (print e) s = upon row (value r s e) s (λ d. cond (has_room s.here (text_of d)) (locally (with_line (text_of d)) s) (faults row OutputFull s))
-performed r row (assert e) s = upon row (then (value r s e) as_flag) s (λ holds. cond holds s (fails row assertion_message s))
-performed r row (assert_equal a b) s = upon row (value r s a) s (λ x. upon row (value r s b) s (λ y. upon row (is_equal x y) s (λ holds. cond holds s (fails row (difference_message x y) s))))
-performed r row (assume e reason) s = upon row (then (value r s e) as_flag) s (λ holds. cond holds s (skips row reason s))
+performed r row (print e) s = upon row (value r s e) s (λ d. prints row (text_of d) s)
+performed r row (assert e) s = upon row (flag_value r s e) s (λ holds. cond holds s (fails row assertion_message s))
+performed r row (assert_equal a b) s = upon row (value r s a) s (λ x. upon row (value r s b) s (λ y. expects row x y s))
+performed r row (assume e reason) s = upon row (flag_value r s e) s (λ holds. cond holds s (skips row reason s))
 performed r row (fail message) s = fails row message s
-performed r row (set_prop a b) s = upon row (then (value r s a) (λ x. then (value r s b) (as_texts x))) s (λ xt. allowed r row properties_key s (changing properties_key (C.SetProp xt.0 xt.1) s))
-performed r row (clear_prop e) s = upon row (then (value r s e) as_text) s (λ x. allowed r row properties_key s (changing properties_key (C.ClearProp x) s))
-performed r row (set_locale e) s = upon row (then (value r s e) as_text) s (λ t. allowed r row locale_key s (changing locale_key (C.SetLocale t) s))
-performed r row (write_file a b) s = upon row (then (value r s a) (λ x. then (value r s b) (as_texts x))) s (λ pt. allowed r row (file_key pt.0) s (changing (file_key pt.0) (C.WriteFile pt.1) s))
-performed r row (append_file a b) s = upon row (then (value r s a) (λ x. then (value r s b) (as_texts x))) s (λ pt. allowed r row (file_key pt.0) s (appending row pt.0 pt.1 (text_in (s.resources (file_key pt.0))) s))
-performed r row (delete_file e) s = upon row (then (value r s e) as_text) s (λ p. allowed r row (file_key p) s (deleting row p (text_in (s.resources (file_key p))) s))
+performed r row (set_prop a b) s = upon row (text_values r s a b) s (λ xt. changes r row properties_key (C.SetProp xt.0 xt.1) s)
+performed r row (clear_prop e) s = upon row (text_value r s e) s (λ x. changes r row properties_key (C.ClearProp x) s)
+performed r row (set_locale e) s = upon row (text_value r s e) s (λ t. changes r row locale_key (C.SetLocale t) s)
+performed r row (write_file a b) s = upon row (text_values r s a b) s (λ pt. changes r row (file_key pt.0) (C.WriteFile pt.1) s)
+performed r row (append_file a b) s =
+    upon row (text_values r s a b) s (λ pt. allowed r row (file_key pt.0) s (appending row pt.0 pt.1 (file_text s pt.0) s))
+performed r row (delete_file e) s =
+    upon row (text_value r s e) s (λ p. allowed r row (file_key p) s (deleting row p (file_text s p) s))
 
 -- one step, and then f; with no step left the block ends
 abbrev pub step_or_end : ℕ → ℕ → State → (State → State) → State
@@ -156,5 +196,7 @@ abbrev mutual
 
   pub ran : Rights → ℕ → Act → State → State
   ran r row (plain p) s = taking row s (performed r row p)
-  ran r row (choice e a b) s = taking row s (λ s. upon row (then (value r s e) as_flag) s (λ holds. cond holds (scoped (run r a) s) (scoped (run r b) s)))
-  ran r row (repeat e a) s = taking row s (λ s. upon row (then (value r s e) as_count) s (λ n. turns row n (scoped (run r a)) s))
+  ran r row (choice e a b) s =
+      taking row s (λ s. upon row (flag_value r s e) s (λ holds. cond holds (scoped (run r a) s) (scoped (run r b) s)))
+  ran r row (repeat e a) s =
+      taking row s (λ s. upon row (count_value r s e) s (λ n. turns row n (scoped (run r a)) s))

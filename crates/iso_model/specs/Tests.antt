@@ -16,6 +16,7 @@ use Rattle.iso_model.specs.declared.names.Sort.TheVariants.{Field}
 use Rattle.iso_model.specs.declared.outcome.Ending.{Ending}
 use Rattle.iso_model.specs.declared.place.BlockName.{BlockName}
 use Rattle.iso_model.specs.declared.place.BlockName.TheVariants.{Test, Class}
+use Rattle.iso_model.specs.declared.place.Lifecycle.{Lifecycle}
 use Rattle.iso_model.specs.declared.place.Lifecycle.TheVariants.{BeforeEach, AfterEach}
 
 -- how far a test has come: its names, the resources, the bytes and lines printed, the endings of its blocks so far
@@ -32,17 +33,24 @@ test_names [] frames = []
 test_names (c ∷ cs) [] = []
 test_names (c ∷ cs) (f ∷ fs) = test_names cs fs ++ f.statics ++ at_literals Field c.fields
 
--- how many of these names are of the classes of a chain: those that a block of its innermost class sees
+-- how many of these names are of the classes of a chain
 abbrev pub names_in : List ClassHead → ℕ
 names_in [] = 0
 names_in (c ∷ cs) = names_in cs + length c.statics + length c.fields
 
--- one block of a test, which sees the first n names
-abbrev pub block_of_test : Rights → BlockName → ℕ → Acts → Body → Body
-block_of_test r words n acts b =
-    let s = block r acts (environment (take n b.names) b.printed words) b.resources in
+-- the names that a block of the innermost class of a chain sees, those of its classes; and the others, of the classes inside it
+abbrev pub seen_from : List ClassHead → List Binding → List Binding
+seen_from cs names = take (names_in cs) names
+
+abbrev pub unseen_from : List ClassHead → List Binding → List Binding
+unseen_from cs names = drop (names_in cs) names
+
+-- one block of a test, which sees the names of this chain of classes
+abbrev pub block_of_test : Rights → BlockName → List ClassHead → Acts → Body → Body
+block_of_test r words cs acts b =
+    let s = block r acts (environment (seen_from cs b.names) b.printed words) b.resources in
     record {
-      names = s.here.env.names ++ drop n b.names;
+      names = s.here.env.names ++ unseen_from cs b.names;
       resources = s.resources;
       printed = s.here.env.printed;
       lines = b.lines ++ s.here.lines;
@@ -53,15 +61,19 @@ block_of_test r words n acts b =
 abbrev pub where_well : (Body → Body) → Body → Body
 where_well f b = cond (list_all is_well b.endings) (f b) b
 
+-- the words of a lifecycle block of the innermost class of a chain
+abbrev pub words_of : List ClassHead → Lifecycle → BlockName
+words_of cs kind = Class (length cs) kind
+
 -- the `before_each` blocks, outermost first, until one doesn't end well
 abbrev pub before_each : Rights → List ClassHead → Body → Body
 before_each r [] b = b
-before_each r (c ∷ cs) b = where_well (block_of_test r (Class (length (c ∷ cs)) BeforeEach) (names_in (c ∷ cs)) c.before_each) (before_each r cs b)
+before_each r (c ∷ cs) b = where_well (block_of_test r (words_of (c ∷ cs) BeforeEach) (c ∷ cs) c.before_each) (before_each r cs b)
 
 -- the `after_each` blocks, innermost first, each whatever the others did
 abbrev pub after_each : Rights → List ClassHead → Body → Body
 after_each r [] b = b
-after_each r (c ∷ cs) b = after_each r cs (block_of_test r (Class (length (c ∷ cs)) AfterEach) (names_in (c ∷ cs)) c.after_each b)
+after_each r (c ∷ cs) b = after_each r cs (block_of_test r (words_of (c ∷ cs) AfterEach) (c ∷ cs) c.after_each b)
 
 -- a test at its beginning, on what the opening of its chain left
 abbrev pub begun_test : List ClassHead → Opening → Body
@@ -71,4 +83,4 @@ begun_test cs o = record { names = test_names cs o.frames; resources = o.resourc
 abbrev pub test : TestHead → List ClassHead → Opening → Body
 test t cs o =
     let r = test_rights t cs in
-    after_each r cs (where_well (block_of_test r Test (names_in cs) t.body) (before_each r cs (begun_test cs o)))
+    after_each r cs (where_well (block_of_test r Test cs t.body) (before_each r cs (begun_test cs o)))

@@ -11,14 +11,16 @@ pub mod key;
 pub mod laws;
 pub mod limits;
 pub mod lines;
+pub mod memory;
 pub mod names;
 pub mod outcome;
 pub mod place;
 pub mod properties;
 pub mod resource;
+pub mod resource_key;
 pub mod rights;
 pub mod script;
-#[cfg(test)]
-mod tests;
 pub mod text;
+pub mod touch;
+pub mod touch_laws;
 pub mod tree;

@@ -1,11 +1,11 @@
-ghost use Rattle.std.specs.Prelude.{◌≡◌, ◌∷◌, ◌++◌, [], length, take, option_copied, OnOk, OnErr, ◌+◌};
+ghost use Rattle.std.specs.Prelude.{◌≡◌, ◌∷◌, ◌++◌, [], length, take, option_copied, nat_le, OnOk, OnErr, ◌+◌};
 ghost use Rattle.std.specs.Bool.{OnTrue, OnFalse};
 ghost use Rattle.iso_model.specs.declared.names.Sort.TheVariants.{Local};
 ghost use Rattle.iso_model.specs.Names.{bound, binding_of, assigned, assignment, is_frozen, place_of};
 ghost use Rattle.iso_model.specs.Environments.{environment};
 
 use crate::data::Data;
-use crate::limits::BLOCK_STEPS;
+use crate::limits::{BLOCK_STEPS, OUTPUT_BYTES};
 use crate::place::BlockName;
 use crate::text::Text;
 use std::alloc::AllocError;
@@ -138,6 +138,41 @@ impl Names {
         }
         binding.value = value;
         Ok(())
+    }
+
+    /// The words that name the block in a place.
+    pub fn block(&self) -> BlockName
+        ensures { result ≡ self.now.block }
+    {
+        self.block
+    }
+
+    /// The bytes that the body has printed so far, each line with its end.
+    pub fn printed(&self) -> u32
+        ensures { result ≡ self.now.printed }
+    {
+        self.printed
+    }
+
+    /// Counts a line of so many bytes and its end, and answers whether the output has room for it.
+    /// Where it hasn't, nothing is counted.
+    pub fn count_line(&mut self, bytes: usize) -> bool
+        ensures room { result ≡ nat_le (self.old.printed + bytes + 1) OUTPUT_BYTES }
+        ensures counted { OnTrue result (self.new ≡ record self.old { printed = self.old.printed + bytes + 1 }) }
+        ensures full { OnFalse result (self.new ≡ self.old) }
+    {
+        if self.printed >= OUTPUT_BYTES || bytes >= (OUTPUT_BYTES - self.printed) as usize {
+            return false;
+        }
+        self.printed += bytes as u32 + 1;
+        true
+    }
+
+    /// The visible names with their values, for the next block. Takes no memory.
+    pub fn into_bindings(self) -> Vec<Binding>
+        ensures { result.items ≡ self.names }
+    {
+        self.bindings
     }
 
     /// Takes a step, and answers whether one was left.

@@ -1,5 +1,6 @@
-ghost use Rattle.std.specs.Prelude.{◌≡◌, IfOk};
-ghost use Rattle.iso_model.specs.Resources.{starting_value};
+ghost use Rattle.std.specs.Prelude.{◌≡◌, IfOk, OnOk, OnErr, option_copied};
+ghost use Rattle.iso_model.specs.Resources.{changed, starting_value};
+ghost use Rattle.iso_model.specs.Touch.{answer};
 
 use crate::key::Key;
 use crate::properties::Properties;
@@ -34,6 +35,41 @@ impl Resource {
         } else {
             Ok(Resource::Plain)
         }
+    }
+
+    /// The text that is asked for, or `None` where the property is absent or the file missing, or
+    /// where the value is of another kind.
+    pub fn look(&self, ask: Ask<'_>) -> Option<&str>
+        ensures { option_copied result ≡ answer self.now ask.entry }
+    {
+        match (self, ask) {
+            (Resource::Props(properties), Ask::Prop(name)) => {
+                properties.get(name).map(|text| text.as_str())
+            }
+            (Resource::Locale(locale), Ask::Locale) => Some(locale.as_str()),
+            (Resource::File(Some(text)), Ask::File) => Some(text.as_str()),
+            _ => None,
+        }
+    }
+
+    /// Changes the value. One of another kind stays as it is, and after want of memory any does.
+    pub fn change(&mut self, change: Change) -> Result<(), AllocError>
+        ensures ok { OnOk result (self.new ≡ changed change self.old) }
+        ensures err { OnErr result (self.new ≡ self.old) }
+    {
+        match (self, change) {
+            (Resource::Props(properties), Change::SetProp(name, text)) => {
+                properties.set(name.into_string(), text)?;
+            }
+            (Resource::Props(properties), Change::ClearProp(name)) => {
+                properties.clear(name.as_str());
+            }
+            (Resource::Locale(locale), Change::SetLocale(text)) => *locale = text,
+            (Resource::File(file), Change::WriteFile(text)) => *file = Some(text),
+            (Resource::File(file), Change::DeleteFile) => *file = None,
+            _ => {}
+        }
+        Ok(())
     }
 }
 

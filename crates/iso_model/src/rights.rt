@@ -1,11 +1,13 @@
 ghost use Rattle.std.specs.Prelude.{◌≡◌, ℕ, List, [], ◌∷◌, IfOk, OnOk, OnErr};
 ghost use Rattle.std.specs.Bool.{OnTrue, OnFalse};
-ghost use Rattle.iso_model.specs.Rights.{access_in, declared_by, rights_of, strongest};
+ghost use Rattle.iso_model.specs.ResourceKeys.{spelling};
+ghost use Rattle.iso_model.specs.Rights.{access_in, declared_by, is_readable, is_writable, rights_of, strongest};
 
 use crate::access::Access;
 use crate::chain::Chain;
 use crate::heads::{ClassHead, Mark};
 use crate::key::Key;
+use crate::resource_key::ResourceKey;
 use std::alloc::{AllocError, Global};
 use std::marker::Model;
 use std::sync::Arc;
@@ -68,6 +70,32 @@ impl Rights {
             }
         }
         None
+    }
+
+    /// The access that a resource is declared with, if it is, without making its key.
+    pub fn access_of(&self, resource: ResourceKey<'_>) -> Option<Access>
+        ensures { result ≡ access_in self.now (spelling resource.entry) }
+    {
+        for (declared, found) in &self.entries {
+            if resource.is(declared) {
+                return Some(*found);
+            }
+        }
+        None
+    }
+
+    /// Whether a resource may be looked at.
+    pub fn lets_look(&self, resource: ResourceKey<'_>) -> bool
+        ensures { result ≡ is_readable (access_in self.now (spelling resource.entry)) }
+    {
+        self.access_of(resource).is_some()
+    }
+
+    /// Whether a resource may be changed.
+    pub fn lets_change(&self, resource: ResourceKey<'_>) -> bool
+        ensures { result ≡ is_writable (access_in self.now (spelling resource.entry)) }
+    {
+        matches!(self.access_of(resource), Some(Access::Write))
     }
 
     /// What one mark declares besides.

@@ -1,5 +1,6 @@
 use crate::heads::{ClassHead, TestHead};
 use crate::text::Text;
+use std::sync::Arc;
 
 /// How a node runs beside its siblings (JUnit 5, parallel execution).
 #[derive(Clone, Copy, PartialEq, Eq)]
@@ -8,16 +9,16 @@ pub enum Mode {
     Concurrent,
 }
 
-/// A test as it is written.
+/// A test as it is written. Its head is shared, so that a plan lends it without a copy.
 #[derive(Drop)]
 pub struct Test {
     pub name: Text,
     pub display: Option<Text>,
     pub mode: Option<Mode>,
-    pub head: TestHead,
+    pub head: Arc<TestHead>,
 }
 
-/// A class as it is written.
+/// A class as it is written. Its head is shared with the class chains of the nodes under it.
 #[derive(Drop)]
 #[cycle(class)]
 pub struct Class {
@@ -25,7 +26,7 @@ pub struct Class {
     pub display: Option<Text>,
     pub mode: Option<Mode>,
     pub isolated: bool,
-    pub head: ClassHead,
+    pub head: Arc<ClassHead>,
     pub members: Vec<Member>,
 }
 

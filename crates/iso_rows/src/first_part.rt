@@ -199,6 +199,7 @@ fn failed_write_tells_how_much_was_taken(rt: HostRuntime) {
     let ended = run_serial(rt.alloc(), inputs, &mut narrow);
     assert!(rt; ended == Err(RunFault::Write(14)));
     assert!(rt; narrow.sink.bytes() == "TAP version 14".as_bytes());
+    assert_eq!(rt; narrow.failures, 1);
 }
 
 #[test]

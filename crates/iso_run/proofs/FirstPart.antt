@@ -21,6 +21,7 @@ use Rattle.iso_run.specs.declared.results.NodeResult as N
 use Rattle.iso_run.specs.declared.results.ClassResult.{ClassResult}
 use Rattle.iso_model.specs.Scripts.{ClassTitle, Class, class, Member, member, Members, no_members}
 use Rattle.iso_model.specs.Scripts as S
+use Rattle.std.specs.Arc.{arc_value}
 use Rattle.iso_model.specs.ScriptView.{class_of, member_of, members_of, class_head_of}
 use Rattle.iso_model.specs.declared.script.Class as D
 use Rattle.iso_model.specs.declared.script.Member as M
@@ -169,7 +170,7 @@ class_node_of-parts : (c : ClassResult) → class_node_of c ≡ class_node c.tit
 class_node_of-parts c = search (rules, N.the_lemmas)
 
 abbrev title_of : D.Class → ClassTitle
-title_of c = record { name = c.name; display = c.display; mode = c.mode; isolated = c.isolated; head = class_head_of c.head }
+title_of c = record { name = c.name; display = c.display; mode = c.mode; isolated = c.isolated; head = class_head_of (arc_value c.head) }
 
 class_of-parts : (c : D.Class) → class_of c ≡ class (title_of c) (members_of (map member_of c.members.items))
 class_of-parts c = search (rules, M.the_lemmas)

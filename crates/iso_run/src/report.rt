@@ -766,6 +766,3 @@ pub fn escape<W: Sink>(text: &str, sink: &mut W) -> Result<(), TapFault>
         Err(_) => Err(TapFault { written }),
     }
 }
-
-#[cfg(test)]
-mod tests;

@@ -4,6 +4,7 @@ ghost use Rattle.iso_model.specs.Alone.{test_alone};
 ghost use Rattle.iso_model.specs.Evaluation.{is_equal};
 ghost use Rattle.iso_model.specs.Resources.{Resources};
 ghost use Rattle.iso_model.specs.Rights.{Rights};
+ghost use Rattle.std.specs.Arc.{arc_value};
 ghost use Rattle.iso_model.specs.ScriptView.{class_of, member_of, script_of, test_head_of, test_of};
 ghost use Rattle.iso_model.specs.Statements.{faults, is_well, performed, ran, run, runs_out};
 ghost use Rattle.iso_model.specs.Syntax.{assert_equal, literal, print};
@@ -87,7 +88,7 @@ fn run_test(alloc: Global, test: &Test) -> Result<TestResult, AllocError>
     requires { is_simple_test (test_of test.now) ≡ true }
     ensures title { IfOk result (λ t. t.title ≡ test_title (test_of test.now)) }
     ensures outcome { IfOk result (λ t.
-        t.outcome ≡ test_alone (test_head_of test.now.head) (empty_head ∷ []) empty_world) }
+        t.outcome ≡ test_alone (test_head_of (arc_value test.now.head)) (empty_head ∷ []) empty_world) }
 {
     let progress = run_block(alloc, &test.head.body)?;
     Ok(TestResult {
@@ -303,6 +304,3 @@ fn difference_message(alloc: Global, expected: &Data, actual: &Data) -> Result<T
     let (expected, actual) = (expected.as_str(), actual.as_str());
     Ok(Text::new(format!(in alloc; "expected: <{expected}> but was: <{actual}>")?))
 }
-
-#[cfg(test)]
-mod tests;

@@ -19,6 +19,7 @@ use iso_statements::fault::{ScriptError, ScriptFaultKind};
 use iso_statements::parser::Parser;
 use std::alloc::Global;
 use std::collections::BTreeSet;
+use std::sync::Arc;
 
 /// A top-level class.
 pub(crate) fn class(parser: &mut Parser<'_>) -> Result<Class, ScriptError>
@@ -35,7 +36,7 @@ pub(crate) fn class(parser: &mut Parser<'_>) -> Result<Class, ScriptError>
         display: None,
         mode: None,
         isolated: false,
-        head: empty_head(parser.alloc),
+        head: Arc::new(parser.alloc, empty_head(parser.alloc))?,
         members,
     })
 }
@@ -85,10 +86,13 @@ fn member<'a>(
         name: Text::copied(parser.alloc, name)?,
         display: None,
         mode: None,
-        head: TestHead {
-            marks: Vec::new(parser.alloc),
-            body,
-        },
+        head: Arc::new(
+            parser.alloc,
+            TestHead {
+                marks: Vec::new(parser.alloc),
+                body,
+            },
+        )?,
     }))
 }
 

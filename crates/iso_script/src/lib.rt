@@ -5,5 +5,3 @@ mod class;
 pub mod fault;
 pub mod laws;
 pub mod reader;
-#[cfg(test)]
-mod tests;

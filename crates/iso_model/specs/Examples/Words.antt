@@ -10,7 +10,7 @@ use Rattle.iso_model.specs.Environments.{environment}
 use Rattle.iso_model.specs.Keys.{properties_key}
 use Rattle.iso_model.specs.Resources.{Resources, starting_value}
 use Rattle.iso_model.specs.Statements.{State}
-use Rattle.iso_model.specs.Steps.{Machine, started, over, steps}
+use Rattle.iso_model.specs.Steps.{Machine, first_point, machine_at, steps}
 use Rattle.iso_model.specs.Syntax as S
 use Rattle.iso_model.specs.Syntax.{Term, literal, chain, call, Terms, no_terms, term, Act, plain, choice, Acts, no_acts, act}
 use Rattle.iso_model.specs.declared.access.Access.TheVariants.{Read, Write}
@@ -143,7 +143,7 @@ by_itself acts = block_after 0 acts
 
 -- the same block after so many single steps
 abbrev pub by_single_steps : ℕ → Acts → Machine
-by_single_steps n acts = steps no_rights n (over (started acts (environment [] 0 Test)) nothing_said)
+by_single_steps n acts = steps no_rights n (machine_at (first_point acts (environment [] 0 Test)) nothing_said)
 
 -- the steps that a block has left
 abbrev pub steps_left : State → ℕ

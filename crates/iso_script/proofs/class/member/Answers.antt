@@ -21,7 +21,7 @@ returns-in_err-body-clause-only c = λ names knows d m rest h new.
 
 pub returns-clause-found : goal.returns-clause-found
 returns-clause-found c = λ d.
-    rw (member_of-test, c.in_ok-copied.ensures, c.new.ensures.items)
+    rw (member_of-test, c.in_ok-copied.ensures, c.in_ok-new.ensures.ok, c.new.ensures.items)
     (is_test d _ _ _ _ _ _ c.in_ok-expect_word.ensures c.in_ok-name.ensures.found c.in_ok-body.ensures)
 
 pub returns-clause-fresh : goal.returns-clause-fresh
@@ -30,4 +30,4 @@ returns-clause-fresh c = λ names knows.
 
 pub returns-clause-only : goal.returns-clause-only
 returns-clause-only c = λ names knows d m rest h new.
-    rw (member_of-test, c.in_ok-copied.ensures, c.new.ensures.items) (test_only d _ _ _ _ _ _ c.in_ok-expect_word.ensures c.in_ok-name.ensures.found (λ b end k. one_block c.in_ok-body.ensures k) m rest h)
+    rw (member_of-test, c.in_ok-copied.ensures, c.in_ok-new.ensures.ok, c.new.ensures.items) (test_only d _ _ _ _ _ _ c.in_ok-expect_word.ensures c.in_ok-name.ensures.found (λ b end k. one_block c.in_ok-body.ensures k) m rest h)

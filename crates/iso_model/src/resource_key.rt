@@ -1,0 +1,54 @@
+ghost use Rattle.std.specs.Prelude.{◌≡◌, IfOk, bytes_eq};
+ghost use Rattle.iso_model.specs.ResourceKeys.{spelling};
+ghost use Rattle.iso_model.specs.Keys.{file_key};
+
+use crate::key::Key;
+use crate::text::Text;
+use std::alloc::{AllocError, Global};
+
+/// The key by which a block names a resource, borrowed: looking one up takes no memory.
+#[derive(Clone, Copy)]
+pub enum ResourceKey<'a> {
+    /// The system properties.
+    Properties,
+    /// The default locale.
+    Locale,
+    /// The virtual file at a path.
+    File(&'a str),
+}
+
+impl<'a> ResourceKey<'a> {
+    /// Whether it's this declared key.
+    pub fn is(self, declared: &Key) -> bool
+        ensures { result ≡ bytes_eq (spelling self.entry) declared.now }
+    {
+        match self {
+            ResourceKey::Properties => "java.lang.System.properties" == declared.as_str(),
+            ResourceKey::Locale => "java.util.Locale.default" == declared.as_str(),
+            ResourceKey::File(path) => is_file_key(path, declared.as_str()),
+        }
+    }
+
+    /// The key with its spelling.
+    pub fn key(self, alloc: Global) -> Result<Key, AllocError>
+        ensures { IfOk result (λ k. k ≡ spelling self.entry) }
+    {
+        match self {
+            ResourceKey::Properties => {
+                Ok(Key::new(Text::copied(alloc, "java.lang.System.properties")?))
+            }
+            ResourceKey::Locale => Ok(Key::new(Text::copied(alloc, "java.util.Locale.default")?)),
+            ResourceKey::File(path) => Key::of_file(alloc, path),
+        }
+    }
+}
+
+/// Whether a spelling is that of the file at this path.
+fn is_file_key(path: &str, spelling: &str) -> bool
+    ensures { result ≡ bytes_eq (file_key path.now) spelling.now }
+{
+    match spelling.as_bytes().strip_prefix(b"file:") {
+        Some(rest) => path.as_bytes() == rest,
+        None => false,
+    }
+}

@@ -1,0 +1,7 @@
+//! Tests of the lexer and of the script reader, in a crate of their own, since a crate that has tests is proved twice.
+#![tactic(auto)]
+
+#[cfg(test)]
+mod scripts;
+#[cfg(test)]
+mod tokens;

@@ -1,0 +1,9 @@
+//! What steers a run: settings by JUnit 5's configuration parameters, and the values that resources start with.
+//! Both are TOML.
+#![tactic(auto)]
+
+pub mod fault;
+mod find;
+mod rules;
+pub mod settings;
+mod table;
