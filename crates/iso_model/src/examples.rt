@@ -21,7 +21,7 @@ ghost use Rattle.iso_model.specs.Examples.Words.{property_a_is_1, values_of, end
 ghost use Rattle.iso_model.specs.Examples.Words.{in_test, in_class, note, lines, passed, failed, faulted, skipped, blocked, fault_here};
 ghost use Rattle.iso_model.specs.Examples.Resources.{sets_x_first, sets_y, expects_x, marks_locale, marks_locale_inside, prints_all, closes_file};
 ghost use Rattle.iso_model.specs.Examples.Resources.{sets_2, writes_properties, sets_1, reads_and_sets_1, prints_a, reads_and_prints_a, reads_properties, looks_around, clears_a, writes_and_deletes, prints_locale};
-ghost use Rattle.iso_model.specs.Examples.Lifecycles.{outer, inner, prints_t, no_database, does_nothing, opens_inside, assumes_before_each};
+ghost use Rattle.iso_model.specs.Examples.Lifecycles.{outer, inner, prints_t, no_database, does_nothing, opens_inside, assumes_before_each, fails_before_each};
 ghost use Rattle.iso_model.specs.Examples.Lifecycles.{assumes_false, fails_late, assumes_false_first};
 ghost use Rattle.iso_model.specs.Examples.Names.{counts_up, prints_n, sets_static, has_static, assigns_n, declares_n, assigns_static_before_each, assigns_outer_static};
 ghost use Rattle.iso_model.specs.Examples.Names.{assigns_inner_field, has_field, prints_field_first};
@@ -119,8 +119,10 @@ pub fn failed_before_all_blocks()
 /// After a `before_each` that didn't end well neither a further one nor the test is run.
 /// Each `after_each` is.
 pub fn after_each_runs_in_every_case()
-    ensures { test_alone prints_t (inner ∷ assumes_before_each ∷ []) empty_world
+    ensures assumption { test_alone prints_t (inner ∷ assumes_before_each ∷ []) empty_world
         ≡ skipped "no" (in_class 1 BeforeEach) ("ia" ∷ "a" ∷ []) }
+    ensures fail { test_alone prints_t (inner ∷ fails_before_each ∷ []) empty_world
+        ≡ failed "no" (in_class 1 BeforeEach) ("ia" ∷ []) }
 {}
 
 /// A false assumption skips its test.
@@ -166,7 +168,7 @@ pub fn statics_are_frozen_elsewhere()
         ≡ faulted K.Frozen "n is frozen" (in_test 1) [] }
     ensures taken { test_alone declares_n (has_static ∷ []) empty_world
         ≡ faulted K.DoubleName "name n is taken" (in_test 1) [] }
-    ensures before_each { test_alone does_nothing (assigns_static_before_each ∷ empty_head ∷ []) empty_world
+    ensures before_each { test_alone prints_t (assigns_static_before_each ∷ empty_head ∷ []) empty_world
         ≡ faulted K.Frozen "n is frozen" (in_class 2 BeforeEach) [] }
     ensures inner { class_alone assigns_outer_static (has_static ∷ []) empty_world
         ≡ faulted K.Frozen "n is frozen" (in_class 2 BeforeAll) [] }

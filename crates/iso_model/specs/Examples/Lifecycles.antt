@@ -31,10 +31,14 @@ does_nothing = a_test []
 abbrev pub opens_inside : ClassHead
 opens_inside = record empty_head { before_all = body (print (quoted "in") ∷ []) }
 
--- class C { before_each { assume false, "no"; } after_each { print "a"; } test t { print "t"; } }
+-- class C { before_each { assume false, "no"; } after_each { print "a"; } class In { before_each { print "ib"; } after_each { print "ia"; } test t { print "t"; } } }
 -- After a `before_each` that didn't end well neither a further one nor the test is run; each `after_each` is.
 abbrev pub assumes_before_each : ClassHead
 assumes_before_each = record empty_head { before_each = body (assume (flag false) "no" ∷ []); after_each = body (print (quoted "a") ∷ []) }
+
+-- class C { before_each { fail "no"; } class In { before_each { print "ib"; } after_each { print "ia"; } test t { print "t"; } } }
+abbrev pub fails_before_each : ClassHead
+fails_before_each = record empty_head { before_each = body (fail "no" ∷ []) }
 
 -- class C { test t { assume false, "no #1"; } }
 -- A false assumption skips the test.

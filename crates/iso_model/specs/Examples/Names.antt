@@ -27,7 +27,7 @@ assigns_n = a_test (assign "n" (number 2) ∷ [])
 abbrev pub declares_n : TestHead
 declares_n = a_test (let_name "n" (number 2) ∷ [])
 
--- class Out { class In { static n = 1; before_each { n = 2; } test t { } } }
+-- class Out { class In { static n = 1; before_each { n = 2; } test t { print "t"; } } }
 -- Nor does a `before_each` assign a static of its own class.
 abbrev pub assigns_static_before_each : ClassHead
 assigns_static_before_each = record has_static { before_each = body (assign "n" (number 2) ∷ []) }
