@@ -2,12 +2,8 @@
 #![tactic(auto)]
 
 mod class;
-mod expression;
 pub mod fault;
 pub mod laws;
-mod names;
-mod parser;
 pub mod reader;
-mod statement;
 #[cfg(test)]
 mod tests;
