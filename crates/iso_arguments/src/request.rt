@@ -112,7 +112,10 @@ fn files_of<'a>(alloc: Global, found: &ArgMatches<'a>) -> Result<InputFiles<'a>,
     let mut files = InputFiles::none(alloc);
     files.settings = found.get_str("settings");
     files.world = found.get_str("world");
-    files.processors = found.get_one::<u32>("processors").unwrap_or(1).clamp(1, 1024);
+    files.processors = found
+        .get_one::<u32>("processors")
+        .unwrap_or(1)
+        .clamp(1, 1024);
     if let Some(scripts) = found.get_strs("scripts") {
         files.scripts.extend_from_slice(scripts)?;
     }
