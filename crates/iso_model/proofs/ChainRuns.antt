@@ -7,15 +7,15 @@ use Rattle.iso_model.specs.Blocks.{block}
 use Rattle.iso_model.specs.Chains.{ClassHead, TestHead, class_rights, test_rights}
 use Rattle.iso_model.specs.Environments.{Environment, environment}
 use Rattle.iso_model.specs.Names.{at_literals, frozen}
-use Rattle.iso_model.specs.Openings.{Frame, Opening, statics_of, before_all, opened, opening}
+use Rattle.iso_model.specs.Openings.{Frame, Opening, words_of, statics_of, before_all, opened, opening}
 use Rattle.iso_model.specs.Resources.{Resources, restricted}
 use Rattle.iso_model.specs.Rights.{Rights, is_readable, is_writable}
 use Rattle.iso_model.specs.Statements.{Local, State, is_well, with_names}
 use Rattle.iso_model.specs.Syntax.{Acts}
-use Rattle.iso_model.specs.Tests.{Body, seen_from, unseen_from, words_of, block_of_test, where_well, before_each, after_each, begun_test, test}
+use Rattle.iso_model.specs.Tests.{Body, seen_from, unseen_from, block_of_test, where_well, before_each, after_each, begun_test, test}
 use Rattle.iso_model.specs.declared.names.Sort.TheVariants.{Static}
 use Rattle.iso_model.specs.declared.place.BlockName.{BlockName}
-use Rattle.iso_model.specs.declared.place.BlockName.TheVariants.{Test, Class}
+use Rattle.iso_model.specs.declared.place.BlockName.TheVariants.{Test}
 use Rattle.iso_model.specs.declared.place.Lifecycle.TheVariants.{BeforeAll, AfterAll, BeforeEach, AfterEach}
 use Rattle.iso_model.specs.declared.resource.Resource.{Resource}
 use Rattle.iso_model.proofs.Agreement.{unreadable-locked}
@@ -49,11 +49,11 @@ block-within q r within acts env m n same =
 module _ (k : List ℕ) where
   pub before_all-untouched : (c : ClassHead) (cs : List ClassHead) (o : Opening) → is_writable (class_rights (c ∷ cs) k) ≡ false → (before_all c cs o).resources k ≡ o.resources k
   before_all-untouched c cs o locked =
-      block-untouched (class_rights (c ∷ cs)) k locked c.before_all (environment (statics_of o.frames ++ at_literals Static c.statics) 0 (Class (length (c ∷ cs)) BeforeAll)) o.resources
+      block-untouched (class_rights (c ∷ cs)) k locked c.before_all (environment (statics_of o.frames ++ at_literals Static c.statics) 0 (words_of (c ∷ cs) BeforeAll)) o.resources
 
   pub after_all-untouched : (c : ClassHead) (cs : List ClassHead) (o : Opening) → is_writable (class_rights (c ∷ cs) k) ≡ false → (after_all c cs o).resources k ≡ o.resources k
   after_all-untouched c cs o locked =
-      block-untouched (class_rights (c ∷ cs)) k locked c.after_all (environment (statics_of o.frames) 0 (Class (length (c ∷ cs)) AfterAll)) o.resources
+      block-untouched (class_rights (c ∷ cs)) k locked c.after_all (environment (statics_of o.frames) 0 (words_of (c ∷ cs) AfterAll)) o.resources
 
   pub opening-untouched : (cs : List ClassHead) (start : Resources) → is_writable (class_rights cs k) ≡ false → (opening cs start).resources k ≡ start k
   opening-untouched [] start locked = refl
@@ -96,10 +96,10 @@ module _ (r : Rights) where
 
   pub before_all-alike : (c : ClassHead) (cs : List ClassHead) → LooksWithin (class_rights (c ∷ cs)) r → (o p : Opening) → AlikeOpenings r o p → Alike r (before_all c cs o) (before_all c cs p)
   before_all-alike c cs within o p both =
-      lifecycle-alike (class_rights (c ∷ cs)) within c.before_all (λ fs. environment (statics_of fs ++ at_literals Static c.statics) 0 (Class (length (c ∷ cs)) BeforeAll)) o p both
+      lifecycle-alike (class_rights (c ∷ cs)) within c.before_all (λ fs. environment (statics_of fs ++ at_literals Static c.statics) 0 (words_of (c ∷ cs) BeforeAll)) o p both
 
   pub after_all-alike : (c : ClassHead) (cs : List ClassHead) → LooksWithin (class_rights (c ∷ cs)) r → (o p : Opening) → AlikeOpenings r o p → Alike r (after_all c cs o) (after_all c cs p)
-  after_all-alike c cs within o p both = lifecycle-alike (class_rights (c ∷ cs)) within c.after_all (λ fs. environment (statics_of fs) 0 (Class (length (c ∷ cs)) AfterAll)) o p both
+  after_all-alike c cs within o p both = lifecycle-alike (class_rights (c ∷ cs)) within c.after_all (λ fs. environment (statics_of fs) 0 (words_of (c ∷ cs) AfterAll)) o p both
 
   pub opened-alike : (o p : Opening) (s t : State) → AlikeOpenings r o p → Alike r s t → AlikeOpenings r (opened o s) (opened p t)
   opened-alike o p s t both after = record {

@@ -16,5 +16,6 @@ pub mod Output
 pub mod Pairs
 pub mod PropertyLemmas
 pub mod RightsLemmas
+pub mod SeenNames
 pub mod TouchLemmas
 pub mod Untouched

@@ -1,4 +1,4 @@
--- Two runs of a block from one place, over resources that agree where the rights let it look.
+-- Two runs of a block from one point, over resources that are equal where the rights let it look.
 use Rattle.std.proofs.Common.{◌≡◌, ℕ, zero, suc, List, [], ◌∷◌, ◌++◌, Bool, true, false, cond, Option, Some, None, Result, Ok, Err, is_some, length, refl, ap, ◌∙◌, subst}
 use Rattle.iso_model.specs.Keys.{properties_key, locale_key, file_key}
 use Rattle.iso_model.specs.Rights.{Rights, is_writable}
@@ -21,7 +21,7 @@ abbrev at : Local → Resources → State
 at l m = record { here = l; resources = m }
 
 module _ (r : Rights) where
-  -- two functions do the same from one place
+  -- two functions do the same from one point
   pub record Same (f g : State → State) : Type 0 where
     pub from : (l : Local) (m n : Resources) → EqualAt r m n → Alike r (f (at l m)) (g (at l n))
 

@@ -1,15 +1,19 @@
 -- The map of a list of entries answers as a search of the list does.
-use Rattle.std.proofs.Common.{◌≡◌, ℕ, List, [], ◌∷◌, Option, Some, None, Bool, cond, string_bytes, bytes_eq, sym, ap, ◌∙◌}
-use Rattle.std.specs.FinMap.{get, insert, remove, get-insert, get-empty, get-remove, same_map, slice_cmp-IsAntisymmetric, nat_cmp-IsAntisymmetric}
+use Rattle.std.proofs.Common.{◌≡◌, ℕ, List, [], ◌∷◌, Option, Some, None, Bool, cond, string_bytes, bytes_eq, sym, ap, refl, inl, inr, ◌∙◌, Bor}
+use Rattle.std.specs.FinMap.{empty, get, insert, remove, get-insert, get-empty, get-remove, same_map, slice_cmp-IsAntisymmetric, nat_cmp-IsAntisymmetric}
 use Rattle.std.specs.Ordering.{nat_cmp, is_eq}
 use Rattle.std.specs.Cmp.Lexicographic.{slice_cmp}
 use Rattle.std.specs.Map.{lookup}
 use Rattle.std.specs.declared.string.String.{String}
 use Rattle.std.specs.declared.alloc.Global.{Global}
-use Rattle.std.specs.BTreeMap.{BTreeMap, UpdatesBy}
-use Rattle.std.specs.String.{string_cmp}
+use Rattle.std.specs.BTreeMap.{BTreeMap, UpdatesBy, IsOrdered}
+use Rattle.std.specs.Iterator.{Yields}
+use Rattle.std.specs.Map.Iter.{TakesFirst, deref_pair}
+use Rattle.std.proofs.lemmas.Map.Iter.{btree_map_turn}
+use Rattle.std.specs.String.{string_cmp, string_cmp_total}
 use Rattle.std.proofs.lemmas.Map.Text.{btree_map_updates_text, is_eq-slice_cmp}
 use Rattle.std.proofs.lemmas.Slice.Eq.{bytes_eq-Decides}
+use Rattle.std.proofs.lemmas.Bool.{cases_Bool}
 use Rattle.std.proofs.lemmas.Bool.Decides.{same_from_decides}
 use Rattle.std.proofs.lemmas.Cmp.{nat_list_cmp_total}
 use Rattle.iso_model.specs.Properties.{Map, map_of}
@@ -48,3 +52,37 @@ map_of-insert m n k text updates = same _ _ (λ q. updated m n k (Some text) upd
 
 pub map_of-remove : (m n : Entries) (k : List ℕ) → UpdatesBy string_cmp (λ j. slice_cmp nat_cmp k (string_bytes j)) m n None → map_of n.entries ≡ remove (map_of m.entries) k
 map_of-remove m n k updates = same _ _ (λ q. updated m n k None updates q ∙ sym (get-remove nat_list_cmp_total (map_of m.entries) k q))
+
+-- the first answer, or else the other one
+abbrev or_else : Option (List ℕ) → Option (List ℕ) → Option (List ℕ)
+or_else (Some text) other = Some text
+or_else None other = other
+
+-- what a map or else the entries left answer is what all do
+abbrev pub Covers : Map → (left : List (String Global × List ℕ)) → (all : Map) → Type 0
+Covers m left all = (q : List ℕ) → or_else (get m q) (lookup (is_at q) left) ≡ get all q
+
+pub Covers-none : (es : List (String Global × List ℕ)) → Covers empty es (map_of es)
+Covers-none es q = rw (get-empty (slice_cmp nat_cmp) q) (sym (get-map_of es q))
+
+pub Covers-more : (m : Map) (e : String Global × List ℕ) (left : List (String Global × List ℕ)) (all : Map) → Covers m (e ∷ left) all → get all (string_bytes e.0) ≡ Some e.1 → Covers (insert m (string_bytes e.0) e.1) left all
+Covers-more m e left all covers there q =
+    elim (cases_Bool (is_at q e.0)) [
+      | inl same ↦
+          let here : q ≡ string_bytes e.0 = (bytes_eq-Decides q (string_bytes e.0)).0 (sym (is_eq-slice_cmp q (string_bytes e.0)) ∙ same) in
+          rw (get-insert nat_list_cmp_total m (string_bytes e.0) e.1 q, same) (sym there ∙ ap (get all) (sym here))
+      | inr other ↦ rw (get-insert nat_list_cmp_total m (string_bytes e.0) e.1 q, other) (rw other at (covers q))
+    ]
+
+or_else-None : (o : Option (List ℕ)) → or_else o None ≡ o
+or_else-None (Some text) = refl
+or_else-None None = refl
+
+pub Covers-all : (m all : Map) → Covers m [] all → m ≡ all
+Covers-all m all covers = same _ _ (λ q. sym (or_else-None (get m q)) ∙ covers q)
+
+-- an item of a walk over the entries is what their map answers at its name
+pub turn : (xs : List (Bor (String Global) × Bor (List ℕ))) (s t u : List (String Global × List ℕ)) (r : Option (Bor (String Global) × Bor (List ℕ))) (x : Bor (String Global) × Bor (List ℕ))
+    → Yields (TakesFirst deref_pair) s xs t → r ≡ Some x → TakesFirst deref_pair t r u → (m : Entries) → s ≡ m.entries → IsOrdered string_cmp m
+    → get (map_of m.entries) (string_bytes x.0.now) ≡ Some x.1.now
+turn xs s t u r x y is step m start ordered = get-map_of m.entries (string_bytes x.0.now) ∙ (btree_map_turn deref_pair xs s t u r x y is step string_cmp_total m start ordered).1

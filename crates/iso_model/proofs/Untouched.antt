@@ -1,8 +1,8 @@
 -- A block changes no key that its rights don't let it change, no value's kind, and one key at most in a step.
-use Rattle.std.proofs.Common.{◌≡◌, ℕ, zero, suc, List, [], ◌∷◌, Bool, true, false, cond, Option, Some, None, option_map, refl, sym, ap, ◌∙◌, true≢false, bytes_eq}
+use Rattle.std.proofs.Common.{◌≡◌, ℕ, zero, suc, List, [], ◌∷◌, Bool, true, false, cond, Option, option_map, refl, sym, ap, ◌∙◌, true≢false, bytes_eq}
 use Rattle.std.proofs.lemmas.Slice.Eq.{bytes_eq-Decides}
 use Rattle.iso_model.specs.Blocks.{begun, block}
-use Rattle.iso_model.specs.Changes.{OneChange, none, one, kind_of, kind_at}
+use Rattle.iso_model.specs.Changes.{OneChange, none, one, kind_at}
 use Rattle.iso_model.specs.Environments.{Environment}
 use Rattle.iso_model.specs.Rights.{Rights, is_writable}
 use Rattle.iso_model.specs.Resources.{Resources, changed}
@@ -10,10 +10,9 @@ use Rattle.iso_model.specs.Syntax.{Acts, act, no_acts}
 use Rattle.iso_model.specs.Statements.{State, is_live, locally, with_steps, run}
 use Rattle.iso_model.specs.Steps.{Piece, rest, turning, Machine, begin, step_at, step, finish}
 use Rattle.iso_model.specs.declared.resource.Change.{Change}
-use Rattle.iso_model.specs.declared.resource.Change.TheVariants as C
 use Rattle.iso_model.specs.declared.resource.Resource.{Resource}
-use Rattle.iso_model.specs.declared.resource.Resource.TheVariants as R
 use Rattle.iso_model.proofs.Effects.{Effect, nothing, local, assignment, line, fault, failure, skip, change, begin-effect}
+use Rattle.iso_model.proofs.TouchLemmas.{changed_at-kind}
 use Rattle.iso_model.proofs.Keeps.{Keeps, run-keeps, finish-keeps, step-keeps}
 
 -- a change leaves every other key
@@ -58,34 +57,6 @@ module _ (r : Rights) (k : List ℕ) (locked : is_writable (r k) ≡ false) wher
   pub block-untouched : (acts : Acts) (env : Environment) (m : Resources) → (block r acts env m).resources k ≡ m k
   block-untouched acts env m = run-untouched acts (record { here = begun env; resources = m })
 
--- a change keeps the kind of a value
-changed-kind : (c : Change) (v : Resource) → kind_of (changed c v) ≡ kind_of v
-changed-kind (C.SetProp x t) (R.Props p) = refl
-changed-kind (C.SetProp x t) (R.Locale l) = refl
-changed-kind (C.SetProp x t) (R.File f) = refl
-changed-kind (C.SetProp x t) R.Plain = refl
-changed-kind (C.ClearProp x) (R.Props p) = refl
-changed-kind (C.ClearProp x) (R.Locale l) = refl
-changed-kind (C.ClearProp x) (R.File f) = refl
-changed-kind (C.ClearProp x) R.Plain = refl
-changed-kind (C.SetLocale t) (R.Props p) = refl
-changed-kind (C.SetLocale t) (R.Locale l) = refl
-changed-kind (C.SetLocale t) (R.File f) = refl
-changed-kind (C.SetLocale t) R.Plain = refl
-changed-kind (C.WriteFile t) (R.Props p) = refl
-changed-kind (C.WriteFile t) (R.Locale l) = refl
-changed-kind (C.WriteFile t) (R.File f) = refl
-changed-kind (C.WriteFile t) R.Plain = refl
-changed-kind C.DeleteFile (R.Props p) = refl
-changed-kind C.DeleteFile (R.Locale l) = refl
-changed-kind C.DeleteFile (R.File f) = refl
-changed-kind C.DeleteFile R.Plain = refl
-
-changed_at-kind : (b : Bool) (c : Change) (o : Option Resource) → option_map kind_of (cond b (option_map (changed c) o) o) ≡ option_map kind_of o
-changed_at-kind false c o = refl
-changed_at-kind true c None = refl
-changed_at-kind true c (Some v) = ap Some (changed-kind c v)
-
 -- the value at any key keeps its kind
 module _ (r : Rights) (k : List ℕ) where
   effect-kind : (s t : State) → Effect r s t → kind_at t.resources k ≡ kind_at s.resources k
@@ -96,7 +67,7 @@ module _ (r : Rights) (k : List ℕ) where
   effect-kind s t (fault row f) = refl
   effect-kind s t (failure row message) = refl
   effect-kind s t (skip row reason) = refl
-  effect-kind s t (change j c w) = changed_at-kind (bytes_eq k j) c (s.resources k)
+  effect-kind s t (change j c w) = changed_at-kind s.resources j k c
 
   kind-kept : Keeps r (λ s t. kind_at t.resources k ≡ kind_at s.resources k)
   kind-kept = record {

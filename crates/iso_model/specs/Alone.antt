@@ -1,17 +1,16 @@
 -- A test and a class run alone: what their chain comes to on the starting values of the resources that it declares, and on nothing else.
 -- A chain is a list of class heads, innermost first.
-use Rattle.std.specs.Prelude.{List, [], ◌∷◌, ◌++◌, length, cond}
+use Rattle.std.specs.Prelude.{List, [], ◌∷◌, ◌++◌, cond}
 use Rattle.iso_model.specs.Resources.{Resources, restricted}
 use Rattle.iso_model.specs.Statements.{State}
 use Rattle.iso_model.specs.Blocks.{block}
 use Rattle.iso_model.specs.Environments.{environment}
 use Rattle.iso_model.specs.Chains.{ClassHead, TestHead, class_rights, test_rights}
-use Rattle.iso_model.specs.Openings.{Frame, Opening, statics_of, before_all, opened, opening}
+use Rattle.iso_model.specs.Openings.{Frame, Opening, words_of, statics_of, before_all, opened, opening}
 use Rattle.iso_model.specs.Tests.{Body, test}
 use Rattle.iso_model.specs.Verdicts.{verdict, barred_verdict}
 use Rattle.iso_model.specs.declared.outcome.Outcome.{Outcome}
 use Rattle.iso_model.specs.declared.outcome.Verdict.TheVariants as V
-use Rattle.iso_model.specs.declared.place.BlockName.TheVariants.{Class}
 use Rattle.iso_model.specs.declared.place.Lifecycle.TheVariants.{AfterAll}
 
 -- the outcome under a class whose `before_all` didn't end well: the note of that ending, and no lines
@@ -24,7 +23,8 @@ test_outcome b = record { verdict = verdict b.endings; output = b.lines }
 
 -- `after_all` of the innermost class, on the resources and statics that its `before_all` left
 abbrev pub after_all : ClassHead → List ClassHead → Opening → State
-after_all c cs o = block (class_rights (c ∷ cs)) c.after_all (environment (statics_of o.frames) 0 (Class (length (c ∷ cs)) AfterAll)) o.resources
+after_all c cs o =
+    block (class_rights (c ∷ cs)) c.after_all (environment (statics_of o.frames) 0 (words_of (c ∷ cs) AfterAll)) o.resources
 
 -- the outcome of a class: `before_all` and then `after_all`, whatever the first did
 abbrev pub class_outcome : List Frame → State → Outcome

@@ -4,34 +4,20 @@ use Rattle.iso_model.specs.Rights.{Rights, is_writable}
 use Rattle.iso_model.specs.Resources.{Resources, changed_at}
 use Rattle.iso_model.specs.Names.{is_frozen}
 use Rattle.iso_model.specs.Statements.{Local}
+use Rattle.iso_model.specs.Touch.{Kind, kind_of_value}
 use Rattle.iso_model.specs.declared.data.Data.{Data}
 use Rattle.iso_model.specs.declared.names.Binding.{Binding}
 use Rattle.iso_model.specs.declared.names.Sort.{Sort}
 use Rattle.iso_model.specs.declared.resource.Change.{Change}
-use Rattle.iso_model.specs.declared.resource.Resource.{Resource}
-use Rattle.iso_model.specs.declared.resource.Resource.TheVariants as R
 
 -- from some resources to others: none is changed, or one, at a key that the rights let change
 pub data OneChange (r : Rights) (m : Resources) : Resources → Type 0 where
   none : OneChange r m m
   one : (k : List ℕ) (change : Change) → is_writable (r k) ≡ true → OneChange r m (changed_at m k change)
 
--- the kinds of resource value
-pub data Kind : Type 0 where
-  properties_kind : Kind
-  locale_kind : Kind
-  file_kind : Kind
-  plain_kind : Kind
-
-abbrev pub kind_of : Resource → Kind
-kind_of (R.Props properties) = properties_kind
-kind_of (R.Locale locale) = locale_kind
-kind_of (R.File text) = file_kind
-kind_of R.Plain = plain_kind
-
 -- the kind of the value at a key, where there is one
 abbrev pub kind_at : Resources → List ℕ → Option Kind
-kind_at m k = option_map kind_of (m k)
+kind_at m k = option_map kind_of_value (m k)
 
 -- the bytes of lines, each with one for its end
 abbrev pub bytes_of : List (List ℕ) → ℕ

@@ -10,7 +10,9 @@ use Rattle.iso_model.specs.Chains.{ClassHead, class_rights}
 use Rattle.iso_model.specs.declared.names.Binding.{Binding}
 use Rattle.iso_model.specs.declared.names.Sort.TheVariants.{Static}
 use Rattle.iso_model.specs.declared.outcome.Ending.{Ending}
+use Rattle.iso_model.specs.declared.place.BlockName.{BlockName}
 use Rattle.iso_model.specs.declared.place.BlockName.TheVariants.{Class}
+use Rattle.iso_model.specs.declared.place.Lifecycle.{Lifecycle}
 use Rattle.iso_model.specs.declared.place.Lifecycle.TheVariants.{BeforeAll}
 
 -- what an ended `before_all` leaves of its class: its statics, which nothing assigns from now on, its ending and its lines
@@ -26,6 +28,10 @@ pub record Opening : Type 0 where
   pub resources : Resources
   pub well : Bool
 
+-- the words of a lifecycle block of the innermost class of a chain
+abbrev pub words_of : List ClassHead → Lifecycle → BlockName
+words_of cs kind = Class (length cs) kind
+
 -- the statics of opened classes, those of the outermost first
 abbrev pub statics_of : List Frame → List Binding
 statics_of [] = []
@@ -34,7 +40,7 @@ statics_of (f ∷ fs) = statics_of fs ++ f.statics
 -- `before_all` of the innermost class: it sees the statics of the enclosing classes, and its own at their literals
 abbrev pub before_all : ClassHead → List ClassHead → Opening → State
 before_all c cs o =
-    block (class_rights (c ∷ cs)) c.before_all (environment (statics_of o.frames ++ at_literals Static c.statics) 0 (Class (length (c ∷ cs)) BeforeAll)) o.resources
+    block (class_rights (c ∷ cs)) c.before_all (environment (statics_of o.frames ++ at_literals Static c.statics) 0 (words_of (c ∷ cs) BeforeAll)) o.resources
 
 -- the opening with the innermost class's `before_all` ended
 abbrev pub opened : Opening → State → Opening

@@ -10,13 +10,12 @@ use Rattle.iso_model.specs.Statements.{is_well}
 use Rattle.iso_model.specs.Blocks.{block}
 use Rattle.iso_model.specs.Environments.{environment}
 use Rattle.iso_model.specs.Chains.{ClassHead, TestHead, test_rights}
-use Rattle.iso_model.specs.Openings.{Frame, Opening}
+use Rattle.iso_model.specs.Openings.{Frame, Opening, words_of}
 use Rattle.iso_model.specs.declared.names.Binding.{Binding}
 use Rattle.iso_model.specs.declared.names.Sort.TheVariants.{Field}
 use Rattle.iso_model.specs.declared.outcome.Ending.{Ending}
 use Rattle.iso_model.specs.declared.place.BlockName.{BlockName}
-use Rattle.iso_model.specs.declared.place.BlockName.TheVariants.{Test, Class}
-use Rattle.iso_model.specs.declared.place.Lifecycle.{Lifecycle}
+use Rattle.iso_model.specs.declared.place.BlockName.TheVariants.{Test}
 use Rattle.iso_model.specs.declared.place.Lifecycle.TheVariants.{BeforeEach, AfterEach}
 
 -- how far a test has come: its names, the resources, the bytes and lines printed, the endings of its blocks so far
@@ -60,10 +59,6 @@ block_of_test r words cs acts b =
 -- goes on only where all blocks so far ended well
 abbrev pub where_well : (Body → Body) → Body → Body
 where_well f b = cond (list_all is_well b.endings) (f b) b
-
--- the words of a lifecycle block of the innermost class of a chain
-abbrev pub words_of : List ClassHead → Lifecycle → BlockName
-words_of cs kind = Class (length cs) kind
 
 -- the `before_each` blocks, outermost first, until one doesn't end well
 abbrev pub before_each : Rights → List ClassHead → Body → Body

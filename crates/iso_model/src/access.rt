@@ -4,7 +4,7 @@ ghost use Rattle.iso_model.specs.Texts.{access_word};
 
 /// How a resource is declared: to be looked at, or to be changed as well.
 /// `Write` is the stronger; a declared `write` lets look too.
-#[derive(Clone, Copy, PartialEq, Eq, PartialOrd, Ord)]
+#[derive(Clone, Copy, PartialEq, Eq)]
 pub enum Access {
     Read,
     Write,

@@ -86,8 +86,5 @@ impl Fault {
 fn said(alloc: Global, before: &str, name: &str, after: &str) -> Result<Text, AllocError>
     ensures { IfOk result (λ t. t ≡ before.now ++ name.now ++ after.now) }
 {
-    let mut message = String::from_str(alloc, before)?;
-    message.push_str(name)?;
-    message.push_str(after)?;
-    Ok(Text::new(message))
+    Ok(Text::new(format!(in alloc; "{before}{name}{after}")?))
 }

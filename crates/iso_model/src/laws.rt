@@ -13,7 +13,7 @@ ghost use Rattle.iso_model.specs.Rights.{Rights, is_writable};
 ghost use Rattle.iso_model.specs.Statements.{State, is_live, kept, run, runs_out};
 ghost use Rattle.iso_model.specs.Steps.{IsReady, Machine, Piece, Point, distance, finish, finished, first_point, is_done, is_ready, machine, machine_at, point_of, step, steps, steps_left, steps_to};
 ghost use Rattle.iso_model.specs.Syntax.{Acts, Term};
-ghost use Rattle.iso_model.specs.Tests.{test};
+ghost use Rattle.iso_model.specs.Tests.{seen_from, test, test_names};
 ghost use Rattle.iso_model.specs.declared.limits.TheConstants.{BLOCK_STEPS};
 ghost use Rattle.iso_model.specs.declared.names.Binding.{Binding};
 
@@ -101,6 +101,17 @@ pub fn names_outlast_a_block()
         → length (block r acts env m).here.env.names ≡ length env.names }
     ensures lasting { (r : Rights) (acts : Acts) (env : Environment) (m : Resources)
         → map lasting (block r acts env m).here.env.names ≡ map lasting env.names }
+{}
+
+/// The names of a test outlast its blocks in the same way. Of a chain that was opened well, a block of
+/// the innermost class sees all of them, and one of the enclosing classes those that these have by themselves.
+pub fn names_of_a_test_outlast_it()
+    ensures lasting { (t : TestHead) (cs : List ClassHead) (o : Opening)
+        → map lasting (test t cs o).names ≡ map lasting (test_names cs o.frames) }
+    ensures seen { (cs : List ClassHead) (start : Resources) → (opening cs start).well ≡ true
+        → let names = test_names cs (opening cs start).frames in seen_from cs names ≡ names }
+    ensures seen_by_enclosing { (c : ClassHead) (cs : List ClassHead) (start : Resources) → (opening (c ∷ cs) start).well ≡ true
+        → seen_from cs (test_names (c ∷ cs) (opening (c ∷ cs) start).frames) ≡ test_names cs (opening cs start).frames }
 {}
 
 /// An expression has the same value over resources that are equal at the keys of the rights.

@@ -140,6 +140,13 @@ impl Names {
         Ok(())
     }
 
+    /// The steps that are left in the block.
+    pub fn steps(&self) -> u32
+        ensures { result ≡ self.now.steps }
+    {
+        self.steps
+    }
+
     /// The words that name the block in a place.
     pub fn block(&self) -> BlockName
         ensures { result ≡ self.now.block }

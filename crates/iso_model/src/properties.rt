@@ -1,4 +1,4 @@
-ghost use Rattle.std.specs.Prelude.{◌≡◌, OnOk, OnErr, option_copied, string_bytes};
+ghost use Rattle.std.specs.Prelude.{◌≡◌, IfOk, OnOk, OnErr, option_copied, string_bytes};
 ghost use Rattle.std.specs.FinMap as map;
 
 use crate::text::Text;
@@ -52,6 +52,17 @@ impl Properties {
     {
         self.entries.insert(name, text)?;
         Ok(())
+    }
+
+    /// An equal map.
+    pub fn copy(&self, alloc: Global) -> Result<Properties, AllocError>
+        ensures { IfOk result (λ p. p ≡ self.now) }
+    {
+        let mut copied = Properties::new(alloc);
+        'entries: for (name, text) in self.entries.iter() {
+            copied.set(String::from_str(alloc, name.as_str())?, text.copy(alloc)?)?;
+        }
+        Ok(copied)
     }
 
     /// Makes a property absent. An absent one stays absent.

@@ -2,7 +2,7 @@
 use Rattle.std.specs.Prelude.{ℕ, suc, ◌+◌, List, [], ◌∷◌, ◌++◌, Bool, true, false, cond, nat_le, Option, Some, None}
 use Rattle.iso_model.specs.Scripts.{Class, class, Member, class_member, test_member, Members, no_members, member, Script}
 use Rattle.iso_model.specs.declared.limits.TheConstants.{NODES}
-use Rattle.iso_script.specs.Names.{is_among}
+use Rattle.iso_statements.specs.Names.{is_among}
 use Rattle.iso_run.specs.declared.plan.PlanFault.{PlanFault}
 use Rattle.iso_run.specs.declared.plan.PlanFault.TheVariants.{DoubleClass, TooManyNodes}
 

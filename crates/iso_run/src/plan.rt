@@ -1,11 +1,12 @@
 //! What makes a suite no plan.
 ghost use Rattle.std.specs.Prelude.{◌≡◌, ℕ, List, [], ◌∷◌, ◌++◌, ◌-◌, ◌^◌, IfOk, map, min, not};
 ghost use Rattle.iso_model.specs.ScriptView.{class_of, member_of, members_of, script_of};
-ghost use Rattle.iso_script.specs.Names.{Knows, is_among};
+ghost use Rattle.iso_statements.specs.Names.{Knows, is_among};
 ghost use Rattle.iso_run.specs.Plans.{class_nodes, classes_nodes, has_double, member_nodes, plan_fault};
 
 use iso_model::limits::NODES;
 use iso_model::script::{Class, Member, Script};
+use iso_statements::names::claim;
 use std::alloc::{AllocError, Global};
 use std::collections::BTreeSet;
 
@@ -16,14 +17,6 @@ pub enum PlanFault {
     DoubleClass,
     /// More than 4,096 nodes, the root among them.
     TooManyNodes,
-}
-
-/// Adds a name to those seen, and answers whether it is new.
-fn claim<'a>(seen: &mut BTreeSet<&'a str>, name: &'a str) -> Result<bool, AllocError>
-    ensures { (names : List (List ℕ)) → Knows seen.old names
-        → IfOk result (λ fresh. (fresh ≡ not (is_among names name.now)) × Knows seen.new (names ++ name.now ∷ [])) }
-{
-    Ok(seen.insert(name)?)
 }
 
 /// Whether two top-level classes have one name.

@@ -7,25 +7,25 @@ use Rattle.iso_lexer.specs.Piece.{Piece, name_at, word_at}
 use Rattle.iso_lexer.specs.Tokens.{after, after_word}
 use Rattle.iso_lexer.specs.declared.symbol.Symbol.TheVariants.{OpenBrace}
 use Rattle.iso_lexer.specs.declared.word.Word.TheVariants as W
-use Rattle.iso_model.specs.declared.limits.TheConstants.{BODY_DEPTH}
 use Rattle.iso_model.specs.Syntax.{Acts}
 use Rattle.iso_model.specs.Scripts.{class, Member, test_member, Members, no_members}
-use Rattle.iso_script.specs.Grammar.{IsBlock, IsMember, a_test, IsMembers, IsClass, a_class, plain_test, plain_title, names_of}
-use Rattle.iso_script.specs.Pieces.{name_next}
+use Rattle.iso_script.specs.Grammar.{IsMember, a_test, IsMembers, IsClass, a_class, plain_test, plain_title, names_of}
+use Rattle.iso_statements.specs.Pieces.{name_next}
+use Rattle.iso_statements.specs.Statements.{IsBlock}
 use Rattle.iso_lexer.proofs.Afters.{after-Some, after_word-word_at}
-use Rattle.iso_script.proofs.Taken.{named}
+use Rattle.iso_statements.proofs.Taken.{named}
 
-pub is_test : (d : ℕ) (n : List ℕ) (body : Acts) (old ps qs rest : List Piece) → after_word W.Test old ≡ Some ps → name_next ps ≡ Some (n, qs) → IsBlock BODY_DEPTH body qs rest → IsMember d (test_member (plain_test n body)) old rest
+pub is_test : (d : ℕ) (n : List ℕ) (body : Acts) (old ps qs rest : List Piece) → after_word W.Test old ≡ Some ps → name_next ps ≡ Some (n, qs) → IsBlock body qs rest → IsMember d (test_member (plain_test n body)) old rest
 is_test d n body old ps qs rest word name h =
     let s = named W.Test n old ps qs word name in
     subst (λ ps. IsMember d (test_member (plain_test n body)) ps rest) (sym s.2) (a_test h)
 
 -- what a test is made of
-test_parts : {d : ℕ} {m : Member} {old rest : List Piece} → IsMember d m old rest → (n : List ℕ) × (body : Acts) × (r : ℕ) × (q : ℕ) × (ps : List Piece) × (m ≡ test_member (plain_test n body)) × (old ≡ word_at r W.Test ∷ name_at q n ∷ ps) × IsBlock BODY_DEPTH body ps rest
+test_parts : {d : ℕ} {m : Member} {old rest : List Piece} → IsMember d m old rest → (n : List ℕ) × (body : Acts) × (r : ℕ) × (q : ℕ) × (ps : List Piece) × (m ≡ test_member (plain_test n body)) × (old ≡ word_at r W.Test ∷ name_at q n ∷ ps) × IsBlock body ps rest
 test_parts (a_test {r = r} {q = q} {n = n} {body = body} {ps = ps} h) = (n, body, r, q, ps, refl, refl, h)
 
 -- what a test is made of, where its word stands in front
-pub test_named : (d : ℕ) (m : Member) (old ps rest : List Piece) → after_word W.Test old ≡ Some ps → IsMember d m old rest → (n : List ℕ) × (body : Acts) × (qs : List Piece) × (m ≡ test_member (plain_test n body)) × (name_next ps ≡ Some (n, qs)) × IsBlock BODY_DEPTH body qs rest
+pub test_named : (d : ℕ) (m : Member) (old ps rest : List Piece) → after_word W.Test old ≡ Some ps → IsMember d m old rest → (n : List ℕ) × (body : Acts) × (qs : List Piece) × (m ≡ test_member (plain_test n body)) × (name_next ps ≡ Some (n, qs)) × IsBlock body qs rest
 test_named d m old ps rest word h =
     let p = test_parts h in
     let same : Some ps ≡ Some (name_at p.3 p.0 ∷ p.4) = sym word ∙ ap (after_word W.Test) p.6 ∙ after_word-word_at p.2 W.Test (name_at p.3 p.0 ∷ p.4) in
@@ -39,19 +39,19 @@ test_refused d m old rest none h =
     let same : None ≡ Some (name_at p.3 p.0 ∷ p.4) = sym none ∙ ap (after_word W.Test) p.6 ∙ after_word-word_at p.2 W.Test (name_at p.3 p.0 ∷ p.4) in
     cc
 
-pub test_only : (d : ℕ) (n : List ℕ) (body : Acts) (old ps qs rest : List Piece) → after_word W.Test old ≡ Some ps → name_next ps ≡ Some (n, qs) → ((b : Acts) (end : List Piece) → IsBlock BODY_DEPTH b qs end → (body ≡ b) × (rest ≡ end)) → (m : Member) (end : List Piece) → IsMember d m old end → (test_member (plain_test n body) ≡ m) × (rest ≡ end)
+pub test_only : (d : ℕ) (n : List ℕ) (body : Acts) (old ps qs rest : List Piece) → after_word W.Test old ≡ Some ps → name_next ps ≡ Some (n, qs) → ((b : Acts) (end : List Piece) → IsBlock b qs end → (body ≡ b) × (rest ≡ end)) → (m : Member) (end : List Piece) → IsMember d m old end → (test_member (plain_test n body) ≡ m) × (rest ≡ end)
 test_only d n body old ps qs rest word name only m end h =
     let p = test_named d m old ps end word h in
     let same = some_pair_parts n p.0 qs p.2 (sym name ∙ p.4) in
-    let o = only p.1 end (subst (λ qs. IsBlock BODY_DEPTH p.1 qs end) (sym same.1) p.5) in
+    let o = only p.1 end (subst (λ qs. IsBlock p.1 qs end) (sym same.1) p.5) in
     (ap (λ n. test_member (plain_test n body)) same.0 ∙ ap (λ b. test_member (plain_test p.0 b)) o.0 ∙ sym p.3, o.1)
 
 -- no test is read where its block is none
-pub test_refused_at_block : (d : ℕ) (P : Type 0) (n : List ℕ) (old ps qs : List Piece) → after_word W.Test old ≡ Some ps → name_next ps ≡ Some (n, qs) → ((b : Acts) (end : List Piece) → IsBlock BODY_DEPTH b qs end → P) → (m : Member) (end : List Piece) → IsMember d m old end → P
+pub test_refused_at_block : (d : ℕ) (P : Type 0) (n : List ℕ) (old ps qs : List Piece) → after_word W.Test old ≡ Some ps → name_next ps ≡ Some (n, qs) → ((b : Acts) (end : List Piece) → IsBlock b qs end → P) → (m : Member) (end : List Piece) → IsMember d m old end → P
 test_refused_at_block d P n old ps qs word name refused m end h =
     let p = test_named d m old ps end word h in
     let same = some_pair_parts n p.0 qs p.2 (sym name ∙ p.4) in
-    refused p.1 end (subst (λ qs. IsBlock BODY_DEPTH p.1 qs end) (sym same.1) p.5)
+    refused p.1 end (subst (λ qs. IsBlock p.1 qs end) (sym same.1) p.5)
 
 pub is_class : (d : ℕ) (n : List ℕ) (ms : Members) (old ps qs rs rest : List Piece) → after_word W.Class old ≡ Some ps → name_next ps ≡ Some (n, qs) → after OpenBrace qs ≡ Some rs → IsMembers d ms rs rest → IsDistinct bytes_eq (names_of ms) → ms ≢ no_members → IsClass (suc d) (class (plain_title n) ms) old rest
 is_class d n ms old ps qs rs rest word name brace h distinct some =

@@ -1,12 +1,5 @@
-pub mod Small
-pub mod Taken
 pub mod Shorter
 pub mod Views
-pub mod Literals
-pub mod Expressions
-pub mod Statements
-pub mod Bodies
-pub mod Claims
 pub mod Members
 pub mod Classes
 pub mod Scripts

@@ -10,7 +10,7 @@ use Rattle.iso_model.specs.Scripts.{Member, Members, no_members, member}
 use Rattle.iso_model.specs.ScriptView.{members_of}
 use Rattle.iso_script.specs.Grammar.{IsMember, IsMembers, name_of, names_of}
 use Rattle.iso_script.specs.Grammar.IsMembers.{closed, and_then}
-use Rattle.iso_script.specs.Names.{is_among}
+use Rattle.iso_statements.specs.Names.{is_among}
 
 no_symbol : {d r : ℕ} {s : Symbol} {m : Member} {ps qs : List Piece} → IsMember d m (symbol_at r s ∷ ps) qs → ⊥
 no_symbol h = elim h [ ]

@@ -7,8 +7,8 @@ use Rattle.iso_model.specs.declared.limits.TheConstants.{CLASS_DEPTH}
 use Rattle.iso_model.specs.Scripts.{Class}
 use Rattle.iso_script.specs.Grammar.{IsClass, IsClasses, IsScript, a_script}
 use Rattle.iso_script.specs.Grammar.IsClasses.{no_class, and_then}
-use Rattle.iso_script.specs.Pieces.{name_next}
-use Rattle.iso_script.proofs.Taken.{named}
+use Rattle.iso_statements.specs.Pieces.{name_next}
+use Rattle.iso_statements.proofs.Taken.{named}
 use Rattle.iso_script.proofs.Shorter.{class_shorter}
 
 -- these have been read, from first to here

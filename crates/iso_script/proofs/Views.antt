@@ -18,18 +18,6 @@ use Rattle.iso_model.specs.declared.tree.Expr.{Expr}
 use Rattle.iso_model.specs.declared.tree.Expr as E
 use Rattle.iso_model.specs.declared.tree.Form as F
 
-pub term_of-literal : (x : Data) → term_of (E.Literal x) ≡ literal x
-term_of-literal x = search (rules, E.the_lemmas)
-
-pub form_of-print : (e : Expr) → form_of (F.Print e) ≡ plain (print (term_of e))
-form_of-print e = search (rules, F.the_lemmas)
-
-pub form_of-assert_equal : (e f : Expr) → form_of (F.AssertEqual e f) ≡ plain (assert_equal (term_of e) (term_of f))
-form_of-assert_equal e f = search (rules, F.the_lemmas)
-
-pub stmt_of-parts : (row : ℕ) (f : Form) → stmt_of (roll-Stmt (record { row = row; form = f })) ≡ (row, form_of f)
-stmt_of-parts row f = search (rules, F.the_lemmas)
-
 pub member_of-test : (t : Test) → member_of (M.Test t) ≡ test_member (test_of t)
 member_of-test t = search (rules, M.the_lemmas)
 

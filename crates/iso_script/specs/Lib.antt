@@ -1,4 +1,1 @@
-pub mod Faults
 pub mod Grammar
-pub mod Names
-pub mod Pieces

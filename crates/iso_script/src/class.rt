@@ -6,93 +6,94 @@ ghost use Rattle.iso_lexer.specs.Piece.{Piece};
 ghost use Rattle.iso_model.specs.Scripts as S;
 ghost use Rattle.iso_model.specs.ScriptView.{class_of, member_of, members_of};
 ghost use Rattle.iso_model.specs.declared.limits.TheConstants.{CLASS_DEPTH};
-ghost use Rattle.iso_script.specs.Faults.{IsMemory};
+ghost use Rattle.iso_statements.specs.Faults.{IsMemory};
 ghost use Rattle.iso_script.specs.Grammar.{IsClass, IsMember, IsMembers, name_of, names_of};
-ghost use Rattle.iso_script.specs.Names.{Knows, is_among};
+ghost use Rattle.iso_statements.specs.Names.{Knows, is_among};
 
-use crate::fault::{ScriptError, ScriptFaultKind};
-use crate::parser::Parser;
 use iso_lexer::symbol::Symbol;
 use iso_lexer::word::Word;
 use iso_model::heads::{ClassHead, TestHead};
 use iso_model::script::{Class, Member, Test};
 use iso_model::text::Text;
+use iso_statements::fault::{ScriptError, ScriptFaultKind};
+use iso_statements::parser::Parser;
 use std::alloc::Global;
 use std::collections::BTreeSet;
 use std::sync::Arc;
 
-impl<'a> Parser<'a> {
-    /// A top-level class.
-    pub(crate) fn class(&mut self) -> Result<Class, ScriptError>
-        ensures found { IfOk result (λ c. IsClass CLASS_DEPTH (class_of c) self.old.lexer self.new.lexer) }
-        ensures only { (c : S.Class) (rest : List Piece) → IsClass CLASS_DEPTH c self.old.lexer rest
-            → MatchResult result (λ v. (class_of v ≡ c) × (self.new.lexer ≡ rest)) IsMemory }
-    {
-        self.expect_word(Word::Class)?;
-        let name = self.name()?;
-        self.expect(Symbol::OpenBrace)?;
-        let members = self.members()?;
-        Ok(Class {
-            name: Text::copied(self.alloc, name)?,
-            display: None,
-            mode: None,
-            isolated: false,
-            head: Arc::new(self.alloc, empty_head(self.alloc))?,
-            members,
-        })
-    }
+/// A top-level class.
+pub(crate) fn class(parser: &mut Parser<'_>) -> Result<Class, ScriptError>
+    ensures found { IfOk result (λ c. IsClass CLASS_DEPTH (class_of c) parser.old.lexer parser.new.lexer) }
+    ensures only { (c : S.Class) (rest : List Piece) → IsClass CLASS_DEPTH c parser.old.lexer rest
+        → MatchResult result (λ v. (class_of v ≡ c) × (parser.new.lexer ≡ rest)) IsMemory }
+{
+    parser.expect_word(Word::Class)?;
+    let name = parser.name()?;
+    parser.expect(Symbol::OpenBrace)?;
+    let members = members(parser)?;
+    Ok(Class {
+        name: Text::copied(parser.alloc, name)?,
+        display: None,
+        mode: None,
+        isolated: false,
+        head: Arc::new(parser.alloc, empty_head(parser.alloc))?,
+        members,
+    })
+}
 
-    /// The members of a class up to its closing brace: one at least, of distinct names.
-    fn members(&mut self) -> Result<Vec<Member>, ScriptError>
-        ensures found { (d : ℕ)
-            → IfOk result (λ v. IsMembers d (members_of (map member_of v.items)) self.old.lexer self.new.lexer) }
-        ensures distinct { IfOk result
-            (λ v. IsDistinct bytes_eq (names_of (members_of (map member_of v.items)))) }
-        ensures some { IfOk result (λ v. members_of (map member_of v.items) ≢ S.no_members) }
-        ensures only { (d : ℕ) (ms : S.Members) (rest : List Piece) → IsMembers d ms self.old.lexer rest
-            → IsDistinct bytes_eq (names_of ms) → ms ≢ S.no_members
-            → MatchResult result
-            (λ v. (members_of (map member_of v.items) ≡ ms) × (self.new.lexer ≡ rest)) IsMemory }
-    {
-        let mut seen = BTreeSet::new(self.alloc);
-        let mut members = Vec::new(self.alloc);
-        'members: while !self.is_at(Symbol::CloseBrace) {
-            members.push(self.member(&mut seen)?)?;
-        }
-        if members.is_empty() {
-            return Err(self.fault_here(ScriptFaultKind::EmptyClass));
-        }
-        self.lexer.advance();
-        Ok(members)
+/// The members of a class up to its closing brace: one at least, of distinct names.
+fn members(parser: &mut Parser<'_>) -> Result<Vec<Member>, ScriptError>
+    ensures found { (d : ℕ)
+        → IfOk result (λ v. IsMembers d (members_of (map member_of v.items)) parser.old.lexer parser.new.lexer) }
+    ensures distinct { IfOk result
+        (λ v. IsDistinct bytes_eq (names_of (members_of (map member_of v.items)))) }
+    ensures some { IfOk result (λ v. members_of (map member_of v.items) ≢ S.no_members) }
+    ensures only { (d : ℕ) (ms : S.Members) (rest : List Piece) → IsMembers d ms parser.old.lexer rest
+        → IsDistinct bytes_eq (names_of ms) → ms ≢ S.no_members
+        → MatchResult result
+        (λ v. (members_of (map member_of v.items) ≡ ms) × (parser.new.lexer ≡ rest)) IsMemory }
+{
+    let mut seen = BTreeSet::new(parser.alloc);
+    let mut members = Vec::new(parser.alloc);
+    'members: while !parser.is_at(Symbol::CloseBrace) {
+        members.push(member(parser, &mut seen)?)?;
     }
+    if members.is_empty() {
+        return Err(parser.fault_here(ScriptFaultKind::EmptyClass));
+    }
+    parser.lexer.advance();
+    Ok(members)
+}
 
-    /// A member of a class, whose name is none of those seen.
-    fn member(&mut self, seen: &mut BTreeSet<&'a str>) -> Result<Member, ScriptError>
-        ensures found { (d : ℕ) → IfOk result (λ m. IsMember d (member_of m) self.old.lexer self.new.lexer) }
-        ensures fresh { (names : List (List ℕ)) → Knows seen.old names
-            → IfOk result (λ m. (is_among names (name_of (member_of m)) ≡ false)
-            × Knows seen.new (names ++ name_of (member_of m) ∷ [])) }
-        ensures only { (names : List (List ℕ)) → Knows seen.old names
-            → (d : ℕ) (m : S.Member) (rest : List Piece) → IsMember d m self.old.lexer rest
-            → is_among names (name_of m) ≡ false
-            → MatchResult result (λ v. (member_of v ≡ m) × (self.new.lexer ≡ rest)) IsMemory }
-    {
-        self.expect_word(Word::Test)?;
-        let name = self.new_name(seen)?;
-        let body = self.block()?;
-        Ok(Member::Test(Test {
-            name: Text::copied(self.alloc, name)?,
-            display: None,
-            mode: None,
-            head: Arc::new(
-                self.alloc,
-                TestHead {
-                    marks: Vec::new(self.alloc),
-                    body,
-                },
-            )?,
-        }))
-    }
+/// A member of a class, whose name is none of those seen.
+fn member<'a>(
+    parser: &mut Parser<'a>,
+    seen: &mut BTreeSet<&'a str>,
+) -> Result<Member, ScriptError>
+    ensures found { (d : ℕ) → IfOk result (λ m. IsMember d (member_of m) parser.old.lexer parser.new.lexer) }
+    ensures fresh { (names : List (List ℕ)) → Knows seen.old names
+        → IfOk result (λ m. (is_among names (name_of (member_of m)) ≡ false)
+        × Knows seen.new (names ++ name_of (member_of m) ∷ [])) }
+    ensures only { (names : List (List ℕ)) → Knows seen.old names
+        → (d : ℕ) (m : S.Member) (rest : List Piece) → IsMember d m parser.old.lexer rest
+        → is_among names (name_of m) ≡ false
+        → MatchResult result (λ v. (member_of v ≡ m) × (parser.new.lexer ≡ rest)) IsMemory }
+{
+    parser.expect_word(Word::Test)?;
+    let name = parser.new_name(seen, ScriptFaultKind::DoubleMember)?;
+    let body = parser.block()?;
+    Ok(Member::Test(Test {
+        name: Text::copied(parser.alloc, name)?,
+        display: None,
+        mode: None,
+        head: Arc::new(
+            parser.alloc,
+            TestHead {
+                marks: Vec::new(parser.alloc),
+                body,
+            },
+        )?,
+    }))
 }
 
 /// What a class without marks, statics, fields and blocks gives to its tests.

@@ -2,10 +2,6 @@
 #![tactic(auto)]
 
 mod class;
-mod expression;
 pub mod fault;
 pub mod laws;
-mod names;
-mod parser;
 pub mod reader;
-mod statement;

@@ -4,16 +4,17 @@ ghost use Rattle.iso_lexer.specs.Piece.{Piece};
 ghost use Rattle.iso_model.specs.Scripts as S;
 ghost use Rattle.iso_model.specs.ScriptView.{class_of, script_of};
 ghost use Rattle.iso_model.specs.declared.limits.TheConstants.{FILE_BYTES};
-ghost use Rattle.iso_script.specs.Faults.{IsMemory};
+ghost use Rattle.iso_statements.specs.Faults.{IsMemory};
 ghost use Rattle.iso_script.specs.Grammar.{IsClasses, IsScript, Reads};
 
-use crate::fault::{ScriptError, ScriptFaultKind};
-use crate::parser::Parser;
+use crate::class::class;
 use iso_lexer::token::Place;
 use iso_lexer::word::Word;
 use iso_model::limits::FILE_BYTES;
 use iso_model::script::{Class, Script};
 use iso_model::text::Text;
+use iso_statements::fault::{ScriptError, ScriptFaultKind};
+use iso_statements::parser::Parser;
 use std::alloc::Global;
 
 /// Reads a script of at most 1,048,576 bytes: the name of a team, and its top-level classes in order. The tree
@@ -37,35 +38,34 @@ pub fn read_script(alloc: Global, bytes: &[u8]) -> Result<Script, ScriptError>
         let start = Place { line: 1, column: 1 };
         return Err(ScriptError::fault(ScriptFaultKind::TooLong, start));
     }
-    Parser::new(alloc, bytes).script()
+    let mut parser = Parser::new(alloc, bytes);
+    script(&mut parser)
 }
 
-impl Parser<'_> {
-    /// A script, up to the end.
-    fn script(&mut self) -> Result<Script, ScriptError>
-        ensures found { IfOk result (λ s. IsScript (script_of s) self.old.lexer) }
-        ensures only { (s : S.Script) → IsScript s self.old.lexer
-            → MatchResult result (λ v. script_of v ≡ s) IsMemory }
-    {
-        self.expect_word(Word::Team)?;
-        let name = self.name()?;
-        let classes = self.classes()?;
-        Ok(Script {
-            team: Text::copied(self.alloc, name)?,
-            classes,
-        })
-    }
+/// A script, up to the end.
+fn script(parser: &mut Parser<'_>) -> Result<Script, ScriptError>
+    ensures found { IfOk result (λ s. IsScript (script_of s) parser.old.lexer) }
+    ensures only { (s : S.Script) → IsScript s parser.old.lexer
+        → MatchResult result (λ v. script_of v ≡ s) IsMemory }
+{
+    parser.expect_word(Word::Team)?;
+    let name = parser.name()?;
+    let classes = classes(parser)?;
+    Ok(Script {
+        team: Text::copied(parser.alloc, name)?,
+        classes,
+    })
+}
 
-    /// Classes, up to the end.
-    fn classes(&mut self) -> Result<Vec<Class>, ScriptError>
-        ensures found { IfOk result (λ v. IsClasses (map class_of v.items) self.old.lexer) }
-        ensures only { (cs : List S.Class) → IsClasses cs self.old.lexer
-            → MatchResult result (λ v. map class_of v.items ≡ cs) IsMemory }
-    {
-        let mut classes = Vec::new(self.alloc);
-        'classes: while !self.is_at_end() {
-            classes.push(self.class()?)?;
-        }
-        Ok(classes)
+/// Classes, up to the end.
+fn classes(parser: &mut Parser<'_>) -> Result<Vec<Class>, ScriptError>
+    ensures found { IfOk result (λ v. IsClasses (map class_of v.items) parser.old.lexer) }
+    ensures only { (cs : List S.Class) → IsClasses cs parser.old.lexer
+        → MatchResult result (λ v. map class_of v.items ≡ cs) IsMemory }
+{
+    let mut classes = Vec::new(parser.alloc);
+    'classes: while !parser.is_at_end() {
+        classes.push(class(parser)?)?;
     }
+    Ok(classes)
 }

@@ -1,4 +1,10 @@
-//! Settings of a run.
+//! What steers a run: settings by JUnit 5's configuration parameters, and the values that resources start with.
+//! Both are TOML.
 #![tactic(auto)]
 
+pub mod fault;
+mod find;
+mod rules;
 pub mod settings;
+mod table;
+pub mod world;

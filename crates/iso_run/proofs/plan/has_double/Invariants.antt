@@ -1,6 +1,6 @@
 use Rattle.std.proofs.Common.{◌≡◌, [], map, drop, take}
 use Rattle.iso_model.specs.ScriptView.{class_of}
-use Rattle.iso_script.specs.Names.{Knows}
+use Rattle.iso_statements.specs.Names.{Knows}
 use Rattle.iso_run.specs.Plans.{class_name, has_double}
 use Rattle.iso_run.proofs.plan.has_double.Given as goal
 

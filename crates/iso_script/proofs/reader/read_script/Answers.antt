@@ -4,4 +4,4 @@ use Rattle.iso_script.specs.Grammar.{IsScript}
 use Rattle.iso_script.proofs.reader.read_script.Goals as goal
 
 pub returns-clause-only : goal.returns-clause-only
-returns-clause-only c = λ s reads. c.script.ensures.only s (subst (IsScript s) (one_list reads.spelled c.new.ensures) reads.read)
+returns-clause-only c = λ s reads. c.script.ensures.only s (subst (IsScript s) (one_list reads.spelled c.new-parser.ensures) reads.read)

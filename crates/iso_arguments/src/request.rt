@@ -1,0 +1,120 @@
+//! What the words of a command line ask for.
+ghost use Rattle.std.specs.Prelude.{◌≡◌, [], None, IfOk};
+ghost use Rattle.iso_arguments.specs.Requests.{AsksForSomeProcessors, IsCount};
+
+use crate::options::command_line;
+use clap::error::ErrorKind;
+use clap::{ArgMatches, Error};
+use std::alloc::{AllocError, Global};
+
+/// The files that a run or a plan is made of, as the words name them.
+#[derive(Drop)]
+pub struct InputFiles<'a> {
+    pub settings: Option<&'a str>,
+    pub world: Option<&'a str>,
+    /// In the order of the words. None: one script is read from standard input.
+    pub scripts: Vec<&'a str>,
+    /// 1 to 1024.
+    pub processors: u32,
+}
+
+impl<'a> InputFiles<'a> {
+    /// No file, and one processor: a script is read from standard input.
+    pub fn none(alloc: Global) -> InputFiles<'a>
+        ensures names { (result.settings ≡ None) × (result.world ≡ None) × (result.scripts.items ≡ []) }
+        ensures processors { result.processors ≡ 1 }
+    {
+        InputFiles {
+            settings: None,
+            world: None,
+            scripts: Vec::new(alloc),
+            processors: 1,
+        }
+    }
+}
+
+/// What is asked for.
+#[derive(Drop)]
+pub enum Request<'a> {
+    /// A run and its report; `serial` on one thread.
+    Run { serial: bool, files: InputFiles<'a> },
+    /// The printed plan.
+    Plan(InputFiles<'a>),
+    /// A text for standard output: a help page or the version.
+    Show(String),
+}
+
+/// Why words ask for nothing.
+#[derive(Drop)]
+pub enum WordsFault {
+    /// They aren't those of `jtap`. The text, which ends in a line feed, says what is wrong.
+    Refused(String),
+    OutOfMemory,
+}
+
+impl From<AllocError> for WordsFault {
+    fn from(_error: AllocError) -> WordsFault {
+        WordsFault::OutOfMemory
+    }
+}
+
+/// Reads the words after the program's name. No word at all is `run`.
+///
+/// A request for help or the version is `Show`. Words that `jtap` doesn't have are `Refused`, with
+/// the text that says which.
+pub fn read_words<'a>(alloc: Global, words: &'a [String]) -> Result<Request<'a>, WordsFault>
+    ensures processors { IfOk result AsksForSomeProcessors }
+{
+    let command = match command_line(alloc) {
+        Ok(command) => command,
+        Err(error) => return shown(alloc, &error),
+    };
+    match command.try_get_matches_from(words) {
+        Ok(matches) => requested(alloc, &matches),
+        Err(error) => shown(alloc, &error),
+    }
+}
+
+/// What an error of `clap` comes to: help and the version are no faults.
+fn shown<'a>(alloc: Global, error: &Error) -> Result<Request<'a>, WordsFault>
+    ensures processors { IfOk result AsksForSomeProcessors }
+{
+    match error.kind() {
+        ErrorKind::OutOfMemory => Err(WordsFault::OutOfMemory),
+        ErrorKind::DisplayHelp | ErrorKind::DisplayVersion => {
+            Ok(Request::Show(format!(in alloc; "{error}")?))
+        }
+        _ => Err(WordsFault::Refused(format!(in alloc; "{error}")?)),
+    }
+}
+
+/// What words that were matched ask for.
+fn requested<'a>(alloc: Global, matches: &ArgMatches<'a>) -> Result<Request<'a>, WordsFault>
+    ensures processors { IfOk result AsksForSomeProcessors }
+{
+    match matches.subcommand() {
+        Some(("plan", found)) => Ok(Request::Plan(files_of(alloc, found)?)),
+        Some((_, found)) => Ok(Request::Run {
+            serial: found.get_flag("serial"),
+            files: files_of(alloc, found)?,
+        }),
+        None => Ok(Request::Run {
+            serial: false,
+            files: InputFiles::none(alloc),
+        }),
+    }
+}
+
+/// The files that a subcommand names.
+fn files_of<'a>(alloc: Global, found: &ArgMatches<'a>) -> Result<InputFiles<'a>, AllocError>
+    ensures processors { IfOk result (λ f. IsCount f.processors) }
+{
+    let mut files = InputFiles::none(alloc);
+    files.settings = found.get_str("settings");
+    files.world = found.get_str("world");
+    files.processors = found.get_one::<u32>("processors").unwrap_or(1).clamp(1, 1024);
+    if let Some(scripts) = found.get_strs("scripts") {
+        files.scripts.extend_from_slice(scripts)?;
+    }
+    Ok(files)
+}

@@ -1,0 +1,4 @@
+mod Blocks
+mod Displays
+mod Marks
+mod Readings

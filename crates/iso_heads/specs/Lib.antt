@@ -1,0 +1,4 @@
+pub mod Readings
+pub mod Marks
+pub mod Displays
+pub mod Blocks

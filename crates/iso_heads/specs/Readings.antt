@@ -1,0 +1,14 @@
+-- What is read item after item, and what the word that is next means.
+use Rattle.std.specs.Prelude.{List, [], ◌∷◌, ◌≡◌, Option, None}
+use Rattle.iso_lexer.specs.Piece.{Piece, word_at}
+use Rattle.iso_lexer.specs.declared.word.Word.{Word}
+
+-- these items are read one after another
+abbrev pub AreRead : {W : Type 0} → (W → List Piece → List Piece → Type 0) → List W → List Piece → List Piece → Type 0
+AreRead Is [] ps qs = ps ≡ qs
+AreRead Is (w ∷ ws) ps rs = (qs : List Piece) × Is w ps qs × AreRead Is ws qs rs
+
+-- what the word that is next means, if a word is next and means anything
+abbrev pub meant_next : {A : Type 0} → (Word → Option A) → List Piece → Option A
+meant_next meaning (word_at r w ∷ ps) = meaning w
+meant_next meaning _ = None

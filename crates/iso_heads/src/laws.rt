@@ -1,0 +1,22 @@
+//! Laws of the rules, each a function whose contract it is.
+ghost use Rattle.std.specs.Prelude.{◌≡◌, ℕ, List, Option};
+ghost use Rattle.iso_heads.specs.Blocks.{Blocks, IsBlocks};
+ghost use Rattle.iso_heads.specs.Displays.{IsDisplayed};
+ghost use Rattle.iso_heads.specs.Marks.{IsMarks, Marks};
+ghost use Rattle.iso_lexer.specs.Piece.{Piece};
+
+/// Pieces are the marks of one class or test at most, and what follows them.
+pub fn marks_are_unique()
+    ensures { (a b : Marks) (ps qs rs : List Piece) → IsMarks a ps qs → IsMarks b ps rs → (a ≡ b) × (qs ≡ rs) }
+{}
+
+/// Pieces are one display text at most, or none, and what follows it.
+pub fn display_texts_are_unique()
+    ensures { (a b : Option (List ℕ)) (ps qs rs : List Piece) → IsDisplayed a ps qs → IsDisplayed b ps rs
+        → (a ≡ b) × (qs ≡ rs) }
+{}
+
+/// Pieces are the lifecycle blocks of one class at most, and what follows them.
+pub fn blocks_are_unique()
+    ensures { (a b : Blocks) (ps qs rs : List Piece) → IsBlocks a ps qs → IsBlocks b ps rs → (a ≡ b) × (qs ≡ rs) }
+{}

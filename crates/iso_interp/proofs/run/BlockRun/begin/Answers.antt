@@ -1,0 +1,55 @@
+use Rattle.std.proofs.Common.{◌∙◌, sym, ap, ap₂, List}
+use Rattle.iso_model.specs.Syntax as S
+use Rattle.iso_model.specs.SyntaxView.{term_of, block_of}
+use Rattle.iso_model.specs.declared.tree.Stmt.{Stmt}
+use Rattle.iso_interp.specs.Runs.{pieces_of, run_rights, state_of}
+use Rattle.iso_interp.proofs.Forms.{begun-as, begun-plain, same-pieces, stmt_of-let, stmt_of-assign, stmt_of-print, stmt_of-assert, stmt_of-assert_equal, stmt_of-assume, stmt_of-set_prop, stmt_of-clear_prop, stmt_of-set_locale, stmt_of-write_file, stmt_of-append_file, stmt_of-delete_file, stmt_of-if, stmt_of-repeat}
+use Rattle.iso_interp.proofs.run.BlockRun.begin.Goals as goal
+
+pub returns-in-Let-clause-begun : goal.returns-in-Let-clause-begun
+returns-in-Let-clause-begun g c = begun-plain c.let_name.result (run_rights c.args.self.now) c.args.statement.now (S.let_name c.in-Let.name (term_of c.in-Let.value)) (state_of c.args.self.now (g.T.Touch.content c.args.touch.now)) (state_of c.let_name.new.self (g.T.Touch.content c.args.touch.now)) (pieces_of c.args.self.now) (pieces_of c.let_name.new.self) (stmt_of-let c.args.statement.now _ _ c.in-Let.is) (same-pieces c.args.self.now c.let_name.new.self c.let_name.ensures.work) c.let_name.ensures.done
+
+pub returns-in-Assign-clause-begun : goal.returns-in-Assign-clause-begun
+returns-in-Assign-clause-begun g c = begun-plain c.assign.result (run_rights c.args.self.now) c.args.statement.now (S.assign c.in-Assign.name (term_of c.in-Assign.value)) (state_of c.args.self.now (g.T.Touch.content c.args.touch.now)) (state_of c.assign.new.self (g.T.Touch.content c.args.touch.now)) (pieces_of c.args.self.now) (pieces_of c.assign.new.self) (stmt_of-assign c.args.statement.now _ _ c.in-Assign.is) (same-pieces c.args.self.now c.assign.new.self c.assign.ensures.work) c.assign.ensures.done
+
+pub returns-in-Print-clause-begun : goal.returns-in-Print-clause-begun
+returns-in-Print-clause-begun g c = begun-plain c.print.result (run_rights c.args.self.now) c.args.statement.now (S.print (term_of c.in-Print.value)) (state_of c.args.self.now (g.T.Touch.content c.args.touch.now)) (state_of c.print.new.self (g.T.Touch.content c.args.touch.now)) (pieces_of c.args.self.now) (pieces_of c.print.new.self) (stmt_of-print c.args.statement.now _ c.in-Print.is) (same-pieces c.args.self.now c.print.new.self c.print.ensures.work) c.print.ensures.done
+
+pub returns-in-Assert-clause-begun : goal.returns-in-Assert-clause-begun
+returns-in-Assert-clause-begun g c = begun-plain c.assert.result (run_rights c.args.self.now) c.args.statement.now (S.assert (term_of c.in-Assert.condition)) (state_of c.args.self.now (g.T.Touch.content c.args.touch.now)) (state_of c.assert.new.self (g.T.Touch.content c.args.touch.now)) (pieces_of c.args.self.now) (pieces_of c.assert.new.self) (stmt_of-assert c.args.statement.now _ c.in-Assert.is) (same-pieces c.args.self.now c.assert.new.self c.assert.ensures.work) c.assert.ensures.done
+
+pub returns-in-AssertEqual-clause-begun : goal.returns-in-AssertEqual-clause-begun
+returns-in-AssertEqual-clause-begun g c = begun-plain c.assert_equal.result (run_rights c.args.self.now) c.args.statement.now (S.assert_equal (term_of c.in-AssertEqual.expected) (term_of c.in-AssertEqual.actual)) (state_of c.args.self.now (g.T.Touch.content c.args.touch.now)) (state_of c.assert_equal.new.self (g.T.Touch.content c.args.touch.now)) (pieces_of c.args.self.now) (pieces_of c.assert_equal.new.self) (stmt_of-assert_equal c.args.statement.now _ _ c.in-AssertEqual.is) (same-pieces c.args.self.now c.assert_equal.new.self c.assert_equal.ensures.work) c.assert_equal.ensures.done
+
+pub returns-in-Assume-clause-begun : goal.returns-in-Assume-clause-begun
+returns-in-Assume-clause-begun g c = begun-plain c.assume.result (run_rights c.args.self.now) c.args.statement.now (S.assume (term_of c.in-Assume.condition) c.in-Assume.reason) (state_of c.args.self.now (g.T.Touch.content c.args.touch.now)) (state_of c.assume.new.self (g.T.Touch.content c.args.touch.now)) (pieces_of c.args.self.now) (pieces_of c.assume.new.self) (stmt_of-assume c.args.statement.now _ _ c.in-Assume.is) (same-pieces c.args.self.now c.assume.new.self c.assume.ensures.work) c.assume.ensures.done
+
+pub returns-in-SetProp-clause-begun : goal.returns-in-SetProp-clause-begun
+returns-in-SetProp-clause-begun g c = begun-plain c.set_prop.result (run_rights c.args.self.now) c.args.statement.now (S.set_prop (term_of c.in-SetProp.name) (term_of c.in-SetProp.text)) (state_of c.args.self.now (g.T.Touch.content c.args.touch.now)) (state_of c.set_prop.new.self (g.T.Touch.content c.set_prop.new.touch)) (pieces_of c.args.self.now) (pieces_of c.set_prop.new.self) (stmt_of-set_prop c.args.statement.now _ _ c.in-SetProp.is) (same-pieces c.args.self.now c.set_prop.new.self c.set_prop.ensures.work) c.set_prop.ensures.done
+
+pub returns-in-ClearProp-clause-begun : goal.returns-in-ClearProp-clause-begun
+returns-in-ClearProp-clause-begun g c = begun-plain c.clear_prop.result (run_rights c.args.self.now) c.args.statement.now (S.clear_prop (term_of c.in-ClearProp.name)) (state_of c.args.self.now (g.T.Touch.content c.args.touch.now)) (state_of c.clear_prop.new.self (g.T.Touch.content c.clear_prop.new.touch)) (pieces_of c.args.self.now) (pieces_of c.clear_prop.new.self) (stmt_of-clear_prop c.args.statement.now _ c.in-ClearProp.is) (same-pieces c.args.self.now c.clear_prop.new.self c.clear_prop.ensures.work) c.clear_prop.ensures.done
+
+pub returns-in-SetLocale-clause-begun : goal.returns-in-SetLocale-clause-begun
+returns-in-SetLocale-clause-begun g c = begun-plain c.set_locale.result (run_rights c.args.self.now) c.args.statement.now (S.set_locale (term_of c.in-SetLocale.text)) (state_of c.args.self.now (g.T.Touch.content c.args.touch.now)) (state_of c.set_locale.new.self (g.T.Touch.content c.set_locale.new.touch)) (pieces_of c.args.self.now) (pieces_of c.set_locale.new.self) (stmt_of-set_locale c.args.statement.now _ c.in-SetLocale.is) (same-pieces c.args.self.now c.set_locale.new.self c.set_locale.ensures.work) c.set_locale.ensures.done
+
+pub returns-in-WriteFile-clause-begun : goal.returns-in-WriteFile-clause-begun
+returns-in-WriteFile-clause-begun g c = begun-plain c.write_file.result (run_rights c.args.self.now) c.args.statement.now (S.write_file (term_of c.in-WriteFile.path) (term_of c.in-WriteFile.text)) (state_of c.args.self.now (g.T.Touch.content c.args.touch.now)) (state_of c.write_file.new.self (g.T.Touch.content c.write_file.new.touch)) (pieces_of c.args.self.now) (pieces_of c.write_file.new.self) (stmt_of-write_file c.args.statement.now _ _ c.in-WriteFile.is) (same-pieces c.args.self.now c.write_file.new.self c.write_file.ensures.work) c.write_file.ensures.done
+
+pub returns-in-AppendFile-clause-begun : goal.returns-in-AppendFile-clause-begun
+returns-in-AppendFile-clause-begun g c = begun-plain c.append_file.result (run_rights c.args.self.now) c.args.statement.now (S.append_file (term_of c.in-AppendFile.path) (term_of c.in-AppendFile.text)) (state_of c.args.self.now (g.T.Touch.content c.args.touch.now)) (state_of c.append_file.new.self (g.T.Touch.content c.append_file.new.touch)) (pieces_of c.args.self.now) (pieces_of c.append_file.new.self) (stmt_of-append_file c.args.statement.now _ _ c.in-AppendFile.is) (same-pieces c.args.self.now c.append_file.new.self c.append_file.ensures.work) c.append_file.ensures.done
+
+pub returns-in-DeleteFile-clause-begun : goal.returns-in-DeleteFile-clause-begun
+returns-in-DeleteFile-clause-begun g c = begun-plain c.delete_file.result (run_rights c.args.self.now) c.args.statement.now (S.delete_file (term_of c.in-DeleteFile.path)) (state_of c.args.self.now (g.T.Touch.content c.args.touch.now)) (state_of c.delete_file.new.self (g.T.Touch.content c.delete_file.new.touch)) (pieces_of c.args.self.now) (pieces_of c.delete_file.new.self) (stmt_of-delete_file c.args.statement.now _ c.in-DeleteFile.is) (same-pieces c.args.self.now c.delete_file.new.self c.delete_file.ensures.work) c.delete_file.ensures.done
+
+pub returns-in-If-clause-begun : goal.returns-in-If-clause-begun
+returns-in-If-clause-begun g c =
+    let s = c.args.statement.now in
+    let is = stmt_of-if s _ _ _ c.in-If.is ∙ ap₂ (λ (a b : List Stmt). (s.row, S.choice (term_of c.in-If.condition) (block_of a) (block_of b))) (sym c.deref.ensures.value) (sym c.deref-in-If.ensures.value) in
+    begun-as c.choose.result (run_rights c.args.self.now) s (S.choice (term_of c.in-If.condition) (block_of c.deref.result.now) (block_of c.deref-in-If.result.now)) (state_of c.args.self.now (g.T.Touch.content c.args.touch.now)) (state_of c.choose.new.self (g.T.Touch.content c.args.touch.now)) (pieces_of c.args.self.now) (pieces_of c.choose.new.self) is c.choose.ensures.begun
+
+pub returns-in-Repeat-clause-begun : goal.returns-in-Repeat-clause-begun
+returns-in-Repeat-clause-begun g c =
+    let s = c.args.statement.now in
+    let is = stmt_of-repeat s _ _ c.in-Repeat.is ∙ ap (λ (a : List Stmt). (s.row, S.repeat (term_of c.in-Repeat.count) (block_of a))) (sym c.deref-in-Repeat.ensures.value) in
+    begun-as c.repeat.result (run_rights c.args.self.now) s (S.repeat (term_of c.in-Repeat.count) (block_of c.deref-in-Repeat.result.now)) (state_of c.args.self.now (g.T.Touch.content c.args.touch.now)) (state_of c.repeat.new.self (g.T.Touch.content c.args.touch.now)) (pieces_of c.args.self.now) (pieces_of c.repeat.new.self) is c.repeat.ensures.begun

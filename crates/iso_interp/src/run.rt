@@ -1,0 +1,369 @@
+//! A run of a block, one step at a time: the pieces that are still to be done stand on a stack, and
+//! a step does the first.
+ghost use Rattle.std.specs.Prelude.{◌≡◌, ◌∷◌, [], true, None, OnOk, IfOk};
+ghost use Rattle.iso_model.specs.declared.limits.TheConstants.{BLOCK_STEPS};
+
+mod assertions;
+mod control;
+mod resources;
+mod values;
+
+use crate::expression::evaluate;
+use crate::value::{Given, TextValue, as_count, as_flag, as_text, as_texts};
+use iso_model::fault::{Fault, FaultKind};
+use iso_model::lines::Lines;
+use iso_model::names::Names;
+use iso_model::outcome::{Ending, Note};
+use iso_model::place::Place;
+use iso_model::rights::Rights;
+use iso_model::text::Text;
+use iso_model::touch::Touch;
+use iso_model::tree::{Expr, Stmt};
+use std::alloc::{AllocError, Global};
+
+/// An environment with all the steps of a block left.
+fn restarted(names: Names) -> Names
+    ensures { result ≡ record names { steps = BLOCK_STEPS } }
+{
+    let printed = names.printed();
+    let block = names.block();
+    Names::new(names.into_bindings(), printed, block)
+}
+
+/// A piece of work, borrowed from the block.
+#[derive(Clone, Copy)]
+enum Pending<'a> {
+    /// The rest of a body, after which so many names are kept.
+    Rest(usize, &'a [Stmt]),
+    /// The turns that are left of a `repeat`, with its row and its body.
+    Turning(u32, u64, &'a [Stmt]),
+}
+
+/// Whether something is left to do.
+#[derive(Clone, Copy, PartialEq, Eq)]
+pub enum Progress {
+    More,
+    Ended,
+}
+
+/// What an ended block leaves: its ending, the lines that it printed, and its environment, which
+/// has the names that it began with.
+#[derive(Drop)]
+pub struct BlockEnd {
+    pub ending: Ending,
+    pub output: Lines,
+    pub names: Names,
+}
+
+/// A run of a block (JUnit 5, a method of a test's life cycle), one step at a time.
+/// After want of memory it is only to be dropped.
+#[derive(Drop)]
+pub struct BlockRun<'a> {
+    alloc: Global,
+    rights: &'a Rights,
+    names: Names,
+    lines: Vec<Text>,
+    ending: Ending,
+    before: usize,
+    top: Option<Pending<'a>>,
+    below: Vec<Pending<'a>>,
+    ghost stacked: { top ≡ None → below.items ≡ [] },
+}
+
+impl<'a> BlockRun<'a> {
+    ghost use Rattle.std.specs.Prelude.{ℕ, List, take, length, ◌++◌};
+    ghost use Rattle.iso_model.specs.Evaluation.{then};
+    ghost use Rattle.iso_model.specs.Rights.{access_in};
+    ghost use Rattle.iso_model.specs.Statements.{count_value, flag_value, is_well, note, text_value, text_values, value, with_ending, with_names};
+    ghost use Rattle.iso_model.specs.Steps.{begin, first_point, followed_by, is_done, leave_done, machine, next_point, point, rest as rest_of, step, step_at, turning};
+    ghost use Rattle.iso_model.specs.SyntaxView.{block_of, stmt_of, term_of};
+    ghost use Rattle.iso_model.specs.Texts.{fault_message, kind_of, out_of_steps_message};
+    ghost use Rattle.iso_model.specs.Touch.{HasKeys};
+    ghost use Rattle.iso_model.specs.declared.fault.FaultKind.TheVariants as FaultKinds;
+    ghost use Rattle.iso_model.specs.declared.outcome.Ending.TheVariants as Endings;
+    ghost use Rattle.iso_interp.specs.Values.{given_of, text_given, texts_given};
+    ghost use Rattle.iso_interp.specs.Runs.{SameWork, end_local, failed, faulted, local_of, machine_of, names_before, piece_of, pieces_in, pieces_of, point_of_run, progress_of, run_rights, skipped, state_of};
+    ghost use Rattle.iso_interp.specs.declared.run.Pending.TheVariants.{Rest, Turning};
+
+    /// A run of a block at its beginning: it has all its steps, whatever were left before. An empty
+    /// block has ended.
+    pub fn new(alloc: Global, block: &'a [Stmt], names: Names, rights: &'a Rights) -> BlockRun<'a>
+        ensures point { point_of_run result ≡ first_point (block_of block.now) names }
+        ensures names { names_before result ≡ length names.names }
+        ensures rights { run_rights result ≡ access_in rights.now }
+    {
+        let before = names.len();
+        let names = restarted(names);
+        let mut run = BlockRun {
+            alloc,
+            rights,
+            names,
+            lines: Vec::new(alloc),
+            ending: Ending::Well,
+            before,
+            top: Some(Pending::Rest(before, block)),
+            below: Vec::new(alloc),
+        };
+        run.settle();
+        run
+    }
+
+    /// Does the first piece that is left, and tells whether something is left then. A run that has
+    /// ended stays as it is.
+    pub fn step<T: Touch>(&mut self, touch: &mut T) -> Result<Progress, AllocError>
+        requires { HasKeys (run_rights self.old) (T.content touch.old) (T.writes touch.old) }
+        ensures step { OnOk result (machine_of self.new (T.content touch.new) ≡ step (run_rights self.old) (machine_of self.old (T.content touch.old))) }
+        ensures progress { IfOk result (λ p. p ≡ progress_of (pieces_of self.new)) }
+        ensures names { names_before self.new ≡ names_before self.old }
+        ensures rights { run_rights self.new ≡ run_rights self.old }
+        ensures keys { OnOk result (HasKeys (run_rights self.new) (T.content touch.new) (T.writes touch.new)) }
+        ensures writes { T.writes touch.new ≡ T.writes touch.old }
+    {
+        if !self.is_live() {
+            return Ok(self.progress());
+        }
+        self.advance(touch)?;
+        Ok(self.progress())
+    }
+
+    /// Whether nothing is left to do.
+    pub fn is_ended(&self) -> bool
+        ensures { result ≡ is_done (pieces_of self.now) }
+    {
+        self.top.is_none()
+    }
+
+    /// What the block leaves, once it has ended. Takes no memory.
+    pub fn finish(self) -> BlockEnd
+        requires { is_done (pieces_of self) ≡ true }
+        ensures { end_local result ≡ with_names (take (names_before self.entry) (local_of self.entry).env.names) (local_of self.entry) }
+    {
+        let BlockRun {
+            names,
+            lines,
+            ending,
+            before,
+            ..
+        } = self;
+        let mut names = names;
+        names.keep(before);
+        BlockEnd {
+            ending,
+            output: Lines::new(lines),
+            names,
+        }
+    }
+
+    /// Whether something is left to do.
+    fn progress(&self) -> Progress
+        ensures { result ≡ progress_of (pieces_of self.now) }
+    {
+        match self.top {
+            None => Progress::Ended,
+            Some(_) => Progress::More,
+        }
+    }
+
+    /// Whether the block goes on.
+    fn is_live(&self) -> bool
+        ensures { result ≡ is_well (local_of self.now).ending }
+    {
+        matches!(&self.ending, Ending::Well)
+    }
+
+    /// Leaves the pieces in which nothing is left to do, and all of them once the block has ended.
+    fn settle(&mut self)
+        ensures settled { point_of_run self.new ≡ next_point (pieces_of self.old) (local_of self.old) }
+        ensures rights { self.new.rights ≡ self.old.rights }
+        ensures before { self.new.before ≡ self.old.before }
+    {
+        if self.is_live() {
+            self.leave_done();
+        } else {
+            self.top = None;
+            self.below.clear();
+        }
+    }
+
+    /// Leaves the pieces at the front in which nothing is left to do.
+    fn leave_done(&mut self)
+        ensures left { point_of_run self.new ≡ leave_done (pieces_of self.old) (local_of self.old) }
+        ensures rights { self.new.rights ≡ self.old.rights }
+        ensures before { self.new.before ≡ self.old.before }
+    {
+        loop {
+            match self.top {
+                None => return,
+                Some(Pending::Rest(names, statements)) => {
+                    if !statements.is_empty() {
+                        return;
+                    }
+                    self.names.keep(names);
+                }
+                Some(Pending::Turning(_, turns, _)) => {
+                    if turns > 0 {
+                        return;
+                    }
+                }
+            }
+            self.top = self.below.pop();
+        }
+    }
+
+    /// Puts a piece before the others.
+    fn enter(&mut self, piece: Pending<'a>) -> Result<(), AllocError>
+        ensures pieces { OnOk result (pieces_of self.new ≡ piece_of piece.entry ∷ pieces_of self.old) }
+        ensures local { local_of self.new ≡ local_of self.old }
+        ensures rights { self.new.rights ≡ self.old.rights }
+        ensures before { self.new.before ≡ self.old.before }
+    {
+        if let Some(top) = self.top {
+            self.below.push(top)?;
+        }
+        self.top = Some(piece);
+        Ok(())
+    }
+
+    /// Does the first piece that is left, in a block that goes on.
+    fn advance<T: Touch>(&mut self, touch: &mut T) -> Result<(), AllocError>
+        requires { HasKeys (run_rights self.old) (T.content touch.old) (T.writes touch.old) }
+        ensures done { OnOk result (machine_of self.new (T.content touch.new) ≡ step_at (run_rights self.old) (pieces_of self.old) (local_of self.old).env.steps (state_of self.old (T.content touch.old))) }
+        ensures rights { self.new.rights ≡ self.old.rights }
+        ensures before { self.new.before ≡ self.old.before }
+        ensures writes { T.writes touch.new ≡ T.writes touch.old }
+    {
+        match self.top {
+            None => Ok(()),
+            Some(Pending::Rest(names, statements)) => self.first_of(touch, names, statements),
+            Some(Pending::Turning(row, turns, body)) => self.turn_of(row, turns, body),
+        }
+    }
+
+    /// Ends the block, since no step is left.
+    fn run_out(&mut self, row: u32) -> Result<(), AllocError>
+        ensures out { OnOk result (point_of_run self.new ≡ point [] (with_ending (Endings.Fault FaultKinds.OutOfSteps (note out_of_steps_message row (local_of self.old))) (local_of self.old))) }
+        ensures rights { self.new.rights ≡ self.old.rights }
+        ensures before { self.new.before ≡ self.old.before }
+    {
+        let message = Text::copied(self.alloc, "out of steps")?;
+        let note = self.note(message, row);
+        self.ending = Ending::Fault(FaultKind::OutOfSteps, note);
+        self.top = None;
+        self.below.clear();
+        Ok(())
+    }
+
+    /// Ends the block by a fault.
+    fn fault(&mut self, row: u32, fault: Fault) -> Result<(), AllocError>
+        ensures ended { OnOk result (local_of self.new ≡ faulted row fault (local_of self.old)) }
+        ensures work { SameWork self.old self.new }
+    {
+        let message = fault.message(self.alloc)?;
+        let note = self.note(message, row);
+        self.ending = Ending::Fault(fault.kind(), note);
+        Ok(())
+    }
+
+    /// Ends the block by a fail.
+    fn fail(&mut self, row: u32, message: Text)
+        ensures ended { local_of self.new ≡ failed row message (local_of self.old) }
+        ensures work { SameWork self.old self.new }
+    {
+        self.ending = Ending::Fail(self.note(message, row));
+    }
+
+    /// Ends the block by a false assumption.
+    fn skip(&mut self, row: u32, reason: Text)
+        ensures ended { local_of self.new ≡ skipped row reason (local_of self.old) }
+        ensures work { SameWork self.old self.new }
+    {
+        self.ending = Ending::Assumed(self.note(reason, row));
+    }
+
+    /// A message, with the row where it arose.
+    fn note(&self, message: Text, row: u32) -> Note
+        ensures { result ≡ note message row (local_of self.now) }
+    {
+        Note {
+            message,
+            place: Place::Row(self.names.block(), row),
+        }
+    }
+
+    /// The value of an expression.
+    fn value<'s, 't, T: Touch>(
+        &'s self,
+        touch: &'t T,
+        expression: &'s Expr,
+    ) -> Result<Given<'s, 't>, AllocError>
+        requires { HasKeys (run_rights self.now) (T.content touch.now) (T.writes touch.now) }
+        ensures { IfOk result (λ g. given_of g ≡ value (run_rights self.now) (state_of self.now (T.content touch.now)) (term_of expression.now)) }
+    {
+        evaluate(self.alloc, &self.names, self.rights, touch, expression)
+    }
+
+    /// The value of an expression that has to be a text.
+    fn text<'s, 't, T: Touch>(
+        &'s self,
+        touch: &'t T,
+        expression: &'s Expr,
+    ) -> Result<Result<TextValue<'s, 't>, Fault>, AllocError>
+        requires { HasKeys (run_rights self.now) (T.content touch.now) (T.writes touch.now) }
+        ensures { IfOk result (λ g. text_given g ≡ text_value (run_rights self.now) (state_of self.now (T.content touch.now)) (term_of expression.now)) }
+    {
+        match self.value(touch, expression)? {
+            Ok(value) => Ok(as_text(value)),
+            Err(fault) => Ok(Err(fault)),
+        }
+    }
+
+    /// The values of two expressions that have to be texts.
+    fn texts<'s, 't, T: Touch>(
+        &'s self,
+        touch: &'t T,
+        first: &'s Expr,
+        second: &'s Expr,
+    ) -> Result<Result<(TextValue<'s, 't>, TextValue<'s, 't>), Fault>, AllocError>
+        requires { HasKeys (run_rights self.now) (T.content touch.now) (T.writes touch.now) }
+        ensures { IfOk result (λ g. texts_given g ≡ text_values (run_rights self.now) (state_of self.now (T.content touch.now)) (term_of first.now) (term_of second.now)) }
+    {
+        let first = match self.value(touch, first)? {
+            Ok(value) => value,
+            Err(fault) => return Ok(Err(fault)),
+        };
+        match self.value(touch, second)? {
+            Ok(second) => Ok(as_texts(first, second)),
+            Err(fault) => Ok(Err(fault)),
+        }
+    }
+
+    /// The value of an expression that has to be a truth value.
+    fn flag<T: Touch>(
+        &self,
+        touch: &T,
+        expression: &Expr,
+    ) -> Result<Result<bool, Fault>, AllocError>
+        requires { HasKeys (run_rights self.now) (T.content touch.now) (T.writes touch.now) }
+        ensures { IfOk result (λ g. g ≡ flag_value (run_rights self.now) (state_of self.now (T.content touch.now)) (term_of expression.now)) }
+    {
+        match self.value(touch, expression)? {
+            Ok(value) => Ok(as_flag(value)),
+            Err(fault) => Ok(Err(fault)),
+        }
+    }
+
+    /// The value of an expression that has to be a count.
+    fn count<T: Touch>(
+        &self,
+        touch: &T,
+        expression: &Expr,
+    ) -> Result<Result<u64, Fault>, AllocError>
+        requires { HasKeys (run_rights self.now) (T.content touch.now) (T.writes touch.now) }
+        ensures { IfOk result (λ g. g ≡ count_value (run_rights self.now) (state_of self.now (T.content touch.now)) (term_of expression.now)) }
+    {
+        match self.value(touch, expression)? {
+            Ok(value) => Ok(as_count(value)),
+            Err(fault) => Ok(Err(fault)),
+        }
+    }
+}

@@ -1,0 +1,181 @@
+//! What a step does first: statements, turns, and the bodies that they choose.
+ghost use Rattle.std.specs.Prelude.{◌≡◌, ◌∷◌, ◌++◌, ℕ, Some, None, length, OnOk};
+ghost use Rattle.iso_model.specs.Resources.{Resources};
+ghost use Rattle.iso_model.specs.Rights.{Rights};
+ghost use Rattle.iso_model.specs.Steps.{begin, followed_by, machine, machine_at, next_point, point, rest as rest_of, step_at, turning};
+ghost use Rattle.iso_model.specs.Syntax.{choice, repeat};
+ghost use Rattle.iso_model.specs.SyntaxView.{block_of, stmt_of, term_of};
+ghost use Rattle.iso_model.specs.Touch.{HasKeys};
+ghost use Rattle.iso_interp.specs.Runs.{local_of, machine_of, pieces_in, pieces_of, point_of_run, run_rights, state_of};
+ghost use Rattle.iso_interp.specs.declared.run.Pending.TheVariants.{Rest, Turning};
+
+use crate::run::{BlockRun, Pending};
+use iso_model::touch::Touch;
+use iso_model::tree::{Expr, Form, Stmt};
+use std::alloc::AllocError;
+
+impl<'a> BlockRun<'a> {
+    /// Does the first statement of a body.
+    pub(super) fn first_of<T: Touch>(
+        &mut self,
+        touch: &mut T,
+        names: usize,
+        statements: &'a [Stmt],
+    ) -> Result<(), AllocError>
+        requires top { self.old.top ≡ Some (Rest names statements) }
+        requires keys { HasKeys (run_rights self.old) (T.content touch.old) (T.writes touch.old) }
+        ensures done { OnOk result (machine_of self.new (T.content touch.new) ≡ step_at (run_rights self.old) (pieces_of self.old) (local_of self.old).env.steps (state_of self.old (T.content touch.old))) }
+        ensures rights { self.new.rights ≡ self.old.rights }
+        ensures before { self.new.before ≡ self.old.before }
+        ensures writes { T.writes touch.new ≡ T.writes touch.old }
+    {
+        match statements {
+            [] => Ok(()),
+            [first, rest @ ..] => {
+                if !self.names.take_step() {
+                    return self.run_out(first.row);
+                }
+                self.statement(touch, names, first, rest)
+            }
+        }
+    }
+
+    /// Does a statement whose step is taken, and puts the rest of its body behind it.
+    fn statement<T: Touch>(
+        &mut self,
+        touch: &mut T,
+        names: usize,
+        first: &'a Stmt,
+        rest: &'a [Stmt],
+    ) -> Result<(), AllocError>
+        requires { HasKeys (run_rights self.old) (T.content touch.old) (T.writes touch.old) }
+        ensures done { OnOk result
+            (let s = stmt_of first.now in
+            machine_of self.new (T.content touch.new) ≡ followed_by
+            (begin (run_rights self.old) s.0 s.1 (state_of self.old (T.content touch.old)))
+            (rest_of names (block_of rest.now) ∷ pieces_in None self.old.below.items)) }
+        ensures rights { self.new.rights ≡ self.old.rights }
+        ensures before { self.new.before ≡ self.old.before }
+        ensures writes { T.writes touch.new ≡ T.writes touch.old }
+    {
+        self.top = Some(Pending::Rest(names, rest));
+        self.begin(touch, first)?;
+        self.settle();
+        Ok(())
+    }
+
+    /// Does what a statement does in its step, and puts its pieces before the rest.
+    fn begin<T: Touch>(&mut self, touch: &mut T, statement: &'a Stmt) -> Result<(), AllocError>
+        requires { HasKeys (run_rights self.old) (T.content touch.old) (T.writes touch.old) }
+        ensures begun { OnOk result
+            (let s = stmt_of statement.now in
+            let m = begin (run_rights self.old) s.0 s.1 (state_of self.old (T.content touch.old)) in
+            (state_of self.new (T.content touch.new) ≡ m.state) × (pieces_of self.new ≡ m.pieces ++ pieces_of self.old)) }
+        ensures rights { self.new.rights ≡ self.old.rights }
+        ensures before { self.new.before ≡ self.old.before }
+        ensures writes { T.writes touch.new ≡ T.writes touch.old }
+    {
+        let row = statement.row;
+        match &statement.form {
+            Form::Let(name, value) => self.let_name(touch, row, name, value),
+            Form::Assign(name, value) => self.assign(touch, row, name, value),
+            Form::Print(value) => self.print(touch, row, value),
+            Form::Assert(condition) => self.assert(touch, row, condition),
+            Form::AssertEqual(expected, actual) => self.assert_equal(touch, row, expected, actual),
+            Form::Assume(condition, reason) => self.assume(touch, row, condition, reason),
+            Form::Fail(message) => self.fail_with(row, message),
+            Form::SetProp(name, text) => self.set_prop(touch, row, name, text),
+            Form::ClearProp(name) => self.clear_prop(touch, row, name),
+            Form::SetLocale(text) => self.set_locale(touch, row, text),
+            Form::WriteFile(path, text) => self.write_file(touch, row, path, text),
+            Form::AppendFile(path, text) => self.append_file(touch, row, path, text),
+            Form::DeleteFile(path) => self.delete_file(touch, row, path),
+            Form::If(condition, first, second) => {
+                self.choose(touch, row, condition, first, second)
+            }
+            Form::Repeat(count, body) => self.repeat(touch, row, count, body),
+        }
+    }
+
+    /// `if CONDITION { .. } else { .. }`: puts the chosen body before the rest.
+    fn choose<T: Touch>(
+        &mut self,
+        touch: &T,
+        row: u32,
+        condition: &Expr,
+        first: &'a [Stmt],
+        second: &'a [Stmt],
+    ) -> Result<(), AllocError>
+        requires { HasKeys (run_rights self.old) (T.content touch.now) (T.writes touch.now) }
+        ensures begun { OnOk result
+            (let m = begin (run_rights self.old) row (choice (term_of condition.now) (block_of first.now) (block_of second.now)) (state_of self.old (T.content touch.now)) in
+            (state_of self.new (T.content touch.now) ≡ m.state) × (pieces_of self.new ≡ m.pieces ++ pieces_of self.old)) }
+        ensures rights { self.new.rights ≡ self.old.rights }
+        ensures before { self.new.before ≡ self.old.before }
+    {
+        match self.flag(touch, condition)? {
+            Ok(holds) => {
+                let names = self.names.len();
+                self.enter(Pending::Rest(names, if holds { first } else { second }))
+            }
+            Err(fault) => self.fault(row, fault),
+        }
+    }
+
+    /// `repeat COUNT { .. }`: puts the turns before the rest.
+    fn repeat<T: Touch>(
+        &mut self,
+        touch: &T,
+        row: u32,
+        count: &Expr,
+        body: &'a [Stmt],
+    ) -> Result<(), AllocError>
+        requires { HasKeys (run_rights self.old) (T.content touch.now) (T.writes touch.now) }
+        ensures begun { OnOk result
+            (let m = begin (run_rights self.old) row (repeat (term_of count.now) (block_of body.now)) (state_of self.old (T.content touch.now)) in
+            (state_of self.new (T.content touch.now) ≡ m.state) × (pieces_of self.new ≡ m.pieces ++ pieces_of self.old)) }
+        ensures rights { self.new.rights ≡ self.old.rights }
+        ensures before { self.new.before ≡ self.old.before }
+    {
+        match self.count(touch, count)? {
+            Ok(turns) => self.enter(Pending::Turning(row, turns, body)),
+            Err(fault) => self.fault(row, fault),
+        }
+    }
+
+    /// Does the first turn that is left of a `repeat`.
+    pub(super) fn turn_of(
+        &mut self,
+        row: u32,
+        turns: u64,
+        body: &'a [Stmt],
+    ) -> Result<(), AllocError>
+        requires top { self.old.top ≡ Some (Turning row turns body) }
+        ensures done { OnOk result ((r : Rights) (m : Resources) → machine_of self.new m ≡ step_at r (pieces_of self.old) (local_of self.old).env.steps (state_of self.old m)) }
+        ensures rights { self.new.rights ≡ self.old.rights }
+        ensures before { self.new.before ≡ self.old.before }
+    {
+        if turns == 0 {
+            return Ok(());
+        }
+        if !self.names.take_step() {
+            return self.run_out(row);
+        }
+        self.turn(row, turns - 1, body)
+    }
+
+    /// Does a turn whose step is taken: its body, and behind it the turns that are left.
+    fn turn(&mut self, row: u32, left: u64, body: &'a [Stmt]) -> Result<(), AllocError>
+        ensures done { OnOk result (point_of_run self.new ≡ next_point
+            (rest_of (length self.old.names.names) (block_of body.now) ∷ turning row left (block_of body.now) ∷ pieces_in None self.old.below.items)
+            (local_of self.old)) }
+        ensures rights { self.new.rights ≡ self.old.rights }
+        ensures before { self.new.before ≡ self.old.before }
+    {
+        self.top = Some(Pending::Turning(row, left, body));
+        let names = self.names.len();
+        self.enter(Pending::Rest(names, body))?;
+        self.settle();
+        Ok(())
+    }
+}

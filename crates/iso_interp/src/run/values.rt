@@ -1,0 +1,92 @@
+//! The statements that name, assign and print values.
+ghost use Rattle.std.specs.Prelude.{◌≡◌, OnOk};
+ghost use Rattle.iso_model.specs.Statements.{performed};
+ghost use Rattle.iso_model.specs.Syntax.{assign, let_name, print};
+ghost use Rattle.iso_model.specs.SyntaxView.{term_of};
+ghost use Rattle.iso_model.specs.Touch.{HasKeys};
+ghost use Rattle.iso_interp.specs.Runs.{SameWork, run_rights, state_of};
+
+use crate::run::BlockRun;
+use iso_model::fault::Fault;
+use iso_model::names::AssignFault;
+use iso_model::text::Text;
+use iso_model::touch::Touch;
+use iso_model::tree::Expr;
+use std::alloc::AllocError;
+
+impl<'a> BlockRun<'a> {
+    /// `let NAME = EXPRESSION;`
+    pub(super) fn let_name<T: Touch>(
+        &mut self,
+        touch: &T,
+        row: u32,
+        name: &Text,
+        expression: &Expr,
+    ) -> Result<(), AllocError>
+        requires { HasKeys (run_rights self.old) (T.content touch.now) (T.writes touch.now) }
+        ensures done { OnOk result (state_of self.new (T.content touch.now) ≡ performed (run_rights self.old) row (let_name name.now (term_of expression.now)) (state_of self.old (T.content touch.now))) }
+        ensures work { SameWork self.old self.new }
+    {
+        let value = match self.value(touch, expression)? {
+            Ok(value) => value.into_data(self.alloc)?,
+            Err(fault) => return self.fault(row, fault),
+        };
+        if self.names.get(name.as_str()).is_some() {
+            let taken = name.copy(self.alloc)?;
+            return self.fault(row, Fault::DoubleName(taken));
+        }
+        let name = name.copy(self.alloc)?;
+        self.names.declare(name, value)
+    }
+
+    /// `NAME = EXPRESSION;`
+    pub(super) fn assign<T: Touch>(
+        &mut self,
+        touch: &T,
+        row: u32,
+        name: &Text,
+        expression: &Expr,
+    ) -> Result<(), AllocError>
+        requires { HasKeys (run_rights self.old) (T.content touch.now) (T.writes touch.now) }
+        ensures done { OnOk result (state_of self.new (T.content touch.now) ≡ performed (run_rights self.old) row (assign name.now (term_of expression.now)) (state_of self.old (T.content touch.now))) }
+        ensures work { SameWork self.old self.new }
+    {
+        let value = match self.value(touch, expression)? {
+            Ok(value) => value.into_data(self.alloc)?,
+            Err(fault) => return self.fault(row, fault),
+        };
+        match self.names.assign(name.as_str(), value) {
+            Ok(()) => Ok(()),
+            Err(AssignFault::UnknownName) => {
+                let unknown = name.copy(self.alloc)?;
+                self.fault(row, Fault::UnknownName(unknown))
+            }
+            Err(AssignFault::Frozen) => {
+                let frozen = name.copy(self.alloc)?;
+                self.fault(row, Fault::Frozen(frozen))
+            }
+        }
+    }
+
+    /// `print EXPRESSION;`
+    pub(super) fn print<T: Touch>(
+        &mut self,
+        touch: &T,
+        row: u32,
+        expression: &Expr,
+    ) -> Result<(), AllocError>
+        requires { HasKeys (run_rights self.old) (T.content touch.now) (T.writes touch.now) }
+        ensures done { OnOk result (state_of self.new (T.content touch.now) ≡ performed (run_rights self.old) row (print (term_of expression.now)) (state_of self.old (T.content touch.now))) }
+        ensures work { SameWork self.old self.new }
+    {
+        let line = match self.value(touch, expression)? {
+            Ok(value) => value.text(self.alloc)?.into_text(self.alloc)?,
+            Err(fault) => return self.fault(row, fault),
+        };
+        if !self.names.count_line(line.as_str().len()) {
+            return self.fault(row, Fault::OutputFull);
+        }
+        self.lines.push(line)?;
+        Ok(())
+    }
+}

@@ -1,0 +1,3 @@
+pub mod LeafLemmas
+pub mod NumeralLemmas
+pub mod WorldLemmas

@@ -1,0 +1,4 @@
+pub mod Leaves
+pub mod Readings
+pub mod Settings
+pub mod Worlds

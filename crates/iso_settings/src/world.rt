@@ -1,0 +1,232 @@
+ghost use Rattle.std.specs.Prelude.{◌≡◌, ◌++◌, IfOk, OnOk, codes, string_bytes};
+ghost use Rattle.toml.specs.Parse.{parse_document};
+ghost use Rattle.toml.specs.View.{table_view, view};
+ghost use Rattle.iso_settings.specs.Leaves.{leaves_at, leaves_behind};
+ghost use Rattle.iso_settings.specs.Readings.{Gives};
+ghost use Rattle.iso_settings.specs.Worlds.{is_long, is_printable, locale_of, table_of, text_of, texts_of, world_in};
+
+use crate::fault::SettingsError;
+use crate::table::read_table;
+use iso_model::key::Key;
+use iso_model::limits::TEXT_BYTES;
+use iso_model::properties::Properties;
+use iso_model::resource::Resource;
+use iso_model::text::Text;
+use std::alloc::{AllocError, Global};
+use std::marker::Model;
+use toml::{Table, Value};
+
+/// The values that resources start with. How they are kept stays hidden.
+#[derive(Drop)]
+pub struct World {
+    /// Texts by their paths.
+    files: Properties,
+    locale: Text,
+    properties: Properties,
+}
+
+impl Model for World {
+    ghost use Rattle.iso_settings.specs.Worlds.{Start, start_code};
+
+    ghost Value = { Start };
+
+    ghost coded = { start_code };
+
+    ghost view = { λ w. record { files = w.files; locale = w.locale; properties = w.properties } };
+}
+
+/// Reads a world from a TOML document.
+pub fn read_world(alloc: Global, text: &str) -> Result<World, SettingsError>
+    ensures { Gives (world_in (parse_document text.now)) result }
+{
+    let table = read_table(alloc, text)?;
+    World::of_table(alloc, &table)
+}
+
+impl World {
+    ghost use Rattle.iso_settings.specs.Worlds.{nothing_said, starting_value_in, with_entries, with_entry};
+
+    /// The world that says nothing.
+    fn silent(alloc: Global) -> Result<World, AllocError>
+        ensures { IfOk result (λ world. world ≡ nothing_said) }
+    {
+        Ok(World {
+            files: Properties::new(alloc),
+            locale: Text::copied(alloc, "en")?,
+            properties: Properties::new(alloc),
+        })
+    }
+
+    /// The world of a table.
+    fn of_table(alloc: Global, table: &Table) -> Result<World, SettingsError>
+        ensures { Gives (with_entries nothing_said (table_view table.now)) result }
+    {
+        let mut world = World::silent(alloc)?;
+        'entries: for (key, value) in table.iter() {
+            world = world.with_entry(alloc, key.as_str(), value)?;
+        }
+        Ok(world)
+    }
+
+    /// This world, and what one top-level key says besides.
+    fn with_entry(mut self, alloc: Global, key: &str, value: &Value) -> Result<World, SettingsError>
+        ensures { Gives (with_entry self key.now (view value.now)) result }
+    {
+        if key == "files" {
+            self.files = table_of(alloc, key, value)?;
+        } else if key == "locale" {
+            self.locale = locale_of(alloc, key, value)?;
+        } else if key == "properties" {
+            self.properties = table_of(alloc, key, value)?;
+        } else {
+            return Err(SettingsError::wrong_value(alloc, key));
+        }
+        Ok(self)
+    }
+
+    /// The value that a key starts with. A file that the world doesn't name is missing.
+    pub fn copy(&self, alloc: Global, key: &Key) -> Result<Resource, AllocError>
+        ensures { IfOk result (λ value. value ≡ starting_value_in self.now key.now) }
+    {
+        let spelling = key.as_str();
+        if spelling == "java.lang.System.properties" {
+            Ok(Resource::Props(self.properties.copy(alloc)?))
+        } else if spelling == "java.util.Locale.default" {
+            Ok(Resource::Locale(self.locale.copy(alloc)?))
+        } else if let Some(path) = spelling.strip_prefix("file:") {
+            match self.files.get(path) {
+                Some(text) => Ok(Resource::File(Some(text.copy(alloc)?))),
+                None => Ok(Resource::File(None)),
+            }
+        } else {
+            Ok(Resource::Plain)
+        }
+    }
+}
+
+/// Whether a text is printable ASCII.
+fn is_printable(text: &str) -> bool
+    ensures { result ≡ is_printable text.now }
+{
+    for byte in text.as_bytes() {
+        if *byte < 0x20 || *byte > 0x7E {
+            return false;
+        }
+    }
+    true
+}
+
+/// Whether there are more bytes than a text may have.
+fn is_long(text: &str) -> bool
+    ensures { result ≡ is_long text.now }
+{
+    text.len() > TEXT_BYTES as usize
+}
+
+/// The locale.
+fn locale_of(alloc: Global, key: &str, value: &Value) -> Result<Text, SettingsError>
+    ensures { Gives (locale_of key.now (view value.now)) result }
+{
+    match value {
+        Value::String(text) if !is_printable(text) => Err(SettingsError::wrong_value(alloc, key)),
+        Value::String(text) if is_long(text) => Err(SettingsError::out_of_range(alloc, key)),
+        Value::String(text) => Ok(Text::copied(alloc, text)?),
+        _ => Err(SettingsError::wrong_value(alloc, key)),
+    }
+}
+
+/// A table of texts.
+fn table_of(alloc: Global, top: &str, value: &Value) -> Result<Properties, SettingsError>
+    ensures { Gives (table_of top.now (view value.now)) result }
+{
+    match value {
+        Value::Table(table) => {
+            let mut path = String::new(alloc);
+            add_texts(alloc, top, &mut path, table, Properties::new(alloc))
+        }
+        _ => Err(SettingsError::wrong_value(alloc, top)),
+    }
+}
+
+/// Adds the texts of a table, whose keys are put behind a path. After an error the path is of no use.
+#[cycle(texts)]
+fn add_texts(
+    alloc: Global,
+    top: &str,
+    path: &mut String,
+    table: &Table,
+    before: Properties,
+) -> Result<Properties, SettingsError>
+    ensures texts { Gives (texts_of top.now before (leaves_behind (string_bytes path.old) (table_view table.now))) result }
+    ensures path { OnOk result (string_bytes path.new ≡ string_bytes path.old) }
+{
+    let start = path.as_str().len();
+    let mut texts = before;
+    'members: for (name, value) in table.iter() {
+        path.push_str(name.as_str())?;
+        texts = add_value(alloc, top, path, value, texts)?;
+        path.truncate(start);
+    }
+    Ok(texts)
+}
+
+/// Adds the texts of what stands at a key.
+#[cycle(texts)]
+fn add_value(
+    alloc: Global,
+    top: &str,
+    key: &mut String,
+    value: &Value,
+    before: Properties,
+) -> Result<Properties, SettingsError>
+    ensures texts { Gives (texts_of top.now before (leaves_at (string_bytes key.old) (view value.now))) result }
+    ensures key { OnOk result (string_bytes key.new ≡ string_bytes key.old) }
+{
+    match value {
+        Value::Table(table) => {
+            let end = key.as_str().len();
+            key.push_str(".")?;
+            let texts = add_texts(alloc, top, key, table, before)?;
+            key.truncate(end);
+            Ok(texts)
+        }
+        _ => {
+            let text = text_of(alloc, top, &before, key.as_str(), value)?;
+            let mut texts = before;
+            texts.set(String::from_str(alloc, key.as_str())?, text)?;
+            Ok(texts)
+        }
+    }
+}
+
+/// The text of a leaf of a table, whose joined key is none of those read before.
+fn text_of(
+    alloc: Global,
+    top: &str,
+    before: &Properties,
+    key: &str,
+    value: &Value,
+) -> Result<Text, SettingsError>
+    ensures { Gives (text_of top.now before.now key.now (view value.now)) result }
+{
+    let Value::String(text) = value else {
+        return Err(SettingsError::wrong_value(alloc, full_key(alloc, top, key)?.as_str()));
+    };
+    if !(is_printable(key) && is_printable(text)) || before.get(key).is_some() {
+        return Err(SettingsError::wrong_value(alloc, full_key(alloc, top, key)?.as_str()));
+    }
+    if is_long(key) || is_long(text) {
+        return Err(SettingsError::out_of_range(alloc, full_key(alloc, top, key)?.as_str()));
+    }
+    Ok(Text::copied(alloc, text)?)
+}
+
+/// A joined key with its top-level name.
+fn full_key(alloc: Global, top: &str, key: &str) -> Result<String, AllocError>
+    ensures { IfOk result (λ full. string_bytes full ≡ top.now ++ codes "." ++ key.now) }
+{
+    let mut full = String::from_str(alloc, top)?;
+    full.push_str(".")?;
+    full.push_str(key)?;
+    Ok(full)
+}

@@ -1,0 +1,11 @@
+pub mod Small
+pub mod Taken
+pub mod Claims
+pub mod Answers
+pub mod Repetitions
+pub mod Shorter
+pub mod Unique
+pub mod Literals
+pub mod Expressions
+pub mod Statements
+pub mod Views

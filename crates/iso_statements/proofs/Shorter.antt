@@ -1,0 +1,39 @@
+-- What is read takes a piece at least.
+use Rattle.std.proofs.Common.{ℕ, ◌<◌, List, length, arith}
+use Rattle.iso_lexer.specs.Piece.{Piece}
+use Rattle.iso_lexer.specs.declared.symbol.Symbol.{Symbol}
+use Rattle.iso_model.specs.declared.data.Data.{Data}
+use Rattle.iso_model.specs.Syntax.{Term, Act, Acts}
+use Rattle.iso_statements.specs.Expressions.{IsLiteral, a_number, a_negative, a_text, a_true, a_false, IsOperand, a_literal, IsExpression, an_operand, IsBefore, before}
+use Rattle.iso_statements.specs.Statements.{IsStatement, a_print, an_assert_equal, IsStatements, closed, and_then, IsBody, a_body, IsBlock, a_block}
+
+pub literal_shorter : {x : Data} {ps qs : List Piece} → IsLiteral x ps qs → length qs < length ps
+literal_shorter (a_number h) = omega arith
+literal_shorter (a_negative h) = omega arith
+literal_shorter a_text = omega arith
+literal_shorter a_true = omega arith
+literal_shorter a_false = omega arith
+
+pub operand_shorter : {d : ℕ} {e : Term} {ps qs : List Piece} → IsOperand d e ps qs → length qs < length ps
+operand_shorter (a_literal h) = literal_shorter h
+
+pub expression_shorter : {d : ℕ} {e : Term} {ps qs : List Piece} → IsExpression d e ps qs → length qs < length ps
+expression_shorter (an_operand h n) = operand_shorter h
+
+pub before_shorter : {s : Symbol} {e : Term} {ps qs : List Piece} → IsBefore s e ps qs → length qs < length ps
+before_shorter (before h) = omega (arith, expression_shorter h)
+
+mutual
+  pub statement_shorter : {d brace : ℕ} {a : Act} {ps qs : List Piece} → IsStatement d brace a ps qs → length qs < length ps
+  statement_shorter (a_print h) = omega (arith, before_shorter h)
+  statement_shorter (an_assert_equal h k) = omega (arith, before_shorter h, before_shorter k)
+
+  pub statements_shorter : {d brace : ℕ} {body : Acts} {ps qs : List Piece} → IsStatements d brace body ps qs → length qs < length ps
+  statements_shorter closed = omega arith
+  statements_shorter (and_then h k) = omega (arith, statement_shorter h, statements_shorter k)
+
+  pub body_shorter : {d brace : ℕ} {body : Acts} {ps qs : List Piece} → IsBody d brace body ps qs → length qs < length ps
+  body_shorter (a_body h) = omega (arith, statements_shorter h)
+
+pub block_shorter : {body : Acts} {ps qs : List Piece} → IsBlock body ps qs → length qs < length ps
+block_shorter (a_block h) = body_shorter h

@@ -1,0 +1,39 @@
+-- What stands next among pieces.
+use Rattle.std.specs.Prelude.{ℕ, List, [], ◌∷◌, ◌-◌, Option, Some, None}
+use Rattle.iso_lexer.specs.Piece.{Piece, name_at, number_at, text_at, word_at, symbol_at, bad_at}
+use Rattle.iso_lexer.specs.declared.symbol.Symbol.{Symbol}
+use Rattle.iso_lexer.specs.declared.word.Word.{Word}
+
+-- the name that is next, and what follows it
+abbrev pub name_next : List Piece → Option (List ℕ × List Piece)
+name_next (name_at r n ∷ ps) = Some (n, ps)
+name_next _ = None
+
+-- the text that is next, and what follows it
+abbrev pub text_next : List Piece → Option (List ℕ × List Piece)
+text_next (text_at r t ∷ ps) = Some (t, ps)
+text_next _ = None
+
+-- the reserved word that is next, and what follows it
+abbrev pub word_next : List Piece → Option (Word × List Piece)
+word_next (word_at r w ∷ ps) = Some (w, ps)
+word_next _ = None
+
+-- the symbol that is next
+abbrev pub symbol_next : List Piece → Option Symbol
+symbol_next (symbol_at r s ∷ ps) = Some s
+symbol_next _ = None
+
+-- the line that a piece stands on
+abbrev pub line_of : Piece → ℕ
+line_of (name_at r n) = r
+line_of (number_at r n) = r
+line_of (text_at r t) = r
+line_of (word_at r w) = r
+line_of (symbol_at r s) = r
+line_of (bad_at r) = r
+
+-- The row of the piece that is next, in a block whose opening brace stands on this line: rows count from 1 on that line.
+abbrev pub row_in : (brace : ℕ) → List Piece → ℕ
+row_in brace [] = 0
+row_in brace (p ∷ ps) = line_of p - (brace - 1)

@@ -1,0 +1,9 @@
+//! Reads the bodies of scripts: expressions, statements and blocks.
+#![tactic(auto)]
+
+mod expression;
+pub mod fault;
+pub mod laws;
+pub mod names;
+pub mod parser;
+mod statement;

@@ -1,0 +1,58 @@
+-- Histories that become one another by changes.
+use Rattle.std.proofs.Common.{◌≡◌, ◌<◌, ◌≤◌, suc, List, [], ◌∷◌, ◌++◌, length, refl, sym, ap, subst, ◌∙◌, arith, append_assoc, length-append}
+use Rattle.iso_model.specs.declared.resource.Resource.{Resource}
+use Rattle.iso_model.specs.declared.resource.Change.{Change}
+use Rattle.iso_store.specs.Histories.{History, values, after, before_last, before, oldest, start_of, IsEarlier}
+
+-- a history is its own mark, and stays one under further changes
+pub earlier_itself : (h : History) → IsEarlier h h
+earlier_itself h = ([], refl)
+
+pub earlier_after : (mark h : History) (change : Change) → IsEarlier mark h → IsEarlier mark (after change h)
+earlier_after mark h change e = ((after change h).now ∷ e.0, ap (λ vs. (after change h).now ∷ vs) e.1)
+
+-- a mark of a mark is a mark
+pub earlier_of_earlier : (a b c : History) → IsEarlier a b → IsEarlier b c → IsEarlier a c
+earlier_of_earlier a b c e f = (f.0 ++ e.0, f.1 ∙ ap (λ vs. f.0 ++ vs) e.1 ∙ sym (append_assoc f.0 e.0 (values a)))
+
+-- going back one change keeps each earlier mark
+back : (m : History) (n : Resource) (ps newer : List Resource) → length m.past < length ps → n ∷ ps ≡ newer ++ values m → IsEarlier m (before_last n ps)
+back m n [] newer h e = absurd (omega arith)
+back m n (p ∷ ps) [] h e = let same : length (n ∷ p ∷ ps) ≡ length (values m) = ap length e in absurd (omega arith)
+back m n (p ∷ ps) (x ∷ newer) h e = (newer, cc)
+
+pub earlier_before : (m h : History) → length m.past < length h.past → IsEarlier m h → IsEarlier m (before h)
+earlier_before m h shorter e = back m h.now h.past e.0 shorter e.1
+
+-- a history that has no more changes than its mark stands there
+stands : (m h : History) (newer : List Resource) → length h.past ≤ length m.past → values h ≡ newer ++ values m → h ≡ m
+stands m h [] shorter e =
+    let now : h.now ≡ m.now = cc in
+    let past : h.past ≡ m.past = cc in
+    λ i. record { now = now i; past = past i }
+stands m h (x ∷ newer) shorter e = let same : suc (length h.past) ≡ suc (length (newer ++ values m)) = ap length e in absurd (omega (arith, length-append newer (values m)))
+
+pub earlier_stands : (m h : History) → length h.past ≤ length m.past → IsEarlier m h → h ≡ m
+earlier_stands m h shorter e = stands m h e.0 shorter e.1
+
+-- the start stays
+oldest-before : (n : Resource) (ps : List Resource) → start_of (before_last n ps) ≡ oldest n ps
+oldest-before n [] = refl
+oldest-before n (p ∷ ps) = refl
+
+pub start_of-before : (h : History) → start_of (before h) ≡ start_of h
+start_of-before h = oldest-before h.now h.past
+
+oldest-append : (newer : List Resource) (x y : Resource) (ys : List Resource) → oldest x (newer ++ y ∷ ys) ≡ oldest y ys
+oldest-append [] x y ys = refl
+oldest-append (n ∷ newer) x y ys = oldest-append newer n y ys
+
+same_start : (m : History) (x : Resource) (xs newer : List Resource) → x ∷ xs ≡ newer ++ values m → oldest x xs ≡ start_of m
+same_start m x xs [] e = let now : x ≡ m.now = cc in let past : xs ≡ m.past = cc in λ i. oldest (now i) (past i)
+same_start m x xs (n ∷ newer) e =
+    let past : xs ≡ newer ++ values m = cc in
+    subst (λ (vs : List Resource). oldest x vs ≡ start_of m) (sym past) (oldest-append newer x m.now m.past)
+
+-- a mark has the start of the histories that came after it
+pub start_of_earlier : (m h : History) → IsEarlier m h → start_of h ≡ start_of m
+start_of_earlier m h e = same_start m h.now h.past e.0 e.1

@@ -1,0 +1,5 @@
+pub mod Answers
+pub mod Histories
+pub mod Journals
+pub mod Places
+pub mod Values
