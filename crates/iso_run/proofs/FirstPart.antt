@@ -4,7 +4,7 @@ use Rattle.std.proofs.lemmas.Bool.{and_parts, lt-leb}
 use Rattle.std.proofs.lemmas.List.{take_all}
 use Rattle.std.proofs.lemmas.Result.{on_ok_weaker}
 use Rattle.iso_model.specs.Alone.{test_alone, class_alone}
-use Rattle.iso_model.specs.Chains.{ClassHead}
+use Rattle.iso_model.specs.Chains.{ClassHead, empty_head}
 use Rattle.iso_model.specs.Resources.{Resources, restricted}
 use Rattle.iso_model.specs.Rights.{Rights, rights_of}
 use Rattle.iso_model.specs.Statements.{has_room, Local, is_well, with_steps, performed, runs_out, run, ran}
@@ -13,7 +13,7 @@ use Rattle.iso_model.specs.SyntaxView.{term_of, form_of, stmt_of}
 use Rattle.iso_model.specs.declared.tree.Stmt.{Stmt}
 use Rattle.iso_model.specs.declared.tree.Form as F
 use Rattle.iso_model.proofs.Finishing.{taking-in}
-use Rattle.iso_run.specs.FirstPart.{is_empty, is_empty_block, is_empty_head, is_simple_test, is_simple_title, is_simple_class, are_simple_members, empty_head, begun_block, over, outcome_of}
+use Rattle.iso_run.specs.FirstPart.{is_empty, is_empty_block, is_empty_head, is_simple_test, is_simple_title, is_simple_class, are_simple_members, begun_block, over, outcome_of}
 use Rattle.iso_run.specs.Results.{class_node, node}
 use Rattle.iso_run.specs.ResultView.{node_of, class_node_of, nodes_of, nodes_from}
 use Rattle.iso_run.specs.Suites.{member_result, member_results, top_result, top_results}

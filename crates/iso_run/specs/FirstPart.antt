@@ -1,20 +1,16 @@
 -- The first part of the language: top-level classes without a head that hold tests of `print` and `assert_equal` over literals.
 -- A statement, a test or a class is simple where it is of this part.
-use Rattle.std.specs.Prelude.{List, [], ◌∷◌, Some, Bool, true, false, not, ◌&&◌, is_none}
+use Rattle.std.specs.Prelude.{List, [], ◌∷◌, Bool, true, false, not, ◌&&◌, is_none}
 use Rattle.iso_model.specs.Blocks.{begun}
 use Rattle.iso_model.specs.Chains.{ClassHead}
 use Rattle.iso_model.specs.Environments.{environment}
-use Rattle.iso_model.specs.Resources.{Resources, starting_value}
+use Rattle.iso_model.specs.Resources.{Resources}
 use Rattle.iso_model.specs.Scripts.{Test, ClassTitle, Class, class, Member, class_member, test_member, Members, no_members, member, Script}
 use Rattle.iso_model.specs.Statements.{Local, State}
 use Rattle.iso_model.specs.Syntax.{Term, literal, name, chain, compare, call, locale, Plain, let_name, assign, print, assert, assert_equal, assume, fail, set_prop, clear_prop, set_locale, write_file, append_file, delete_file, Act, plain, choice, repeat, Acts, no_acts, act}
 use Rattle.iso_model.specs.Verdicts.{verdict}
 use Rattle.iso_model.specs.declared.outcome.Outcome.{Outcome}
 use Rattle.iso_model.specs.declared.place.BlockName.TheVariants as BlockName
-
--- the starting values of a world that says nothing: of each key the one that it starts with
-abbrev pub empty_world : Resources
-empty_world = λ k. Some (starting_value k)
 
 -- whether a list is empty
 abbrev pub is_empty : {A : Type 0} → List A → Bool
@@ -96,11 +92,6 @@ are_simple_classes (c ∷ cs) = is_simple_class c && are_simple_classes cs
 -- whether a script is of the first part
 abbrev pub is_first_part : Script → Bool
 is_first_part s = are_simple_classes s.classes
-
--- the head of a class that gives nothing to its tests
-abbrev pub empty_head : ClassHead
-empty_head =
-    record { statics = []; fields = []; marks = []; before_all = no_acts; after_all = no_acts; before_each = no_acts; after_each = no_acts }
 
 -- the block of a test at its beginning, where no name is visible
 abbrev pub begun_block : Local

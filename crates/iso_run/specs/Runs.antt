@@ -1,9 +1,9 @@
 -- What a run answers and what its sink took.
 use Rattle.std.specs.Prelude.{◌≡◌, ℕ, ◌<◌, List, [], ◌∷◌, Bool, true, false, Option, Some, None, length, take}
 use Rattle.std.specs.Borrow.{Bor}
+use Rattle.iso_model.specs.Resources.{empty_world}
 use Rattle.iso_model.specs.Scripts.{Script}
 use Rattle.iso_script.specs.Grammar.{Reads}
-use Rattle.iso_run.specs.FirstPart.{empty_world}
 use Rattle.iso_run.specs.Plans.{plan_fault}
 use Rattle.iso_run.specs.Reports.{report, all_ok}
 use Rattle.iso_run.specs.Results.{Nodes}

@@ -26,14 +26,14 @@ pub struct Inputs<'a> {
 }
 
 /// What a run tells besides its report.
-#[derive(Clone, Copy, Debug, PartialEq, Eq)]
+#[derive(Clone, Copy, PartialEq, Eq)]
 pub struct Summary {
     /// Whether every top-level point is ok.
     pub all_ok: bool,
 }
 
 /// Why a run has no report, or only its beginning.
-#[derive(Clone, Copy, Debug, PartialEq, Eq)]
+#[derive(Clone, Copy, PartialEq, Eq)]
 pub enum RunFault {
     /// Another number of scripts than one, or settings or a world that aren't empty, are not built yet.
     NotYet,

@@ -1,8 +1,9 @@
 //! Runs a script of the first part of the language, in which a body prints and compares literals.
 ghost use Rattle.std.specs.Prelude.{◌≡◌, [], ◌∷◌, ◌++◌, true, IfOk, OnOk, codes};
+ghost use Rattle.iso_model.specs.Chains.{empty_head};
 ghost use Rattle.iso_model.specs.Alone.{test_alone};
 ghost use Rattle.iso_model.specs.Evaluation.{is_equal};
-ghost use Rattle.iso_model.specs.Resources.{Resources};
+ghost use Rattle.iso_model.specs.Resources.{Resources, empty_world};
 ghost use Rattle.iso_model.specs.Rights.{Rights};
 ghost use Rattle.std.specs.Arc.{arc_value};
 ghost use Rattle.iso_model.specs.ScriptView.{class_of, member_of, script_of, test_head_of, test_of};
@@ -11,7 +12,7 @@ ghost use Rattle.iso_model.specs.Syntax.{assert_equal, literal, print};
 ghost use Rattle.iso_model.specs.SyntaxView.{block_of, stmt_of, term_of};
 ghost use Rattle.iso_model.specs.Texts.{difference_message};
 ghost use Rattle.iso_model.specs.Verdicts.{verdict};
-ghost use Rattle.iso_run.specs.FirstPart.{are_simple_acts, begun_block, empty_head, empty_world, is_simple_act, is_simple_class, is_simple_member, is_first_part, is_simple_test, is_literal, outcome_of, over};
+ghost use Rattle.iso_run.specs.FirstPart.{are_simple_acts, begun_block, is_simple_act, is_simple_class, is_simple_member, is_first_part, is_simple_test, is_literal, outcome_of, over};
 ghost use Rattle.iso_run.specs.ResultView.{class_node_of, node_of, nodes_of};
 ghost use Rattle.iso_run.specs.Suites.{member_result, script_results, test_title, top_result};
 

@@ -1,6 +1,6 @@
 use Rattle.std.proofs.Common.{◌∙◌}
+use Rattle.iso_model.specs.Resources.{empty_world}
 use Rattle.iso_model.specs.declared.outcome.Verdict.TheVariants as V
-use Rattle.iso_run.specs.FirstPart.{empty_world}
 use Rattle.iso_run.proofs.FirstPart.{class-done, members-done}
 use Rattle.iso_run.proofs.runner.run_class.Goals as goal
 

@@ -1,6 +1,8 @@
 use Rattle.std.proofs.Common.{◌≡◌, [], ◌∷◌, true, drop, take, map}
+use Rattle.iso_model.specs.Resources.{empty_world}
+use Rattle.iso_model.specs.Chains.{empty_head}
 use Rattle.iso_model.specs.ScriptView.{member_of, members_of}
-use Rattle.iso_run.specs.FirstPart.{are_simple_members, empty_head, empty_world}
+use Rattle.iso_run.specs.FirstPart.{are_simple_members}
 use Rattle.iso_run.specs.ResultView.{node_of}
 use Rattle.iso_run.specs.Suites.{member_result}
 use Rattle.iso_run.proofs.runner.run_class.Given as goal

@@ -1,4 +1,4 @@
-use Rattle.iso_run.specs.FirstPart.{empty_world}
+use Rattle.iso_model.specs.Resources.{empty_world}
 use Rattle.iso_run.proofs.FirstPart.{classes-done}
 use Rattle.iso_run.proofs.runner.run_script.Goals as goal
 

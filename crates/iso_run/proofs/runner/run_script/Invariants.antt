@@ -1,6 +1,7 @@
 use Rattle.std.proofs.Common.{◌≡◌, true, drop, take, map}
+use Rattle.iso_model.specs.Resources.{empty_world}
 use Rattle.iso_model.specs.ScriptView.{class_of}
-use Rattle.iso_run.specs.FirstPart.{are_simple_classes, empty_world}
+use Rattle.iso_run.specs.FirstPart.{are_simple_classes}
 use Rattle.iso_run.specs.ResultView.{node_of}
 use Rattle.iso_run.specs.Suites.{top_result}
 use Rattle.iso_run.proofs.runner.run_script.Given as goal

@@ -1,8 +1,8 @@
 use Rattle.std.proofs.Common.{◌∙◌, ap, sym}
-use Rattle.iso_model.specs.Resources.{restricted}
+use Rattle.iso_model.specs.Resources.{restricted, empty_world}
 use Rattle.iso_model.specs.ScriptView.{test_of}
 use Rattle.iso_model.specs.Statements.{State}
-use Rattle.iso_run.specs.FirstPart.{empty_world, outcome_of}
+use Rattle.iso_run.specs.FirstPart.{outcome_of}
 use Rattle.iso_run.proofs.FirstPart.{no_rights, simple_test-alone}
 use Rattle.iso_run.proofs.runner.run_test.Goals as goal
 
