@@ -6,23 +6,34 @@ use Rattle.iso_store.specs.Histories.{History, values, after, before_last, befor
 
 -- a history is its own mark, and stays one under further changes
 pub earlier_itself : (h : History) → IsEarlier h h
-earlier_itself h = ([], refl)
+earlier_itself h = record { newer = []; is = refl }
 
 pub earlier_after : (mark h : History) (change : Change) → IsEarlier mark h → IsEarlier mark (after change h)
-earlier_after mark h change e = ((after change h).now ∷ e.0, ap (λ vs. (after change h).now ∷ vs) e.1)
+earlier_after mark h change e = record { newer = (after change h).now ∷ e.newer; is = ap (λ vs. (after change h).now ∷ vs) e.is }
+
+-- the same where histories are known by equations
+pub earlier_same : {mark h : History} → h ≡ mark → IsEarlier mark h
+earlier_same {mark} {h} e = subst (IsEarlier mark) (sym e) (earlier_itself mark)
+
+pub earlier_equal : {mark g h : History} → IsEarlier mark g → h ≡ g → IsEarlier mark h
+earlier_equal {mark} before e = subst (IsEarlier mark) (sym e) before
+
+pub earlier_longer : {mark g h : History} {now : Resource} → IsEarlier mark g → h ≡ record { now = now; past = values g } → IsEarlier mark h
+earlier_longer {mark} {g} {h} {now} before e =
+    subst (IsEarlier mark) (sym e) (record { newer = now ∷ before.newer; is = ap (λ vs. now ∷ vs) before.is })
 
 -- a mark of a mark is a mark
 pub earlier_of_earlier : (a b c : History) → IsEarlier a b → IsEarlier b c → IsEarlier a c
-earlier_of_earlier a b c e f = (f.0 ++ e.0, f.1 ∙ ap (λ vs. f.0 ++ vs) e.1 ∙ sym (append_assoc f.0 e.0 (values a)))
+earlier_of_earlier a b c e f = record { newer = f.newer ++ e.newer; is = f.is ∙ ap (λ vs. f.newer ++ vs) e.is ∙ sym (append_assoc f.newer e.newer (values a)) }
 
 -- going back one change keeps each earlier mark
 back : (m : History) (n : Resource) (ps newer : List Resource) → length m.past < length ps → n ∷ ps ≡ newer ++ values m → IsEarlier m (before_last n ps)
 back m n [] newer h e = absurd (omega arith)
 back m n (p ∷ ps) [] h e = let same : length (n ∷ p ∷ ps) ≡ length (values m) = ap length e in absurd (omega arith)
-back m n (p ∷ ps) (x ∷ newer) h e = (newer, cc)
+back m n (p ∷ ps) (x ∷ newer) h e = record { newer = newer; is = cc }
 
 pub earlier_before : (m h : History) → length m.past < length h.past → IsEarlier m h → IsEarlier m (before h)
-earlier_before m h shorter e = back m h.now h.past e.0 shorter e.1
+earlier_before m h shorter e = back m h.now h.past e.newer shorter e.is
 
 -- a history that has no more changes than its mark stands there
 stands : (m h : History) (newer : List Resource) → length h.past ≤ length m.past → values h ≡ newer ++ values m → h ≡ m
@@ -33,7 +44,7 @@ stands m h [] shorter e =
 stands m h (x ∷ newer) shorter e = let same : suc (length h.past) ≡ suc (length (newer ++ values m)) = ap length e in absurd (omega (arith, length-append newer (values m)))
 
 pub earlier_stands : (m h : History) → length h.past ≤ length m.past → IsEarlier m h → h ≡ m
-earlier_stands m h shorter e = stands m h e.0 shorter e.1
+earlier_stands m h shorter e = stands m h e.newer shorter e.is
 
 -- the start stays
 oldest-before : (n : Resource) (ps : List Resource) → start_of (before_last n ps) ≡ oldest n ps
@@ -55,4 +66,4 @@ same_start m x xs (n ∷ newer) e =
 
 -- a mark has the start of the histories that came after it
 pub start_of_earlier : (m h : History) → IsEarlier m h → start_of h ≡ start_of m
-start_of_earlier m h e = same_start m h.now h.past e.0 e.1
+start_of_earlier m h e = same_start m h.now h.past e.newer e.is

@@ -41,6 +41,7 @@ oldest v (w ∷ ws) = oldest w ws
 abbrev pub start_of : History → Resource
 start_of h = oldest h.now h.past
 
--- the one history became the other by further changes alone
-abbrev pub IsEarlier : History → History → Type 0
-IsEarlier mark h = (newer : List Resource) × (values h ≡ newer ++ values mark)
+-- the second history came from the first by further changes
+pub record IsEarlier (mark h : History) : Type 0 where
+  pub newer : List Resource
+  pub is : values h ≡ newer ++ values mark

@@ -1,4 +1,3 @@
-pub mod Answers
 pub mod Histories
 pub mod Journals
 pub mod Places

@@ -1,6 +1,6 @@
 //! A value with its journal, and the marks to which it can go back.
 ghost use Rattle.std.specs.Prelude.{◌≡◌, ◌<◌, OnOk, OnErr, [], length, option_copied};
-ghost use Rattle.iso_store.specs.Answers.{answer};
+ghost use Rattle.iso_model.specs.Touch.{answer};
 ghost use Rattle.iso_store.specs.Histories.{History, after, before, start_of, IsEarlier};
 
 use crate::value::{Undo, Value};

@@ -1,6 +1,6 @@
 ghost use Rattle.std.specs.Prelude.{◌≡◌, OnOk, OnErr, IfOk, option_copied};
 ghost use Rattle.iso_model.specs.Resources.{changed};
-ghost use Rattle.iso_store.specs.Answers.{answer};
+ghost use Rattle.iso_model.specs.Touch.{answer};
 ghost use Rattle.iso_store.specs.Values.{resource_of, undone, started, IsStarted};
 
 use crate::changed::ChangedProperties;

@@ -1,0 +1,8 @@
+use Rattle.std.proofs.Common.{sym, ◌∙◌}
+use Rattle.iso_store.proofs.HistoryLemmas.{earlier_same, earlier_equal, earlier_longer}
+use Rattle.iso_store_tests.proofs.held.refused_growth_changes_nothing.Goals as goal
+
+pub undo_to-requires : goal.undo_to-requires
+undo_to-requires g c =
+    let mark = c.mark-mark.result in
+    c.changes_or_stays-2.ensures mark (c.changes_or_stays.ensures mark (earlier_same (sym c.mark-mark.ensures)))

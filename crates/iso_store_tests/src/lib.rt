@@ -1,0 +1,5 @@
+//! Tests of values with undo.
+#![tactic(auto)]
+
+#[cfg(test)]
+mod held;

@@ -1,0 +1,4 @@
+pub mod Escapes
+pub mod Pieces
+pub mod Printers
+pub mod Sinks

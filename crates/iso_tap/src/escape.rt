@@ -1,0 +1,38 @@
+//! Texts as they stand in titles and reasons.
+ghost use Rattle.std.specs.Prelude.{◌≡◌};
+ghost use Rattle.iso_tap.specs.Escapes.{escaped, plain_len};
+ghost use Rattle.iso_tap.specs.Printers.{Writes};
+
+use crate::fault::TapFault;
+use crate::printer::{Piece, Printer};
+use crate::sink::Sink;
+
+/// Writes a text as it stands in a title or a reason (TAP version 14): with a backslash before each
+/// backslash and each hash. Takes no memory.
+///
+/// The sink is asked again where it takes only some bytes, and no more once it has failed.
+pub fn escape<W: Sink>(text: &str, sink: &mut W) -> Result<(), TapFault>
+    ensures { Writes (W.account sink.old) (W.account sink.new) (escaped text.now) result }
+{
+    let mut printer = Printer::new(sink);
+    match printer.piece(&Piece::Escaped(text)) {
+        Ok(()) => Ok(()),
+        Err(_) => Err(TapFault {
+            written: printer.written(),
+        }),
+    }
+}
+
+/// How many bytes stand before the first that is escaped, which is a backslash or this other byte.
+pub(crate) fn plain_len(other: u8, text: &[u8]) -> usize
+    ensures { result ≡ plain_len other text.now }
+{
+    let mut len = 0;
+    for byte in text {
+        if *byte == b'\\' || *byte == other {
+            return len;
+        }
+        len += 1;
+    }
+    len
+}

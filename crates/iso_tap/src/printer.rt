@@ -1,0 +1,113 @@
+//! A printer, which writes texts to a sink one after another.
+ghost use Rattle.std.specs.Prelude.{◌≡◌, ◌≤◌};
+ghost use Rattle.std.specs.Fmt.{decimal};
+
+use crate::escape::plain_len;
+use crate::sink::{Sink, SinkFailed};
+use itoa::Buffer;
+
+/// A piece of a line.
+#[derive(Clone, Copy)]
+pub(crate) enum Piece<'a> {
+    Plain(&'a [u8]),
+    /// A number in decimal.
+    Number(u64),
+    /// A text as it stands in a title or a reason.
+    Escaped(&'a str),
+    /// A text as it stands between quotes.
+    InQuotes(&'a str),
+}
+
+/// Writes texts to a sink, one after another, and counts the bytes that it wrote.
+/// Once the sink has failed, it is only dropped.
+#[derive(Drop)]
+pub(crate) struct Printer<'a, W: Sink> {
+    sink: &'a mut W,
+    written: u64,
+    ghost countable: { written ≤ (W.account sink.now).count },
+}
+
+impl<'a, W: Sink> Printer<'a, W> {
+    ghost use Rattle.iso_tap.specs.Escapes.{with_escapes};
+    ghost use Rattle.iso_tap.specs.Pieces.{piece_text, pieces_text};
+    ghost use Rattle.iso_tap.specs.Printers.{Prints};
+
+    /// A printer to this sink, which wrote nothing.
+    pub fn new(sink: &'a mut W) -> Printer<'a, W>
+        ensures sink { result.sink.ghost_name ≡ sink.entry.ghost_name }
+        ensures now { result.sink.now ≡ sink.old }
+        ensures written { result.written ≡ 0 }
+    {
+        Printer { sink, written: 0 }
+    }
+
+    /// How many bytes it wrote.
+    pub fn written(&self) -> u64
+        ensures { result ≡ self.now.written }
+    {
+        self.written
+    }
+
+    /// Writes bytes, as often as the sink takes only some of them.
+    pub fn bytes(&mut self, bytes: &[u8]) -> Result<(), SinkFailed>
+        ensures { Prints self.old self.new bytes.now result }
+    {
+        let mut rest = bytes;
+        while !rest.is_empty() {
+            let taken = self.sink.write(rest)?;
+            if taken == 0 {
+                return Err(SinkFailed);
+            }
+            self.written += taken as u64;
+            rest = &rest[taken..];
+        }
+        Ok(())
+    }
+
+    /// Writes a number in decimal.
+    fn number(&mut self, number: u64) -> Result<(), SinkFailed>
+        ensures { Prints self.old self.new (decimal number) result }
+    {
+        let mut buffer = Buffer::new();
+        self.bytes(buffer.format(number).as_bytes())
+    }
+
+    /// Writes a text with a backslash before each backslash and each of this other byte. What stands
+    /// between these goes to the sink in one call.
+    fn escaped(&mut self, other: u8, text: &[u8]) -> Result<(), SinkFailed>
+        ensures { Prints self.old self.new (with_escapes other text.now) result }
+    {
+        let mut rest = text;
+        let mut plain = plain_len(other, rest);
+        while plain < rest.len() {
+            let (run, special) = rest.split_at(plain);
+            self.bytes(run)?;
+            self.bytes(&[b'\\', special[0]])?;
+            rest = &special[1..];
+            plain = plain_len(other, rest);
+        }
+        self.bytes(rest)
+    }
+
+    /// Writes a piece.
+    pub fn piece(&mut self, piece: &Piece<'_>) -> Result<(), SinkFailed>
+        ensures { Prints self.old self.new (piece_text piece.now) result }
+    {
+        match *piece {
+            Piece::Plain(bytes) => self.bytes(bytes),
+            Piece::Number(number) => self.number(number),
+            Piece::Escaped(text) => self.escaped(b'#', text.as_bytes()),
+            Piece::InQuotes(text) => self.escaped(b'"', text.as_bytes()),
+        }
+    }
+
+    /// Writes pieces, one after another.
+    pub fn pieces(&mut self, pieces: &[Piece<'_>]) -> Result<(), SinkFailed>
+        ensures { Prints self.old self.new (pieces_text pieces.now) result }
+    {
+        for piece in pieces {
+            self.piece(piece)?;
+        }
+        Ok(())
+    }
+}

@@ -1,0 +1,5 @@
+//! Tests of what writes to sinks.
+#![tactic(auto)]
+
+#[cfg(test)]
+mod escape;
