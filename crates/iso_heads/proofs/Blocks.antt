@@ -1,9 +1,9 @@
 -- Lifecycle blocks by their rules, with what stands where as equations.
-use Rattle.std.proofs.Common.{◌≡◌, ◌≢◌, ℕ, ◌<◌, length, arith, List, [], ◌∷◌, ◌++◌, Bool, true, false, Option, Some, None, is_some, refl, ap, subst, ◌∙◌, sym, append-nil, append_assoc}
+use Rattle.std.proofs.Common.{◌≡◌, ◌≢◌, ◌<◌, length, arith, List, [], ◌∷◌, ◌++◌, Bool, true, false, Option, Some, None, is_some, refl, ap, subst, ◌∙◌, sym, append-nil, append_assoc}
 use Rattle.std.proofs.lemmas.List.Elements.{filter_map-append}
 use Rattle.std.specs.List.{filter_map}
 use Rattle.std.specs.Option.{option_to_list}
-use Rattle.iso_lexer.specs.Piece.{Piece, word_at, tail}
+use Rattle.iso_lexer.specs.Piece.{Piece, tail}
 use Rattle.iso_model.specs.Syntax.{Acts}
 use Rattle.iso_model.specs.declared.place.Lifecycle.{Lifecycle}
 use Rattle.iso_model.specs.declared.place.Lifecycle.TheVariants.{BeforeAll, AfterAll, BeforeEach, AfterEach}

@@ -1,4 +1,6 @@
 mod Blocks
 mod Displays
+pub mod Distinct
 mod Marks
 mod Readings
+mod Variables

@@ -1,5 +1,5 @@
 -- Display texts.
-use Rattle.std.specs.Prelude.{ℕ, List, [], ◌∷◌, ◌≡◌, Bool, true, false, Option, Some, None, nat_eq, nat_le, ◌&&◌, not, length, ◌-◌}
+use Rattle.std.specs.Prelude.{ℕ, List, ◌∷◌, ◌≡◌, Bool, true, false, Option, Some, None, nat_eq, nat_le, ◌&&◌, not, length, ◌-◌}
 use Rattle.std.specs.List.{slice_get}
 use Rattle.iso_lexer.specs.Piece.{Piece, text_at}
 use Rattle.iso_model.specs.declared.limits.TheConstants.{DISPLAY_BYTES}

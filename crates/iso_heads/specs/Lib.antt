@@ -1,4 +1,5 @@
-pub mod Readings
-pub mod Marks
-pub mod Displays
 pub mod Blocks
+pub mod Displays
+pub mod Marks
+pub mod Readings
+pub mod Variables

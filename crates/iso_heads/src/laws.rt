@@ -3,6 +3,7 @@ ghost use Rattle.std.specs.Prelude.{◌≡◌, ℕ, List, Option};
 ghost use Rattle.iso_heads.specs.Blocks.{Blocks, IsBlocks};
 ghost use Rattle.iso_heads.specs.Displays.{IsDisplayed};
 ghost use Rattle.iso_heads.specs.Marks.{IsMarks, Marks};
+ghost use Rattle.iso_heads.specs.Variables.{IsVariables, Variables};
 ghost use Rattle.iso_lexer.specs.Piece.{Piece};
 
 /// Pieces are the marks of one class or test at most, and what follows them.
@@ -19,4 +20,10 @@ pub fn display_texts_are_unique()
 /// Pieces are the lifecycle blocks of one class at most, and what follows them.
 pub fn blocks_are_unique()
     ensures { (a b : Blocks) (ps qs rs : List Piece) → IsBlocks a ps qs → IsBlocks b ps rs → (a ≡ b) × (qs ≡ rs) }
+{}
+
+/// Pieces are the statics and fields of one class at most, and what follows them.
+pub fn variables_are_unique()
+    ensures { (taken : List (List ℕ)) (a b : Variables) (ps qs rs : List Piece) → IsVariables taken a ps qs
+        → IsVariables taken b ps rs → (a ≡ b) × (qs ≡ rs) }
 {}

@@ -1,4 +1,3 @@
-use Rattle.std.proofs.Common.{◌∷◌, []}
 use Rattle.iso_heads.specs.Marks.{runs, isolates, declares, a_mode, an_isolation, a_declaration}
 use Rattle.iso_heads.proofs.Marks.{is_marking, adds_mode, adds_isolation, adds_key}
 use Rattle.iso_heads.proofs.mark.add_mark.Goals as goal
