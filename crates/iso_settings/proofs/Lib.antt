@@ -1,3 +1,4 @@
+pub mod ExampleLemmas
 pub mod LeafLemmas
 pub mod NumeralLemmas
 pub mod WorldLemmas

@@ -1,3 +1,4 @@
+pub mod Examples
 pub mod Leaves
 pub mod Readings
 pub mod Settings

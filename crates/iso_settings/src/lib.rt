@@ -2,6 +2,7 @@
 //! Both are TOML.
 #![tactic(auto)]
 
+pub mod examples;
 pub mod fault;
 mod find;
 mod rules;
