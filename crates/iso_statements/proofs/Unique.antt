@@ -8,11 +8,12 @@ use Rattle.iso_lexer.specs.declared.word.Word.TheVariants as W
 use Rattle.iso_model.specs.declared.data.Data.{Data}
 use Rattle.iso_model.specs.declared.limits.TheConstants.{PARENTHESES}
 use Rattle.iso_model.specs.declared.tree.Function.{Function}
-use Rattle.iso_model.specs.Syntax.{Term, Terms, literal, name, chain, compare, call, term, print, assert_equal, Act, plain, Acts}
+use Rattle.iso_model.specs.Syntax.{Term, Terms, literal, name, chain, compare, call, term, let_name, assign, assume, Act, plain, choice, repeat, Acts}
 use Rattle.iso_statements.specs.Expressions as E
 use Rattle.iso_statements.specs.Expressions.{IsLiteral, a_number, a_negative, a_text, a_true, a_false, infix_of, infix_next, function_of, IsLocale, no_argument, IsOperand, a_literal, a_name, in_parentheses, a_call, the_locale, IsEnclosed, enclosed, IsChained, chained, IsExpression, an_operand, a_chain, a_comparison, IsBefore, before}
 use Rattle.iso_statements.specs.declared.expression.Infix.{Infix}
-use Rattle.iso_statements.specs.Statements.{IsStatement, a_print, an_assert_equal, IsStatements, closed, and_then, IsBody, a_body, IsBlock, a_block}
+use Rattle.iso_statements.specs.declared.simple.Simple.{Simple}
+use Rattle.iso_statements.specs.Statements.{with_one, with_two, IsDisplay, a_display, IsBinding, a_binding, IsSimple, of_one, of_two, a_let, an_assumption, a_fail, IsStatement, a_simple, an_assignment, an_if, a_repeat, IsElse, no_else, an_else, IsStatements, closed, and_then, IsBody, a_body, IsBlock, a_block}
 
 pub one_literal : {x y : Data} {ps qs rs : List Piece} → IsLiteral x ps qs → IsLiteral y ps rs → (x ≡ y) × (qs ≡ rs)
 one_literal (a_number h) (a_number k) = (refl, refl)
@@ -104,16 +105,53 @@ mutual
 pub one_before : {s : Symbol} {e f : Term} {ps qs rs : List Piece} → IsBefore s e ps qs → IsBefore s f ps rs → (e ≡ f) × (qs ≡ rs)
 one_before (before h) (before k) = let u = one_expression h k in (u.0, cc u.1)
 
+pub one_binding : {b c : List ℕ × Term} {ps qs rs : List Piece} → IsBinding b ps qs → IsBinding c ps rs → (b ≡ c) × (qs ≡ rs)
+one_binding (a_binding {n = n} h) (a_binding k) = let u = one_before h k in let with_name : Term → List ℕ × Term = λ e. (n, e) in (ap with_name u.0, u.1)
+
+pub one_display : {t s : List ℕ} {ps qs rs : List Piece} → IsDisplay t ps qs → IsDisplay s ps rs → (t ≡ s) × (qs ≡ rs)
+one_display (a_display h) (a_display k) = (refl, refl)
+
+pub one_simple : {k : Simple} {a b : Act} {ps qs rs : List Piece} → IsSimple k a ps qs → IsSimple k b ps rs → (a ≡ b) × (qs ≡ rs)
+one_simple (of_one {o = o} h) (of_one k) = let u = one_before h k in (ap (λ e. plain (with_one o e)) u.0, u.1)
+one_simple (of_two {o = o} {f = g} h i) (of_two {e = e} {f = f} {rs = rs} k j) =
+    let u = one_before h k in
+    let v = one_before i (subst (λ ps. IsBefore Semicolon f ps rs) (sym u.1) j) in
+    (ap (λ e. plain (with_two o e g)) u.0 ∙ ap (λ f. plain (with_two o e f)) v.0, v.1)
+one_simple (a_let h) (a_let k) = let u = one_binding h k in (ap (λ (b : List ℕ × Term). plain (let_name b.0 b.1)) u.0, u.1)
+one_simple (an_assumption {t = t} h i) (an_assumption {q = q} {e = e} {t = s} {rs = rs} k j) =
+    let u = one_before h k in
+    let v = one_display i (subst (λ ps. IsDisplay s ps (symbol_at q Semicolon ∷ rs)) (sym u.1) j) in
+    (ap (λ e. plain (assume e t)) u.0 ∙ ap (λ t. plain (assume e t)) v.0, (same_front v.1).1)
+one_simple a_fail a_fail = (refl, refl)
+
 no_statement : {d brace r : ℕ} {s : Symbol} {a : Act} {ps qs : List Piece} → IsStatement d brace a (symbol_at r s ∷ ps) qs → ⊥
 no_statement h = elim h [ ]
 
 mutual
   pub one_statement : {d brace : ℕ} {a b : Act} {ps qs rs : List Piece} → IsStatement d brace a ps qs → IsStatement d brace b ps rs → (a ≡ b) × (qs ≡ rs)
-  one_statement (a_print h) (a_print k) = let u = one_before h k in (ap (λ e. plain (print e)) u.0, u.1)
-  one_statement (an_assert_equal h i) (an_assert_equal {actual = f} {rs = rs} k j) =
-      let u = one_before h k in
-      let v = one_before i (subst (λ ps. IsBefore Semicolon f ps rs) (sym u.1) j) in
-      (cc (u.0, v.0), v.1)
+  one_statement (a_simple {k = k} is h) (a_simple {k = l} {a = b} {ps = ps} {qs = rs} also j) =
+      let same : k ≡ l = cc in
+      one_simple h (subst (λ k. IsSimple k b ps rs) (sym same) j)
+  one_statement (an_assignment h) (an_assignment k) = let u = one_binding h k in (ap (λ (b : List ℕ × Term). plain (assign b.0 b.1)) u.0, u.1)
+  one_statement {d = d} {brace = brace} (an_if {a = a} {b = b} h i j) (an_if {e = e} {a = c} {b = g} {rs = rs} {ts = ts} k l m) =
+      let u = one_expression h k in
+      let v = one_body i (subst (λ ps. IsBody d brace c ps rs) (sym u.1) l) in
+      let w = one_else j (subst (λ ps. IsElse d brace g ps ts) (sym v.1) m) in
+      (ap (λ e. choice e a b) u.0 ∙ ap (λ a. choice e a b) v.0 ∙ ap (choice e c) w.0, w.1)
+  one_statement {d = d} {brace = brace} (a_repeat {a = a} h i) (a_repeat {e = e} {a = c} {rs = rs} k l) =
+      let u = one_expression h k in
+      let v = one_body i (subst (λ ps. IsBody d brace c ps rs) (sym u.1) l) in
+      (ap (λ e. repeat e a) u.0 ∙ ap (repeat e) v.0, v.1)
+  one_statement (a_simple is h) (an_if k l m) = cc
+  one_statement (a_simple is h) (a_repeat k l) = cc
+  one_statement (an_if h i j) (a_simple is k) = cc
+  one_statement (a_repeat h i) (a_simple is k) = cc
+
+  pub one_else : {d brace : ℕ} {a b : Acts} {ps qs rs : List Piece} → IsElse d brace a ps qs → IsElse d brace b ps rs → (a ≡ b) × (qs ≡ rs)
+  one_else (no_else none) (no_else also) = (refl, refl)
+  one_else (an_else h) (an_else k) = one_body h k
+  one_else (no_else none) (an_else k) = cc
+  one_else (an_else h) (no_else none) = cc
 
   pub one_statements : {d brace : ℕ} {a b : Acts} {ps qs rs : List Piece} → IsStatements d brace a ps qs → IsStatements d brace b ps rs → (a ≡ b) × (qs ≡ rs)
   one_statements closed closed = (refl, refl)
