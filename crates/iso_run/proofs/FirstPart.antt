@@ -104,18 +104,18 @@ no_acts-is (act row a rest) h = cc
 empty_head-is : (h : ClassHead) → is_empty_head h ≡ true → h ≡ empty_head
 empty_head-is h e =
     let g = and_parts _ _ e in
-    let f = and_parts _ _ g.0 in
+    let b = and_parts _ _ g.0 in
+    let a = and_parts _ _ b.0 in
+    let f = and_parts _ _ g.1 in
     let d = and_parts _ _ f.0 in
     let c = and_parts _ _ d.0 in
-    let b = and_parts _ _ c.0 in
-    let a = and_parts _ _ b.0 in
     let statics = empty-is h.statics a.0 in
     let fields = empty-is h.fields a.1 in
     let marks = empty-is h.marks b.1 in
-    let before_all = no_acts-is h.before_all c.1 in
-    let after_all = no_acts-is h.after_all d.1 in
-    let before_each = no_acts-is h.before_each f.1 in
-    let after_each = no_acts-is h.after_each g.1 in
+    let before_all = no_acts-is h.before_all c.0 in
+    let after_all = no_acts-is h.after_all c.1 in
+    let before_each = no_acts-is h.before_each d.1 in
+    let after_each = no_acts-is h.after_each f.1 in
     λ i. record {
       statics = statics i;
       fields = fields i;

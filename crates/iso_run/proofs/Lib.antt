@@ -1,5 +1,4 @@
 pub mod FirstPart
-pub mod ReadScripts
 mod Refusals
 mod Sequences
 mod Turns

@@ -58,11 +58,17 @@ abbrev pub is_empty_block : Acts → Bool
 is_empty_block no_acts = true
 is_empty_block (act row a rest) = false
 
+-- whether a class has no variable and no mark
+abbrev pub declares_nothing : ClassHead → Bool
+declares_nothing h = is_empty h.statics && is_empty h.fields && is_empty h.marks
+
+-- whether a class has no lifecycle block, or empty ones
+abbrev pub has_no_blocks : ClassHead → Bool
+has_no_blocks h = is_empty_block h.before_all && is_empty_block h.after_all && is_empty_block h.before_each && is_empty_block h.after_each
+
 -- whether a class gives nothing to its tests: no variable, no mark, no lifecycle block
 abbrev pub is_empty_head : ClassHead → Bool
-is_empty_head h =
-    is_empty h.statics && is_empty h.fields && is_empty h.marks
-    && is_empty_block h.before_all && is_empty_block h.after_all && is_empty_block h.before_each && is_empty_block h.after_each
+is_empty_head h = declares_nothing h && has_no_blocks h
 
 -- whether a test is simple: a name and a body
 abbrev pub is_simple_test : Test → Bool

@@ -4,6 +4,7 @@ use Rattle.std.specs.Borrow.{Bor}
 use Rattle.iso_model.specs.Resources.{empty_world}
 use Rattle.iso_model.specs.Scripts.{Script}
 use Rattle.iso_script.specs.Grammar.{Reads}
+use Rattle.iso_run.specs.FirstPart.{is_first_part}
 use Rattle.iso_run.specs.Plans.{plan_fault}
 use Rattle.iso_run.specs.Reports.{report, all_ok}
 use Rattle.iso_run.specs.Results.{Nodes}
@@ -26,9 +27,10 @@ script_in inputs = one_script inputs.scripts.now inputs.settings.now inputs.worl
 abbrev pub suite_results : Script → Nodes
 suite_results s = script_results empty_world s
 
--- The bytes are a suite: a script, of which nothing makes it no plan.
+-- The bytes are a suite: a script of the first part, of which nothing makes it no plan.
 pub record IsSuite (bytes : List ℕ) (s : Script) : Type 0 where
   pub reads : Reads bytes s
+  pub first_part : is_first_part s ≡ true
   pub planned : plan_fault s ≡ None
 
 -- The report of the suite was written, whole, and this tells whether every top-level point is ok.
@@ -55,15 +57,22 @@ pub record CutShort (bytes : List ℕ) (old new : Account) (written : ℕ) : Typ
   pub suite : IsSuite bytes script
   pub broken : Broken (report (suite_results script)) old new written
 
--- The bytes are a script that has this fault of a plan.
+-- The bytes are a script of the first part that has this fault of a plan.
 pub record IsNoPlan (bytes : List ℕ) (fault : Option PlanFault) : Type 0 where
   pub script : Script
   pub reads : Reads bytes script
+  pub first_part : is_first_part script ≡ true
   pub faulty : plan_fault script ≡ fault
+
+-- The bytes are a script outside the first part of the language, which is not run yet.
+pub record IsBeyond (bytes : List ℕ) : Type 0 where
+  pub script : Script
+  pub reads : Reads bytes script
+  pub beyond : is_first_part script ≡ false
 
 -- Why the run of one script was refused. But for a failed write nothing was written.
 abbrev pub Refused : List ℕ → Account → Account → RunFault → Type 0
-Refused bytes old new NotYet = ⊥
+Refused bytes old new NotYet = IsBeyond bytes × TookNothing old new
 Refused bytes old new (ScriptFault fault) = ((s : Script) → Reads bytes s → ⊥) × TookNothing old new
 Refused bytes old new (Plan fault) = IsNoPlan bytes (Some fault) × TookNothing old new
 Refused bytes old new Memory = TookNothing old new

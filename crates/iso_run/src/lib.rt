@@ -2,6 +2,7 @@
 #![tactic(auto)]
 
 pub mod command;
+mod first_part;
 pub mod plan;
 pub mod report;
 pub mod results;

@@ -6,6 +6,7 @@ ghost use Rattle.iso_run.specs.Reports.{all_ok, report};
 ghost use Rattle.iso_run.specs.Runs.{NotWritten, Refused, Reported, script_in, suite_results};
 ghost use Rattle.iso_run.specs.Sinks.{TookNothing, Wrote};
 
+use crate::first_part::is_first_part;
 use crate::plan::{PlanFault, plan_fault};
 use crate::report::{all_ok, write_report};
 use crate::runner::run_script;
@@ -35,7 +36,8 @@ pub struct Summary {
 /// Why a run has no report, or only its beginning.
 #[derive(Clone, Copy, PartialEq, Eq)]
 pub enum RunFault {
-    /// Another number of scripts than one, or settings or a world that aren't empty, are not built yet.
+    /// Another number of scripts than one, settings or a world that aren't empty, and a script outside the first
+    /// part of the language are not built yet.
     NotYet,
     Script(ScriptFault),
     Plan(PlanFault),
@@ -47,8 +49,9 @@ pub enum RunFault {
 
 /// Runs a suite class after class on one thread, and writes its report to the sink.
 ///
-/// `NotYet` comes first; then the script is read, then the suite is planned, then it runs. Nothing is
-/// written before it has run. Want of memory may be answered at each growth.
+/// `NotYet` for another number of scripts, for settings or for a world comes first; then the script is read, and
+/// is `NotYet` where it lies outside the first part; then the suite is planned, then it runs. Nothing is written
+/// before it has run. Want of memory may be answered at each growth.
 pub fn run_serial<W: Sink>(
     alloc: Global,
     inputs: Inputs<'_>,
@@ -73,11 +76,16 @@ fn run_one<W: Sink>(alloc: Global, bytes: &[u8], sink: &mut W) -> Result<Summary
         (Refused bytes.now (W.account sink.old) (W.account sink.new)) }
 {
     match read_script(alloc, bytes) {
-        Ok(script) => match plan_fault(alloc, &script) {
-            Ok(None) => run_planned(alloc, &script, sink),
-            Ok(Some(fault)) => Err(RunFault::Plan(fault)),
-            Err(_) => Err(RunFault::Memory),
-        },
+        Ok(script) => {
+            if !is_first_part(&script) {
+                return Err(RunFault::NotYet);
+            }
+            match plan_fault(alloc, &script) {
+                Ok(None) => run_planned(alloc, &script, sink),
+                Ok(Some(fault)) => Err(RunFault::Plan(fault)),
+                Err(_) => Err(RunFault::Memory),
+            }
+        }
         Err(ScriptError::Fault(fault)) => Err(RunFault::Script(fault)),
         Err(ScriptError::OutOfMemory) => Err(RunFault::Memory),
     }

@@ -24,8 +24,8 @@ use std::alloc::Global;
 /// the grammar or a rule does not allow comes before anything in the bytes that follow it. A script above the
 /// limit is `TooLong` at line 1, column 1, before all else.
 ///
-/// So far a class has tests alone, and a test `print` and `assert_equal` of literals. Whatever else the language
-/// has is `Expected` at its token.
+/// So far a class has tests alone, without marks and display texts. Whatever else the language has of classes is
+/// `Expected` at its token.
 pub fn read_script(alloc: Global, bytes: &[u8]) -> Result<Script, ScriptError>
     // What is read is the script of the bytes.
     ensures found { IfOk result (λ s. Reads bytes.now (script_of s)) }

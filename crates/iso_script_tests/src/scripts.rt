@@ -258,11 +258,6 @@ fn what_is_not_read_yet_is_expected_at_its_token(rt: HostRuntime) {
         ("team shop\nclass C { class D { test t { } } }", 11),
         ("team shop\nclass C { read \"k\" test t { } }", 11),
         ("team shop\nclass C { test t \"text\" { } }", 18),
-        ("team shop\nclass C { test t { let x = 1; } }", 20),
-        ("team shop\nclass C { test t { if true { } } }", 20),
-        ("team shop\nclass C { test t { print x; } }", 26),
-        ("team shop\nclass C { test t { print (1); } }", 26),
-        ("team shop\nclass C { test t { print 1 + 2; } }", 28),
     ] {
         let found = fault_of(rt.alloc(), script.as_bytes());
         assert_eq!(rt;

@@ -1,38 +1,161 @@
 -- Statements and bodies by their rules, with what stands where as equations.
-use Rattle.std.proofs.Common.{◌≡◌, ◌≢◌, ℕ, suc, List, [], ◌∷◌, Some, None, refl, ap, subst, ◌∙◌, sym}
-use Rattle.iso_lexer.specs.Piece.{Piece, word_at, symbol_at, tail}
-use Rattle.iso_lexer.specs.Tokens.{front, after}
+use Rattle.std.proofs.Common.{◌≡◌, ◌≢◌, ℕ, suc, List, [], ◌∷◌, Some, None, true, false, refl, ap, subst, ◌∙◌, sym}
+use Rattle.std.proofs.lemmas.Option.{some_pair_parts}
+use Rattle.iso_lexer.specs.Piece.{Piece, name_at, number_at, text_at, word_at, symbol_at, bad_at, tail}
+use Rattle.iso_lexer.specs.Tokens.{front, after, after_word}
 use Rattle.iso_lexer.specs.declared.token.Token.{Token}
 use Rattle.iso_lexer.specs.declared.token.Token.TheVariants as T
 use Rattle.iso_lexer.specs.declared.symbol.Symbol.{Symbol}
-use Rattle.iso_lexer.specs.declared.symbol.Symbol.TheVariants.{OpenBrace, CloseBrace, Semicolon, Comma}
-use Rattle.iso_lexer.specs.declared.word.Word.TheVariants.{Print, AssertEqual}
-use Rattle.iso_lexer.proofs.Afters.{after-Some, after-symbol_at}
-use Rattle.iso_model.specs.declared.limits.TheConstants.{BODY_DEPTH}
-use Rattle.iso_model.specs.Syntax.{Term, print, assert_equal, Act, plain, Acts, no_acts, act}
+use Rattle.iso_lexer.specs.declared.symbol.Symbol.TheVariants.{OpenBrace, CloseBrace, Semicolon, Comma, Equals}
+use Rattle.iso_lexer.specs.declared.word.Word.{Word}
+use Rattle.iso_lexer.specs.declared.word.Word.TheVariants as W
+use Rattle.iso_lexer.proofs.Afters.{after-Some, after-symbol_at, after_word-Some, after_word-word_at}
+use Rattle.iso_model.specs.declared.limits.TheConstants.{BODY_DEPTH, PARENTHESES}
+use Rattle.iso_model.specs.Syntax.{Term, assign, assume, fail, Act, plain, Acts, no_acts, act}
 use Rattle.iso_model.specs.SyntaxView.{acts_of}
-use Rattle.iso_statements.specs.Expressions.{IsBefore}
-use Rattle.iso_statements.specs.Pieces.{row_in}
-use Rattle.iso_statements.specs.Statements.{IsStatement, a_print, an_assert_equal, IsStatements, closed, and_then, IsBody, a_body, IsBlock, a_block}
+use Rattle.iso_statements.specs.Expressions.{IsExpression, IsBefore}
+use Rattle.iso_statements.specs.Pieces.{name_next, row_in, text_next}
+use Rattle.iso_statements.specs.Statements.{simple_of, simple_next, is_display, IsDisplay, a_display, IsBinding, a_binding, IsSimple, of_two, an_assumption, a_fail, IsStatement, a_simple, an_assignment, an_if, a_repeat, IsElse, no_else, an_else, IsStatements, closed, and_then, IsBody, a_body, IsBlock, a_block}
+use Rattle.iso_statements.specs.declared.simple.Simple.{Simple}
+use Rattle.iso_statements.specs.declared.simple.Simple.TheVariants.{Two, Assume, Fail}
+use Rattle.iso_statements.specs.declared.simple.TwoOperands.{TwoOperands}
 use Rattle.iso_statements.proofs.Repetitions.{onto, HaveRead}
-use Rattle.iso_statements.proofs.Unique.{one_before, one_statement}
+use Rattle.iso_statements.proofs.Taken.{name_is}
+use Rattle.iso_statements.proofs.Unique.{one_before, one_body, one_display, one_expression, one_statement}
 
-pub is_print : (d brace r : ℕ) (e : Term) (old ps rs : List Piece) → old ≡ word_at r Print ∷ tail old → ps ≡ tail old → IsBefore Semicolon e ps rs → IsStatement d brace (plain (print e)) old rs
-is_print d brace r e old ps rs is ahead h =
-    subst (λ ps. IsStatement d brace (plain (print e)) ps rs) (sym is) (a_print (subst (λ ps. IsBefore Semicolon e ps rs) ahead h))
+-- a simple statement that is next stands in front
+simple_first : (k : Simple) (ps : List Piece) → simple_next ps ≡ Some k → (r : ℕ) × (w : Word) × (simple_of w ≡ Some k) × (ps ≡ word_at r w ∷ tail ps)
+simple_first k [] h = cc
+simple_first k (word_at r w ∷ ps) h = (r, w, h, refl)
+simple_first k (name_at r n ∷ ps) h = cc
+simple_first k (number_at r n ∷ ps) h = cc
+simple_first k (text_at r t ∷ ps) h = cc
+simple_first k (symbol_at r s ∷ ps) h = cc
+simple_first k (bad_at r ∷ ps) h = cc
 
-pub is_assert_equal : (d brace r : ℕ) (e f : Term) (old ps qs rs : List Piece) → old ≡ word_at r AssertEqual ∷ tail old → ps ≡ tail old → IsBefore Comma e ps qs → IsBefore Semicolon f qs rs → IsStatement d brace (plain (assert_equal e f)) old rs
-is_assert_equal d brace r e f old ps qs rs is ahead h k =
-    subst (λ ps. IsStatement d brace (plain (assert_equal e f)) ps rs) (sym is)
-    (an_assert_equal (subst (λ ps. IsBefore Comma e ps qs) ahead h) k)
+pub is_simple : (d brace : ℕ) (k : Simple) (a : Act) (old mid rest : List Piece) → simple_next old ≡ Some k → mid ≡ tail old → IsSimple k a mid rest → IsStatement d brace a old rest
+is_simple d brace k a old mid rest next ahead h =
+    let s = simple_first k old next in
+    subst (λ ps. IsStatement d brace a ps rest) (sym s.3) (a_simple s.2 (subst (λ ps. IsSimple k a ps rest) ahead h))
 
--- what follows the first expression of an `assert_equal` is the second
-pub assert_equal_second : (d brace r : ℕ) (e : Term) (a : Act) (ps qs rest : List Piece) → IsBefore Comma e ps qs → IsStatement d brace a (word_at r AssertEqual ∷ ps) rest → (f : Term) × IsBefore Semicolon f qs rest
-assert_equal_second d brace r e a ps qs rest h (an_assert_equal {actual = f} k i) = let u = one_before h k in (f, subst (λ ps. IsBefore Semicolon f ps rest) (sym u.1) i)
+from_simple : {d brace r : ℕ} {w : Word} {k : Simple} {a : Act} {ps rest : List Piece} → simple_of w ≡ Some k → IsStatement d brace a (word_at r w ∷ ps) rest → IsSimple k a ps rest
+from_simple {k = k} {a = a} {ps = ps} {rest = rest} is (a_simple {k = l} also h) = let same : l ≡ k = cc in subst (λ k. IsSimple k a ps rest) same h
+from_simple is (an_if h i j) = cc
+from_simple is (a_repeat h i) = cc
+
+pub simple_only : (d brace : ℕ) (k : Simple) (a : Act) (old mid rest : List Piece) → simple_next old ≡ Some k → mid ≡ tail old → IsStatement d brace a old rest → IsSimple k a mid rest
+simple_only d brace k a old mid rest next ahead h =
+    let s = simple_first k old next in
+    subst (λ ps. IsSimple k a ps rest) (sym ahead) (from_simple s.2 (subst (λ ps. IsStatement d brace a ps rest) s.3 h))
+
+-- a binding alone is an assignment
+pub is_assignment : (d brace : ℕ) (b : List ℕ × Term) (old rest : List Piece) → IsBinding b old rest → IsStatement d brace (plain (assign b.0 b.1)) old rest
+is_assignment d brace b old rest (a_binding h) = an_assignment (a_binding h)
+
+pub assignment_only : (d brace : ℕ) (a : Act) (old rest : List Piece) → simple_next old ≡ None → after_word W.If old ≡ None → after_word W.Repeat old ≡ None → IsStatement d brace a old rest → (b : List ℕ × Term) × IsBinding b old rest
+assignment_only d brace a old rest s i r (a_simple is h) = cc
+assignment_only d brace a old rest s i r (an_assignment {b = b} h) = (b, h)
+assignment_only d brace a old rest s i r (an_if {r = q} {ps = ps} h k l) = let e : None ≡ Some ps = sym i ∙ after_word-word_at q W.If ps in cc
+assignment_only d brace a old rest s i r (a_repeat {r = q} {ps = ps} h k) = let e : None ≡ Some ps = sym r ∙ after_word-word_at q W.Repeat ps in cc
+
+-- the parts of an `if` after its condition, and after its first body
+pub if_body : (d brace r : ℕ) (e : Term) (a : Act) (ps mid rest : List Piece) → IsExpression PARENTHESES e ps mid → IsStatement d brace a (word_at r W.If ∷ ps) rest → (b : Acts) × (c : Acts) × (qs : List Piece) × IsBody d brace b mid qs × IsElse d brace c qs rest
+if_body d brace r e a ps mid rest h (a_simple is k) = cc
+if_body d brace r e a ps mid rest h (an_if {a = b} {b = c} {rs = qs} k i j) = let u = one_expression h k in (b, c, qs, subst (λ ps. IsBody d brace b ps qs) (sym u.1) i, j)
+
+pub if_else : (d brace r : ℕ) (e : Term) (b : Acts) (a : Act) (ps mid next rest : List Piece) → IsExpression PARENTHESES e ps mid → IsBody d brace b mid next → IsStatement d brace a (word_at r W.If ∷ ps) rest → (c : Acts) × IsElse d brace c next rest
+if_else d brace r e b a ps mid next rest h k s =
+    let p = if_body d brace r e a ps mid rest h s in
+    let u = one_body k p.3 in
+    (p.1, subst (λ ps. IsElse d brace p.1 ps rest) (sym u.1) p.4)
+
+-- the body of a `repeat`
+pub repeat_body : (d brace r : ℕ) (e : Term) (a : Act) (ps mid rest : List Piece) → IsExpression PARENTHESES e ps mid → IsStatement d brace a (word_at r W.Repeat ∷ ps) rest → (b : Acts) × IsBody d brace b mid rest
+repeat_body d brace r e a ps mid rest h (a_simple is k) = cc
+repeat_body d brace r e a ps mid rest h (a_repeat {a = b} k i) = let u = one_expression h k in (b, subst (λ ps. IsBody d brace b ps rest) (sym u.1) i)
+
+-- the body of an `else`
+pub is_else : (d brace : ℕ) (b : Acts) (old mid rest : List Piece) → after_word W.Else old ≡ Some mid → IsBody d brace b mid rest → IsElse d brace b old rest
+is_else d brace b old mid rest taken h = let s = after_word-Some W.Else old mid taken in subst (λ ps. IsElse d brace b ps rest) (sym s.1) (an_else h)
+
+pub else_only : (d brace : ℕ) (b : Acts) (old mid rest : List Piece) → after_word W.Else old ≡ Some mid → IsElse d brace b old rest → IsBody d brace b mid rest
+else_only d brace b old mid rest taken (no_else none) = let e : None ≡ Some mid = sym none ∙ taken in cc
+else_only d brace b old mid rest taken (an_else {r = r} {ps = ps} h) =
+    let e : Some ps ≡ Some mid = sym (after_word-word_at r W.Else ps) ∙ taken in
+    let f : ps ≡ mid = cc in
+    subst (λ ps. IsBody d brace b ps rest) f h
+
+-- the second expression of a statement of two
+pub second_only : (o : TwoOperands) (e : Term) (a : Act) (ps mid rest : List Piece) → IsBefore Comma e ps mid → IsSimple (Two o) a ps rest → (f : Term) × IsBefore Semicolon f mid rest
+second_only o e a ps mid rest h (of_two {f = f} k i) = let u = one_before h k in (f, subst (λ ps. IsBefore Semicolon f ps rest) (sym u.1) i)
+
+-- the reason of an `assume`, and the semicolon after it
+pub reason_only : (e : Term) (a : Act) (ps mid rest : List Piece) → IsBefore Comma e ps mid → IsSimple Assume a ps rest → (t : List ℕ) × (q : ℕ) × IsDisplay t mid (symbol_at q Semicolon ∷ rest)
+reason_only e a ps mid rest h (an_assumption {q = q} {t = t} k i) = let u = one_before h k in (t, q, subst (λ ps. IsDisplay t ps (symbol_at q Semicolon ∷ rest)) (sym u.1) i)
+
+pub reason_closes : (e : Term) (t : List ℕ) (a : Act) (ps mid next rest : List Piece) → IsBefore Comma e ps mid → IsDisplay t mid next → after Semicolon next ≡ None → IsSimple Assume a ps rest → ⊥
+reason_closes e t a ps mid next rest h k none s =
+    let p = reason_only e a ps mid rest h s in
+    let u = one_display k p.2 in
+    let e : None ≡ Some rest = sym none ∙ ap (after Semicolon) u.1 ∙ after-symbol_at p.1 Semicolon rest in
+    cc
+
+pub is_assumption : (e : Term) (t : List ℕ) (ps mid next rest : List Piece) → IsBefore Comma e ps mid → IsDisplay t mid next → after Semicolon next ≡ Some rest → IsSimple Assume (plain (assume e t)) ps rest
+is_assumption e t ps mid next rest h k taken = let s = after-Some Semicolon next rest taken in an_assumption h (subst (IsDisplay t mid) s.1 k)
+
+-- a text that is next stands in front
+text_first : (t : List ℕ) (ps rest : List Piece) → text_next ps ≡ Some (t, rest) → (r : ℕ) × (ps ≡ text_at r t ∷ rest)
+text_first t [] rest h = cc
+text_first t (text_at r s ∷ ps) rest h = let e = some_pair_parts s t ps rest h in (r, ap (λ s. text_at r s ∷ ps) e.0 ∙ ap (λ ps. text_at r t ∷ ps) e.1)
+text_first t (name_at r n ∷ ps) rest h = cc
+text_first t (number_at r n ∷ ps) rest h = cc
+text_first t (word_at r w ∷ ps) rest h = cc
+text_first t (symbol_at r s ∷ ps) rest h = cc
+text_first t (bad_at r ∷ ps) rest h = cc
+
+pub is_fail : (t : List ℕ) (old mid rest : List Piece) → text_next old ≡ Some (t, mid) → after Semicolon mid ≡ Some rest → IsSimple Fail (plain (fail t)) old rest
+is_fail t old mid rest next taken =
+    let f = text_first t old mid next in
+    let s = after-Some Semicolon mid rest taken in
+    subst (λ ps. IsSimple Fail (plain (fail t)) ps rest) (sym (f.1 ∙ ap (λ ps. text_at f.0 t ∷ ps) s.1)) a_fail
+
+pub fail_closes : (t : List ℕ) (a : Act) (old mid rest : List Piece) → text_next old ≡ Some (t, mid) → after Semicolon mid ≡ None → IsSimple Fail a old rest → ⊥
+fail_closes t a old mid rest next none (a_fail {q = q} {t = s} {ps = ps}) =
+    let p = some_pair_parts s t (symbol_at q Semicolon ∷ ps) mid next in
+    let e : None ≡ Some ps = sym none ∙ ap (after Semicolon) (sym p.1) ∙ after-symbol_at q Semicolon ps in
+    cc
+
+-- a name and its expression
+pub is_binding : (n : List ℕ) (e : Term) (old ps mid rest : List Piece) → name_next old ≡ Some (n, ps) → after Equals ps ≡ Some mid → IsBefore Semicolon e mid rest → IsBinding (n, e) old rest
+is_binding n e old ps mid rest name taken h =
+    let f = name_is n old ps name in
+    let s = after-Some Equals ps mid taken in
+    let b : List ℕ × Term = (n, e) in
+    subst (λ qs. IsBinding b qs rest) (sym (f.1 ∙ ap (λ ps. name_at f.0 n ∷ ps) s.1)) (a_binding h)
+
+pub binding_equals : (n : List ℕ) (b : List ℕ × Term) (old ps rest : List Piece) → name_next old ≡ Some (n, ps) → after Equals ps ≡ None → IsBinding b old rest → ⊥
+binding_equals n b old ps rest next none (a_binding {q = q} {n = m} {ps = qs} h) =
+    let p = some_pair_parts m n (symbol_at q Equals ∷ qs) ps next in
+    let e : None ≡ Some qs = sym none ∙ ap (after Equals) (sym p.1) ∙ after-symbol_at q Equals qs in
+    cc
+
+pub binding_value : (n : List ℕ) (b : List ℕ × Term) (old ps mid rest : List Piece) → name_next old ≡ Some (n, ps) → after Equals ps ≡ Some mid → IsBinding b old rest → (e : Term) × IsBefore Semicolon e mid rest
+binding_value n b old ps mid rest next taken (a_binding {q = q} {n = m} {e = e} {ps = qs} h) =
+    let p = some_pair_parts m n (symbol_at q Equals ∷ qs) ps next in
+    let f : Some qs ≡ Some mid = sym (after-symbol_at q Equals qs) ∙ ap (after Equals) p.1 ∙ taken in
+    let g : qs ≡ mid = cc in
+    (e, subst (λ ps. IsBefore Semicolon e ps rest) g h)
+
+pub is_display_text : (r : ℕ) (t s : List ℕ) (old new : List Piece) → old ≡ text_at r t ∷ tail old → new ≡ tail old → s ≡ t → is_display s ≡ true → IsDisplay s old new
+is_display_text r t s old new next ahead same is =
+    let u : old ≡ text_at r s ∷ new = next ∙ ap (λ t. text_at r t ∷ tail old) (sym same) ∙ ap (λ ps. text_at r s ∷ ps) (sym ahead) in
+    subst (λ ps. IsDisplay s ps new) (sym u) (a_display is)
 
 pub statement_some : {d brace : ℕ} {a : Act} {ps qs : List Piece} → IsStatement d brace a ps qs → ps ≢ []
-statement_some (a_print h) = λ e. cc
-statement_some (an_assert_equal h k) = λ e. cc
+statement_some (a_simple is h) = λ e. cc
+statement_some (an_assignment h) = λ e. cc
+statement_some (an_if h i j) = λ e. cc
+statement_some (a_repeat h i) = λ e. cc
 
 -- a statement with its row, and those after it
 abbrev pub also : ℕ × Act → Acts → Acts

@@ -1,8 +1,6 @@
 -- What stands next among pieces.
 use Rattle.std.specs.Prelude.{ℕ, List, [], ◌∷◌, ◌-◌, Option, Some, None}
 use Rattle.iso_lexer.specs.Piece.{Piece, name_at, number_at, text_at, word_at, symbol_at, bad_at}
-use Rattle.iso_lexer.specs.declared.symbol.Symbol.{Symbol}
-use Rattle.iso_lexer.specs.declared.word.Word.{Word}
 
 -- the name that is next, and what follows it
 abbrev pub name_next : List Piece → Option (List ℕ × List Piece)
@@ -14,15 +12,10 @@ abbrev pub text_next : List Piece → Option (List ℕ × List Piece)
 text_next (text_at r t ∷ ps) = Some (t, ps)
 text_next _ = None
 
--- the reserved word that is next, and what follows it
-abbrev pub word_next : List Piece → Option (Word × List Piece)
-word_next (word_at r w ∷ ps) = Some (w, ps)
-word_next _ = None
-
--- the symbol that is next
-abbrev pub symbol_next : List Piece → Option Symbol
-symbol_next (symbol_at r s ∷ ps) = Some s
-symbol_next _ = None
+-- the name that is next
+abbrev pub name_ahead : List Piece → Option (List ℕ)
+name_ahead (name_at r n ∷ ps) = Some n
+name_ahead _ = None
 
 -- the line that a piece stands on
 abbrev pub line_of : Piece → ℕ

@@ -1,21 +1,25 @@
 //! Literals and expressions.
-ghost use Rattle.std.specs.Prelude.{◌≡◌, ◌∷◌, ℕ, List, MatchResult};
+ghost use Rattle.std.specs.Prelude.{◌≡◌, ◌∷◌, ◌-◌, ℕ, List};
 ghost use Rattle.iso_lexer.specs.Piece.{Piece, symbol_at};
 ghost use Rattle.iso_lexer.specs.declared.symbol.Symbol.TheVariants.{Minus};
 ghost use Rattle.iso_model.specs.SyntaxView.{term_of};
 ghost use Rattle.iso_model.specs.declared.data.Data.{Data};
-ghost use Rattle.iso_statements.specs.Expressions.{IsBefore, IsExpression, IsLiteral, IsOperand, infix_next, infix_of};
+ghost use Rattle.iso_model.specs.declared.limits.TheConstants.{OPERANDS};
+ghost use Rattle.iso_statements.specs.Expressions.{IsBefore, IsChained, IsEnclosed, IsExpression, IsLiteral, IsLocale, IsOperand, function_next, function_of, infix_next, infix_of, terms_in};
 ghost use Rattle.iso_statements.specs.Parsing.{Parses};
 
-use crate::fault::ScriptError;
+use crate::fault::{ScriptError, ScriptFaultKind};
 use crate::parser::Parser;
 use iso_lexer::symbol::Symbol;
 use iso_lexer::token::Token;
 use iso_lexer::word::Word;
 use iso_model::data::Data;
-use iso_model::limits::PARENTHESES;
+use iso_model::limits::{OPERANDS, PARENTHESES};
 use iso_model::text::Text;
-use iso_model::tree::{Comparison, Expr, Operator};
+use iso_model::tree::{Comparison, Expr, Function, Operator};
+
+/// The most operands of a chain after its first.
+const MORE_OPERANDS: usize = OPERANDS as usize - 1;
 
 /// What stands between operands.
 #[derive(Clone, Copy)]
@@ -40,13 +44,41 @@ fn infix_of(symbol: Symbol) -> Option<Infix>
     }
 }
 
+/// What a reserved word calls.
+fn function_of(word: Word) -> Option<Function>
+    ensures { result ≡ function_of word }
+{
+    match word {
+        Word::Text => Some(Function::Text),
+        Word::Len => Some(Function::Len),
+        Word::Prop => Some(Function::Prop),
+        Word::HasProp => Some(Function::HasProp),
+        Word::File => Some(Function::File),
+        Word::HasFile => Some(Function::HasFile),
+        _ => None,
+    }
+}
+
 impl Parser<'_> {
-    /// What is next between operands.
-    fn infix(&self) -> Option<Infix>
+    /// The operator that is next, and what it is between operands.
+    fn infix(&self) -> Option<(Symbol, Infix)>
         ensures { result ≡ infix_next self.now.lexer }
     {
         match self.lexer.peek().0 {
-            Token::Symbol(symbol) => infix_of(symbol),
+            Token::Symbol(symbol) => {
+                let infix = infix_of(symbol)?;
+                Some((symbol, infix))
+            }
+            _ => None,
+        }
+    }
+
+    /// The function that is next.
+    fn function(&self) -> Option<Function>
+        ensures { result ≡ function_next self.now.lexer }
+    {
+        match self.lexer.peek().0 {
+            Token::Word(word) => function_of(word),
             _ => None,
         }
     }
@@ -95,21 +127,98 @@ impl Parser<'_> {
     }
 
     /// An operand, in which so many parentheses may be opened.
-    fn operand(&mut self, _parens: u32) -> Result<Expr, ScriptError>
-        ensures { Parses term_of (IsOperand _parens) result self.old.lexer self.new.lexer }
+    #[cycle(expression)]
+    fn operand(&mut self, parens: u32) -> Result<Expr, ScriptError>
+        ensures { Parses term_of (IsOperand parens) result self.old.lexer self.new.lexer }
     {
+        if self.is_at(Symbol::OpenParen) {
+            return self.enclosed(parens);
+        }
+        if let Some(function) = self.function() {
+            self.lexer.advance();
+            let operand = self.enclosed(parens)?;
+            return Ok(Expr::Call(function, Box::new(self.alloc, operand)?));
+        }
+        if self.lexer.takes_word(Word::Locale) {
+            return self.locale(parens);
+        }
+        if let Some(name) = self.name_ahead() {
+            self.lexer.advance();
+            return Ok(Expr::Name(Text::copied(self.alloc, name)?));
+        }
         Ok(Expr::Literal(self.literal()?))
     }
 
+    /// What follows the word `locale`: two parentheses, where so many may be opened.
+    fn locale(&mut self, parens: u32) -> Result<Expr, ScriptError>
+        ensures { Parses term_of (IsLocale parens) result self.old.lexer self.new.lexer }
+    {
+        self.open(Symbol::OpenParen, parens)?;
+        self.expect(Symbol::CloseParen)?;
+        Ok(Expr::Locale)
+    }
+
+    /// An expression between parentheses, the outermost of so many that may be opened.
+    #[cycle(expression)]
+    fn enclosed(&mut self, parens: u32) -> Result<Expr, ScriptError>
+        ensures { Parses term_of (IsEnclosed parens) result self.old.lexer self.new.lexer }
+    {
+        let more = self.open(Symbol::OpenParen, parens)?;
+        let expression = self.expression(more)?;
+        self.expect(Symbol::CloseParen)?;
+        Ok(expression)
+    }
+
+    /// The operands after the first of a chain, with this operator before each.
+    #[cycle(expression)]
+    fn chained(&mut self, symbol: Symbol, parens: u32) -> Result<Vec<Expr>, ScriptError>
+        ensures { Parses terms_in (IsChained parens symbol (OPERANDS - 1)) result self.old.lexer self.new.lexer }
+    {
+        let mut operands = Vec::new(self.alloc);
+        'operands: while self.infix().is_some() {
+            if !self.is_at(symbol) {
+                return Err(self.unexpected());
+            }
+            if operands.len() >= MORE_OPERANDS {
+                return Err(self.fault_here(ScriptFaultKind::TooDeep));
+            }
+            self.lexer.advance();
+            operands.push(self.operand(parens)?)?;
+        }
+        Ok(operands)
+    }
+
     /// An expression, in which so many parentheses may be opened.
-    fn expression(&mut self, parens: u32) -> Result<Expr, ScriptError>
+    #[cycle(expression)]
+    pub(crate) fn expression(&mut self, parens: u32) -> Result<Expr, ScriptError>
         ensures { Parses term_of (IsExpression parens) result self.old.lexer self.new.lexer }
     {
         let first = self.operand(parens)?;
-        if self.infix().is_some() {
-            return Err(self.unexpected());
+        let Some((symbol, infix)) = self.infix() else {
+            return Ok(first);
+        };
+        match infix {
+            Infix::Chain(operator) => {
+                let operands = self.chained(symbol, parens)?;
+                Ok(Expr::Chain(
+                    operator,
+                    Box::new(self.alloc, first)?,
+                    operands,
+                ))
+            }
+            Infix::Compare(comparison) => {
+                self.lexer.advance();
+                let second = self.operand(parens)?;
+                if self.infix().is_some() {
+                    return Err(self.unexpected());
+                }
+                Ok(Expr::Compare(
+                    comparison,
+                    Box::new(self.alloc, first)?,
+                    Box::new(self.alloc, second)?,
+                ))
+            }
         }
-        Ok(first)
     }
 
     /// An expression and the symbol that has to follow it.

@@ -6,4 +6,5 @@ pub mod fault;
 pub mod laws;
 pub mod names;
 pub mod parser;
+pub mod simple;
 mod statement;

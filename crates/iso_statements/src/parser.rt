@@ -1,10 +1,10 @@
-ghost use Rattle.std.specs.Prelude.{ℕ, suc, ◌≡◌, ◌≢◌, ◌≤◌, ◌↔◌, List, [], Some, None, IsTrue, MatchResult, is_some, length};
+ghost use Rattle.std.specs.Prelude.{ℕ, suc, ◌≡◌, ◌≢◌, ◌≤◌, ◌↔◌, List, [], Some, None, IsTrue, MatchResult, is_some, length, option_map};
 ghost use Rattle.iso_lexer.specs.Lexical.{HasPieces};
 ghost use Rattle.iso_lexer.specs.Piece.{Piece, tail};
 ghost use Rattle.iso_lexer.specs.Tokens.{after, after_word, text_of};
 ghost use Rattle.iso_model.specs.declared.limits.TheConstants.{FILE_BYTES};
 ghost use Rattle.iso_statements.specs.Faults.{IsFaultOf, IsUnexpected};
-ghost use Rattle.iso_statements.specs.Pieces.{name_next, row_in, text_next};
+ghost use Rattle.iso_statements.specs.Pieces.{name_ahead, name_next, row_in, text_next};
 
 use crate::fault::{ScriptError, ScriptFaultKind};
 use iso_lexer::lexer::Lexer;
@@ -94,6 +94,16 @@ impl<'a> Parser<'a> {
                 Ok(name)
             }
             _ => Err(self.unexpected()),
+        }
+    }
+
+    /// The name that is next.
+    pub fn name_ahead(&self) -> Option<&'a str>
+        ensures { name_ahead self.now.lexer ≡ option_map (λ n. n.now) result }
+    {
+        match self.lexer.peek().0 {
+            Token::Name(name) => Some(name),
+            _ => None,
         }
     }
 

@@ -1,14 +1,16 @@
 //! Statements and bodies.
+ghost use Rattle.std.specs.Prelude.{◌∷◌, ℕ};
+ghost use Rattle.iso_lexer.specs.Piece.{word_at};
+ghost use Rattle.iso_lexer.specs.declared.word.Word.TheVariants as W;
 ghost use Rattle.iso_model.specs.SyntaxView.{form_of, stmt_of};
 ghost use Rattle.iso_statements.specs.Parsing.{Parses};
-ghost use Rattle.iso_statements.specs.Statements.{IsBlock, IsBody, IsStatement, IsStatements, body_of};
+ghost use Rattle.iso_statements.specs.Statements.{IsBlock, IsBody, IsElse, IsStatement, IsStatements, body_of};
 
 use crate::fault::ScriptError;
 use crate::parser::Parser;
 use iso_lexer::symbol::Symbol;
-use iso_lexer::token::Token;
 use iso_lexer::word::Word;
-use iso_model::limits::BODY_DEPTH;
+use iso_model::limits::{BODY_DEPTH, PARENTHESES};
 use iso_model::tree::{Form, Stmt};
 
 impl Parser<'_> {
@@ -21,6 +23,7 @@ impl Parser<'_> {
     }
 
     /// A body of a block whose opening brace stands on this line, the outermost of so many that may be opened.
+    #[cycle(body)]
     pub fn body(&mut self, bodies: u32, brace: u32) -> Result<Vec<Stmt>, ScriptError>
         ensures { Parses body_of (IsBody bodies brace) result self.old.lexer self.new.lexer }
     {
@@ -29,6 +32,7 @@ impl Parser<'_> {
     }
 
     /// Statements, and the brace that closes them.
+    #[cycle(body)]
     fn statements(&mut self, bodies: u32, brace: u32) -> Result<Vec<Stmt>, ScriptError>
         ensures { Parses body_of (IsStatements bodies brace) result self.old.lexer self.new.lexer }
     {
@@ -42,22 +46,56 @@ impl Parser<'_> {
     }
 
     /// What a statement does.
+    #[cycle(body)]
     fn form(&mut self, bodies: u32, brace: u32) -> Result<Form, ScriptError>
         ensures { Parses form_of (IsStatement bodies brace) result self.old.lexer self.new.lexer }
     {
-        match self.lexer.peek().0 {
-            Token::Word(Word::Print) => {
-                self.lexer.advance();
-                let value = self.expression_before(Symbol::Semicolon)?;
-                Ok(Form::Print(value))
-            }
-            Token::Word(Word::AssertEqual) => {
-                self.lexer.advance();
-                let expected = self.expression_before(Symbol::Comma)?;
-                let actual = self.expression_before(Symbol::Semicolon)?;
-                Ok(Form::AssertEqual(expected, actual))
-            }
-            _ => Err(self.unexpected()),
+        if let Some(simple) = self.simple() {
+            self.lexer.advance();
+            return self.simple_form(simple);
         }
+        if self.lexer.takes_word(Word::If) {
+            return self.choice(bodies, brace);
+        }
+        if self.lexer.takes_word(Word::Repeat) {
+            return self.repetition(bodies, brace);
+        }
+        let (name, value) = self.binding()?;
+        Ok(Form::Assign(name, value))
+    }
+
+    /// What follows `if`.
+    #[cycle(body)]
+    fn choice(&mut self, bodies: u32, brace: u32) -> Result<Form, ScriptError>
+        ensures { (r : ℕ) → Parses form_of (λ a ps qs. IsStatement bodies brace a (word_at r W.If ∷ ps) qs)
+            result self.old.lexer self.new.lexer }
+    {
+        let condition = self.expression(PARENTHESES)?;
+        let first = self.body(bodies, brace)?;
+        let second = self.otherwise(bodies, brace)?;
+        Ok(Form::If(condition, first, second))
+    }
+
+    /// The body of an `else`, or none.
+    #[cycle(body)]
+    fn otherwise(&mut self, bodies: u32, brace: u32) -> Result<Vec<Stmt>, ScriptError>
+        ensures { Parses body_of (IsElse bodies brace) result self.old.lexer self.new.lexer }
+    {
+        if self.lexer.takes_word(Word::Else) {
+            self.body(bodies, brace)
+        } else {
+            Ok(Vec::new(self.alloc))
+        }
+    }
+
+    /// What follows `repeat`.
+    #[cycle(body)]
+    fn repetition(&mut self, bodies: u32, brace: u32) -> Result<Form, ScriptError>
+        ensures { (r : ℕ) → Parses form_of (λ a ps qs. IsStatement bodies brace a (word_at r W.Repeat ∷ ps) qs)
+            result self.old.lexer self.new.lexer }
+    {
+        let count = self.expression(PARENTHESES)?;
+        let body = self.body(bodies, brace)?;
+        Ok(Form::Repeat(count, body))
     }
 }

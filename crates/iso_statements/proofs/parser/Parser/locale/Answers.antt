@@ -1,0 +1,13 @@
+use Rattle.std.proofs.Common.{rules}
+use Rattle.std.proofs.lemmas.Result.{err_from_is_err_and}
+use Rattle.iso_statements.proofs.Expressions.{is_no_argument, locale_opens, locale_closes}
+use Rattle.iso_statements.proofs.Views.{term_of-locale}
+use Rattle.iso_statements.proofs.parser.Parser.locale.Goals as goal
+
+pub returns-in_err-open : goal.returns-in_err-open
+returns-in_err-open c =
+    let p = err_from_is_err_and c.from_residual.result c.from_residual.ensures.1 in
+    rw p.1 (λ x rest h. absurd (locale_opens _ x _ rest c.in_err-open.ensures h))
+
+pub returns : goal.returns
+returns c = rw term_of-locale (is_no_argument _ _ _ _ _ c.in_ok-open.ensures.0 c.in_ok-open.ensures.1 c.in_ok-expect.ensures)
