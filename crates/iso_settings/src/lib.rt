@@ -1,0 +1,4 @@
+//! Settings of a run.
+#![tactic(auto)]
+
+pub mod settings;
