@@ -1,0 +1,4 @@
+pub mod Columns
+pub mod Growth
+pub mod PathLemmas
+pub mod TreeLemmas

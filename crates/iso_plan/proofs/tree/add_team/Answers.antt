@@ -1,0 +1,22 @@
+use Rattle.std.proofs.Common.{◌≡◌, ◌+◌, ◌≤◌, ◌<◌, ◌++◌, ◌∷◌, ℕ, List, length, map, drop, vec_len, arith, ◌∙◌}
+use Rattle.std.proofs.lemmas.Result.{err_from_is_err_and}
+use Rattle.iso_model.specs.ScriptView.{class_of, member_of, members_of, script_of}
+use Rattle.iso_model.specs.declared.limits.TheConstants.{NODES}
+use Rattle.iso_plan.proofs.Growth.{drop_next, grown-next, counted, bounded, full-more}
+use Rattle.iso_plan.specs.RowView.{row_of}
+use Rattle.iso_plan.specs.Tree as T
+use Rattle.iso_plan.specs.Tree.{member_rows, members_rows, script_rows, team_rows, top_rows, tree}
+use Rattle.iso_plan.proofs.tree.add_team.Goals as goal
+
+pub returns-in_err-add_top-clause-full : goal.returns-in_err-add_top-clause-full
+returns-in_err-add_top-clause-full c =
+    let i = c.classes.class-index in
+    let cs = c.deref-class-items.result.now in
+    let next = drop_next c.class-item.result cs i (omega arith) c.class-item.is in
+    let old = c.classes.rows in
+    let team = c.args.script.now.team in
+    let more = top_rows team (vec_len old) (class_of c.class-item.result) in
+    let all = team_rows team (vec_len c.args.rows.now) (map class_of cs) in
+    let p = err_from_is_err_and c.from_residual.result c.from_residual.ensures.1 in
+    rw (p.1, p.2, ← c.deref-class-items.ensures.value)
+    (full-more _ _ c.in_err-add_top.field-0.0 (bounded old c.args.rows.now more (team_rows team (vec_len old + length more) (map class_of (drop (i + 1) cs))) all (rw next at c.classes.invariant.grown)) c.in_err-add_top.ensures.full)

@@ -1,0 +1,10 @@
+pub mod Faults
+pub mod IsPlan
+pub mod KeyTable
+pub mod Locks
+pub mod Modes
+pub mod NodeChains
+pub mod Paths
+pub mod Planned
+pub mod RowView
+pub mod Tree

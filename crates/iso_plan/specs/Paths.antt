@@ -1,0 +1,75 @@
+-- Nodes by number, and the path from a node up to the root.
+use Rattle.std.specs.Prelude.{◌≡◌, ℕ, zero, suc, ◌<◌, List, [], ◌∷◌, Option, Some, None, Bool, true, false, ◌||◌, ◌&&◌, ◌==◌, ◌++◌, length, not, cond, slice_index_or}
+use Rattle.std.specs.Option.{option_or}
+use Rattle.iso_plan.specs.Tree.{Kind, root, class_node, test_node, Row, root_row}
+
+-- the node with a number
+abbrev pub row_at : List Row → ℕ → Row
+row_at tree n = slice_index_or tree n root_row
+
+-- the number of the node that a node stands in
+abbrev pub parent : List Row → ℕ → ℕ
+parent tree n = (row_at tree n).parent
+
+-- the number of the node that a node stands in, if it is not the root
+abbrev pub parent_of : List Row → ℕ → Option ℕ
+parent_of tree zero = None
+parent_of tree (suc n) = Some (parent tree (suc n))
+
+-- a node, the node that it stands in and so on, without the root, at most so many
+abbrev pub up : ℕ → List Row → ℕ → List ℕ
+up most tree zero = []
+up zero tree (suc n) = []
+up (suc most) tree (suc n) = suc n ∷ up most tree (parent tree (suc n))
+
+-- the path of a node: itself and the classes that it stands in, innermost first, without the root. A class has a smaller number than what stands in it.
+unfoldable pub path : List Row → ℕ → List ℕ
+path tree n = up n tree n
+
+-- whether a node is on a path
+abbrev pub is_on : List ℕ → ℕ → Bool
+is_on [] m = false
+is_on (n ∷ ns) m = n == m || is_on ns m
+
+-- whether node n is node m or stands in it at any depth
+abbrev pub is_under : List Row → ℕ → ℕ → Bool
+is_under tree m n = is_on (path tree n) m
+
+-- the outermost node of a path that passes a test
+abbrev pub outermost : (ℕ → Bool) → List ℕ → Option ℕ
+outermost test [] = None
+outermost test (n ∷ ns) = option_or (outermost test ns) (cond (test n) (Some n) None)
+
+-- whether a node is the root, which has number 0
+abbrev pub is_root : ℕ → Bool
+is_root zero = true
+is_root (suc n) = false
+
+-- whether a node is a top-level class: it stands in the root
+abbrev pub is_top : List Row → ℕ → Bool
+is_top tree n = not (is_root n) && is_root (parent tree n)
+
+-- whether it is a test
+abbrev pub is_test : Kind → Bool
+is_test root = false
+is_test (class_node isolated head) = false
+is_test (test_node head) = true
+
+-- the nodes with a number below n that stand directly in node m, in order
+abbrev pub children_below : List Row → ℕ → ℕ → List ℕ
+children_below tree m zero = []
+children_below tree m (suc n) = cond (not (is_root n) && parent tree n == m) (children_below tree m n ++ n ∷ []) (children_below tree m n)
+
+-- the children of a node
+abbrev pub children : List Row → ℕ → List ℕ
+children tree m = children_below tree m (length tree)
+
+-- each node but the root stands in one with a smaller number, which is no test
+pub record IsTree (tree : List Row) : Type 0 where
+  pub below : (n : ℕ) → 0 < n → parent tree n < n
+  pub inner : (n : ℕ) → 0 < n → is_test (row_at tree (parent tree n)).kind ≡ false
+
+-- what each of the first n nodes has
+abbrev pub column : {A : Type 0} → (ℕ → A) → ℕ → List A
+column f zero = []
+column f (suc n) = column f n ++ f n ∷ []

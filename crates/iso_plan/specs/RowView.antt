@@ -1,0 +1,29 @@
+-- What the rows of a plan stand for.
+use Rattle.std.specs.Prelude.{List, map}
+use Rattle.std.specs.Arc.{arc_value}
+use Rattle.iso_model.specs.ScriptView.{class_head_of, test_head_of}
+use Rattle.iso_model.specs.Scripts.{ClassTitle}
+use Rattle.iso_model.specs.declared.script.Class.{Class as ScriptClass}
+use Rattle.iso_plan.specs.Planned.{Planned}
+use Rattle.iso_plan.specs.Tree as T
+use Rattle.iso_plan.specs.Tree.{root, class_node, test_node}
+use Rattle.iso_plan.specs.declared.row.Kind.{Kind}
+use Rattle.iso_plan.specs.declared.row.Kind.TheVariants.{Root, Class, Test}
+use Rattle.iso_plan.specs.declared.row.Row.{Row}
+
+abbrev pub kind_of : Kind → T.Kind
+kind_of Root = root
+kind_of (Class isolated head) = class_node isolated (class_head_of (arc_value head))
+kind_of (Test head) = test_node (test_head_of (arc_value head))
+
+-- what a row stands for
+abbrev pub row_of : Row → T.Row
+row_of r = record { parent = r.parent; kind = kind_of r.kind; name = r.name; title = r.title; mode = r.mode }
+
+-- the tree of a plan
+abbrev pub tree_of : Planned → List T.Row
+tree_of p = map row_of p.rows
+
+-- what is written before a class's members
+abbrev pub title_of : ScriptClass → ClassTitle
+title_of c = record { name = c.name; display = c.display; mode = c.mode; isolated = c.isolated; head = class_head_of (arc_value c.head) }

@@ -1,0 +1,72 @@
+//! The keys of a plan, numbered.
+ghost use Rattle.std.specs.Prelude.{◌≡◌, ◌+◌, ◌≤◌, IfErr, IfOk, OnOk, length, map};
+ghost use Rattle.indexmap.specs.IndexSet.{keys as set_keys};
+ghost use Rattle.iso_model.specs.declared.limits.TheConstants.{KEYS};
+ghost use Rattle.iso_plan.specs.Faults.{IsCrowded};
+ghost use Rattle.iso_plan.specs.KeyTable.{keys, with_marks, with_rows, written_marks};
+ghost use Rattle.iso_plan.specs.RowView.{kind_of, row_of};
+
+use crate::fault::PlanFault;
+use crate::row::{Kind, Row};
+use indexmap::IndexSet;
+use iso_model::heads::Mark;
+use iso_model::limits::KEYS;
+use iso_model::text::Text;
+use std::alloc::{AllocError, Global};
+
+/// The key that no script may declare.
+const GLOBAL_KEY: &str = "iso:global";
+
+/// The keys of nodes by number, in the order in which they are first marked, the global key first.
+/// More than 255 besides it are `TooManyKeys`.
+pub(crate) fn keys(alloc: Global, rows: &[Row]) -> Result<Vec<Text>, PlanFault>
+    ensures keys { IfOk result (λ v. v.items ≡ keys (map row_of rows.now)) }
+    ensures few { IfOk result (λ v. length v.items ≤ KEYS + 1) }
+    ensures crowded { IfErr result (IsCrowded (length (keys (map row_of rows.now)))) }
+{
+    let mut table = IndexSet::new(alloc);
+    table.insert(GLOBAL_KEY)?;
+    'rows: for row in rows {
+        add_marks(&mut table, row.kind.marks())?;
+    }
+    let keys = table.as_slice();
+    if keys.len() > KEYS as usize + 1 {
+        return Err(PlanFault::TooManyKeys);
+    }
+    Ok(copied(alloc, keys)?)
+}
+
+/// Adds the keys of marks that aren't there yet.
+fn add_marks<'a>(table: &mut IndexSet<&'a str>, marks: &'a [Mark]) -> Result<(), AllocError>
+    ensures { OnOk result (map (λ k. k.now) table.new.keys
+        ≡ with_marks (map (λ k. k.now) table.old.keys) marks.now) }
+{
+    'marks: for mark in marks {
+        table.insert(mark.key.as_str())?;
+    }
+    Ok(())
+}
+
+/// The same texts.
+fn copied(alloc: Global, keys: &[&str]) -> Result<Vec<Text>, AllocError>
+    ensures { IfOk result (λ v. v.items ≡ map (λ k. k.now) keys.now) }
+{
+    let mut texts = Vec::with_capacity(alloc, keys.len())?;
+    'keys: for key in keys {
+        texts.push(Text::copied(alloc, *key)?)?;
+    }
+    Ok(texts)
+}
+
+impl Kind {
+    /// The marks that are written on the node.
+    pub(crate) fn marks(&self) -> &[Mark]
+        ensures { result.now ≡ written_marks (kind_of self.now) }
+    {
+        match self {
+            Kind::Root => &[],
+            Kind::Class { head, .. } => &head.marks,
+            Kind::Test { head } => &head.marks,
+        }
+    }
+}

@@ -1,0 +1,183 @@
+//! The plan of a run.
+ghost use Rattle.std.specs.Prelude.{◌≡◌, ◌≢◌, ◌<◌, [], IfErr, IfOk, None, Some, length, map, slice_index_or};
+ghost use Rattle.std.specs.Option.{option_map};
+ghost use Rattle.iso_model.specs.ChainView.{innermost_first};
+ghost use Rattle.iso_model.specs.ScriptView.{script_of, test_head_of};
+ghost use Rattle.iso_plan.specs.Faults.{plan_fault};
+ghost use Rattle.iso_plan.specs.KeyTable.{keys};
+ghost use Rattle.iso_plan.specs.NodeChains.{chain_classes, chain_test};
+ghost use Rattle.iso_plan.specs.Paths.{IsTree, children, is_test, parent_of, row_at};
+ghost use Rattle.iso_plan.specs.RowView.{tree_of};
+ghost use Rattle.iso_plan.specs.Tree.{tree};
+
+use crate::chains::chains;
+use crate::children::children;
+use crate::fault::PlanFault;
+use crate::keys::keys;
+use crate::names::has_double_class;
+use crate::row::{Kind, Row};
+use crate::tree::tree;
+use iso_model::chain::Chain;
+use iso_model::heads::ClassHead;
+use iso_model::limits::SCRIPTS;
+use iso_model::script::Script;
+use iso_model::text::Text;
+use iso_settings::settings::Settings;
+use std::alloc::Global;
+use std::marker::Model;
+use std::sync::Arc;
+
+/// The plan that every run follows: the tree of classes and tests, its nodes numbered in preorder from the root,
+/// which is number 0, each with its class chain; and the keys that are marked on them, numbered. It lends what
+/// it answers, and takes no memory for it.
+#[derive(Drop)]
+pub struct Plan {
+    rows: Vec<Row>,
+    settings: Settings,
+    children: Vec<Vec<u32>>,
+    chains: Vec<Vec<Arc<ClassHead>>>,
+    keys: Vec<Text>,
+}
+
+impl Model for Plan {
+    ghost use Rattle.std.specs.Prelude.{map};
+    ghost use Rattle.iso_model.specs.contracts.tree.Form as form;
+    ghost use Rattle.iso_model.specs.contracts.tree.Stmt as stmt;
+    ghost use Rattle.iso_model.specs.contracts.tree.Expr as expr;
+    ghost use Rattle.iso_model.specs.ChainView.{innermost_first};
+    ghost use Rattle.std.specs.Coded.{codes};
+    ghost use Rattle.iso_plan.specs.IsPlan.{IsPlan};
+    ghost use Rattle.iso_plan.specs.Planned.{Planned};
+    ghost use Rattle.iso_plan.specs.RowView.{row_of};
+
+    ghost Value = { Planned };
+
+    ghost coded = { Prim.hlevel (codes, form.the_row.coded, stmt.the_row.coded, expr.the_row.coded) };
+
+    ghost view = { λ p. record { rows = p.rows.items; settings = p.settings } };
+
+    ghost invariant = { λ p. IsPlan (map row_of p.rows.items) (map (λ c. c.items) p.children.items)
+        (map (λ c. innermost_first c.items) p.chains.items) p.keys.items };
+}
+
+/// The plan of scripts under settings.
+///
+/// More than 64 scripts are `TooManyScripts`; two top-level classes of one team and name `DoubleClass`; more
+/// than 4,096 nodes, the root among them, `TooManyNodes`; more than 255 different declared keys `TooManyKeys`.
+/// They are tested in this order. Want of memory may be answered at each growth.
+pub fn build(alloc: Global, scripts: &[Script], settings: &Settings) -> Result<Plan, PlanFault>
+    ensures tree { IfOk result (λ p. tree_of p ≡ tree (map script_of scripts.now)) }
+    ensures settings { IfOk result (λ p. p.settings ≡ settings.now) }
+    ensures accepted { IfOk result (λ p. plan_fault (map script_of scripts.now) ≡ None) }
+    ensures refused { IfErr result (λ e. e ≢ PlanFault.OutOfMemory
+        → plan_fault (map script_of scripts.now) ≡ Some e) }
+{
+    if scripts.len() > SCRIPTS as usize {
+        return Err(PlanFault::TooManyScripts);
+    }
+    if has_double_class(alloc, scripts)? {
+        return Err(PlanFault::DoubleClass);
+    }
+    let rows = tree(alloc, scripts)?;
+    let keys = keys(alloc, &rows)?;
+    let children = children(alloc, &rows)?;
+    let chains = chains(alloc, &rows)?;
+    Ok(Plan {
+        rows,
+        settings: *settings,
+        children,
+        chains,
+        keys,
+    })
+}
+
+impl Plan {
+    /// How many nodes it has, the root among them.
+    pub fn len(&self) -> u32
+        ensures { result ≡ length self.now.rows }
+    {
+        self.rows.len() as u32
+    }
+
+    /// The class that a node stands in, or the root; the root stands in nothing.
+    pub fn parent(&self, node: u32) -> Option<u32>
+        requires { node < length self.now.rows }
+        ensures { result ≡ parent_of (tree_of self.now) node }
+    {
+        if node == 0 {
+            return None;
+        }
+        Some(self.rows[node as usize].parent)
+    }
+
+    /// The nodes that stand directly in a node, in the order in which they are written.
+    pub fn children(&self, node: u32) -> &[u32]
+        requires { node < length self.now.rows }
+        ensures { result.now ≡ children (tree_of self.now) node }
+    {
+        &self.children[node as usize]
+    }
+
+    /// Whether a node is a test.
+    pub fn is_test(&self, node: u32) -> bool
+        requires { node < length self.now.rows }
+        ensures { result ≡ is_test (row_at (tree_of self.now) node).kind }
+    {
+        matches!(self.rows[node as usize].kind, Kind::Test { .. })
+    }
+
+    /// What a node is called in a report: its display text, or its name where it has none. A top-level class's
+    /// begins with the team's name and a dot, the root's is empty.
+    pub fn title(&self, node: u32) -> &str
+        requires { node < length self.now.rows }
+        ensures { result.now ≡ (row_at (tree_of self.now) node).title }
+    {
+        self.rows[node as usize].title.as_str()
+    }
+
+    /// A node's name. A top-level class's begins with the team's name and a dot, the root's is empty.
+    pub fn name(&self, node: u32) -> &str
+        requires { node < length self.now.rows }
+        ensures { result.now ≡ (row_at (tree_of self.now) node).name }
+    {
+        self.rows[node as usize].name.as_str()
+    }
+
+    /// A node's class chain: the heads of the classes that it stands in, with its own. They are the script's.
+    pub fn chain(&self, node: u32) -> Chain<'_>
+        requires { node < length self.now.rows }
+        ensures classes { innermost_first result.classes.now ≡ chain_classes (tree_of self.now) node }
+        ensures test { option_map (λ t. test_head_of t.now) result.test ≡ chain_test (tree_of self.now) node }
+    {
+        let test = match &self.rows[node as usize].kind {
+            Kind::Test { head } => Some(&**head),
+            Kind::Root | Kind::Class { .. } => None,
+        };
+        Chain {
+            classes: &self.chains[node as usize],
+            test,
+        }
+    }
+
+    /// How many keys it numbers, the global key among them.
+    pub fn key_count(&self) -> u32
+        ensures { result ≡ length (keys (tree_of self.now)) }
+    {
+        self.keys.len() as u32
+    }
+
+    /// A key by its number: the global key is number 0, the others follow in the order in which they are first
+    /// marked.
+    pub fn key(&self, number: u32) -> &str
+        requires { number < length (keys (tree_of self.now)) }
+        ensures { result.now ≡ slice_index_or (keys (tree_of self.now)) number [] }
+    {
+        self.keys[number as usize].as_str()
+    }
+    /// Its nodes are a tree.
+    pub(crate) fn hold_a_tree(&self)
+        ensures { IsTree (tree_of self.now) }
+    {
+        let _rows = &self.rows;
+    }
+}

@@ -1,0 +1,31 @@
+use iso_model::heads::{ClassHead, TestHead};
+use iso_model::script::Mode;
+use iso_model::text::Text;
+use std::sync::Arc;
+
+/// What a node is, with the head that it shares with the script.
+#[derive(Drop)]
+pub enum Kind {
+    Root,
+    Class {
+        isolated: bool,
+        head: Arc<ClassHead>,
+    },
+    Test {
+        head: Arc<TestHead>,
+    },
+}
+
+/// A node as it is written, with the number of the class that it stands in.
+#[derive(Drop)]
+pub struct Row {
+    /// The root has itself here, and so has each top-level class.
+    pub parent: u32,
+    pub kind: Kind,
+    /// A top-level class's with the team's name and `.` before it.
+    pub name: Text,
+    /// The display text, or the name where there is none; a top-level class's with the team's name and `.` before it.
+    pub title: Text,
+    /// The execution mode that is marked on the node, if one is.
+    pub mode: Option<Mode>,
+}

@@ -1,0 +1,212 @@
+//! The nodes of scripts, in preorder.
+ghost use Rattle.std.specs.Prelude.{◌≡◌, ◌+◌, ◌≤◌, ◌++◌, ◌∷◌, [], ℕ, IfOk, IfErr, OnOk, length, map, vec_len, unwrap_or};
+ghost use Rattle.iso_model.specs.ScriptView.{class_of, member_of, members_of, script_of, test_of};
+ghost use Rattle.iso_model.specs.declared.limits.TheConstants.{NODES};
+ghost use Rattle.iso_plan.specs.Faults.{IsFull};
+ghost use Rattle.iso_plan.specs.RowView.{row_of, title_of};
+ghost use Rattle.iso_plan.specs.Tree.{in_team, class_row, class_rows, member_rows, members_rows, root_row, script_rows, team_rows, test_row, top_row, top_rows, tree};
+
+use crate::fault::PlanFault;
+use crate::row::{Kind, Row};
+use iso_model::limits::NODES;
+use iso_model::script::{Class, Member, Script, Test};
+use iso_model::text::Text;
+use std::alloc::{AllocError, Global};
+
+/// The nodes of scripts in preorder, after the root: scripts as handed in, members as written.
+/// More than 4,096 are `TooManyNodes`.
+pub(crate) fn tree(alloc: Global, scripts: &[Script]) -> Result<Vec<Row>, PlanFault>
+    ensures tree { IfOk result (λ v. map row_of v.items ≡ tree (map script_of scripts.now)) }
+    ensures fits { IfOk result (λ v. vec_len v ≤ NODES) }
+    ensures full { IfErr result (IsFull (length (tree (map script_of scripts.now)))) }
+{
+    let mut rows = Vec::new(alloc);
+    rows.push(root(alloc))?;
+    'scripts: for script in scripts {
+        add_team(alloc, &mut rows, script)?;
+    }
+    Ok(rows)
+}
+
+/// The root.
+fn root(alloc: Global) -> Row
+    ensures { row_of result ≡ root_row }
+{
+    Row {
+        parent: 0,
+        kind: Kind::Root,
+        name: Text::new(String::new(alloc)),
+        title: Text::new(String::new(alloc)),
+        mode: None,
+    }
+}
+
+/// Adds a node.
+fn add(rows: &mut Vec<Row>, row: Row) -> Result<(), PlanFault>
+    ensures ok { OnOk result (map row_of rows.new.items ≡ map row_of rows.old.items ++ row_of row ∷ []) }
+    ensures fits { OnOk result (vec_len rows.new ≤ NODES) }
+    ensures full { IfErr result (IsFull (vec_len rows.old + 1)) }
+{
+    if rows.len() >= NODES as usize {
+        return Err(PlanFault::TooManyNodes);
+    }
+    rows.push(row)?;
+    Ok(())
+}
+
+/// Adds the nodes of a team's classes.
+fn add_team(alloc: Global, rows: &mut Vec<Row>, script: &Script) -> Result<(), PlanFault>
+    requires { vec_len rows.old ≤ NODES }
+    ensures ok { OnOk result (map row_of rows.new.items ≡ map row_of rows.old.items
+        ++ team_rows script.now.team (vec_len rows.old) (map class_of script.now.classes.items)) }
+    ensures fits { OnOk result (vec_len rows.new ≤ NODES) }
+    ensures full { IfErr result (IsFull (vec_len rows.old
+        + length (team_rows script.now.team (vec_len rows.old) (map class_of script.now.classes.items)))) }
+{
+    'classes: for class in &script.classes {
+        add_top(alloc, rows, &script.team, class)?;
+    }
+    Ok(())
+}
+
+/// Adds the nodes of a top-level class of a team.
+fn add_top(alloc: Global, rows: &mut Vec<Row>, team: &Text, class: &Class) -> Result<(), PlanFault>
+    requires { vec_len rows.old ≤ NODES }
+    ensures ok { OnOk result (map row_of rows.new.items ≡ map row_of rows.old.items
+        ++ top_rows team.now (vec_len rows.old) (class_of class.now)) }
+    ensures fits { OnOk result (vec_len rows.new ≤ NODES) }
+    ensures full { IfErr result (IsFull (vec_len rows.old
+        + length (top_rows team.now (vec_len rows.old) (class_of class.now)))) }
+{
+    let number = rows.len() as u32;
+    add(rows, top_row(alloc, team, class)?)?;
+    add_members(alloc, rows, number, &class.members)
+}
+
+/// Adds the nodes of a class that stands in the class with this number.
+#[cycle(growth)]
+fn add_class(
+    alloc: Global,
+    rows: &mut Vec<Row>,
+    parent: u32,
+    class: &Class,
+) -> Result<(), PlanFault>
+    requires { vec_len rows.old ≤ NODES }
+    ensures ok { OnOk result (map row_of rows.new.items ≡ map row_of rows.old.items
+        ++ class_rows parent (vec_len rows.old) (class_of class.now)) }
+    ensures fits { OnOk result (vec_len rows.new ≤ NODES) }
+    ensures full { IfErr result (IsFull (vec_len rows.old
+        + length (class_rows parent (vec_len rows.old) (class_of class.now)))) }
+{
+    let number = rows.len() as u32;
+    add(rows, class_row(alloc, parent, class)?)?;
+    add_members(alloc, rows, number, &class.members)
+}
+
+/// Adds the nodes of the members of the class with this number.
+#[cycle(growth)]
+fn add_members(
+    alloc: Global,
+    rows: &mut Vec<Row>,
+    parent: u32,
+    members: &[Member],
+) -> Result<(), PlanFault>
+    requires { vec_len rows.old ≤ NODES }
+    ensures ok { OnOk result (map row_of rows.new.items ≡ map row_of rows.old.items
+        ++ members_rows parent (vec_len rows.old) (members_of (map member_of members.now))) }
+    ensures fits { OnOk result (vec_len rows.new ≤ NODES) }
+    ensures full { IfErr result (IsFull (vec_len rows.old
+        + length (members_rows parent (vec_len rows.old) (members_of (map member_of members.now))))) }
+{
+    'members: for member in members {
+        add_member(alloc, rows, parent, member)?;
+    }
+    Ok(())
+}
+
+/// Adds the nodes of a member of the class with this number.
+#[cycle(growth)]
+fn add_member(
+    alloc: Global,
+    rows: &mut Vec<Row>,
+    parent: u32,
+    member: &Member,
+) -> Result<(), PlanFault>
+    requires { vec_len rows.old ≤ NODES }
+    ensures ok { OnOk result (map row_of rows.new.items ≡ map row_of rows.old.items
+        ++ member_rows parent (vec_len rows.old) (member_of member.now)) }
+    ensures fits { OnOk result (vec_len rows.new ≤ NODES) }
+    ensures full { IfErr result (IsFull (vec_len rows.old
+        + length (member_rows parent (vec_len rows.old) (member_of member.now)))) }
+{
+    match member {
+        Member::Class(class) => add_class(alloc, rows, parent, class),
+        Member::Test(test) => add(rows, test_row(alloc, parent, test)?),
+    }
+}
+
+/// A test of the class with this number.
+fn test_row(alloc: Global, parent: u32, test: &Test) -> Result<Row, AllocError>
+    ensures { IfOk result (λ r. row_of r ≡ test_row parent (test_of test.now)) }
+{
+    Ok(Row {
+        parent,
+        kind: Kind::Test {
+            head: test.head.clone()?,
+        },
+        name: test.name.copy(alloc)?,
+        title: shown(&test.display, &test.name).copy(alloc)?,
+        mode: test.mode,
+    })
+}
+
+/// A class in the class with this number.
+fn class_row(alloc: Global, parent: u32, class: &Class) -> Result<Row, AllocError>
+    ensures { IfOk result (λ r. row_of r ≡ class_row parent (title_of class.now)) }
+{
+    Ok(Row {
+        parent,
+        kind: Kind::Class {
+            isolated: class.isolated,
+            head: class.head.clone()?,
+        },
+        name: class.name.copy(alloc)?,
+        title: shown(&class.display, &class.name).copy(alloc)?,
+        mode: class.mode,
+    })
+}
+
+/// A top-level class of a team.
+fn top_row(alloc: Global, team: &Text, class: &Class) -> Result<Row, AllocError>
+    ensures { IfOk result (λ r. row_of r ≡ top_row team.now (title_of class.now)) }
+{
+    Ok(Row {
+        parent: 0,
+        kind: Kind::Class {
+            isolated: class.isolated,
+            head: class.head.clone()?,
+        },
+        name: in_team(alloc, team, &class.name)?,
+        title: in_team(alloc, team, shown(&class.display, &class.name))?,
+        mode: class.mode,
+    })
+}
+
+/// What a node is called in a report: its display text, or its name where it has none.
+fn shown<'a>(display: &'a Option<Text>, name: &'a Text) -> &'a Text
+    ensures { result.now ≡ unwrap_or display.now name.now }
+{
+    match display {
+        Some(text) => text,
+        None => name,
+    }
+}
+
+/// A text after the team's name and a dot.
+pub(crate) fn in_team(alloc: Global, team: &Text, text: &Text) -> Result<Text, AllocError>
+    ensures { IfOk result (λ t. t ≡ in_team team.now text.now) }
+{
+    let team = team.as_str();
+    let text = text.as_str();
+    Ok(Text::new(format!(in alloc; "{team}.{text}")?))
+}
