@@ -66,10 +66,7 @@ fn members(parser: &mut Parser<'_>) -> Result<Vec<Member>, ScriptError>
 }
 
 /// A member of a class, whose name is none of those seen.
-fn member<'a>(
-    parser: &mut Parser<'a>,
-    seen: &mut BTreeSet<&'a str>,
-) -> Result<Member, ScriptError>
+fn member<'a>(parser: &mut Parser<'a>, seen: &mut BTreeSet<&'a str>) -> Result<Member, ScriptError>
     ensures found { (d : ℕ) → IfOk result (λ m. IsMember d (member_of m) parser.old.lexer parser.new.lexer) }
     ensures fresh { (names : List (List ℕ)) → Knows seen.old names
         → IfOk result (λ m. (is_among names (name_of (member_of m)) ≡ false)

@@ -200,11 +200,7 @@ impl Parser<'_> {
         match infix {
             Infix::Chain(operator) => {
                 let operands = self.chained(symbol, parens)?;
-                Ok(Expr::Chain(
-                    operator,
-                    Box::new(self.alloc, first)?,
-                    operands,
-                ))
+                Ok(Expr::Chain(operator, Box::new(self.alloc, first)?, operands))
             }
             Infix::Compare(comparison) => {
                 self.lexer.advance();
