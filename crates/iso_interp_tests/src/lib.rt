@@ -1,0 +1,15 @@
+//! Blocks run through the interpreter, over resources in memory.
+#![tactic(auto)]
+
+#[cfg(test)]
+mod assertions;
+#[cfg(test)]
+mod blocks;
+#[cfg(test)]
+mod control;
+#[cfg(test)]
+mod resources;
+#[cfg(test)]
+mod scene;
+#[cfg(test)]
+mod values;
