@@ -202,6 +202,29 @@ fn failed_write_tells_how_much_was_taken(rt: HostRuntime) {
     assert_eq!(rt; narrow.failures, 1);
 }
 
+/// A script is read first, so what is none has its fault also outside the first part.
+#[test]
+fn script_outside_the_first_part_is_not_run_yet(rt: HostRuntime) {
+    let mut sink = MemorySink::new(rt.alloc());
+    for script in [
+        "team shop\nclass C { test t { print 1 + 2; } }",
+        "team shop\nclass C { test t { assert true; } }",
+        "team shop\nclass C { test t { if true { } } }",
+    ] {
+        let inputs = Inputs {
+            scripts: &[script.as_bytes()],
+            settings: &[],
+            world: &[],
+            processors: 1,
+        };
+        assert!(rt;
+            run_serial(rt.alloc(), inputs, &mut sink) == Err(RunFault::NotYet),
+            "{script}"
+        );
+    }
+    assert!(rt; sink.bytes().is_empty());
+}
+
 #[test]
 fn another_number_of_scripts_is_not_built_yet(rt: HostRuntime) {
     let mut sink = MemorySink::new(rt.alloc());
