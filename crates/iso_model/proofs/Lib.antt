@@ -1,4 +1,6 @@
 pub mod Agreement
+pub mod BodyKeys
+pub mod BodyRuns
 pub mod ChainLemmas
 pub mod ChainRights
 pub mod ChainRuns

@@ -3,3 +3,4 @@ pub mod Words
 pub mod Resources
 pub mod Lifecycles
 pub mod Names
+pub mod Bodies

@@ -1,12 +1,15 @@
 pub mod Agreement
 pub mod Alone
 pub mod Blocks
+pub mod Bodies
+pub mod BodyAgreement
 pub mod Changes
 pub mod Chains
 pub mod ChainView
 pub mod Environments
 pub mod Evaluation
 pub mod Examples
+pub mod Jobs
 pub mod Keys
 pub mod Memory
 pub mod Names

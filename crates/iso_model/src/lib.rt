@@ -2,6 +2,8 @@
 #![tactic(auto)]
 
 pub mod access;
+pub mod body_examples;
+pub mod body_laws;
 pub mod chain;
 pub mod data;
 pub mod examples;
