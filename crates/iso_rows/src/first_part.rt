@@ -1,7 +1,8 @@
 //! Scripts of the first part of the language.
 use iso_run::command::command;
 use iso_run::run::{Inputs, RunFault, run_serial};
-use iso_run::sink::{MemorySink, Sink, SinkFailed};
+use iso_tap::memory::MemorySink;
+use iso_tap::sink::{Sink, SinkFailed};
 use std::alloc::{AllocError, Global};
 use std::test::Fail;
 
@@ -179,6 +180,10 @@ impl Sink for Narrow {
                 Err(SinkFailed)
             }
         }
+    }
+
+    fn flush(&mut self) -> Result<(), SinkFailed> {
+        Ok(())
     }
 }
 

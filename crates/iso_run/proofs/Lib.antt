@@ -1,4 +1,3 @@
 pub mod FirstPart
 mod Refusals
-mod Sequences
 mod Turns

@@ -1,7 +1,7 @@
 -- What a refusal of the input leaves.
 use Rattle.std.proofs.Common.{◌≡◌, ℕ, List, true, sym, true≢false}
 use Rattle.iso_run.specs.Runs.{Refused, is_of_input}
-use Rattle.iso_run.specs.Sinks.{Account, TookNothing}
+use Rattle.iso_tap.specs.Sinks.{Account, TookNothing}
 use Rattle.iso_run.specs.declared.run.RunFault.{RunFault}
 use Rattle.iso_run.specs.declared.run.RunFault.TheVariants.{NotYet, Script as ScriptFault, Plan, Memory, Write}
 

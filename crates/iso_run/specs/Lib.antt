@@ -5,5 +5,4 @@ pub mod Suites
 pub mod Plans
 pub mod FirstPart
 pub mod Runs
-pub mod Sinks
 pub mod Pieces

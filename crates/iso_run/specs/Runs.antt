@@ -8,7 +8,7 @@ use Rattle.iso_run.specs.FirstPart.{is_first_part}
 use Rattle.iso_run.specs.Plans.{plan_fault}
 use Rattle.iso_run.specs.Reports.{report, all_ok}
 use Rattle.iso_run.specs.Results.{Nodes}
-use Rattle.iso_run.specs.Sinks.{Account, HasFailed, Took, TookNothing, Wrote}
+use Rattle.iso_tap.specs.Sinks.{Account, HasFailed, Took, TookNothing, Wrote}
 use Rattle.iso_run.specs.Suites.{script_results}
 use Rattle.iso_run.specs.declared.plan.PlanFault.{PlanFault}
 use Rattle.iso_run.specs.declared.run.Inputs.{Inputs}

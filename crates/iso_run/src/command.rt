@@ -1,13 +1,13 @@
 //! The program, over a reader and two sinks.
 ghost use Rattle.std.specs.Prelude.{◌≡◌, ◌≢◌, ◌≤◌, [], true, false};
 ghost use Rattle.iso_run.specs.Runs.{ReportedSome, is_of_input};
-ghost use Rattle.iso_run.specs.Sinks.{TookNothing};
+ghost use Rattle.iso_tap.specs.Sinks.{TookNothing};
 
 use crate::plan::PlanFault;
 use crate::run::{Inputs, RunFault, run_serial};
-use crate::sink::Sink;
 use iso_model::limits::FILE_BYTES;
 use iso_script::fault::{ScriptFault, ScriptFaultKind};
+use iso_tap::sink::Sink;
 use std::alloc::{AllocError, Global};
 use std::io::Read;
 

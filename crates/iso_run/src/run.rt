@@ -4,16 +4,16 @@ ghost use Rattle.iso_model.specs.ScriptView.{script_of};
 ghost use Rattle.iso_run.specs.FirstPart.{is_first_part};
 ghost use Rattle.iso_run.specs.Reports.{all_ok, report};
 ghost use Rattle.iso_run.specs.Runs.{NotWritten, Refused, Reported, script_in, suite_results};
-ghost use Rattle.iso_run.specs.Sinks.{TookNothing, Wrote};
+ghost use Rattle.iso_tap.specs.Sinks.{TookNothing, Wrote};
 
 use crate::first_part::is_first_part;
 use crate::plan::{PlanFault, plan_fault};
 use crate::report::{all_ok, write_report};
 use crate::runner::run_script;
-use crate::sink::Sink;
 use iso_model::script::Script;
 use iso_script::fault::{ScriptError, ScriptFault};
 use iso_script::reader::read_script;
+use iso_tap::sink::Sink;
 use std::alloc::Global;
 
 /// What a run is given: the bytes of each script, of the settings and of the world, and how many
