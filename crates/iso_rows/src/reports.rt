@@ -8,6 +8,7 @@ use iso_run::results::{ClassResult, NodeResult, TestResult};
 use iso_tap::escape::escape;
 use iso_tap::memory::MemorySink;
 use iso_tap::output::OutputSink;
+use iso_tap::sink::Sink;
 use std::alloc::{AllocError, Global};
 use std::io;
 use std::test::Fail;

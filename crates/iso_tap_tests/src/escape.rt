@@ -124,6 +124,10 @@ impl Sink for DeafSink {
         }
         Ok(0)
     }
+
+    fn flush(&mut self) -> Result<(), SinkFailed> {
+        Ok(())
+    }
 }
 
 #[test]
