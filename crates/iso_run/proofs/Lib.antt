@@ -1,3 +1,3 @@
+mod Answering
 pub mod FirstPart
-mod Refusals
 mod Turns

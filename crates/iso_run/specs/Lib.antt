@@ -2,7 +2,6 @@ pub mod Reports
 pub mod Results
 pub mod ResultView
 pub mod Suites
-pub mod Plans
 pub mod FirstPart
 pub mod Runs
 pub mod Pieces
