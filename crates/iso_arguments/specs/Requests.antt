@@ -1,5 +1,5 @@
 -- What a request asks for.
-use Rattle.std.specs.Prelude.{ℕ, ◌≤◌, ⊤}
+use Rattle.std.specs.Prelude.{◌≡◌, ℕ, ◌≤◌, [], None, ⊤}
 use Rattle.iso_arguments.specs.declared.request.Request.{Request}
 use Rattle.iso_arguments.specs.declared.request.Request.TheVariants.{Run, Plan, Show}
 
@@ -12,3 +12,9 @@ abbrev pub AsksForSomeProcessors : Request → Type 0
 AsksForSomeProcessors (Run serial files) = IsCount files.processors
 AsksForSomeProcessors (Plan files) = IsCount files.processors
 AsksForSomeProcessors (Show text) = ⊤
+
+-- a run of one script from standard input, without settings or world, counting with one processor
+abbrev pub IsPlainRun : Request → Type 0
+IsPlainRun (Run serial files) = (files.settings ≡ None) × (files.world ≡ None) × (files.scripts.items ≡ []) × (files.processors ≡ 1)
+IsPlainRun (Plan files) = ⊥
+IsPlainRun (Show text) = ⊥

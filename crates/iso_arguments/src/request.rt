@@ -1,11 +1,13 @@
 //! What the words of a command line ask for.
-ghost use Rattle.std.specs.Prelude.{◌≡◌, [], None, IfOk};
-ghost use Rattle.iso_arguments.specs.Requests.{AsksForSomeProcessors, IsCount};
+ghost use Rattle.std.specs.Prelude.{◌≡◌, [], None, IfOk, IsOkAnd};
+ghost use Rattle.iso_arguments.specs.Requests.{AsksForSomeProcessors, IsCount, IsPlainRun};
 
 use crate::options::command_line;
 use clap::error::ErrorKind;
 use clap::{ArgMatches, Error};
-use std::alloc::{AllocError, Global};
+use std::alloc::{AllocError, AllocFailed, AllocGlobal, Global};
+use std::env::{self, Env};
+use std::io;
 
 /// The files that a run or a plan is made of, as the words name them.
 #[derive(Drop)]
@@ -52,19 +54,51 @@ pub enum WordsFault {
     OutOfMemory,
 }
 
+impl<T: Drop> From<AllocFailed<T>> for WordsFault {
+    fn from(_error: AllocFailed<T>) -> WordsFault {
+        WordsFault::OutOfMemory
+    }
+}
+
 impl From<AllocError> for WordsFault {
     fn from(_error: AllocError) -> WordsFault {
         WordsFault::OutOfMemory
     }
 }
 
-/// Reads the words after the program's name. No word at all is `run`.
+/// The words that a program was called with, after its own name. A word that isn't UTF-8 is a wrong word.
+pub fn words_of<E: Env + AllocGlobal>(env: &E) -> Result<Vec<String>, WordsFault> {
+    let args = match env::args(env) {
+        Ok(args) => args,
+        Err(error) if error.kind() == io::ErrorKind::InvalidData => {
+            return Err(WordsFault::Refused(String::from_str(
+                env.alloc(),
+                "error: a word isn't UTF-8\n\nFor more information, try '--help'.\n",
+            )?));
+        }
+        Err(_) => return Err(WordsFault::OutOfMemory),
+    };
+    let mut words = Vec::new(env.alloc());
+    for word in args.skip(1) {
+        words.push(word)?;
+    }
+    Ok(words)
+}
+
+/// Reads the words after the program's name. No word at all is `run` of a script from standard input.
 ///
 /// A request for help or the version is `Show`. Words that `jtap` doesn't have are `Refused`, with
 /// the text that says which.
 pub fn read_words<'a>(alloc: Global, words: &'a [String]) -> Result<Request<'a>, WordsFault>
     ensures processors { IfOk result AsksForSomeProcessors }
+    ensures no_word { words.now ≡ [] → IsOkAnd result IsPlainRun }
 {
+    if words.is_empty() {
+        return Ok(Request::Run {
+            serial: false,
+            files: InputFiles::none(alloc),
+        });
+    }
     let command = match command_line(alloc) {
         Ok(command) => command,
         Err(error) => return shown(alloc, &error),

@@ -1,11 +1,11 @@
 -- Of the first part: a test alone is its block, and a block is its statements one after another.
-use Rattle.std.proofs.Common.{Result, OnOk, take, false, Option, Some, None, ◌-◌, ◌≤◌, length, map, is_none, unwrap_or, codes, ◌≡◌, ℕ, List, [], ◌∷◌, ◌++◌, suc, ◌+◌, true, arith, rules, refl, sym, ap, ◌∙◌, append-nil}
+use Rattle.std.proofs.Common.{Result, OnOk, take, false, Option, Some, None, ◌-◌, ◌≤◌, length, map, is_none, unwrap_or, codes, ◌≡◌, ℕ, List, [], ◌∷◌, ◌++◌, suc, ◌+◌, true, arith, rules, refl, sym, ap, ap₂, ◌∙◌, append-nil, append_assoc}
 use Rattle.std.proofs.lemmas.Bool.{and_parts, lt-leb}
 use Rattle.std.proofs.lemmas.List.{take_all}
 use Rattle.std.proofs.lemmas.Result.{on_ok_weaker}
 use Rattle.iso_model.specs.Alone.{test_alone, class_alone}
 use Rattle.iso_model.specs.Chains.{ClassHead, empty_head}
-use Rattle.iso_model.specs.Resources.{Resources, restricted}
+use Rattle.iso_model.specs.Resources.{Resources, restricted, empty_world}
 use Rattle.iso_model.specs.Rights.{Rights, rights_of}
 use Rattle.iso_model.specs.Statements.{has_room, Local, is_well, with_steps, performed, runs_out, run, ran}
 use Rattle.iso_model.specs.Syntax.{literal, print, assert_equal, Plain, Act, plain, choice, repeat, Acts, no_acts, act}
@@ -13,13 +13,13 @@ use Rattle.iso_model.specs.SyntaxView.{term_of, form_of, stmt_of}
 use Rattle.iso_model.specs.declared.tree.Stmt.{Stmt}
 use Rattle.iso_model.specs.declared.tree.Form as F
 use Rattle.iso_model.proofs.Finishing.{taking-in}
-use Rattle.iso_run.specs.FirstPart.{is_empty, is_empty_block, is_empty_head, is_simple_test, is_simple_title, is_simple_class, are_simple_members, begun_block, over, outcome_of}
-use Rattle.iso_run.specs.Results.{class_node, node}
-use Rattle.iso_run.specs.ResultView.{node_of, class_node_of, nodes_of, nodes_from}
-use Rattle.iso_run.specs.Suites.{member_result, member_results, top_result, top_results}
+use Rattle.iso_run.specs.FirstPart.{are_first_part, are_simple_classes, is_empty, is_empty_block, is_empty_head, is_simple_test, is_simple_title, is_simple_class, are_simple_members, begun_block, over, outcome_of}
+use Rattle.iso_run.specs.Results.{class_node, test_node, node, nodes_from}
+use Rattle.iso_run.specs.ResultView.{node_of, class_node_of, nodes_of}
+use Rattle.iso_run.specs.Suites.{all_results, member_result, member_results, test_title, top_result, top_results}
 use Rattle.iso_run.specs.declared.results.NodeResult as N
 use Rattle.iso_run.specs.declared.results.ClassResult.{ClassResult}
-use Rattle.iso_model.specs.Scripts.{ClassTitle, Class, class, Member, member, Members, no_members}
+use Rattle.iso_model.specs.Scripts.{ClassTitle, Class, class, Member, member, Members, no_members, Script}
 use Rattle.iso_model.specs.Scripts as S
 use Rattle.std.specs.Arc.{arc_value}
 use Rattle.iso_model.specs.ScriptView.{class_of, member_of, members_of, class_head_of}
@@ -150,9 +150,9 @@ nodes_from-members : (start : Resources) (chain : List ClassHead) (ms : List M.M
 nodes_from-members start chain [] = refl
 nodes_from-members start chain (m ∷ ms) = ap (node (member_result start chain (member_of m))) (nodes_from-members start chain ms)
 
-nodes_from-classes : (start : Resources) (team : List ℕ) (cs : List D.Class) → nodes_from (map (λ c. top_result start team (class_of c)) cs) ≡ top_results start team (map class_of cs)
-nodes_from-classes start team [] = refl
-nodes_from-classes start team (c ∷ cs) = ap (node (top_result start team (class_of c))) (nodes_from-classes start team cs)
+map-class_of : (start : Resources) (team : List ℕ) (cs : List D.Class) → map (λ c. top_result start team (class_of c)) cs ≡ map (top_result start team) (map class_of cs)
+map-class_of start team [] = refl
+map-class_of start team (c ∷ cs) = ap (λ ns. top_result start team (class_of c) ∷ ns) (map-class_of start team cs)
 
 -- a level whose results are all there
 pub members-done : (start : Resources) (chain : List ClassHead) (results : List N.NodeResult) (ms : List M.Member) (i : ℕ) → length ms ≤ i
@@ -161,9 +161,15 @@ members-done start chain results ms i all so_far =
     ap nodes_from (so_far ∙ ap (map (λ m. member_result start chain (member_of m))) (take_all i ms all)) ∙ nodes_from-members start chain ms
 
 pub classes-done : (start : Resources) (team : List ℕ) (results : List N.NodeResult) (cs : List D.Class) (i : ℕ) → length cs ≤ i
-    → map node_of results ≡ map (λ c. top_result start team (class_of c)) (take i cs) → nodes_of results ≡ top_results start team (map class_of cs)
+    → map node_of results ≡ map (λ c. top_result start team (class_of c)) (take i cs) → map node_of results ≡ map (top_result start team) (map class_of cs)
 classes-done start team results cs i all so_far =
-    ap nodes_from (so_far ∙ ap (map (λ c. top_result start team (class_of c))) (take_all i cs all)) ∙ nodes_from-classes start team cs
+    so_far ∙ ap (map (λ c. top_result start team (class_of c))) (take_all i cs all) ∙ map-class_of start team cs
+
+-- scripts, one after another
+pub one_script_more : (start : Resources) (ss : List Script) (s : Script) → all_results start (ss ++ s ∷ []) ≡ all_results start ss ++ top_results start s
+one_script_more start [] s = append-nil (top_results start s)
+one_script_more start (r ∷ ss) s =
+    ap (λ ns. top_results start r ++ ns) (one_script_more start ss s) ∙ sym (append_assoc (top_results start r) (all_results start ss) (top_results start s))
 
 -- what the trees stand for, a level at a time
 class_node_of-parts : (c : ClassResult) → class_node_of c ≡ class_node c.title c.outcome (nodes_of c.members.items)
@@ -186,3 +192,30 @@ class-done start team c o first title outcome members =
     let is_title = (and_parts (is_simple_title (title_of c)) (are_simple_members ms) parts).0 in
     class_node_of-parts o
     ∙ rw (title, outcome, members) (sym (ap (top_result start team) (class_of-parts c) ∙ top_result-simple start team (title_of c) ms is_title))
+
+-- of the first part it is all one what the resources start with
+test_same : (start : Resources) (t : S.Test) → is_simple_test t ≡ true → test_alone t.head (empty_head ∷ []) start ≡ test_alone t.head (empty_head ∷ []) empty_world
+test_same start t e = simple_test-alone t start e ∙ sym (simple_test-alone t empty_world e)
+
+members_same : (start : Resources) (ms : Members) → are_simple_members ms ≡ true → member_results start (empty_head ∷ []) ms ≡ member_results empty_world (empty_head ∷ []) ms
+members_same start no_members e = refl
+members_same start (member (S.test_member t) ms) e =
+    let a = and_parts _ _ e in ap₂ node (ap (test_node (test_title t)) (test_same start t a.0)) (members_same start ms a.1)
+members_same start (member (S.class_member c) ms) e = cc
+
+class_same : (start : Resources) (team : List ℕ) (c : Class) → is_simple_class c ≡ true → top_result start team c ≡ top_result empty_world team c
+class_same start team (class t ms) e =
+    let a = and_parts _ _ e in
+    top_result-simple start team t ms a.0
+    ∙ ap (class_node (team ++ codes "." ++ t.name) (record { verdict = V.Pass; output = [] })) (members_same start ms a.1)
+    ∙ sym (top_result-simple empty_world team t ms a.0)
+
+classes_same : (start : Resources) (team : List ℕ) (cs : List Class) → are_simple_classes cs ≡ true → map (top_result start team) cs ≡ map (top_result empty_world team) cs
+classes_same start team [] e = refl
+classes_same start team (c ∷ cs) e =
+    let a = and_parts _ _ e in ap₂ (λ n ns. n ∷ ns) (class_same start team c a.0) (classes_same start team cs a.1)
+
+pub scripts_same : (start : Resources) (ss : List Script) → are_first_part ss ≡ true → all_results start ss ≡ all_results empty_world ss
+scripts_same start [] e = refl
+scripts_same start (s ∷ ss) e =
+    let a = and_parts _ _ e in ap₂ (λ ns ms. ns ++ ms) (classes_same start s.team s.classes a.0) (scripts_same start ss a.1)

@@ -1,4 +1,3 @@
+mod Answering
 pub mod FirstPart
-mod Refusals
-mod Sequences
 mod Turns

@@ -1,5 +1,5 @@
 -- The texts of lists, with their first element apart.
-use Rattle.std.proofs.Common.{◌≡◌, ℕ, suc, ◌+◌, ◌-◌, ◌%◌, ◌^◌, ◌<◌, List, [], ◌∷◌, ◌++◌, length, get_or, drop, cond, replicate, codes, true, false, nat_eq, ◌||◌, ◌&&◌, refl, sym, ap, ◌∙◌, arith, add-one, append-nil, append_assoc, drop-cons}
+use Rattle.std.proofs.Common.{◌≡◌, ℕ, suc, ◌+◌, ◌-◌, ◌%◌, ◌^◌, ◌<◌, List, [], ◌∷◌, ◌++◌, length, get_or, drop, cond, replicate, codes, true, false, nat_eq, ◌||◌, ◌&&◌, refl, sym, ap, ◌∙◌, arith, add-one, append_assoc, drop-cons}
 use Rattle.std.proofs.lemmas.List.{length-append, length-replicate}
 use Rattle.std.proofs.lemmas.Bool.Decides.{nat_tests}
 use Rattle.std.proofs.lemmas.Fmt.{decimal_by_steps}
@@ -13,29 +13,20 @@ use Rattle.iso_run.specs.Results.{Node, class_node}
 use Rattle.iso_run.specs.declared.results.ClassResult.{ClassResult}
 use Rattle.iso_run.specs.declared.results.NodeResult.TheFolds.{fold_out-ClassResult}
 use Rattle.iso_run.specs.declared.results.NodeResult.{NodeResult}
-use Rattle.iso_run.specs.Pieces.{with_escapes}
-use Rattle.iso_run.specs.Reports.{escaped, quoted_bytes, item_lines, line_at, quoted, points, node_lines, output_lines, plan_line, point, is_ok_verdict, count, all_ok, is_ok}
+use Rattle.iso_tap.specs.Escapes.{with_escapes, escaped, quoted_bytes, quoted}
+use Rattle.iso_run.specs.Reports.{item_lines, line_at, points, node_lines, output_lines, plan_line, point, is_ok_verdict, count, all_ok, is_ok}
+
+escapes_cons : (other b : ℕ) (bs : List ℕ) → with_escapes other (b ∷ bs) ≡ with_escapes other (b ∷ []) ++ with_escapes other bs
+escapes_cons other b bs =
+    elim (nat_eq b 92 || nat_eq b other) as
+    (λ x. cond x (92 ∷ b ∷ with_escapes other bs) (b ∷ with_escapes other bs) ≡ cond x (92 ∷ b ∷ []) (b ∷ []) ++ with_escapes other bs)
+    [ true ↦ refl | false ↦ refl ]
 
 pub escapes_next : (other i : ℕ) (bytes : List ℕ) → i < length bytes → with_escapes other (drop i bytes) ≡ with_escapes other (get_or bytes i 0 ∷ []) ++ with_escapes other (drop (i + 1) bytes)
-escapes_next other i bytes h = rw (add-one, drop-cons bytes i 0, append-nil) refl
-
-pub with_escapes-hash : (t : List ℕ) → with_escapes 35 t ≡ escaped t
-with_escapes-hash [] = refl
-with_escapes-hash (b ∷ bs) =
-    rw (with_escapes-hash bs)
-    (elim (nat_eq b 92 || nat_eq b 35) as (λ x. cond x (92 ∷ b ∷ []) (b ∷ []) ++ escaped bs ≡ cond x (92 ∷ b ∷ escaped bs) (b ∷ escaped bs)) [ true ↦ refl | false ↦ refl ])
-
-pub with_escapes-quote : (t : List ℕ) → with_escapes 34 t ≡ quoted_bytes t
-with_escapes-quote [] = refl
-with_escapes-quote (b ∷ bs) =
-    rw (with_escapes-quote bs)
-    (elim (nat_eq b 92 || nat_eq b 34) as (λ x. cond x (92 ∷ b ∷ []) (b ∷ []) ++ quoted_bytes bs ≡ cond x (92 ∷ b ∷ quoted_bytes bs) (b ∷ quoted_bytes bs)) [ true ↦ refl | false ↦ refl ])
+escapes_next other i bytes h = rw (add-one, drop-cons bytes i 0) (escapes_cons other (get_or bytes i 0) (drop (suc i) bytes))
 
 pub spaces_next : (i n : ℕ) → i < n → replicate {A = ℕ} (n - i) 32 ≡ 32 ∷ replicate (n - (i + 1)) 32
 spaces_next i n h = let e : n - i ≡ suc (n - (i + 1)) = omega arith in rw e refl
-
--- each escaped text is one of these
-pub ruleset escapes = (with_escapes-hash, with_escapes-quote)
 
 pub length-line_at : (n : ℕ) (t : List ℕ) → length (line_at n t) ≡ n + length t + 1
 length-line_at n t = simp (length-append, length-replicate) (omega arith)

@@ -99,6 +99,11 @@ are_simple_classes (c ∷ cs) = is_simple_class c && are_simple_classes cs
 abbrev pub is_first_part : Script → Bool
 is_first_part s = are_simple_classes s.classes
 
+-- whether all scripts are of the first part
+abbrev pub are_first_part : List Script → Bool
+are_first_part [] = true
+are_first_part (s ∷ ss) = is_first_part s && are_first_part ss
+
 -- the block of a test at its beginning, where no name is visible
 abbrev pub begun_block : Local
 begun_block = begun (environment [] 0 BlockName.Test)

@@ -2,8 +2,6 @@ pub mod Reports
 pub mod Results
 pub mod ResultView
 pub mod Suites
-pub mod Plans
 pub mod FirstPart
 pub mod Runs
-pub mod Sinks
 pub mod Pieces

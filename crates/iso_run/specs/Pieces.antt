@@ -1,14 +1,9 @@
 -- The pieces that lines are made of, as text.
-use Rattle.std.specs.Prelude.{ℕ, List, [], ◌∷◌, ◌++◌, cond, ◌||◌, nat_eq, replicate}
+use Rattle.std.specs.Prelude.{ℕ, List, [], ◌∷◌, ◌++◌, replicate}
 use Rattle.std.specs.Fmt.{decimal}
-use Rattle.iso_run.specs.Reports.{escaped, quoted_bytes}
+use Rattle.iso_tap.specs.Escapes.{escaped, quoted_bytes}
 use Rattle.iso_run.specs.declared.report.Piece.{Piece}
 use Rattle.iso_run.specs.declared.report.Piece.TheVariants.{Plain, Spaces, Number, Escaped, InQuotes}
-
--- a text in which a backslash and one other byte have a backslash before them
-abbrev pub with_escapes : ℕ → List ℕ → List ℕ
-with_escapes other [] = []
-with_escapes other (b ∷ bs) = cond (nat_eq b 92 || nat_eq b other) (92 ∷ b ∷ []) (b ∷ []) ++ with_escapes other bs
 
 -- the text of a piece
 abbrev pub piece_text : Piece → List ℕ

@@ -1,25 +1,13 @@
 -- The report of results (TAP version 14), as text.
-use Rattle.std.specs.Prelude.{ℕ, suc, ◌+◌, List, [], ◌∷◌, ◌++◌, Bool, true, false, cond, ◌&&◌, ◌||◌, nat_eq, codes, replicate}
+use Rattle.std.specs.Prelude.{ℕ, suc, ◌+◌, List, [], ◌∷◌, ◌++◌, Bool, true, false, cond, ◌&&◌, codes, replicate}
 use Rattle.std.specs.Fmt.{decimal}
 use Rattle.iso_model.specs.Texts.{place_text}
 use Rattle.iso_model.specs.declared.outcome.Note.{Note}
 use Rattle.iso_model.specs.declared.outcome.Outcome.{Outcome}
 use Rattle.iso_model.specs.declared.outcome.Verdict.{Verdict}
 use Rattle.iso_model.specs.declared.outcome.Verdict.TheVariants.{Pass, Fail, Fault, Skipped, Blocked}
+use Rattle.iso_tap.specs.Escapes.{escaped, quoted}
 use Rattle.iso_run.specs.Results.{Node, class_node, test_node, Nodes, no_nodes, node}
-
--- a text as it stands in a title or a reason: a backslash and a hash are escaped (TAP 14, escaping)
-abbrev pub escaped : List ℕ → List ℕ
-escaped [] = []
-escaped (b ∷ bs) = cond (nat_eq b 92 || nat_eq b 35) (92 ∷ b ∷ escaped bs) (b ∷ escaped bs)
-
--- a text in quotes (YAML, double-quoted style): a quote and a backslash are escaped
-abbrev pub quoted_bytes : List ℕ → List ℕ
-quoted_bytes [] = []
-quoted_bytes (b ∷ bs) = cond (nat_eq b 92 || nat_eq b 34) (92 ∷ b ∷ quoted_bytes bs) (b ∷ quoted_bytes bs)
-
-abbrev pub quoted : List ℕ → List ℕ
-quoted t = codes "\"" ++ quoted_bytes t ++ codes "\""
 
 -- a line at an indentation
 abbrev pub line_at : ℕ → List ℕ → List ℕ

@@ -1,13 +1,9 @@
 -- What the code's results stand for.
-use Rattle.std.specs.Prelude.{List, [], ◌∷◌, map}
-use Rattle.iso_run.specs.Results.{Node, class_node, test_node, Nodes, no_nodes, node}
+use Rattle.std.specs.Prelude.{List, map}
+use Rattle.iso_run.specs.Results.{Node, class_node, test_node, Nodes, nodes_from}
 use Rattle.iso_run.specs.declared.results.ClassResult.{ClassResult, fold-ClassResult}
 use Rattle.iso_run.specs.declared.results.NodeResult.{NodeResult, fold-NodeResult}
 use Rattle.iso_run.specs.declared.results.NodeResult.TheOpen.{NodeResult-F, ClassResult-F}
-
-abbrev pub nodes_from : List Node → Nodes
-nodes_from [] = no_nodes
-nodes_from (n ∷ ns) = node n (nodes_from ns)
 
 abbrev pub node_step : NodeResult-F Node Node → Node
 node_step (NodeResult-F.Class c) = c

@@ -1,10 +1,12 @@
 -- The results of a suite: of each test and class those of its own class chain run alone on the start.
-use Rattle.std.specs.Prelude.{ℕ, List, [], ◌∷◌, ◌++◌, codes, unwrap_or}
+use Rattle.std.specs.Prelude.{ℕ, List, [], ◌∷◌, ◌++◌, map, codes, Some, unwrap_or}
 use Rattle.iso_model.specs.Alone.{class_alone, test_alone}
 use Rattle.iso_model.specs.Chains.{ClassHead}
 use Rattle.iso_model.specs.Resources.{Resources}
 use Rattle.iso_model.specs.Scripts.{Test, ClassTitle, Class, class, Member, class_member, test_member, Members, no_members, member, Script}
-use Rattle.iso_run.specs.Results.{Node, class_node, test_node, Nodes, no_nodes, node}
+use Rattle.iso_settings.specs.Worlds.{Start, starting_value_in}
+use Rattle.iso_inputs.specs.Suites.{Suite}
+use Rattle.iso_run.specs.Results.{Node, class_node, test_node, Nodes, no_nodes, node, nodes_from}
 
 -- the title of a test or class: its display text, else its name
 abbrev pub test_title : Test → List ℕ
@@ -34,10 +36,22 @@ abbrev mutual
 abbrev pub top_result : Resources → List ℕ → Class → Node
 top_result start team (class c ms) = class_node (team_title team c) (class_alone c.head [] start) (member_results start (c.head ∷ []) ms)
 
-abbrev pub top_results : Resources → List ℕ → List Class → Nodes
-top_results start team [] = no_nodes
-top_results start team (c ∷ cs) = node (top_result start team c) (top_results start team cs)
+-- the results of a script's classes
+abbrev pub top_results : Resources → Script → List Node
+top_results start s = map (top_result start s.team) s.classes
 
--- the results of a script
-abbrev pub script_results : Resources → Script → Nodes
-script_results start s = top_results start s.team s.classes
+-- the results of scripts, one after another
+abbrev pub all_results : Resources → List Script → List Node
+all_results start [] = []
+all_results start (s ∷ ss) = top_results start s ++ all_results start ss
+
+abbrev pub scripts_results : Resources → List Script → Nodes
+scripts_results start scripts = nodes_from (all_results start scripts)
+
+-- the values that resources start with in a world
+abbrev pub started : Start → Resources
+started world key = Some (starting_value_in world key)
+
+-- the results of a suite: those of its scripts on what its world starts with
+abbrev pub suite_results : Suite → Nodes
+suite_results suite = scripts_results (started suite.start) suite.scripts

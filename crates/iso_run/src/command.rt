@@ -1,13 +1,13 @@
 //! The program, over a reader and two sinks.
-ghost use Rattle.std.specs.Prelude.{◌≡◌, ◌≢◌, ◌≤◌, [], true, false};
-ghost use Rattle.iso_run.specs.Runs.{ReportedSome, is_of_input};
-ghost use Rattle.iso_run.specs.Sinks.{TookNothing};
+ghost use Rattle.std.specs.Prelude.{◌≡◌, ◌≢◌, ◌≤◌, ◌⊎◌, [], true, false};
+ghost use Rattle.iso_run.specs.Runs.{ReportedSome, status};
+ghost use Rattle.iso_tap.specs.Sinks.{TookNothing};
 
-use crate::plan::PlanFault;
-use crate::run::{Inputs, RunFault, run_serial};
-use crate::sink::Sink;
+use crate::fault::{FAILED, FaultLine, REFUSED, RunFault};
+use crate::run::run_serial;
+use iso_inputs::inputs::Inputs;
 use iso_model::limits::FILE_BYTES;
-use iso_script::fault::{ScriptFault, ScriptFaultKind};
+use iso_tap::sink::Sink;
 use std::alloc::{AllocError, Global};
 use std::io::Read;
 
@@ -15,10 +15,6 @@ use std::io::Read;
 const ALL_OK: u8 = 0;
 /// The status where some top-level point is not ok.
 const NOT_OK: u8 = 1;
-/// The status of refused input.
-const REFUSED: u8 = 2;
-/// The status of a run fault: memory, reading, writing.
-const FAILED: u8 = 3;
 
 /// Why standard input was not read.
 enum ReadFault {
@@ -70,7 +66,7 @@ pub fn command<G: AllocGlobal, R: Read, W: Sink, E: Sink>(
     match run_serial(rt.alloc(), inputs, output) {
         Ok(summary) if summary.all_ok => ALL_OK,
         Ok(_) => NOT_OK,
-        Err(fault) => refuse(rt.alloc(), fault, errors),
+        Err(fault) => refuse(rt.alloc(), &fault, errors),
     }
 }
 
@@ -95,23 +91,17 @@ fn read_input<R: Read>(alloc: Global, input: &mut R) -> Result<Vec<u8>, ReadFaul
 }
 
 /// Writes a fault's line, and answers its status.
-fn refuse<E: Sink>(alloc: Global, fault: RunFault, errors: &mut E) -> u8
-    ensures status { result ≤ 3 }
-    ensures refused { 2 ≤ result }
-    ensures of_input { result ≡ 2 → is_of_input fault ≡ true }
+fn refuse<E: Sink>(alloc: Global, fault: &RunFault, errors: &mut E) -> u8
+    ensures { (result ≡ status fault.now) ⊎ (result ≡ 3) }
 {
-    match fault {
-        RunFault::NotYet => say(errors, "jtap: not yet\n"),
-        RunFault::Plan(PlanFault::DoubleClass) => say(errors, "jtap: plan: DoubleClass\n"),
-        RunFault::Plan(PlanFault::TooManyNodes) => say(errors, "jtap: plan: TooManyNodes\n"),
-        RunFault::Script(fault) => match script_line(alloc, fault) {
-            Ok(line) => say(errors, line.as_str()),
-            Err(_) => return out_of_memory(errors),
-        },
-        RunFault::Memory => return out_of_memory(errors),
-        RunFault::Write(_) => return write_failed(errors),
+    let line = FaultLine { fault, names: &[] };
+    match format!(in alloc; "{line}\n") {
+        Ok(line) => {
+            say(errors, line.as_str());
+            fault.status()
+        }
+        Err(_) => out_of_memory(errors),
     }
-    REFUSED
 }
 
 /// Writes the line of memory that ran out, and answers its status, 3.
@@ -128,33 +118,6 @@ pub fn write_failed<E: Sink>(errors: &mut E) -> u8
 {
     say(errors, "jtap: write failed\n");
     FAILED
-}
-
-/// The line of a script's fault.
-fn script_line(alloc: Global, fault: ScriptFault) -> Result<String, AllocError> {
-    let ScriptFault { kind, line, column } = fault;
-    let kind = kind_name(kind);
-    format!(in alloc; "jtap: stdin:{line}:{column}: {kind}\n")
-}
-
-/// The name of a kind of fault.
-fn kind_name(kind: ScriptFaultKind) -> &'static str {
-    match kind {
-        ScriptFaultKind::BadByte => "BadByte",
-        ScriptFaultKind::BadToken => "BadToken",
-        ScriptFaultKind::NumberTooBig => "NumberTooBig",
-        ScriptFaultKind::OpenText => "OpenText",
-        ScriptFaultKind::Expected => "Expected",
-        ScriptFaultKind::DoubleBlock => "DoubleBlock",
-        ScriptFaultKind::DoubleMember => "DoubleMember",
-        ScriptFaultKind::NameTaken => "NameTaken",
-        ScriptFaultKind::EmptyClass => "EmptyClass",
-        ScriptFaultKind::TooDeep => "TooDeep",
-        ScriptFaultKind::TooLong => "TooLong",
-        ScriptFaultKind::BadDisplay => "BadDisplay",
-        ScriptFaultKind::GlobalKey => "GlobalKey",
-        ScriptFaultKind::EndOfInput => "EndOfInput",
-    }
 }
 
 /// Writes a line as far as the sink takes it.

@@ -1,15 +1,27 @@
 //! The first part of the language: top-level classes that hold tests of `print` and `assert_equal` over literals.
-ghost use Rattle.std.specs.Prelude.{◌≡◌};
+ghost use Rattle.std.specs.Prelude.{◌≡◌, map};
 ghost use Rattle.iso_model.specs.ScriptView.{class_head_of, class_of, member_of, script_of, test_of};
 ghost use Rattle.iso_model.specs.SyntaxView.{block_of, form_of, term_of};
-ghost use Rattle.iso_run.specs.FirstPart.{are_simple_acts, declares_nothing, has_no_blocks, is_empty_block, is_empty_head, is_first_part, is_literal, is_simple_act, is_simple_class, is_simple_member, is_simple_test};
+ghost use Rattle.iso_run.specs.FirstPart.{are_first_part, are_simple_acts, declares_nothing, has_no_blocks, is_empty_block, is_empty_head, is_first_part, is_literal, is_simple_act, is_simple_class, is_simple_member, is_simple_test};
 
 use iso_model::heads::ClassHead;
 use iso_model::script::{Class, Member, Script, Test};
 use iso_model::tree::{Expr, Form, Stmt};
 
+/// Whether all scripts lie in the first part.
+pub(crate) fn are_first_part(scripts: &[Script]) -> bool
+    ensures { result ≡ are_first_part (map script_of scripts.now) }
+{
+    'scripts: for script in scripts {
+        if !is_first_part(script) {
+            return false;
+        }
+    }
+    true
+}
+
 /// Whether a script lies in the first part.
-pub(crate) fn is_first_part(script: &Script) -> bool
+fn is_first_part(script: &Script) -> bool
     ensures { result ≡ is_first_part (script_of script.now) }
 {
     'classes: for class in &script.classes {

@@ -2,10 +2,9 @@
 #![tactic(auto)]
 
 pub mod command;
+pub mod fault;
 mod first_part;
-pub mod plan;
 pub mod report;
 pub mod results;
 pub mod run;
 pub mod runner;
-pub mod sink;

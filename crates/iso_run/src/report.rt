@@ -3,17 +3,20 @@ ghost use Rattle.std.specs.Prelude.{◌≡◌, ◌+◌, ◌-◌, ◌<◌, ◌≤
 ghost use Rattle.std.specs.Fmt.{decimal};
 ghost use Rattle.iso_model.specs.Texts.{place_text, row_text};
 ghost use Rattle.iso_model.specs.declared.place.BlockName.TheVariants.{Test, Class};
-ghost use Rattle.iso_run.specs.Pieces.{with_escapes, piece_text, pieces_text};
-ghost use Rattle.iso_run.specs.Reports.{escaped, quoted, quoted_bytes, line_at, is_ok_verdict, directive, point_line, note_lines, verdict_lines, item_lines, output_lines, block_lines, is_silent, point, plan_line, is_ok, all_ok, node_lines, points, report};
+ghost use Rattle.iso_run.specs.Pieces.{piece_text, pieces_text};
+ghost use Rattle.iso_run.specs.Reports.{line_at, is_ok_verdict, directive, point_line, note_lines, verdict_lines, item_lines, output_lines, block_lines, is_silent, point, plan_line, is_ok, all_ok, node_lines, points, report};
 ghost use Rattle.iso_run.specs.ResultView.{node_of, class_node_of, nodes_of};
-ghost use Rattle.iso_run.specs.Sinks.{Took, Wrote, CutOff, HasFailed};
+ghost use Rattle.iso_tap.specs.Escapes.{escaped, quoted, with_escapes};
+ghost use Rattle.iso_tap.specs.Printers.{Writes};
+ghost use Rattle.iso_tap.specs.Sinks.{Wrote, CutOff};
 
 use crate::results::{ClassResult, NodeResult};
-use crate::sink::{Sink, SinkFailed};
 use iso_model::lines::Lines;
 use iso_model::outcome::{Note, Outcome, Verdict};
 use iso_model::place::{BlockName, Lifecycle, Place};
 use iso_model::text::Text;
+use iso_tap::fault::TapFault;
+use iso_tap::sink::{Sink, SinkFailed};
 use itoa::Buffer;
 
 /// A piece of a line.
@@ -119,7 +122,6 @@ fn put_escaped<W: Sink>(
 }
 
 /// Writes a piece.
-#[tactic(auto, using(crate::proofs::Turns::escapes))]
 fn put_piece<W: Sink>(sink: &mut W, written: &mut u64, piece: &Piece<'_>) -> Result<(), SinkFailed>
     requires countable { written.old ≤ (W.account sink.old).count }
     ensures wrote { OnOk result (Wrote (W.account sink.old) (W.account sink.new)
@@ -721,47 +723,16 @@ fn put_report<W: Sink>(
     put_points(sink, written, 0, results)
 }
 
-/// The sink failed after it took the first `written` bytes of a text, and not all of them.
-#[derive(Clone, Copy, PartialEq, Eq)]
-pub struct TapFault {
-    pub written: u64,
-}
-
 /// Writes the report of these results: the version, the plan, and each point in order, a class's
 /// level before its point (TAP version 14, with subtests and YAML diagnostics).
 ///
 /// It takes no memory. The sink is asked again where it takes only some bytes, and no more once
 /// it has failed: what it took until then is the beginning of the report.
 pub fn write_report<W: Sink>(results: &[NodeResult], sink: &mut W) -> Result<(), TapFault>
-    ensures written { OnOk result (Wrote (W.account sink.old) (W.account sink.new)
-        (report (nodes_of results.now))) }
-    ensures cut { IfErr result (λ f. Took (W.account sink.old) (W.account sink.new)
-        (take f.written (report (nodes_of results.now)))) }
-    ensures within { IfErr result (λ f. f.written < length (report (nodes_of results.now))) }
-    ensures failed { OnErr result
-        (HasFailed (W.account sink.old).failures (W.account sink.new).failures) }
+    ensures { Writes (W.account sink.old) (W.account sink.new) (report (nodes_of results.now)) result }
 {
     let mut written = 0;
     match put_report(sink, &mut written, results) {
-        Ok(()) => Ok(()),
-        Err(_) => Err(TapFault { written }),
-    }
-}
-
-/// Writes a text as it stands in a title or a reason: with a backslash before each backslash and
-/// each hash.
-#[tactic(auto, using(crate::proofs::Turns::escapes))]
-pub fn escape<W: Sink>(text: &str, sink: &mut W) -> Result<(), TapFault>
-    ensures written { OnOk result (Wrote (W.account sink.old) (W.account sink.new)
-        (escaped text.now)) }
-    ensures cut { IfErr result (λ f. Took (W.account sink.old) (W.account sink.new)
-        (take f.written (escaped text.now))) }
-    ensures within { IfErr result (λ f. f.written < length (escaped text.now)) }
-    ensures failed { OnErr result
-        (HasFailed (W.account sink.old).failures (W.account sink.new).failures) }
-{
-    let mut written = 0;
-    match put_escaped(sink, &mut written, b'#', text.as_bytes()) {
         Ok(()) => Ok(()),
         Err(_) => Err(TapFault { written }),
     }

@@ -1,5 +1,5 @@
 //! Runs a script of the first part of the language, in which a body prints and compares literals.
-ghost use Rattle.std.specs.Prelude.{◌≡◌, [], ◌∷◌, ◌++◌, true, IfOk, OnOk, codes};
+ghost use Rattle.std.specs.Prelude.{◌≡◌, [], ◌∷◌, ◌++◌, true, map, IfOk, OnOk, codes};
 ghost use Rattle.iso_model.specs.Chains.{empty_head};
 ghost use Rattle.iso_model.specs.Alone.{test_alone};
 ghost use Rattle.iso_model.specs.Evaluation.{is_equal};
@@ -12,9 +12,9 @@ ghost use Rattle.iso_model.specs.Syntax.{assert_equal, literal, print};
 ghost use Rattle.iso_model.specs.SyntaxView.{block_of, stmt_of, term_of};
 ghost use Rattle.iso_model.specs.Texts.{difference_message};
 ghost use Rattle.iso_model.specs.Verdicts.{verdict};
-ghost use Rattle.iso_run.specs.FirstPart.{are_simple_acts, begun_block, is_simple_act, is_simple_class, is_simple_member, is_first_part, is_simple_test, is_literal, outcome_of, over};
+ghost use Rattle.iso_run.specs.FirstPart.{are_first_part, are_simple_acts, begun_block, is_simple_act, is_simple_class, is_simple_member, is_first_part, is_simple_test, is_literal, outcome_of, over};
 ghost use Rattle.iso_run.specs.ResultView.{class_node_of, node_of, nodes_of};
-ghost use Rattle.iso_run.specs.Suites.{member_result, script_results, test_title, top_result};
+ghost use Rattle.iso_run.specs.Suites.{member_result, scripts_results, test_title, top_result, top_results};
 
 use crate::results::{ClassResult, NodeResult, TestResult};
 use iso_model::data::Data;
@@ -29,13 +29,26 @@ use iso_model::tree::{Expr, Form, Stmt};
 use std::alloc::{AllocError, Global};
 use std::marker::Model;
 
-/// The results of a script of the first part, in a world that says nothing: of each class and
-/// test what it comes to alone, in the order of the script (JUnit 5, test lifecycle). A test ends
+/// The results of scripts of the first part, in a world that says nothing: of each class and
+/// test what it comes to alone, in the order of the scripts (JUnit 5, test lifecycle). A test ends
 /// with OutOfSteps past 10,000 statements, with OutputFull past 65,536 bytes, line ends counted.
 /// Want of memory is the only error.
-pub fn run_script(alloc: Global, script: &Script) -> Result<Vec<NodeResult>, AllocError>
+pub fn run_scripts(alloc: Global, scripts: &[Script]) -> Result<Vec<NodeResult>, AllocError>
+    requires { are_first_part (map script_of scripts.now) ≡ true }
+    ensures { IfOk result (λ v. nodes_of v.items ≡ scripts_results empty_world (map script_of scripts.now)) }
+{
+    let mut results = Vec::new(alloc);
+    for script in scripts {
+        let mut more = run_script(alloc, script)?;
+        results.append(&mut more)?;
+    }
+    Ok(results)
+}
+
+/// The results of a script.
+fn run_script(alloc: Global, script: &Script) -> Result<Vec<NodeResult>, AllocError>
     requires { is_first_part (script_of script.now) ≡ true }
-    ensures { IfOk result (λ v. nodes_of v.items ≡ script_results empty_world (script_of script.now)) }
+    ensures { IfOk result (λ v. map node_of v.items ≡ top_results empty_world (script_of script.now)) }
 {
     let mut results = Vec::new(alloc);
     for class in &script.classes {

@@ -56,4 +56,9 @@ impl Sink for MemorySink {
             }
         }
     }
+
+    // It holds nothing back.
+    fn flush(&mut self) -> Result<(), SinkFailed> {
+        Ok(())
+    }
 }

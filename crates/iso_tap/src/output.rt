@@ -1,6 +1,5 @@
 //! A sink over a writer.
-ghost use Rattle.std.specs.Prelude.{◌≡◌, ℕ, None, is_err};
-ghost use Rattle.iso_tap.specs.Sinks.{TookNothing, failures_after};
+ghost use Rattle.std.specs.Prelude.{◌≡◌, None};
 
 use crate::sink::{Sink, SinkFailed};
 use std::io;
@@ -34,18 +33,6 @@ impl<W: io::Write + Drop> OutputSink<W> {
             failures: 0,
         }
     }
-
-    /// Has the writer pass on what it holds. A writer that can't is a failure of the sink.
-    pub fn flush(&mut self) -> Result<(), SinkFailed>
-        ensures kept { TookNothing self.old self.new }
-        ensures failures { self.new.failures ≡ failures_after (is_err result) self.old.failures }
-    {
-        if self.writer.flush().is_ok() {
-            return Ok(());
-        }
-        self.failures = self.failures.saturating_add(1);
-        Err(SinkFailed)
-    }
 }
 
 impl<W: io::Write + Drop> Sink for OutputSink<W> {
@@ -65,6 +52,14 @@ impl<W: io::Write + Drop> Sink for OutputSink<W> {
                 }
                 _ => {}
             }
+        }
+        self.failures = self.failures.saturating_add(1);
+        Err(SinkFailed)
+    }
+
+    fn flush(&mut self) -> Result<(), SinkFailed> {
+        if self.writer.flush().is_ok() {
+            return Ok(());
         }
         self.failures = self.failures.saturating_add(1);
         Err(SinkFailed)

@@ -1,5 +1,5 @@
 //! What takes bytes.
-ghost use Rattle.std.specs.Prelude.{◌≡◌, ◌≤◌, IfOk, OnErr, length, take};
+ghost use Rattle.std.specs.Prelude.{◌≡◌, ◌≤◌, IfOk, OnErr, is_err, length, take};
 ghost use Rattle.iso_tap.specs.Sinks.{Account, Took, TookNothing, greatest, is_failure, failures_after};
 
 /// A sink didn't take what it was given.
@@ -20,4 +20,10 @@ pub trait Sink {
         ensures failures { (account self.new).failures
             ≡ failures_after (is_failure result bytes.now) (account self.old).failures }
         ensures countable { (account self.new).count ≤ greatest };
+
+    /// Has what stands behind the sink pass on what it holds. A sink whose writer can't has failed.
+    fn flush(&mut self) -> Result<(), SinkFailed>
+        ensures kept { TookNothing (account self.old) (account self.new) }
+        ensures flushed { (account self.new).failures
+            ≡ failures_after (is_err result) (account self.old).failures };
 }

@@ -64,6 +64,10 @@ impl Sink for FailingSink {
         self.failures = self.failures.saturating_add(1);
         Err(SinkFailed)
     }
+
+    fn flush(&mut self) -> Result<(), SinkFailed> {
+        Ok(())
+    }
 }
 
 /// Whether the sink took the first bytes of the title, as many as the answer says, and was asked
@@ -119,6 +123,10 @@ impl Sink for DeafSink {
             self.failures = self.failures.saturating_add(1);
         }
         Ok(0)
+    }
+
+    fn flush(&mut self) -> Result<(), SinkFailed> {
+        Ok(())
     }
 }
 

@@ -2,7 +2,8 @@
 #![tactic(auto)]
 
 use iso_run::command::{command, out_of_memory, write_failed};
-use iso_run::sink::{OutputSink, Sink};
+use iso_tap::output::OutputSink;
+use iso_tap::sink::Sink;
 use std::env;
 use std::io::{self, BufWriter};
 use std::process::ExitCode;

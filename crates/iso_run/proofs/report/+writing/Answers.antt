@@ -2,7 +2,7 @@ use Rattle.std.proofs.Common.{◌+◌, ap, arith}
 use Rattle.std.proofs.lemmas.Result.{on_ok_weaker, on_err_weaker}
 use Rattle.iso_run.specs.Reports.{points}
 use Rattle.iso_run.specs.ResultView.{nodes_of}
-use Rattle.iso_run.proofs.Sequences.{CutOff-then, CutOff-more, Wrote-then, Left-turn, Left-stop, on_err}
+use Rattle.iso_tap.proofs.Sequences.{CutOff-then, CutOff-more, Wrote-then, Left-turn, Left-stop, on_err}
 use Rattle.iso_run.proofs.Turns.{class_lines, drop_next}
 use Rattle.iso_run.proofs.report.+writing.Goals as goal
 

@@ -1,7 +1,7 @@
 use Rattle.std.proofs.Common.{◌≡◌, ◌+◌, drop}
 use Rattle.iso_run.specs.Reports.{points}
 use Rattle.iso_run.specs.ResultView.{nodes_of}
-use Rattle.iso_run.proofs.Sequences.{Left}
+use Rattle.iso_tap.proofs.Sequences.{Left}
 use Rattle.iso_run.proofs.report.+writing.Given as goal
 
 abbrev pub invariant-put_points-loop-i : goal.invariant-put_points-loop-i

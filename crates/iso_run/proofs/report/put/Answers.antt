@@ -1,7 +1,7 @@
 use Rattle.std.proofs.Common.{arith}
 use Rattle.std.proofs.lemmas.List.{length-take-le}
-use Rattle.iso_run.specs.declared.sink.SinkFailed.{SinkFailed}
-use Rattle.iso_run.proofs.Sequences.{Left-part}
+use Rattle.iso_tap.specs.declared.sink.SinkFailed.{SinkFailed}
+use Rattle.iso_tap.proofs.Sequences.{Left-part}
 use Rattle.iso_run.proofs.report.put.Goals as goal
 
 pub loop-rest-preserved : goal.loop-rest-preserved

@@ -1,5 +1,5 @@
 use Rattle.std.proofs.Common.{◌≡◌, ◌+◌, length}
-use Rattle.iso_run.proofs.Sequences.{Left}
+use Rattle.iso_tap.proofs.Sequences.{Left}
 use Rattle.iso_run.proofs.report.put.Given as goal
 
 abbrev pub invariant-loop-rest : goal.invariant-loop-rest

@@ -1,5 +1,5 @@
 use Rattle.std.proofs.lemmas.Result.{on_err_weaker}
-use Rattle.iso_run.proofs.Sequences.{CutOff-then, CutOff-more, Wrote-then, on_err}
+use Rattle.iso_tap.proofs.Sequences.{CutOff-then, CutOff-more, Wrote-then, on_err}
 use Rattle.iso_run.proofs.report.put_block.Goals as goal
 
 pub returns-in_err-put_verdict-clause-cut : goal.returns-in_err-put_verdict-clause-cut

@@ -1,5 +1,5 @@
 use Rattle.std.proofs.Common.{arith}
-use Rattle.iso_run.proofs.Sequences.{Left-turn, Left-stop, on_err}
+use Rattle.iso_tap.proofs.Sequences.{Left-turn, Left-stop, on_err}
 use Rattle.iso_run.proofs.Turns.{escapes_next}
 use Rattle.iso_run.proofs.report.put_escaped.Goals as goal
 

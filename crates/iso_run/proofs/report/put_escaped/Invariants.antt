@@ -1,6 +1,6 @@
 use Rattle.std.proofs.Common.{◌≡◌, ◌+◌, drop}
-use Rattle.iso_run.specs.Pieces.{with_escapes}
-use Rattle.iso_run.proofs.Sequences.{Left}
+use Rattle.iso_tap.specs.Escapes.{with_escapes}
+use Rattle.iso_tap.proofs.Sequences.{Left}
 use Rattle.iso_run.proofs.report.put_escaped.Given as goal
 
 abbrev pub invariant-loop-byte : goal.invariant-loop-byte

@@ -1,6 +1,6 @@
 use Rattle.std.proofs.Common.{◌≡◌, ◌+◌, drop}
 use Rattle.iso_run.specs.Reports.{item_lines}
-use Rattle.iso_run.proofs.Sequences.{Left}
+use Rattle.iso_tap.proofs.Sequences.{Left}
 use Rattle.iso_run.proofs.report.put_items.Given as goal
 
 abbrev pub invariant-loop-line : goal.invariant-loop-line

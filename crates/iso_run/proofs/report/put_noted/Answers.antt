@@ -1,5 +1,5 @@
 use Rattle.std.proofs.lemmas.Result.{on_err_weaker}
-use Rattle.iso_run.proofs.Sequences.{CutOff-then}
+use Rattle.iso_tap.proofs.Sequences.{CutOff-then}
 use Rattle.iso_run.proofs.report.put_noted.Goals as goal
 
 pub returns-clause-cut : goal.returns-clause-cut

@@ -1,6 +1,6 @@
 use Rattle.std.proofs.Common.{◌<◌, length, arith}
 use Rattle.std.proofs.lemmas.Result.{on_err_weaker}
-use Rattle.iso_run.proofs.Sequences.{CutOff-then}
+use Rattle.iso_tap.proofs.Sequences.{CutOff-then}
 use Rattle.iso_run.proofs.Turns.{output_lines-some}
 use Rattle.iso_run.proofs.report.put_output.Goals as goal
 

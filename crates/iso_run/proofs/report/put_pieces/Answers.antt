@@ -1,6 +1,6 @@
 use Rattle.std.proofs.Common.{ap, arith}
 use Rattle.iso_run.specs.Pieces.{pieces_text}
-use Rattle.iso_run.proofs.Sequences.{Left-turn, Left-stop, on_err}
+use Rattle.iso_tap.proofs.Sequences.{Left-turn, Left-stop, on_err}
 use Rattle.iso_run.proofs.Turns.{drop_next}
 use Rattle.iso_run.proofs.report.put_pieces.Goals as goal
 

@@ -1,6 +1,6 @@
 use Rattle.std.proofs.Common.{◌≡◌, ◌+◌, drop}
 use Rattle.iso_run.specs.Pieces.{pieces_text}
-use Rattle.iso_run.proofs.Sequences.{Left}
+use Rattle.iso_tap.proofs.Sequences.{Left}
 use Rattle.iso_run.proofs.report.put_pieces.Given as goal
 
 abbrev pub invariant-loop-piece : goal.invariant-loop-piece

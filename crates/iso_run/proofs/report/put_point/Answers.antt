@@ -1,6 +1,6 @@
 use Rattle.std.proofs.Common.{sym}
 use Rattle.std.proofs.lemmas.Result.{on_ok_weaker, on_err_weaker}
-use Rattle.iso_run.proofs.Sequences.{Wrote-then, CutOff-then}
+use Rattle.iso_tap.proofs.Sequences.{Wrote-then, CutOff-then}
 use Rattle.iso_run.proofs.report.put_point.Goals as goal
 
 pub returns-clause-wrote : goal.returns-clause-wrote

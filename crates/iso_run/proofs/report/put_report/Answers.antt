@@ -1,7 +1,7 @@
 use Rattle.std.proofs.lemmas.Result.{on_ok_weaker, on_err_weaker}
 use Rattle.iso_run.specs.Reports.{plan_line, points}
 use Rattle.iso_run.specs.ResultView.{nodes_of}
-use Rattle.iso_run.proofs.Sequences.{CutOff-then, CutOff-more, Wrote-then, on_err}
+use Rattle.iso_tap.proofs.Sequences.{CutOff-then, CutOff-more, Wrote-then, on_err}
 use Rattle.iso_run.proofs.Turns.{count-nodes_of}
 use Rattle.iso_run.proofs.report.put_report.Goals as goal
 

@@ -1,5 +1,5 @@
 use Rattle.std.proofs.Common.{arith}
-use Rattle.iso_run.proofs.Sequences.{Left-turn}
+use Rattle.iso_tap.proofs.Sequences.{Left-turn}
 use Rattle.iso_run.proofs.Turns.{spaces_next}
 use Rattle.iso_run.proofs.report.put_spaces.Goals as goal
 

@@ -1,5 +1,5 @@
 use Rattle.std.proofs.Common.{◌≡◌, ◌+◌, ◌-◌, replicate}
-use Rattle.iso_run.proofs.Sequences.{Left}
+use Rattle.iso_tap.proofs.Sequences.{Left}
 use Rattle.iso_run.proofs.report.put_spaces.Given as goal
 
 abbrev pub invariant-loop : goal.invariant-loop

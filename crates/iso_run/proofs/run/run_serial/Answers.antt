@@ -1,17 +1,21 @@
-use Rattle.std.proofs.Common.{◌≡◌, ℕ, List, [], ◌∷◌, Some, get_or}
-use Rattle.std.specs.Borrow.{Bor}
-use Rattle.iso_run.specs.Runs.{one_script}
+use Rattle.std.proofs.Common.{refl, sym, ◌∙◌}
+use Rattle.iso_inputs.specs.Suites.{suite_of}
+use Rattle.iso_run.proofs.Answering.{reported}
 use Rattle.iso_run.proofs.run.run_serial.Goals as goal
 
--- the one script is the first
-first_script : (scripts : List (Bor (List ℕ))) (settings world bytes : List ℕ) (d : Bor (List ℕ)) → one_script scripts settings world ≡ Some bytes → (get_or scripts 0 d).now ≡ bytes
-first_script [] settings world bytes d e = cc
-first_script (script ∷ []) [] [] bytes d e = cc
-first_script (script ∷ []) [] (b ∷ world) bytes d e = cc
-first_script (script ∷ []) (b ∷ settings) world bytes d e = cc
-first_script (script ∷ other ∷ more) settings world bytes d e = cc
+pub returns-then-not-are_first_part : goal.returns-then-not-are_first_part
+returns-then-not-are_first_part g c = (
+  record {
+    suite = suite_of c.in_ok-suite.suite;
+    is_suite = c.in_ok-suite.ensures.suite;
+    beyond = rw c.deref.ensures.value at (sym c.are_first_part.ensures ∙ c.if-not-are_first_part.true);
+  },
+  refl,
+)
 
-pub returns-in-len1-empty-empty-clause-ran : goal.returns-in-len1-empty-empty-clause-ran
-returns-in-len1-empty-empty-clause-ran g c = λ bytes e.
-    let same = first_script c.args.inputs.scripts.now c.args.inputs.settings.now c.args.inputs.world.now bytes (record { ref_ptr = (0, 0); now = [] }) e in
-    rw same at c.run_one.ensures
+pub returns : goal.returns
+returns g c =
+    let first = rw c.deref.ensures.value at (sym c.are_first_part.ensures ∙ c.if-not-are_first_part.false) in
+    let ran = rw c.deref-2.ensures.value at c.run_first_part.ensures in
+    reported c.args.inputs (g.W.Sink.account c.args.sink.now) (g.W.Sink.account c.run_first_part.new.sink) (suite_of c.in_ok-suite.suite) c.run_first_part.result
+    c.in_ok-suite.ensures.suite first ran

@@ -1,0 +1,17 @@
+-- Scripts that are read one after another.
+use Rattle.std.proofs.Common.{◌≡◌, ℕ, ◌+◌, ◌<◌, ◌≤◌, List, [], ◌∷◌, ◌++◌, map, take, length, get_or, subst, refl, sym, ap, ◌∙◌}
+use Rattle.std.proofs.lemmas.List.{map_more, take_all, get_or-map}
+use Rattle.std.specs.Borrow.{Bor}
+use Rattle.iso_model.specs.Scripts.{Script}
+use Rattle.iso_script.specs.Grammar.{Reads}
+use Rattle.iso_inputs.specs.Suites.{AreRead, texts}
+
+-- one script more
+pub read_more : (ts : List (List ℕ)) (ss : List Script) (t : List ℕ) (s : Script) → AreRead ts ss → Reads t s → AreRead (ts ++ t ∷ []) (ss ++ s ∷ [])
+read_more [] [] t s earlier last = (last, tt)
+read_more [] (r ∷ ss) t s earlier last = absurd earlier
+read_more (u ∷ ts) [] t s earlier last = absurd earlier
+read_more (u ∷ ts) (r ∷ ss) t s earlier last = (earlier.0, read_more ts ss t s earlier.1 last)
+
+pub texts_more : (scripts : List (Bor (List ℕ))) (i : ℕ) (d : Bor (List ℕ)) → i < length scripts → texts (take (i + 1) scripts) ≡ texts (take i scripts) ++ (get_or scripts i d).now ∷ []
+texts_more scripts i d within = map_more (λ (s : Bor (List ℕ)). s.now) scripts i d within

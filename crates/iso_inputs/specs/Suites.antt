@@ -1,0 +1,90 @@
+-- The suite that inputs are, or their first fault.
+use Rattle.std.specs.Prelude.{◌≡◌, ℕ, ◌<◌, if◌then◌else◌, List, [], ◌∷◌, map, take, length, get_or, Option, None, Some, Result, Ok, Err, IsOk}
+use Rattle.std.specs.Borrow.{Bor}
+use Rattle.std.specs.Str.{is_utf8}
+use Rattle.toml.specs.Data.{Members}
+use Rattle.toml.specs.Parse.{parse_document}
+use Rattle.iso_model.specs.Scripts.{Script}
+use Rattle.iso_model.specs.ScriptView.{script_of}
+use Rattle.iso_plan.specs.Faults.{plan_fault}
+use Rattle.iso_script.specs.Grammar.{Reads}
+use Rattle.iso_settings.specs.Readings.{Reading}
+use Rattle.iso_settings.specs.Settings.{settings_in}
+use Rattle.iso_settings.specs.Worlds.{Start, world_in}
+use Rattle.iso_settings.specs.declared.settings.Settings.{Settings}
+use Rattle.iso_inputs.specs.declared.fault.InputFault.{InputFault}
+use Rattle.iso_inputs.specs.declared.fault.InputFault.TheVariants as F
+use Rattle.iso_inputs.specs.declared.fault.InputError.{InputError}
+use Rattle.iso_inputs.specs.declared.fault.InputError.TheVariants.{Fault, OutOfMemory}
+use Rattle.iso_inputs.specs.declared.inputs.Inputs.{Inputs}
+use Rattle.iso_inputs.specs.declared.inputs.Suite.{Suite as ReadSuite}
+
+-- a suite: its scripts in order, the settings, and what the world says that resources start with
+pub record Suite : Type 0 where
+  pub scripts : List Script
+  pub settings : Settings
+  pub start : Start
+
+-- what a suite that was read stands for
+abbrev pub suite_of : ReadSuite → Suite
+suite_of s = record { scripts = map script_of s.scripts.items; settings = s.settings; start = s.world }
+
+-- the TOML document that bytes are, if they are one; a document is UTF-8 (TOML, spec)
+abbrev pub document : List ℕ → Option Members
+document bytes = if is_utf8 bytes then parse_document bytes else None
+
+-- the settings that bytes are, or their first fault
+abbrev pub settings_from : List ℕ → (processors : ℕ) → Reading Settings
+settings_from bytes processors = settings_in (document bytes) processors
+
+-- the world that bytes are, or its first fault
+abbrev pub world_from : List ℕ → Reading Start
+world_from bytes = world_in (document bytes)
+
+-- the bytes of each script
+abbrev pub texts : List (Bor (List ℕ)) → List (List ℕ)
+texts scripts = map (λ (s : Bor (List ℕ)). s.now) scripts
+
+-- these bytes are these scripts, each the one at its place
+abbrev pub AreRead : List (List ℕ) → List Script → Type 0
+AreRead [] [] = Unit {0}
+AreRead [] (s ∷ ss) = ⊥
+AreRead (t ∷ ts) [] = ⊥
+AreRead (t ∷ ts) (s ∷ ss) = Reads t s × AreRead ts ss
+
+-- the script at this place is none, and those before it are scripts
+pub record FirstUnread (scripts : List (Bor (List ℕ))) (index : ℕ) : Type 0 where
+  pub within : index < length scripts
+  pub earlier : (ss : List Script) × AreRead (texts (take index scripts)) ss
+  pub unread : (s : Script) → Reads (get_or (texts scripts) index []) s → ⊥
+
+-- The inputs are this suite: each is read, and the scripts have a plan.
+pub record IsSuite (inputs : Inputs) (suite : Suite) : Type 0 where
+  pub settings : settings_from inputs.settings.now inputs.processors ≡ Ok suite.settings
+  pub world : world_from inputs.world.now ≡ Ok suite.start
+  pub scripts : AreRead (texts inputs.scripts.now) suite.scripts
+  pub planned : plan_fault suite.scripts ≡ None
+
+-- settings and world are read
+abbrev pub AreSet : Inputs → Type 0
+AreSet inputs = IsOk (settings_from inputs.settings.now inputs.processors) × IsOk (world_from inputs.world.now)
+
+-- This is the first fault of the inputs: settings come first, then the world, the scripts in turn, and the plan of all.
+abbrev pub HasFault : Inputs → InputFault → Type 0
+HasFault inputs (F.Settings fault) = settings_from inputs.settings.now inputs.processors ≡ Err fault
+HasFault inputs (F.World fault) = IsOk (settings_from inputs.settings.now inputs.processors) × (world_from inputs.world.now ≡ Err fault)
+HasFault inputs (F.Script index fault) = AreSet inputs × FirstUnread inputs.scripts.now index
+HasFault inputs (F.Plan fault) = AreSet inputs × ((ss : List Script) × AreRead (texts inputs.scripts.now) ss × (plan_fault ss ≡ Some fault))
+
+-- the error is the first fault of the inputs, unless memory ran out
+abbrev pub FirstFault : Inputs → InputError → Type 0
+FirstFault inputs (Fault fault) = HasFault inputs fault
+FirstFault inputs OutOfMemory = Unit {0}
+
+-- the error is the first of the scripts that is none, unless memory ran out
+abbrev pub IsFirstUnread : List (Bor (List ℕ)) → InputError → Type 0
+IsFirstUnread scripts (Fault (F.Settings fault)) = ⊥
+IsFirstUnread scripts (Fault (F.World fault)) = ⊥
+IsFirstUnread scripts (Fault (F.Script index fault)) = FirstUnread scripts index
+IsFirstUnread scripts (Fault (F.Plan fault)) = ⊥
+IsFirstUnread scripts OutOfMemory = Unit {0}

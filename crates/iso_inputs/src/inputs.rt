@@ -1,0 +1,111 @@
+ghost use Rattle.std.specs.Prelude.{◌≡◌, ◌≤◌, IfOk, MatchResult, map};
+ghost use Rattle.iso_inputs.specs.Suites.{FirstFault, IsFirstUnread, IsSuite, AreRead, settings_from, suite_of, texts, world_from};
+ghost use Rattle.iso_model.specs.ScriptView.{script_of};
+ghost use Rattle.iso_plan.specs.RowView.{tree_of};
+ghost use Rattle.iso_plan.specs.Tree.{tree};
+ghost use Rattle.iso_settings.specs.Readings.{Gives};
+
+use crate::fault::{InputError, InputFault};
+use iso_model::script::Script;
+use iso_plan::fault::PlanFault;
+use iso_plan::plan::{Plan, build};
+use iso_script::fault::ScriptError;
+use iso_script::reader::read_script;
+use iso_settings::fault::{SettingsError, SettingsFault};
+use iso_settings::settings::{Settings, read_settings};
+use iso_settings::world::{World, read_world};
+use std::alloc::Global;
+
+/// What a run is given: the bytes of each script, of the settings and of the world, and how many processors there
+/// are, at least 1.
+#[derive(Clone, Copy)]
+pub struct Inputs<'a> {
+    pub scripts: &'a [&'a [u8]],
+    pub settings: &'a [u8],
+    pub world: &'a [u8],
+    pub processors: u32,
+}
+
+/// What inputs are: scripts, settings, the values that resources start with, and the plan of the scripts under the
+/// settings.
+#[derive(Drop)]
+pub struct Suite {
+    pub scripts: Vec<Script>,
+    pub settings: Settings,
+    pub world: World,
+    pub plan: Plan,
+}
+
+/// Reads inputs as a suite: the settings, the world and the scripts in turn, and plans the scripts. The first fault
+/// in this order is answered. Settings or a world that isn't UTF-8 is `NotToml`. Want of memory may be answered at each
+/// growth.
+pub fn read_inputs(alloc: Global, inputs: Inputs<'_>) -> Result<Suite, InputError>
+    requires { 1 ≤ inputs.processors }
+    ensures suite { MatchResult result (λ s. IsSuite inputs.entry (suite_of s)) (FirstFault inputs.entry) }
+    ensures plan { IfOk result (λ s. tree_of s.plan ≡ tree (map script_of s.scripts.items)) }
+    ensures planned_by { IfOk result (λ s. s.plan.settings ≡ s.settings) }
+{
+    let settings = match settings_from(alloc, inputs.settings, inputs.processors) {
+        Ok(settings) => settings,
+        Err(SettingsError::Fault(fault)) => {
+            return Err(InputError::Fault(InputFault::Settings(fault)));
+        }
+        Err(SettingsError::OutOfMemory) => return Err(InputError::OutOfMemory),
+    };
+    let world = match world_from(alloc, inputs.world) {
+        Ok(world) => world,
+        Err(SettingsError::Fault(fault)) => {
+            return Err(InputError::Fault(InputFault::World(fault)));
+        }
+        Err(SettingsError::OutOfMemory) => return Err(InputError::OutOfMemory),
+    };
+    let scripts = read_scripts(alloc, inputs.scripts)?;
+    match build(alloc, &scripts, &settings) {
+        Ok(plan) => Ok(Suite {
+            scripts,
+            settings,
+            world,
+            plan,
+        }),
+        Err(PlanFault::OutOfMemory) => Err(InputError::OutOfMemory),
+        Err(fault) => Err(InputError::Fault(InputFault::Plan(fault))),
+    }
+}
+
+/// Reads settings, on a machine of so many processors.
+fn settings_from(alloc: Global, bytes: &[u8], processors: u32) -> Result<Settings, SettingsError>
+    requires { 1 ≤ processors }
+    ensures { Gives (settings_from bytes.now processors) result }
+{
+    match str::from_utf8(bytes) {
+        Ok(text) => read_settings(alloc, text, processors),
+        Err(_) => Err(SettingsError::Fault(SettingsFault::NotToml)),
+    }
+}
+
+/// Reads a world.
+fn world_from(alloc: Global, bytes: &[u8]) -> Result<World, SettingsError>
+    ensures { Gives (world_from bytes.now) result }
+{
+    match str::from_utf8(bytes) {
+        Ok(text) => read_world(alloc, text),
+        Err(_) => Err(SettingsError::Fault(SettingsFault::NotToml)),
+    }
+}
+
+/// Reads scripts in turn, up to the first that is none.
+fn read_scripts(alloc: Global, scripts: &[&[u8]]) -> Result<Vec<Script>, InputError>
+    ensures { MatchResult result (λ v. AreRead (texts scripts.now) (map script_of v.items)) (IsFirstUnread scripts.now) }
+{
+    let mut read = Vec::new(alloc);
+    for (index, bytes) in scripts.iter().enumerate() {
+        match read_script(alloc, bytes) {
+            Ok(script) => read.push(script)?,
+            Err(ScriptError::Fault(fault)) => {
+                return Err(InputError::Fault(InputFault::Script(index, fault)));
+            }
+            Err(ScriptError::OutOfMemory) => return Err(InputError::OutOfMemory),
+        }
+    }
+    Ok(read)
+}

@@ -1,0 +1,5 @@
+//! What a run is given, read as a suite.
+#![tactic(auto)]
+
+pub mod fault;
+pub mod inputs;

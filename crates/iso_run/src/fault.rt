@@ -1,0 +1,85 @@
+//! Why a run has no report, or only its beginning.
+ghost use Rattle.std.specs.Prelude.{◌≡◌};
+ghost use Rattle.iso_run.specs.Runs.{run_fault, status};
+
+use iso_inputs::fault::{InputError, InputFault};
+use iso_plan::fault::PlanFault;
+use iso_script::fault::ScriptFault;
+use iso_settings::fault::SettingsFault;
+use std::fmt;
+
+/// The exit status of refused input.
+pub const REFUSED: u8 = 2;
+/// The exit status of a run fault: memory, reading, writing.
+pub const FAILED: u8 = 3;
+
+/// Why a run has no report, or only its beginning.
+#[derive(Drop)]
+pub enum RunFault {
+    /// A script lies outside the first part of the language, which is not run yet.
+    NotYet,
+    Settings(SettingsFault),
+    World(SettingsFault),
+    /// The fault of one script, by its place among the scripts, counted from 0.
+    Script(usize, ScriptFault),
+    Plan(PlanFault),
+    /// Memory ran out. Nothing was written.
+    Memory,
+    /// The sink failed, once it had taken so many bytes of the report.
+    Write(u64),
+}
+
+impl RunFault {
+    /// The exit status of the program that meets this fault: 2 where its input is refused, else 3.
+    pub fn status(&self) -> u8
+        ensures { result ≡ status self.now }
+    {
+        match self {
+            RunFault::NotYet
+            | RunFault::Settings(_)
+            | RunFault::World(_)
+            | RunFault::Script(..)
+            | RunFault::Plan(_) => REFUSED,
+            RunFault::Memory | RunFault::Write(_) => FAILED,
+        }
+    }
+}
+
+impl From<InputError> for RunFault {
+    ghost from_gives = { λ error fault. fault ≡ run_fault error };
+
+    fn from(error: InputError) -> RunFault {
+        match error {
+            InputError::Fault(InputFault::Settings(fault)) => RunFault::Settings(fault),
+            InputError::Fault(InputFault::World(fault)) => RunFault::World(fault),
+            InputError::Fault(InputFault::Script(index, fault)) => RunFault::Script(index, fault),
+            InputError::Fault(InputFault::Plan(fault)) => RunFault::Plan(fault),
+            InputError::OutOfMemory => RunFault::Memory,
+        }
+    }
+}
+
+/// A fault as the line that the program writes of it, without its line feed. Scripts have these names; where there is
+/// none, the script came from standard input.
+#[derive(Clone, Copy)]
+pub struct FaultLine<'a> {
+    pub fault: &'a RunFault,
+    pub names: &'a [&'a str],
+}
+
+impl fmt::Display for FaultLine<'_> {
+    fn fmt<W: fmt::Write>(&self, f: &mut fmt::Formatter<W>) -> fmt::Result {
+        match self.fault {
+            RunFault::NotYet => f.write_str("jtap: not yet"),
+            RunFault::Settings(fault) => write!(f, "jtap: settings: {fault}"),
+            RunFault::World(fault) => write!(f, "jtap: world: {fault}"),
+            RunFault::Script(index, ScriptFault { kind, line, column }) => {
+                let name = self.names.get(*index).copied().unwrap_or("stdin");
+                write!(f, "jtap: {name}:{line}:{column}: {kind:?}")
+            }
+            RunFault::Plan(fault) => write!(f, "jtap: plan: {fault:?}"),
+            RunFault::Memory => f.write_str("jtap: out of memory"),
+            RunFault::Write(_) => f.write_str("jtap: write failed"),
+        }
+    }
+}
