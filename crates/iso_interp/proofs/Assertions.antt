@@ -1,5 +1,5 @@
 -- An `assert_equal` goes on where its values have no difference to tell.
-use Rattle.std.proofs.Common.{◌≡◌, ℕ, List, Option, Some, None, Result, Ok, Err, Bool, true, false, cond, refl}
+use Rattle.std.proofs.Common.{◌≡◌, ℕ, Some, None, Result, Ok, Err, Bool, true, false, cond, refl}
 use Rattle.iso_model.specs.Evaluation.{Given, is_equal, then}
 use Rattle.iso_model.specs.Statements.{State, expects, fails, upon}
 use Rattle.iso_model.specs.Texts.{difference_message}

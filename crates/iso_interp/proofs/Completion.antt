@@ -1,12 +1,12 @@
 -- A run from its first step to its end.
-use Rattle.std.proofs.Common.{Bool, ◌≡◌, ℕ, ◌+◌, ◌<◌, List, [], ◌∷◌, length, refl, sym, ap, ◌∙◌, arith, subst, false, true}
+use Rattle.std.proofs.Common.{Bool, ◌≡◌, ℕ, ◌+◌, ◌<◌, List, [], length, sym, ap, ◌∙◌, arith, subst, false}
 use Rattle.iso_model.specs.Blocks.{block}
 use Rattle.iso_model.specs.Environments.{Environment}
 use Rattle.iso_model.specs.Changes.{OneChange, none, one}
 use Rattle.iso_model.specs.Resources.{Resources}
 use Rattle.iso_model.specs.Touch.{HasKeys}
 use Rattle.iso_model.specs.Rights.{Rights}
-use Rattle.iso_model.specs.Statements.{Local, State, kept}
+use Rattle.iso_model.specs.Statements.{State, kept}
 use Rattle.iso_model.specs.Steps.{Piece, Point, Machine, point, point_of, machine_at, first_point, finished, step, distance, IsReady, some_left, is_done}
 use Rattle.iso_model.specs.Syntax.{Acts}
 use Rattle.iso_model.proofs.Ends.{step-ready, step-distance}

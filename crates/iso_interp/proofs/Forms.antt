@@ -1,5 +1,5 @@
 -- What a statement stands for, by its form, and what its step does.
-use Rattle.std.proofs.Common.{Result, OnOk, Option, Vec, ◌≡◌, ℕ, List, ◌++◌, map, rules, refl, sym, ap₂, ◌∙◌, subst}
+use Rattle.std.proofs.Common.{Result, OnOk, Option, Vec, ◌≡◌, ℕ, List, ◌++◌, rules, refl, sym, ap₂, ◌∙◌, subst}
 use Rattle.std.proofs.lemmas.Result.{on_ok_weaker}
 use Rattle.std.specs.declared.alloc.Global.{Global}
 use Rattle.iso_model.specs.Rights.{Rights}

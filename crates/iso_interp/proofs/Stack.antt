@@ -1,5 +1,5 @@
 -- The stack of the pieces that are still to be done.
-use Rattle.std.proofs.Common.{◌≡◌, ◌==◌, ◌<◌, ◌≤◌, ◌+◌, ◌-◌, drop, take, length-drop, get_or, map, sym, is_none, true, false, Bor, true≢false, length, ℕ, zero, suc, arith, List, [], ◌∷◌, ◌++◌, reverse, Option, Some, None, option_to_list, append-nil, refl, ap, ◌∙◌, add-one, subst}
+use Rattle.std.proofs.Common.{◌≡◌, ◌==◌, ◌<◌, ◌≤◌, ◌+◌, ◌-◌, drop, take, length-drop, get_or, map, sym, true, false, Bor, true≢false, length, ℕ, zero, suc, arith, List, [], ◌∷◌, ◌++◌, reverse, Option, Some, None, option_to_list, append-nil, refl, ap, ◌∙◌, add-one}
 use Rattle.std.proofs.lemmas.List.{reverse-append, take_all}
 use Rattle.iso_model.specs.Rights.{Rights}
 use Rattle.iso_model.specs.Environments.{Environment}
@@ -12,7 +12,7 @@ use Rattle.iso_model.specs.declared.outcome.Ending.{Ending}
 use Rattle.iso_model.specs.declared.tree.Stmt.{Stmt}
 use Rattle.iso_interp.specs.Runs.{piece_of, pieces_in}
 use Rattle.iso_interp.specs.declared.run.Pending.{Pending}
-use Rattle.iso_interp.specs.declared.run.Pending.TheVariants.{Rest, Turning}
+use Rattle.iso_interp.specs.declared.run.Pending.TheVariants.{Rest}
 
 pub reverse-pop : {X : Type 0} (xs : List X) (o : Option X) → reverse (xs ++ option_to_list o) ≡ option_to_list o ++ reverse xs
 reverse-pop xs None = rw append-nil

@@ -1,5 +1,5 @@
 -- Where a block run stands.
-use Rattle.std.specs.Prelude.{◌≡◌, ℕ, List, [], ◌∷◌, ◌++◌, map, reverse, take, Option, Some, None, Bool, true, false}
+use Rattle.std.specs.Prelude.{◌≡◌, ℕ, List, [], ◌∷◌, ◌++◌, map, reverse, Option, Some, None}
 use Rattle.std.specs.Option.{option_to_list}
 use Rattle.iso_model.specs.Resources.{Resources}
 use Rattle.iso_model.specs.Rights.{Rights, access_in}
@@ -64,12 +64,16 @@ end_local end = record { env = end.names; lines = end.output; ending = end.endin
 abbrev pub end_state : BlockEnd → Resources → State
 end_state end m = record { here = end_local end; resources = m }
 
--- nothing but what a statement without a body changes of a run may differ
+-- a run of the same block: its rights, and how many names it began with
+pub record SameBlock (old new : BlockRun) : Type 0 where
+  pub rights : new.rights ≡ old.rights
+  pub before : new.before ≡ old.before
+
+-- the same, with the same work to be done: nothing but what a statement without a body changes may differ
 pub record SameWork (old new : BlockRun) : Type 0 where
   pub top : new.top ≡ old.top
   pub below : new.below ≡ old.below
-  pub rights : new.rights ≡ old.rights
-  pub before : new.before ≡ old.before
+  pub block : SameBlock old new
 
 -- the block ended by a fault, a fail or a false assumption at a row
 abbrev pub faulted : ℕ → Fault → Local → Local

@@ -1,6 +1,5 @@
 -- What the values of an evaluation stand for, wherever their texts are.
 use Rattle.std.specs.Prelude.{ℕ, List, Option, Some, None, Result, Ok, Err, cond}
-use Rattle.std.specs.Borrow.{Bor}
 use Rattle.iso_model.specs.Evaluation.{Given, is_equal, then}
 use Rattle.iso_model.specs.Texts.{difference_message}
 use Rattle.iso_model.specs.declared.data.Data.{Data}

@@ -82,7 +82,7 @@ impl<'a> BlockRun<'a> {
     ghost use Rattle.iso_model.specs.declared.fault.FaultKind.TheVariants as FaultKinds;
     ghost use Rattle.iso_model.specs.declared.outcome.Ending.TheVariants as Endings;
     ghost use Rattle.iso_interp.specs.Values.{given_of, text_given, texts_given};
-    ghost use Rattle.iso_interp.specs.Runs.{SameWork, end_local, failed, faulted, local_of, machine_of, names_before, piece_of, pieces_in, pieces_of, point_of_run, progress_of, run_rights, skipped, state_of};
+    ghost use Rattle.iso_interp.specs.Runs.{SameBlock, SameWork, end_local, failed, faulted, local_of, machine_of, names_before, piece_of, pieces_in, pieces_of, point_of_run, progress_of, run_rights, skipped, state_of};
     ghost use Rattle.iso_interp.specs.declared.run.Pending.TheVariants.{Rest, Turning};
 
     /// A run of a block at its beginning: it has all its steps, whatever were left before. An empty
@@ -174,8 +174,7 @@ impl<'a> BlockRun<'a> {
     /// Leaves the pieces in which nothing is left to do, and all of them once the block has ended.
     fn settle(&mut self)
         ensures settled { point_of_run self.new ≡ next_point (pieces_of self.old) (local_of self.old) }
-        ensures rights { self.new.rights ≡ self.old.rights }
-        ensures before { self.new.before ≡ self.old.before }
+        ensures block { SameBlock self.old self.new }
     {
         if self.is_live() {
             self.leave_done();
@@ -188,8 +187,7 @@ impl<'a> BlockRun<'a> {
     /// Leaves the pieces at the front in which nothing is left to do.
     fn leave_done(&mut self)
         ensures left { point_of_run self.new ≡ leave_done (pieces_of self.old) (local_of self.old) }
-        ensures rights { self.new.rights ≡ self.old.rights }
-        ensures before { self.new.before ≡ self.old.before }
+        ensures block { SameBlock self.old self.new }
     {
         loop {
             match self.top {
@@ -214,8 +212,7 @@ impl<'a> BlockRun<'a> {
     fn enter(&mut self, piece: Pending<'a>) -> Result<(), AllocError>
         ensures pieces { OnOk result (pieces_of self.new ≡ piece_of piece.entry ∷ pieces_of self.old) }
         ensures local { local_of self.new ≡ local_of self.old }
-        ensures rights { self.new.rights ≡ self.old.rights }
-        ensures before { self.new.before ≡ self.old.before }
+        ensures block { SameBlock self.old self.new }
     {
         if let Some(top) = self.top {
             self.below.push(top)?;
@@ -228,8 +225,7 @@ impl<'a> BlockRun<'a> {
     fn advance<T: Touch>(&mut self, touch: &mut T) -> Result<(), AllocError>
         requires { HasKeys (run_rights self.old) (T.content touch.old) (T.writes touch.old) }
         ensures done { OnOk result (machine_of self.new (T.content touch.new) ≡ step_at (run_rights self.old) (pieces_of self.old) (local_of self.old).env.steps (state_of self.old (T.content touch.old))) }
-        ensures rights { self.new.rights ≡ self.old.rights }
-        ensures before { self.new.before ≡ self.old.before }
+        ensures block { SameBlock self.old self.new }
         ensures writes { T.writes touch.new ≡ T.writes touch.old }
     {
         match self.top {
@@ -242,8 +238,7 @@ impl<'a> BlockRun<'a> {
     /// Ends the block, since no step is left.
     fn run_out(&mut self, row: u32) -> Result<(), AllocError>
         ensures out { OnOk result (point_of_run self.new ≡ point [] (with_ending (Endings.Fault FaultKinds.OutOfSteps (note out_of_steps_message row (local_of self.old))) (local_of self.old))) }
-        ensures rights { self.new.rights ≡ self.old.rights }
-        ensures before { self.new.before ≡ self.old.before }
+        ensures block { SameBlock self.old self.new }
     {
         let message = Text::copied(self.alloc, "out of steps")?;
         let note = self.note(message, row);

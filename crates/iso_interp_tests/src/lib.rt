@@ -1,10 +1,8 @@
-//! Blocks run through the interpreter, over resources in memory.
+//! Blocks that are read and run through the interpreter, over resources in memory.
 #![tactic(auto)]
 
 #[cfg(test)]
 mod assertions;
-#[cfg(test)]
-mod blocks;
 #[cfg(test)]
 mod control;
 #[cfg(test)]

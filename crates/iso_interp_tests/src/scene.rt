@@ -1,4 +1,4 @@
-//! What the blocks of the tests run on, and what came of them.
+//! What the blocks of the tests run on, and what they come to.
 ghost use Rattle.std.specs.Prelude.{◌≡◌, true};
 ghost use Rattle.iso_model.specs.Memory.{held};
 ghost use Rattle.iso_model.specs.ResourceKeys.{spelling};
@@ -8,19 +8,20 @@ ghost use Rattle.iso_model.specs.Touch.{HasKeys, kind_of_key, kind_of_value};
 use iso_interp::run::{BlockEnd, BlockRun};
 use iso_interp::whole::run_block;
 use iso_model::access::Access;
-use iso_model::data::Data;
-use iso_model::fault::FaultKind;
-use iso_model::lines::Lines;
+use iso_model::limits::FILE_BYTES;
 use iso_model::memory::Memory;
-use iso_model::names::{Binding, Names, Sort};
+use iso_model::names::{Binding, Names};
 use iso_model::outcome::{Ending, Note};
-use iso_model::place::{BlockName, Place};
+use iso_model::place::BlockName;
+use iso_model::properties::Properties;
 use iso_model::resource::Resource;
 use iso_model::resource_key::ResourceKey;
 use iso_model::rights::Rights;
 use iso_model::text::Text;
 use iso_model::tree::Stmt;
+use iso_statements::parser::Parser;
 use std::alloc::{AllocError, Global};
+use std::test::Fail;
 
 /// The resources that a block declares, with their values.
 #[derive(Drop)]
@@ -39,8 +40,9 @@ impl Scene {
         }
     }
 
-    /// One resource is declared, and has this value.
-    pub fn with(
+    /// A resource more is declared, and has this value.
+    fn with(
+        self,
         alloc: Global,
         key: ResourceKey<'_>,
         access: Access,
@@ -48,50 +50,101 @@ impl Scene {
     ) -> Result<Scene, AllocError>
         requires { kind_of_value value ≡ kind_of_key (spelling key) }
     {
-        let mut rights = Rights::new(alloc);
+        let Scene { rights, memory } = self;
+        let (mut rights, mut memory) = (rights, memory);
         rights.declare(key.key(alloc)?, access)?;
-        let mut memory = Memory::new(alloc);
         memory.hold(key.key(alloc)?, value)?;
         Ok(Scene { rights, memory })
     }
 
-    /// Runs a block with these names to its end.
-    pub fn run(
-        self,
-        alloc: Global,
-        names: Names,
-        block: &[Stmt],
-    ) -> Result<(BlockEnd, Memory), AllocError> {
+    /// Properties in which a is "1", the locale "en" and a file a that is missing are declared so.
+    pub fn declaring(alloc: Global, access: Access) -> Result<Scene, AllocError> {
+        let mut properties = Properties::new(alloc);
+        properties.set(String::from_str(alloc, "a")?, Text::copied(alloc, "1")?)?;
+        let properties = Resource::Props(properties);
+        let locale = Resource::Locale(Text::copied(alloc, "en")?);
+        let scene = Scene::new(alloc).with(alloc, ResourceKey::Properties, access, properties)?;
+        let scene = scene.with(alloc, ResourceKey::Locale, access, locale)?;
+        scene.with(alloc, ResourceKey::File("a"), access, Resource::File(None))
+    }
+
+    /// Runs a block to its end.
+    fn run(self, alloc: Global, block: &[Stmt], names: Names) -> Result<BlockEnd, AllocError> {
         let Scene { rights, memory } = self;
         let mut memory = memory;
-        let end = run_block(alloc, block, names, &rights, &mut memory)?;
-        Ok((end, memory))
+        run_block(alloc, block, names, &rights, &mut memory)
     }
 }
 
-/// The environment of a test's block without names, before which nothing was printed.
-pub fn no_names(alloc: Global) -> Names {
-    Names::new(Vec::new(alloc), 0, BlockName::Test)
+/// The environment of a test's block that sees these names, before which nothing was printed.
+pub fn seeing(bindings: Vec<Binding>) -> Names {
+    Names::new(bindings, 0, BlockName::Test)
 }
 
-/// The same with one name.
-pub fn one_name(alloc: Global, name: &str, value: Data, sort: Sort) -> Result<Names, AllocError> {
-    let name = Text::copied(alloc, name)?;
-    let binding = Binding { name, value, sort };
-    Ok(Names::new(vec![in alloc; binding]?, 0, BlockName::Test))
+/// The statements of a block.
+pub fn read(alloc: Global, block: &str) -> Result<Vec<Stmt>, Fail> {
+    if block.len() > FILE_BYTES as usize {
+        return Err(Fail::new("the block is too long"));
+    }
+    let mut parser = Parser::new(alloc, block.as_bytes());
+    Ok(parser.block()?)
 }
 
-/// Runs a block that declares nothing, as the whole body of a test.
-pub fn run(alloc: Global, block: &[Stmt]) -> Result<BlockEnd, AllocError> {
-    let (end, _) = Scene::new(alloc).run(alloc, no_names(alloc), block)?;
-    Ok(end)
+/// Runs a block to its end, as that of a test.
+pub fn run(alloc: Global, scene: Scene, block: &str, names: Names) -> Result<BlockEnd, Fail> {
+    let statements = read(alloc, block)?;
+    Ok(scene.run(alloc, &statements, names)?)
+}
+
+/// The lines that a block printed, and how it ended unless it passed, each with its end.
+pub fn report(alloc: Global, end: &BlockEnd) -> Result<String, AllocError> {
+    let mut report = String::new(alloc);
+    for line in end.output.as_slice() {
+        report.push_str(line.as_str())?;
+        report.push('\n')?;
+    }
+    match &end.ending {
+        Ending::Well => {}
+        Ending::Fail(note) => push_note(alloc, &mut report, "fail", note)?,
+        Ending::Fault(_, note) => push_note(alloc, &mut report, "fault", note)?,
+        Ending::Assumed(note) => push_note(alloc, &mut report, "skip", note)?,
+    }
+    Ok(report)
+}
+
+/// A line on how a block ended.
+fn push_note(
+    alloc: Global,
+    report: &mut String,
+    word: &str,
+    note: &Note,
+) -> Result<(), AllocError> {
+    let place = note.place.text(alloc)?;
+    for part in [
+        word,
+        ", ",
+        place.as_str(),
+        ": ",
+        note.message.as_str(),
+        "\n",
+    ] {
+        report.push_str(part)?;
+    }
+    Ok(())
+}
+
+/// Whether a block that sees no names comes to this report.
+pub fn comes_to(alloc: Global, scene: Scene, block: &str, want: &str) -> Result<bool, Fail> {
+    let end = run(alloc, scene, block, seeing(Vec::new(alloc)))?;
+    Ok(report(alloc, &end)?.as_str() == want)
 }
 
 /// How many steps a block takes that declares nothing; no more are made than this.
-pub fn steps(alloc: Global, block: &[Stmt], most: u32) -> Result<u32, AllocError> {
+pub fn steps(alloc: Global, block: &str, most: u32) -> Result<u32, Fail> {
+    let statements = read(alloc, block)?;
     let rights = Rights::new(alloc);
     let mut memory = Memory::new(alloc);
-    let mut run = BlockRun::new(alloc, block, no_names(alloc), &rights);
+    let mut run = BlockRun::new(alloc, &statements, seeing(Vec::new(alloc)), &rights);
     for made in 0..most {
         if run.is_ended() {
             return Ok(made);
@@ -99,47 +152,4 @@ pub fn steps(alloc: Global, block: &[Stmt], most: u32) -> Result<u32, AllocError
         run.step(&mut memory)?;
     }
     Ok(most)
-}
-
-/// How a block is to end, at row 1.
-#[derive(Clone, Copy)]
-pub enum Want<'a> {
-    Pass,
-    Fail(&'a str),
-    Fault(FaultKind, &'a str),
-    Skip(&'a str),
-}
-
-impl Want<'_> {
-    /// Whether a block ended so.
-    pub fn is(self, end: &BlockEnd) -> bool {
-        match (self, &end.ending) {
-            (Want::Pass, Ending::Well) => true,
-            (Want::Fail(message), Ending::Fail(note)) => says(note, message),
-            (Want::Fault(wanted, message), Ending::Fault(kind, note)) => {
-                wanted == *kind && says(note, message)
-            }
-            (Want::Skip(message), Ending::Assumed(note)) => says(note, message),
-            _ => false,
-        }
-    }
-}
-
-/// Whether a note has this message, at row 1 of a test.
-fn says(note: &Note, message: &str) -> bool {
-    note.message.as_str() == message && note.place == Place::Row(BlockName::Test, 1)
-}
-
-/// Whether these lines were printed, and no others.
-pub fn printed(output: &Lines, wanted: &[&str]) -> bool {
-    let lines = output.as_slice();
-    if lines.len() != wanted.len() {
-        return false;
-    }
-    for (line, want) in lines.iter().zip(wanted) {
-        if line.as_str() != *want {
-            return false;
-        }
-    }
-    true
 }

@@ -1,164 +1,157 @@
 //! Names, values, and what is printed of them.
-use crate::blocks::{
-    assign, call, chain, compare, flag, let_name, long, name, number, on_row_1, one, pair, quoted,
-    two,
-};
-use crate::scene::{Scene, Want, one_name, printed, run, steps};
+use crate::scene::{Scene, comes_to, report, run, seeing, steps};
 use iso_model::data::Data;
-use iso_model::fault::FaultKind;
-use iso_model::names::Sort;
-use iso_model::tree::{Comparison, Expr, Form, Function, Operator};
+use iso_model::names::{Binding, Names, Sort};
+use iso_model::text::Text;
 use std::alloc::{AllocError, Global};
+use std::test::Fail;
 
-/// Whether a block of one `print` passes and prints this.
-fn prints(alloc: Global, value: Expr, line: &str) -> Result<bool, AllocError> {
-    let end = run(alloc, &one(alloc, Form::Print(value))?)?;
-    Ok(Want::Pass.is(&end) && printed(&end.output, &[line]))
-}
-
-/// Whether a block of one `print` ends by this fault, and prints nothing.
-fn faults(alloc: Global, value: Expr, kind: FaultKind, message: &str) -> Result<bool, AllocError> {
-    let end = run(alloc, &one(alloc, Form::Print(value))?)?;
-    Ok(Want::Fault(kind, message).is(&end) && printed(&end.output, &[]))
-}
-
-#[test]
-fn chains_group_to_the_left(rt: HostRuntime) -> Result<(), AllocError> {
-    let alloc = rt.alloc();
-    let difference = chain(alloc, Operator::Subtract, number(2), number(3), number(4))?;
-    assert!(rt; prints(alloc, difference, "-5")?);
-    let sum = pair(alloc, Operator::Add, number(2), number(3))?;
-    let product = pair(alloc, Operator::Multiply, sum, number(4))?;
-    assert!(rt; prints(alloc, product, "20")?);
-    Ok(())
+/// A text between two others, of so many letters.
+fn filled(alloc: Global, before: &str, letters: usize, after: &str) -> Result<String, AllocError> {
+    let mut text = String::from_str(alloc, before)?;
+    for _ in 0..letters {
+        text.push('a')?;
+    }
+    text.push_str(after)?;
+    Ok(text)
 }
 
 #[test]
-fn numbers_overflow_at_both_ends(rt: HostRuntime) -> Result<(), AllocError> {
+fn expressions_have_their_values(rt: HostRuntime) -> Result<(), Fail> {
     let alloc = rt.alloc();
-    for (operator, a, b) in [
-        (Operator::Add, i64::MAX, 1),
-        (Operator::Add, i64::MIN, -1),
-        (Operator::Subtract, i64::MIN, 1),
-        (Operator::Subtract, i64::MAX, -1),
-        (Operator::Multiply, i64::MAX, 2),
-        (Operator::Multiply, i64::MIN, -1),
+    for (block, want) in [
+        ("{ print 2 - 3 - 4; }", "-5\n"),
+        ("{ print (2 + 3) * 4; }", "20\n"),
+        ("{ print -9223372036854775808; }", "-9223372036854775808\n"),
+        (
+            "{ print 9223372036854775806 + 1; }",
+            "9223372036854775807\n",
+        ),
+        (r#"{ print "a" != "b"; }"#, "true\n"),
+        ("{ print -1 < 0; }", "true\n"),
+        (r#"{ print text(5) ++ "x"; }"#, "5x\n"),
     ] {
-        let past = pair(alloc, operator, number(a), number(b))?;
-        assert!(rt; faults(alloc, past, FaultKind::Overflow, "overflow")?);
+        assert!(rt; comes_to(alloc, Scene::new(alloc), block, want)?, "{block}");
     }
-    assert!(rt; prints(alloc, number(i64::MIN), "-9223372036854775808")?);
-    let last = pair(alloc, Operator::Add, number(i64::MAX - 1), number(1))?;
-    assert!(rt; prints(alloc, last, "9223372036854775807")?);
     Ok(())
 }
 
 #[test]
-fn all_operands_come_before_the_pairs(rt: HostRuntime) -> Result<(), AllocError> {
+fn numbers_overflow_at_both_ends(rt: HostRuntime) -> Result<(), Fail> {
     let alloc = rt.alloc();
-    let unknown = chain(
-        alloc,
-        Operator::Add,
-        number(i64::MAX),
-        number(1),
-        name(alloc, "x")?,
-    )?;
-    assert!(rt; faults(alloc, unknown, FaultKind::UnknownName, "unknown name x")?);
+    for block in [
+        "{ print 9223372036854775807 + 1; }",
+        "{ print -9223372036854775808 + -1; }",
+        "{ print -9223372036854775808 - 1; }",
+        "{ print 9223372036854775807 - -1; }",
+        "{ print 9223372036854775807 * 2; }",
+        "{ print -9223372036854775808 * -1; }",
+    ] {
+        let want = "fault, test row 1: overflow\n";
+        assert!(rt; comes_to(alloc, Scene::new(alloc), block, want)?, "{block}");
+    }
     Ok(())
 }
 
 #[test]
-fn values_of_one_kind_are_compared(rt: HostRuntime) -> Result<(), AllocError> {
+fn faults_of_values_end_the_block(rt: HostRuntime) -> Result<(), Fail> {
     let alloc = rt.alloc();
-    let unlike = compare(alloc, Comparison::Equal, number(1), quoted(alloc, "1")?)?;
-    assert!(rt; faults(alloc, unlike, FaultKind::WrongKind, "wrong kind")?);
-    let flags = compare(alloc, Comparison::Less, flag(false), flag(true))?;
-    assert!(rt; faults(alloc, flags, FaultKind::WrongKind, "wrong kind")?);
-    let texts = compare(
-        alloc,
-        Comparison::NotEqual,
-        quoted(alloc, "a")?,
-        quoted(alloc, "b")?,
-    )?;
-    assert!(rt; prints(alloc, texts, "true")?);
-    let less = compare(alloc, Comparison::Less, number(-1), number(0))?;
-    assert!(rt; prints(alloc, less, "true")?);
+    for (block, want) in [
+        // (all operands come before the pairs)
+        (
+            "{ print 9223372036854775807 + 1 + x; }",
+            "fault, test row 1: unknown name x\n",
+        ),
+        (r#"{ print 1 == "1"; }"#, "fault, test row 1: wrong kind\n"),
+        ("{ print false < true; }", "fault, test row 1: wrong kind\n"),
+        ("{ x = 1; }", "fault, test row 1: unknown name x\n"),
+        (
+            "{ print 1;\n print x; print 2; }",
+            "1\nfault, test row 2: unknown name x\n",
+        ),
+    ] {
+        assert!(rt; comes_to(alloc, Scene::new(alloc), block, want)?, "{block}");
+    }
     Ok(())
 }
 
 #[test]
-fn texts_are_measured_and_joined(rt: HostRuntime) -> Result<(), AllocError> {
+fn texts_have_4096_bytes(rt: HostRuntime) -> Result<(), Fail> {
     let alloc = rt.alloc();
-    assert!(rt;
-        prints(
-            alloc,
-            call(alloc, Function::Len, long(alloc, 4096)?)?,
-            "4096"
-        )?
-    );
-    let five = call(alloc, Function::Text, number(5))?;
-    let joined = pair(alloc, Operator::Join, five, quoted(alloc, "x")?)?;
-    assert!(rt; prints(alloc, joined, "5x")?);
-    let whole = pair(
-        alloc,
-        Operator::Join,
-        long(alloc, 4095)?,
-        quoted(alloc, "b")?,
-    )?;
-    let length = call(alloc, Function::Len, whole)?;
-    assert!(rt; prints(alloc, length, "4096")?);
-    let past = pair(
-        alloc,
-        Operator::Join,
-        long(alloc, 4096)?,
-        quoted(alloc, "b")?,
-    )?;
-    assert!(rt; faults(alloc, past, FaultKind::TextTooLong, "text is too long")?);
+    let longest = filled(alloc, "{ print len(\"", 4096, "\"); }")?;
+    assert!(rt; comes_to(alloc, Scene::new(alloc), longest.as_str(), "4096\n")?);
+    let joined = filled(alloc, "{ print len(\"", 4095, "\" ++ \"b\"); }")?;
+    assert!(rt; comes_to(alloc, Scene::new(alloc), joined.as_str(), "4096\n")?);
+    let past = filled(alloc, "{ print len(\"", 4096, "\" ++ \"b\"); }")?;
+    let want = "fault, test row 1: text is too long\n";
+    assert!(rt; comes_to(alloc, Scene::new(alloc), past.as_str(), want)?);
     Ok(())
 }
 
 #[test]
-fn taken_name_is_a_fault_after_three_steps(rt: HostRuntime) -> Result<(), AllocError> {
+fn taken_name_is_a_fault_after_three_steps(rt: HostRuntime) -> Result<(), Fail> {
     let alloc = rt.alloc();
-    let again = one(alloc, let_name(alloc, "x", number(2))?)?;
-    let choice = Form::If(flag(true), again, Vec::new(alloc));
-    let block = two(alloc, let_name(alloc, "x", number(1))?, choice)?;
-    let end = run(alloc, &block)?;
-    assert!(rt; Want::Fault(FaultKind::DoubleName, "name x is taken").is(&end));
-    assert_eq!(rt; steps(alloc, &block, 10)?, 3);
+    let block = "{ let x = 1; if true { let x = 2; } }";
+    let want = "fault, test row 1: name x is taken\n";
+    assert!(rt; comes_to(alloc, Scene::new(alloc), block, want)?);
+    assert_eq!(rt; steps(alloc, block, 10)?, 3);
     Ok(())
 }
 
-#[test]
-fn frozen_static_keeps_its_value(rt: HostRuntime) -> Result<(), AllocError> {
-    let alloc = rt.alloc();
-    let block = one(alloc, assign(alloc, "n", number(2))?)?;
-    let frozen = one_name(alloc, "n", Data::Whole(1), Sort::Frozen)?;
-    let (end, _) = Scene::new(alloc).run(alloc, frozen, &block)?;
-    assert!(rt; Want::Fault(FaultKind::Frozen, "n is frozen").is(&end));
-    let field = one_name(alloc, "n", Data::Whole(1), Sort::Field)?;
-    let (end, _) = Scene::new(alloc).run(alloc, field, &block)?;
-    assert!(rt; Want::Pass.is(&end));
-    assert_eq!(rt; end.names.len(), 1);
-    let end = run(alloc, &block)?;
-    assert!(rt; Want::Fault(FaultKind::UnknownName, "unknown name n").is(&end));
-    Ok(())
+/// An environment in which n is 1.
+fn one_name(alloc: Global, sort: Sort) -> Result<Names, AllocError> {
+    let binding = Binding {
+        name: Text::copied(alloc, "n")?,
+        value: Data::Whole(1),
+        sort,
+    };
+    Ok(seeing(vec![in alloc; binding]?))
 }
 
 #[test]
-fn output_is_full_past_65536_bytes(rt: HostRuntime) -> Result<(), AllocError> {
+fn frozen_static_keeps_its_value(rt: HostRuntime) -> Result<(), Fail> {
     let alloc = rt.alloc();
-    let mut block = Vec::new(alloc);
+    let block = "{ let x = 3; print n; n = 2; print n; }";
+    for (sort, want) in [
+        (Sort::Field, "1\n2\n"),
+        (Sort::Frozen, "1\nfault, test row 1: n is frozen\n"),
+    ] {
+        let end = run(alloc, Scene::new(alloc), block, one_name(alloc, sort)?)?;
+        assert!(rt; report(alloc, &end)?.as_str() == want);
+        assert_eq!(rt; end.names.len(), 1);
+    }
+    Ok(())
+}
+
+/// A block that prints sixteen lines of 4,095 bytes, and what stands behind them.
+fn sixteen_lines(alloc: Global, behind: &str) -> Result<String, AllocError> {
+    let line = filled(alloc, "print \"", 4095, "\"; ")?;
+    let mut block = String::from_str(alloc, "{ ")?;
     for _ in 0..16 {
-        block.push(on_row_1(Form::Print(long(alloc, 4095)?)))?;
+        block.push_str(line.as_str())?;
     }
-    let end = run(alloc, &block)?;
-    assert!(rt; Want::Pass.is(&end));
-    assert_eq!(rt; end.output.as_slice().len(), 16);
-    assert_eq!(rt; end.names.printed(), 65_536);
-    block.push(on_row_1(Form::Print(quoted(alloc, "")?)))?;
-    let end = run(alloc, &block)?;
-    assert!(rt; Want::Fault(FaultKind::OutputFull, "output is full").is(&end));
-    assert_eq!(rt; end.output.as_slice().len(), 16);
+    block.push_str(behind)?;
+    Ok(block)
+}
+
+#[test]
+fn output_is_full_past_65536_bytes(rt: HostRuntime) -> Result<(), Fail> {
+    let alloc = rt.alloc();
+    for (behind, ending) in [
+        ("}", ""),
+        ("print \"\"; }", "fault, test row 1: output is full\n"),
+    ] {
+        let block = sixteen_lines(alloc, behind)?;
+        let end = run(
+            alloc,
+            Scene::new(alloc),
+            block.as_str(),
+            seeing(Vec::new(alloc)),
+        )?;
+        let report = report(alloc, &end)?;
+        assert_eq!(rt; end.names.printed(), 65_536);
+        assert!(rt; report.len().checked_sub(ending.len()) == Some(65_536));
+        assert!(rt; report.as_bytes().ends_with(ending.as_bytes()));
+    }
     Ok(())
 }

@@ -6,7 +6,7 @@ ghost use Rattle.iso_model.specs.Steps.{begin, followed_by, machine, machine_at,
 ghost use Rattle.iso_model.specs.Syntax.{choice, repeat};
 ghost use Rattle.iso_model.specs.SyntaxView.{block_of, stmt_of, term_of};
 ghost use Rattle.iso_model.specs.Touch.{HasKeys};
-ghost use Rattle.iso_interp.specs.Runs.{local_of, machine_of, pieces_in, pieces_of, point_of_run, run_rights, state_of};
+ghost use Rattle.iso_interp.specs.Runs.{SameBlock, local_of, machine_of, pieces_in, pieces_of, point_of_run, run_rights, state_of};
 ghost use Rattle.iso_interp.specs.declared.run.Pending.TheVariants.{Rest, Turning};
 
 use crate::run::{BlockRun, Pending};
@@ -25,8 +25,7 @@ impl<'a> BlockRun<'a> {
         requires top { self.old.top ≡ Some (Rest names statements) }
         requires keys { HasKeys (run_rights self.old) (T.content touch.old) (T.writes touch.old) }
         ensures done { OnOk result (machine_of self.new (T.content touch.new) ≡ step_at (run_rights self.old) (pieces_of self.old) (local_of self.old).env.steps (state_of self.old (T.content touch.old))) }
-        ensures rights { self.new.rights ≡ self.old.rights }
-        ensures before { self.new.before ≡ self.old.before }
+        ensures block { SameBlock self.old self.new }
         ensures writes { T.writes touch.new ≡ T.writes touch.old }
     {
         match statements {
@@ -54,8 +53,7 @@ impl<'a> BlockRun<'a> {
             machine_of self.new (T.content touch.new) ≡ followed_by
             (begin (run_rights self.old) s.0 s.1 (state_of self.old (T.content touch.old)))
             (rest_of names (block_of rest.now) ∷ pieces_in None self.old.below.items)) }
-        ensures rights { self.new.rights ≡ self.old.rights }
-        ensures before { self.new.before ≡ self.old.before }
+        ensures block { SameBlock self.old self.new }
         ensures writes { T.writes touch.new ≡ T.writes touch.old }
     {
         self.top = Some(Pending::Rest(names, rest));
@@ -71,8 +69,7 @@ impl<'a> BlockRun<'a> {
             (let s = stmt_of statement.now in
             let m = begin (run_rights self.old) s.0 s.1 (state_of self.old (T.content touch.old)) in
             (state_of self.new (T.content touch.new) ≡ m.state) × (pieces_of self.new ≡ m.pieces ++ pieces_of self.old)) }
-        ensures rights { self.new.rights ≡ self.old.rights }
-        ensures before { self.new.before ≡ self.old.before }
+        ensures block { SameBlock self.old self.new }
         ensures writes { T.writes touch.new ≡ T.writes touch.old }
     {
         let row = statement.row;
@@ -110,8 +107,7 @@ impl<'a> BlockRun<'a> {
         ensures begun { OnOk result
             (let m = begin (run_rights self.old) row (choice (term_of condition.now) (block_of first.now) (block_of second.now)) (state_of self.old (T.content touch.now)) in
             (state_of self.new (T.content touch.now) ≡ m.state) × (pieces_of self.new ≡ m.pieces ++ pieces_of self.old)) }
-        ensures rights { self.new.rights ≡ self.old.rights }
-        ensures before { self.new.before ≡ self.old.before }
+        ensures block { SameBlock self.old self.new }
     {
         match self.flag(touch, condition)? {
             Ok(holds) => {
@@ -134,8 +130,7 @@ impl<'a> BlockRun<'a> {
         ensures begun { OnOk result
             (let m = begin (run_rights self.old) row (repeat (term_of count.now) (block_of body.now)) (state_of self.old (T.content touch.now)) in
             (state_of self.new (T.content touch.now) ≡ m.state) × (pieces_of self.new ≡ m.pieces ++ pieces_of self.old)) }
-        ensures rights { self.new.rights ≡ self.old.rights }
-        ensures before { self.new.before ≡ self.old.before }
+        ensures block { SameBlock self.old self.new }
     {
         match self.count(touch, count)? {
             Ok(turns) => self.enter(Pending::Turning(row, turns, body)),
@@ -152,8 +147,7 @@ impl<'a> BlockRun<'a> {
     ) -> Result<(), AllocError>
         requires top { self.old.top ≡ Some (Turning row turns body) }
         ensures done { OnOk result ((r : Rights) (m : Resources) → machine_of self.new m ≡ step_at r (pieces_of self.old) (local_of self.old).env.steps (state_of self.old m)) }
-        ensures rights { self.new.rights ≡ self.old.rights }
-        ensures before { self.new.before ≡ self.old.before }
+        ensures block { SameBlock self.old self.new }
     {
         if turns == 0 {
             return Ok(());
@@ -169,8 +163,7 @@ impl<'a> BlockRun<'a> {
         ensures done { OnOk result (point_of_run self.new ≡ next_point
             (rest_of (length self.old.names.names) (block_of body.now) ∷ turning row left (block_of body.now) ∷ pieces_in None self.old.below.items)
             (local_of self.old)) }
-        ensures rights { self.new.rights ≡ self.old.rights }
-        ensures before { self.new.before ≡ self.old.before }
+        ensures block { SameBlock self.old self.new }
     {
         self.top = Some(Pending::Turning(row, left, body));
         let names = self.names.len();

@@ -12,6 +12,7 @@ use crate::operators::joined_text;
 use crate::run::BlockRun;
 use iso_model::access::Access;
 use iso_model::fault::Fault;
+use iso_model::key::Key;
 use iso_model::resource::{Ask, Change};
 use iso_model::resource_key::ResourceKey;
 use iso_model::touch::Touch;
@@ -123,6 +124,7 @@ impl<'a> BlockRun<'a> {
         };
         let key = ResourceKey::File(path.as_str());
         if !self.rights.lets_change(key) {
+            let key = key.key(self.alloc)?;
             return self.undeclared(row, key);
         }
         let joined = match touch.look(key, Ask::File) {
@@ -148,14 +150,17 @@ impl<'a> BlockRun<'a> {
         ensures writes { T.writes touch.new ≡ T.writes touch.old }
     {
         let path = match self.text(touch, path)? {
-            Ok(path) => path.into_text(self.alloc)?,
+            Ok(path) => path.lasting(self.alloc)?,
             Err(fault) => return self.fault(row, fault),
         };
         let key = ResourceKey::File(path.as_str());
         if !self.rights.lets_change(key) {
+            let key = key.key(self.alloc)?;
+            drop(path);
             return self.undeclared(row, key);
         }
         if touch.look(key, Ask::File).is_none() {
+            let path = path.into_text(self.alloc)?;
             return self.fault(row, Fault::MissingFile(path));
         }
         touch.change(key, Change::DeleteFile)
@@ -178,16 +183,16 @@ impl<'a> BlockRun<'a> {
         if self.rights.lets_change(key) {
             touch.change(key, change)
         } else {
+            let key = key.key(self.alloc)?;
             self.undeclared(row, key)
         }
     }
 
     /// Ends the block by the fault of a change that isn't declared.
-    fn undeclared(&mut self, row: u32, key: ResourceKey<'_>) -> Result<(), AllocError>
-        ensures ended { OnOk result (local_of self.new ≡ faulted row (Faults.Undeclared Access.Write (spelling key.entry)) (local_of self.old)) }
+    fn undeclared(&mut self, row: u32, key: Key) -> Result<(), AllocError>
+        ensures ended { OnOk result (local_of self.new ≡ faulted row (Faults.Undeclared Access.Write key) (local_of self.old)) }
         ensures work { SameWork self.old self.new }
     {
-        let key = key.key(self.alloc)?;
         self.fault(row, Fault::Undeclared(Access::Write, key))
     }
 }

@@ -1,11 +1,11 @@
-use Rattle.std.proofs.Common.{◌≡◌, ◌∙◌, rules, ap, sym, true, false, [], length, take, List, ℕ, subst}
+use Rattle.std.proofs.Common.{◌≡◌, ◌∙◌, rules, ap, sym, true, false, take, ℕ, subst}
 use Rattle.iso_model.specs.Resources.{Resources}
 use Rattle.iso_model.specs.Rights.{Rights, access_in}
-use Rattle.iso_model.specs.Statements.{Local, State, with_names}
-use Rattle.iso_model.specs.Steps.{Piece, Machine, machine_at, step, is_done}
+use Rattle.iso_model.specs.Statements.{Local, with_names}
+use Rattle.iso_model.specs.Steps.{machine_at, step, is_done}
 use Rattle.iso_model.specs.SyntaxView.{block_of}
 use Rattle.iso_model.specs.Touch.{HasKeys}
-use Rattle.iso_interp.specs.Runs.{end_state, local_of, machine_of, names_before, pieces_of, point_of_run, run_rights}
+use Rattle.iso_interp.specs.Runs.{local_of, machine_of, pieces_of, point_of_run}
 use Rattle.iso_interp.proofs.Completion.{goes-start, goes-step, goes-less, goes-end}
 use Rattle.iso_interp.proofs.Stack.{none-left}
 use Rattle.iso_interp.proofs.whole.run_block.Goals as goal
