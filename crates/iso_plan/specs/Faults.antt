@@ -1,7 +1,5 @@
 -- What makes scripts no plan.
-use Rattle.std.specs.Prelude.{ℕ, ◌+◌, ◌<◌, List, [], ◌∷◌, ◌++◌, map, length, Bool, true, false, ◌||◌, ◌&&◌, cond, nat_lt, Option, Some, None, ⊤}
-use Rattle.std.specs.List.{list_any}
-use Rattle.std.specs.Str.{bytes_eq}
+use Rattle.std.specs.Prelude.{ℕ, ◌+◌, ◌<◌, List, [], ◌∷◌, ◌++◌, map, length, Bool, true, false, cond, nat_lt, Option, Some, None, ⊤}
 use Rattle.iso_model.specs.Scripts.{Class, class, Script}
 use Rattle.iso_model.specs.declared.limits.TheConstants.{SCRIPTS, NODES, KEYS}
 use Rattle.iso_plan.specs.KeyTable.{keys}
