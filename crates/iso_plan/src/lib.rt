@@ -9,5 +9,6 @@ pub mod laws;
 pub mod lock;
 mod names;
 pub mod plan;
+mod rights;
 pub mod row;
 mod tree;

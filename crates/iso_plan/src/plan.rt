@@ -2,10 +2,11 @@
 ghost use Rattle.std.specs.Prelude.{◌≡◌, ◌≢◌, ◌<◌, [], IfErr, IfOk, None, Some, length, map, slice_index_or};
 ghost use Rattle.std.specs.Option.{option_map};
 ghost use Rattle.iso_model.specs.ChainView.{innermost_first};
+ghost use Rattle.iso_model.specs.Rights.{access_in};
 ghost use Rattle.iso_model.specs.ScriptView.{script_of, test_head_of};
 ghost use Rattle.iso_plan.specs.Faults.{plan_fault};
 ghost use Rattle.iso_plan.specs.KeyTable.{keys};
-ghost use Rattle.iso_plan.specs.NodeChains.{chain_classes, chain_test};
+ghost use Rattle.iso_plan.specs.NodeChains.{chain_classes, chain_test, node_rights};
 ghost use Rattle.iso_plan.specs.Paths.{IsTree, children, is_test, parent_of, row_at};
 ghost use Rattle.iso_plan.specs.RowView.{tree_of};
 ghost use Rattle.iso_plan.specs.Tree.{tree};
@@ -15,11 +16,13 @@ use crate::children::children;
 use crate::fault::PlanFault;
 use crate::keys::keys;
 use crate::names::has_double_class;
+use crate::rights::rights;
 use crate::row::{Kind, Row};
 use crate::tree::tree;
 use iso_model::chain::Chain;
 use iso_model::heads::ClassHead;
 use iso_model::limits::SCRIPTS;
+use iso_model::rights::Rights;
 use iso_model::script::Script;
 use iso_model::text::Text;
 use iso_settings::settings::Settings;
@@ -36,6 +39,7 @@ pub struct Plan {
     settings: Settings,
     children: Vec<Vec<u32>>,
     chains: Vec<Vec<Arc<ClassHead>>>,
+    rights: Vec<Rights>,
     keys: Vec<Text>,
 }
 
@@ -45,6 +49,7 @@ impl Model for Plan {
     ghost use Rattle.iso_model.specs.contracts.tree.Stmt as stmt;
     ghost use Rattle.iso_model.specs.contracts.tree.Expr as expr;
     ghost use Rattle.iso_model.specs.ChainView.{innermost_first};
+    ghost use Rattle.iso_model.specs.Rights.{access_in};
     ghost use Rattle.std.specs.Coded.{codes};
     ghost use Rattle.iso_plan.specs.IsPlan.{IsPlan};
     ghost use Rattle.iso_plan.specs.Planned.{Planned};
@@ -57,7 +62,7 @@ impl Model for Plan {
     ghost view = { λ p. record { rows = p.rows.items; settings = p.settings } };
 
     ghost invariant = { λ p. IsPlan (map row_of p.rows.items) (map (λ c. c.items) p.children.items)
-        (map (λ c. innermost_first c.items) p.chains.items) p.keys.items };
+        (map (λ c. innermost_first c.items) p.chains.items) (map access_in p.rights.items) p.keys.items };
 }
 
 /// The plan of scripts under settings.
@@ -82,11 +87,13 @@ pub fn build(alloc: Global, scripts: &[Script], settings: &Settings) -> Result<P
     let keys = keys(alloc, &rows)?;
     let children = children(alloc, &rows)?;
     let chains = chains(alloc, &rows)?;
+    let rights = rights(alloc, &rows, &chains)?;
     Ok(Plan {
         rows,
         settings: *settings,
         children,
         chains,
+        rights,
         keys,
     })
 }
@@ -157,6 +164,14 @@ impl Plan {
             classes: &self.chains[node as usize],
             test,
         }
+    }
+
+    /// A node's access rights: those that its class chain gives.
+    pub fn rights(&self, node: u32) -> &Rights
+        requires { node < length self.now.rows }
+        ensures { access_in result.now ≡ node_rights (tree_of self.now) node }
+    {
+        &self.rights[node as usize]
     }
 
     /// How many keys it numbers, the global key among them.
