@@ -14,5 +14,6 @@ mod modes;
 mod names;
 mod outermost;
 pub mod plan;
+mod rights;
 pub mod row;
 mod tree;

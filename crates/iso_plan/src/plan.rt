@@ -2,13 +2,14 @@
 ghost use Rattle.std.specs.Prelude.{◌≡◌, ◌≢◌, ◌<◌, ◌≤◌, ◌+◌, [], IfErr, IfOk, None, Some, length, map, slice_index_or};
 ghost use Rattle.std.specs.Option.{option_map};
 ghost use Rattle.iso_model.specs.ChainView.{innermost_first};
+ghost use Rattle.iso_model.specs.Rights.{access_in};
 ghost use Rattle.iso_model.specs.ScriptView.{script_of, test_head_of};
 ghost use Rattle.iso_model.specs.declared.limits.TheConstants.{KEYS, NODES};
 ghost use Rattle.iso_plan.specs.Faults.{IsCrowded, plan_fault};
 ghost use Rattle.iso_plan.specs.KeyTable.{keys};
 ghost use Rattle.iso_plan.specs.Locks.{locking_node, locks};
 ghost use Rattle.iso_plan.specs.Modes.{mode};
-ghost use Rattle.iso_plan.specs.NodeChains.{chain_classes, chain_test};
+ghost use Rattle.iso_plan.specs.NodeChains.{chain_classes, chain_test, node_rights};
 ghost use Rattle.iso_plan.specs.Paths.{IsTree, children, column, is_test, parent_of, row_at};
 ghost use Rattle.iso_plan.specs.RowView.{row_of, tree_of};
 ghost use Rattle.iso_plan.specs.Tree.{tree};
@@ -22,11 +23,13 @@ use crate::locking::{isolated, locking_nodes};
 use crate::locks::locks;
 use crate::modes::modes;
 use crate::names::has_double_class;
+use crate::rights::rights;
 use crate::row::{Kind, Row};
 use crate::tree::tree;
 use iso_model::chain::Chain;
 use iso_model::heads::ClassHead;
 use iso_model::limits::SCRIPTS;
+use iso_model::rights::Rights;
 use iso_model::script::{Mode, Script};
 use iso_model::text::Text;
 use iso_settings::settings::Settings;
@@ -43,6 +46,7 @@ pub struct Plan {
     settings: Settings,
     children: Vec<Vec<u32>>,
     chains: Vec<Vec<Arc<ClassHead>>>,
+    rights: Vec<Rights>,
     keys: Vec<Text>,
     locking: Vec<Option<u32>>,
     locks: Vec<Vec<Lock>>,
@@ -55,6 +59,7 @@ impl Model for Plan {
     ghost use Rattle.iso_model.specs.contracts.tree.Stmt as stmt;
     ghost use Rattle.iso_model.specs.contracts.tree.Expr as expr;
     ghost use Rattle.iso_model.specs.ChainView.{innermost_first};
+    ghost use Rattle.iso_model.specs.Rights.{access_in};
     ghost use Rattle.std.specs.Coded.{codes};
     ghost use Rattle.iso_plan.specs.IsPlan.{IsPlan};
     ghost use Rattle.iso_plan.specs.Planned.{Planned};
@@ -67,8 +72,8 @@ impl Model for Plan {
     ghost view = { λ p. record { rows = p.rows.items; settings = p.settings } };
 
     ghost invariant = { λ p. IsPlan (map row_of p.rows.items) p.settings (map (λ c. c.items) p.children.items)
-        (map (λ c. innermost_first c.items) p.chains.items) p.keys.items p.locking.items
-        (map (λ l. l.items) p.locks.items) p.modes.items };
+        (map (λ c. innermost_first c.items) p.chains.items) (map access_in p.rights.items) p.keys.items
+        p.locking.items (map (λ l. l.items) p.locks.items) p.modes.items };
 }
 
 /// What the nodes of a plan lock, and the keys by number.
@@ -102,11 +107,13 @@ pub fn build(alloc: Global, scripts: &[Script], settings: &Settings) -> Result<P
     let modes = modes(alloc, &rows, *settings, &gathered.locks)?;
     let children = children(alloc, &rows)?;
     let chains = chains(alloc, &rows)?;
+    let rights = rights(alloc, &rows, &chains)?;
     Ok(Plan {
         rows,
         settings: *settings,
         children,
         chains,
+        rights,
         keys: gathered.keys,
         locking: gathered.locking,
         locks: gathered.locks,
@@ -233,6 +240,14 @@ impl Plan {
         ensures { result ≡ locking_node (tree_of self.now) node }
     {
         self.locking[node as usize]
+    }
+
+    /// A node's access rights: those that its class chain gives.
+    pub fn rights(&self, node: u32) -> &Rights
+        requires { node < length self.now.rows }
+        ensures { access_in result.now ≡ node_rights (tree_of self.now) node }
+    {
+        &self.rights[node as usize]
     }
 
     /// How many keys it numbers, the global key among them.
