@@ -100,7 +100,8 @@ abbrev pub writes_and_deletes : TestHead
 writes_and_deletes =
     record {
       marks = writes file_a ∷ [];
-      body = body (write_file (quoted "a") (quoted "m") ∷ append_file (quoted "a") (quoted "n") ∷ print (file (quoted "a")) ∷ print (has_file (quoted "a")) ∷ delete_file (quoted "a") ∷ print (has_file (quoted "a")) ∷ []);
+      body = body (write_file (quoted "a") (quoted "m") ∷ append_file (quoted "a") (quoted "n") ∷ print (file (quoted "a")) ∷
+          print (has_file (quoted "a")) ∷ delete_file (quoted "a") ∷ print (has_file (quoted "a")) ∷ []);
     }
 
 -- class C { read "L" test t { print locale(); } }
