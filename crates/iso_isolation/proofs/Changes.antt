@@ -1,0 +1,55 @@
+-- A function with one place changed, and numbers below a bound.
+use Rattle.std.proofs.Common.{◌≡◌, ℕ, zero, suc, ◌<◌, Bool, true, false, cond, Option, Some, None, ◌⊎◌, inl, inr, refl, sym, ap, subst, ◌∙◌, arith}
+use Rattle.std.proofs.lemmas.Bool.{eqb-true, eq-eqb}
+use Rattle.std.proofs.lemmas.Bool.Decides.{eqb_tells}
+use Rattle.std.proofs.Math.Dec.{eqb}
+use Rattle.std.specs.Option.{option_or}
+use Rattle.iso_isolation.specs.States.{put}
+use Rattle.iso_isolation.specs.Refusals.{lowest_below}
+
+pub equal_or_not : (m n : ℕ) → (m ≡ n) ⊎ (m ≡ n → ⊥)
+equal_or_not m n = elim (eqb_tells m n) [ inl p ↦ inl p.1 | inr p ↦ inr p.1 ]
+
+pub true_or_false : (b : Bool) → (b ≡ true) ⊎ (b ≡ false)
+true_or_false true = inl refl
+true_or_false false = inr refl
+
+pub put_here : {A : Type 0} (n : ℕ) (a : A) (f : ℕ → A) → put n a f n ≡ a
+put_here n a f = ap (λ b. cond b a (f n)) (eq-eqb n n refl)
+
+elsewhere_by : {A : Type 0} (m n : ℕ) (a : A) (f : ℕ → A) (b : Bool) → eqb m n ≡ b → (m ≡ n → ⊥) → cond b a (f m) ≡ f m
+elsewhere_by m n a f true e ne = absurd (ne (eqb-true m n e))
+elsewhere_by m n a f false e ne = refl
+
+pub put_elsewhere : {A : Type 0} (m n : ℕ) (a : A) (f : ℕ → A) → (m ≡ n → ⊥) → put n a f m ≡ f m
+put_elsewhere m n a f ne = elsewhere_by m n a f (eqb m n) refl ne
+
+-- what holds of the new value at its place, and of the old ones elsewhere
+pub on_put : {A : Type 0} (P : ℕ → A → Type 0) (n : ℕ) (a : A) (f : ℕ → A) (m : ℕ) → P n a → ((m ≡ n → ⊥) → P m (f m)) → P m (put n a f m)
+on_put P n a f m here there =
+    elim (equal_or_not m n) [
+      | inl e ↦ subst (λ (j : ℕ). P j (put n a f j)) (sym e) (subst (P n) (sym (put_here n a f)) here)
+      | inr ne ↦ subst (P m) (sym (put_elsewhere m n a f ne)) (there ne)
+    ]
+
+-- what the new value doesn't change, stays
+pub unmoved : {A C : Type 0} (P : A → C) (n : ℕ) (a : A) (f : ℕ → A) → P a ≡ P (f n) → (m : ℕ) → P (put n a f m) ≡ P (f m)
+unmoved P n a f e m = on_put (λ (j : ℕ) (v : _). P v ≡ P (f j)) n a f m e (λ ne. refl)
+
+or_none : {A : Type 0} (o q : Option A) → option_or o q ≡ None → (o ≡ None) × (q ≡ None)
+or_none (Some a) q e = absurd cc
+or_none None q e = (refl, e)
+
+fails : (b : Bool) (n : ℕ) → cond b (Some n) None ≡ None → b ≡ false
+fails true n e = absurd cc
+fails false n e = refl
+
+-- where no number below n passes a test, each fails it
+pub none_below : (n : ℕ) (test : ℕ → Bool) → lowest_below n test ≡ None → (m : ℕ) → m < n → test m ≡ false
+none_below zero test e m lt = absurd (omega arith)
+none_below (suc n) test e m lt =
+    let parts = or_none (lowest_below n test) (cond (test n) (Some n) None) e in
+    elim (equal_or_not m n) [
+      | inl here ↦ ap test here ∙ fails (test n) n parts.1
+      | inr ne ↦ none_below n test parts.0 m (omega arith)
+    ]

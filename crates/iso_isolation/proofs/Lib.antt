@@ -1,0 +1,17 @@
+pub mod Changes
+pub mod Statuses
+pub mod Bodies
+pub mod Locks
+pub mod LockEvents
+pub mod Openings
+pub mod Invariant
+pub mod Steps
+pub mod Enters
+pub mod OpeningLeaves
+pub mod Shuts
+pub mod Finishes
+pub mod Barred
+pub mod Accepted
+pub mod Runs
+pub mod Rights
+pub mod ExampleLaws

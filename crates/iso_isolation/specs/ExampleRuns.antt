@@ -1,0 +1,133 @@
+-- Runs and states of the worked examples.
+use Rattle.std.specs.Prelude.{ℕ, Bool, true, false, cond, eqb, leb, ◌||◌, List, [], ◌∷◌, ◌++◌, Option, Some, None}
+use Rattle.iso_isolation.specs.Suites.{Suite, chain}
+use Rattle.iso_isolation.specs.Alone.{run_alone}
+use Rattle.iso_isolation.specs.States as S
+use Rattle.iso_isolation.specs.States.{Status, State, first}
+use Rattle.iso_isolation.specs.Events.{Event, Enter, Step, Leave, Shut}
+use Rattle.iso_isolation.specs.Refusals.{Refused, refusal}
+use Rattle.iso_isolation.specs.Runs.{is_run, after_all_of, result_of}
+use Rattle.iso_isolation.specs.Examples.{Head, Counter, counter, counting, at, test_head, class_head, numbers, shop}
+
+-- what a node of the shop comes to by itself
+abbrev pub by_itself : ℕ → Option (List (Option ℕ))
+by_itself n = run_alone counting (chain shop n) numbers
+
+-- the state of the shop after these events; and what a node came to, if it is finished
+abbrev pub begun_shop : State ℕ ℕ Counter Counter (Option (List (Option ℕ)))
+begun_shop = first counting shop
+
+abbrev pub shop_after : List Event → State ℕ ℕ Counter Counter (Option (List (Option ℕ)))
+shop_after es = after_all_of counting shop begun_shop es
+
+abbrev pub came_to : List Event → ℕ → Option (Option (List (Option ℕ)))
+came_to es n = result_of (shop_after es) n
+
+abbrev pub value_after : List Event → ℕ → Option ℕ
+value_after es k = (shop_after es).nodes.flat k
+
+-- whether these are accepted on three workers; and why one more event is refused then, if it is
+abbrev pub is_run_of_shop : List Event → Bool
+is_run_of_shop es = is_run counting shop 3 begun_shop es
+
+abbrev pub refused_after : List Event → Event → Option Refused
+refused_after es e = refusal counting shop 3 (shop_after es) e
+
+-- the classes 1 and 4 are opened by two workers side by side
+abbrev pub opened_both : List Event
+opened_both = Enter 0 1 ∷ Enter 1 4 ∷ Step 1 ∷ Step 0 ∷ Leave 1 ∷ Leave 0 ∷ []
+
+-- test 2 and test 5, which change different keys, one step of the one after one of the other
+abbrev pub side_by_side : List Event
+side_by_side = opened_both ++ Enter 0 2 ∷ Enter 1 5 ∷ Step 0 ∷ Step 1 ∷ Step 1 ∷ Step 0 ∷ []
+
+abbrev pub both_left : List Event
+both_left = side_by_side ++ Leave 0 ∷ Leave 1 ∷ []
+
+-- two readers of one key side by side
+abbrev pub readers : List Event
+readers = both_left ++ Enter 2 6 ∷ Enter 1 7 ∷ Step 1 ∷ Step 2 ∷ Leave 2 ∷ Leave 1 ∷ []
+
+-- class 1 to its end
+abbrev pub closed_first : List Event
+closed_first = readers ++ Enter 0 3 ∷ Step 0 ∷ Leave 0 ∷ Shut 0 1 ∷ Step 0 ∷ []
+
+-- class 8, whose `before_all` fails, to its end
+abbrev pub barred : List Event
+barred = Enter 2 8 ∷ Step 2 ∷ Leave 2 ∷ []
+
+abbrev pub barred_to_its_end : List Event
+barred_to_its_end = barred ++ Shut 2 8 ∷ Step 2 ∷ Leave 2 ∷ []
+
+-- a history, and the same in full
+abbrev pub history : List Event
+history = Enter 0 1 ∷ Enter 1 4 ∷ Leave 1 ∷ Leave 0 ∷ Enter 0 2 ∷ Enter 1 5 ∷ Leave 1 ∷ Leave 0 ∷ []
+
+abbrev pub in_full : List Event
+in_full = Enter 0 1 ∷ Enter 1 4 ∷ Step 1 ∷ Leave 1 ∷ Step 0 ∷ Leave 0 ∷ Enter 0 2 ∷ Enter 1 5 ∷ Step 1 ∷ Step 1 ∷ Leave 1 ∷ Step 0 ∷ Step 0 ∷ Leave 0 ∷ []
+
+-- A suite for refusals alone: node 1 stands in the root, node 6 in node 3, and all others in node 1. What conflicts is told by
+-- numbers: every node conflicts with each that has number 4 or more.
+abbrev pub crowd : (ℕ → Bool) → Bool → Suite Head ℕ ℕ
+crowd same is_test = record {
+  nodes = 8;
+  parent = λ n. cond (leb n 1) 0 (cond (eqb n 6) 3 1);
+  path = λ n. [];
+  head = λ n. cond is_test (test_head 0 false false 1) (class_head 0 false true);
+  is_same_thread = same;
+  takes = λ n k. false;
+  takes_write = λ n k. false;
+  conflict = λ m n. leb 4 m;
+  start = numbers;
+}
+
+abbrev pub CrowdStatus : Type 0
+CrowdStatus = Status Counter Counter (Option (List (Option ℕ)))
+
+abbrev pub waiting : CrowdStatus
+waiting = S.Waiting
+
+-- a body that has a step to do, and one that has ended
+abbrev pub live : CrowdStatus
+live = S.Begun (counter 1 0 [] true)
+
+abbrev pub over : CrowdStatus
+over = S.Begun (counter 0 0 [] true)
+
+abbrev pub opened : CrowdStatus
+opened = S.Open []
+
+abbrev pub barred_class : CrowdStatus
+barred_class = S.Barred []
+
+abbrev pub closing : CrowdStatus
+closing = S.Closing [] (counter 0 0 [] true)
+
+abbrev pub finished : CrowdStatus
+finished = S.Finished None
+
+-- a state with these statuses from node 0 on, in which one worker owns all nodes. Workers 1 and 7 have no body, and all others
+-- that of node 4.
+abbrev pub crowd_at : List CrowdStatus → ℕ → Bool → State ℕ ℕ Counter Counter (Option (List (Option ℕ)))
+crowd_at statuses owner stopped = record {
+  nodes = record { flat = numbers; status = at waiting statuses; saved = λ n. numbers };
+  owner = λ n. owner;
+  busy = λ w. cond (eqb w 1 || eqb w 7) None (Some 4);
+  stopped = stopped;
+}
+
+-- why an event is refused there, on two workers, where all nodes are SAME_THREAD and classes
+abbrev pub why : List CrowdStatus → ℕ → Event → Option Refused
+why statuses owner e = refusal counting (crowd (λ n. true) false) 2 (crowd_at statuses owner false) e
+
+-- the same where all nodes are tests
+abbrev pub why_test : List CrowdStatus → ℕ → Event → Option Refused
+why_test statuses owner e = refusal counting (crowd (λ n. true) true) 2 (crowd_at statuses owner false) e
+
+-- the same where these nodes are SAME_THREAD
+abbrev pub why_where : (ℕ → Bool) → List CrowdStatus → ℕ → Event → Option Refused
+why_where same statuses owner e = refusal counting (crowd same false) 2 (crowd_at statuses owner false) e
+
+-- the same after a stop
+abbrev pub why_stopped : List CrowdStatus → ℕ → Event → Option Refused
+why_stopped statuses owner e = refusal counting (crowd (λ n. true) true) 2 (crowd_at statuses owner true) e

@@ -1,0 +1,10 @@
+pub mod Languages
+pub mod Suites
+pub mod Alone
+pub mod States
+pub mod Events
+pub mod Refusals
+pub mod Runs
+pub mod Isolation
+pub mod Examples
+pub mod ExampleRuns
