@@ -1,6 +1,8 @@
 -- Laws of gathered locks: which nodes are locking nodes, and what one node more adds to what they take.
 use Rattle.std.proofs.Common.{◌≡◌, ℕ, zero, suc, ◌+◌, ◌<◌, ◌≤◌, List, [], ◌∷◌, ◌++◌, Option, Some, None, Bool, true, false, ◌||◌, ◌&&◌, ◌==◌, cond, length, map, get_or, set, replicate, refl, sym, ap, ap₂, ◌∙◌, arith, add-one, bytes_eq}
-use Rattle.std.proofs.lemmas.List.{length-replicate, length-set, get_or-set_same, get_or-set_other}
+use Rattle.std.proofs.lemmas.List.{length-map, length-replicate, length-set, get_or-set_same, get_or-set_other}
+use Rattle.std.proofs.lemmas.List.Elements.{All-from_recursion}
+use Rattle.std.specs.List.{All, AllByRecursion}
 use Rattle.iso_model.proofs.RightsLemmas.{strongest-none, strongest-assoc, strongest-comm}
 use Rattle.iso_model.specs.Keys.{global_key}
 use Rattle.iso_model.specs.Rights.{strongest}
@@ -184,3 +186,14 @@ table-fits tree l tables n m t h =
 pub tables-end : (tree : List Row) (l : ℕ) (tables : List (List (Option Access))) (m : ℕ) → TablesAre tree l tables (length tree) → m < l → locks_from 0 (get_or tables m []) ≡ locks tree m
 tables-end tree l tables m t h =
     listed-from (taken tree m) (keys tree) (get_or tables m []) 0 (table-fits tree l tables (length tree) m t h) (λ i k. t.so_far m i h k)
+
+known_by : (os : List (Option Access)) (i most : ℕ) → i + length os ≤ most → AllByRecursion (λ (l : Lock). l.key < most) (locks_from i os)
+known_by [] i most h = tt
+known_by (None ∷ os) i most h = known_by os (suc i) most (omega arith)
+known_by (Some a ∷ os) i most h = (omega arith, known_by os (suc i) most (omega arith))
+
+-- a lock's key has a number in the table
+pub locks-known : (tree : List Row) (n : ℕ) → All (λ (l : Lock). l.key < length (keys tree)) (locks tree n)
+locks-known tree n =
+    let count : length (map (taken tree n) (keys tree)) ≡ length (keys tree) = length-map (keys tree) (taken tree n) in
+    All-from_recursion (λ (l : Lock). l.key < length (keys tree)) (locks tree n) (known_by (map (taken tree n) (keys tree)) 0 (length (keys tree)) (omega arith))

@@ -75,7 +75,9 @@ abbrev pub global_access : List Row → ℕ → List ℕ → Option Access
 global_access tree n k =
     cond (is_top tree n && bytes_eq global_key k) (Some (cond (holds_isolated tree n) Write Read)) None
 
--- the access with which a node takes a key, if it does, where only the nodes with a number below i are looked at. A locking node takes what is marked on it and below it, each key in the strongest access; a top-level class takes the global key besides.
+-- the access with which a node takes a key, if it does, where only the nodes with a number below i are looked at. A
+-- locking node takes what is marked on it and below it, each key in the strongest access; a top-level class takes the
+-- global key besides.
 abbrev pub taken_below : List Row → ℕ → List ℕ → ℕ → Option Access
 taken_below tree n k i =
     strongest (global_access tree n k) (cond (is_locking tree n) (gathered_below tree n k i) None)

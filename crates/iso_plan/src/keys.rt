@@ -6,7 +6,7 @@ ghost use Rattle.iso_plan.specs.Faults.{IsCrowded};
 ghost use Rattle.iso_plan.specs.KeyTable.{keys, with_marks, with_rows, written_marks};
 ghost use Rattle.iso_plan.specs.RowView.{kind_of, row_of};
 
-use crate::fault::PlanFault;
+use crate::fault::{PlanError, PlanFault};
 use crate::row::{Kind, Row};
 use indexmap::IndexSet;
 use iso_model::heads::Mark;
@@ -19,7 +19,7 @@ pub(crate) const GLOBAL_KEY: &str = "iso:global";
 
 /// The keys of nodes by number, in the order in which they are first marked, the global key first.
 /// More than 255 besides it are `TooManyKeys`.
-pub(crate) fn keys(alloc: Global, rows: &[Row]) -> Result<IndexSet<&str>, PlanFault>
+pub(crate) fn keys(alloc: Global, rows: &[Row]) -> Result<IndexSet<&str>, PlanError>
     ensures keys { IfOk result (λ s. map (λ k. k.now) s.keys ≡ keys (map row_of rows.now)) }
     ensures few { IfOk result (λ s. length s.keys ≤ KEYS + 1) }
     ensures crowded { IfErr result (IsCrowded (length (keys (map row_of rows.now)))) }
@@ -30,7 +30,7 @@ pub(crate) fn keys(alloc: Global, rows: &[Row]) -> Result<IndexSet<&str>, PlanFa
         add_marks(&mut table, row.kind.marks())?;
     }
     if table.as_slice().len() > KEYS as usize + 1 {
-        return Err(PlanFault::TooManyKeys);
+        return Err(PlanError::Fault(PlanFault::TooManyKeys));
     }
     Ok(table)
 }

@@ -1,11 +1,12 @@
 //! The plan of a run.
-ghost use Rattle.std.specs.Prelude.{◌≡◌, ◌≢◌, ◌<◌, ◌≤◌, ◌+◌, [], IfErr, IfOk, None, Some, length, map, slice_index_or};
+ghost use Rattle.std.specs.Prelude.{◌≡◌, ◌<◌, ◌≤◌, ◌+◌, [], IfErr, IfOk, None, Some, length, map, slice_index_or};
+ghost use Rattle.std.specs.List.{All};
 ghost use Rattle.std.specs.Option.{option_map};
 ghost use Rattle.iso_model.specs.ChainView.{innermost_first};
 ghost use Rattle.iso_model.specs.Rights.{access_in};
 ghost use Rattle.iso_model.specs.ScriptView.{script_of, test_head_of};
 ghost use Rattle.iso_model.specs.declared.limits.TheConstants.{KEYS, NODES};
-ghost use Rattle.iso_plan.specs.Faults.{IsCrowded, plan_fault};
+ghost use Rattle.iso_plan.specs.Faults.{IsCrowded, IsRefusal, plan_fault};
 ghost use Rattle.iso_plan.specs.KeyTable.{keys};
 ghost use Rattle.iso_plan.specs.Locks.{locking_node, locks};
 ghost use Rattle.iso_plan.specs.Modes.{mode};
@@ -16,7 +17,7 @@ ghost use Rattle.iso_plan.specs.Tree.{tree};
 
 use crate::chains::chains;
 use crate::children::children;
-use crate::fault::PlanFault;
+use crate::fault::{PlanError, PlanFault};
 use crate::keys::{copied, keys};
 use crate::lock::Lock;
 use crate::locking::{isolated, locking_nodes};
@@ -89,18 +90,17 @@ struct Gathered {
 /// More than 64 scripts are `TooManyScripts`; two top-level classes of one team and name `DoubleClass`; more
 /// than 4,096 nodes, the root among them, `TooManyNodes`; more than 255 different declared keys `TooManyKeys`.
 /// They are tested in this order. Want of memory may be answered at each growth.
-pub fn build(alloc: Global, scripts: &[Script], settings: &Settings) -> Result<Plan, PlanFault>
+pub fn build(alloc: Global, scripts: &[Script], settings: &Settings) -> Result<Plan, PlanError>
     ensures tree { IfOk result (λ p. tree_of p ≡ tree (map script_of scripts.now)) }
     ensures settings { IfOk result (λ p. p.settings ≡ settings.now) }
     ensures accepted { IfOk result (λ p. plan_fault (map script_of scripts.now) ≡ None) }
-    ensures refused { IfErr result (λ e. e ≢ PlanFault.OutOfMemory
-        → plan_fault (map script_of scripts.now) ≡ Some e) }
+    ensures refused { IfErr result (IsRefusal (map script_of scripts.now)) }
 {
     if scripts.len() > SCRIPTS as usize {
-        return Err(PlanFault::TooManyScripts);
+        return Err(PlanError::Fault(PlanFault::TooManyScripts));
     }
     if has_double_class(alloc, scripts)? {
-        return Err(PlanFault::DoubleClass);
+        return Err(PlanError::Fault(PlanFault::DoubleClass));
     }
     let rows = tree(alloc, scripts)?;
     let gathered = gather(alloc, &rows)?;
@@ -122,7 +122,7 @@ pub fn build(alloc: Global, scripts: &[Script], settings: &Settings) -> Result<P
 }
 
 /// The keys, locking nodes and locks of nodes.
-fn gather(alloc: Global, rows: &[Row]) -> Result<Gathered, PlanFault>
+fn gather(alloc: Global, rows: &[Row]) -> Result<Gathered, PlanError>
     requires tree { IsTree (map row_of rows.now) }
     requires fits { length rows.now ≤ NODES }
     ensures keys { IfOk result (λ l. l.keys.items ≡ keys (map row_of rows.now)) }
@@ -227,7 +227,8 @@ impl Plan {
     /// nodes take none.
     pub fn locks(&self, node: u32) -> &[Lock]
         requires { node < length self.now.rows }
-        ensures { result.now ≡ locks (tree_of self.now) node }
+        ensures locks { result.now ≡ locks (tree_of self.now) node }
+        ensures known { All (λ l. l.key < length (keys (tree_of self.now))) result.now }
     {
         &self.locks[node as usize]
     }

@@ -1,8 +1,11 @@
-use Rattle.std.proofs.Common.{◌≡◌, ◌<◌, [], ℕ, List, map, length, ap, sym, ◌∙◌, arith}
+use Rattle.std.proofs.Common.{◌≡◌, ◌<◌, [], ℕ, List, map, length, subst, ap, sym, ◌∙◌, arith}
 use Rattle.std.proofs.lemmas.List.{length-map, get_or-map}
+use Rattle.std.specs.List.{All}
 use Rattle.std.specs.declared.alloc.Global.{Global}
 use Rattle.std.specs.declared.vec.Vec.{Vec}
 use Rattle.iso_plan.proofs.Columns.{in-column, within-column}
+use Rattle.iso_plan.proofs.LockLemmas.{locks-known}
+use Rattle.iso_plan.specs.KeyTable.{keys}
 use Rattle.iso_plan.specs.Locks.{locks}
 use Rattle.iso_plan.specs.Paths.{column}
 use Rattle.iso_plan.specs.Planned.{Planned}
@@ -26,8 +29,8 @@ index-requires c =
     let inside = within rows v c.args.node c.self.invariant.taken_are here in
     omega (arith, v.ok.0)
 
-pub returns : goal.returns
-returns c =
+pub returns-clause-locks : goal.returns-clause-locks
+returns-clause-locks c =
     let v = c.self.inside.locks in
     let rows = c.self.inside.rows.items in
     let same : rows ≡ c.args.self.now.rows = ap (λ (p : Planned). p.rows) c.self.view_is in
@@ -36,3 +39,8 @@ returns c =
     c.deref.ensures.value ∙ ap listed c.index.ensures ∙ sym (get_or-map listed v.items c.args.node c.index.result.now [] inside)
     ∙ in-column rows (locks (map row_of rows)) (map listed v.items) c.args.node [] c.self.invariant.taken_are here
     ∙ ap (λ (p : Planned). locks (tree_of p) c.args.node) c.self.view_is
+
+pub returns-clause-known : goal.returns-clause-known
+returns-clause-known c =
+    let tree = tree_of c.args.self.now in
+    subst (All (λ (l : Lock). l.key < length (keys tree))) (sym (returns-clause-locks c)) (locks-known tree c.args.node)
