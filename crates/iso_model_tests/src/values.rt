@@ -14,23 +14,26 @@ use iso_model::text::Text;
 use std::alloc::{AllocError, Global};
 use std::sync::Arc;
 
+/// What `text` gives of a copy of a value.
+fn written(alloc: Global, value: Data) -> Result<Text, AllocError> {
+    value.copy(alloc)?.text(alloc)
+}
+
 #[test]
 fn values_are_written_in_decimal_and_words(rt: HostRuntime) -> Result<(), AllocError> {
     let alloc = rt.alloc();
-    for (value, want) in [
-        (Data::Whole(i64::MIN), "-9223372036854775808"),
-        (Data::Whole(-5), "-5"),
-        (Data::Whole(0), "0"),
-        (
-            Data::Whole(9_223_372_036_854_775_807),
-            "9223372036854775807",
-        ),
-        (Data::Flag(true), "true"),
-        (Data::Flag(false), "false"),
-        (Data::Text(Text::copied(alloc, "a b")?), "a b"),
+    for (number, want) in [
+        (i64::MIN, "-9223372036854775808"),
+        (-5, "-5"),
+        (0, "0"),
+        (i64::MAX, "9223372036854775807"),
     ] {
-        assert_eq!(rt; value.copy(alloc)?.text(alloc)?.as_str(), want);
+        assert_eq!(rt; written(alloc, Data::Whole(number))?.as_str(), want);
     }
+    assert_eq!(rt; written(alloc, Data::Flag(true))?.as_str(), "true");
+    assert_eq!(rt; written(alloc, Data::Flag(false))?.as_str(), "false");
+    let text = Data::Text(Text::copied(alloc, "a b")?);
+    assert_eq!(rt; written(alloc, text)?.as_str(), "a b");
     Ok(())
 }
 
@@ -94,18 +97,30 @@ fn places_name_their_block(rt: HostRuntime) -> Result<(), AllocError> {
     Ok(())
 }
 
+/// A value in a word.
+fn word(value: &Resource) -> &str {
+    match value {
+        Resource::Props(_) => "properties",
+        Resource::Locale(locale) => locale.as_str(),
+        Resource::File(None) => "missing",
+        Resource::File(Some(_)) => "file",
+        Resource::Plain => "lock",
+    }
+}
+
 #[test]
 fn keys_start_at_their_value(rt: HostRuntime) -> Result<(), AllocError> {
     let alloc = rt.alloc();
-    let locale = Key::new(Text::copied(alloc, "java.util.Locale.default")?);
-    match Resource::starting(alloc, &locale)? {
-        Resource::Locale(text) => assert_eq!(rt; text.as_str(), "en"),
-        _ => assert!(rt; false),
+    for (spelling, want) in [
+        ("java.lang.System.properties", "properties"),
+        ("java.util.Locale.default", "en"),
+        ("file:a", "missing"),
+        ("k", "lock"),
+    ] {
+        let key = Key::new(Text::copied(alloc, spelling)?);
+        let value = Resource::starting(alloc, &key)?;
+        assert!(rt; word(&value) == want, "{spelling}");
     }
-    let file = Key::of_file(alloc, "a")?;
-    assert!(rt; matches!(Resource::starting(alloc, &file)?, Resource::File(None)));
-    let plain = Key::new(Text::copied(alloc, "k")?);
-    assert!(rt; matches!(Resource::starting(alloc, &plain)?, Resource::Plain));
     Ok(())
 }
 
@@ -157,32 +172,42 @@ fn mark(alloc: Global, access: Access) -> Result<Mark, AllocError> {
 }
 
 /// A class with this mark alone.
-fn marked_class(alloc: Global, access: Access) -> Result<ClassHead, AllocError> {
-    Ok(ClassHead {
+fn marked_class(alloc: Global, access: Access) -> Result<Arc<ClassHead>, AllocError> {
+    let marks = vec![in alloc; mark(alloc, access)?]?;
+    let class = ClassHead {
         statics: Vec::new(alloc),
         fields: Vec::new(alloc),
-        marks: vec![in alloc; mark(alloc, access)?]?,
+        marks,
         before_all: Vec::new(alloc),
         after_all: Vec::new(alloc),
         before_each: Vec::new(alloc),
         after_each: Vec::new(alloc),
-    })
+    };
+    Ok(Arc::new(alloc, class)?)
+}
+
+/// A test with this mark alone.
+fn marked_test(alloc: Global, access: Access) -> Result<TestHead, AllocError> {
+    let marks = vec![in alloc; mark(alloc, access)?]?;
+    let body = Vec::new(alloc);
+    Ok(TestHead { marks, body })
+}
+
+/// The rights of a test with the one mark in a class with the other.
+fn rights_of(alloc: Global, class: Access, test: Access) -> Result<Rights, AllocError> {
+    let classes = vec![in alloc; marked_class(alloc, class)?]?;
+    let test = marked_test(alloc, test)?;
+    let chain = Chain {
+        classes: &classes,
+        test: Some(&test),
+    };
+    Rights::of(alloc, chain)
 }
 
 #[test]
 fn strongest_mark_of_a_chain_counts(rt: HostRuntime) -> Result<(), AllocError> {
     let alloc = rt.alloc();
-    let class = Arc::new(alloc, marked_class(alloc, Access::Write)?)?;
-    let classes = vec![in alloc; class]?;
-    let test = TestHead {
-        marks: vec![in alloc; mark(alloc, Access::Read)?]?,
-        body: Vec::new(alloc),
-    };
-    let chain = Chain {
-        classes: &classes,
-        test: Some(&test),
-    };
-    let rights = Rights::of(alloc, chain)?;
+    let rights = rights_of(alloc, Access::Write, Access::Read)?;
     assert!(rt; rights.access(&Key::of_file(alloc, "a")?) == Some(Access::Write));
     assert!(rt; rights.access(&Key::of_file(alloc, "b")?).is_none());
     Ok(())
