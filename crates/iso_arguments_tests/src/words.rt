@@ -110,6 +110,7 @@ fn help_and_version_are_shown_in_80_columns(rt: HostRuntime) -> Result<(), Alloc
 }
 
 /// An environment whose second word isn't UTF-8.
+#[derive(Clone, Copy)]
 struct BrokenWord;
 
 impl Env for BrokenWord {
