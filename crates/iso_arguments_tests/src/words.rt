@@ -1,9 +1,10 @@
 //! What words ask for, and what is said of words that ask for nothing.
-use iso_arguments::request::{InputFiles, Request, WordsFault, read_words};
+use iso_arguments::request::{InputFiles, Request, WordsFault, read_words, words_of};
 use std::alloc::{AllocError, Global};
+use std::env::{Env, FillError};
 
 /// A line of words as a list.
-fn words_of(alloc: Global, line: &str) -> Result<Vec<String>, AllocError> {
+fn words_in(alloc: Global, line: &str) -> Result<Vec<String>, AllocError> {
     let mut words = Vec::new(alloc);
     for word in line.split_ascii_whitespace() {
         words.push(String::from_str(alloc, word)?)?;
@@ -27,7 +28,7 @@ fn has_files(
 
 #[test]
 fn no_word_is_a_run_of_standard_input(rt: HostRuntime) -> Result<(), AllocError> {
-    let words = words_of(rt.alloc(), "")?;
+    let words = words_in(rt.alloc(), "")?;
     match read_words(rt.alloc(), &words) {
         Ok(Request::Run { serial, files }) => {
             assert!(rt; !serial);
@@ -40,7 +41,7 @@ fn no_word_is_a_run_of_standard_input(rt: HostRuntime) -> Result<(), AllocError>
 
 #[test]
 fn run_takes_its_options_in_any_order(rt: HostRuntime) -> Result<(), AllocError> {
-    let words = words_of(
+    let words = words_in(
         rt.alloc(),
         "run a.jtap --world w.toml --processors 1024 --serial --settings s.toml",
     )?;
@@ -56,7 +57,7 @@ fn run_takes_its_options_in_any_order(rt: HostRuntime) -> Result<(), AllocError>
 
 #[test]
 fn plan_takes_scripts_in_order(rt: HostRuntime) -> Result<(), AllocError> {
-    let words = words_of(rt.alloc(), "plan --processors=2 a.jtap b.jtap c.jtap")?;
+    let words = words_in(rt.alloc(), "plan --processors=2 a.jtap b.jtap c.jtap")?;
     match read_words(rt.alloc(), &words) {
         Ok(Request::Plan(files)) => {
             assert!(rt; files.scripts.as_slice() == ["a.jtap", "b.jtap", "c.jtap"].as_slice());
@@ -79,7 +80,7 @@ fn other_words_are_refused(rt: HostRuntime) -> Result<(), AllocError> {
         "walk",
         "a.jtap",
     ] {
-        let words = words_of(rt.alloc(), line)?;
+        let words = words_in(rt.alloc(), line)?;
         match read_words(rt.alloc(), &words) {
             Err(WordsFault::Refused(text)) => {
                 assert!(rt; text.starts_with("error: "), "of {line}");
@@ -94,7 +95,7 @@ fn other_words_are_refused(rt: HostRuntime) -> Result<(), AllocError> {
 #[test]
 fn help_and_version_are_shown_in_80_columns(rt: HostRuntime) -> Result<(), AllocError> {
     for line in ["--help", "run --help", "plan --help", "--version"] {
-        let words = words_of(rt.alloc(), line)?;
+        let words = words_in(rt.alloc(), line)?;
         match read_words(rt.alloc(), &words) {
             Ok(Request::Show(text)) => {
                 assert!(rt;
@@ -106,4 +107,42 @@ fn help_and_version_are_shown_in_80_columns(rt: HostRuntime) -> Result<(), Alloc
         }
     }
     Ok(())
+}
+
+/// An environment whose second word isn't UTF-8.
+#[derive(Clone, Copy)]
+struct BrokenWord;
+
+impl Env for BrokenWord {
+    fn arg(&self, i: usize, buf: &mut [u8]) -> Result<usize, FillError> {
+        let word: &[u8] = match i {
+            0 => b"jtap",
+            1 => b"run",
+            2 => b"\xFF",
+            _ => return Err(FillError::NotPresent),
+        };
+        if buf.len() < word.len() {
+            return Err(FillError::TooLong);
+        }
+        buf[..word.len()].copy_from_slice(word);
+        Ok(word.len())
+    }
+
+    fn var(&self, _name: &str, _buf: &mut [u8]) -> Result<usize, FillError> {
+        Err(FillError::NotPresent)
+    }
+
+    fn var_at(&self, _i: usize, _buf: &mut [u8]) -> Result<usize, FillError> {
+        Err(FillError::NotPresent)
+    }
+}
+
+#[test]
+fn word_that_is_not_utf_8_is_wrong(rt: HostRuntime) {
+    match words_of(&(BrokenWord, rt.alloc())) {
+        Err(WordsFault::Refused(text)) => {
+            assert!(rt; text.starts_with("error: a word isn't UTF-8\n"));
+        }
+        _ => panic!(rt; "it is taken"),
+    }
 }

@@ -1,6 +1,6 @@
 //! Scripts of the first part of the language.
+use crate::ran::{Ran, run_words};
 use iso_inputs::inputs::Inputs;
-use iso_run::command::command;
 use iso_run::fault::RunFault;
 use iso_run::run::run_serial;
 use iso_tap::memory::MemorySink;
@@ -8,25 +8,9 @@ use iso_tap::sink::{Sink, SinkFailed};
 use std::alloc::{AllocError, Global};
 use std::test::Fail;
 
-/// What the program does with a script on standard input: its status, and what it writes.
-#[derive(Drop)]
-struct Ran {
-    status: u8,
-    output: MemorySink,
-    errors: MemorySink,
-}
-
 fn run(rt: &HostRuntime, script: &[u8]) -> Ran {
     let mut input = script;
-    let mut output = MemorySink::new(rt.alloc());
-    let mut errors = MemorySink::new(rt.alloc());
-    let words = Vec::new(rt.alloc());
-    let status = command(rt, &words, &mut input, &mut output, &mut errors);
-    Ran {
-        status,
-        output,
-        errors,
-    }
+    run_words(rt, &[], &mut input)
 }
 
 #[test]
@@ -80,19 +64,6 @@ fn refusals_have_a_line_and_a_status(rt: HostRuntime) {
         assert!(rt; ran.errors.bytes() == line.as_bytes(), "of {script}");
         assert!(rt; ran.output.bytes().is_empty(), "of {script}");
     }
-}
-
-#[test]
-fn a_word_is_unexpected(rt: HostRuntime) -> Result<(), Fail> {
-    let words = vec![in rt.alloc(); String::from_str(rt.alloc(), "run")?]?;
-    let mut input = "team shop".as_bytes();
-    let mut output = MemorySink::new(rt.alloc());
-    let mut errors = MemorySink::new(rt.alloc());
-    let status = command(&rt, &words, &mut input, &mut output, &mut errors);
-    assert_eq!(rt; status, 2);
-    assert!(rt; errors.bytes() == "jtap: unexpected word\n".as_bytes());
-    assert!(rt; output.bytes().is_empty());
-    Ok(())
 }
 
 /// A script whose one test has this statement so many times, and then another one.

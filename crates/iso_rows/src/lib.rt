@@ -5,4 +5,8 @@
 #[cfg(test)]
 mod first_part;
 #[cfg(test)]
+mod program;
+#[cfg(test)]
+mod ran;
+#[cfg(test)]
 mod reports;

@@ -1,3 +1,4 @@
 mod Answering
 pub mod FirstPart
+mod Reading
 mod Turns

@@ -5,3 +5,4 @@ pub mod Suites
 pub mod FirstPart
 pub mod Runs
 pub mod Pieces
+pub mod Commands

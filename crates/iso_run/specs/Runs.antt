@@ -41,11 +41,6 @@ pub record Reported (inputs : Inputs) (old new : Account) (ok : Bool) : Type 0 w
   pub wrote : Wrote old new (report (suite_results suite))
   pub tells : ok ≡ all_ok (suite_results suite)
 
--- The report of some suite was written, whole, and this tells whether every top-level point is ok.
-pub record ReportedSome (old new : Account) (ok : Bool) : Type 0 where
-  pub inputs : Inputs
-  pub reported : Reported inputs old new ok
-
 -- The sink failed while a text was written; its first bytes were taken.
 pub record Broken (text : List ℕ) (old new : Account) (written : ℕ) : Type 0 where
   pub took : Took old new (take written text)

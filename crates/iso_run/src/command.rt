@@ -1,132 +1,184 @@
 //! The program, over a reader and two sinks.
-ghost use Rattle.std.specs.Prelude.{◌≡◌, ◌≢◌, ◌≤◌, ◌⊎◌, [], true, false};
-ghost use Rattle.iso_run.specs.Runs.{ReportedSome, status};
-ghost use Rattle.iso_tap.specs.Sinks.{TookNothing};
+ghost use Rattle.std.specs.Prelude.{◌≡◌, ◌≤◌, ◌+◌, [], ◌∷◌, IfSome, IfOk, MatchResult, map, take};
+ghost use Rattle.iso_arguments.specs.Requests.{IsCount};
+ghost use Rattle.iso_model.specs.declared.limits.TheConstants.{FILE_BYTES};
+ghost use Rattle.iso_run.specs.Commands.{Answered, Ended, IsEarly, NotAnswered, RanOn};
 
-use crate::fault::{FAILED, FaultLine, REFUSED, RunFault};
+use crate::command_fault::CommandFault;
+use crate::fault::RunFault;
+use crate::files::{InputBytes, lent, read_files};
 use crate::run::run_serial;
-use iso_inputs::inputs::Inputs;
-use iso_model::limits::FILE_BYTES;
+use iso_arguments::request::{InputFiles, Request, WordsFault, read_words};
+use iso_inputs::inputs::{Inputs, read_inputs};
 use iso_tap::sink::Sink;
-use std::alloc::{AllocError, Global};
+use iso_tap::text::write_text;
+use std::alloc::{AllocGlobal, Global};
+use std::fmt;
+use std::fs::Files;
 use std::io::Read;
 
-/// The status where every top-level point is ok.
+/// The status where every top-level point is ok, and where a plan or help was printed.
 const ALL_OK: u8 = 0;
 /// The status where some top-level point is not ok.
 const NOT_OK: u8 = 1;
 
-/// Why standard input was not read.
-enum ReadFault {
-    Memory,
-    Unreadable,
-}
-
-impl From<AllocError> for ReadFault {
-    fn from(_error: AllocError) -> ReadFault {
-        ReadFault::Memory
-    }
-}
-
-/// Runs the program: reads a script, named `stdin`, from `input`, writes its report to `output`, and
-/// a fault's line to `errors`. Answers the exit status: 0 where every top-level point is ok, 1 where
-/// some is not, 2 for refused input, 3 for want of memory and failed reads and writes.
-/// It takes no words yet. A failed write to `errors` changes nothing.
-pub fn command<G: AllocGlobal, R: Read, W: Sink, E: Sink>(
+/// Runs the program: reads the words, then the files that they name in the order settings, world, scripts, writes a
+/// report, a plan or a help page to `output`, and a fault's line to `errors`. Where no script is named, one is read
+/// from `input`. Answers the exit status: 0 where every top-level point is ok, or a plan or help was printed, 1 where
+/// some top-level point is not ok, 2 for refused input, 3 for want of memory and failed reads and writes. A failed write
+/// to `errors` changes nothing.
+pub fn command<G: AllocGlobal + Files, R: Read, W: Sink, E: Sink>(
     rt: &G,
     words: &[String],
     input: &mut R,
     output: &mut W,
     errors: &mut E,
 ) -> u8
-    ensures status { result ≤ 3 }
-    ensures word { words.now ≢ [] → result ≡ 2 }
-    ensures all_ok { result ≡ 0 → ReportedSome (W.account output.old) (W.account output.new) true }
-    ensures not_ok { result ≡ 1 → ReportedSome (W.account output.old) (W.account output.new) false }
-    ensures refused { result ≡ 2 → TookNothing (W.account output.old) (W.account output.new) }
+    ensures ended { Ended result (W.account output.old) (W.account output.new) }
+    // Without words, what was run is the script on the input.
+    ensures no_word { words.now ≡ [] → IfSome (R.remaining input.old) (λ bytes. result ≤ 1
+        → RanOn (take (FILE_BYTES + 1) bytes ∷ []) [] [] 1 (W.account output.old) (W.account output.new) result) }
 {
-    if !words.is_empty() {
-        say(errors, "jtap: unexpected word\n");
-        return REFUSED;
-    }
-    let script = match read_input(rt.alloc(), input) {
-        Ok(script) => script,
-        Err(ReadFault::Memory) => return out_of_memory(errors),
-        Err(ReadFault::Unreadable) => {
-            say(errors, "jtap: stdin: cannot be read\n");
-            return FAILED;
+    match answer(rt, words, input, output) {
+        Ok(status) => status,
+        Err(fault) => {
+            let status = fault.status();
+            say(errors, &fault);
+            status
         }
-    };
+    }
+}
+
+/// Says that memory ran out before the program began, or that a word is wrong, and answers the status.
+pub fn refuse_words<E: Sink>(fault: WordsFault, errors: &mut E) -> u8
+    ensures { 2 ≤ result }
+{
+    let fault = CommandFault::from(fault);
+    say(errors, &fault);
+    fault.status()
+}
+
+/// Does what the words ask for, and answers the status, 0 or 1.
+fn answer<'a, G: AllocGlobal + Files, R: Read, W: Sink>(
+    rt: &G,
+    words: &'a [String],
+    input: &mut R,
+    output: &mut W,
+) -> Result<u8, CommandFault<'a>>
+    ensures ended { MatchResult result
+        (λ s. Answered s (W.account output.old) (W.account output.new))
+        (λ f. NotAnswered f (W.account output.old) (W.account output.new)) }
+    ensures no_word { words.now ≡ [] → IfSome (R.remaining input.old) (λ bytes. IfOk result
+        (RanOn (take (FILE_BYTES + 1) bytes ∷ []) [] [] 1 (W.account output.old) (W.account output.new))) }
+{
+    match read_words(rt.alloc(), words)? {
+        Request::Show(text) => show(text.as_str(), output),
+        Request::Plan(files) => {
+            let bytes = read_files(rt, &files, input)?;
+            plan(rt.alloc(), &bytes, &files)
+        }
+        Request::Run { serial: _, files } => {
+            let bytes = read_files(rt, &files, input)?;
+            run(rt.alloc(), &bytes, &files, output)
+        }
+    }
+}
+
+/// Writes a text.
+fn show<W: Sink>(text: &str, output: &mut W) -> Result<u8, CommandFault<'static>>
+    ensures { MatchResult result
+        (λ s. Answered s (W.account output.old) (W.account output.new))
+        (λ f. NotAnswered f (W.account output.old) (W.account output.new)) }
+{
+    if write_text(text, output).is_err() || output.flush().is_err() {
+        return Err(CommandFault::Unwritten);
+    }
+    Ok(ALL_OK)
+}
+
+/// Runs a suite, and writes its report.
+fn run<'a, W: Sink>(
+    alloc: Global,
+    bytes: &InputBytes,
+    files: &InputFiles<'a>,
+    output: &mut W,
+) -> Result<u8, CommandFault<'a>>
+    requires { IsCount files.now.processors }
+    ensures { MatchResult result
+        (RanOn (map (λ v. v.items) bytes.now.scripts.items) bytes.now.settings.items bytes.now.world.items
+        files.now.processors (W.account output.old) (W.account output.new))
+        (λ f. NotAnswered f (W.account output.old) (W.account output.new)) }
+{
+    let scripts = lent(alloc, &bytes.scripts)?;
     let inputs = Inputs {
-        scripts: &[script.as_slice()],
-        settings: &[],
-        world: &[],
-        processors: 1,
+        scripts: &scripts,
+        settings: &bytes.settings,
+        world: &bytes.world,
+        processors: files.processors,
     };
-    match run_serial(rt.alloc(), inputs, output) {
-        Ok(summary) if summary.all_ok => ALL_OK,
-        Ok(_) => NOT_OK,
-        Err(fault) => refuse(rt.alloc(), &fault, errors),
+    match run_serial(alloc, inputs, output) {
+        Ok(summary) => {
+            if output.flush().is_err() {
+                return Err(CommandFault::Unwritten);
+            }
+            Ok(if summary.all_ok { ALL_OK } else { NOT_OK })
+        }
+        Err(fault) => {
+            let name = script_name(&fault, files);
+            Err(CommandFault::Run(fault, name))
+        }
     }
 }
 
-/// Reads standard input, at most one byte past the limit of a script.
-fn read_input<R: Read>(alloc: Global, input: &mut R) -> Result<Vec<u8>, ReadFault> {
-    let mut bytes = Vec::new(alloc);
-    let mut chunk = [0u8; 4096];
-    for _ in 0..=FILE_BYTES {
-        if bytes.len() > FILE_BYTES as usize {
-            break;
-        }
-        let room = (FILE_BYTES as usize + 1 - bytes.len()).min(chunk.len());
-        let Ok(count) = input.read(&mut chunk[..room]) else {
-            return Err(ReadFault::Unreadable);
-        };
-        if count == 0 {
-            break;
-        }
-        bytes.extend_from_slice(&chunk[..count])?;
+/// Reads what a plan is made of. It is not printed yet.
+fn plan<'a>(
+    alloc: Global,
+    bytes: &InputBytes,
+    files: &InputFiles<'a>,
+) -> Result<u8, CommandFault<'a>>
+    requires { IsCount files.now.processors }
+    ensures { MatchResult result (λ s. ⊥) IsEarly }
+{
+    let scripts = lent(alloc, &bytes.scripts)?;
+    let inputs = Inputs {
+        scripts: &scripts,
+        settings: &bytes.settings,
+        world: &bytes.world,
+        processors: files.processors,
+    };
+    let fault = match read_inputs(alloc, inputs) {
+        Ok(_) => RunFault::NotYet,
+        Err(error) => RunFault::from(error),
+    };
+    let name = script_name(&fault, files);
+    Err(CommandFault::Run(fault, name))
+}
+
+/// The name of the script that a fault is of: `stdin` where no script is named.
+fn script_name<'a>(fault: &RunFault, files: &InputFiles<'a>) -> &'a str {
+    match fault {
+        RunFault::Script(index, _) => files.scripts.get(*index).copied().unwrap_or("stdin"),
+        _ => "",
     }
-    Ok(bytes)
-}
-
-/// Writes a fault's line, and answers its status.
-fn refuse<E: Sink>(alloc: Global, fault: &RunFault, errors: &mut E) -> u8
-    ensures { (result ≡ status fault.now) ⊎ (result ≡ 3) }
-{
-    let line = FaultLine { fault, names: &[] };
-    match format!(in alloc; "{line}\n") {
-        Ok(line) => {
-            say(errors, line.as_str());
-            fault.status()
-        }
-        Err(_) => out_of_memory(errors),
-    }
-}
-
-/// Writes the line of memory that ran out, and answers its status, 3.
-pub fn out_of_memory<E: Sink>(errors: &mut E) -> u8
-    ensures { result ≡ 3 }
-{
-    say(errors, "jtap: out of memory\n");
-    FAILED
-}
-
-/// Writes the line of a failed write or flush, and answers its status, 3.
-pub fn write_failed<E: Sink>(errors: &mut E) -> u8
-    ensures { result ≡ 3 }
-{
-    say(errors, "jtap: write failed\n");
-    FAILED
 }
 
 /// Writes a line as far as the sink takes it.
-fn say<E: Sink>(errors: &mut E, line: &str) {
-    let mut rest = line.as_bytes();
-    while !rest.is_empty() {
-        match errors.write(rest) {
-            Ok(count) if count > 0 => rest = &rest[count..],
-            _ => return,
+fn say<E: Sink>(errors: &mut E, fault: &CommandFault<'_>) {
+    let mut lines = Lines { errors };
+    let _ = fmt::Write::writeln(&mut lines, fault);
+}
+
+/// Lines of text to a sink. What is left of a line is let go where the sink fails.
+#[derive(Drop)]
+struct Lines<'a, E: Sink> {
+    errors: &'a mut E,
+}
+
+impl<E: Sink> fmt::Write for Lines<'_, E> {
+    fn write_str(&mut self, text: &str) -> fmt::Result {
+        match write_text(text, &mut *self.errors) {
+            Ok(()) => Ok(()),
+            Err(_) => Err(fmt::Error),
         }
     }
 }

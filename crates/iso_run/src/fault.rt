@@ -59,27 +59,30 @@ impl From<InputError> for RunFault {
     }
 }
 
-/// A fault as the line that the program writes of it, without its line feed. Scripts have these names; where there is
-/// none, the script came from standard input.
+/// The line of a failed write or flush, without its line feed.
+pub(crate) const WRITE_FAILED: &str = "jtap: write failed";
+
+/// A fault as the line that the program writes of it, without its line feed. The name is that of the script, where the
+/// fault is of one.
 #[derive(Clone, Copy)]
 pub struct FaultLine<'a> {
     pub fault: &'a RunFault,
-    pub names: &'a [&'a str],
+    pub name: &'a str,
 }
 
 impl fmt::Display for FaultLine<'_> {
     fn fmt<W: fmt::Write>(&self, f: &mut fmt::Formatter<W>) -> fmt::Result {
+        let name = self.name;
         match self.fault {
             RunFault::NotYet => f.write_str("jtap: not yet"),
             RunFault::Settings(fault) => write!(f, "jtap: settings: {fault}"),
             RunFault::World(fault) => write!(f, "jtap: world: {fault}"),
-            RunFault::Script(index, ScriptFault { kind, line, column }) => {
-                let name = self.names.get(*index).copied().unwrap_or("stdin");
+            RunFault::Script(_, ScriptFault { kind, line, column }) => {
                 write!(f, "jtap: {name}:{line}:{column}: {kind:?}")
             }
             RunFault::Plan(fault) => write!(f, "jtap: plan: {fault:?}"),
             RunFault::Memory => f.write_str("jtap: out of memory"),
-            RunFault::Write(_) => f.write_str("jtap: write failed"),
+            RunFault::Write(_) => f.write_str(WRITE_FAILED),
         }
     }
 }

@@ -2,7 +2,9 @@
 #![tactic(auto)]
 
 pub mod command;
+mod command_fault;
 pub mod fault;
+mod files;
 mod first_part;
 pub mod report;
 pub mod results;

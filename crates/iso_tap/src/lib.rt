@@ -7,3 +7,4 @@ pub mod memory;
 pub mod output;
 mod printer;
 pub mod sink;
+pub mod text;

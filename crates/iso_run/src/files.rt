@@ -1,0 +1,137 @@
+//! The files that a command is made of.
+ghost use Rattle.std.specs.Prelude.{◌≡◌, ◌+◌, [], ◌∷◌, IfErr, IfOk, IfSome, None, map, take};
+ghost use Rattle.iso_model.specs.declared.limits.TheConstants.{FILE_BYTES};
+ghost use Rattle.iso_inputs.specs.Suites.{texts};
+ghost use Rattle.iso_run.specs.Commands.{IsEarly};
+
+use crate::command_fault::CommandFault;
+use crate::fault::RunFault;
+use iso_arguments::request::InputFiles;
+use iso_model::limits::FILE_BYTES;
+use std::alloc::{AllocGlobal, Global};
+use std::fs::{File, Files};
+use std::io::{self, Read};
+
+/// The bytes of the files that a command is made of.
+#[derive(Drop)]
+pub(crate) struct InputBytes {
+    pub scripts: Vec<Vec<u8>>,
+    pub settings: Vec<u8>,
+    pub world: Vec<u8>,
+}
+
+/// Reads the settings, the world, and the scripts in turn, or a script from standard input where none is named.
+/// Settings or a world that isn't named counts as an empty file.
+pub(crate) fn read_files<'a, G: AllocGlobal + Files, R: Read>(
+    rt: &G,
+    files: &InputFiles<'a>,
+    input: &mut R,
+) -> Result<InputBytes, CommandFault<'a>>
+    ensures early { IfErr result IsEarly }
+    ensures settings { files.now.settings ≡ None → IfOk result (λ b. b.settings.items ≡ []) }
+    ensures world { files.now.world ≡ None → IfOk result (λ b. b.world.items ≡ []) }
+    ensures scripts { files.now.scripts.items ≡ [] → IfSome (R.remaining input.old) (λ bytes.
+        IfOk result (λ b. map (λ v. v.items) b.scripts.items ≡ take (FILE_BYTES + 1) bytes ∷ [])) }
+{
+    let settings = read_document(rt, files.settings)?;
+    let world = read_document(rt, files.world)?;
+    let scripts = read_scripts(rt, &files.scripts, input)?;
+    Ok(InputBytes {
+        scripts,
+        settings,
+        world,
+    })
+}
+
+/// Reads settings or a world.
+fn read_document<'a, G: AllocGlobal + Files>(
+    rt: &G,
+    name: Option<&'a str>,
+) -> Result<Vec<u8>, CommandFault<'a>>
+    ensures early { IfErr result IsEarly }
+    ensures unnamed { name.entry ≡ None → IfOk result (λ bytes. bytes.items ≡ []) }
+{
+    let Some(name) = name else {
+        return Ok(Vec::new(rt.alloc()));
+    };
+    let bytes = read_file(rt, name)?;
+    if bytes.len() > FILE_BYTES as usize {
+        return Err(CommandFault::TooLarge(name));
+    }
+    Ok(bytes)
+}
+
+/// Reads the scripts of these names, or one from standard input where there is none.
+fn read_scripts<'a, G: AllocGlobal + Files, R: Read>(
+    rt: &G,
+    names: &[&'a str],
+    input: &mut R,
+) -> Result<Vec<Vec<u8>>, CommandFault<'a>>
+    ensures early { IfErr result IsEarly }
+    ensures standard_input { names.now ≡ [] → IfSome (R.remaining input.old) (λ bytes.
+        IfOk result (λ scripts. map (λ v. v.items) scripts.items ≡ take (FILE_BYTES + 1) bytes ∷ [])) }
+{
+    let mut scripts = Vec::new(rt.alloc());
+    if names.is_empty() {
+        scripts.push(read_limited(rt.alloc(), input, "stdin")?)?;
+        return Ok(scripts);
+    }
+    for name in names {
+        scripts.push(read_file(rt, name)?)?;
+    }
+    Ok(scripts)
+}
+
+/// Reads a file.
+fn read_file<'a, G: AllocGlobal + Files>(rt: &G, name: &'a str) -> Result<Vec<u8>, CommandFault<'a>>
+    ensures early { IfErr result IsEarly }
+{
+    match File::open(rt, name) {
+        Ok(mut file) => read_limited(rt.alloc(), &mut file, name),
+        Err(error) => Err(unread(&error, name)),
+    }
+}
+
+/// Reads what a reader has left, at most one byte past the limit of an input file.
+fn read_limited<'a, R: Read>(
+    alloc: Global,
+    reader: &mut R,
+    name: &'a str,
+) -> Result<Vec<u8>, CommandFault<'a>>
+    ensures early { IfErr result IsEarly }
+    ensures bytes { IfSome (R.remaining reader.old) (λ bytes.
+        IfOk result (λ read. read.items ≡ take (FILE_BYTES + 1) bytes)) }
+{
+    let mut bytes = Vec::new(alloc);
+    let mut limited = reader.take(u64::from(FILE_BYTES) + 1);
+    match limited.read_to_end(&mut bytes) {
+        Ok(_) => Ok(bytes),
+        Err(error) => Err(unread(&error, name)),
+    }
+}
+
+/// Why a file was not read.
+fn unread<'a>(error: &io::Error, name: &'a str) -> CommandFault<'a>
+    ensures { IsEarly result }
+{
+    if error.kind() == io::ErrorKind::OutOfMemory {
+        CommandFault::Run(RunFault::Memory, "")
+    } else {
+        CommandFault::Unreadable(name)
+    }
+}
+
+/// The bytes of scripts, lent.
+pub(crate) fn lent<'a>(
+    alloc: Global,
+    scripts: &'a [Vec<u8>],
+) -> Result<Vec<&'a [u8]>, CommandFault<'static>>
+    ensures early { IfErr result IsEarly }
+    ensures bytes { IfOk result (λ lent. texts lent.items ≡ map (λ v. v.items) scripts.now) }
+{
+    let mut lent = Vec::new(alloc);
+    for script in scripts {
+        lent.push(script.as_slice())?;
+    }
+    Ok(lent)
+}
