@@ -1,6 +1,8 @@
 -- The class chain of a node: the heads of the classes on its path, and a test's own head.
 use Rattle.std.specs.Prelude.{ℕ, List, [], ◌∷◌, ◌++◌, Option, Some, None}
-use Rattle.iso_model.specs.Chains.{ClassHead, TestHead}
+use Rattle.iso_model.specs.Chains.{ClassHead, TestHead, marks_of}
+use Rattle.iso_model.specs.Rights.{Rights, rights_of}
+use Rattle.iso_model.specs.declared.heads.Mark.{Mark}
 use Rattle.iso_plan.specs.Tree.{Kind, root, class_node, test_node, Row}
 use Rattle.iso_plan.specs.Paths.{row_at, path}
 
@@ -28,3 +30,12 @@ chain_classes tree n = heads_on tree (path tree n)
 -- the test head of a node's chain, if it is a test
 abbrev pub chain_test : List Row → ℕ → Option TestHead
 chain_test tree n = own_test (row_at tree n).kind
+
+-- the marks of a test, if there is one, and of classes
+abbrev pub marks_with : Option TestHead → List ClassHead → List Mark
+marks_with None cs = marks_of cs
+marks_with (Some t) cs = t.marks ++ marks_of cs
+
+-- the access rights of a node: those of its class chain
+abbrev pub node_rights : List Row → ℕ → Rights
+node_rights tree n = rights_of (marks_with (chain_test tree n) (chain_classes tree n))
