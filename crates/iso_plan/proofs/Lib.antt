@@ -1,6 +1,7 @@
 pub mod Columns
 pub mod Growth
 pub mod KeyLemmas
+pub mod LawLemmas
 pub mod LockLemmas
 pub mod ModeLemmas
 pub mod PathLemmas

@@ -1,5 +1,5 @@
 -- Laws of top-level classes, and of those that hold an isolated class.
-use Rattle.std.proofs.Common.{◌≡◌, ℕ, zero, suc, ◌<◌, ◌≤◌, List, ◌∷◌, Option, Some, None, Bool, true, false, ◌||◌, ◌&&◌, refl, sym, ap, ap₂, ◌∙◌, arith}
+use Rattle.std.proofs.Common.{◌≡◌, ℕ, zero, suc, ◌<◌, ◌≤◌, List, [], ◌∷◌, Option, Some, None, Bool, true, false, ◌||◌, ◌&&◌, refl, sym, ap, ap₂, ◌∙◌, arith}
 use Rattle.std.specs.Option.{option_or}
 use Rattle.iso_plan.proofs.PathLemmas.{IsBelow, along, path-root, path-step, under-outermost, under-le, outermost-own}
 use Rattle.iso_plan.proofs.LockLemmas.{that-is, that-self}
@@ -15,20 +15,23 @@ root-is : (n : ℕ) → is_root n ≡ true → n ≡ 0
 root-is zero h = refl
 root-is (suc n) h = absurd (cc)
 
+pub own-path : (tree : List Row) → IsBelow tree → (m : ℕ) → is_top tree m ≡ true → path tree m ≡ m ∷ []
+own-path tree b zero h = absurd (cc)
+own-path tree b (suc m) h =
+    let up : parent tree (suc m) ≡ 0 = root-is (parent tree (suc m)) h in
+    path-step tree b (suc m) (omega arith) ∙ ap (λ p. suc m ∷ path tree p) up ∙ ap (λ (ns : List ℕ). suc m ∷ ns) (path-root tree)
+
 -- a top-level class stands in itself
 pub top-own : (tree : List Row) → IsBelow tree → (m : ℕ) → is_top tree m ≡ true → top tree m ≡ Some m
-top-own tree b zero h = absurd (cc)
-top-own tree b (suc m) h =
-    let up : parent tree (suc m) ≡ 0 = root-is (parent tree (suc m)) h in
-    ap (outermost (λ n. true)) (path-step tree b (suc m) (omega arith) ∙ ap (λ p. suc m ∷ path tree p) up ∙ ap (λ (ns : List ℕ). suc m ∷ ns) (path-root tree))
+top-own tree b m h = ap (outermost (λ n. true)) (own-path tree b m h)
 
 or_some : (o : Option ℕ) (n : ℕ) → option_or o (Some n) ≡ None → ⊥
 or_some None n h = let no : Some n ≡ None = h in absurd (cc)
 or_some (Some j) n h = let no : Some j ≡ None = h in absurd (cc)
 
-no_top : (tree : List Row) → IsBelow tree → (p : ℕ) → top tree p ≡ None → p ≡ 0
-no_top tree b zero h = refl
-no_top tree b (suc p) h =
+pub no-top : (tree : List Row) → IsBelow tree → (p : ℕ) → top tree p ≡ None → p ≡ 0
+no-top tree b zero h = refl
+no-top tree b (suc p) h =
     absurd (or_some (top tree (parent tree (suc p))) (suc p) (sym (ap (outermost (λ n. true)) (path-step tree b (suc p) (omega arith))) ∙ h))
 
 under_root : (tree : List Row) (n : ℕ) → 0 < n → parent tree n ≡ 0 → is_top tree n ≡ true
@@ -39,7 +42,7 @@ top_by : (tree : List Row) → IsBelow tree → (n t : ℕ) → 0 < n → (o : O
 top_by tree b n t pos (Some j) e ih h = ih h
 top_by tree b n t pos None e ih h =
     let same : n ≡ t = let whole : Some n ≡ Some t = h in cc in
-    ap (is_top tree) (sym same) ∙ under_root tree n pos (no_top tree b (parent tree n) (sym e))
+    ap (is_top tree) (sym same) ∙ under_root tree n pos (no-top tree b (parent tree n) (sym e))
 
 -- the outermost node of a path is a top-level class
 pub top-is : (tree : List Row) → IsBelow tree → (n t : ℕ) → top tree n ≡ Some t → is_top tree t ≡ true

@@ -1,3 +1,4 @@
+pub mod Covers
 pub mod Examples
 pub mod Faults
 pub mod IsPlan

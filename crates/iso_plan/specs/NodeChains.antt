@@ -1,6 +1,5 @@
 -- The class chain of a node: the heads of the classes on its path, and a test's own head.
 use Rattle.std.specs.Prelude.{ℕ, List, [], ◌∷◌, ◌++◌, Option, Some, None}
-use Rattle.std.specs.Option.{option_map}
 use Rattle.iso_model.specs.Chains.{ClassHead, TestHead, class_rights, test_rights}
 use Rattle.iso_model.specs.Rights.{Rights}
 use Rattle.iso_plan.specs.Tree.{Kind, root, class_node, test_node, Row}
