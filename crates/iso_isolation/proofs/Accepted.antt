@@ -96,7 +96,7 @@ module _ {H K V B F R : Type 0} (l : Language H K V B F R) (x : Suite H K V) (wo
   pub body_found : (w : ℕ) (h : HasBody w) → body_of l x workers s w ≡ Some h.body
   body_found w h = ap body_by h.busy ∙ h.here
 
-  has_body : (w : ℕ) → not (is_some (body_of l x workers s w)) ≡ false → HasBody w
+  pub has_body : (w : ℕ) → not (is_some (body_of l x workers s w)) ≡ false → HasBody w
   has_body w e = has_body_by w (s.busy w) refl (is_true (is_some (body_of l x workers s w)) e)
 
   -- an accepted Enter

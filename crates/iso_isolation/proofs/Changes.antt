@@ -53,3 +53,19 @@ none_below (suc n) test e m lt =
       | inl here ↦ ap test here ∙ fails (test n) n parts.1
       | inr ne ↦ none_below n test parts.0 m (omega arith)
     ]
+
+passes : (b : Bool) (n m : ℕ) → cond b (Some n) None ≡ Some m → (b ≡ true) × (n ≡ m)
+passes true n m e = (refl, cc)
+passes false n m e = absurd cc
+
+some_by : (o q : Option ℕ) (m : ℕ) → option_or o q ≡ Some m → (o ≡ Some m) ⊎ (q ≡ Some m)
+some_by (Some a) q m e = inl e
+some_by None q m e = inr e
+
+-- the lowest number that passes a test passes it
+pub some_below : (n : ℕ) (test : ℕ → Bool) (m : ℕ) → lowest_below n test ≡ Some m → test m ≡ true
+some_below zero test m e = absurd cc
+some_below (suc n) test m e = elim (some_by (lowest_below n test) (cond (test n) (Some n) None) m e) [
+  | inl lower ↦ some_below n test m lower
+  | inr here ↦ let p = passes (test n) n m here in ap test (sym p.1) ∙ p.0
+]

@@ -1,6 +1,6 @@
 -- Enter keeps the invariant: the node's body begins on what its parent's opening left.
 use Rattle.std.proofs.Common.{◌≡◌, ℕ, Some, List, true, false, inl, inr, refl, sym, ap, ◌∙◌}
-use Rattle.iso_isolation.specs.Languages.{Content, Language, BodyLaws}
+use Rattle.iso_isolation.specs.Languages.{Content, Language, BodyLaws, Alike}
 use Rattle.iso_isolation.specs.Suites.{Suite, chain, may_read, may_write, SuiteLaws}
 use Rattle.iso_isolation.specs.States as S
 use Rattle.iso_isolation.specs.States.{Status, Nodes, put, is_open, is_barred, is_closing, is_at_rest, is_held, body_in, frames_in, result_in}
@@ -10,7 +10,7 @@ use Rattle.iso_isolation.proofs.Statuses.{open_rests, open_is}
 use Rattle.iso_isolation.proofs.Locks.{Locked, on_split, strictly_above, isolated}
 use Rattle.iso_isolation.proofs.LockEvents.{MayEnter, enter_locked}
 use Rattle.iso_isolation.proofs.Openings.{opening_at, defined}
-use Rattle.iso_isolation.proofs.Invariant.{Reached, Kept}
+use Rattle.iso_isolation.proofs.Invariant.{source, Reached, Kept}
 
 module _ {H K V B F R : Type 0} (l : Language H K V B F R) (x : Suite H K V) (plan : SuiteLaws l x) (laws : BodyLaws l)
     (s : Nodes K V B F R) (kept : Kept l x s) (n : ℕ) (may : MayEnter x s.status n) where
@@ -45,29 +45,32 @@ module _ {H K V B F R : Type 0} (l : Language H K V B F R) (x : Suite H K V) (pl
             absurd cc
       ])
 
-  pub keeps_enter : Kept l x (entering l x n s)
-  keeps_enter =
+  -- its body stands at its beginning
+  pub begins : (c : B) → Some (l.begin (chain x n) fs) ≡ Some c → Alike l (chain x n) (record { body = c; content = s.flat }) (source l x n false)
+  begins c e =
       let frames : (opening_at l x (x.parent n)).frames ≡ fs = kept.told (x.parent n) fs (ap frames_in (open_is (s.status (x.parent n)) may.parent)) in
-      record {
-        locked = now_locked;
-        told = λ c. on_put (λ (j : ℕ) (v : Status B F R). (gs : List F) → frames_in v ≡ Some gs → (opening_at l x j).frames ≡ gs) n begun s.status c (λ gs e. absurd cc) (λ ne. kept.told c);
-        well = λ c. on_put (λ (j : ℕ) (v : Status B F R). is_open v ≡ true → (opening_at l x j).well ≡ true) n begun s.status c (λ e. absurd cc) (λ ne. kept.well c);
-        ill = λ c. on_put (λ (j : ℕ) (v : Status B F R). is_barred v ≡ true → (opening_at l x j).well ≡ false) n begun s.status c (λ e. absurd cc) (λ ne. kept.ill c);
-        rest = λ c k r premise.
-            let was : is_at_rest (s.status c) ≡ true = on_put (λ (j : ℕ) (v : Status B F R). is_at_rest v ≡ true → is_at_rest (s.status j) ≡ true) n begun s.status c (λ e. absurd cc) (λ ne e. e) r in
-            kept.rest c k was (λ d h w. premise d (still_held d h) w);
-        saved = λ m k nz h w. elim (equal_or_not m n) [
-          | inl e ↦
-              let wn : may_write l x n k ≡ true = ap (λ (j : ℕ). may_write l x j k) (sym e) ∙ w in
-              ap (λ (j : ℕ). put n s.flat s.saved j k) e ∙ ap (λ (f : Content K V). f k) (put_here n s.flat s.saved) ∙ fresh k (laws.rights.write_reads (chain x n) k wn)
-              ∙ ap (λ (j : ℕ). (opening_at l x (x.parent j)).content k) (sym e)
-          | inr ne ↦ ap (λ (f : Content K V). f k) (put_elsewhere m n s.flat s.saved ne) ∙ kept.saved m k nz (sym (ap is_held (put_elsewhere m n begun s.status ne)) ∙ h) w
-        ];
-        going = λ m. on_put (λ (j : ℕ) (v : Status B F R). (c : B) → body_in v ≡ Some c → Reached l x j c s.flat v) n begun s.status m
-            (λ c e.
-            let e2 : l.begin (chain x n) (opening_at l x (x.parent n)).frames ≡ c = ap (l.begin (chain x n)) frames ∙ cc in
-            record { steps = 0; alone = record { body = sym e2; at = fresh } })
-            (λ ne. kept.going m);
-        class = λ m. on_put (λ (j : ℕ) (v : Status B F R). is_closing v ≡ true → l.is_test (x.head j) ≡ false) n begun s.status m (λ e. absurd cc) (λ ne. kept.class m);
-        done = λ m. on_put (λ (j : ℕ) (v : Status B F R). (r : R) → (j ≡ 0 → ⊥) → result_in v ≡ Some r → r ≡ defined l x j) n begun s.status m (λ r nz e. absurd cc) (λ ne. kept.done m);
-      }
+      let first : l.begin (chain x n) (opening_at l x (x.parent n)).frames ≡ c = ap (l.begin (chain x n)) frames ∙ cc in
+      record { body = sym first; at = fresh }
+
+  pub keeps_enter : Kept l x (entering l x n s)
+  keeps_enter = record {
+    locked = now_locked;
+    told = λ c. on_put (λ (j : ℕ) (v : Status B F R). (gs : List F) → frames_in v ≡ Some gs → (opening_at l x j).frames ≡ gs) n begun s.status c (λ gs e. absurd cc) (λ ne. kept.told c);
+    well = λ c. on_put (λ (j : ℕ) (v : Status B F R). is_open v ≡ true → (opening_at l x j).well ≡ true) n begun s.status c (λ e. absurd cc) (λ ne. kept.well c);
+    ill = λ c. on_put (λ (j : ℕ) (v : Status B F R). is_barred v ≡ true → (opening_at l x j).well ≡ false) n begun s.status c (λ e. absurd cc) (λ ne. kept.ill c);
+    rest = λ c k r premise.
+        let was : is_at_rest (s.status c) ≡ true = on_put (λ (j : ℕ) (v : Status B F R). is_at_rest v ≡ true → is_at_rest (s.status j) ≡ true) n begun s.status c (λ e. absurd cc) (λ ne e. e) r in
+        kept.rest c k was (λ d h w. premise d (still_held d h) w);
+    saved = λ m k nz h w. elim (equal_or_not m n) [
+      | inl e ↦
+          let wn : may_write l x n k ≡ true = ap (λ (j : ℕ). may_write l x j k) (sym e) ∙ w in
+          ap (λ (j : ℕ). put n s.flat s.saved j k) e ∙ ap (λ (f : Content K V). f k) (put_here n s.flat s.saved) ∙ fresh k (laws.rights.write_reads (chain x n) k wn)
+          ∙ ap (λ (j : ℕ). (opening_at l x (x.parent j)).content k) (sym e)
+      | inr ne ↦ ap (λ (f : Content K V). f k) (put_elsewhere m n s.flat s.saved ne) ∙ kept.saved m k nz (sym (ap is_held (put_elsewhere m n begun s.status ne)) ∙ h) w
+    ];
+    going = λ m. on_put (λ (j : ℕ) (v : Status B F R). (c : B) → body_in v ≡ Some c → Reached l x j c s.flat v) n begun s.status m
+        (λ c e. record { steps = 0; alone = begins c e })
+        (λ ne. kept.going m);
+    class = λ m. on_put (λ (j : ℕ) (v : Status B F R). is_closing v ≡ true → l.is_test (x.head j) ≡ false) n begun s.status m (λ e. absurd cc) (λ ne. kept.class m);
+    done = λ m. on_put (λ (j : ℕ) (v : Status B F R). (r : R) → (j ≡ 0 → ⊥) → result_in v ≡ Some r → r ≡ defined l x j) n begun s.status m (λ r nz e. absurd cc) (λ ne. kept.done m);
+  }

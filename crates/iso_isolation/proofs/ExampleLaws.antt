@@ -6,6 +6,7 @@ use Rattle.std.specs.Option.{option_map}
 use Rattle.iso_isolation.specs.Languages.{Content, Agree, Alike, RightsLaws, BodyLaws}
 use Rattle.iso_isolation.specs.Suites.{On, same, up, Shared, Covered, may_read, SuiteLaws}
 use Rattle.iso_isolation.specs.Examples.{Head, declared, looks_at, Counter, counter, turn, turns, turns_left, is_zero, counting, row_at, up_from, is_key, equal_keys, shop}
+use Rattle.iso_isolation.specs.Histories.{EndLaws}
 use Rattle.iso_isolation.proofs.Bodies.{alike_by}
 use Rattle.iso_isolation.proofs.Locks.{on_split}
 
@@ -123,6 +124,10 @@ first_of_two : (a b : Bool) → (a && b) ≡ true → a ≡ true
 first_of_two true b e = refl
 first_of_two false b e = absurd cc
 
+second_of_two : (a b : Bool) → (a && b) ≡ true → b ≡ true
+second_of_two true b e = e
+second_of_two false b e = absurd cc
+
 one_writes : (a b c : Bool) → a ≡ true → (b ≡ true) ⊎ (c ≡ true) → (a && (b || c)) ≡ true
 one_writes true true c e w = refl
 one_writes true false true e w = refl
@@ -196,4 +201,17 @@ forced m n k w = each (λ n. On shop m n → (m ≡ n → ⊥) → shop.is_same_
     (λ n on ne. refl) n
 
 pub shop_laws : SuiteLaws counting shop
-shop_laws = record { root = refl; path = path_of; below = below; conflicts = meet; covered = covered; forced = forced }
+shop_laws = record { root = refl; path = path_of; below = below; write_takes = λ n k w. second_of_two (row_at n).is_writer (is_key (row_at n).lock k) w; conflicts = meet; covered = covered; forced = forced }
+
+nearer : (hs : List Head) (b : Counter) (m : Content ℕ ℕ) → is_zero (turns_left b) ≡ false → turns_left (turn hs b m).body < turns_left b
+nearer hs (counter zero key seen w) m e = absurd cc
+nearer hs (counter (suc n) key seen w) m e = omega arith
+
+pub counting_ends : EndLaws counting
+counting_ends = record {
+  is_ready = λ b. true;
+  begins = λ hs fs. refl;
+  begins_closing = λ hs fs. refl;
+  steps = λ hs b m r. refl;
+  nearer = λ hs b m r e. nearer hs b m e;
+}

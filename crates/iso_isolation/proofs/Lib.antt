@@ -14,4 +14,10 @@ pub mod Barred
 pub mod Accepted
 pub mod Runs
 pub mod Rights
+pub mod Lists
+pub mod Stages
+pub mod Keys
+pub mod Fresh
+pub mod Counts
+pub mod Going
 pub mod ExampleLaws

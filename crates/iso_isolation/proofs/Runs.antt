@@ -69,7 +69,7 @@ module _ {H K V B F R : Type 0} (l : Language H K V B F R) (x : Suite H K V) (pl
 
   module _ (workers : ℕ) (s : State K V B F R) (kept : Kept l x s.nodes) where
     -- nothing in a class that may be shut is entered
-    nothing_inside : (n : ℕ) → MayShut l x workers s n → Quiet x s.nodes.status n
+    pub nothing_inside : (n : ℕ) → MayShut l x workers s n → Quiet x s.nodes.status n
     nothing_inside n may = elim (true_or_false (is_open (s.nodes.status n))) [
       | inl o ↦ (λ m nz p h. finished_unheld (s.nodes.status m) (may.children o m (kept.locked.inside m nz h) nz p) h)
       | inr o ↦ quiet x s.nodes.status kept.locked n o

@@ -111,3 +111,7 @@ module _ {H K V B F R : Type 0} (l : Language H K V B F R) (x : Suite H K V) whe
     stopped = s.stopped;
   }
   after s (Shut w n) = record { nodes = shutting n s.nodes; owner = s.owner; busy = put w (Some n) s.busy; stopped = s.stopped }
+
+-- a Step that meets want of memory: the run is stopped, and nothing else changes
+abbrev pub stop : {K V B F R : Type 0} → State K V B F R → State K V B F R
+stop s = record { nodes = s.nodes; owner = s.owner; busy = s.busy; stopped = true }

@@ -6,7 +6,7 @@ use Rattle.iso_isolation.specs.States as S
 use Rattle.iso_isolation.specs.States.{Status, State, first}
 use Rattle.iso_isolation.specs.Events.{Event, Enter, Step, Leave, Shut}
 use Rattle.iso_isolation.specs.Refusals.{Refused, refusal}
-use Rattle.iso_isolation.specs.Runs.{is_run, after_all_of, result_of}
+use Rattle.iso_isolation.specs.Runs.{is_run, after_all_of, result_of, is_complete}
 use Rattle.iso_isolation.specs.Examples.{Head, Counter, counter, counting, at, test_head, class_head, numbers, shop}
 
 -- what a node of the shop comes to by itself
@@ -58,6 +58,13 @@ barred = Enter 2 8 ∷ Step 2 ∷ Leave 2 ∷ []
 
 abbrev pub barred_to_its_end : List Event
 barred_to_its_end = barred ++ Shut 2 8 ∷ Step 2 ∷ Leave 2 ∷ []
+
+-- all nodes to their end
+abbrev pub whole : List Event
+whole = closed_first ++ Leave 0 ∷ Shut 1 4 ∷ Step 1 ∷ Leave 1 ∷ [] ++ barred_to_its_end
+
+abbrev pub is_whole : List Event → Bool
+is_whole es = is_complete shop (shop_after es)
 
 -- a history, and the same in full
 abbrev pub history : List Event

@@ -22,10 +22,10 @@ pub record Language (H K V B F R : Type 0) : Type 0 where
   pub begin : List H → List F → B
   -- the body with which a class is closed, its `after_all`, on the frames of the classes around it and its own
   pub begin_closing : List H → List F → B
-  -- one step of a body; whether nothing is left to do; how many steps are left; what doing all that is left comes to
+  -- one step of a body; whether nothing is left to do; how far the end is, at most; what doing all that is left comes to
   pub step : List H → B → Content K V → Progress B (Content K V)
   pub ended : B → Bool
-  pub steps_left : List H → B → Content K V → ℕ
+  pub distance : B → ℕ
   pub finish : List H → B → Content K V → Progress B (Content K V)
   -- what an ended `before_all` leaves of its class, beside the frames of the classes around it; and whether it ended well
   pub frame : List F → B → F

@@ -6,5 +6,6 @@ pub mod Events
 pub mod Refusals
 pub mod Runs
 pub mod Isolation
+pub mod Histories
 pub mod Examples
 pub mod ExampleRuns

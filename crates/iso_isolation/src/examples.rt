@@ -1,9 +1,9 @@
 //! Worked examples of the definitions, as public laws that the checker computes.
 
-ghost use Rattle.std.specs.Prelude.{◌≡◌, [], ◌∷◌, ◌++◌, eqb, true, Some, None};
+ghost use Rattle.std.specs.Prelude.{◌≡◌, [], ◌∷◌, ◌++◌, eqb, false, true, Some, None};
 ghost use Rattle.iso_isolation.specs.Events.{Enter, Step, Leave, Shut};
 ghost use Rattle.iso_isolation.specs.Examples.{counting, shop};
-ghost use Rattle.iso_isolation.specs.ExampleRuns.{barred, barred_class, barred_to_its_end, begun_shop, both_left, by_itself, came_to, closed_first, closing, finished, history, in_full, is_run_of_shop, live, opened, opened_both, over, readers, refused_after, side_by_side, value_after, waiting, why, why_stopped, why_test, why_where};
+ghost use Rattle.iso_isolation.specs.ExampleRuns.{barred, barred_class, barred_to_its_end, begun_shop, both_left, by_itself, came_to, closed_first, closing, finished, history, in_full, is_run_of_shop, is_whole, live, opened, opened_both, over, readers, refused_after, side_by_side, value_after, waiting, whole, why, why_stopped, why_test, why_where};
 ghost use Rattle.iso_isolation.specs.Refusals as Why;
 ghost use Rattle.iso_isolation.specs.Runs.{full, history_of};
 
@@ -28,6 +28,7 @@ pub fn bodies_run_side_by_side()
     ensures unfinished { came_to side_by_side 2 ≡ None }
     ensures changed { value_after side_by_side 1 ≡ Some 7 }
     ensures put_back { value_after both_left 1 ≡ Some 5 }
+    ensures others_stay { value_after (side_by_side ++ Leave 0 ∷ []) 1 ≡ Some 7 }
     ensures left_by_the_class { value_after both_left 2 ≡ Some 8 }
     ensures readers_left { came_to readers 6 ≡ Some (Some (Some 5 ∷ [])) }
     ensures sibling { came_to closed_first 3 ≡ Some (Some (Some 8 ∷ [])) }
@@ -44,6 +45,15 @@ pub fn barred_class_runs_nothing()
     ensures child_refused { refused_after barred (Enter 0 9) ≡ Some Why.ParentClosed }
     ensures accepted { is_run_of_shop barred_to_its_end ≡ true }
     ensures closed { came_to barred_to_its_end 8 ≡ Some (Some (None ∷ None ∷ [])) }
+{}
+
+/// A run is whole when all nodes but the root have finished; then every key stands at its start.
+pub fn run_is_whole_when_all_nodes_have_finished()
+    ensures accepted { is_run_of_shop whole ≡ true }
+    ensures whole { is_whole whole ≡ true }
+    ensures unfinished { is_whole closed_first ≡ false }
+    ensures one { value_after whole 1 ≡ Some 5 }
+    ensures two { value_after whole 2 ≡ Some 7 }
 {}
 
 /// What the locks and the order of siblings refuse: a reader beside a writer, the lowest holder named, and a forced test before

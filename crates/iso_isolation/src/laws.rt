@@ -1,12 +1,14 @@
 //! Laws of runs, over any language of bodies and any suite. Each function does nothing: its contract is the law, and is proved.
-ghost use Rattle.std.specs.Prelude.{◌≡◌, ℕ, Some, true};
-ghost use Rattle.iso_isolation.specs.Events.{Event};
+ghost use Rattle.std.specs.Prelude.{◌≡◌, ◌++◌, ◌∷◌, [], ℕ, List, Some, true};
+ghost use Rattle.iso_isolation.specs.Events.{Event, Leave, stop};
 ghost use Rattle.iso_isolation.specs.Examples.{counting, shop};
+ghost use Rattle.iso_isolation.specs.Histories.{EndLaws, GoesOn, IsHistory, SameHistory, Values, has_no_step, state_of};
 ghost use Rattle.iso_isolation.specs.Isolation.{Isolated, Unaffected};
 ghost use Rattle.iso_isolation.specs.Languages.{BodyLaws, Language};
 ghost use Rattle.iso_isolation.specs.Refusals.{refusal};
 ghost use Rattle.iso_isolation.specs.Refusals as Why;
-ghost use Rattle.iso_isolation.specs.States.{State};
+ghost use Rattle.iso_isolation.specs.Runs.{after_all_of, is_accepted, result_of};
+ghost use Rattle.iso_isolation.specs.States.{State, first};
 ghost use Rattle.iso_isolation.specs.Suites.{Suite, SuiteLaws};
 
 /// The isolation theorem: after every list of accepted events, on any number of workers, the result of each finished test, and of
@@ -21,15 +23,42 @@ pub fn suites_that_agree_give_equal_results<H, K, V, B, F, R>()
     ensures { (l : Language H K V B F R) (x y : Suite H K V) → BodyLaws l → SuiteLaws l x → SuiteLaws l y → Unaffected l x y }
 {}
 
-/// A run that was stopped refuses every event.
+/// A run that was stopped refuses every event, and keeps its results.
 pub fn stopped_run_refuses_every_event<H, K, V, B, F, R>()
-    ensures { (l : Language H K V B F R) (x : Suite H K V) (workers : ℕ) (s : State K V B F R) (e : Event)
-        → s.stopped ≡ true → refusal l x workers s e ≡ Some Why.Stopped }
+    ensures results { (s : State K V B F R) (n : ℕ) → result_of (stop s) n ≡ result_of s n }
+    ensures refused { (l : Language H K V B F R) (x : Suite H K V) (workers : ℕ) (s : State K V B F R) (e : Event)
+        → refusal l x workers (stop s) e ≡ Some Why.Stopped }
+{}
+
+/// A history goes on by each event that is accepted after it, and gives the state after that event. It goes on by a Leave, too,
+/// against which nothing stands but the steps that its body still needs.
+pub fn history_goes_on<H, K, V, B, F, R>()
+    ensures accepted { (l : Language H K V B F R) (x : Suite H K V) → BodyLaws l → EndLaws l → SuiteLaws l x
+        → (workers : ℕ) (h : List Event) (e : Event) → IsHistory l x workers h → has_no_step (e ∷ []) ≡ true
+        → is_accepted l x workers (state_of l x h) e ≡ true → GoesOn l x workers h e }
+    ensures leaves { (l : Language H K V B F R) (x : Suite H K V) → BodyLaws l → EndLaws l → SuiteLaws l x
+        → (workers : ℕ) (h : List Event) (w : ℕ) → IsHistory l x workers h
+        → refusal l x workers (state_of l x h) (Leave w) ≡ Some Why.BodyNotEnded → IsHistory l x workers (h ++ Leave w ∷ []) }
+{}
+
+/// After a history in full each key stands at its start, unless an unfinished node holds it for READ_WRITE; and then as the
+/// innermost unfinished class at or under that writer whose `before_all` was left has left it, or at its start where there is none.
+pub fn keys_stand_where_histories_tell<H, K, V, B, F, R>()
+    ensures { (l : Language H K V B F R) (x : Suite H K V) → BodyLaws l → SuiteLaws l x
+        → (workers : ℕ) (h : List Event) → IsHistory l x workers h → Values l x (state_of l x h) }
+{}
+
+/// Two runs with the same Enters, Leaves and Shuts in the same order give every node the same result, wherever their Steps stand.
+pub fn steps_may_stand_anywhere<H, K, V, B, F, R>()
+    ensures { (l : Language H K V B F R) (x : Suite H K V) → BodyLaws l → SuiteLaws l x
+        → (workers : ℕ) (es fs : List Event) → SameHistory l x workers es fs
+        → (n : ℕ) → result_of (after_all_of l x (first l x) es) n ≡ result_of (after_all_of l x (first l x) fs) n }
 {}
 
 /// There are a language and a suite that keep all that the theorem asks, with locks, nested classes and bodies that change values.
-#[tactic(auto, using(crate::proofs::ExampleLaws::counting_laws, crate::proofs::ExampleLaws::shop_laws))]
+#[tactic(auto, using(crate::proofs::ExampleLaws::counting_laws, crate::proofs::ExampleLaws::counting_ends, crate::proofs::ExampleLaws::shop_laws))]
 pub fn laws_can_be_kept()
     ensures bodies { BodyLaws counting }
+    ensures ends { EndLaws counting }
     ensures suite { SuiteLaws counting shop }
 {}
