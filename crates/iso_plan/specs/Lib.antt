@@ -1,3 +1,4 @@
+pub mod Examples
 pub mod Faults
 pub mod IsPlan
 pub mod KeyTable
@@ -7,4 +8,5 @@ pub mod NodeChains
 pub mod Paths
 pub mod Planned
 pub mod RowView
+pub mod Tables
 pub mod Tree

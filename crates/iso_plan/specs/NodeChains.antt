@@ -1,9 +1,6 @@
 -- The class chain of a node: the heads of the classes on its path, and a test's own head.
 use Rattle.std.specs.Prelude.{ℕ, List, [], ◌∷◌, ◌++◌, Option, Some, None}
-use Rattle.std.specs.Option.{option_map}
 use Rattle.iso_model.specs.Chains.{ClassHead, TestHead}
-use Rattle.iso_model.specs.Rights.{Rights, rights_of}
-use Rattle.iso_model.specs.declared.heads.Mark.{Mark}
 use Rattle.iso_plan.specs.Tree.{Kind, root, class_node, test_node, Row}
 use Rattle.iso_plan.specs.Paths.{row_at, path}
 
