@@ -7,7 +7,7 @@ ghost use Rattle.iso_settings.specs.Readings.{Gives};
 
 use crate::fault::{InputError, InputFault};
 use iso_model::script::Script;
-use iso_plan::fault::PlanFault;
+use iso_plan::fault::PlanError;
 use iso_plan::plan::{Plan, build};
 use iso_script::fault::ScriptError;
 use iso_script::reader::read_script;
@@ -67,8 +67,8 @@ pub fn read_inputs(alloc: Global, inputs: Inputs<'_>) -> Result<Suite, InputErro
             world,
             plan,
         }),
-        Err(PlanFault::OutOfMemory) => Err(InputError::OutOfMemory),
-        Err(fault) => Err(InputError::Fault(InputFault::Plan(fault))),
+        Err(PlanError::OutOfMemory) => Err(InputError::OutOfMemory),
+        Err(PlanError::Fault(fault)) => Err(InputError::Fault(InputFault::Plan(fault))),
     }
 }
 

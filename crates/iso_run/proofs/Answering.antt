@@ -1,5 +1,5 @@
 -- What is answered of a suite, from what its scripts come to.
-use Rattle.std.proofs.Common.{◌≡◌, List, ℕ, true, Result, Ok, Err, MatchResult, subst, sym, ap, ◌∙◌}
+use Rattle.std.proofs.Common.{◌≡◌, true, Result, Ok, Err, MatchResult, subst, sym, ap, ◌∙◌}
 use Rattle.iso_inputs.specs.Suites.{Suite, IsSuite}
 use Rattle.iso_inputs.specs.declared.inputs.Inputs.{Inputs}
 use Rattle.iso_model.specs.Resources.{empty_world}

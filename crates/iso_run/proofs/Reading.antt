@@ -1,5 +1,5 @@
 -- What is read of a reader's bytes, and an output that was asked nothing.
-use Rattle.std.proofs.Common.{◌≡◌, ℕ, ◌+◌, List, [], ◌++◌, Option, None, Some, IfSome, take, option_map, ap, ap₂, subst, ◌∙◌}
+use Rattle.std.proofs.Common.{◌≡◌, ℕ, List, [], ◌++◌, Option, None, Some, IfSome, take, option_map, ap, ◌∙◌}
 use Rattle.iso_tap.specs.Sinks.{Account, TookNothing}
 
 pub read_up_to : (known : Option (List ℕ)) (limit : ℕ) (before after : List ℕ) → before ≡ [] → IfSome (option_map (take limit) known) (λ xs. after ≡ before ++ xs) → IfSome known (λ bytes. after ≡ take limit bytes)

@@ -1,5 +1,5 @@
 -- How a command ends, and what it asked of its output.
-use Rattle.std.specs.Prelude.{◌≡◌, ℕ, suc, zero, ◌⊎◌, List, Bool, true, false, cond}
+use Rattle.std.specs.Prelude.{◌≡◌, ℕ, suc, zero, ◌⊎◌, List, Bool, false, cond}
 use Rattle.iso_inputs.specs.Suites.{texts}
 use Rattle.iso_inputs.specs.declared.inputs.Inputs.{Inputs}
 use Rattle.iso_run.specs.Runs.{Reported, Untouched, status}

@@ -1,5 +1,5 @@
 -- What a run answers and what its sink took.
-use Rattle.std.specs.Prelude.{◌≡◌, ℕ, ◌<◌, List, Bool, true, false, length, take}
+use Rattle.std.specs.Prelude.{◌≡◌, ℕ, ◌<◌, List, Bool, false, length, take}
 use Rattle.iso_inputs.specs.Suites.{Suite, HasFault, IsSuite}
 use Rattle.iso_inputs.specs.declared.fault.InputError.{InputError}
 use Rattle.iso_inputs.specs.declared.fault.InputError.TheVariants.{Fault, OutOfMemory}

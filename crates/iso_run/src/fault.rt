@@ -80,7 +80,7 @@ impl fmt::Display for FaultLine<'_> {
             RunFault::Script(_, ScriptFault { kind, line, column }) => {
                 write!(f, "jtap: {name}:{line}:{column}: {kind:?}")
             }
-            RunFault::Plan(fault) => write!(f, "jtap: plan: {fault:?}"),
+            RunFault::Plan(fault) => write!(f, "jtap: plan: {fault}"),
             RunFault::Memory => f.write_str("jtap: out of memory"),
             RunFault::Write(_) => f.write_str(WRITE_FAILED),
         }

@@ -1,10 +1,8 @@
-use Rattle.std.proofs.Common.{◌≡◌, map, ap, subst, sym, refl, ◌∙◌}
-use Rattle.iso_inputs.specs.Suites.{texts}
-use Rattle.iso_run.specs.Runs.{Reported}
+use Rattle.std.proofs.Common.{ap, sym, refl, ◌∙◌}
 use Rattle.iso_run.proofs.Reading.{unchanged}
 use Rattle.iso_run.proofs.command.run.Goals as goal
 use Rattle.iso_run.proofs.command.run.Goals.{then-summary, else-summary}
-use Rattle.iso_tap.specs.Sinks.{Account, failures_after}
+use Rattle.iso_tap.specs.Sinks.{failures_after}
 
 pub returns-in-Ok : goal.returns-in-Ok
 returns-in-Ok g c =

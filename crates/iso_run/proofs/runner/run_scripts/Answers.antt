@@ -1,9 +1,8 @@
-use Rattle.std.proofs.Common.{◌≡◌, ◌++◌, true, map, take, get_or, ap, ap₂, sym, subst, ◌∙◌}
+use Rattle.std.proofs.Common.{◌++◌, map, take, get_or, ap, ap₂, sym, ◌∙◌}
 use Rattle.std.proofs.lemmas.Bool.{and_parts}
 use Rattle.std.proofs.lemmas.List.{map-append, map_more}
 use Rattle.iso_model.specs.Resources.{empty_world}
 use Rattle.iso_model.specs.ScriptView.{script_of}
-use Rattle.iso_run.specs.FirstPart.{are_first_part}
 use Rattle.iso_run.specs.ResultView.{node_of}
 use Rattle.iso_run.specs.Suites.{all_results}
 use Rattle.iso_run.proofs.FirstPart.{one_script_more}
