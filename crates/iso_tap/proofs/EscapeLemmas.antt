@@ -1,5 +1,5 @@
 -- An escaped text, from one byte that is escaped to the next.
-use Rattle.std.proofs.Common.{◌≡◌, ℕ, suc, ◌+◌, ◌<◌, ◌≤◌, List, [], ◌∷◌, ◌++◌, length, get_or, take, drop, Bool, true, false, cond, nat_eq, ◌||◌, refl, ap, ◌∙◌, arith}
+use Rattle.std.proofs.Common.{◌≡◌, ℕ, suc, ◌<◌, ◌≤◌, List, [], ◌∷◌, ◌++◌, length, get_or, take, drop, Bool, true, false, cond, nat_eq, ◌||◌, refl, ap, arith}
 use Rattle.iso_tap.specs.Escapes.{with_escapes, plain_len}
 
 abbrev is_special : ℕ → ℕ → Bool
