@@ -1,0 +1,4 @@
+pub mod Following
+pub mod JobLemmas
+pub mod RunLemmas
+pub mod WorkLemmas

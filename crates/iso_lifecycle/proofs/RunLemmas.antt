@@ -1,0 +1,46 @@
+-- A body's step is that of its block.
+use Rattle.std.proofs.Common.{◌≡◌, ℕ, List, [], ◌∷◌, Option, Some, Bool, true, false, refl, sym, ap, ◌∙◌, subst}
+use Rattle.iso_model.specs.Bodies.{Account, Stage, account_after, body_step, going, going_at, stage_at, stage_from}
+use Rattle.iso_model.specs.Resources.{Resources}
+use Rattle.iso_model.specs.Rights.{Rights, access_in}
+use Rattle.iso_model.specs.Steps.{Machine, Piece, is_done, step}
+use Rattle.iso_interp.specs.Runs.{local_of, machine_of, names_before, pieces_of, progress_of, run_rights}
+use Rattle.iso_interp.specs.declared.run.BlockRun.{BlockRun}
+use Rattle.iso_interp.specs.declared.run.Progress.TheVariants.{More}
+use Rattle.iso_lifecycle.specs.BodyRuns.{settled_with}
+use Rattle.iso_lifecycle.specs.Works.{HaveRights, account_in, beside_in, jobs_left, stage_with}
+use Rattle.iso_lifecycle.specs.declared.work.Rest.{Rest}
+use Rattle.iso_lifecycle.proofs.Following.{goes-on, passes}
+
+-- a block that has ended is left, and the jobs after it are begun
+pub settled : (block : Option BlockRun) (run left : BlockRun) (rest after : Rest) (end : Stage) → block ≡ Some run → left ≡ run → is_done (pieces_of run) ≡ true
+    → account_in after ≡ account_after (names_before left) (local_of left) (beside_in rest) → jobs_left after ≡ jobs_left rest
+    → end ≡ stage_from (jobs_left after) (account_in after) → end ≡ settled_with block rest
+settled block run left rest after end is same none account jobs ends =
+    ends ∙ (λ i. stage_from (jobs i) (account i))
+    ∙ ap (λ (x : BlockRun). stage_from (jobs_left rest) (account_after (names_before x) (local_of x) (beside_in rest))) same
+    ∙ passes (stage_from (jobs_left rest)) (pieces_of run) (local_of run) (names_before run) (beside_in rest) (jobs_left rest) none
+    ∙ ap (λ (o : Option BlockRun). settled_with o rest) (sym is)
+
+more-left : (ps : List Piece) → progress_of ps ≡ More → is_done ps ≡ false
+more-left [] e = cc
+more-left (p ∷ ps) e = refl
+
+-- the rights of a block under way are the body's
+pub block-rights : (block : Option BlockRun) (run : BlockRun) (rest : Rest) → block ≡ Some run → HaveRights block rest → run_rights run ≡ access_in rest.rights.now
+block-rights block run rest is same = λ i k. subst (λ (o : Option BlockRun). HaveRights o rest) is same k i
+
+-- with a block that made a step
+pub block-stepped : (r q : Rights) (block : Option BlockRun) (run new : BlockRun) (rest : Rest) (m n : Resources) → block ≡ Some run → q ≡ r
+    → machine_of new n ≡ step q (machine_of run m) → names_before new ≡ names_before run
+    → going (settled_with (Some new) rest) n ≡ body_step r (going (stage_with block rest) m)
+block-stepped r q block run new rest m n is same stepped count =
+    (λ i. going (stage_at (stage_from (jobs_left rest)) (pieces_of new) (local_of new) (count i) (beside_in rest) (jobs_left rest)) n)
+    ∙ ap (λ (x : Machine). going_at x (names_before run) (beside_in rest) (jobs_left rest)) stepped
+    ∙ ap (λ (p : Rights). going_at (step p (machine_of run m)) (names_before run) (beside_in rest) (jobs_left rest)) same
+    ∙ ap (λ (o : Option BlockRun). body_step r (going (stage_with o rest) m)) (sym is)
+
+-- while something is left of it
+pub block-goes_on : (new : BlockRun) (rest : Rest) (n : Resources) → progress_of (pieces_of new) ≡ More → going (stage_with (Some new) rest) n ≡ going (settled_with (Some new) rest) n
+block-goes_on new rest n more =
+    ap (λ (s : Stage). going s n) (goes-on (stage_from (jobs_left rest)) (pieces_of new) (local_of new) (names_before new) (beside_in rest) (jobs_left rest) (more-left (pieces_of new) more))

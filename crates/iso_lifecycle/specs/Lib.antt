@@ -1,0 +1,4 @@
+pub mod BodyRuns
+pub mod Heads
+pub mod JobPlaces
+pub mod Works

@@ -1,0 +1,82 @@
+//! The blocks of a test, in its class chain.
+ghost use Rattle.std.specs.Prelude.{◌≡◌, ◌<◌, ◌≤◌, ◌+◌, Some, length, min, take, drop, IfOk, OnOk};
+ghost use Rattle.iso_model.specs.ScriptView.{class_head_of};
+ghost use Rattle.iso_model.specs.SyntaxView.{block_of};
+ghost use Rattle.iso_model.specs.Tests.{names_in};
+ghost use Rattle.iso_lifecycle.specs.JobPlaces.{IsPlaced, head_at, job_at, outside};
+ghost use Rattle.iso_lifecycle.specs.Heads.{heads_in};
+
+use crate::job::Job;
+use iso_model::heads::ClassHead;
+use iso_model::names::Binding;
+use iso_model::tree::Stmt;
+use std::alloc::AllocError;
+use std::mem;
+use std::sync::Arc;
+
+/// The statements of a job's block.
+pub(crate) fn statements<'a>(
+    classes: &'a [Arc<ClassHead>],
+    body: &'a [Stmt],
+    job: Job,
+) -> &'a [Stmt]
+    requires { IsPlaced (length classes.now) (Some job) }
+    ensures { block_of result.now ≡ (job_at (heads_in classes.now) (block_of body.now) job).acts }
+{
+    match job {
+        Job::BeforeEach(depth) => &head(classes, depth).before_each,
+        Job::Test => body,
+        Job::AfterEach(depth) => &head(classes, depth).after_each,
+    }
+}
+
+/// The head of the class at a depth.
+fn head(classes: &[Arc<ClassHead>], depth: usize) -> &ClassHead
+    requires { depth < length classes.now }
+    ensures { class_head_of result.now ≡ head_at (heads_in classes.now) depth }
+{
+    &classes[depth]
+}
+
+/// How many of so many names are of the outermost classes, so many of them.
+pub(crate) fn names_of(classes: &[Arc<ClassHead>], outermost: usize, names: usize) -> usize
+    requires { outermost ≤ length classes.now }
+    ensures { result ≡ min (names_in (outside (heads_in classes.now) outermost)) names }
+{
+    let mut count = 0;
+    for depth in 0..outermost {
+        count = more(head(classes, depth), count, names);
+    }
+    count
+}
+
+/// A number of names, and those of one class more, but at most so many.
+fn more(class: &ClassHead, count: usize, most: usize) -> usize
+    requires { count ≤ most }
+    ensures { result ≡ min (count + length (class_head_of class.now).statics + length (class_head_of class.now).fields) most }
+{
+    sum(
+        sum(count, class.statics.len(), most),
+        class.fields.len(),
+        most,
+    )
+}
+
+/// A sum, but at most so many.
+fn sum(count: usize, by: usize, most: usize) -> usize
+    requires { count ≤ most }
+    ensures sum { result ≡ min (count + by) most }
+    ensures within { result ≤ most }
+{
+    if by < most - count { count + by } else { most }
+}
+
+/// Takes the first so many names, and leaves the others.
+pub(crate) fn part(names: &mut Vec<Binding>, count: usize) -> Result<Vec<Binding>, AllocError>
+    requires { count ≤ length names.old.items }
+    ensures taken { IfOk result (λ taken. taken.items ≡ take count names.old.items) }
+    ensures left { OnOk result (names.new.items ≡ drop count names.old.items) }
+{
+    let left = names.split_off(count)?;
+    Ok(mem::replace(names, left))
+}

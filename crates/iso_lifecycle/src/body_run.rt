@@ -1,0 +1,158 @@
+//! A run of a whole body, one step at a time: its blocks, in the order of their jobs.
+ghost use Rattle.std.specs.Prelude.{◌≡◌, ◌<◌, ◌∷◌, ◌^◌, [], length, true, false, OnOk, IfOk};
+ghost use Rattle.iso_model.specs.Bodies.{account_after, body_step, ended, fresh_account, going, is_ended, stage_from};
+ghost use Rattle.iso_model.specs.ChainView.{innermost_first};
+ghost use Rattle.iso_model.specs.Jobs.{job, test_jobs};
+ghost use Rattle.iso_model.specs.Rights.{access_in};
+ghost use Rattle.iso_model.specs.ScriptView.{test_head_of};
+ghost use Rattle.iso_model.specs.SyntaxView.{block_of};
+ghost use Rattle.iso_model.specs.Touch.{HasKeys};
+ghost use Rattle.iso_lifecycle.specs.Works.{HaveRights, HaveRights-prop};
+
+use crate::job::Job;
+use crate::work::Rest;
+use iso_interp::run::{BlockRun, Progress};
+use iso_model::heads::{ClassHead, TestHead};
+use iso_model::lines::Lines;
+use iso_model::names::{Binding, Names};
+use iso_model::outcome::Ending;
+use iso_model::place::BlockName;
+use iso_model::rights::Rights;
+use iso_model::touch::Touch;
+use iso_model::tree::Stmt;
+use std::alloc::{AllocError, Global};
+use std::sync::Arc;
+
+/// What an ended body leaves: the endings of the blocks that were done, in order, the lines that they printed, and its names.
+#[derive(Drop)]
+pub struct BodyEnd {
+    pub endings: Vec<Ending>,
+    pub output: Lines,
+    pub names: Vec<Binding>,
+}
+
+/// A run of a body (JUnit 5, test lifecycle), one step at a time. After want of memory it is only to be dropped.
+#[derive(Drop)]
+pub struct BodyRun<'a> {
+    rest: Rest<'a>,
+    block: Option<BlockRun<'a>>,
+    ghost same: { HaveRights block rest } by { HaveRights-prop block rest },
+}
+
+impl<'a> BodyRun<'a> {
+    ghost use Rattle.iso_lifecycle.specs.BodyRuns.{account_in_run, end_account, rights_of, settled_stage, stage_of};
+
+    /// A whole test at its beginning: the `before_each` blocks of these classes, outermost first, its own block, and the
+    /// `after_each` blocks, innermost first. The names are those that the innermost block sees, the outer classes' first.
+    pub fn of_test(
+        alloc: Global,
+        classes: &'a [Arc<ClassHead>],
+        test: &'a TestHead,
+        names: Vec<Binding>,
+        rights: &'a Rights,
+    ) -> Result<BodyRun<'a>, AllocError>
+        requires { length classes.now < 2 ^ 32 }
+        ensures stage { IfOk result (λ run. stage_of run ≡ stage_from (test_jobs (test_head_of test.now) (innermost_first classes.now)) (fresh_account names.items)) }
+        ensures rights { IfOk result (λ run. rights_of run ≡ access_in rights.now) }
+    {
+        let mut rest = Rest {
+            alloc,
+            rights,
+            classes,
+            test: &test.body,
+            next: Some(Job::first(classes.len())),
+            names,
+            printed: 0,
+            lines: Vec::new(alloc),
+            endings: Vec::new(alloc),
+        };
+        let block = rest.follow()?;
+        Ok(BodyRun { rest, block })
+    }
+
+    /// A body of one block at its beginning, which sees all these names: a `before_all` or an `after_all`.
+    pub fn of_block(
+        alloc: Global,
+        block: &'a [Stmt],
+        words: BlockName,
+        names: Vec<Binding>,
+        rights: &'a Rights,
+    ) -> Result<BodyRun<'a>, AllocError>
+        ensures stage { IfOk result (λ run. stage_of run ≡ stage_from (job words (block_of block.now) (length names.items) false ∷ []) (fresh_account names.items)) }
+        ensures rights { IfOk result (λ run. rights_of run ≡ access_in rights.now) }
+    {
+        let names = Names::new(names, 0, words);
+        let mut run = BodyRun {
+            rest: Rest {
+                alloc,
+                rights,
+                classes: &[],
+                test: block,
+                next: None,
+                names: Vec::new(alloc),
+                printed: 0,
+                lines: Vec::new(alloc),
+                endings: Vec::new(alloc),
+            },
+            block: Some(BlockRun::new(alloc, block, names, rights)),
+        };
+        run.settle()?;
+        Ok(run)
+    }
+
+    /// Does the first piece that is left; where its block has then ended, the next begins that has something to do.
+    /// A body that has ended stays as it is.
+    pub fn step<T: Touch>(&mut self, touch: &mut T) -> Result<(), AllocError>
+        requires { HasKeys (rights_of self.old) (T.content touch.old) (T.writes touch.old) }
+        ensures step { OnOk result (going (stage_of self.new) (T.content touch.new) ≡ body_step (rights_of self.old) (going (stage_of self.old) (T.content touch.old))) }
+        ensures rights { rights_of self.new ≡ rights_of self.old }
+        ensures keys { OnOk result (HasKeys (rights_of self.new) (T.content touch.new) (T.writes touch.new)) }
+        ensures writes { T.writes touch.new ≡ T.writes touch.old }
+    {
+        let Some(run) = &mut self.block else {
+            return Ok(());
+        };
+        match run.step(touch)? {
+            Progress::More => Ok(()),
+            Progress::Ended => self.settle(),
+        }
+    }
+
+    /// Whether nothing is left to do.
+    pub fn is_ended(&self) -> bool
+        ensures { result ≡ is_ended (stage_of self.now) }
+    {
+        self.block.is_none()
+    }
+
+    /// What the body leaves, once it has ended. Takes no memory.
+    pub fn finish(self) -> BodyEnd
+        requires { is_ended (stage_of self) ≡ true }
+        ensures { stage_of self.entry ≡ ended (end_account result (account_in_run self.entry).printed) }
+    {
+        let BodyRun { rest, .. } = self;
+        BodyEnd {
+            endings: rest.endings,
+            output: Lines::new(rest.lines),
+            names: rest.names,
+        }
+    }
+
+    /// Leaves a block of which nothing is left, and begins the next that has something to do.
+    fn settle(&mut self) -> Result<(), AllocError>
+        ensures stage { OnOk result (stage_of self.new ≡ settled_stage self.old) }
+        ensures rights { rights_of self.new ≡ rights_of self.old }
+    {
+        let Some(run) = &self.block else {
+            return Ok(());
+        };
+        if !run.is_ended() {
+            return Ok(());
+        }
+        if let Some(run) = self.block.take() {
+            self.rest.leave(run)?;
+            self.block = self.rest.follow()?;
+        }
+        Ok(())
+    }
+}

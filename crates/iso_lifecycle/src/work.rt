@@ -1,0 +1,147 @@
+//! What a body has beside its block under way.
+ghost use Rattle.std.specs.Prelude.{◌≡◌, ◌<◌, ◌∷◌, ◌^◌, length, true, Some, OnOk, IfOk};
+ghost use Rattle.iso_lifecycle.specs.JobPlaces.{IsPlaced, IsPlaced-prop};
+
+use crate::blocks::{names_of, part, statements};
+use crate::job::Job;
+use iso_interp::run::{BlockEnd, BlockRun};
+use iso_model::heads::ClassHead;
+use iso_model::names::{Binding, Names};
+use iso_model::outcome::Ending;
+use iso_model::rights::Rights;
+use iso_model::text::Text;
+use iso_model::tree::Stmt;
+use std::alloc::{AllocError, Global};
+use std::sync::Arc;
+
+/// The jobs that are left of a body, the names that its block under way doesn't see, and what the blocks before it left.
+#[derive(Drop)]
+pub struct Rest<'a> {
+    pub(crate) alloc: Global,
+    pub(crate) rights: &'a Rights,
+    pub(crate) classes: &'a [Arc<ClassHead>],
+    pub(crate) test: &'a [Stmt],
+    pub(crate) next: Option<Job>,
+    pub(crate) names: Vec<Binding>,
+    pub(crate) printed: u32,
+    pub(crate) lines: Vec<Text>,
+    pub(crate) endings: Vec<Ending>,
+    ghost placed: { IsPlaced (length classes.now) next } by { IsPlaced-prop (length classes.now) next },
+    ghost shallow: { length classes.now < 2 ^ 32 },
+}
+
+impl<'a> Rest<'a> {
+    ghost use Rattle.std.specs.List.{list_all};
+    ghost use Rattle.iso_model.specs.Bodies.{account_after, beside_job, job_environment, stage_from};
+    ghost use Rattle.iso_model.specs.Jobs.{is_due};
+    ghost use Rattle.iso_model.specs.Statements.{is_well};
+    ghost use Rattle.iso_model.specs.Steps.{first_point, is_done};
+    ghost use Rattle.iso_interp.specs.Runs.{local_of, names_before, pieces_of, point_of_run, run_rights};
+    ghost use Rattle.iso_model.specs.Rights.{access_in};
+    ghost use Rattle.iso_lifecycle.specs.Works.{HaveRights, SameChain, account_in, begun_with, beside_in, job_in, jobs_left, stage_with};
+
+    /// Ends a block, of which nothing is left to do.
+    pub(crate) fn leave(&mut self, run: BlockRun<'a>) -> Result<(), AllocError>
+        requires { is_done (pieces_of run) ≡ true }
+        ensures account { OnOk result (account_in self.new ≡ account_after (names_before run.entry) (local_of run.entry) (beside_in self.old)) }
+        ensures chain { SameChain self.old self.new }
+        ensures next { self.new.next ≡ self.old.next }
+    {
+        let BlockEnd {
+            ending,
+            output,
+            names,
+        } = run.finish();
+        let mut lines = output.into_vec();
+        self.printed = names.printed();
+        let mut names = names.into_bindings();
+        names.append(&mut self.names)?;
+        self.names = names;
+        self.lines.append(&mut lines)?;
+        self.endings.push(ending)?;
+        Ok(())
+    }
+
+    /// The environment of a job's block, which takes the names that it sees.
+    fn environment(&mut self, job: Job) -> Result<Names, AllocError>
+        requires { IsPlaced (length self.old.classes.now) (Some job) }
+        ensures names { IfOk result (λ names. names ≡ job_environment (job_in self.old job) (account_in self.old)) }
+        ensures beside { OnOk result (beside_in self.new ≡ beside_job (job_in self.old job) (account_in self.old)) }
+        ensures chain { SameChain self.old self.new }
+        ensures next { self.new.next ≡ self.old.next }
+    {
+        let classes = job.classes_seen(self.classes.len());
+        let seen = names_of(self.classes, classes, self.names.len());
+        let bindings = part(&mut self.names, seen)?;
+        Ok(Names::new(bindings, self.printed, job.words()))
+    }
+
+    /// Begins the block of a job, which may have nothing to do.
+    fn enter(&mut self, job: Job) -> Result<BlockRun<'a>, AllocError>
+        requires { IsPlaced (length self.old.classes.now) (Some job) }
+        ensures point { IfOk result (λ run. point_of_run run ≡ first_point (job_in self.old job).acts (job_environment (job_in self.old job) (account_in self.old))) }
+        ensures names { IfOk result (λ run. names_before run ≡ length (job_environment (job_in self.old job) (account_in self.old)).names) }
+        ensures rights { IfOk result (λ run. run_rights run ≡ access_in self.old.rights.now) }
+        ensures beside { OnOk result (beside_in self.new ≡ beside_job (job_in self.old job) (account_in self.old)) }
+        ensures chain { SameChain self.old self.new }
+        ensures next { self.new.next ≡ self.old.next }
+    {
+        let names = self.environment(job)?;
+        let block = statements(self.classes, self.test, job);
+        Ok(BlockRun::new(self.alloc, block, names, self.rights))
+    }
+
+    /// Whether a job is to be done, after what the blocks before it came to: an `after_each` always is.
+    fn is_due(&self, job: Job) -> bool
+        ensures { result ≡ is_due (job_in self.now job) (account_in self.now).endings }
+    {
+        match job {
+            Job::BeforeEach(_) | Job::Test => self.all_well(),
+            Job::AfterEach(_) => true,
+        }
+    }
+
+    /// Whether all blocks ended well so far.
+    fn all_well(&self) -> bool
+        ensures { result ≡ list_all is_well (account_in self.now).endings }
+    {
+        self.endings
+            .iter()
+            .all(|ending| matches!(ending, Ending::Well))
+    }
+
+    /// Begins the next job, or leaves it out where it isn't due. Answers its block, where that has something to do.
+    fn begin(&mut self, job: Job) -> Result<Option<BlockRun<'a>>, AllocError>
+        requires { self.old.next ≡ Some job }
+        ensures begun { IfOk result (λ run. begun_with run self.new ≡ stage_from (jobs_left self.old) (account_in self.old)) }
+        ensures rights { IfOk result (λ run. HaveRights run self.old) }
+        ensures chain { SameChain self.old self.new }
+        ensures jobs { jobs_left self.old ≡ job_in self.old job ∷ jobs_left self.new }
+    {
+        self.next = job.after(self.classes.len());
+        if !self.is_due(job) {
+            return Ok(None);
+        }
+        let run = self.enter(job)?;
+        if !run.is_ended() {
+            return Ok(Some(run));
+        }
+        self.leave(run)?;
+        Ok(None)
+    }
+
+    /// Begins the next block that has something to do, if there is one.
+    #[tactic(auto, using(crate::proofs::WorkLemmas::shorter))]
+    pub(crate) fn follow(&mut self) -> Result<Option<BlockRun<'a>>, AllocError>
+        ensures stage { IfOk result (λ run. stage_with run self.new ≡ stage_from (jobs_left self.old) (account_in self.old)) }
+        ensures rights { IfOk result (λ run. HaveRights run self.old) }
+        ensures chain { SameChain self.old self.new }
+    {
+        while let Some(job) = self.next {
+            if let Some(run) = self.begin(job)? {
+                return Ok(Some(run));
+            }
+        }
+        Ok(None)
+    }
+}
