@@ -3,13 +3,14 @@ use Rattle.std.proofs.Common.{ℕ, ◌<◌, ◌≤◌, List, [], ◌∷◌, Opti
 use Rattle.iso_lexer.specs.Piece.{Piece}
 use Rattle.iso_model.specs.Scripts.{Test, Class, Member, Members}
 use Rattle.iso_heads.specs.Blocks.{Blocks, IsBlocks, IsWritten}
-use Rattle.iso_heads.specs.Displays.{IsDisplayed, none_displayed, a_display}
+use Rattle.iso_heads.specs.Displays.{IsDisplayed, none_displayed, displayed}
 use Rattle.iso_heads.specs.Marks.{Marks, IsMarks, IsMarking}
 use Rattle.iso_heads.specs.Readings.{AreRead}
 use Rattle.iso_heads.specs.Variables.{Variables, IsVariables, IsDeclared}
 use Rattle.iso_heads.proofs.Blocks.{written_shorter}
 use Rattle.iso_heads.proofs.Marks.{marking_shorter}
 use Rattle.iso_heads.proofs.Variables.{declared_shorter}
+use Rattle.iso_statements.specs.Statements.{a_display}
 use Rattle.iso_statements.proofs.Shorter.{block_shorter}
 use Rattle.iso_script.specs.Grammar.{IsTest, a_test, IsMember, as_test, as_class, IsClass, a_class, has_members, IsMembers, closed, and_then}
 
@@ -24,7 +25,7 @@ marks_within {ps = ps} {qs = qs} h = read_within IsMarking (λ w ps qs k. markin
 
 displayed_within : {t : Option (List ℕ)} {ps qs : List Piece} → IsDisplayed t ps qs → length qs ≤ length ps
 displayed_within (none_displayed none) = omega arith
-displayed_within (a_display is) = omega arith
+displayed_within (displayed (a_display is)) = omega arith
 
 variables_within : {taken : List (List ℕ)} {variables : Variables} {ps qs : List Piece} → IsVariables taken variables ps qs → length qs ≤ length ps
 variables_within {ps = ps} {qs = qs} h = read_within IsDeclared (λ w ps qs k. declared_shorter k) h.written ps qs h.read

@@ -16,7 +16,6 @@ use iso_heads::display::read_display;
 use iso_heads::mark::{Marks, read_marks};
 use iso_heads::variable::{Variables, read_variables};
 use iso_lexer::symbol::Symbol;
-use iso_lexer::token::Token;
 use iso_lexer::word::Word;
 use iso_model::limits::CLASS_DEPTH;
 use iso_model::script::{Class, Member};
@@ -37,18 +36,11 @@ pub(crate) fn read_top_class(parser: &mut Parser<'_>) -> Result<Class, ScriptErr
     read_class(parser, marks, name, &mut scopes, more)
 }
 
-/// Whether this word is next.
-fn is_at_word(parser: &Parser<'_>, word: Word) -> bool
-    ensures { result ≡ is_some (after_word word parser.now.lexer) }
-{
-    matches!(parser.lexer.peek().0, Token::Word(next) if next.is(word))
-}
-
 /// Whether a test of these marks may be next: its word is, and the marks do not isolate it.
 fn is_at_test(parser: &Parser<'_>, marks: &Marks) -> bool
     ensures { result ≡ (not marks.now.isolated && is_some (after_word W.Test parser.now.lexer)) }
 {
-    !marks.isolated && is_at_word(parser, Word::Test)
+    !marks.isolated && parser.is_at_word(Word::Test)
 }
 
 /// Goes past the word `class`, which has to be next, where so many classes may be opened. Answers how many more
@@ -58,7 +50,7 @@ fn open_class(parser: &mut Parser<'_>, left: u32) -> Result<u32, ScriptError>
         (λ more. (left ≡ suc more) × (after_word W.Class parser.old.lexer ≡ Some parser.new.lexer))
         (λ e. (more : ℕ) → left ≡ suc more → after_word W.Class parser.old.lexer ≡ None) }
 {
-    if !is_at_word(parser, Word::Class) {
+    if !parser.is_at_word(Word::Class) {
         return Err(parser.unexpected());
     }
     let Some(more) = left.checked_sub(1) else {
