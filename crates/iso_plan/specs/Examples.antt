@@ -74,3 +74,19 @@ write_lock k = record { key = k; access = Write }
 -- class Loose { write "K" test w { } same_thread class Inner { test i { } } }
 abbrev pub loose : List Row
 loose = tree (shop (a_class (codes "Loose") None false [] (member (a_test (codes "w") None (writes key_k ∷ [])) (member (class_member (a_class (codes "Inner") (Some SameThread) false [] (member (a_test (codes "i") None []) no_members))) no_members)) ∷ []) ∷ [])
+
+-- the key L
+abbrev pub key_l : List ℕ
+key_l = codes "L"
+
+-- concurrent class Out { same_thread read "K" class In { read "L" test i { } } write "L" test w { } }
+abbrev pub nested : List Row
+nested = tree (shop (a_class (codes "Out") (Some Concurrent) false [] (member (class_member (a_class (codes "In") (Some SameThread) false (reads key_k ∷ []) (member (a_test (codes "i") None (reads key_l ∷ [])) no_members))) (member (a_test (codes "w") None (writes key_l ∷ [])) no_members)) ∷ []) ∷ [])
+
+-- class Top { read "K" test r { } isolated class Iso { write "L" test w { } } }
+abbrev pub isolated_with_keys : List Row
+isolated_with_keys = tree (shop (a_class (codes "Top") None false [] (member (a_test (codes "r") None (reads key_k ∷ [])) (member (class_member (a_class (codes "Iso") None true [] (member (a_test (codes "w") None (writes key_l ∷ [])) no_members))) no_members)) ∷ []) ∷ [])
+
+-- class A { test t { } } class B { test t { } }
+abbrev pub two_classes : List Row
+two_classes = tree (shop (a_class (codes "A") None false [] (member (a_test (codes "t") None []) no_members) ∷ a_class (codes "B") None false [] (member (a_test (codes "t") None []) no_members) ∷ []) ∷ [])

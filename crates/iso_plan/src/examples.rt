@@ -1,9 +1,9 @@
 //! Worked examples of the definitions, as public laws.
 
-ghost use Rattle.std.specs.Prelude.{◌≡◌, [], ◌∷◌, Some, None, true};
+ghost use Rattle.std.specs.Prelude.{◌≡◌, [], ◌∷◌, Some, None, false, true};
 ghost use Rattle.iso_model.specs.Keys.{global_key};
 ghost use Rattle.iso_model.specs.declared.script.Mode.TheVariants.{SameThread, Concurrent};
-ghost use Rattle.iso_plan.specs.Examples.{cart_and_desk, concurrent_by_default, concurrent_classes, key_k, loose, one_thread, read_lock, write_lock};
+ghost use Rattle.iso_plan.specs.Examples.{cart_and_desk, concurrent_by_default, concurrent_classes, isolated_with_keys, key_k, key_l, loose, nested, one_thread, read_lock, two_classes, write_lock};
 ghost use Rattle.iso_plan.specs.KeyTable.{keys};
 ghost use Rattle.iso_plan.specs.Locks.{conflict, locking_node, locks};
 ghost use Rattle.iso_plan.specs.Modes.{mode};
@@ -19,7 +19,8 @@ pub fn nodes_are_numbered_in_preorder()
 
 /// Keys are numbered as they are first marked, after the global key.
 pub fn keys_are_numbered_as_they_are_marked()
-    ensures { keys cart_and_desk ≡ global_key ∷ key_k ∷ [] }
+    ensures one { keys cart_and_desk ≡ global_key ∷ key_k ∷ [] }
+    ensures two { keys nested ≡ global_key ∷ key_k ∷ key_l ∷ [] }
 {}
 
 /// A locking node takes its own and its descendants' keys, each in the strongest access, and they take none.
@@ -42,6 +43,25 @@ pub fn isolation_reaches_up_to_the_top_level_class()
     ensures others { conflict cart_and_desk 1 4 ≡ true }
 {}
 
+/// Such a class takes every key that is marked in it.
+#[tactic(auto, unfolding(crate::specs::Paths::path))]
+pub fn isolation_gathers_at_the_top_level_class()
+    ensures top { locks isolated_with_keys 1 ≡ write_lock 0 ∷ read_lock 1 ∷ write_lock 2 ∷ [] }
+    ensures test { locks isolated_with_keys 2 ≡ [] }
+    ensures isolated { locks isolated_with_keys 3 ≡ [] }
+    ensures node { locking_node isolated_with_keys 4 ≡ Some 1 }
+{}
+
+/// Nodes conflict where they take one key and one of them takes it for READ_WRITE.
+#[tactic(auto, unfolding(crate::specs::Paths::path))]
+pub fn writers_conflict()
+    ensures class { locks nested 2 ≡ read_lock 1 ∷ read_lock 2 ∷ [] }
+    ensures test { locks nested 4 ≡ write_lock 2 ∷ [] }
+    ensures conflict { conflict nested 2 4 ≡ true }
+    ensures readers { conflict two_classes 1 3 ≡ false }
+    ensures others { conflict nested 1 4 ≡ false }
+{}
+
 /// What stands in a node that takes a key for READ_WRITE is on the same thread, and that node itself need not be.
 #[tactic(auto, unfolding(crate::specs::Paths::path))]
 pub fn descendants_of_a_writer_are_forced()
@@ -55,6 +75,8 @@ pub fn descendants_of_a_writer_are_forced()
 /// The nearest mark counts, then the default: one for top-level classes, another for all other nodes.
 #[tactic(auto, unfolding(crate::specs::Paths::path))]
 pub fn nearest_mark_counts()
+    ensures nearest { mode nested concurrent_by_default 3 ≡ SameThread }
+    ensures outer { mode nested concurrent_classes 4 ≡ Concurrent }
     ensures marked { mode loose concurrent_by_default 3 ≡ SameThread }
     ensures enclosing { mode loose concurrent_by_default 4 ≡ SameThread }
     ensures class { mode loose concurrent_classes 1 ≡ Concurrent }
