@@ -1,7 +1,8 @@
 -- Enter keeps the invariant: the node's body begins on what its parent's opening left.
-use Rattle.std.proofs.Common.{◌≡◌, ℕ, Some, List, true, false, inl, inr, refl, sym, ap, ◌∙◌}
+use Rattle.std.proofs.Common.{◌≡◌, ℕ, Some, None, List, Bool, true, false, cond, inl, inr, refl, sym, ap, ◌∙◌}
 use Rattle.iso_isolation.specs.Languages.{Content, Language, BodyLaws, Alike}
 use Rattle.iso_isolation.specs.Suites.{Suite, chain, may_read, may_write, SuiteLaws}
+use Rattle.iso_isolation.specs.Alone.{restricted}
 use Rattle.iso_isolation.specs.States as S
 use Rattle.iso_isolation.specs.States.{Status, Nodes, put, is_open, is_barred, is_closing, is_at_rest, is_held, body_in, frames_in, result_in}
 use Rattle.iso_isolation.specs.Events.{frames_of, entering}
@@ -19,6 +20,9 @@ module _ {H K V B F R : Type 0} (l : Language H K V B F R) (x : Suite H K V) (pl
 
   abbrev begun : Status B F R
   begun = S.Begun (l.begin (chain x n) fs)
+
+  abbrev kept_values : Content K V
+  kept_values = restricted (may_write l x n) s.flat
 
   now_locked : Locked x (put n begun s.status)
   now_locked = enter_locked x s.status kept.locked n may begun refl
@@ -64,9 +68,12 @@ module _ {H K V B F R : Type 0} (l : Language H K V B F R) (x : Suite H K V) (pl
     saved = λ m k nz h w. elim (equal_or_not m n) [
       | inl e ↦
           let wn : may_write l x n k ≡ true = ap (λ (j : ℕ). may_write l x j k) (sym e) ∙ w in
-          ap (λ (j : ℕ). put n s.flat s.saved j k) e ∙ ap (λ (f : Content K V). f k) (put_here n s.flat s.saved) ∙ fresh k (laws.rights.write_reads (chain x n) k wn)
+          ap (λ (j : ℕ). put n kept_values s.saved j k) e
+          ∙ ap (λ (f : Content K V). f k) (put_here n kept_values s.saved)
+          ∙ ap (λ (b : Bool). cond b (s.flat k) None) wn
+          ∙ fresh k (laws.rights.write_reads (chain x n) k wn)
           ∙ ap (λ (j : ℕ). (opening_at l x (x.parent j)).content k) (sym e)
-      | inr ne ↦ ap (λ (f : Content K V). f k) (put_elsewhere m n s.flat s.saved ne) ∙ kept.saved m k nz (sym (ap is_held (put_elsewhere m n begun s.status ne)) ∙ h) w
+      | inr ne ↦ ap (λ (f : Content K V). f k) (put_elsewhere m n kept_values s.saved ne) ∙ kept.saved m k nz (sym (ap is_held (put_elsewhere m n begun s.status ne)) ∙ h) w
     ];
     going = λ m. on_put (λ (j : ℕ) (v : Status B F R). (c : B) → body_in v ≡ Some c → Reached l x j c s.flat v) n begun s.status m
         (λ c e. record { steps = 0; alone = begins c e })

@@ -3,9 +3,9 @@ use Rattle.std.proofs.Common.{◌≡◌, ℕ, List, Some, Bool, true, false, con
 use Rattle.iso_isolation.specs.Languages.{Content, Language, BodyLaws}
 use Rattle.iso_isolation.specs.Suites.{Suite, On, chain, may_write, SuiteLaws}
 use Rattle.iso_isolation.specs.States as S
-use Rattle.iso_isolation.specs.States.{Status, Nodes, put, is_open, is_barred, is_closing, is_at_rest, is_held, body_in, frames_in, result_in}
+use Rattle.iso_isolation.specs.States.{Status, Nodes, nothing, put, is_open, is_barred, is_closing, is_at_rest, is_held, body_in, frames_in, result_in}
 use Rattle.iso_isolation.specs.Events.{finishing}
-use Rattle.iso_isolation.proofs.Changes.{true_or_false, put_elsewhere, on_put}
+use Rattle.iso_isolation.proofs.Changes.{true_or_false, put_here, put_elsewhere, on_put}
 use Rattle.iso_isolation.proofs.Statuses.{open_held, body_shut, body_held, rest_held}
 use Rattle.iso_isolation.proofs.Locks.{on_split, on_le, isolated}
 use Rattle.iso_isolation.proofs.LockEvents.{quiet, turn_locked}
@@ -26,6 +26,11 @@ module _ {H K V B F R : Type 0} (l : Language H K V B F R) (x : Suite H K V) (pl
 
   held_before : (m : ℕ) → is_held (put n done s.status m) ≡ true → is_held (s.status m) ≡ true
   held_before m = on_put (λ (j : ℕ) (v : Status B F R). is_held v ≡ true → is_held (s.status j) ≡ true) n done s.status m (λ e. absurd cc) (λ ne h. h)
+
+  not_here : (m : ℕ) → is_held (put n done s.status m) ≡ true → m ≡ n → ⊥
+  not_here m h e =
+      let f : is_held (put n done s.status m) ≡ false = ap (λ (j : ℕ). is_held (put n done s.status j)) e ∙ ap is_held (put_here n done s.status) in
+      cc
 
   held_after : (m : ℕ) → (m ≡ n → ⊥) → is_held (s.status m) ≡ true → is_held (put n done s.status m) ≡ true
   held_after m ne h = ap is_held (put_elsewhere m n done s.status ne) ∙ h
@@ -88,7 +93,7 @@ module _ {H K V B F R : Type 0} (l : Language H K V B F R) (x : Suite H K V) (pl
     ill = λ c. on_put (λ (j : ℕ) (v : Status B F R). is_barred v ≡ true → (opening_at l x j).well ≡ false) n done s.status c (λ e. absurd cc) (λ ne. kept.ill c);
     rest = λ c k. on_put (λ (j : ℕ) (v : Status B F R). is_at_rest v ≡ true → Untouched l x (put n done s.status) j k → back k ≡ (opening_at l x j).content k) n done s.status c
         (λ rc premise. absurd cc) (λ ne rc premise. rest_back c k ne rc premise);
-    saved = λ m k mz h w. kept.saved m k mz (held_before m h) w;
+    saved = λ m k mz h w. ap (λ (f : Content K V). f k) (put_elsewhere m n nothing s.saved (not_here m h)) ∙ kept.saved m k mz (held_before m h) w;
     going = λ m. on_put (λ (j : ℕ) (v : Status B F R). (c : B) → body_in v ≡ Some c → Reached l x j c back v) n done s.status m
         (λ c e. absurd cc)
         (λ ne c e. others l x plan laws s kept n b here back back_else m c ne e);

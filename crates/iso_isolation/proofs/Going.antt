@@ -191,29 +191,31 @@ module _ {H K V B F R : Type 0} (l : Language H K V B F R) (x : Suite H K V) (pl
       let h = leave_told l x workers s w ok in
       ap (λ (i : ℕ). replicate i (Step w) ++ Leave w ∷ []) (needed s w h.has ∙ none_left l ends (chain x h.has.node) h.has.body s.nodes.flat h.over)
 
-  pub goes_on : (h : List Event) (e : Event) → IsHistory l x workers h → has_no_step (e ∷ []) ≡ true → is_accepted l x workers (state_of l x h) e ≡ true → GoesOn l x workers h e
-  goes_on h e is clean ok =
+  -- a history goes on by an event that is accepted once the steps before it are made
+  going_on : (h : List Event) (e : Event) → IsHistory l x workers h → has_no_step (e ∷ []) ≡ true
+      → is_run l x workers (state_of l x h) (with_steps l x (state_of l x h) e) ≡ true → GoesOn l x workers h e
+  going_on h e is clean more =
       let s = first l x in
-      let t = state_of l x h in
-      let longer : full l x s (h ++ e ∷ []) ≡ full l x s h ++ e ∷ [] = full_append l x h (e ∷ []) s ∙ ap (λ (es : List Event). full l x s h ++ (es ++ [])) (none_needed t e clean ok) in
+      let es = with_steps l x (state_of l x h) e in
+      let longer : full l x s (h ++ e ∷ []) ≡ full l x s h ++ es = full_append l x h (e ∷ []) s ∙ ap (λ (fs : List Event). full l x s h ++ fs) (append-nil es) in
       record {
         history = record {
           no_step = no_step_more h e is.no_step clean;
-          run = subst (λ (es : List Event). is_run l x workers s es ≡ true) (sym longer)
-              (run_on l x workers (full l x s h) (e ∷ []) s is.run (both (is_accepted l x workers t e) true ok refl));
+          run = subst (λ (fs : List Event). is_run l x workers s fs ≡ true) (sym longer) (run_on l x workers (full l x s h) es s is.run more);
         };
-        state = ap (after_all_of l x s) longer ∙ after_append l x (full l x s h) (e ∷ []) s;
+        state = ap (after_all_of l x s) longer ∙ after_append l x (full l x s h) es s;
       }
 
-  pub leaves : (h : List Event) (w : ℕ) → IsHistory l x workers h → refusal l x workers (state_of l x h) (Leave w) ≡ Some Why.BodyNotEnded → IsHistory l x workers (h ++ Leave w ∷ [])
+  pub goes_on : (h : List Event) (e : Event) → IsHistory l x workers h → has_no_step (e ∷ []) ≡ true → is_accepted l x workers (state_of l x h) e ≡ true → GoesOn l x workers h e
+  goes_on h e is clean ok =
+      let t = state_of l x h in
+      going_on h e is clean
+      (subst (λ (fs : List Event). is_run l x workers t fs ≡ true) (sym (none_needed t e clean ok)) (both (is_accepted l x workers t e) true ok refl))
+
+  pub leaves : (h : List Event) (w : ℕ) → IsHistory l x workers h → refusal l x workers (state_of l x h) (Leave w) ≡ Some Why.BodyNotEnded → GoesOn l x workers h (Leave w)
   leaves h w is e =
-      let s = first l x in
       let t = state_of l x h in
       let only = only_end t.stopped (leb workers w) (not (is_some (body_of l x workers t w))) (where_some (body_of l x workers t w) false (λ b. not (l.ended b))) e in
       let g : Goes t w = record { stopped = only.stopped; worker = only.worker; has = has_body_from l x workers t w only.body } in
-      record {
-        no_step = no_step_more h (Leave w) is.no_step refl;
-        run = subst (λ (es : List Event). is_run l x workers s es ≡ true) (sym (full_append l x h (Leave w ∷ []) s ∙ ap (λ (es : List Event). full l x s h ++ es) (append-nil (with_steps l x t (Leave w)))))
-            (run_on l x workers (full l x s h) (with_steps l x t (Leave w)) s is.run
-            (steps_and_leave (steps_needed l x t w) t w (ready_run (full l x s h) s ready_first is.run) g (sym (needed t w g.has))));
-      }
+      going_on h (Leave w) is refl
+      (steps_and_leave (steps_needed l x t w) t w (ready_run (full l x (first l x) h) (first l x) ready_first is.run) g (sym (needed t w g.has)))

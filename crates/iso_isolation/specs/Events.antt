@@ -2,7 +2,8 @@
 use Rattle.std.specs.Prelude.{ℕ, Bool, true, false, cond, eqb, ◌&&◌, List, [], ◌∷◌, Option, Some, None}
 use Rattle.iso_isolation.specs.Languages.{Language}
 use Rattle.iso_isolation.specs.Suites.{Suite, chain, may_write}
-use Rattle.iso_isolation.specs.States.{Status, Waiting, Begun, Open, Barred, Closing, Finished, Nodes, State, put, is_waiting, body_in, with_body, frames_in}
+use Rattle.iso_isolation.specs.Alone.{restricted}
+use Rattle.iso_isolation.specs.States.{Status, Waiting, Begun, Open, Barred, Closing, Finished, Nodes, State, nothing, put, is_waiting, body_in, with_body, frames_in}
 
 -- worker w enters node n; makes one step of its body; books its ended body; begins the closing of class n
 pub data Event : Type 0 where
@@ -34,12 +35,12 @@ module _ {H K V B F R : Type 0} (l : Language H K V B F R) (x : Suite H K V) whe
   abbrev pub stands_in : ℕ → ℕ → Bool
   stands_in m n = is_in n (x.path (x.parent m))
 
-  -- Enter: the node's first body begins, on the frames of the classes around it, and its values are kept
+  -- Enter: the node's first body begins, on the frames of the classes around it, and the values that it may change are kept
   abbrev pub entering : ℕ → Nodes K V B F R → Nodes K V B F R
   entering n s = record {
     flat = s.flat;
     status = put n (Begun (l.begin (chain x n) (frames_of (s.status (x.parent n))))) s.status;
-    saved = put n s.flat s.saved;
+    saved = put n (restricted (may_write l x n) s.flat) s.saved;
   }
 
   -- Step: the body does one step on the flat map
@@ -53,7 +54,7 @@ module _ {H K V B F R : Type 0} (l : Language H K V B F R) (x : Suite H K V) whe
   finishing n r s = record {
     flat = λ k. cond (may_write l x n k) (s.saved n k) (s.flat k);
     status = put n (Finished r) s.status;
-    saved = s.saved;
+    saved = put n nothing s.saved;
   }
 
   -- the frames that an ended `before_all` leaves

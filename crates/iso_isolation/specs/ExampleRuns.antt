@@ -6,6 +6,7 @@ use Rattle.iso_isolation.specs.States as S
 use Rattle.iso_isolation.specs.States.{Status, State, first}
 use Rattle.iso_isolation.specs.Events.{Event, Enter, Step, Leave, Shut}
 use Rattle.iso_isolation.specs.Refusals.{Refused, refusal}
+use Rattle.iso_isolation.specs.Histories.{state_of}
 use Rattle.iso_isolation.specs.Runs.{is_run, after_all_of, result_of, is_complete}
 use Rattle.iso_isolation.specs.Examples.{Head, Counter, counter, counting, at, test_head, class_head, numbers, shop}
 
@@ -72,6 +73,13 @@ history = Enter 0 1 ∷ Enter 1 4 ∷ Leave 1 ∷ Leave 0 ∷ Enter 0 2 ∷ Ente
 
 abbrev pub in_full : List Event
 in_full = Enter 0 1 ∷ Enter 1 4 ∷ Step 1 ∷ Leave 1 ∷ Step 0 ∷ Leave 0 ∷ Enter 0 2 ∷ Enter 1 5 ∷ Step 1 ∷ Step 1 ∷ Leave 1 ∷ Step 0 ∷ Step 0 ∷ Leave 0 ∷ []
+
+-- a history that ends within tests 2 and 5, and the value of a key after it
+abbrev pub entered_both : List Event
+entered_both = Enter 0 1 ∷ Enter 1 4 ∷ Leave 1 ∷ Leave 0 ∷ Enter 0 2 ∷ Enter 1 5 ∷ []
+
+abbrev pub value_after_history : List Event → ℕ → Option ℕ
+value_after_history h k = (state_of counting shop h).nodes.flat k
 
 -- A suite for refusals alone: node 1 stands in the root, node 6 in node 3, and all others in node 1. What conflicts is told by
 -- numbers: every node conflicts with each that has number 4 or more.

@@ -4,8 +4,8 @@ use Rattle.iso_isolation.specs.Languages.{Content, Language}
 use Rattle.iso_isolation.specs.Suites.{Suite, On, chain}
 use Rattle.iso_isolation.specs.Alone.{opening}
 use Rattle.iso_isolation.specs.States.{Status, State, is_held, frames_in, first}
-use Rattle.iso_isolation.specs.Events.{Event, Enter, Step, Leave, Shut, after}
-use Rattle.iso_isolation.specs.Runs.{is_run, after_all_of, full, history_of}
+use Rattle.iso_isolation.specs.Events.{Event, Enter, Step, Leave, Shut}
+use Rattle.iso_isolation.specs.Runs.{is_run, after_all_of, with_steps, full, history_of}
 
 -- Bodies end: those that a run has, which are ready, come nearer to their end by each step.
 pub record EndLaws {H K V B F R : Type 0} (l : Language H K V B F R) : Type 0 where
@@ -39,10 +39,10 @@ module _ {H K V B F R : Type 0} (l : Language H K V B F R) (x : Suite H K V) whe
     pub no_step : has_no_step h ≡ true
     pub run : is_run l x workers (first l x) (full l x (first l x) h) ≡ true
 
-  -- A history goes on by an event, and gives the state after it.
+  -- A history goes on by an event, and gives the state after it and the steps that are made before it.
   pub record GoesOn (workers : ℕ) (h : List Event) (e : Event) : Type 0 where
     pub history : IsHistory workers (h ++ e ∷ [])
-    pub state : state_of (h ++ e ∷ []) ≡ after l x (state_of h) e
+    pub state : state_of (h ++ e ∷ []) ≡ after_all_of l x (state_of h) (with_steps l x (state_of h) e)
 
   -- Where the values of a key are in a state: at its start, unless an unfinished node holds it for READ_WRITE; and then as the
   -- opening of the innermost unfinished class at or under that writer left it, or at its start where there is none.

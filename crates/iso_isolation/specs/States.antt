@@ -108,7 +108,8 @@ module _ {B F R : Type 0} where
   result_in (Closing fs b) = None
   result_in (Finished r) = Some r
 
--- all resources in one flat map; the status of each node; and for each entered node the content at its Enter
+-- all resources in one flat map; the status of each node; and of each entered node, until it is finished, the values at its
+-- Enter of the keys that it may change
 pub record Nodes (K V B F R : Type 0) : Type 0 where
   pub flat : Content K V
   pub status : ℕ → Status B F R
@@ -126,10 +127,14 @@ pub record State (K V B F R : Type 0) : Type 0 where
 abbrev pub put : {A : Type 0} → ℕ → A → (ℕ → A) → ℕ → A
 put n a f m = cond (eqb m n) a (f m)
 
+-- no value at any key
+abbrev pub nothing : {K V : Type 0} → Content K V
+nothing k = None
+
 -- the first state: the root is open and worker 0 owns it, all other nodes wait
 abbrev pub first : {H K V B F R : Type 0} → Language H K V B F R → Suite H K V → State K V B F R
 first l x = record {
-  nodes = record { flat = x.start; status = put 0 (Open []) (λ n. Waiting); saved = λ n. x.start };
+  nodes = record { flat = x.start; status = put 0 (Open []) (λ n. Waiting); saved = λ n. nothing };
   owner = λ n. 0;
   busy = λ w. None;
   stopped = false;

@@ -3,7 +3,7 @@
 ghost use Rattle.std.specs.Prelude.{◌≡◌, [], ◌∷◌, ◌++◌, eqb, false, true, Some, None};
 ghost use Rattle.iso_isolation.specs.Events.{Enter, Step, Leave, Shut};
 ghost use Rattle.iso_isolation.specs.Examples.{counting, shop};
-ghost use Rattle.iso_isolation.specs.ExampleRuns.{barred, barred_class, barred_to_its_end, begun_shop, both_left, by_itself, came_to, closed_first, closing, finished, history, in_full, is_run_of_shop, is_whole, live, opened, opened_both, over, readers, refused_after, side_by_side, value_after, waiting, whole, why, why_stopped, why_test, why_where};
+ghost use Rattle.iso_isolation.specs.ExampleRuns.{barred, barred_class, barred_to_its_end, begun_shop, both_left, by_itself, came_to, closed_first, closing, entered_both, finished, history, in_full, is_run_of_shop, is_whole, live, opened, opened_both, over, readers, refused_after, side_by_side, value_after, value_after_history, waiting, whole, why, why_stopped, why_test, why_where};
 ghost use Rattle.iso_isolation.specs.Refusals as Why;
 ghost use Rattle.iso_isolation.specs.Runs.{full, history_of};
 
@@ -69,11 +69,14 @@ pub fn locks_and_siblings_are_waited_for()
     ensures after_the_last { refused_after closed_first (Leave 0) ≡ None }
 {}
 
-/// A history in full has before each Leave the steps that its body still needs; without them it is the history again.
+/// A history in full has before each Leave the steps that its body still needs; without them it is the history again. After it a
+/// key stands where the last opening of its writer left it, whatever bodies are under way.
 pub fn history_in_full_has_the_steps_before_each_leave()
     ensures full { full counting shop begun_shop history ≡ in_full }
     ensures accepted { is_run_of_shop in_full ≡ true }
     ensures history { history_of in_full ≡ history }
+    ensures left_by_the_class { value_after_history entered_both 2 ≡ Some 8 }
+    ensures at_its_start { value_after_history entered_both 1 ≡ Some 5 }
 {}
 
 /// Of the kinds that apply to an Enter the first is answered. Node 3 is entered by worker 1, in a class that worker 0 owns.

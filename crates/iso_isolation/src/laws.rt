@@ -30,15 +30,15 @@ pub fn stopped_run_refuses_every_event<H, K, V, B, F, R>()
         → refusal l x workers (stop s) e ≡ Some Why.Stopped }
 {}
 
-/// A history goes on by each event that is accepted after it, and gives the state after that event. It goes on by a Leave, too,
-/// against which nothing stands but the steps that its body still needs.
+/// A history goes on by each event that is accepted after it, and by a Leave against which nothing stands but the steps that its
+/// body still needs. Both give the state after the event and these steps.
 pub fn history_goes_on<H, K, V, B, F, R>()
     ensures accepted { (l : Language H K V B F R) (x : Suite H K V) → BodyLaws l → EndLaws l → SuiteLaws l x
         → (workers : ℕ) (h : List Event) (e : Event) → IsHistory l x workers h → has_no_step (e ∷ []) ≡ true
         → is_accepted l x workers (state_of l x h) e ≡ true → GoesOn l x workers h e }
     ensures leaves { (l : Language H K V B F R) (x : Suite H K V) → BodyLaws l → EndLaws l → SuiteLaws l x
         → (workers : ℕ) (h : List Event) (w : ℕ) → IsHistory l x workers h
-        → refusal l x workers (state_of l x h) (Leave w) ≡ Some Why.BodyNotEnded → IsHistory l x workers (h ++ Leave w ∷ []) }
+        → refusal l x workers (state_of l x h) (Leave w) ≡ Some Why.BodyNotEnded → GoesOn l x workers h (Leave w) }
 {}
 
 /// After a history in full each key stands at its start, unless an unfinished node holds it for READ_WRITE; and then as the
