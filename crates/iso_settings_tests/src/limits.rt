@@ -1,5 +1,6 @@
-//! The limits of a world: long texts and keys, many keys, deep tables.
+//! The limits of settings and worlds: long texts, long keys, many keys.
 use crate::world::{fault, property, start, text_of};
+use iso_settings::settings::read_settings;
 use iso_settings::world::read_world;
 use std::alloc::{AllocError, Global};
 use std::test::Fail;
@@ -79,19 +80,35 @@ fn longest_text_at_the_longest_key_is_kept(rt: HostRuntime) -> Result<(), Fail> 
     Ok(())
 }
 
-/// A mebibyte of one table is read in one pass, and its properties are copied.
-#[test]
-fn world_of_a_mebibyte_is_read(rt: HostRuntime) -> Result<(), Fail> {
-    let alloc = rt.alloc();
-    let mut text = String::from_str(alloc, "[properties]\n")?;
-    for number in 100_000..195_322u32 {
+/// A table of empty texts, nearly a mebibyte of them.
+fn numbered(alloc: Global, table: &str) -> Result<String, AllocError> {
+    let mut text = String::from_str(alloc, table)?;
+    for number in 100_000..195_310u32 {
         let line = format!(in alloc; "k{number}=\"\"\n")?;
         text.push_str(line.as_str())?;
     }
-    assert_eq!(rt; text.len(), 1_048_555);
-    let world = read_world(alloc, text.as_str())?;
-    let properties = start(alloc, &world, "java.lang.System.properties")?;
+    Ok(text)
+}
+
+/// The largest world is read in one pass, and its properties are copied.
+#[test]
+fn world_of_a_mebibyte_is_read(rt: HostRuntime) -> Result<(), Fail> {
+    let text = numbered(rt.alloc(), "[properties]\n")?;
+    assert_eq!(rt; text.len(), 1_048_423);
+    let world = read_world(rt.alloc(), text.as_str())?;
+    let properties = start(rt.alloc(), &world, "java.lang.System.properties")?;
     assert!(rt; property(&properties, "k100000") == Some(""));
-    assert!(rt; property(&properties, "k195321") == Some(""));
+    assert!(rt; property(&properties, "k195309") == Some(""));
+    Ok(())
+}
+
+/// Keys that mean nothing are passed over.
+#[test]
+fn settings_of_a_mebibyte_are_read(rt: HostRuntime) -> Result<(), Fail> {
+    let mut text = numbered(rt.alloc(), "[other]\n")?;
+    text.push_str("[junit.jupiter.execution.parallel]\nenabled=true\n")?;
+    assert_eq!(rt; text.len(), 1_048_466);
+    let settings = read_settings(rt.alloc(), text.as_str(), 7)?;
+    assert_eq!(rt; settings.workers(), 7);
     Ok(())
 }
