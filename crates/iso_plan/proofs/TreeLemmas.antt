@@ -105,4 +105,4 @@ placed ss n pos =
     record { below = omega arith; inner = ap (λ p. is_test (row_at (tree ss) p).kind) up })
 
 pub tree-is : (ss : List Script) → IsTree (tree ss)
-tree-is ss = record { rooted = omega arith; below = λ n pos. (placed ss n pos).below; inner = λ n pos. (placed ss n pos).inner }
+tree-is ss = record { rooted = omega arith; root_is = refl; below = λ n pos. (placed ss n pos).below; inner = λ n pos. (placed ss n pos).inner }

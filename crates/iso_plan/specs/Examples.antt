@@ -38,7 +38,9 @@ shop classes = record { team = codes "shop"; classes = classes }
 
 -- concurrent read "K" class Cart { concurrent test a { } write "K" test b { } }
 abbrev pub cart : Class
-cart = a_class (codes "Cart") (Some Concurrent) false (reads key_k ∷ []) (member (a_test (codes "a") (Some Concurrent) []) (member (a_test (codes "b") None (writes key_k ∷ [])) no_members))
+cart =
+    a_class (codes "Cart") (Some Concurrent) false (reads key_k ∷ [])
+    (member (a_test (codes "a") (Some Concurrent) []) (member (a_test (codes "b") None (writes key_k ∷ [])) no_members))
 
 -- isolated class Till { test d { } }
 abbrev pub till : Class
@@ -71,22 +73,46 @@ read_lock k = record { key = k; access = Read }
 abbrev pub write_lock : ℕ → Lock
 write_lock k = record { key = k; access = Write }
 
--- class Loose { write "K" test w { } same_thread class Inner { test i { } } }
+-- same_thread class Inner { test i { } }
+abbrev pub inner : Class
+inner = a_class (codes "Inner") (Some SameThread) false [] (member (a_test (codes "i") None []) no_members)
+
+-- nodes 1 to 4 of class Loose { write "K" test w { } same_thread class Inner { test i { } } }: Loose, w, Inner, i
 abbrev pub loose : List Row
-loose = tree (shop (a_class (codes "Loose") None false [] (member (a_test (codes "w") None (writes key_k ∷ [])) (member (class_member (a_class (codes "Inner") (Some SameThread) false [] (member (a_test (codes "i") None []) no_members))) no_members)) ∷ []) ∷ [])
+loose =
+    tree (shop (a_class (codes "Loose") None false []
+    (member (a_test (codes "w") None (writes key_k ∷ [])) (member (class_member inner) no_members)) ∷ []) ∷ [])
 
 -- the key L
 abbrev pub key_l : List ℕ
 key_l = codes "L"
 
--- concurrent class Out { same_thread read "K" class In { read "L" test i { } } write "L" test w { } }
+-- same_thread read "K" class In { read "L" test i { } }
+abbrev pub in_class : Class
+in_class =
+    a_class (codes "In") (Some SameThread) false (reads key_k ∷ [])
+    (member (a_test (codes "i") None (reads key_l ∷ [])) no_members)
+
+-- nodes 1 to 4 of concurrent class Out { same_thread read "K" class In { read "L" test i { } } write "L" test w { } }: Out, In, i, w
 abbrev pub nested : List Row
-nested = tree (shop (a_class (codes "Out") (Some Concurrent) false [] (member (class_member (a_class (codes "In") (Some SameThread) false (reads key_k ∷ []) (member (a_test (codes "i") None (reads key_l ∷ [])) no_members))) (member (a_test (codes "w") None (writes key_l ∷ [])) no_members)) ∷ []) ∷ [])
+nested =
+    tree (shop (a_class (codes "Out") (Some Concurrent) false []
+    (member (class_member in_class) (member (a_test (codes "w") None (writes key_l ∷ [])) no_members)) ∷ []) ∷ [])
 
--- class Top { read "K" test r { } isolated class Iso { write "L" test w { } } }
+-- isolated class Iso { write "L" test w { } }
+abbrev pub iso : Class
+iso = a_class (codes "Iso") None true [] (member (a_test (codes "w") None (writes key_l ∷ [])) no_members)
+
+-- nodes 1 to 4 of class Top { read "K" test r { } isolated class Iso { write "L" test w { } } }: Top, r, Iso, w
 abbrev pub isolated_with_keys : List Row
-isolated_with_keys = tree (shop (a_class (codes "Top") None false [] (member (a_test (codes "r") None (reads key_k ∷ [])) (member (class_member (a_class (codes "Iso") None true [] (member (a_test (codes "w") None (writes key_l ∷ [])) no_members))) no_members)) ∷ []) ∷ [])
+isolated_with_keys =
+    tree (shop (a_class (codes "Top") None false []
+    (member (a_test (codes "r") None (reads key_k ∷ [])) (member (class_member iso) no_members)) ∷ []) ∷ [])
 
--- class A { test t { } } class B { test t { } }
+-- a class with one test, neither of them marked
+abbrev pub plain : List ℕ → Class
+plain name = a_class name None false [] (member (a_test (codes "t") None []) no_members)
+
+-- nodes 1 to 4 of class A { test t { } } class B { test t { } }: A, t, B, t
 abbrev pub two_classes : List Row
-two_classes = tree (shop (a_class (codes "A") None false [] (member (a_test (codes "t") None []) no_members) ∷ a_class (codes "B") None false [] (member (a_test (codes "t") None []) no_members) ∷ []) ∷ [])
+two_classes = tree (shop (plain (codes "A") ∷ plain (codes "B") ∷ []) ∷ [])

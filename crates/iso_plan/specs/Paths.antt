@@ -67,6 +67,7 @@ children tree m = children_below tree m (length tree)
 -- there is a root, and each other node stands in one with a smaller number, which is no test
 pub record IsTree (tree : List Row) : Type 0 where
   pub rooted : 0 < length tree
+  pub root_is : row_at tree 0 ≡ root_row
   pub below : (n : ℕ) → 0 < n → parent tree n < n
   pub inner : (n : ℕ) → 0 < n → is_test (row_at tree (parent tree n)).kind ≡ false
 

@@ -41,8 +41,9 @@ pub fn chains_grow_down(plan: &Plan)
     plan.hold_a_tree();
 }
 
-/// What a class's chain lets do, the chain of each node that stands in it lets do.
+/// The root has no rights, and what a class's chain lets do, the chain of each node that stands in it lets do.
 pub fn rights_grow_down(plan: &Plan)
+    ensures root { (k : List ℕ) → is_readable (node_rights (tree_of plan.now) 0 k) ≡ false }
     ensures look { (n : ℕ) (k : List ℕ) → 0 < n → is_readable (node_rights (tree_of plan.now) (parent (tree_of plan.now) n) k) ≡ true
         → is_readable (node_rights (tree_of plan.now) n k) ≡ true }
     ensures change { (n : ℕ) (k : List ℕ) → 0 < n → is_writable (node_rights (tree_of plan.now) (parent (tree_of plan.now) n) k) ≡ true
