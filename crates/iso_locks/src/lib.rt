@@ -1,0 +1,8 @@
+//! Values in the hands of one worker at a time: trays, and the vault that lends to them.
+#![tactic(auto)]
+
+pub mod examples;
+pub mod mark;
+mod slots;
+mod starting;
+pub mod tray;

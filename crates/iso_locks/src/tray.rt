@@ -1,0 +1,161 @@
+//! One worker's values.
+ghost use Rattle.std.specs.Prelude.{◌≡◌, ◌<◌, None, IfOk, cond, length, map, option_copied};
+ghost use Rattle.iso_locks.specs.Trays.{CanUndo, empty_tray, is_lent, kept_at, marked, undone};
+ghost use Rattle.iso_model.specs.Rights.{access_in, is_writable};
+ghost use Rattle.iso_plan.specs.Paths.{column};
+
+use crate::mark::Mark;
+use crate::slots::Slots;
+use crate::starting::{Starting, number_of, starts_of};
+use iso_model::access::Access;
+use iso_model::key::Key;
+use iso_model::resource::{Ask, Change};
+use iso_model::resource_key::ResourceKey;
+use iso_model::rights::Rights;
+use iso_model::touch::Touch;
+use iso_plan::plan::Plan;
+use iso_settings::world::World;
+use iso_store::held::{self, Held};
+use std::alloc::{AllocError, Global};
+use std::marker::Model;
+
+/// What one worker holds of the resources: the values that nodes lent to it may change, and copies of all
+/// starting values, to be looked at where such a node holds the key for READ.
+///
+/// Contracts see the plan and the world that it was made for, the nodes that are lent to it and the values that
+/// were moved into it, each with its history.
+#[derive(Drop)]
+pub struct Tray<'a> {
+    plan: &'a Plan,
+    world: &'a World,
+    lent: Vec<bool>,
+    values: Slots,
+    /// The keys with their starting values, by key number.
+    starts: Vec<Starting>,
+}
+
+impl<'a> Model for Tray<'a> {
+    ghost use Rattle.std.specs.Prelude.{◌≡◌, length};
+    ghost use Rattle.iso_plan.specs.KeyTable.{keys};
+    ghost use Rattle.iso_plan.specs.RowView.{tree_of};
+    ghost use Rattle.iso_locks.specs.Trays.{IsTray, TrayView, tray_code};
+
+    ghost Value = { TrayView };
+
+    ghost coded = { tray_code };
+
+    ghost view = { λ t. record { plan = t.plan.now; world = t.world.now; lent = t.lent.items; values = t.values } };
+
+    ghost invariant = { λ t. IsTray t.plan.now t.world.now t.lent.items t.values t.starts.items };
+}
+
+impl<'a> Tray<'a> {
+    /// A tray for a plan and a world, to which nothing is lent. It takes all memory that lending, undoing and
+    /// taking back need.
+    pub fn new(alloc: Global, plan: &'a Plan, world: &'a World) -> Result<Tray<'a>, AllocError>
+        ensures { IfOk result (λ t. t ≡ empty_tray plan.now world.now) }
+    {
+        let count = plan.key_count() as usize;
+        let nodes = plan.len() as usize;
+        Ok(Tray {
+            plan,
+            world,
+            lent: vec![in alloc; false; nodes]?,
+            values: Slots::empty(alloc, count)?,
+            starts: starts_of(alloc, plan, world)?,
+        })
+    }
+
+    /// The plan that it was made for.
+    pub fn plan(&self) -> &'a Plan
+        ensures { result.now ≡ self.now.plan }
+    {
+        self.plan
+    }
+
+    /// The world that it was made for.
+    pub fn world(&self) -> &'a World
+        ensures { result.now ≡ self.now.world }
+    {
+        self.world
+    }
+
+    /// Whether a node was lent to it and not taken back from it.
+    pub fn is_lent(&self, node: u32) -> bool
+        requires { node < length self.now.plan.rows }
+        ensures { result ≡ is_lent self.now.lent node }
+    {
+        self.lent[node as usize]
+    }
+
+    /// Keeps the values that a node's rights let it change, as they stand now.
+    pub fn mark(&self, alloc: Global, node: u32) -> Result<Mark, AllocError>
+        requires { node < length self.now.plan.rows }
+        ensures { IfOk result (λ m. m ≡ marked self.now node) }
+    {
+        let rights = self.plan.rights(node);
+        let values = kept(alloc, rights, &self.starts, &self.values)?;
+        Ok(Mark::new(node, values))
+    }
+
+    /// Lets the values that were kept stand as they stood then, and leaves all others. The tray has gone back to no
+    /// earlier mark of these values since. Takes no memory.
+    pub fn undo(&mut self, mark: Mark)
+        requires { CanUndo mark self.old }
+        ensures { self.new ≡ undone mark self.old }
+    {
+        self.values.undo_all(mark.into_values());
+    }
+}
+
+impl<'a> Touch for Tray<'a> {
+    ghost use Rattle.iso_locks.specs.Trays.{content, has_value};
+
+    ghost content = { content };
+
+    ghost writes = { has_value };
+
+    fn look(&self, key: ResourceKey<'_>, ask: Ask<'_>) -> Option<&str> {
+        match number_of(&self.starts, key) {
+            Some(number) => match self.values.get(number) {
+                Some(held) => held.look(ask),
+                None => self.starts[number].value.look(ask),
+            },
+            None => None,
+        }
+    }
+
+    fn change(&mut self, key: ResourceKey<'_>, change: Change) -> Result<(), AllocError> {
+        match number_of(&self.starts, key) {
+            Some(number) => self.values.apply(number, change),
+            None => Ok(()),
+        }
+    }
+}
+
+/// The values that rights let be changed, as they stand now, by key number.
+fn kept(
+    alloc: Global,
+    rights: &Rights,
+    starts: &[Starting],
+    values: &Slots,
+) -> Result<Vec<Option<held::Mark>>, AllocError>
+    requires { length starts.now ≡ length values.now }
+    ensures { IfOk result (λ v. v.items ≡ column (kept_at rights.now (map (λ s. s.key) starts.now) values.now) (length values.now)) }
+{
+    let mut marks = Vec::new(alloc);
+    'keys: for number in 0..values.len() {
+        marks.push(kept_at(rights, &starts[number].key, values.get(number)))?;
+    }
+    Ok(marks)
+}
+
+/// A value that rights let be changed, as it stands now.
+fn kept_at(rights: &Rights, key: &Key, value: Option<&Held>) -> Option<held::Mark>
+    ensures { result ≡ cond (is_writable (access_in rights.now key.now)) (option_copied value.entry) None }
+{
+    match (value, rights.access(key)) {
+        (Some(held), Some(Access::Write)) => Some(held.mark()),
+        _ => None,
+    }
+}
