@@ -1,8 +1,9 @@
 //! Worked examples of the definitions, as public laws that the checker computes.
 
 ghost use Rattle.std.specs.Prelude.{◌≡◌, [], ◌∷◌, ◌++◌, eqb, false, true, Some, None};
+ghost use Rattle.iso_isolation.specs.Alone.{run_alone};
 ghost use Rattle.iso_isolation.specs.Events.{Enter, Step, Leave, Shut};
-ghost use Rattle.iso_isolation.specs.Examples.{counting, shop};
+ghost use Rattle.iso_isolation.specs.Examples.{class_head, counting, numbers, shop, test_head};
 ghost use Rattle.iso_isolation.specs.ExampleRuns.{barred, barred_class, barred_to_its_end, begun_shop, both_left, by_itself, came_to, closed_first, closing, entered_both, finished, history, in_full, is_run_of_shop, is_whole, live, node_of_worker, opened, opened_both, over, readers, refused_after, side_by_side, value_after, value_after_history, waiting, whole, why, why_stopped, why_test, why_where};
 ghost use Rattle.iso_isolation.specs.Refusals as Why;
 ghost use Rattle.iso_isolation.specs.Runs.{full, history_of};
@@ -12,6 +13,8 @@ ghost use Rattle.iso_isolation.specs.Runs.{full, history_of};
 pub fn chains_run_alone()
     ensures class { by_itself 1 ≡ Some (Some 7 ∷ Some 8 ∷ []) }
     ensures test { by_itself 2 ≡ Some (Some 7 ∷ Some 8 ∷ Some 9 ∷ []) }
+    ensures nested { run_alone counting (test_head 2 false false 1 ∷ class_head 2 true true ∷ class_head 2 true true ∷ []) numbers
+        ≡ Some (Some 7 ∷ Some 8 ∷ Some 9 ∷ []) }
     ensures undeclared { by_itself 4 ≡ Some (None ∷ None ∷ []) }
     ensures writer { by_itself 5 ≡ Some (None ∷ Some 5 ∷ Some 6 ∷ []) }
     ensures reader { by_itself 6 ≡ Some (None ∷ Some 5 ∷ []) }
