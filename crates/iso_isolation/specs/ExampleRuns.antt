@@ -27,6 +27,9 @@ came_to es n = result_of (shop_after es) n
 abbrev pub value_after : List Event → ℕ → Option ℕ
 value_after es k = (shop_after es).nodes.flat k
 
+abbrev pub node_of_worker : List Event → ℕ → Option ℕ
+node_of_worker es w = (shop_after es).busy w
+
 -- whether these are accepted on three workers; and why one more event is refused then, if it is
 abbrev pub is_run_of_shop : List Event → Bool
 is_run_of_shop es = is_run counting shop 3 begun_shop es

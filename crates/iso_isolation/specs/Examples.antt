@@ -53,23 +53,24 @@ abbrev pub turns : ℕ → List Head → Counter → Content ℕ ℕ → Progres
 turns zero hs b m = record { body = b; content = m }
 turns (suc n) hs b m = let p = turn hs b m in turns n hs p.body p.content
 
--- so many turns at the key of the innermost head
-abbrev pub counter_of : List Head → (Head → ℕ) → Counter
-counter_of [] count = counter 0 0 [] true
-counter_of (h ∷ hs) count = counter (count h) h.key [] h.is_well
+-- so many turns at the key of the innermost head, after these were seen
+abbrev pub counter_of : List Head → (Head → ℕ) → List (Option ℕ) → Counter
+counter_of [] count seen = counter 0 0 seen true
+counter_of (h ∷ hs) count seen = counter (count h) h.key seen h.is_well
 
 abbrev pub seen_first : List Counter → List (Option ℕ)
 seen_first [] = []
 seen_first (f ∷ fs) = seen_by f
 
--- A result is what the bodies saw; nothing under a class whose `before_all` failed.
+-- A body begins with what the `before_all` around it saw. A result is what the bodies saw; nothing under a class whose
+-- `before_all` failed.
 abbrev pub counting : Language Head ℕ ℕ Counter Counter (Option (List (Option ℕ)))
 counting = record {
   is_test = λ h. h.is_test;
   reads = declared looks_at;
   writes = declared (λ h. h.changes);
-  begin = λ hs fs. counter_of hs (λ h. h.turns);
-  begin_closing = λ hs fs. counter_of hs (λ h. 1);
+  begin = λ hs fs. counter_of hs (λ h. h.turns) (seen_first fs);
+  begin_closing = λ hs fs. counter_of hs (λ h. 1) [];
   step = turn;
   ended = λ b. is_zero (turns_left b);
   distance = turns_left;

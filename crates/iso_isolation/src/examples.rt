@@ -1,9 +1,10 @@
 //! Worked examples of the definitions, as public laws that the checker computes.
 
 ghost use Rattle.std.specs.Prelude.{◌≡◌, [], ◌∷◌, ◌++◌, eqb, false, true, Some, None};
+ghost use Rattle.iso_isolation.specs.Alone.{run_alone};
 ghost use Rattle.iso_isolation.specs.Events.{Enter, Step, Leave, Shut};
-ghost use Rattle.iso_isolation.specs.Examples.{counting, shop};
-ghost use Rattle.iso_isolation.specs.ExampleRuns.{barred, barred_class, barred_to_its_end, begun_shop, both_left, by_itself, came_to, closed_first, closing, entered_both, finished, history, in_full, is_run_of_shop, is_whole, live, opened, opened_both, over, readers, refused_after, side_by_side, value_after, value_after_history, waiting, whole, why, why_stopped, why_test, why_where};
+ghost use Rattle.iso_isolation.specs.Examples.{class_head, counting, numbers, shop, test_head};
+ghost use Rattle.iso_isolation.specs.ExampleRuns.{barred, barred_class, barred_to_its_end, begun_shop, both_left, by_itself, came_to, closed_first, closing, entered_both, finished, history, in_full, is_run_of_shop, is_whole, live, node_of_worker, opened, opened_both, over, readers, refused_after, side_by_side, value_after, value_after_history, waiting, whole, why, why_stopped, why_test, why_where};
 ghost use Rattle.iso_isolation.specs.Refusals as Why;
 ghost use Rattle.iso_isolation.specs.Runs.{full, history_of};
 
@@ -11,10 +12,12 @@ ghost use Rattle.iso_isolation.specs.Runs.{full, history_of};
 /// class left, `after_all` goes on from `before_all`, and nothing runs under a class whose `before_all` failed.
 pub fn chains_run_alone()
     ensures class { by_itself 1 ≡ Some (Some 7 ∷ Some 8 ∷ []) }
-    ensures test { by_itself 2 ≡ Some (Some 8 ∷ Some 9 ∷ []) }
+    ensures test { by_itself 2 ≡ Some (Some 7 ∷ Some 8 ∷ Some 9 ∷ []) }
+    ensures nested { run_alone counting (test_head 2 false false 1 ∷ class_head 2 true true ∷ class_head 2 true true ∷ []) numbers
+        ≡ Some (Some 7 ∷ Some 8 ∷ Some 9 ∷ []) }
     ensures undeclared { by_itself 4 ≡ Some (None ∷ None ∷ []) }
-    ensures writer { by_itself 5 ≡ Some (Some 5 ∷ Some 6 ∷ []) }
-    ensures reader { by_itself 6 ≡ Some (Some 5 ∷ []) }
+    ensures writer { by_itself 5 ≡ Some (None ∷ Some 5 ∷ Some 6 ∷ []) }
+    ensures reader { by_itself 6 ≡ Some (None ∷ Some 5 ∷ []) }
     ensures failed { by_itself 8 ≡ Some (None ∷ None ∷ []) }
     ensures blocked { by_itself 10 ≡ None }
 {}
@@ -23,15 +26,17 @@ pub fn chains_run_alone()
 /// are put back when it leaves, and a class's when its `after_all` leaves.
 pub fn bodies_run_side_by_side()
     ensures accepted { is_run_of_shop closed_first ≡ true }
-    ensures first { came_to both_left 2 ≡ Some (Some (Some 8 ∷ Some 9 ∷ [])) }
-    ensures second { came_to both_left 5 ≡ Some (Some (Some 5 ∷ Some 6 ∷ [])) }
+    ensures first { came_to both_left 2 ≡ Some (Some (Some 7 ∷ Some 8 ∷ Some 9 ∷ [])) }
+    ensures second { came_to both_left 5 ≡ Some (Some (None ∷ Some 5 ∷ Some 6 ∷ [])) }
+    ensures under_way { node_of_worker side_by_side 0 ≡ Some 2 }
+    ensures free { node_of_worker both_left 0 ≡ None }
     ensures unfinished { came_to side_by_side 2 ≡ None }
     ensures changed { value_after side_by_side 1 ≡ Some 7 }
     ensures put_back { value_after both_left 1 ≡ Some 5 }
     ensures others_stay { value_after (side_by_side ++ Leave 0 ∷ []) 1 ≡ Some 7 }
     ensures left_by_the_class { value_after both_left 2 ≡ Some 8 }
-    ensures readers_left { came_to readers 6 ≡ Some (Some (Some 5 ∷ [])) }
-    ensures sibling { came_to closed_first 3 ≡ Some (Some (Some 8 ∷ [])) }
+    ensures readers_left { came_to readers 6 ≡ Some (Some (None ∷ Some 5 ∷ [])) }
+    ensures sibling { came_to closed_first 3 ≡ Some (Some (Some 7 ∷ Some 8 ∷ [])) }
     ensures closed { came_to (closed_first ++ Leave 0 ∷ []) 1 ≡ Some (Some (Some 7 ∷ Some 8 ∷ [])) }
     ensures at_its_start { value_after (closed_first ++ Leave 0 ∷ []) 2 ≡ Some 7 }
 {}
