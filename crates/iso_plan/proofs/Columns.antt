@@ -1,6 +1,6 @@
 -- Lists that have a value for each node.
-use Rattle.std.proofs.Common.{◌≡◌, ℕ, zero, suc, ◌+◌, ◌<◌, ◌≤◌, List, [], ◌∷◌, ◌++◌, length, map, get_or, set, Bool, true, false, ◌==◌, ◌&&◌, not, cond, refl, sym, ap, ap₂, ◌∙◌, arith, add-one}
-use Rattle.std.proofs.lemmas.List.{length-append, get_or_append_left, get_or_push, get_or_default, get_or-map, same_lists, get_or-set_same, get_or-set_other}
+use Rattle.std.proofs.Common.{◌≡◌, ℕ, zero, suc, ◌+◌, ◌<◌, List, [], ◌∷◌, ◌++◌, length, map, get_or, replicate, set, Bool, true, false, ◌==◌, ◌&&◌, not, cond, refl, sym, ap, ap₂, ◌∙◌, arith, add-one}
+use Rattle.std.proofs.lemmas.List.{length-append, length-map, replicate_more, get_or_append_left, get_or_push, get_or-map, same_lists, get_or-set_same, get_or-set_other}
 use Rattle.std.proofs.lemmas.Bool.Decides.{nat_tests}
 use Rattle.iso_plan.proofs.PathLemmas.{eq_from, eq_same, not-root}
 use Rattle.iso_plan.specs.Paths.{row_at, parent, column, is_root, children_below}
@@ -58,3 +58,22 @@ children_by tree xs p n m s h pos at new old false e =
 -- a node more among the children of the one that it stands in
 pub children-next : (tree : List T.Row) (xs : List (List ℕ)) (p n m : ℕ) (s : List ℕ) → p < length xs → 0 < n → parent tree n ≡ p → s ≡ get_or xs p [] ++ n ∷ [] → get_or xs m [] ≡ children_below tree m n → get_or (set xs p s) m [] ≡ children_below tree m (n + 1)
 children-next tree xs p n m s h pos at new old = rw add-one (children_by tree xs p n m s h pos at new old (p == m) refl)
+
+-- the node that a row of a slice stands in
+pub parent-at : (rows : List Row) (n : ℕ) (d : Row) → n < length rows → parent (map row_of rows) n ≡ (get_or rows n d).parent
+parent-at rows n d h = ap (λ (r : T.Row). r.parent) (row-at rows n d h)
+
+pub replicate-column : {A : Type 0} (x : A) (n : ℕ) → replicate n x ≡ column (λ _. x) n
+replicate-column x zero = refl
+replicate-column x (suc n) = ap (λ m. replicate m x) (sym (add-one n)) ∙ sym (replicate_more n x) ∙ ap (λ xs. xs ++ x ∷ []) (replicate-column x n)
+
+-- a node has its value in a column of all nodes
+pub within-column : {A : Type 0} (rows : List Row) (f : ℕ → A) (xs : List A) (n : ℕ) → xs ≡ column f (length (map row_of rows)) → n < length rows → n < length xs
+within-column rows f xs n e h =
+    let count : length xs ≡ length rows = ap length e ∙ length-column f (length (map row_of rows)) ∙ length-map rows row_of in
+    omega arith
+
+pub in-column : {A : Type 0} (rows : List Row) (f : ℕ → A) (xs : List A) (n : ℕ) (d : A) → xs ≡ column f (length (map row_of rows)) → n < length rows → get_or xs n d ≡ f n
+in-column rows f xs n d e h =
+    let listed : n < length (map row_of rows) = rw (length-map rows row_of) h in
+    column-read f xs (length (map row_of rows)) n d e listed

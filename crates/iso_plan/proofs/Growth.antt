@@ -3,12 +3,11 @@ use Rattle.std.proofs.Common.{◌≡◌, ℕ, ◌+◌, ◌<◌, ◌≤◌, List,
 use Rattle.std.proofs.lemmas.List.{length-append, length-map, drop_more}
 use Rattle.std.specs.declared.alloc.Global.{Global}
 use Rattle.std.specs.declared.vec.Vec.{Vec}
-use Rattle.iso_model.specs.declared.limits.TheConstants.{NODES}
 use Rattle.iso_plan.specs.Faults.{IsFull}
 use Rattle.iso_plan.specs.RowView.{row_of}
 use Rattle.iso_plan.specs.Tree as T
-use Rattle.iso_plan.specs.declared.fault.PlanFault.{PlanFault}
-use Rattle.iso_plan.specs.declared.fault.PlanFault.TheVariants.{DoubleClass, TooManyNodes, TooManyKeys, TooManyScripts, OutOfMemory}
+use Rattle.iso_plan.specs.declared.fault.PlanError.{PlanError}
+use Rattle.iso_plan.specs.declared.fault.PlanError.TheVariants.{Fault, OutOfMemory}
 use Rattle.iso_plan.specs.declared.row.Row.{Row}
 
 -- a list from a place on, with its first element apart
@@ -30,9 +29,6 @@ bounded v v' F G A e =
     let n : length v.items + (length F + length G) ≡ length v'.items + length A = simp (length-append, length-map) at (ap length e) in
     omega (arith, v.ok.0, v'.ok.0)
 
-pub full-more : (k m : ℕ) (e : PlanFault) → k ≤ m → IsFull k e → IsFull m e
-full-more k m DoubleClass h f = f
-full-more k m TooManyNodes h f = omega arith
-full-more k m TooManyKeys h f = f
-full-more k m TooManyScripts h f = f
+pub full-more : (k m : ℕ) (e : PlanError) → k ≤ m → IsFull k e → IsFull m e
+full-more k m (Fault fault) h f = (f.0, omega arith)
 full-more k m OutOfMemory h f = f

@@ -1,8 +1,8 @@
 -- Laws of paths, where each node stands in one with a smaller number.
-use Rattle.std.proofs.Common.{◌≡◌, ◌≢◌, ℕ, zero, suc, ◌+◌, ◌<◌, ◌≤◌, List, [], ◌∷◌, ◌++◌, Option, Some, None, Bool, true, false, ◌||◌, ◌==◌, cond, refl, sym, ap, ◌∙◌, arith, add-one}
+use Rattle.std.proofs.Common.{◌≡◌, ◌≢◌, ℕ, zero, suc, ◌<◌, ◌≤◌, List, [], ◌∷◌, ◌++◌, Option, Some, None, Bool, true, false, ◌||◌, ◌==◌, cond, refl, sym, ap, ◌∙◌, arith}
 use Rattle.std.proofs.lemmas.Bool.Decides.{nat_tests}
 use Rattle.std.specs.Option.{option_or}
-use Rattle.iso_plan.specs.Paths.{row_at, parent, up, path, is_on, is_root, is_under, outermost}
+use Rattle.iso_plan.specs.Paths.{row_at, parent, up, path, is_root, is_under, outermost}
 use Rattle.iso_plan.specs.Locks.{is_that}
 use Rattle.iso_plan.specs.NodeChains.{chain_classes, class_heads, heads_on}
 use Rattle.iso_plan.specs.Tree.{Row}

@@ -1,10 +1,10 @@
 -- In the tree of scripts each node but the root stands in a class or the root, which comes before it.
-use Rattle.std.proofs.Common.{◌≡◌, ℕ, zero, suc, ◌+◌, ◌<◌, ◌≤◌, List, [], ◌∷◌, ◌++◌, length, map, get_or, Bool, true, false, nat_lt, ◌==◌, refl, sym, ap, ◌∙◌, subst, arith, append_assoc, append-nil}
+use Rattle.std.proofs.Common.{◌≡◌, ℕ, ◌+◌, ◌<◌, ◌≤◌, List, [], ◌∷◌, ◌++◌, length, Bool, true, false, nat_lt, ◌==◌, refl, sym, ap, ◌∙◌, arith, append_assoc, append-nil}
 use Rattle.std.proofs.lemmas.Bool.Decides.{nat_tests}
 use Rattle.std.proofs.lemmas.List.{length-append, get_or_append_left, get_or_push, get_or_past}
-use Rattle.iso_model.specs.Scripts.{Test, ClassTitle, Class, class, Member, class_member, test_member, Members, no_members, member, Script}
+use Rattle.iso_model.specs.Scripts.{Class, class, Member, class_member, test_member, Members, no_members, member, Script}
 use Rattle.iso_plan.specs.Paths.{row_at, parent, is_test, IsTree}
-use Rattle.iso_plan.specs.Tree.{Kind, root, class_node, test_node, Row, root_row, test_row, class_row, top_row, member_rows, members_rows, class_rows, top_rows, team_rows, script_rows, tree}
+use Rattle.iso_plan.specs.Tree.{Row, root_row, test_row, class_row, top_row, member_rows, members_rows, class_rows, top_rows, team_rows, script_rows, tree}
 
 -- whether a node's number and its place below others are right
 record Placed (rows : List Row) (n : ℕ) : Type 0 where
@@ -105,4 +105,4 @@ placed ss n pos =
     record { below = omega arith; inner = ap (λ p. is_test (row_at (tree ss) p).kind) up })
 
 pub tree-is : (ss : List Script) → IsTree (tree ss)
-tree-is ss = record { below = λ n pos. (placed ss n pos).below; inner = λ n pos. (placed ss n pos).inner }
+tree-is ss = record { rooted = omega arith; below = λ n pos. (placed ss n pos).below; inner = λ n pos. (placed ss n pos).inner }

@@ -1,3 +1,5 @@
+pub mod Covers
+pub mod Examples
 pub mod Faults
 pub mod IsPlan
 pub mod KeyTable
@@ -7,4 +9,5 @@ pub mod NodeChains
 pub mod Paths
 pub mod Planned
 pub mod RowView
+pub mod Tables
 pub mod Tree

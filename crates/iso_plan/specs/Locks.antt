@@ -1,5 +1,5 @@
 -- The locks that a node takes: its own and its descendants' marks, gathered at the locking node.
-use Rattle.std.specs.Prelude.{ℕ, zero, suc, List, [], ◌∷◌, ◌++◌, length, Option, Some, None, Bool, true, false, ◌||◌, ◌&&◌, ◌==◌, not, cond}
+use Rattle.std.specs.Prelude.{ℕ, zero, suc, List, [], ◌∷◌, ◌++◌, length, map, Option, Some, None, Bool, false, ◌||◌, ◌&&◌, ◌==◌, not, cond}
 use Rattle.std.specs.List.{list_any}
 use Rattle.std.specs.Str.{bytes_eq}
 use Rattle.iso_model.specs.Keys.{global_key}
@@ -26,9 +26,13 @@ is_isolated root = false
 is_isolated (class_node isolated head) = isolated
 is_isolated (test_node head) = false
 
--- whether a node asks for isolation: an isolated class, or a node that is marked with the global key itself, which no script that was read is
+-- whether marks name the global key, which no script that was read does
+abbrev pub marks_global : List Mark → Bool
+marks_global marks = list_any (λ (m : Mark). bytes_eq global_key m.key) marks
+
+-- whether a node asks for isolation: an isolated class, or a node that is marked with the global key itself
 abbrev pub isolates : List Row → ℕ → Bool
-isolates tree n = is_isolated (row_at tree n).kind || list_any (λ (m : Mark). bytes_eq global_key m.key) (effective_marks tree n)
+isolates tree n = is_isolated (row_at tree n).kind || marks_global (effective_marks tree n)
 
 -- whether a node with a number below n that is m or stands in it asks for isolation
 abbrev pub isolates_below : List Row → ℕ → ℕ → Bool
@@ -39,14 +43,13 @@ isolates_below tree m (suc n) = (is_under tree m n && isolates tree n) || isolat
 abbrev pub holds_isolated : List Row → ℕ → Bool
 holds_isolated tree n = is_top tree n && isolates_below tree n (length tree)
 
--- whether a list is empty
-abbrev pub is_empty : {A : Type 0} → List A → Bool
-is_empty [] = true
-is_empty (x ∷ xs) = false
+-- whether a node is marked
+abbrev pub is_marked : List Row → ℕ → Bool
+is_marked tree n = not (length (effective_marks tree n) == 0)
 
--- whether a node would lock for all that stands in it: it has a mark, or it is a top-level class that holds an isolated one
+-- whether a node would lock for all that stands in it: it is marked, or it is a top-level class that holds an isolated one
 abbrev pub declares : List Row → ℕ → Bool
-declares tree n = holds_isolated tree n || not (is_empty (effective_marks tree n))
+declares tree n = holds_isolated tree n || is_marked tree n
 
 -- the locking node of a node's path: the outermost one on it that declares
 abbrev pub locking_node : List Row → ℕ → Option ℕ
@@ -64,30 +67,38 @@ is_locking tree n = is_that (locking_node tree n) n
 -- the strongest access that a key is marked with by a node with a number below n that is m or stands in it
 abbrev pub gathered_below : List Row → ℕ → List ℕ → ℕ → Option Access
 gathered_below tree m k zero = None
-gathered_below tree m k (suc n) = strongest (cond (is_under tree m n) (declared tree n k) None) (gathered_below tree m k n)
+gathered_below tree m k (suc n) =
+    strongest (cond (is_under tree m n) (declared tree n k) None) (gathered_below tree m k n)
 
 -- the access with which a top-level class takes the global key: READ_WRITE where it holds an isolated class, else READ
 abbrev pub global_access : List Row → ℕ → List ℕ → Option Access
 global_access tree n k =
     cond (is_top tree n && bytes_eq global_key k) (Some (cond (holds_isolated tree n) Write Read)) None
 
--- the access with which a node takes a key, if it does. A locking node takes what is marked on it and below it, each key in the strongest access; a top-level class takes the global key besides.
+-- the access with which a node takes a key, if it does, where only the nodes with a number below i are looked at. A
+-- locking node takes what is marked on it and below it, each key in the strongest access; a top-level class takes the
+-- global key besides.
+abbrev pub taken_below : List Row → ℕ → List ℕ → ℕ → Option Access
+taken_below tree n k i =
+    strongest (global_access tree n k) (cond (is_locking tree n) (gathered_below tree n k i) None)
+
+-- the access with which a node takes a key, if it does
 abbrev pub taken : List Row → ℕ → Rights
-taken tree n k = strongest (global_access tree n k) (cond (is_locking tree n) (gathered_below tree n k (length tree)) None)
+taken tree n k = taken_below tree n k (length tree)
 
 -- a lock, if there is one
 abbrev pub lock_of : ℕ → Option Access → List Lock
 lock_of key None = []
 lock_of key (Some a) = record { key = key; access = a } ∷ []
 
--- what is taken of keys, of which the first has number i
-abbrev pub locks_from : Rights → ℕ → List (List ℕ) → List Lock
-locks_from taken i [] = []
-locks_from taken i (k ∷ ks) = lock_of i (taken k) ++ locks_from taken (suc i) ks
+-- the locks of accesses by key number, where the first key has number i
+abbrev pub locks_from : ℕ → List (Option Access) → List Lock
+locks_from i [] = []
+locks_from i (a ∷ rest) = lock_of i a ++ locks_from (suc i) rest
 
 -- the locks that a node takes, by the number of the key
 abbrev pub locks : List Row → ℕ → List Lock
-locks tree n = locks_from (taken tree n) 0 (keys tree)
+locks tree n = locks_from 0 (map (taken tree n) (keys tree))
 
 -- whether a lock is for READ_WRITE
 abbrev pub is_write : Lock → Bool

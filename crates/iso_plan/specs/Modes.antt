@@ -1,9 +1,9 @@
 -- The execution mode of a node (JUnit 5 User Guide, parallel execution).
-use Rattle.std.specs.Prelude.{ℕ, List, [], ◌∷◌, Option, Some, None, Bool, true, false, ◌||◌, ◌&&◌, ◌==◌, not, cond, unwrap_or}
+use Rattle.std.specs.Prelude.{ℕ, List, [], ◌∷◌, Option, None, Bool, ◌&&◌, not, cond, unwrap_or}
 use Rattle.std.specs.List.{list_any}
 use Rattle.std.specs.Option.{option_or}
 use Rattle.iso_model.specs.declared.script.Mode.{Mode}
-use Rattle.iso_model.specs.declared.script.Mode.TheVariants.{SameThread, Concurrent}
+use Rattle.iso_model.specs.declared.script.Mode.TheVariants.{SameThread}
 use Rattle.iso_plan.specs.Locks.{takes_write}
 use Rattle.iso_plan.specs.Paths.{row_at, parent, path, is_root, is_top}
 use Rattle.iso_plan.specs.Tree.{Row}

@@ -1,8 +1,8 @@
 -- The class chain of a node: the heads of the classes on its path, and a test's own head.
 use Rattle.std.specs.Prelude.{ℕ, List, [], ◌∷◌, ◌++◌, Option, Some, None}
-use Rattle.std.specs.Option.{option_map}
-use Rattle.iso_model.specs.Chains.{ClassHead, TestHead, class_rights, test_rights}
-use Rattle.iso_model.specs.Rights.{Rights}
+use Rattle.iso_model.specs.Chains.{ClassHead, TestHead, marks_of}
+use Rattle.iso_model.specs.Rights.{Rights, rights_of}
+use Rattle.iso_model.specs.declared.heads.Mark.{Mark}
 use Rattle.iso_plan.specs.Tree.{Kind, root, class_node, test_node, Row}
 use Rattle.iso_plan.specs.Paths.{row_at, path}
 
@@ -31,11 +31,14 @@ chain_classes tree n = heads_on tree (path tree n)
 abbrev pub chain_test : List Row → ℕ → Option TestHead
 chain_test tree n = own_test (row_at tree n).kind
 
--- the access rights of a node with these class heads: those of its chain
+-- the marks of a test, if there is one, and of classes
+abbrev pub marks_with : Option TestHead → List ClassHead → List Mark
+marks_with None cs = marks_of cs
+marks_with (Some t) cs = t.marks ++ marks_of cs
+
+-- the access rights of what stands in these classes, and of a node: those of its class chain
 abbrev pub rights_with : Kind → List ClassHead → Rights
-rights_with root cs = class_rights cs
-rights_with (class_node isolated head) cs = class_rights cs
-rights_with (test_node head) cs = test_rights head cs
+rights_with kind cs = rights_of (marks_with (own_test kind) cs)
 
 abbrev pub node_rights : List Row → ℕ → Rights
 node_rights tree n = rights_with (row_at tree n).kind (chain_classes tree n)

@@ -64,8 +64,9 @@ children_below tree m (suc n) = cond (not (is_root n) && parent tree n == m) (ch
 abbrev pub children : List Row → ℕ → List ℕ
 children tree m = children_below tree m (length tree)
 
--- each node but the root stands in one with a smaller number, which is no test
+-- there is a root, and each other node stands in one with a smaller number, which is no test
 pub record IsTree (tree : List Row) : Type 0 where
+  pub rooted : 0 < length tree
   pub below : (n : ℕ) → 0 < n → parent tree n < n
   pub inner : (n : ℕ) → 0 < n → is_test (row_at tree (parent tree n)).kind ≡ false
 

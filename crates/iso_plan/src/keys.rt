@@ -6,7 +6,7 @@ ghost use Rattle.iso_plan.specs.Faults.{IsCrowded};
 ghost use Rattle.iso_plan.specs.KeyTable.{keys, with_marks, with_rows, written_marks};
 ghost use Rattle.iso_plan.specs.RowView.{kind_of, row_of};
 
-use crate::fault::PlanFault;
+use crate::fault::{PlanError, PlanFault};
 use crate::row::{Kind, Row};
 use indexmap::IndexSet;
 use iso_model::heads::Mark;
@@ -15,13 +15,13 @@ use iso_model::text::Text;
 use std::alloc::{AllocError, Global};
 
 /// The key that no script may declare.
-const GLOBAL_KEY: &str = "iso:global";
+pub(crate) const GLOBAL_KEY: &str = "iso:global";
 
 /// The keys of nodes by number, in the order in which they are first marked, the global key first.
 /// More than 255 besides it are `TooManyKeys`.
-pub(crate) fn keys(alloc: Global, rows: &[Row]) -> Result<Vec<Text>, PlanFault>
-    ensures keys { IfOk result (λ v. v.items ≡ keys (map row_of rows.now)) }
-    ensures few { IfOk result (λ v. length v.items ≤ KEYS + 1) }
+pub(crate) fn keys(alloc: Global, rows: &[Row]) -> Result<IndexSet<&str>, PlanError>
+    ensures keys { IfOk result (λ s. map (λ k. k.now) s.keys ≡ keys (map row_of rows.now)) }
+    ensures few { IfOk result (λ s. length s.keys ≤ KEYS + 1) }
     ensures crowded { IfErr result (IsCrowded (length (keys (map row_of rows.now)))) }
 {
     let mut table = IndexSet::new(alloc);
@@ -29,11 +29,10 @@ pub(crate) fn keys(alloc: Global, rows: &[Row]) -> Result<Vec<Text>, PlanFault>
     'rows: for row in rows {
         add_marks(&mut table, row.kind.marks())?;
     }
-    let keys = table.as_slice();
-    if keys.len() > KEYS as usize + 1 {
-        return Err(PlanFault::TooManyKeys);
+    if table.as_slice().len() > KEYS as usize + 1 {
+        return Err(PlanError::Fault(PlanFault::TooManyKeys));
     }
-    Ok(copied(alloc, keys)?)
+    Ok(table)
 }
 
 /// Adds the keys of marks that aren't there yet.
@@ -48,7 +47,7 @@ fn add_marks<'a>(table: &mut IndexSet<&'a str>, marks: &'a [Mark]) -> Result<(),
 }
 
 /// The same texts.
-fn copied(alloc: Global, keys: &[&str]) -> Result<Vec<Text>, AllocError>
+pub(crate) fn copied(alloc: Global, keys: &[&str]) -> Result<Vec<Text>, AllocError>
     ensures { IfOk result (λ v. v.items ≡ map (λ k. k.now) keys.now) }
 {
     let mut texts = Vec::with_capacity(alloc, keys.len())?;

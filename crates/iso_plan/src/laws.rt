@@ -1,7 +1,12 @@
 //! Laws of every plan: what the proofs of its runs rest on.
-ghost use Rattle.std.specs.Prelude.{◌≡◌, ◌<◌, ◌++◌, ◌∷◌, [], ℕ, false};
-ghost use Rattle.iso_plan.specs.NodeChains.{chain_classes, class_heads};
-ghost use Rattle.iso_plan.specs.Paths.{is_test, parent, path, row_at};
+ghost use Rattle.std.specs.Prelude.{◌≡◌, ◌<◌, ◌||◌, ◌++◌, ◌∷◌, [], ℕ, List, false, length, true};
+ghost use Rattle.iso_model.specs.Rights.{is_readable, is_writable};
+ghost use Rattle.iso_model.specs.declared.script.Mode.TheVariants.{SameThread};
+ghost use Rattle.iso_plan.specs.Covers.{IsCovered};
+ghost use Rattle.iso_plan.specs.Locks.{conflict, is_locking, taken};
+ghost use Rattle.iso_plan.specs.Modes.{mode};
+ghost use Rattle.iso_plan.specs.NodeChains.{chain_classes, class_heads, node_rights};
+ghost use Rattle.iso_plan.specs.Paths.{is_test, is_top, is_under, parent, path, row_at};
 ghost use Rattle.iso_plan.specs.RowView.{tree_of};
 
 use crate::plan::Plan;
@@ -32,6 +37,44 @@ pub fn paths_lead_up(plan: &Plan)
 pub fn chains_grow_down(plan: &Plan)
     ensures { (n : ℕ) → 0 < n → chain_classes (tree_of plan.now) n
         ≡ class_heads (row_at (tree_of plan.now) n).kind ++ chain_classes (tree_of plan.now) (parent (tree_of plan.now) n) }
+{
+    plan.hold_a_tree();
+}
+
+/// What a class's chain lets do, the chain of each node that stands in it lets do.
+pub fn rights_grow_down(plan: &Plan)
+    ensures look { (n : ℕ) (k : List ℕ) → 0 < n → is_readable (node_rights (tree_of plan.now) (parent (tree_of plan.now) n) k) ≡ true
+        → is_readable (node_rights (tree_of plan.now) n k) ≡ true }
+    ensures change { (n : ℕ) (k : List ℕ) → 0 < n → is_writable (node_rights (tree_of plan.now) (parent (tree_of plan.now) n) k) ≡ true
+        → is_writable (node_rights (tree_of plan.now) n k) ≡ true }
+{
+    plan.hold_a_tree();
+}
+
+/// A key that a node may look at is taken by the node or one that it stands in, and for READ_WRITE where the node
+/// may change it.
+pub fn rights_are_covered_by_locks(plan: &Plan)
+    ensures { (n : ℕ) (k : List ℕ) → 0 < n → n < length (tree_of plan.now) → is_readable (node_rights (tree_of plan.now) n k) ≡ true
+        → IsCovered (tree_of plan.now) n k }
+{
+    plan.hold_a_tree();
+}
+
+/// What stands in a node that takes a key for READ_WRITE is on the same thread.
+pub fn descendants_of_writers_are_forced(plan: &Plan)
+    ensures { (m n : ℕ) (k : List ℕ) → is_under (tree_of plan.now) m (parent (tree_of plan.now) n) ≡ true
+        → is_writable (taken (tree_of plan.now) m k) ≡ true → mode (tree_of plan.now) plan.now.settings n ≡ SameThread }
+{}
+
+/// A node takes keys only where it is a locking node or a top-level class.
+pub fn locking_nodes_alone_take_keys(plan: &Plan)
+    ensures { (n : ℕ) (k : List ℕ) → is_readable (taken (tree_of plan.now) n k) ≡ true
+        → (is_locking (tree_of plan.now) n || is_top (tree_of plan.now) n) ≡ true }
+{}
+
+/// Of two nodes that conflict, one stands in the other only where they are the same.
+pub fn conflicting_nodes_stand_apart(plan: &Plan)
+    ensures { (m n : ℕ) → conflict (tree_of plan.now) m n ≡ true → is_under (tree_of plan.now) m n ≡ true → m ≡ n }
 {
     plan.hold_a_tree();
 }

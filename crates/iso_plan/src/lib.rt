@@ -3,11 +3,16 @@
 
 mod chains;
 mod children;
+pub mod examples;
 pub mod fault;
 mod keys;
 pub mod laws;
 pub mod lock;
+mod locking;
+mod locks;
+mod modes;
 mod names;
+mod outermost;
 pub mod plan;
 mod rights;
 pub mod row;

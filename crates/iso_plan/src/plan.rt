@@ -1,20 +1,28 @@
 //! The plan of a run.
-ghost use Rattle.std.specs.Prelude.{◌≡◌, ◌≢◌, ◌<◌, [], IfErr, IfOk, None, Some, length, map, slice_index_or};
+ghost use Rattle.std.specs.Prelude.{◌≡◌, ◌<◌, ◌≤◌, ◌+◌, [], IfErr, IfOk, None, Some, length, map, slice_index_or};
+ghost use Rattle.std.specs.List.{All};
 ghost use Rattle.std.specs.Option.{option_map};
 ghost use Rattle.iso_model.specs.ChainView.{innermost_first};
 ghost use Rattle.iso_model.specs.Rights.{access_in};
 ghost use Rattle.iso_model.specs.ScriptView.{script_of, test_head_of};
-ghost use Rattle.iso_plan.specs.Faults.{plan_fault};
+ghost use Rattle.iso_model.specs.declared.limits.TheConstants.{KEYS, NODES};
+ghost use Rattle.iso_plan.specs.Faults.{IsCrowded, IsRefusal, plan_fault};
 ghost use Rattle.iso_plan.specs.KeyTable.{keys};
+ghost use Rattle.iso_plan.specs.Locks.{locking_node, locks};
+ghost use Rattle.iso_plan.specs.Modes.{mode};
 ghost use Rattle.iso_plan.specs.NodeChains.{chain_classes, chain_test, node_rights};
-ghost use Rattle.iso_plan.specs.Paths.{IsTree, children, is_test, parent_of, row_at};
-ghost use Rattle.iso_plan.specs.RowView.{tree_of};
+ghost use Rattle.iso_plan.specs.Paths.{IsTree, children, column, is_test, parent_of, row_at};
+ghost use Rattle.iso_plan.specs.RowView.{row_of, tree_of};
 ghost use Rattle.iso_plan.specs.Tree.{tree};
 
 use crate::chains::chains;
 use crate::children::children;
-use crate::fault::PlanFault;
-use crate::keys::keys;
+use crate::fault::{PlanError, PlanFault};
+use crate::keys::{copied, keys};
+use crate::lock::Lock;
+use crate::locking::{isolated, locking_nodes};
+use crate::locks::locks;
+use crate::modes::modes;
 use crate::names::has_double_class;
 use crate::rights::rights;
 use crate::row::{Kind, Row};
@@ -23,7 +31,7 @@ use iso_model::chain::Chain;
 use iso_model::heads::ClassHead;
 use iso_model::limits::SCRIPTS;
 use iso_model::rights::Rights;
-use iso_model::script::Script;
+use iso_model::script::{Mode, Script};
 use iso_model::text::Text;
 use iso_settings::settings::Settings;
 use std::alloc::Global;
@@ -41,6 +49,9 @@ pub struct Plan {
     chains: Vec<Vec<Arc<ClassHead>>>,
     rights: Vec<Rights>,
     keys: Vec<Text>,
+    locking: Vec<Option<u32>>,
+    locks: Vec<Vec<Lock>>,
+    modes: Vec<Mode>,
 }
 
 impl Model for Plan {
@@ -61,8 +72,17 @@ impl Model for Plan {
 
     ghost view = { λ p. record { rows = p.rows.items; settings = p.settings } };
 
-    ghost invariant = { λ p. IsPlan (map row_of p.rows.items) (map (λ c. c.items) p.children.items)
-        (map (λ c. innermost_first c.items) p.chains.items) (map access_in p.rights.items) p.keys.items };
+    ghost invariant = { λ p. IsPlan (map row_of p.rows.items) p.settings (map (λ c. c.items) p.children.items)
+        (map (λ c. innermost_first c.items) p.chains.items) (map access_in p.rights.items) p.keys.items p.locking.items
+        (map (λ l. l.items) p.locks.items) p.modes.items };
+}
+
+/// What the nodes of a plan lock, and the keys by number.
+#[derive(Drop)]
+struct Gathered {
+    keys: Vec<Text>,
+    locking: Vec<Option<u32>>,
+    locks: Vec<Vec<Lock>>,
 }
 
 /// The plan of scripts under settings.
@@ -70,21 +90,21 @@ impl Model for Plan {
 /// More than 64 scripts are `TooManyScripts`; two top-level classes of one team and name `DoubleClass`; more
 /// than 4,096 nodes, the root among them, `TooManyNodes`; more than 255 different declared keys `TooManyKeys`.
 /// They are tested in this order. Want of memory may be answered at each growth.
-pub fn build(alloc: Global, scripts: &[Script], settings: &Settings) -> Result<Plan, PlanFault>
+pub fn build(alloc: Global, scripts: &[Script], settings: &Settings) -> Result<Plan, PlanError>
     ensures tree { IfOk result (λ p. tree_of p ≡ tree (map script_of scripts.now)) }
     ensures settings { IfOk result (λ p. p.settings ≡ settings.now) }
     ensures accepted { IfOk result (λ p. plan_fault (map script_of scripts.now) ≡ None) }
-    ensures refused { IfErr result (λ e. e ≢ PlanFault.OutOfMemory
-        → plan_fault (map script_of scripts.now) ≡ Some e) }
+    ensures refused { IfErr result (IsRefusal (map script_of scripts.now)) }
 {
     if scripts.len() > SCRIPTS as usize {
-        return Err(PlanFault::TooManyScripts);
+        return Err(PlanError::Fault(PlanFault::TooManyScripts));
     }
     if has_double_class(alloc, scripts)? {
-        return Err(PlanFault::DoubleClass);
+        return Err(PlanError::Fault(PlanFault::DoubleClass));
     }
     let rows = tree(alloc, scripts)?;
-    let keys = keys(alloc, &rows)?;
+    let gathered = gather(alloc, &rows)?;
+    let modes = modes(alloc, &rows, *settings, &gathered.locks)?;
     let children = children(alloc, &rows)?;
     let chains = chains(alloc, &rows)?;
     let rights = rights(alloc, &rows, &chains)?;
@@ -94,7 +114,32 @@ pub fn build(alloc: Global, scripts: &[Script], settings: &Settings) -> Result<P
         children,
         chains,
         rights,
+        keys: gathered.keys,
+        locking: gathered.locking,
+        locks: gathered.locks,
+        modes,
+    })
+}
+
+/// The keys, locking nodes and locks of nodes.
+fn gather(alloc: Global, rows: &[Row]) -> Result<Gathered, PlanError>
+    requires tree { IsTree (map row_of rows.now) }
+    requires fits { length rows.now ≤ NODES }
+    ensures keys { IfOk result (λ l. l.keys.items ≡ keys (map row_of rows.now)) }
+    ensures few { IfOk result (λ l. length l.keys.items ≤ KEYS + 1) }
+    ensures locking { IfOk result (λ l. l.locking.items ≡ column (locking_node (map row_of rows.now)) (length rows.now)) }
+    ensures locks { IfOk result (λ l. map (λ v. v.items) l.locks.items ≡ column (locks (map row_of rows.now)) (length rows.now)) }
+    ensures crowded { IfErr result (IsCrowded (length (keys (map row_of rows.now)))) }
+{
+    let table = keys(alloc, rows)?;
+    let isolated = isolated(alloc, rows)?;
+    let locking = locking_nodes(alloc, rows, &isolated)?;
+    let locks = locks(alloc, rows, &table, &isolated, &locking)?;
+    let keys = copied(alloc, table.as_slice())?;
+    Ok(Gathered {
         keys,
+        locking,
+        locks,
     })
 }
 
@@ -174,6 +219,38 @@ impl Plan {
         &self.rights[node as usize]
     }
 
+    /// The execution mode of a node (JUnit 5 User Guide, parallel execution): its own mark, else that of the nearest
+    /// enclosing class that has one, else the default for top-level classes or that for all other nodes. The root,
+    /// all that stands in a node that takes a key for READ_WRITE, and every node where parallel execution is off
+    /// are on the same thread.
+    pub fn mode(&self, node: u32) -> Mode
+        requires { node < length self.now.rows }
+        ensures { result ≡ mode (tree_of self.now) self.now.settings node }
+    {
+        self.modes[node as usize]
+    }
+
+    /// The keys that a node takes and how, by key number: what is marked on it and below it where it is the locking
+    /// node of its path, each key in the strongest access, and the global key where it is a top-level class. Other
+    /// nodes take none.
+    pub fn locks(&self, node: u32) -> &[Lock]
+        requires { node < length self.now.rows }
+        ensures locks { result.now ≡ locks (tree_of self.now) node }
+        ensures known { All (λ l. l.key < length (keys (tree_of self.now))) result.now }
+    {
+        &self.locks[node as usize]
+    }
+
+    /// The locking node of a node's path, which takes the keys of all that stands in it: a top-level class that is
+    /// isolated or holds an isolated class, else the first node of the path from the root with a `read` or `write`
+    /// mark. A path without one has none.
+    pub fn locking_node(&self, node: u32) -> Option<u32>
+        requires { node < length self.now.rows }
+        ensures { result ≡ locking_node (tree_of self.now) node }
+    {
+        self.locking[node as usize]
+    }
+
     /// How many keys it numbers, the global key among them.
     pub fn key_count(&self) -> u32
         ensures { result ≡ length (keys (tree_of self.now)) }
@@ -189,6 +266,7 @@ impl Plan {
     {
         self.keys[number as usize].as_str()
     }
+
     /// Its nodes are a tree.
     pub(crate) fn hold_a_tree(&self)
         ensures { IsTree (tree_of self.now) }

@@ -6,7 +6,7 @@ ghost use Rattle.iso_plan.specs.Faults.{IsFull};
 ghost use Rattle.iso_plan.specs.RowView.{row_of, title_of};
 ghost use Rattle.iso_plan.specs.Tree.{in_team, class_row, class_rows, member_rows, members_rows, root_row, script_rows, team_rows, test_row, top_row, top_rows, tree};
 
-use crate::fault::PlanFault;
+use crate::fault::{PlanError, PlanFault};
 use crate::row::{Kind, Row};
 use iso_model::limits::NODES;
 use iso_model::script::{Class, Member, Script, Test};
@@ -15,7 +15,7 @@ use std::alloc::{AllocError, Global};
 
 /// The nodes of scripts in preorder, after the root: scripts as handed in, members as written.
 /// More than 4,096 are `TooManyNodes`.
-pub(crate) fn tree(alloc: Global, scripts: &[Script]) -> Result<Vec<Row>, PlanFault>
+pub(crate) fn tree(alloc: Global, scripts: &[Script]) -> Result<Vec<Row>, PlanError>
     ensures tree { IfOk result (λ v. map row_of v.items ≡ tree (map script_of scripts.now)) }
     ensures fits { IfOk result (λ v. vec_len v ≤ NODES) }
     ensures full { IfErr result (IsFull (length (tree (map script_of scripts.now)))) }
@@ -42,20 +42,20 @@ fn root(alloc: Global) -> Row
 }
 
 /// Adds a node.
-fn add(rows: &mut Vec<Row>, row: Row) -> Result<(), PlanFault>
+fn add(rows: &mut Vec<Row>, row: Row) -> Result<(), PlanError>
     ensures ok { OnOk result (map row_of rows.new.items ≡ map row_of rows.old.items ++ row_of row ∷ []) }
     ensures fits { OnOk result (vec_len rows.new ≤ NODES) }
     ensures full { IfErr result (IsFull (vec_len rows.old + 1)) }
 {
     if rows.len() >= NODES as usize {
-        return Err(PlanFault::TooManyNodes);
+        return Err(PlanError::Fault(PlanFault::TooManyNodes));
     }
     rows.push(row)?;
     Ok(())
 }
 
 /// Adds the nodes of a team's classes.
-fn add_team(alloc: Global, rows: &mut Vec<Row>, script: &Script) -> Result<(), PlanFault>
+fn add_team(alloc: Global, rows: &mut Vec<Row>, script: &Script) -> Result<(), PlanError>
     requires { vec_len rows.old ≤ NODES }
     ensures ok { OnOk result (map row_of rows.new.items ≡ map row_of rows.old.items
         ++ team_rows script.now.team (vec_len rows.old) (map class_of script.now.classes.items)) }
@@ -70,7 +70,7 @@ fn add_team(alloc: Global, rows: &mut Vec<Row>, script: &Script) -> Result<(), P
 }
 
 /// Adds the nodes of a top-level class of a team.
-fn add_top(alloc: Global, rows: &mut Vec<Row>, team: &Text, class: &Class) -> Result<(), PlanFault>
+fn add_top(alloc: Global, rows: &mut Vec<Row>, team: &Text, class: &Class) -> Result<(), PlanError>
     requires { vec_len rows.old ≤ NODES }
     ensures ok { OnOk result (map row_of rows.new.items ≡ map row_of rows.old.items
         ++ top_rows team.now (vec_len rows.old) (class_of class.now)) }
@@ -90,7 +90,7 @@ fn add_class(
     rows: &mut Vec<Row>,
     parent: u32,
     class: &Class,
-) -> Result<(), PlanFault>
+) -> Result<(), PlanError>
     requires { vec_len rows.old ≤ NODES }
     ensures ok { OnOk result (map row_of rows.new.items ≡ map row_of rows.old.items
         ++ class_rows parent (vec_len rows.old) (class_of class.now)) }
@@ -110,7 +110,7 @@ fn add_members(
     rows: &mut Vec<Row>,
     parent: u32,
     members: &[Member],
-) -> Result<(), PlanFault>
+) -> Result<(), PlanError>
     requires { vec_len rows.old ≤ NODES }
     ensures ok { OnOk result (map row_of rows.new.items ≡ map row_of rows.old.items
         ++ members_rows parent (vec_len rows.old) (members_of (map member_of members.now))) }
@@ -131,7 +131,7 @@ fn add_member(
     rows: &mut Vec<Row>,
     parent: u32,
     member: &Member,
-) -> Result<(), PlanFault>
+) -> Result<(), PlanError>
     requires { vec_len rows.old ≤ NODES }
     ensures ok { OnOk result (map row_of rows.new.items ≡ map row_of rows.old.items
         ++ member_rows parent (vec_len rows.old) (member_of member.now)) }

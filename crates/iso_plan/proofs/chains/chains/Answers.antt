@@ -1,4 +1,4 @@
-use Rattle.std.proofs.Common.{◌≡◌, [], ◌++◌, ◌∷◌, ℕ, ◌<◌, ◌≤◌, List, length, map, get_or, vec_len, ap, ap₂, sym, ◌∙◌, arith}
+use Rattle.std.proofs.Common.{◌≡◌, [], ◌++◌, ◌<◌, List, length, map, get_or, ap, ap₂, sym, ◌∙◌, arith}
 use Rattle.std.proofs.lemmas.List.{length-map, map_push, get_or-map}
 use Rattle.iso_model.specs.ChainView.{innermost_first}
 use Rattle.iso_plan.proofs.Columns.{length-column, column-read, column-push, row-at}

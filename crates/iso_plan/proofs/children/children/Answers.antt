@@ -1,4 +1,4 @@
-use Rattle.std.proofs.Common.{◌≡◌, [], ◌++◌, ◌∷◌, ℕ, ◌<◌, ◌≤◌, List, length, map, get_or, vec_len, ap, sym, ◌∙◌, arith}
+use Rattle.std.proofs.Common.{◌≡◌, [], ◌++◌, ◌∷◌, ◌<◌, length, map, get_or, ap, sym, ◌∙◌, arith}
 use Rattle.std.proofs.lemmas.List.{length-map, map-set, get_or-map, get_or_default}
 use Rattle.iso_plan.proofs.Columns.{length-column, column-read, column-from, row-at, children-next}
 use Rattle.iso_plan.specs.Paths.{parent, children, children_below}

@@ -1,7 +1,6 @@
-use Rattle.std.proofs.Common.{◌≡◌, ◌+◌, ◌≤◌, ◌<◌, ◌++◌, ◌∷◌, ℕ, List, length, map, drop, vec_len, arith, ◌∙◌}
+use Rattle.std.proofs.Common.{◌+◌, ℕ, List, length, map, drop, vec_len, arith, ◌∙◌}
 use Rattle.std.proofs.lemmas.Result.{err_from_is_err_and}
-use Rattle.iso_model.specs.ScriptView.{class_of, member_of, members_of, script_of}
-use Rattle.iso_model.specs.declared.limits.TheConstants.{NODES}
+use Rattle.iso_model.specs.ScriptView.{member_of, members_of}
 use Rattle.iso_plan.proofs.Growth.{drop_next, grown-next, counted, bounded, full-more}
 use Rattle.iso_plan.specs.RowView.{row_of}
 use Rattle.iso_plan.specs.Tree as T

@@ -1,9 +1,8 @@
-use Rattle.std.proofs.Common.{◌≡◌, ◌+◌, ◌≤◌, ◌<◌, ◌++◌, ◌∷◌, ℕ, List, length, map, drop, vec_len, arith, ap, ◌∙◌}
+use Rattle.std.proofs.Common.{◌≡◌, ◌+◌, ℕ, List, length, map, drop, vec_len, arith, ap, ◌∙◌}
 use Rattle.std.proofs.lemmas.List.{length-append, length-map}
 use Rattle.std.proofs.lemmas.Result.{err_from_is_err_and}
-use Rattle.iso_model.specs.ScriptView.{class_of, member_of, members_of, script_of}
-use Rattle.iso_model.specs.declared.limits.TheConstants.{NODES}
-use Rattle.iso_plan.proofs.Growth.{drop_next, grown-next, counted, bounded, full-more}
+use Rattle.iso_model.specs.ScriptView.{class_of, script_of}
+use Rattle.iso_plan.proofs.Growth.{drop_next, grown-next, counted, full-more}
 use Rattle.iso_plan.specs.RowView.{row_of}
 use Rattle.iso_plan.specs.Tree as T
 use Rattle.iso_plan.specs.Tree.{member_rows, members_rows, script_rows, team_rows, top_rows, tree}

@@ -1,0 +1,184 @@
+//! The locks of each node: what is marked on it and below it, gathered where it is the locking node.
+ghost use Rattle.std.specs.Prelude.{◌≡◌, ◌<◌, ◌≤◌, ◌+◌, ◌&&◌, ℕ, None, Some, [], IfOk, IfSome, ◌||◌, cond, length, map, not, replicate, slice_index_or, bytes_eq};
+ghost use Rattle.std.specs.List.{IsDistinct};
+ghost use Rattle.iso_model.specs.Rights.{declared_by, rights_of, strongest};
+ghost use Rattle.iso_model.specs.declared.access.Access.TheVariants.{Read, Write};
+ghost use Rattle.iso_model.specs.declared.limits.TheConstants.{KEYS, NODES};
+ghost use Rattle.iso_plan.specs.KeyTable.{keys};
+ghost use Rattle.iso_plan.specs.Locks.{holds_isolated, is_that, locking_node, locks, locks_from};
+ghost use Rattle.iso_plan.specs.Paths.{IsTree, column, is_root};
+ghost use Rattle.iso_plan.specs.RowView.{row_of};
+ghost use Rattle.iso_plan.specs.Tables.{own_table, with_first};
+
+use crate::lock::Lock;
+use crate::row::Row;
+use indexmap::IndexSet;
+use iso_model::access::Access;
+use iso_model::heads::Mark;
+use std::alloc::{AllocError, Global};
+
+/// The locks of each node, by key number.
+pub(crate) fn locks(
+    alloc: Global,
+    rows: &[Row],
+    key_table: &IndexSet<&str>,
+    isolated: &[bool],
+    locking: &[Option<u32>],
+) -> Result<Vec<Vec<Lock>>, AllocError>
+    requires tree { IsTree (map row_of rows.now) }
+    requires fits { length rows.now ≤ NODES }
+    requires keys { map (λ k. k.now) key_table.now.keys ≡ keys (map row_of rows.now) }
+    requires few { length (keys (map row_of rows.now)) ≤ KEYS + 1 }
+    requires isolated { isolated.now ≡ column (holds_isolated (map row_of rows.now)) (length rows.now) }
+    requires locking { locking.now ≡ column (locking_node (map row_of rows.now)) (length rows.now) }
+    ensures { IfOk result (λ v. map (λ l. l.items) v.items ≡ column (locks (map row_of rows.now)) (length rows.now)) }
+{
+    let mut tables = own_tables(alloc, rows, key_table.len(), isolated, locking)?;
+    'nodes: for n in 0..rows.len() {
+        if let Some(m) = locking[n] {
+            gather(&mut tables[m as usize], key_table, rows[n].kind.marks());
+        }
+    }
+    listed_tables(alloc, &tables)
+}
+
+/// For each node that takes keys an access by key number: a top-level class takes the global key, and nothing is
+/// gathered yet. All other nodes have empty tables.
+fn own_tables(
+    alloc: Global,
+    rows: &[Row],
+    count: usize,
+    isolated: &[bool],
+    locking: &[Option<u32>],
+) -> Result<Vec<Vec<Option<Access>>>, AllocError>
+    requires fits { length rows.now ≤ NODES }
+    requires isolated { isolated.now ≡ column (holds_isolated (map row_of rows.now)) (length rows.now) }
+    requires locking { locking.now ≡ column (locking_node (map row_of rows.now)) (length rows.now) }
+    ensures { IfOk result (λ v. map (λ t. t.items) v.items ≡ column (own_table (map row_of rows.now) count) (length rows.now)) }
+{
+    let mut tables = Vec::with_capacity(alloc, rows.len())?;
+    'nodes: for n in 0..rows.len() {
+        let top = is_top(n, rows[n].parent);
+        let locks = is_that(locking[n], n as u32);
+        let table = own_table(alloc, top, isolated[n], locks, count)?;
+        tables.push(table)?;
+    }
+    Ok(tables)
+}
+
+/// Whether the node of a number, which stands in this one, is a top-level class.
+fn is_top(node: usize, parent: u32) -> bool
+    ensures { result ≡ (not (is_root node) && is_root parent) }
+{
+    node != 0 && parent == 0
+}
+
+/// Whether a node is this one.
+fn is_that(node: Option<u32>, number: u32) -> bool
+    ensures { result ≡ is_that node number }
+{
+    match node {
+        Some(node) => node == number,
+        None => false,
+    }
+}
+
+/// The table of a node before anything is gathered, of so many keys.
+fn own_table(
+    alloc: Global,
+    top: bool,
+    isolated: bool,
+    locking: bool,
+    count: usize,
+) -> Result<Vec<Option<Access>>, AllocError>
+    ensures { IfOk result (λ v. v.items ≡ with_first (cond top (Some (cond isolated Write Read)) None)
+        (replicate (cond (top || locking) count 0) None)) }
+{
+    let size = if top || locking { count } else { 0 };
+    let global = if isolated {
+        Access::Write
+    } else {
+        Access::Read
+    };
+    let mut table = vec![in alloc; None; size]?;
+    if let Some(first) = table.first_mut() {
+        *first = top.then_some(global);
+    }
+    Ok(table)
+}
+
+/// Adds what marks declare to a table of accesses by key number.
+fn gather(table: &mut Vec<Option<Access>>, keys: &IndexSet<&str>, marks: &[Mark])
+    requires distinct { IsDistinct bytes_eq (map (λ k. k.now) keys.now.keys) }
+    requires fits { length table.old.items ≡ length keys.now.keys }
+    ensures gathered { (i : ℕ) → i < length keys.now.keys → slice_index_or table.new.items i None
+        ≡ strongest (rights_of marks.now (slice_index_or (map (λ k. k.now) keys.now.keys) i [])) (slice_index_or table.old.items i None) }
+    ensures fits { length table.new.items ≡ length table.old.items }
+{
+    'marks: for mark in marks {
+        add_mark(table, keys, mark);
+    }
+}
+
+/// Adds what a mark declares to a table of accesses by key number.
+fn add_mark(table: &mut Vec<Option<Access>>, keys: &IndexSet<&str>, mark: &Mark)
+    requires distinct { IsDistinct bytes_eq (map (λ k. k.now) keys.now.keys) }
+    requires fits { length table.old.items ≡ length keys.now.keys }
+    ensures added { (i : ℕ) → i < length keys.now.keys → slice_index_or table.new.items i None
+        ≡ strongest (declared_by mark.now (slice_index_or (map (λ k. k.now) keys.now.keys) i [])) (slice_index_or table.old.items i None) }
+    ensures fits { length table.new.items ≡ length table.old.items }
+{
+    if let Some(number) = number_of(keys, mark.key.as_str()) {
+        table[number] = Some(strongest(mark.access, table[number]));
+    }
+}
+
+/// The stronger of two accesses, of which the second may be absent.
+fn strongest(access: Access, taken: Option<Access>) -> Access
+    ensures { Some result ≡ strongest (Some access) taken }
+{
+    match taken {
+        Some(taken) => access.stronger(taken),
+        None => access,
+    }
+}
+
+/// The number of a key, if it has one.
+fn number_of(keys: &IndexSet<&str>, key: &str) -> Option<usize>
+    requires { IsDistinct bytes_eq (map (λ k. k.now) keys.now.keys) }
+    ensures within { IfSome result (λ i. i < length keys.now.keys) }
+    ensures exact { (i : ℕ) → i < length keys.now.keys
+        → bytes_eq (slice_index_or (map (λ k. k.now) keys.now.keys) i []) key.now ≡ is_that result i }
+{
+    keys.get_index_of(key)
+}
+
+/// The locks of each table.
+fn listed_tables(
+    alloc: Global,
+    tables: &[Vec<Option<Access>>],
+) -> Result<Vec<Vec<Lock>>, AllocError>
+    requires { (n : ℕ) → n < length tables.now → length (slice_index_or (map (λ t. t.items) tables.now) n []) ≤ KEYS + 1 }
+    ensures { IfOk result (λ v. map (λ l. l.items) v.items ≡ map (λ t. locks_from 0 t.items) tables.now) }
+{
+    let mut locks = Vec::with_capacity(alloc, tables.len())?;
+    'tables: for table in tables {
+        locks.push(listed(alloc, table)?)?;
+    }
+    Ok(locks)
+}
+
+/// The locks of a table of accesses by key number.
+fn listed(alloc: Global, table: &[Option<Access>]) -> Result<Vec<Lock>, AllocError>
+    requires { length table.now ≤ KEYS + 1 }
+    ensures { IfOk result (λ v. v.items ≡ locks_from 0 table.now) }
+{
+    let mut locks = Vec::new(alloc);
+    'keys: for number in 0..table.len() {
+        if let Some(access) = table[number] {
+            let key = number as u32;
+            locks.push(Lock { key, access })?;
+        }
+    }
+    Ok(locks)
+}

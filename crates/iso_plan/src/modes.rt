@@ -1,0 +1,97 @@
+//! The execution mode of each node (JUnit 5 User Guide, parallel execution).
+ghost use Rattle.std.specs.Prelude.{◌≡◌, ◌&&◌, IfOk, cond, length, map, not, unwrap_or};
+ghost use Rattle.std.specs.List.{list_any};
+ghost use Rattle.iso_model.specs.declared.script.Mode.TheVariants.{SameThread};
+ghost use Rattle.iso_plan.specs.Locks.{is_write, locks, takes_write};
+ghost use Rattle.iso_plan.specs.Modes.{mode, nearest_mode};
+ghost use Rattle.iso_plan.specs.Paths.{IsTree, column, path};
+ghost use Rattle.iso_plan.specs.RowView.{row_of};
+
+use crate::lock::Lock;
+use crate::row::Row;
+use iso_model::access::Access;
+use iso_model::script::Mode;
+use iso_settings::settings::Settings;
+use std::alloc::{AllocError, Global};
+
+/// The mode of each node: its own mark, else the nearest enclosing class's, else the default; what stands in a node
+/// that takes a key for READ_WRITE is on the same thread.
+pub(crate) fn modes(
+    alloc: Global,
+    rows: &[Row],
+    settings: Settings,
+    taken: &[Vec<Lock>],
+) -> Result<Vec<Mode>, AllocError>
+    requires tree { IsTree (map row_of rows.now) }
+    requires taken { map (λ l. l.items) taken.now ≡ column (locks (map row_of rows.now)) (length rows.now) }
+    ensures { IfOk result (λ v. v.items ≡ column (mode (map row_of rows.now) settings) (length rows.now)) }
+{
+    let marked = nearest_modes(alloc, rows)?;
+    let writing = writing(alloc, rows, taken)?;
+    let mut modes = Vec::with_capacity(alloc, rows.len())?;
+    modes.push(Mode::SameThread)?;
+    'nodes: for n in 1..rows.len() {
+        let parent = rows[n].parent as usize;
+        modes.push(mode_of(settings, parent == 0, writing[parent], marked[n]))?;
+    }
+    Ok(modes)
+}
+
+/// The mode of a node that is a top-level class or isn't, is forced onto its parent's thread or isn't, and is marked
+/// with a mode or stands in a class that is.
+fn mode_of(settings: Settings, top: bool, forced: bool, marked: Option<Mode>) -> Mode
+    ensures { result ≡ cond (settings.parallel && not forced)
+        (unwrap_or marked (cond top settings.classes_default_mode settings.default_mode)) SameThread }
+{
+    if !settings.parallel || forced {
+        return Mode::SameThread;
+    }
+    marked.unwrap_or(if top {
+        settings.classes_default_mode
+    } else {
+        settings.default_mode
+    })
+}
+
+/// For each node the mode that is marked on it, or on the nearest enclosing class that has one.
+fn nearest_modes(alloc: Global, rows: &[Row]) -> Result<Vec<Option<Mode>>, AllocError>
+    requires { IsTree (map row_of rows.now) }
+    ensures { IfOk result (λ v. v.items
+        ≡ column (λ n. nearest_mode (map row_of rows.now) (path (map row_of rows.now) n)) (length rows.now)) }
+{
+    let mut marked: Vec<Option<Mode>> = Vec::with_capacity(alloc, rows.len())?;
+    marked.push(None)?;
+    'nodes: for n in 1..rows.len() {
+        let above = marked[rows[n].parent as usize];
+        marked.push(rows[n].mode.or(above))?;
+    }
+    Ok(marked)
+}
+
+/// For each node whether it, or a class that it stands in, takes a key for READ_WRITE.
+fn writing(alloc: Global, rows: &[Row], taken: &[Vec<Lock>]) -> Result<Vec<bool>, AllocError>
+    requires tree { IsTree (map row_of rows.now) }
+    requires taken { map (λ l. l.items) taken.now ≡ column (locks (map row_of rows.now)) (length rows.now) }
+    ensures { IfOk result (λ v. v.items
+        ≡ column (λ n. list_any (takes_write (map row_of rows.now)) (path (map row_of rows.now) n)) (length rows.now)) }
+{
+    let mut writing: Vec<bool> = Vec::with_capacity(alloc, rows.len())?;
+    writing.push(false)?;
+    'nodes: for n in 1..rows.len() {
+        let above = writing[rows[n].parent as usize];
+        writing.push(takes_write(&taken[n]) || above)?;
+    }
+    Ok(writing)
+}
+
+/// Whether one of the locks is for READ_WRITE.
+fn takes_write(locks: &[Lock]) -> bool
+    ensures { result ≡ list_any is_write locks.now }
+{
+    'locks: for lock in locks {
+        if lock.access == Access::Write {
+            return true;
+        }
+    }
+    false
+}
