@@ -1,6 +1,6 @@
-mod Blocks
-mod Displays
+pub mod Blocks
+pub mod Displays
 pub mod Distinct
-mod Marks
-mod Readings
-mod Variables
+pub mod Marks
+pub mod Readings
+pub mod Variables

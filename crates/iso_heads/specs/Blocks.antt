@@ -52,7 +52,8 @@ body_in k w = if same_kind k w.kind then Some w.body else None
 abbrev pub Blocks : Type 0
 Blocks = Lifecycle → Option Acts
 
-abbrev body_if : Option (Vec Stmt Global) → Option Acts
+-- the body of a block, if it is written
+abbrev pub body_if : Option (Vec Stmt Global) → Option Acts
 body_if None = None
 body_if (Some v) = Some (body_of v)
 

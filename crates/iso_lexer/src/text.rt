@@ -32,21 +32,4 @@ impl QuotedText<'_> {
         }
         Ok(text)
     }
-
-    /// How many bytes the text that is meant has, at most 4,096.
-    #[tactic(auto, unfolding(crate::specs::Text::decoded))]
-    pub fn decoded_len(self) -> usize
-        ensures value { result ≡ length (text_of self.entry) }
-        ensures text { IsText (text_of self.entry) }
-    {
-        let mut length = 0;
-        let mut escaped = false;
-        'count: for byte in self.raw {
-            escaped = *byte == b'\\' && !escaped;
-            if !escaped {
-                length += 1;
-            }
-        }
-        length
-    }
 }

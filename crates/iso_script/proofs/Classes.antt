@@ -1,60 +1,249 @@
--- Members and classes by their rules, with what stands where as equations.
-use Rattle.std.proofs.Common.{◌≡◌, ◌≢◌, ℕ, suc, List, ◌∷◌, Some, None, refl, ap, subst, ◌∙◌, sym}
+-- Tests and classes by their rules, with what stands where as equations.
+use Rattle.std.proofs.Common.{◌≡◌, ℕ, suc, List, ◌∷◌, ◌++◌, Bool, true, false, not, ◌&&◌, Option, Some, None, is_some, refl, ap, subst, sym, ◌∙◌}
 use Rattle.std.proofs.lemmas.Option.{some_pair_parts}
-use Rattle.std.specs.List.{IsDistinct}
-use Rattle.std.specs.Str.{bytes_eq}
-use Rattle.iso_lexer.specs.Piece.{Piece, name_at, word_at}
+use Rattle.iso_lexer.specs.Piece.{Piece, name_at, word_at, symbol_at, tail}
 use Rattle.iso_lexer.specs.Tokens.{after, after_word}
 use Rattle.iso_lexer.specs.declared.symbol.Symbol.TheVariants.{OpenBrace}
+use Rattle.iso_lexer.specs.declared.word.Word.{Word}
 use Rattle.iso_lexer.specs.declared.word.Word.TheVariants as W
+use Rattle.iso_lexer.proofs.Afters.{after-Some, after-symbol_at, after_word-Some, after_word-word_at}
+use Rattle.iso_model.specs.Scripts.{Test, Class, class, Member, class_member, test_member, Members}
 use Rattle.iso_model.specs.Syntax.{Acts}
-use Rattle.iso_model.specs.Scripts.{class, Member, test_member, Members, no_members}
-use Rattle.iso_script.specs.Grammar.{IsMember, a_test, IsMembers, IsClass, a_class, plain_test, plain_title, names_of}
+use Rattle.iso_statements.specs.Names.{is_among}
 use Rattle.iso_statements.specs.Pieces.{name_next}
 use Rattle.iso_statements.specs.Statements.{IsBlock}
-use Rattle.iso_lexer.proofs.Afters.{after-Some, after_word-word_at}
-use Rattle.iso_statements.proofs.Taken.{named}
+use Rattle.iso_statements.proofs.Taken.{name_is}
+use Rattle.iso_heads.specs.Blocks.{Blocks, IsBlocks}
+use Rattle.iso_heads.specs.Displays.{IsDisplayed}
+use Rattle.iso_heads.specs.Marks.{Marks, IsMarks}
+use Rattle.iso_heads.specs.Variables.{Variables, IsVariables}
+use Rattle.iso_heads.specs.Variables as V
+use Rattle.iso_heads.proofs.Blocks.{one_blocks}
+use Rattle.iso_heads.proofs.Displays.{one_display}
+use Rattle.iso_heads.proofs.Marks.{one_marks}
+use Rattle.iso_heads.proofs.Variables.{one_variables}
+use Rattle.iso_script.specs.Grammar.{title, name_of, IsTest, a_test, IsMember, as_test, as_class, IsClass, a_class, HasMembers}
+use Rattle.iso_script.proofs.Unique.{same_symbol, not_one_word, told_test, told_class}
 
-pub is_test : (d : ℕ) (n : List ℕ) (body : Acts) (old ps qs rest : List Piece) → after_word W.Test old ≡ Some ps → name_next ps ≡ Some (n, qs) → IsBlock body qs rest → IsMember d (test_member (plain_test n body)) old rest
-is_test d n body old ps qs rest word name h =
-    let s = named W.Test n old ps qs word name in
-    subst (λ ps. IsMember d (test_member (plain_test n body)) ps rest) (sym s.2) (a_test h)
+-- a word that is next stands in front
+pub word_in_front : (w : Word) (ps : List Piece) → true ≡ is_some (after_word w ps) → (r : ℕ) × (ps ≡ word_at r w ∷ tail ps)
+word_in_front w ps h = go (after_word w ps) refl h
+  where
+    go : (o : Option (List Piece)) → after_word w ps ≡ o → true ≡ is_some o → (r : ℕ) × (ps ≡ word_at r w ∷ tail ps)
+    go (Some rest) e h = let a = after_word-Some w ps rest e in (a.0, a.1 ∙ ap (λ qs. word_at a.0 w ∷ qs) (sym (ap tail a.1)))
+    go None e h = cc
 
--- what a test is made of
-test_parts : {d : ℕ} {m : Member} {old rest : List Piece} → IsMember d m old rest → (n : List ℕ) × (body : Acts) × (r : ℕ) × (q : ℕ) × (ps : List Piece) × (m ≡ test_member (plain_test n body)) × (old ≡ word_at r W.Test ∷ name_at q n ∷ ps) × IsBlock body ps rest
-test_parts (a_test {r = r} {q = q} {n = n} {body = body} {ps = ps} h) = (n, body, r, q, ps, refl, refl, h)
+-- what it means that a test may be next, and that none may
+pub may_test : (a b : Bool) → true ≡ (not a && b) → (a ≡ false) × (true ≡ b)
+may_test false b h = (refl, h)
+may_test true b h = cc
 
--- what a test is made of, where its word stands in front
-pub test_named : (d : ℕ) (m : Member) (old ps rest : List Piece) → after_word W.Test old ≡ Some ps → IsMember d m old rest → (n : List ℕ) × (body : Acts) × (qs : List Piece) × (m ≡ test_member (plain_test n body)) × (name_next ps ≡ Some (n, qs)) × IsBlock body qs rest
-test_named d m old ps rest word h =
-    let p = test_parts h in
-    let same : Some ps ≡ Some (name_at p.3 p.0 ∷ p.4) = sym word ∙ ap (after_word W.Test) p.6 ∙ after_word-word_at p.2 W.Test (name_at p.3 p.0 ∷ p.4) in
-    let is : ps ≡ name_at p.3 p.0 ∷ p.4 = cc in
-    (p.0, p.1, p.4, p.5, ap name_next is, p.7)
+may_no_test : (a b : Bool) → false ≡ (not a && b) → a ≡ false → b ≡ true → ⊥
+may_no_test false true h e f = cc
+may_no_test false false h e f = cc
+may_no_test true b h e f = cc
 
--- a test begins with its word
-pub test_refused : (d : ℕ) (m : Member) (old rest : List Piece) → after_word W.Test old ≡ None → IsMember d m old rest → ⊥
-test_refused d m old rest none h =
-    let p = test_parts h in
-    let same : None ≡ Some (name_at p.3 p.0 ∷ p.4) = sym none ∙ ap (after_word W.Test) p.6 ∙ after_word-word_at p.2 W.Test (name_at p.3 p.0 ∷ p.4) in
+pub no_test : (isolated : Bool) (ps : List Piece) → false ≡ (not isolated && is_some (after_word W.Test ps)) → (r : ℕ) (qs : List Piece) → isolated ≡ false → ps ≡ word_at r W.Test ∷ qs → ⊥
+no_test isolated ps h r qs plain is = may_no_test isolated (is_some (after_word W.Test ps)) h plain (ap (λ xs. is_some (after_word W.Test xs)) is ∙ ap is_some (after_word-word_at r W.Test qs))
+
+-- a word and a name that are next stand in front
+pub named_in_front : (w : Word) (n : List ℕ) (old ps rest : List Piece) → true ≡ is_some (after_word w old) → ps ≡ tail old → name_next ps ≡ Some (n, rest) → (r : ℕ) × (q : ℕ) × (old ≡ word_at r w ∷ name_at q n ∷ rest)
+named_in_front w n old ps rest word ahead name =
+    let a = word_in_front w old word in
+    let b = name_is n ps rest name in
+    (a.0, b.0, a.1 ∙ ap (λ ps. word_at a.0 w ∷ ps) (sym ahead ∙ b.1))
+
+-- what follows the display text of a test
+pub test_body : {marks : Marks} {n : List ℕ} {t : Test} {display : Option (List ℕ)} {ps mid rest : List Piece} → IsDisplayed display ps mid → IsTest marks n t ps rest → (b : Acts) × IsBlock b mid rest
+test_body {rest = rest} h (a_test {body = body} i k) = let u = one_display h i in (body, subst (λ ps. IsBlock body ps rest) (sym u.1) k)
+
+-- what stands between the braces of a class
+pub record Inside (d : ℕ) (taken : List (List ℕ)) (ps rest : List Piece) : Type 0 where
+  pub variables : Variables
+  pub blocks : Blocks
+  pub members : Members
+  pub after_variables : List Piece
+  pub after_blocks : List Piece
+  pub variables_read : IsVariables taken variables ps after_variables
+  pub blocks_read : IsBlocks blocks after_variables after_blocks
+  pub members_read : HasMembers d (V.names_of variables ++ taken) members after_blocks rest
+
+-- where the opening brace of a class stands
+brace_next : {d : ℕ} {taken : List (List ℕ)} {marks : Marks} {n : List ℕ} {c : Class} {display : Option (List ℕ)} {ps mid rest : List Piece} → IsDisplayed display ps mid → IsClass d taken marks n c ps rest → (b : ℕ) × (qs : List Piece) × (mid ≡ symbol_at b OpenBrace ∷ qs) × Inside d taken qs rest
+brace_next h (a_class {b = b} {variables = variables} {blocks = blocks} {ms = ms} {qs = qs} {rs = rs} {ss = ss} i k l m) = (
+  b,
+  qs,
+  (one_display h i).1,
+  record { variables = variables; blocks = blocks; members = ms; after_variables = rs; after_blocks = ss; variables_read = k; blocks_read = l; members_read = m },
+)
+
+pub not_opened : {d : ℕ} {taken : List (List ℕ)} {marks : Marks} {n : List ℕ} {c : Class} {display : Option (List ℕ)} {ps mid rest : List Piece} → IsDisplayed display ps mid → after OpenBrace mid ≡ None → IsClass d taken marks n c ps rest → ⊥
+not_opened h none k =
+    let b = brace_next h k in
+    let e : None ≡ Some b.1 = sym none ∙ ap (after OpenBrace) b.2 ∙ after-symbol_at b.0 OpenBrace b.1 in
     cc
 
-pub test_only : (d : ℕ) (n : List ℕ) (body : Acts) (old ps qs rest : List Piece) → after_word W.Test old ≡ Some ps → name_next ps ≡ Some (n, qs) → ((b : Acts) (end : List Piece) → IsBlock b qs end → (body ≡ b) × (rest ≡ end)) → (m : Member) (end : List Piece) → IsMember d m old end → (test_member (plain_test n body) ≡ m) × (rest ≡ end)
-test_only d n body old ps qs rest word name only m end h =
-    let p = test_named d m old ps end word h in
-    let same = some_pair_parts n p.0 qs p.2 (sym name ∙ p.4) in
-    let o = only p.1 end (subst (λ qs. IsBlock p.1 qs end) (sym same.1) p.5) in
-    (ap (λ n. test_member (plain_test n body)) same.0 ∙ ap (λ b. test_member (plain_test p.0 b)) o.0 ∙ sym p.3, o.1)
+pub opened : {d : ℕ} {taken : List (List ℕ)} {marks : Marks} {n : List ℕ} {c : Class} {display : Option (List ℕ)} {ps mid qs rest : List Piece} → IsDisplayed display ps mid → after OpenBrace mid ≡ Some qs → IsClass d taken marks n c ps rest → Inside d taken qs rest
+opened {d = d} {taken = taken} {mid = mid} {qs = qs} {rest = rest} h taken_is k =
+    let b = brace_next h k in
+    let s = after-Some OpenBrace mid qs taken_is in
+    subst (λ ps. Inside d taken ps rest) (same_symbol (sym b.2 ∙ s.1)) b.3
 
--- no test is read where its block is none
-pub test_refused_at_block : (d : ℕ) (P : Type 0) (n : List ℕ) (old ps qs : List Piece) → after_word W.Test old ≡ Some ps → name_next ps ≡ Some (n, qs) → ((b : Acts) (end : List Piece) → IsBlock b qs end → P) → (m : Member) (end : List Piece) → IsMember d m old end → P
-test_refused_at_block d P n old ps qs word name refused m end h =
-    let p = test_named d m old ps end word h in
-    let same = some_pair_parts n p.0 qs p.2 (sym name ∙ p.4) in
-    refused p.1 end (subst (λ qs. IsBlock p.1 qs end) (sym same.1) p.5)
+pub blocks_next : {d : ℕ} {taken : List (List ℕ)} {variables : Variables} {ps mid rest : List Piece} → Inside d taken ps rest → IsVariables taken variables ps mid → (bs : Blocks) × (end : List Piece) × IsBlocks bs mid end
+blocks_next {taken = taken} i h =
+    let u = one_variables taken _ _ _ _ _ i.variables_read h in
+    (i.blocks, i.after_blocks, subst (λ ps. IsBlocks i.blocks ps i.after_blocks) u.1 i.blocks_read)
 
-pub is_class : (d : ℕ) (n : List ℕ) (ms : Members) (old ps qs rs rest : List Piece) → after_word W.Class old ≡ Some ps → name_next ps ≡ Some (n, qs) → after OpenBrace qs ≡ Some rs → IsMembers d ms rs rest → IsDistinct bytes_eq (names_of ms) → ms ≢ no_members → IsClass (suc d) (class (plain_title n) ms) old rest
-is_class d n ms old ps qs rs rest word name brace h distinct some =
-    let s = named W.Class n old ps qs word name in
-    let b = after-Some OpenBrace qs rs brace in
-    subst (λ ps. IsClass (suc d) (class (plain_title n) ms) ps rest) (sym (s.2 ∙ ap (λ ps. word_at s.0 W.Class ∷ name_at s.1 n ∷ ps) b.1)) (a_class h distinct some)
+pub members_next : {d : ℕ} {taken : List (List ℕ)} {variables : Variables} {blocks : Blocks} {ps mid here rest : List Piece} → Inside d taken ps rest → IsVariables taken variables ps mid → IsBlocks blocks mid here → (ms : Members) × HasMembers d (V.names_of variables ++ taken) ms here rest
+members_next {d = d} {taken = taken} {variables = variables} {rest = rest} i h k =
+    let u = one_variables taken _ _ _ _ _ i.variables_read h in
+    let v = one_blocks _ _ _ _ _ (subst (λ ps. IsBlocks i.blocks ps i.after_blocks) u.1 i.blocks_read) k in
+    (i.members, subst (λ ps. HasMembers d (V.names_of variables ++ taken) i.members ps rest) v.1 (subst (λ (x : Variables). HasMembers d (V.names_of x ++ taken) i.members i.after_blocks rest) u.0 i.members_read))
+
+pub is_class : {d : ℕ} {taken : List (List ℕ)} {marks : Marks} {n : List ℕ} {display : Option (List ℕ)} {variables : Variables} {blocks : Blocks} {ms : Members} {old mid qs rs ss new : List Piece}
+    → IsDisplayed display old mid → after OpenBrace mid ≡ Some qs → IsVariables taken variables qs rs → IsBlocks blocks rs ss → HasMembers d (V.names_of variables ++ taken) ms ss new
+    → IsClass d taken marks n (class (title marks n display variables blocks) ms) old new
+is_class {display = display} {old = old} {mid = mid} {qs = qs} h taken_is k l m =
+    let s = after-Some OpenBrace mid qs taken_is in
+    a_class (subst (IsDisplayed display old) s.1 h) k l m
+
+-- a test has its name, and so has a class
+pub test_name : {marks : Marks} {n : List ℕ} {t : Test} {ps qs : List Piece} → IsTest marks n t ps qs → name_of (test_member t) ≡ n
+test_name (a_test h k) = refl
+
+pub class_name : {d : ℕ} {taken : List (List ℕ)} {marks : Marks} {n : List ℕ} {c : Class} {ps qs : List Piece} → IsClass d taken marks n c ps qs → name_of (class_member c) ≡ n
+class_name (a_class h k l m) = refl
+
+-- the marks of a member are next
+pub marks_next : {d : ℕ} {taken : List (List ℕ)} {m : Member} {ps rest : List Piece} → IsMember d taken m ps rest → (marks : Marks) × (qs : List Piece) × IsMarks marks ps qs
+marks_next (as_test {r = r} {q = q} {marks = marks} {n = n} {qs = qs} h plain k) = (marks, word_at r W.Test ∷ name_at q n ∷ qs, h)
+marks_next (as_class {r = r} {q = q} {marks = marks} {n = n} {qs = qs} h k) = (marks, word_at r W.Class ∷ name_at q n ∷ qs, h)
+
+pub is_test : {d : ℕ} {taken : List (List ℕ)} {marks : Marks} {n : List ℕ} {t : Test} {old mid ps qs rest : List Piece} → IsMarks marks old mid → marks.isolated ≡ false → true ≡ is_some (after_word W.Test mid) → ps ≡ tail mid → name_next ps ≡ Some (n, qs)
+    → IsTest marks n t qs rest → IsMember d taken (test_member t) old rest
+is_test {marks = marks} {n = n} {old = old} {mid = mid} {ps = ps} {qs = qs} h plain word ahead name k =
+    let s = named_in_front W.Test n mid ps qs word ahead name in
+    as_test (subst (IsMarks marks old) s.2 h) plain k
+
+-- a test after its marks and its word
+pub record TestNext (marks : Marks) (m : Member) (ps rest : List Piece) : Type 0 where
+  pub name : List ℕ
+  pub test : Test
+  pub left : List Piece
+  pub is : m ≡ test_member test
+  pub named : name_next ps ≡ Some (name, left)
+  pub read : IsTest marks name test left rest
+  pub called : name_of m ≡ name
+
+pub test_next : {d : ℕ} {taken : List (List ℕ)} {marks : Marks} {m : Member} {old mid ps rest : List Piece} → IsMarks marks old mid → true ≡ is_some (after_word W.Test mid) → ps ≡ tail mid → IsMember d taken m old rest → TestNext marks m ps rest
+test_next {mid = mid} h word ahead (as_test {r = r} {q = q} {n = n} {t = t} {qs = qs} i plain k) =
+    let u = one_marks _ _ _ _ _ h i in
+    record { name = n; test = t; left = qs; is = refl; named = ap name_next (ahead ∙ ap tail u.1); read = told_test u.0 refl refl k; called = test_name k }
+test_next {mid = mid} h word ahead (as_class {r = r} {q = q} {n = n} {qs = qs} i k) =
+    let u = one_marks _ _ _ _ _ h i in
+    let s = word_in_front W.Test mid word in
+    absurd (not_one_word (front_word (sym s.1 ∙ u.1)))
+  where
+    front_word : {r q : ℕ} {w v : Word} {ps qs : List Piece} → word_at r w ∷ ps ≡ word_at q v ∷ qs → w ≡ v
+    front_word h = cc
+
+pub is_nested : {d more : ℕ} {taken : List (List ℕ)} {marks : Marks} {n : List ℕ} {c : Class} {old mid ps qs rest : List Piece} → IsMarks marks old mid → d ≡ suc more → after_word W.Class mid ≡ Some ps → name_next ps ≡ Some (n, qs)
+    → IsClass more taken marks n c qs rest → IsMember d taken (class_member c) old rest
+is_nested {taken = taken} {marks = marks} {n = n} {c = c} {old = old} {mid = mid} {ps = ps} {qs = qs} {rest = rest} h depth word name k =
+    let s = after_word-Some W.Class mid ps word in
+    let b = name_is n ps qs name in
+    subst (λ d. IsMember d taken (class_member c) old rest) (sym depth) (as_class (subst (IsMarks marks old) (s.1 ∙ ap (λ ps. word_at s.0 W.Class ∷ ps) b.1) h) k)
+
+-- a class after its marks and its word
+pub record ClassNext (d : ℕ) (taken : List (List ℕ)) (marks : Marks) (m : Member) (ps rest : List Piece) : Type 0 where
+  pub more : ℕ
+  pub name : List ℕ
+  pub class : Class
+  pub left : List Piece
+  pub depth : d ≡ suc more
+  pub is : m ≡ class_member class
+  pub word : after_word W.Class ps ≡ Some (tail ps)
+  pub named : name_next (tail ps) ≡ Some (name, left)
+  pub read : IsClass more taken marks name class left rest
+  pub called : name_of m ≡ name
+
+-- What comes after the marks of a member is a class where no test can be: the marks isolate it, or no test is next.
+pub class_next : {d : ℕ} {taken : List (List ℕ)} {marks : Marks} {m : Member} {old mid rest : List Piece} → IsMarks marks old mid → ((r : ℕ) (ps : List Piece) → marks.isolated ≡ false → mid ≡ word_at r W.Test ∷ ps → ⊥) → IsMember d taken m old rest → ClassNext d taken marks m mid rest
+class_next {marks = marks} h no_test (as_test {r = r} {q = q} {marks = others} {n = n} {qs = qs} i plain k) =
+    let u = one_marks _ _ _ _ _ h i in
+    absurd (no_test r (name_at q n ∷ qs) (ap (λ (x : Marks). x.isolated) u.0 ∙ plain) u.1)
+class_next {mid = mid} h no_test (as_class {d = more} {r = r} {q = q} {n = n} {c = c} {qs = qs} i k) =
+    let u = one_marks _ _ _ _ _ h i in
+    record {
+      more = more;
+      name = n;
+      class = c;
+      left = qs;
+      depth = refl;
+      is = refl;
+      word = ap (after_word W.Class) u.1 ∙ after_word-word_at r W.Class (name_at q n ∷ qs) ∙ ap (λ ps. Some (tail ps)) (sym u.1);
+      named = ap (λ ps. name_next (tail ps)) u.1;
+      read = told_class u.0 refl refl k;
+      called = class_name k;
+    }
+
+-- the parts of a top-level class
+pub top_next : {d : ℕ} {taken : List (List ℕ)} {marks : Marks} {c : Class} {old mid rest : List Piece} → IsMarks marks old mid → IsMember d taken (class_member c) old rest → ClassNext d taken marks (class_member c) mid rest
+top_next {mid = mid} h (as_class {d = more} {r = r} {q = q} {n = n} {c = c} {qs = qs} i k) =
+    let u = one_marks _ _ _ _ _ h i in
+    record {
+      more = more;
+      name = n;
+      class = c;
+      left = qs;
+      depth = refl;
+      is = refl;
+      word = ap (after_word W.Class) u.1 ∙ after_word-word_at r W.Class (name_at q n ∷ qs) ∙ ap (λ ps. Some (tail ps)) (sym u.1);
+      named = ap (λ ps. name_next (tail ps)) u.1;
+      read = told_class u.0 refl refl k;
+      called = class_name k;
+    }
+
+none_some : {A : Type 0} (x : A) → None ≡ Some x → ⊥
+none_some x h = cc
+
+-- no class is next where none may be opened, or its word is not next
+pub not_next : {d : ℕ} {taken : List (List ℕ)} {marks : Marks} {m : Member} {ps rest : List Piece} → ((more : ℕ) → d ≡ suc more → after_word W.Class ps ≡ None) → ClassNext d taken marks m ps rest → ⊥
+not_next none k = none_some _ (sym (none k.more k.depth) ∙ k.word)
+
+-- what follows the word of a class, as the code has it
+pub word_left : {d : ℕ} {taken : List (List ℕ)} {marks : Marks} {m : Member} {ps qs rest : List Piece} → after_word W.Class ps ≡ Some qs → ClassNext d taken marks m ps rest → qs ≡ tail ps
+word_left {ps = ps} {qs = qs} word k = let e : Some qs ≡ Some (tail ps) = sym word ∙ k.word in cc
+
+-- no class is next where no name follows its word
+pub not_named : {d : ℕ} {taken : List (List ℕ)} {marks : Marks} {m : Member} {ps qs rest : List Piece} → after_word W.Class ps ≡ Some qs → name_next qs ≡ None → ClassNext d taken marks m ps rest → ⊥
+not_named word none k = none_some _ (sym none ∙ ap name_next (word_left word k) ∙ k.named)
+
+one_less : {d more left : ℕ} → d ≡ suc more → d ≡ suc left → more ≡ left
+one_less h k = let e = sym h ∙ k in cc
+
+-- the class that is next, as the code has its word and its name
+pub class_left : {d more : ℕ} {taken : List (List ℕ)} {marks : Marks} {m : Member} {n : List ℕ} {ps qs end rest : List Piece} → d ≡ suc more → after_word W.Class ps ≡ Some qs → name_next qs ≡ Some (n, end) → ClassNext d taken marks m ps rest → (c : Class) × (m ≡ class_member c) × IsClass more taken marks n c end rest
+class_left {more = more} {taken = taken} {marks = marks} {n = n} {end = end} {rest = rest} depth word name k =
+    let same = some_pair_parts k.name n k.left end (sym k.named ∙ ap name_next (sym (word_left word k)) ∙ name) in
+    (k.class, k.is, subst (λ d. IsClass d taken marks n k.class end rest) (one_less k.depth depth) (told_class refl (sym same.0) (sym same.1) k.read))
+
+abbrev class_in : Member → Class → Class
+class_in (class_member c) b = c
+class_in (test_member t) b = b
+
+-- the same of a top-level class
+pub top_inner : {d more : ℕ} {taken : List (List ℕ)} {marks : Marks} {b : Class} {n : List ℕ} {ps qs end rest : List Piece} → d ≡ suc more → after_word W.Class ps ≡ Some qs → name_next qs ≡ Some (n, end) → ClassNext d taken marks (class_member b) ps rest → IsClass more taken marks n b end rest
+top_inner {more = more} {taken = taken} {marks = marks} {b = b} {n = n} {end = end} {rest = rest} depth word name k =
+    let c = class_left depth word name k in
+    subst (λ x. IsClass more taken marks n x end rest) (sym (ap (λ m. class_in m b) c.1)) c.2
+
+-- and the test that is next
+pub test_left : {marks : Marks} {m : Member} {n : List ℕ} {ps end rest : List Piece} → name_next ps ≡ Some (n, end) → TestNext marks m ps rest → (t : Test) × IsTest marks n t end rest
+test_left {n = n} {end = end} name k =
+    let same = some_pair_parts k.name n k.left end (sym k.named ∙ name) in
+    (k.test, told_test refl (sym same.0) (sym same.1) k.read)
+
+-- the name of a member is new where that of the test or class is
+pub name_is_new : (names : List (List ℕ)) (m : Member) (n : List ℕ) → name_of m ≡ n → is_among names (name_of m) ≡ false → is_among names n ≡ false
+name_is_new names m n same new = ap (is_among names) (sym same) ∙ new

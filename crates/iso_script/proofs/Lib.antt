@@ -1,6 +1,7 @@
-pub mod Shorter
-pub mod Views
-pub mod Members
 pub mod Classes
+pub mod Members
+pub mod Scopes
 pub mod Scripts
+pub mod Shorter
 pub mod Unique
+pub mod Views

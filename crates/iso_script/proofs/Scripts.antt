@@ -1,57 +1,46 @@
 -- Scripts in the midst of their classes.
-use Rattle.std.proofs.Common.{◌≡◌, ◌≢◌, ℕ, arith, length, List, [], ◌∷◌, ◌++◌, Some, refl, ap, subst, ◌∙◌, sym, append_assoc, append-nil}
-use Rattle.iso_lexer.specs.Piece.{Piece}
+use Rattle.std.proofs.Common.{◌≡◌, ◌≢◌, ℕ, List, [], ◌∷◌, Some, None, Result, Ok, Err, MatchResult, refl, ap, subst, sym, ◌∙◌}
+use Rattle.std.proofs.lemmas.Option.{some_pair_parts}
+use Rattle.iso_lexer.proofs.Afters.{after_word-word_at}
+use Rattle.iso_model.specs.ScriptView.{script_of}
+use Rattle.iso_model.specs.declared.script.Script as D
+use Rattle.iso_statements.specs.Faults.{IsMemory}
+use Rattle.iso_statements.specs.declared.fault.ScriptError.{ScriptError}
+use Rattle.iso_lexer.specs.Piece.{Piece, name_at}
 use Rattle.iso_lexer.specs.Tokens.{after_word}
 use Rattle.iso_lexer.specs.declared.word.Word.TheVariants as W
-use Rattle.iso_model.specs.declared.limits.TheConstants.{CLASS_DEPTH}
-use Rattle.iso_model.specs.Scripts.{Class}
-use Rattle.iso_script.specs.Grammar.{IsClass, IsClasses, IsScript, a_script}
-use Rattle.iso_script.specs.Grammar.IsClasses.{no_class, and_then}
+use Rattle.iso_model.specs.Scripts.{Class, Script}
+use Rattle.iso_heads.specs.Readings.{AreRead}
+use Rattle.iso_heads.proofs.Readings.{goes_on}
 use Rattle.iso_statements.specs.Pieces.{name_next}
 use Rattle.iso_statements.proofs.Taken.{named}
-use Rattle.iso_script.proofs.Shorter.{class_shorter}
+use Rattle.iso_script.specs.Grammar.{IsTopClass, IsScript, a_script}
+use Rattle.iso_script.proofs.Unique.{left, one_script, one_top_class, some_class}
 
--- these have been read, from first to here
-pub record HaveRead (cs : List Class) (first here : List Piece) : Type 0 where
-  pub found : (more : List Class) → IsClasses more here → IsClasses (cs ++ more) first
-  pub only : (all : List Class) → IsClasses all first → (more : List Class) × (all ≡ cs ++ more) × IsClasses more here
+is_left : (ps : List Piece) → ps ≢ [] → left ps ≢ None
+is_left [] some = absurd (some refl)
+is_left (p ∷ ps) some = λ e. cc
 
-pub none_read : (ps : List Piece) → HaveRead [] ps ps
-none_read ps = record { found = λ more h. h; only = λ all h. (all, refl, h) }
+-- where something is left, whatever is read goes on with a class
+pub next_class : (cs : List Class) (first here : List Piece) → AreRead IsTopClass cs first here → here ≢ [] → (all : List Class) → AreRead IsTopClass all first [] → (c : Class) × (qs : List Piece) × IsTopClass c here qs
+next_class cs first here read some all h =
+    let g = goes_on IsTopClass left one_top_class some_class cs all first here [] read h refl (is_left here some) in
+    (g.0, g.2, g.4)
 
--- what the next class is, where something is left
-next_class : {all : List Class} {ps : List Piece} → IsClasses all ps → ps ≢ [] → (c : Class) × (more : List Class) × (qs : List Piece) × (all ≡ c ∷ more) × IsClass CLASS_DEPTH c ps qs × IsClasses more qs
-next_class no_class some = absurd (some refl)
-next_class (and_then {c = c} {cs = more} {qs = qs} h k) some = (c, more, qs, refl, h, k)
-
-push : (cs : List Class) (c : Class) (more : List Class) → (cs ++ c ∷ []) ++ more ≡ cs ++ c ∷ more
-push cs c more = append_assoc cs (c ∷ []) more
-
--- one class more, by the two clauses of its reading
-pub read_more : (cs : List Class) (c : Class) (first here next : List Piece) → HaveRead cs first here → here ≢ [] → IsClass CLASS_DEPTH c here next → ((b : Class) (qs : List Piece) → IsClass CLASS_DEPTH b here qs → (c ≡ b) × (next ≡ qs)) → HaveRead (cs ++ c ∷ []) first next
-read_more cs c first here next so_far some found only =
-    record {
-      found = λ more h. subst (λ all. IsClasses all first) (sym (push cs c more)) (so_far.found (c ∷ more) (and_then found h));
-      only = λ all h.
-          let p = so_far.only all h in
-          let n = next_class p.2 some in
-          let e = only n.0 n.2 n.4 in
-          (n.1, p.1 ∙ ap (λ xs. cs ++ xs) (n.3 ∙ ap (λ b. b ∷ n.1) (sym e.0)) ∙ sym (push cs c n.1), subst (IsClasses n.1) (sym e.1) n.5);
-    }
-
-no_more : {all : List Class} {ps : List Piece} → IsClasses all ps → ps ≡ [] → all ≡ []
-no_more no_class e = refl
-no_more (and_then h k) e = absurd (omega (arith, class_shorter h, ap length e))
-
-pub classes_found : (cs : List Class) (first here : List Piece) → HaveRead cs first here → here ≡ [] → IsClasses cs first
-classes_found cs first here so_far is = subst (λ all. IsClasses all first) (append-nil cs) (so_far.found [] (subst (IsClasses []) (sym is) no_class))
-
-pub classes_only : (cs : List Class) (first here : List Piece) → HaveRead cs first here → here ≡ [] → (all : List Class) → IsClasses all first → cs ≡ all
-classes_only cs first here so_far is all h =
-    let p = so_far.only all h in
-    sym (p.1 ∙ ap (λ more. cs ++ more) (no_more p.2 is) ∙ append-nil cs)
-
-pub is_script : (n : List ℕ) (cs : List Class) (old ps qs : List Piece) → after_word W.Team old ≡ Some ps → name_next ps ≡ Some (n, qs) → IsClasses cs qs → IsScript (record { team = n; classes = cs }) old
+pub is_script : (n : List ℕ) (cs : List Class) (old ps qs : List Piece) → after_word W.Team old ≡ Some ps → name_next ps ≡ Some (n, qs) → AreRead IsTopClass cs qs [] → IsScript (record { team = n; classes = cs }) old
 is_script n cs old ps qs word name h =
     let s = named W.Team n old ps qs word name in
     subst (IsScript (record { team = n; classes = cs })) (sym s.2) (a_script h)
+
+-- the classes of a script
+pub script_classes : (n : List ℕ) (s : Script) (old ps : List Piece) {qs : List Piece} → after_word W.Team old ≡ Some ps → name_next ps ≡ Some (n, qs) → IsScript s old → (cs : List Class) × AreRead IsTopClass cs qs []
+script_classes n s old ps {qs} word name (a_script {r = r} {q = q} {n = k} {cs = cs} {ps = rest} h) =
+    let e : Some (name_at q k ∷ rest) ≡ Some ps = sym (after_word-word_at r W.Team (name_at q k ∷ rest)) ∙ word in
+    let is : name_at q k ∷ rest ≡ ps = cc in
+    let same = some_pair_parts k n rest qs (ap name_next is ∙ name) in
+    (cs, subst (λ ps. AreRead IsTopClass cs ps []) same.1 h)
+
+-- what is answered is the one script that is read
+pub answers_only : (r : Result D.Script ScriptError) (ps : List Piece) → MatchResult r (λ s. IsScript (script_of s) ps) (λ e. (s : Script) → IsScript s ps → IsMemory e) → (s : Script) → IsScript s ps → MatchResult r (λ v. script_of v ≡ s) IsMemory
+answers_only (Ok x) ps h s k = one_script h k
+answers_only (Err e) ps h s k = h s k

@@ -1,40 +1,62 @@
 -- The grammar of scripts, by rules. `IsX x ps qs` says that the pieces ps are those of x, and then the pieces qs.
--- A number d among the arguments says how many more classes may be opened.
-use Rattle.std.specs.Prelude.{ℕ, suc, ◌≤◌, List, [], ◌∷◌, ◌≢◌, false, None, length}
+-- A number d among the arguments says how many more classes may be opened, and taken are the names of the statics and
+-- fields of the enclosing classes.
+use Rattle.std.specs.Global.{Global}
+use Rattle.std.specs.Prelude.{ℕ, suc, ◌≤◌, List, [], ◌∷◌, ◌++◌, ◌≡◌, ◌≢◌, Option, Some, None, Vec, false, length, map}
 use Rattle.std.specs.List.{IsDistinct}
 use Rattle.std.specs.Str.{bytes_eq}
-use Rattle.iso_lexer.specs.Piece.{Piece, name_at, word_at, symbol_at}
 use Rattle.iso_lexer.specs.Lexical.{HasPieces}
+use Rattle.iso_lexer.specs.Piece.{Piece, name_at, word_at, symbol_at}
 use Rattle.iso_lexer.specs.declared.symbol.Symbol.TheVariants.{OpenBrace, CloseBrace}
 use Rattle.iso_lexer.specs.declared.word.Word.TheVariants as W
-use Rattle.iso_model.specs.declared.limits.TheConstants.{FILE_BYTES, CLASS_DEPTH}
-use Rattle.iso_model.specs.Syntax.{Acts, no_acts}
+use Rattle.iso_model.specs.Chains.{ClassHead}
+use Rattle.iso_model.specs.ScriptView.{member_of, members_of}
 use Rattle.iso_model.specs.Scripts.{Test, ClassTitle, Class, class, Member, class_member, test_member, Members, no_members, member, Script}
+use Rattle.iso_model.specs.Syntax.{Acts, no_acts}
+use Rattle.iso_model.specs.declared.heads.Mark.{Mark}
+use Rattle.iso_model.specs.declared.limits.TheConstants.{FILE_BYTES, CLASS_DEPTH}
+use Rattle.iso_model.specs.declared.place.Lifecycle.TheVariants.{BeforeAll, AfterAll, BeforeEach, AfterEach}
+use Rattle.iso_model.specs.declared.script.Member as M
+use Rattle.iso_statements.specs.Names.{is_among}
 use Rattle.iso_statements.specs.Statements.{IsBlock}
+use Rattle.iso_heads.specs.Blocks.{Blocks, IsBlocks}
+use Rattle.iso_heads.specs.Displays.{IsDisplayed}
+use Rattle.iso_heads.specs.Marks.{Marks, IsMarks}
+use Rattle.iso_heads.specs.Readings.{AreRead}
+use Rattle.iso_heads.specs.Variables.{Variables, IsVariables}
+use Rattle.iso_heads.specs.Variables as V
 
--- a test without marks and display text
-abbrev pub plain_test : List ℕ → Acts → Test
-plain_test n body = record { name = n; display = None; mode = None; head = record { marks = []; body = body } }
+-- a test, from its marks, its name, its display text and its body
+abbrev pub test : Marks → List ℕ → Option (List ℕ) → Acts → Test
+test marks n display body = record { name = n; display = display; mode = marks.mode; head = record { marks = marks.keys; body = body } }
 
--- what stands before the members of a class without marks, display text, statics, fields and blocks
-abbrev pub plain_title : List ℕ → ClassTitle
-plain_title n =
+-- a test after its name
+pub data IsTest : (marks : Marks) (n : List ℕ) → Test → List Piece → List Piece → Type 0 where
+  a_test : {marks : Marks} {n : List ℕ} {display : Option (List ℕ)} {body : Acts} {ps qs rs : List Piece}
+      → IsDisplayed display ps qs → IsBlock body qs rs → IsTest marks n (test marks n display body) ps rs
+
+-- the statements of a lifecycle block: one that is not written has none
+abbrev pub statements_in : Option Acts → Acts
+statements_in None = no_acts
+statements_in (Some body) = body
+
+-- what a class gives to its tests, from its keys, its statics and fields, and its lifecycle blocks
+abbrev pub class_head : List Mark → Variables → Blocks → ClassHead
+class_head keys variables blocks =
     record {
-      name = n;
-      display = None;
-      mode = None;
-      isolated = false;
-      head =
-          record {
-            statics = [];
-            fields = [];
-            marks = [];
-            before_all = no_acts;
-            after_all = no_acts;
-            before_each = no_acts;
-            after_each = no_acts;
-          };
+      statics = variables.statics;
+      fields = variables.fields;
+      marks = keys;
+      before_all = statements_in (blocks BeforeAll);
+      after_all = statements_in (blocks AfterAll);
+      before_each = statements_in (blocks BeforeEach);
+      after_each = statements_in (blocks AfterEach);
     }
+
+-- what stands before the members of a class
+abbrev pub title : Marks → List ℕ → Option (List ℕ) → Variables → Blocks → ClassTitle
+title marks n display variables blocks =
+    record { name = n; display = display; mode = marks.mode; isolated = marks.isolated; head = class_head marks.keys variables blocks }
 
 -- the name of a member
 abbrev pub name_of : Member → List ℕ
@@ -46,31 +68,49 @@ abbrev pub names_of : Members → List (List ℕ)
 names_of no_members = []
 names_of (member m ms) = name_of m ∷ names_of ms
 
--- a member of a class, in which d more classes may be opened
-pub data IsMember : (d : ℕ) → Member → List Piece → List Piece → Type 0 where
-  a_test : {d r q : ℕ} {n : List ℕ} {body : Acts} {ps qs : List Piece}
-      → IsBlock body ps qs → IsMember d (test_member (plain_test n body)) (word_at r W.Test ∷ name_at q n ∷ ps) qs
+mutual
+  -- A test or a class: marks, its word, its name, and what follows. A test cannot be isolated.
+  pub data IsMember : (d : ℕ) (taken : List (List ℕ)) → Member → List Piece → List Piece → Type 0 where
+    as_test : {d r q : ℕ} {taken : List (List ℕ)} {marks : Marks} {n : List ℕ} {t : Test} {ps qs rs : List Piece}
+        → IsMarks marks ps (word_at r W.Test ∷ name_at q n ∷ qs) → marks.isolated ≡ false → IsTest marks n t qs rs
+        → IsMember d taken (test_member t) ps rs
+    as_class : {d r q : ℕ} {taken : List (List ℕ)} {marks : Marks} {n : List ℕ} {c : Class} {ps qs rs : List Piece}
+        → IsMarks marks ps (word_at r W.Class ∷ name_at q n ∷ qs) → IsClass d taken marks n c qs rs
+        → IsMember (suc d) taken (class_member c) ps rs
 
--- members of a class, and the brace that closes them
-pub data IsMembers : (d : ℕ) → Members → List Piece → List Piece → Type 0 where
-  closed : {d r : ℕ} {ps : List Piece} → IsMembers d no_members (symbol_at r CloseBrace ∷ ps) ps
-  and_then : {d : ℕ} {m : Member} {ms : Members} {ps qs rs : List Piece} → IsMember d m ps qs → IsMembers d ms qs rs → IsMembers d (member m ms) ps rs
+  -- A class after its name. A class in it can take no name of its statics and fields.
+  pub data IsClass : (d : ℕ) (taken : List (List ℕ)) (marks : Marks) (n : List ℕ) → Class → List Piece → List Piece → Type 0 where
+    a_class : {d b : ℕ} {taken : List (List ℕ)} {marks : Marks} {n : List ℕ} {display : Option (List ℕ)} {variables : Variables} {blocks : Blocks} {ms : Members} {ps qs rs ss ts : List Piece}
+        → IsDisplayed display ps (symbol_at b OpenBrace ∷ qs) → IsVariables taken variables qs rs → IsBlocks blocks rs ss → HasMembers d (V.names_of variables ++ taken) ms ss ts
+        → IsClass d taken marks n (class (title marks n display variables blocks) ms) ps ts
 
--- a class, the outermost of the d classes that may be opened: it has a member, and no two members have one name
-pub data IsClass : (d : ℕ) → Class → List Piece → List Piece → Type 0 where
-  a_class : {d r q b : ℕ} {n : List ℕ} {ms : Members} {ps qs : List Piece}
-      → IsMembers d ms ps qs → IsDistinct bytes_eq (names_of ms) → ms ≢ no_members
-      → IsClass (suc d) (class (plain_title n) ms) (word_at r W.Class ∷ name_at q n ∷ symbol_at b OpenBrace ∷ ps) qs
+  -- the members of a class, and the brace that closes them: one at least, and no two of one name
+  pub data HasMembers : (d : ℕ) (taken : List (List ℕ)) → Members → List Piece → List Piece → Type 0 where
+    has_members : {d : ℕ} {taken : List (List ℕ)} {ms : Members} {ps qs : List Piece}
+        → IsMembers d taken ms ps qs → ms ≢ no_members → IsDistinct bytes_eq (names_of ms) → HasMembers d taken ms ps qs
 
--- top-level classes up to the end
-pub data IsClasses : List Class → List Piece → Type 0 where
-  no_class : IsClasses [] []
-  and_then : {c : Class} {cs : List Class} {ps qs : List Piece} → IsClass CLASS_DEPTH c ps qs → IsClasses cs qs → IsClasses (c ∷ cs) ps
+  -- any members, and the brace that closes them
+  pub data IsMembers : (d : ℕ) (taken : List (List ℕ)) → Members → List Piece → List Piece → Type 0 where
+    closed : {d r : ℕ} {taken : List (List ℕ)} {ps : List Piece} → IsMembers d taken no_members (symbol_at r CloseBrace ∷ ps) ps
+    and_then : {d : ℕ} {taken : List (List ℕ)} {m : Member} {ms : Members} {ps qs rs : List Piece}
+        → IsMember d taken m ps qs → IsMembers d taken ms qs rs → IsMembers d taken (member m ms) ps rs
 
--- a script: a team and its classes
+-- a member whose name is none of these
+abbrev pub IsNewMember : (names : List (List ℕ)) (d : ℕ) (taken : List (List ℕ)) → Member → List Piece → List Piece → Type 0
+IsNewMember names d taken m ps qs = IsMember d taken m ps qs × (is_among names (name_of m) ≡ false)
+
+-- what the members of a class stand for
+abbrev pub members_in : Vec M.Member Global → Members
+members_in v = members_of (map member_of v.items)
+
+-- a top-level class: no class encloses it
+abbrev pub IsTopClass : Class → List Piece → List Piece → Type 0
+IsTopClass c = IsMember CLASS_DEPTH [] (class_member c)
+
+-- a script: a team and its classes, up to the end
 pub data IsScript : Script → List Piece → Type 0 where
   a_script : {r q : ℕ} {n : List ℕ} {cs : List Class} {ps : List Piece}
-      → IsClasses cs ps → IsScript (record { team = n; classes = cs }) (word_at r W.Team ∷ name_at q n ∷ ps)
+      → AreRead IsTopClass cs ps [] → IsScript (record { team = n; classes = cs }) (word_at r W.Team ∷ name_at q n ∷ ps)
 
 -- The script of bytes: they are not too many, and from line 1 on they have pieces of which the script is read.
 pub record Reads (bytes : List ℕ) (s : Script) : Type 0 where

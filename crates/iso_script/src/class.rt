@@ -1,62 +1,118 @@
 //! Classes and their members.
-ghost use Rattle.std.specs.Prelude.{◌≡◌, ◌≢◌, ℕ, List, [], ◌∷◌, ◌++◌, IfOk, MatchResult, false, map};
-ghost use Rattle.std.specs.List.{IsDistinct};
-ghost use Rattle.std.specs.Str.{bytes_eq};
-ghost use Rattle.iso_lexer.specs.Piece.{Piece};
-ghost use Rattle.iso_model.specs.Scripts as S;
-ghost use Rattle.iso_model.specs.ScriptView.{class_of, member_of, members_of};
-ghost use Rattle.iso_model.specs.declared.limits.TheConstants.{CLASS_DEPTH};
-ghost use Rattle.iso_statements.specs.Faults.{IsMemory};
-ghost use Rattle.iso_script.specs.Grammar.{IsClass, IsMember, IsMembers, name_of, names_of};
-ghost use Rattle.iso_statements.specs.Names.{Knows, is_among};
+ghost use Rattle.std.specs.Prelude.{◌≡◌, ℕ, suc, List, [], ◌∷◌, ◌++◌, IfOk, MatchResult, Some, None, is_some, not, ◌&&◌};
+ghost use Rattle.iso_heads.specs.Marks.{marks_of};
+ghost use Rattle.iso_heads.specs.Variables.{KnowAll};
+ghost use Rattle.iso_lexer.specs.Tokens.{after_word};
+ghost use Rattle.iso_lexer.specs.declared.word.Word.TheVariants as W;
+ghost use Rattle.iso_model.specs.ScriptView.{class_of, member_of};
+ghost use Rattle.iso_script.specs.Grammar.{HasMembers, IsClass, IsNewMember, IsTopClass, members_in, name_of};
+ghost use Rattle.iso_statements.specs.Names.{Knows};
+ghost use Rattle.iso_statements.specs.Parsing.{Parses};
 
+use crate::head::class_head;
+use crate::test::read_test;
+use iso_heads::block::read_blocks;
+use iso_heads::display::read_display;
+use iso_heads::mark::{Marks, read_marks};
+use iso_heads::variable::{Variables, read_variables};
 use iso_lexer::symbol::Symbol;
 use iso_lexer::word::Word;
-use iso_model::heads::{ClassHead, TestHead};
-use iso_model::script::{Class, Member, Test};
+use iso_model::limits::CLASS_DEPTH;
+use iso_model::script::{Class, Member};
 use iso_model::text::Text;
 use iso_statements::fault::{ScriptError, ScriptFaultKind};
 use iso_statements::parser::Parser;
-use std::alloc::Global;
 use std::collections::BTreeSet;
 use std::sync::Arc;
 
 /// A top-level class.
-pub(crate) fn class(parser: &mut Parser<'_>) -> Result<Class, ScriptError>
-    ensures found { IfOk result (λ c. IsClass CLASS_DEPTH (class_of c) parser.old.lexer parser.new.lexer) }
-    ensures only { (c : S.Class) (rest : List Piece) → IsClass CLASS_DEPTH c parser.old.lexer rest
-        → MatchResult result (λ v. (class_of v ≡ c) × (parser.new.lexer ≡ rest)) IsMemory }
+pub(crate) fn read_top_class(parser: &mut Parser<'_>) -> Result<Class, ScriptError>
+    ensures { Parses class_of IsTopClass result parser.old.lexer parser.new.lexer }
 {
-    parser.expect_word(Word::Class)?;
+    let marks = read_marks(parser)?;
+    let more = open_class(parser, CLASS_DEPTH)?;
     let name = parser.name()?;
+    let mut scopes = Vec::new(parser.alloc);
+    read_class(parser, marks, name, &mut scopes, more)
+}
+
+/// Whether a test of these marks may be next: its word is, and the marks do not isolate it.
+fn is_at_test(parser: &Parser<'_>, marks: &Marks) -> bool
+    ensures { result ≡ (not marks.now.isolated && is_some (after_word W.Test parser.now.lexer)) }
+{
+    !marks.isolated && parser.is_at_word(Word::Test)
+}
+
+/// Goes past the word `class`, which has to be next, where so many classes may be opened. Answers how many more
+/// may be. Where none may be, the class is `TooDeep` at its word.
+fn open_class(parser: &mut Parser<'_>, left: u32) -> Result<u32, ScriptError>
+    ensures { MatchResult result
+        (λ more. (left ≡ suc more) × (after_word W.Class parser.old.lexer ≡ Some parser.new.lexer))
+        (λ e. (more : ℕ) → left ≡ suc more → after_word W.Class parser.old.lexer ≡ None) }
+{
+    if !parser.is_at_word(Word::Class) {
+        return Err(parser.unexpected());
+    }
+    let Some(more) = left.checked_sub(1) else {
+        return Err(parser.fault_here(ScriptFaultKind::TooDeep));
+    };
+    parser.lexer.advance();
+    Ok(more)
+}
+
+/// A class of these marks, after its name. So many more classes may be opened in it, and the scopes have the names
+/// of the statics and fields of the enclosing classes.
+#[cycle(class)]
+fn read_class<'a>(
+    parser: &mut Parser<'a>,
+    marks: Marks,
+    name: &'a str,
+    scopes: &mut Vec<BTreeSet<&'a str>>,
+    classes: u32,
+) -> Result<Class, ScriptError>
+    ensures read { (taken : List (List ℕ)) → KnowAll scopes.old.items taken
+        → Parses class_of (IsClass classes taken (marks_of marks) name.now) result parser.old.lexer parser.new.lexer }
+    ensures kept { IfOk result (λ _. scopes.new.items ≡ scopes.old.items) }
+{
+    let display = read_display(parser)?;
     parser.expect(Symbol::OpenBrace)?;
-    let members = members(parser)?;
+    let variables = read_variables(parser, scopes.as_slice())?;
+    let blocks = read_blocks(parser)?;
+    scopes.push(variables.names)?;
+    let members = read_members(parser, scopes, classes)?;
+    scopes.pop();
+    let head = class_head(
+        parser.alloc,
+        marks.keys,
+        variables.statics,
+        variables.fields,
+        blocks,
+    );
     Ok(Class {
         name: Text::copied(parser.alloc, name)?,
-        display: None,
-        mode: None,
-        isolated: false,
-        head: Arc::new(parser.alloc, empty_head(parser.alloc))?,
+        display,
+        mode: marks.mode,
+        isolated: marks.isolated,
+        head: Arc::new(parser.alloc, head)?,
         members,
     })
 }
 
-/// The members of a class up to its closing brace: one at least, of distinct names.
-fn members(parser: &mut Parser<'_>) -> Result<Vec<Member>, ScriptError>
-    ensures found { (d : ℕ)
-        → IfOk result (λ v. IsMembers d (members_of (map member_of v.items)) parser.old.lexer parser.new.lexer) }
-    ensures distinct { IfOk result
-        (λ v. IsDistinct bytes_eq (names_of (members_of (map member_of v.items)))) }
-    ensures some { IfOk result (λ v. members_of (map member_of v.items) ≢ S.no_members) }
-    ensures only { (d : ℕ) (ms : S.Members) (rest : List Piece) → IsMembers d ms parser.old.lexer rest
-        → IsDistinct bytes_eq (names_of ms) → ms ≢ S.no_members
-        → MatchResult result
-        (λ v. (members_of (map member_of v.items) ≡ ms) × (parser.new.lexer ≡ rest)) IsMemory }
+/// The members of a class, up to the brace that closes it: one at least, of distinct names.
+#[cycle(class)]
+fn read_members<'a>(
+    parser: &mut Parser<'a>,
+    scopes: &mut Vec<BTreeSet<&'a str>>,
+    classes: u32,
+) -> Result<Vec<Member>, ScriptError>
+    ensures read { (taken : List (List ℕ)) → KnowAll scopes.old.items taken
+        → Parses members_in (HasMembers classes taken) result parser.old.lexer parser.new.lexer }
+    ensures kept { IfOk result (λ _. scopes.new.items ≡ scopes.old.items) }
 {
     let mut seen = BTreeSet::new(parser.alloc);
     let mut members = Vec::new(parser.alloc);
     'members: while !parser.is_at(Symbol::CloseBrace) {
-        members.push(member(parser, &mut seen)?)?;
+        members.push(read_member(parser, &mut seen, scopes, classes)?)?;
     }
     if members.is_empty() {
         return Err(parser.fault_here(ScriptFaultKind::EmptyClass));
@@ -65,51 +121,27 @@ fn members(parser: &mut Parser<'_>) -> Result<Vec<Member>, ScriptError>
     Ok(members)
 }
 
-/// A member of a class, whose name is none of those seen.
-fn member<'a>(parser: &mut Parser<'a>, seen: &mut BTreeSet<&'a str>) -> Result<Member, ScriptError>
-    ensures found { (d : ℕ) → IfOk result (λ m. IsMember d (member_of m) parser.old.lexer parser.new.lexer) }
-    ensures fresh { (names : List (List ℕ)) → Knows seen.old names
-        → IfOk result (λ m. (is_among names (name_of (member_of m)) ≡ false)
-        × Knows seen.new (names ++ name_of (member_of m) ∷ [])) }
-    ensures only { (names : List (List ℕ)) → Knows seen.old names
-        → (d : ℕ) (m : S.Member) (rest : List Piece) → IsMember d m parser.old.lexer rest
-        → is_among names (name_of m) ≡ false
-        → MatchResult result (λ v. (member_of v ≡ m) × (parser.new.lexer ≡ rest)) IsMemory }
+/// A member of a class, whose name is none of those seen and is added to them. A test cannot be isolated.
+#[cycle(class)]
+fn read_member<'a>(
+    parser: &mut Parser<'a>,
+    seen: &mut BTreeSet<&'a str>,
+    scopes: &mut Vec<BTreeSet<&'a str>>,
+    classes: u32,
+) -> Result<Member, ScriptError>
+    ensures read { (taken names : List (List ℕ)) → KnowAll scopes.old.items taken → Knows seen.old names
+        → Parses member_of (IsNewMember names classes taken) result parser.old.lexer parser.new.lexer }
+    ensures names { (names : List (List ℕ)) → Knows seen.old names
+        → IfOk result (λ m. Knows seen.new (names ++ name_of (member_of m) ∷ [])) }
+    ensures kept { IfOk result (λ _. scopes.new.items ≡ scopes.old.items) }
 {
-    parser.expect_word(Word::Test)?;
-    let name = parser.new_name(seen, ScriptFaultKind::DoubleMember)?;
-    let body = parser.block()?;
-    Ok(Member::Test(Test {
-        name: Text::copied(parser.alloc, name)?,
-        display: None,
-        mode: None,
-        head: Arc::new(
-            parser.alloc,
-            TestHead {
-                marks: Vec::new(parser.alloc),
-                body,
-            },
-        )?,
-    }))
-}
-
-/// What a class without marks, statics, fields and blocks gives to its tests.
-fn empty_head(alloc: Global) -> ClassHead
-    ensures statics { result.statics.items ≡ [] }
-    ensures fields { result.fields.items ≡ [] }
-    ensures marks { result.marks.items ≡ [] }
-    ensures before_all { result.before_all.items ≡ [] }
-    ensures after_all { result.after_all.items ≡ [] }
-    ensures before_each { result.before_each.items ≡ [] }
-    ensures after_each { result.after_each.items ≡ [] }
-{
-    ClassHead {
-        statics: Vec::new(alloc),
-        fields: Vec::new(alloc),
-        marks: Vec::new(alloc),
-        before_all: Vec::new(alloc),
-        after_all: Vec::new(alloc),
-        before_each: Vec::new(alloc),
-        after_each: Vec::new(alloc),
+    let marks = read_marks(parser)?;
+    if is_at_test(parser, &marks) {
+        parser.lexer.advance();
+        let name = parser.new_name(seen, ScriptFaultKind::DoubleMember)?;
+        return Ok(Member::Test(read_test(parser, marks, name)?));
     }
+    let more = open_class(parser, classes)?;
+    let name = parser.new_name(seen, ScriptFaultKind::DoubleMember)?;
+    Ok(Member::Class(read_class(parser, marks, name, scopes, more)?))
 }

@@ -3,5 +3,7 @@
 
 mod class;
 pub mod fault;
+mod head;
 pub mod laws;
 pub mod reader;
+mod test;

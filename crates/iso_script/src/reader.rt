@@ -1,13 +1,13 @@
 //! Whole scripts.
-ghost use Rattle.std.specs.Prelude.{◌≡◌, ◌<◌, ℕ, List, IfOk, MatchResult, Err, length, map};
-ghost use Rattle.iso_lexer.specs.Piece.{Piece};
+ghost use Rattle.std.specs.Prelude.{◌≡◌, ◌<◌, List, [], IfOk, MatchResult, Err, length, map};
+ghost use Rattle.iso_heads.specs.Readings.{AreRead};
 ghost use Rattle.iso_model.specs.Scripts as S;
 ghost use Rattle.iso_model.specs.ScriptView.{class_of, script_of};
 ghost use Rattle.iso_model.specs.declared.limits.TheConstants.{FILE_BYTES};
 ghost use Rattle.iso_statements.specs.Faults.{IsMemory};
-ghost use Rattle.iso_script.specs.Grammar.{IsClasses, IsScript, Reads};
+ghost use Rattle.iso_script.specs.Grammar.{IsScript, IsTopClass, Reads};
 
-use crate::class::class;
+use crate::class::read_top_class;
 use iso_lexer::token::Place;
 use iso_lexer::word::Word;
 use iso_model::limits::FILE_BYTES;
@@ -22,10 +22,8 @@ use std::alloc::Global;
 ///
 /// What is no script is answered with its first fault from the left, with one token of look-ahead: a token that
 /// the grammar or a rule does not allow comes before anything in the bytes that follow it. A script above the
-/// limit is `TooLong` at line 1, column 1, before all else.
-///
-/// So far a class has tests alone, without marks and display texts. Whatever else the language has of classes is
-/// `Expected` at its token.
+/// limit is `TooLong` at line 1, column 1, before all else. That two top-level classes have one name is left to
+/// the plan.
 pub fn read_script(alloc: Global, bytes: &[u8]) -> Result<Script, ScriptError>
     // What is read is the script of the bytes.
     ensures found { IfOk result (λ s. Reads bytes.now (script_of s)) }
@@ -44,9 +42,9 @@ pub fn read_script(alloc: Global, bytes: &[u8]) -> Result<Script, ScriptError>
 
 /// A script, up to the end.
 fn script(parser: &mut Parser<'_>) -> Result<Script, ScriptError>
-    ensures found { IfOk result (λ s. IsScript (script_of s) parser.old.lexer) }
-    ensures only { (s : S.Script) → IsScript s parser.old.lexer
-        → MatchResult result (λ v. script_of v ≡ s) IsMemory }
+    ensures { MatchResult result
+        (λ s. IsScript (script_of s) parser.old.lexer)
+        (λ e. (s : S.Script) → IsScript s parser.old.lexer → IsMemory e) }
 {
     parser.expect_word(Word::Team)?;
     let name = parser.name()?;
@@ -59,13 +57,13 @@ fn script(parser: &mut Parser<'_>) -> Result<Script, ScriptError>
 
 /// Classes, up to the end.
 fn classes(parser: &mut Parser<'_>) -> Result<Vec<Class>, ScriptError>
-    ensures found { IfOk result (λ v. IsClasses (map class_of v.items) parser.old.lexer) }
-    ensures only { (cs : List S.Class) → IsClasses cs parser.old.lexer
-        → MatchResult result (λ v. map class_of v.items ≡ cs) IsMemory }
+    ensures { MatchResult result
+        (λ v. AreRead IsTopClass (map class_of v.items) parser.old.lexer [])
+        (λ e. (cs : List S.Class) → AreRead IsTopClass cs parser.old.lexer [] → IsMemory e) }
 {
     let mut classes = Vec::new(parser.alloc);
     'classes: while !parser.is_at_end() {
-        classes.push(class(parser)?)?;
+        classes.push(read_top_class(parser)?)?;
     }
     Ok(classes)
 }

@@ -4,6 +4,12 @@
 #[cfg(test)]
 mod bodies;
 #[cfg(test)]
+mod classes;
+#[cfg(test)]
+mod made;
+#[cfg(test)]
+mod manual;
+#[cfg(test)]
 mod scripts;
 #[cfg(test)]
 mod tokens;

@@ -249,26 +249,6 @@ fn faults_have_their_kind_and_place(rt: HostRuntime) {
 }
 
 #[test]
-fn what_is_not_read_yet_is_expected_at_its_token(rt: HostRuntime) {
-    for (script, column) in [
-        ("team shop\nconcurrent class C { test t { } }", 1),
-        ("team shop\nclass C \"text\" { test t { } }", 9),
-        ("team shop\nclass C { static n = 1; test t { } }", 11),
-        ("team shop\nclass C { before_all { } test t { } }", 11),
-        ("team shop\nclass C { class D { test t { } } }", 11),
-        ("team shop\nclass C { read \"k\" test t { } }", 11),
-        ("team shop\nclass C { test t \"text\" { } }", 18),
-    ] {
-        let found = fault_of(rt.alloc(), script.as_bytes());
-        assert_eq!(rt;
-            found,
-            Some((ScriptFaultKind::Expected, 2, column)),
-            "in {script}"
-        );
-    }
-}
-
-#[test]
 fn names_and_scripts_have_limits(rt: HostRuntime) -> Result<(), Fail> {
     let mut script = Vec::new(rt.alloc());
     script.extend_from_slice("team shop\nclass ".as_bytes())?;

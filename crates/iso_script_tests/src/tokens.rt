@@ -71,6 +71,19 @@ fn faults_have_their_places(rt: HostRuntime) {
     }
 }
 
+/// How one of the reserved words of these tests is written.
+fn spelled(word: Word) -> &'static str {
+    match word {
+        Word::Team => "team",
+        Word::Static => "static",
+        Word::If => "if",
+        Word::HasFile => "has_file",
+        Word::Children => "children",
+        Word::Disabled => "disabled",
+        _ => "another",
+    }
+}
+
 /// A token with its line and column, in words.
 fn described(alloc: Global, token: Token<'_>, place: Place) -> Result<String, AllocError> {
     let Place { line, column } = place;
@@ -78,12 +91,12 @@ fn described(alloc: Global, token: Token<'_>, place: Place) -> Result<String, Al
         Token::Name(name) => format!(in alloc; "{line}:{column} name {name}"),
         Token::Number(number) => format!(in alloc; "{line}:{column} number {number}"),
         Token::Text(text) => {
-            let length = text.decoded_len();
             let meant = text.decode(alloc)?;
+            let length = meant.len();
             format!(in alloc; "{line}:{column} text {length} {meant}")
         }
         Token::Word(word) => {
-            let spelling = word.as_str();
+            let spelling = spelled(word);
             format!(in alloc; "{line}:{column} word {spelling}")
         }
         Token::Symbol(symbol) => format!(in alloc; "{line}:{column} {symbol:?}"),

@@ -1,5 +1,5 @@
 -- Expressions by their rules, with what stands where as equations.
-use Rattle.std.proofs.Common.{◌≡◌, ◌≢◌, ℕ, suc, ◌-◌, ◌<◌, ◌≤◌, ◌+◌, arith, List, [], ◌∷◌, ◌++◌, length, length-append, Option, Some, None, is_some, option_map, true, false, refl, ap, subst, sym, ◌∙◌}
+use Rattle.std.proofs.Common.{◌≡◌, ℕ, suc, ◌-◌, ◌<◌, ◌≤◌, arith, List, [], ◌∷◌, ◌++◌, length, length-append, Option, Some, None, is_some, option_map, true, false, refl, ap, subst, sym, ◌∙◌}
 use Rattle.std.proofs.lemmas.Option.{some_pair_parts}
 use Rattle.iso_lexer.specs.Piece.{Piece, name_at, number_at, text_at, word_at, symbol_at, bad_at, tail}
 use Rattle.iso_lexer.specs.Tokens.{after, after_word}

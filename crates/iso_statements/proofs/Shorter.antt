@@ -4,7 +4,7 @@ use Rattle.iso_lexer.specs.Piece.{Piece}
 use Rattle.iso_lexer.specs.declared.symbol.Symbol.{Symbol}
 use Rattle.iso_model.specs.declared.data.Data.{Data}
 use Rattle.iso_model.specs.Syntax.{Term, Terms, Act, Acts}
-use Rattle.iso_statements.specs.Expressions.{IsLiteral, a_number, a_negative, a_text, a_true, a_false, IsLocale, no_argument, IsOperand, a_literal, a_name, in_parentheses, a_call, the_locale, IsEnclosed, enclosed, IsChained, chained, IsExpression, an_operand, a_chain, a_comparison, IsBefore, before}
+use Rattle.iso_statements.specs.Expressions.{IsLiteral, a_number, a_negative, a_text, a_true, a_false, no_argument, IsOperand, a_literal, a_name, in_parentheses, a_call, the_locale, IsEnclosed, enclosed, IsChained, chained, IsExpression, an_operand, a_chain, a_comparison, IsBefore, before}
 use Rattle.iso_statements.specs.Expressions.IsChained.{and_then}
 use Rattle.iso_statements.specs.declared.simple.Simple.{Simple}
 use Rattle.iso_statements.specs.Statements as G
@@ -51,21 +51,21 @@ simple_shorter (an_assumption h (a_display is)) = omega (arith, before_shorter h
 simple_shorter a_fail = omega arith
 
 mutual
-  pub statement_shorter : {d brace : ℕ} {a : Act} {ps qs : List Piece} → IsStatement d brace a ps qs → length qs < length ps
+  pub statement_shorter : {d above : ℕ} {a : Act} {ps qs : List Piece} → IsStatement d above a ps qs → length qs < length ps
   statement_shorter (a_simple is h) = omega (arith, simple_shorter h)
   statement_shorter (an_assignment h) = binding_shorter h
   statement_shorter (an_if h k l) = omega (arith, expression_shorter h, body_shorter k, else_shorter l)
   statement_shorter (a_repeat h k) = omega (arith, expression_shorter h, body_shorter k)
 
-  else_shorter : {d brace : ℕ} {a : Acts} {ps qs : List Piece} → IsElse d brace a ps qs → length qs ≤ length ps
+  else_shorter : {d above : ℕ} {a : Acts} {ps qs : List Piece} → IsElse d above a ps qs → length qs ≤ length ps
   else_shorter (no_else none) = omega arith
   else_shorter (an_else h) = omega (arith, body_shorter h)
 
-  pub statements_shorter : {d brace : ℕ} {body : Acts} {ps qs : List Piece} → IsStatements d brace body ps qs → length qs < length ps
+  pub statements_shorter : {d above : ℕ} {body : Acts} {ps qs : List Piece} → IsStatements d above body ps qs → length qs < length ps
   statements_shorter closed = omega arith
   statements_shorter (G.IsStatements.and_then h k) = omega (arith, statement_shorter h, statements_shorter k)
 
-  pub body_shorter : {d brace : ℕ} {body : Acts} {ps qs : List Piece} → IsBody d brace body ps qs → length qs < length ps
+  pub body_shorter : {d above : ℕ} {body : Acts} {ps qs : List Piece} → IsBody d above body ps qs → length qs < length ps
   body_shorter (a_body h) = omega (arith, statements_shorter h)
 
 pub block_shorter : {body : Acts} {ps qs : List Piece} → IsBlock body ps qs → length qs < length ps

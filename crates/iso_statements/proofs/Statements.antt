@@ -1,5 +1,5 @@
 -- Statements and bodies by their rules, with what stands where as equations.
-use Rattle.std.proofs.Common.{◌≡◌, ◌≢◌, ℕ, suc, List, [], ◌∷◌, Some, None, true, false, refl, ap, subst, ◌∙◌, sym}
+use Rattle.std.proofs.Common.{◌≡◌, ◌≢◌, ℕ, suc, ◌-◌, List, [], ◌∷◌, Some, None, true, refl, ap, subst, ◌∙◌, sym}
 use Rattle.std.proofs.lemmas.Option.{some_pair_parts}
 use Rattle.iso_lexer.specs.Piece.{Piece, name_at, number_at, text_at, word_at, symbol_at, bad_at, tail}
 use Rattle.iso_lexer.specs.Tokens.{front, after, after_word}
@@ -33,57 +33,57 @@ simple_first k (text_at r t ∷ ps) h = cc
 simple_first k (symbol_at r s ∷ ps) h = cc
 simple_first k (bad_at r ∷ ps) h = cc
 
-pub is_simple : (d brace : ℕ) (k : Simple) (a : Act) (old mid rest : List Piece) → simple_next old ≡ Some k → mid ≡ tail old → IsSimple k a mid rest → IsStatement d brace a old rest
-is_simple d brace k a old mid rest next ahead h =
+pub is_simple : (d above : ℕ) (k : Simple) (a : Act) (old mid rest : List Piece) → simple_next old ≡ Some k → mid ≡ tail old → IsSimple k a mid rest → IsStatement d above a old rest
+is_simple d above k a old mid rest next ahead h =
     let s = simple_first k old next in
-    subst (λ ps. IsStatement d brace a ps rest) (sym s.3) (a_simple s.2 (subst (λ ps. IsSimple k a ps rest) ahead h))
+    subst (λ ps. IsStatement d above a ps rest) (sym s.3) (a_simple s.2 (subst (λ ps. IsSimple k a ps rest) ahead h))
 
-from_simple : {d brace r : ℕ} {w : Word} {k : Simple} {a : Act} {ps rest : List Piece} → simple_of w ≡ Some k → IsStatement d brace a (word_at r w ∷ ps) rest → IsSimple k a ps rest
+from_simple : {d above r : ℕ} {w : Word} {k : Simple} {a : Act} {ps rest : List Piece} → simple_of w ≡ Some k → IsStatement d above a (word_at r w ∷ ps) rest → IsSimple k a ps rest
 from_simple {k = k} {a = a} {ps = ps} {rest = rest} is (a_simple {k = l} also h) = let same : l ≡ k = cc in subst (λ k. IsSimple k a ps rest) same h
 from_simple is (an_if h i j) = cc
 from_simple is (a_repeat h i) = cc
 
-pub simple_only : (d brace : ℕ) (k : Simple) (a : Act) (old mid rest : List Piece) → simple_next old ≡ Some k → mid ≡ tail old → IsStatement d brace a old rest → IsSimple k a mid rest
-simple_only d brace k a old mid rest next ahead h =
+pub simple_only : (d above : ℕ) (k : Simple) (a : Act) (old mid rest : List Piece) → simple_next old ≡ Some k → mid ≡ tail old → IsStatement d above a old rest → IsSimple k a mid rest
+simple_only d above k a old mid rest next ahead h =
     let s = simple_first k old next in
-    subst (λ ps. IsSimple k a ps rest) (sym ahead) (from_simple s.2 (subst (λ ps. IsStatement d brace a ps rest) s.3 h))
+    subst (λ ps. IsSimple k a ps rest) (sym ahead) (from_simple s.2 (subst (λ ps. IsStatement d above a ps rest) s.3 h))
 
 -- a binding alone is an assignment
-pub is_assignment : (d brace : ℕ) (b : List ℕ × Term) (old rest : List Piece) → IsBinding b old rest → IsStatement d brace (plain (assign b.0 b.1)) old rest
-is_assignment d brace b old rest (a_binding h) = an_assignment (a_binding h)
+pub is_assignment : (d above : ℕ) (b : List ℕ × Term) (old rest : List Piece) → IsBinding b old rest → IsStatement d above (plain (assign b.0 b.1)) old rest
+is_assignment d above b old rest (a_binding h) = an_assignment (a_binding h)
 
-pub assignment_only : (d brace : ℕ) (a : Act) (old rest : List Piece) → simple_next old ≡ None → after_word W.If old ≡ None → after_word W.Repeat old ≡ None → IsStatement d brace a old rest → (b : List ℕ × Term) × IsBinding b old rest
-assignment_only d brace a old rest s i r (a_simple is h) = cc
-assignment_only d brace a old rest s i r (an_assignment {b = b} h) = (b, h)
-assignment_only d brace a old rest s i r (an_if {r = q} {ps = ps} h k l) = let e : None ≡ Some ps = sym i ∙ after_word-word_at q W.If ps in cc
-assignment_only d brace a old rest s i r (a_repeat {r = q} {ps = ps} h k) = let e : None ≡ Some ps = sym r ∙ after_word-word_at q W.Repeat ps in cc
+pub assignment_only : (d above : ℕ) (a : Act) (old rest : List Piece) → simple_next old ≡ None → after_word W.If old ≡ None → after_word W.Repeat old ≡ None → IsStatement d above a old rest → (b : List ℕ × Term) × IsBinding b old rest
+assignment_only d above a old rest s i r (a_simple is h) = cc
+assignment_only d above a old rest s i r (an_assignment {b = b} h) = (b, h)
+assignment_only d above a old rest s i r (an_if {r = q} {ps = ps} h k l) = let e : None ≡ Some ps = sym i ∙ after_word-word_at q W.If ps in cc
+assignment_only d above a old rest s i r (a_repeat {r = q} {ps = ps} h k) = let e : None ≡ Some ps = sym r ∙ after_word-word_at q W.Repeat ps in cc
 
 -- the parts of an `if` after its condition, and after its first body
-pub if_body : (d brace r : ℕ) (e : Term) (a : Act) (ps mid rest : List Piece) → IsExpression PARENTHESES e ps mid → IsStatement d brace a (word_at r W.If ∷ ps) rest → (b : Acts) × (c : Acts) × (qs : List Piece) × IsBody d brace b mid qs × IsElse d brace c qs rest
-if_body d brace r e a ps mid rest h (a_simple is k) = cc
-if_body d brace r e a ps mid rest h (an_if {a = b} {b = c} {rs = qs} k i j) = let u = one_expression h k in (b, c, qs, subst (λ ps. IsBody d brace b ps qs) (sym u.1) i, j)
+pub if_body : (d above r : ℕ) (e : Term) (a : Act) (ps mid rest : List Piece) → IsExpression PARENTHESES e ps mid → IsStatement d above a (word_at r W.If ∷ ps) rest → (b : Acts) × (c : Acts) × (qs : List Piece) × IsBody d above b mid qs × IsElse d above c qs rest
+if_body d above r e a ps mid rest h (a_simple is k) = cc
+if_body d above r e a ps mid rest h (an_if {a = b} {b = c} {rs = qs} k i j) = let u = one_expression h k in (b, c, qs, subst (λ ps. IsBody d above b ps qs) (sym u.1) i, j)
 
-pub if_else : (d brace r : ℕ) (e : Term) (b : Acts) (a : Act) (ps mid next rest : List Piece) → IsExpression PARENTHESES e ps mid → IsBody d brace b mid next → IsStatement d brace a (word_at r W.If ∷ ps) rest → (c : Acts) × IsElse d brace c next rest
-if_else d brace r e b a ps mid next rest h k s =
-    let p = if_body d brace r e a ps mid rest h s in
+pub if_else : (d above r : ℕ) (e : Term) (b : Acts) (a : Act) (ps mid next rest : List Piece) → IsExpression PARENTHESES e ps mid → IsBody d above b mid next → IsStatement d above a (word_at r W.If ∷ ps) rest → (c : Acts) × IsElse d above c next rest
+if_else d above r e b a ps mid next rest h k s =
+    let p = if_body d above r e a ps mid rest h s in
     let u = one_body k p.3 in
-    (p.1, subst (λ ps. IsElse d brace p.1 ps rest) (sym u.1) p.4)
+    (p.1, subst (λ ps. IsElse d above p.1 ps rest) (sym u.1) p.4)
 
 -- the body of a `repeat`
-pub repeat_body : (d brace r : ℕ) (e : Term) (a : Act) (ps mid rest : List Piece) → IsExpression PARENTHESES e ps mid → IsStatement d brace a (word_at r W.Repeat ∷ ps) rest → (b : Acts) × IsBody d brace b mid rest
-repeat_body d brace r e a ps mid rest h (a_simple is k) = cc
-repeat_body d brace r e a ps mid rest h (a_repeat {a = b} k i) = let u = one_expression h k in (b, subst (λ ps. IsBody d brace b ps rest) (sym u.1) i)
+pub repeat_body : (d above r : ℕ) (e : Term) (a : Act) (ps mid rest : List Piece) → IsExpression PARENTHESES e ps mid → IsStatement d above a (word_at r W.Repeat ∷ ps) rest → (b : Acts) × IsBody d above b mid rest
+repeat_body d above r e a ps mid rest h (a_simple is k) = cc
+repeat_body d above r e a ps mid rest h (a_repeat {a = b} k i) = let u = one_expression h k in (b, subst (λ ps. IsBody d above b ps rest) (sym u.1) i)
 
 -- the body of an `else`
-pub is_else : (d brace : ℕ) (b : Acts) (old mid rest : List Piece) → after_word W.Else old ≡ Some mid → IsBody d brace b mid rest → IsElse d brace b old rest
-is_else d brace b old mid rest taken h = let s = after_word-Some W.Else old mid taken in subst (λ ps. IsElse d brace b ps rest) (sym s.1) (an_else h)
+pub is_else : (d above : ℕ) (b : Acts) (old mid rest : List Piece) → after_word W.Else old ≡ Some mid → IsBody d above b mid rest → IsElse d above b old rest
+is_else d above b old mid rest taken h = let s = after_word-Some W.Else old mid taken in subst (λ ps. IsElse d above b ps rest) (sym s.1) (an_else h)
 
-pub else_only : (d brace : ℕ) (b : Acts) (old mid rest : List Piece) → after_word W.Else old ≡ Some mid → IsElse d brace b old rest → IsBody d brace b mid rest
-else_only d brace b old mid rest taken (no_else none) = let e : None ≡ Some mid = sym none ∙ taken in cc
-else_only d brace b old mid rest taken (an_else {r = r} {ps = ps} h) =
+pub else_only : (d above : ℕ) (b : Acts) (old mid rest : List Piece) → after_word W.Else old ≡ Some mid → IsElse d above b old rest → IsBody d above b mid rest
+else_only d above b old mid rest taken (no_else none) = let e : None ≡ Some mid = sym none ∙ taken in cc
+else_only d above b old mid rest taken (an_else {r = r} {ps = ps} h) =
     let e : Some ps ≡ Some mid = sym (after_word-word_at r W.Else ps) ∙ taken in
     let f : ps ≡ mid = cc in
-    subst (λ ps. IsBody d brace b ps rest) f h
+    subst (λ ps. IsBody d above b ps rest) f h
 
 -- the second expression of a statement of two
 pub second_only : (o : TwoOperands) (e : Term) (a : Act) (ps mid rest : List Piece) → IsBefore Comma e ps mid → IsSimple (Two o) a ps rest → (f : Term) × IsBefore Semicolon f mid rest
@@ -151,7 +151,7 @@ is_display_text r t s old new next ahead same is =
     let u : old ≡ text_at r s ∷ new = next ∙ ap (λ t. text_at r t ∷ tail old) (sym same) ∙ ap (λ ps. text_at r s ∷ ps) (sym ahead) in
     subst (λ ps. IsDisplay s ps new) (sym u) (a_display is)
 
-pub statement_some : {d brace : ℕ} {a : Act} {ps qs : List Piece} → IsStatement d brace a ps qs → ps ≢ []
+pub statement_some : {d above : ℕ} {a : Act} {ps qs : List Piece} → IsStatement d above a ps qs → ps ≢ []
 statement_some (a_simple is h) = λ e. cc
 statement_some (an_assignment h) = λ e. cc
 statement_some (an_if h i j) = λ e. cc
@@ -166,45 +166,45 @@ onto-none [] = refl
 onto-none (s ∷ ss) = ap (act s.0 s.1) (onto-none ss)
 
 -- one statement more
-pub goes_on : (d brace row : ℕ) (a : Act) (here next : List Piece) → row ≡ row_in brace here → IsStatement d brace a here next → (more : Acts) (rest : List Piece) → IsStatements d brace more next rest → IsStatements d brace (also (row, a) more) here rest
-goes_on d brace row a here next at found more rest h = subst (λ r. IsStatements d brace (act r a more) here rest) (sym at) (and_then found h)
+pub goes_on : (d above row : ℕ) (a : Act) (here next : List Piece) → row ≡ row_in above here → IsStatement d above a here next → (more : Acts) (rest : List Piece) → IsStatements d above more next rest → IsStatements d above (also (row, a) more) here rest
+goes_on d above row a here next at found more rest h = subst (λ r. IsStatements d above (act r a more) here rest) (sym at) (and_then found h)
 
 -- whatever is read where no brace closes begins with a statement
-pub next_statement : {d brace : ℕ} {all : Acts} {ps rest : List Piece} → IsStatements d brace all ps rest → after CloseBrace ps ≡ None → (a : Act) × (more : Acts) × (qs : List Piece) × IsStatement d brace a ps qs × IsStatements d brace more qs rest
+pub next_statement : {d above : ℕ} {all : Acts} {ps rest : List Piece} → IsStatements d above all ps rest → after CloseBrace ps ≡ None → (a : Act) × (more : Acts) × (qs : List Piece) × IsStatement d above a ps qs × IsStatements d above more qs rest
 next_statement closed h = cc
 next_statement (and_then {a = a} {body = more} {qs = qs} s ss) h = (a, more, qs, s, ss)
 
-pub goes_only : (d brace : ℕ) (a : Act) (here next : List Piece) → after CloseBrace here ≡ None → IsStatement d brace a here next → (all : Acts) (rest : List Piece) → IsStatements d brace all here rest → (more : Acts) × IsStatements d brace more next rest
-goes_only d brace a here next unclosed found all rest h =
+pub goes_only : (d above : ℕ) (a : Act) (here next : List Piece) → after CloseBrace here ≡ None → IsStatement d above a here next → (all : Acts) (rest : List Piece) → IsStatements d above all here rest → (more : Acts) × IsStatements d above more next rest
+goes_only d above a here next unclosed found all rest h =
     let n = next_statement h unclosed in
-    (n.1, subst (λ ps. IsStatements d brace n.1 ps rest) (sym (one_statement found n.3).1) n.4)
+    (n.1, subst (λ ps. IsStatements d above n.1 ps rest) (sym (one_statement found n.3).1) n.4)
 
-is_closed : (d brace : ℕ) (here rest : List Piece) → after CloseBrace here ≡ Some rest → IsStatements d brace no_acts here rest
-is_closed d brace here rest taken = let s = after-Some CloseBrace here rest taken in subst (λ ps. IsStatements d brace no_acts ps rest) (sym s.1) closed
+is_closed : (d above : ℕ) (here rest : List Piece) → after CloseBrace here ≡ Some rest → IsStatements d above no_acts here rest
+is_closed d above here rest taken = let s = after-Some CloseBrace here rest taken in subst (λ ps. IsStatements d above no_acts ps rest) (sym s.1) closed
 
 -- all statements up to the brace
-pub all_read : (d brace : ℕ) (ss : List (ℕ × Act)) (first here rest : List Piece) → HaveRead also (IsStatements d brace) (IsStatements d brace) ss first here → after CloseBrace here ≡ Some rest → IsStatements d brace (acts_of ss) first rest
-all_read d brace ss first here rest so_far taken = subst (λ all. IsStatements d brace all first rest) (onto-none ss) (so_far.found no_acts rest (is_closed d brace here rest taken))
+pub all_read : (d above : ℕ) (ss : List (ℕ × Act)) (first here rest : List Piece) → HaveRead also (IsStatements d above) (IsStatements d above) ss first here → after CloseBrace here ≡ Some rest → IsStatements d above (acts_of ss) first rest
+all_read d above ss first here rest so_far taken = subst (λ all. IsStatements d above all first rest) (onto-none ss) (so_far.found no_acts rest (is_closed d above here rest taken))
 
-pub is_body : (d more brace : ℕ) (body : Acts) (old ps new : List Piece) → d ≡ suc more → after OpenBrace old ≡ Some ps → IsStatements more brace body ps new → IsBody d brace body old new
-is_body d more brace body old ps new left taken h =
+pub is_body : (d more above : ℕ) (body : Acts) (old ps new : List Piece) → d ≡ suc more → after OpenBrace old ≡ Some ps → IsStatements more above body ps new → IsBody d above body old new
+is_body d more above body old ps new left taken h =
     let s = after-Some OpenBrace old ps taken in
-    subst (λ d. IsBody d brace body old new) (sym left) (subst (λ qs. IsBody (suc more) brace body qs new) (sym s.1) (a_body h))
+    subst (λ d. IsBody d above body old new) (sym left) (subst (λ qs. IsBody (suc more) above body qs new) (sym s.1) (a_body h))
 
 -- what follows the brace of a body
-pub body_inner : (d more brace : ℕ) (body : Acts) (old ps new : List Piece) → d ≡ suc more → after OpenBrace old ≡ Some ps → IsBody d brace body old new → IsStatements more brace body ps new
-body_inner d more brace body old ps new left taken (a_body {d = m} {r = r} {ps = qs} h) =
+pub body_inner : (d more above : ℕ) (body : Acts) (old ps new : List Piece) → d ≡ suc more → after OpenBrace old ≡ Some ps → IsBody d above body old new → IsStatements more above body ps new
+body_inner d more above body old ps new left taken (a_body {d = m} {r = r} {ps = qs} h) =
     let e : m ≡ more = cc in
     let f : Some qs ≡ Some ps = sym (after-symbol_at r OpenBrace qs) ∙ taken in
     let g : qs ≡ ps = cc in
-    subst (λ n. IsStatements n brace body ps new) e (subst (λ qs. IsStatements m brace body qs new) g h)
+    subst (λ n. IsStatements n above body ps new) e (subst (λ qs. IsStatements m above body qs new) g h)
 
 -- no body is read where none may be opened, and where none is
-pub not_opened : (d brace : ℕ) (body : Acts) (old new : List Piece) → ((more : ℕ) → d ≡ suc more → after OpenBrace old ≡ None) → IsBody d brace body old new → ⊥
-not_opened d brace body old new none (a_body {d = m} {r = r} {ps = ps} h) = let e : None ≡ Some ps = sym (none m refl) ∙ after-symbol_at r OpenBrace ps in cc
+pub not_opened : (d above : ℕ) (body : Acts) (old new : List Piece) → ((more : ℕ) → d ≡ suc more → after OpenBrace old ≡ None) → IsBody d above body old new → ⊥
+not_opened d above body old new none (a_body {d = m} {r = r} {ps = ps} h) = let e : None ≡ Some ps = sym (none m refl) ∙ after-symbol_at r OpenBrace ps in cc
 
 -- a body begins with a brace
-brace_first : {d brace : ℕ} {body : Acts} {old new : List Piece} → IsBody d brace body old new → (r : ℕ) × (ps : List Piece) × (old ≡ symbol_at r OpenBrace ∷ ps)
+brace_first : {d above : ℕ} {body : Acts} {old new : List Piece} → IsBody d above body old new → (r : ℕ) × (ps : List Piece) × (old ≡ symbol_at r OpenBrace ∷ ps)
 brace_first (a_body {r = r} {ps = ps} h) = (r, ps, refl)
 
 -- the line of a token is that of its piece
@@ -218,11 +218,14 @@ line_of-front r q T.End s ps qs h = cc
 line_of-front r q (T.Bad fault) s ps qs h = cc
 
 -- a body whose rows count from its own line is a block
-pub is_block : (r : ℕ) (t : Token) (body : Acts) (old new : List Piece) → old ≡ front r t (tail old) → IsBody BODY_DEPTH r body old new → IsBlock body old new
-is_block r t body old new next h =
+pub is_block : (r above : ℕ) (t : Token) (body : Acts) (old new : List Piece) → above ≡ r - 1 → old ≡ front r t (tail old) → IsBody BODY_DEPTH above body old new → IsBlock body old new
+is_block r above t body old new from next h =
     let s = brace_first h in
     let e = line_of-front r s.0 t OpenBrace (tail old) s.1 (sym next ∙ s.2) in
-    subst (λ qs. IsBlock body qs new) (sym s.2) (a_block (subst (λ q. IsBody BODY_DEPTH q body (symbol_at s.0 OpenBrace ∷ s.1) new) e (subst (λ qs. IsBody BODY_DEPTH r body qs new) s.2 h)))
+    let rows : above ≡ s.0 - 1 = from ∙ ap (λ n. n - 1) e in
+    subst (λ qs. IsBlock body qs new) (sym s.2) (a_block (subst (λ n. IsBody BODY_DEPTH n body (symbol_at s.0 OpenBrace ∷ s.1) new) rows (subst (λ qs. IsBody BODY_DEPTH above body qs new) s.2 h)))
 
-pub block_inner : (r : ℕ) (t : Token) (body : Acts) (old new : List Piece) → old ≡ front r t (tail old) → IsBlock body old new → IsBody BODY_DEPTH r body old new
-block_inner r t body old new next (a_block {r = q} {ps = ps} h) = let e = line_of-front r q t OpenBrace (tail old) ps (sym next) in subst (λ q. IsBody BODY_DEPTH q body old new) (sym e) h
+pub block_inner : (r above : ℕ) (t : Token) (body : Acts) (old new : List Piece) → above ≡ r - 1 → old ≡ front r t (tail old) → IsBlock body old new → IsBody BODY_DEPTH above body old new
+block_inner r above t body old new from next (a_block {r = q} {ps = ps} h) =
+    let e = line_of-front r q t OpenBrace (tail old) ps (sym next) in
+    subst (λ n. IsBody BODY_DEPTH n body old new) (sym (from ∙ ap (λ n. n - 1) e)) h

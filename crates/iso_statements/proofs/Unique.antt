@@ -1,14 +1,13 @@
 -- Pieces are one literal, expression, statement or block at most: each rule has one clause.
-use Rattle.std.proofs.Common.{◌≡◌, ℕ, List, [], ◌∷◌, Some, None, option_map, refl, ap, subst, sym, ◌∙◌}
+use Rattle.std.proofs.Common.{◌≡◌, ℕ, List, ◌∷◌, Some, None, option_map, refl, ap, subst, sym, ◌∙◌}
 use Rattle.iso_lexer.specs.Piece.{Piece, name_at, word_at, symbol_at}
 use Rattle.iso_lexer.specs.declared.symbol.Symbol.{Symbol}
 use Rattle.iso_lexer.specs.declared.symbol.Symbol.TheVariants.{OpenParen, Semicolon}
 use Rattle.iso_lexer.specs.declared.word.Word.{Word}
 use Rattle.iso_lexer.specs.declared.word.Word.TheVariants as W
 use Rattle.iso_model.specs.declared.data.Data.{Data}
-use Rattle.iso_model.specs.declared.limits.TheConstants.{PARENTHESES}
 use Rattle.iso_model.specs.declared.tree.Function.{Function}
-use Rattle.iso_model.specs.Syntax.{Term, Terms, literal, name, chain, compare, call, term, let_name, assign, assume, Act, plain, choice, repeat, Acts}
+use Rattle.iso_model.specs.Syntax.{Term, Terms, literal, chain, compare, call, term, let_name, assign, assume, Act, plain, choice, repeat, Acts}
 use Rattle.iso_statements.specs.Expressions as E
 use Rattle.iso_statements.specs.Expressions.{IsLiteral, a_number, a_negative, a_text, a_true, a_false, infix_of, infix_next, function_of, IsLocale, no_argument, IsOperand, a_literal, a_name, in_parentheses, a_call, the_locale, IsEnclosed, enclosed, IsChained, chained, IsExpression, an_operand, a_chain, a_comparison, IsBefore, before}
 use Rattle.iso_statements.specs.declared.expression.Infix.{Infix}
@@ -124,45 +123,45 @@ one_simple (an_assumption {t = t} h i) (an_assumption {q = q} {e = e} {t = s} {r
     (ap (λ e. plain (assume e t)) u.0 ∙ ap (λ t. plain (assume e t)) v.0, (same_front v.1).1)
 one_simple a_fail a_fail = (refl, refl)
 
-no_statement : {d brace r : ℕ} {s : Symbol} {a : Act} {ps qs : List Piece} → IsStatement d brace a (symbol_at r s ∷ ps) qs → ⊥
+no_statement : {d above r : ℕ} {s : Symbol} {a : Act} {ps qs : List Piece} → IsStatement d above a (symbol_at r s ∷ ps) qs → ⊥
 no_statement h = elim h [ ]
 
 mutual
-  pub one_statement : {d brace : ℕ} {a b : Act} {ps qs rs : List Piece} → IsStatement d brace a ps qs → IsStatement d brace b ps rs → (a ≡ b) × (qs ≡ rs)
+  pub one_statement : {d above : ℕ} {a b : Act} {ps qs rs : List Piece} → IsStatement d above a ps qs → IsStatement d above b ps rs → (a ≡ b) × (qs ≡ rs)
   one_statement (a_simple {k = k} is h) (a_simple {k = l} {a = b} {ps = ps} {qs = rs} also j) =
       let same : k ≡ l = cc in
       one_simple h (subst (λ k. IsSimple k b ps rs) (sym same) j)
   one_statement (an_assignment h) (an_assignment k) = let u = one_binding h k in (ap (λ (b : List ℕ × Term). plain (assign b.0 b.1)) u.0, u.1)
-  one_statement {d = d} {brace = brace} (an_if {a = a} {b = b} h i j) (an_if {e = e} {a = c} {b = g} {rs = rs} {ts = ts} k l m) =
+  one_statement {d = d} {above = above} (an_if {a = a} {b = b} h i j) (an_if {e = e} {a = c} {b = g} {rs = rs} {ts = ts} k l m) =
       let u = one_expression h k in
-      let v = one_body i (subst (λ ps. IsBody d brace c ps rs) (sym u.1) l) in
-      let w = one_else j (subst (λ ps. IsElse d brace g ps ts) (sym v.1) m) in
+      let v = one_body i (subst (λ ps. IsBody d above c ps rs) (sym u.1) l) in
+      let w = one_else j (subst (λ ps. IsElse d above g ps ts) (sym v.1) m) in
       (ap (λ e. choice e a b) u.0 ∙ ap (λ a. choice e a b) v.0 ∙ ap (choice e c) w.0, w.1)
-  one_statement {d = d} {brace = brace} (a_repeat {a = a} h i) (a_repeat {e = e} {a = c} {rs = rs} k l) =
+  one_statement {d = d} {above = above} (a_repeat {a = a} h i) (a_repeat {e = e} {a = c} {rs = rs} k l) =
       let u = one_expression h k in
-      let v = one_body i (subst (λ ps. IsBody d brace c ps rs) (sym u.1) l) in
+      let v = one_body i (subst (λ ps. IsBody d above c ps rs) (sym u.1) l) in
       (ap (λ e. repeat e a) u.0 ∙ ap (repeat e) v.0, v.1)
   one_statement (a_simple is h) (an_if k l m) = cc
   one_statement (a_simple is h) (a_repeat k l) = cc
   one_statement (an_if h i j) (a_simple is k) = cc
   one_statement (a_repeat h i) (a_simple is k) = cc
 
-  pub one_else : {d brace : ℕ} {a b : Acts} {ps qs rs : List Piece} → IsElse d brace a ps qs → IsElse d brace b ps rs → (a ≡ b) × (qs ≡ rs)
+  pub one_else : {d above : ℕ} {a b : Acts} {ps qs rs : List Piece} → IsElse d above a ps qs → IsElse d above b ps rs → (a ≡ b) × (qs ≡ rs)
   one_else (no_else none) (no_else also) = (refl, refl)
   one_else (an_else h) (an_else k) = one_body h k
   one_else (no_else none) (an_else k) = cc
   one_else (an_else h) (no_else none) = cc
 
-  pub one_statements : {d brace : ℕ} {a b : Acts} {ps qs rs : List Piece} → IsStatements d brace a ps qs → IsStatements d brace b ps rs → (a ≡ b) × (qs ≡ rs)
+  pub one_statements : {d above : ℕ} {a b : Acts} {ps qs rs : List Piece} → IsStatements d above a ps qs → IsStatements d above b ps rs → (a ≡ b) × (qs ≡ rs)
   one_statements closed closed = (refl, refl)
-  one_statements {d = d} {brace = brace} (and_then h hs) (and_then {body = more} {rs = rs} k ks) =
+  one_statements {d = d} {above = above} (and_then h hs) (and_then {body = more} {rs = rs} k ks) =
       let u = one_statement h k in
-      let v = one_statements hs (subst (λ ps. IsStatements d brace more ps rs) (sym u.1) ks) in
+      let v = one_statements hs (subst (λ ps. IsStatements d above more ps rs) (sym u.1) ks) in
       (cc (u.0, v.0), v.1)
   one_statements closed (and_then k ks) = absurd (no_statement k)
   one_statements (and_then h hs) closed = absurd (no_statement h)
 
-  pub one_body : {d brace : ℕ} {a b : Acts} {ps qs rs : List Piece} → IsBody d brace a ps qs → IsBody d brace b ps rs → (a ≡ b) × (qs ≡ rs)
+  pub one_body : {d above : ℕ} {a b : Acts} {ps qs rs : List Piece} → IsBody d above a ps qs → IsBody d above b ps rs → (a ≡ b) × (qs ≡ rs)
   one_body (a_body h) (a_body k) = one_statements h k
 
 pub one_block : {a b : Acts} {ps qs rs : List Piece} → IsBlock a ps qs → IsBlock b ps rs → (a ≡ b) × (qs ≡ rs)

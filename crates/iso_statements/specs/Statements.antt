@@ -1,8 +1,8 @@
 -- The grammar of statements and bodies, by rules. `IsX x ps qs` says that the pieces ps are those of x, and then the
--- pieces qs. A number d among the arguments says how many more bodies may be opened, and brace is the line of the
--- opening brace of the block, on which row 1 is.
+-- pieces qs. A number d among the arguments says how many more bodies may be opened, and above is how many lines stand
+-- above that of the block's opening brace, on which row 1 is.
 use Rattle.std.specs.Global.{Global}
-use Rattle.std.specs.Prelude.{ℕ, suc, List, [], ◌∷◌, ◌≡◌, Bool, true, false, not, ◌&&◌, nat_le, nat_eq, length, get_or, Option, Some, None, Vec}
+use Rattle.std.specs.Prelude.{ℕ, suc, ◌-◌, List, [], ◌∷◌, ◌≡◌, Bool, true, false, not, ◌&&◌, nat_le, nat_eq, length, get_or, Option, Some, None, Vec}
 use Rattle.iso_lexer.specs.Piece.{Piece, name_at, text_at, word_at, symbol_at}
 use Rattle.iso_lexer.specs.Tokens.{after_word}
 use Rattle.iso_lexer.specs.declared.symbol.Symbol.TheVariants.{OpenBrace, CloseBrace, Semicolon, Comma, Equals}
@@ -83,34 +83,34 @@ pub data IsSimple : Simple → Act → List Piece → List Piece → Type 0 wher
   a_fail : {r q : ℕ} {t : List ℕ} {ps : List Piece} → IsSimple Fail (plain (fail t)) (text_at r t ∷ symbol_at q Semicolon ∷ ps) ps
 
 mutual
-  pub data IsStatement : (d brace : ℕ) → Act → List Piece → List Piece → Type 0 where
-    a_simple : {d brace r : ℕ} {w : Word} {k : Simple} {a : Act} {ps qs : List Piece}
-        → simple_of w ≡ Some k → IsSimple k a ps qs → IsStatement d brace a (word_at r w ∷ ps) qs
-    an_assignment : {d brace r : ℕ} {n : List ℕ} {b : List ℕ × Term} {ps qs : List Piece}
-        → IsBinding b (name_at r n ∷ ps) qs → IsStatement d brace (plain (assign b.0 b.1)) (name_at r n ∷ ps) qs
-    an_if : {d brace r : ℕ} {e : Term} {a b : Acts} {ps qs rs ts : List Piece}
-        → IsExpression PARENTHESES e ps qs → IsBody d brace a qs rs → IsElse d brace b rs ts → IsStatement d brace (choice e a b) (word_at r W.If ∷ ps) ts
-    a_repeat : {d brace r : ℕ} {e : Term} {a : Acts} {ps qs rs : List Piece}
-        → IsExpression PARENTHESES e ps qs → IsBody d brace a qs rs → IsStatement d brace (repeat e a) (word_at r W.Repeat ∷ ps) rs
+  pub data IsStatement : (d above : ℕ) → Act → List Piece → List Piece → Type 0 where
+    a_simple : {d above r : ℕ} {w : Word} {k : Simple} {a : Act} {ps qs : List Piece}
+        → simple_of w ≡ Some k → IsSimple k a ps qs → IsStatement d above a (word_at r w ∷ ps) qs
+    an_assignment : {d above r : ℕ} {n : List ℕ} {b : List ℕ × Term} {ps qs : List Piece}
+        → IsBinding b (name_at r n ∷ ps) qs → IsStatement d above (plain (assign b.0 b.1)) (name_at r n ∷ ps) qs
+    an_if : {d above r : ℕ} {e : Term} {a b : Acts} {ps qs rs ts : List Piece}
+        → IsExpression PARENTHESES e ps qs → IsBody d above a qs rs → IsElse d above b rs ts → IsStatement d above (choice e a b) (word_at r W.If ∷ ps) ts
+    a_repeat : {d above r : ℕ} {e : Term} {a : Acts} {ps qs rs : List Piece}
+        → IsExpression PARENTHESES e ps qs → IsBody d above a qs rs → IsStatement d above (repeat e a) (word_at r W.Repeat ∷ ps) rs
 
   -- the body of an `else`, and an empty one where there is none
-  pub data IsElse : (d brace : ℕ) → Acts → List Piece → List Piece → Type 0 where
-    no_else : {d brace : ℕ} {ps : List Piece} → after_word W.Else ps ≡ None → IsElse d brace no_acts ps ps
-    an_else : {d brace r : ℕ} {b : Acts} {ps qs : List Piece} → IsBody d brace b ps qs → IsElse d brace b (word_at r W.Else ∷ ps) qs
+  pub data IsElse : (d above : ℕ) → Acts → List Piece → List Piece → Type 0 where
+    no_else : {d above : ℕ} {ps : List Piece} → after_word W.Else ps ≡ None → IsElse d above no_acts ps ps
+    an_else : {d above r : ℕ} {b : Acts} {ps qs : List Piece} → IsBody d above b ps qs → IsElse d above b (word_at r W.Else ∷ ps) qs
 
   -- statements, each with the row of its first token, and the brace that closes them
-  pub data IsStatements : (d brace : ℕ) → Acts → List Piece → List Piece → Type 0 where
-    closed : {d brace r : ℕ} {ps : List Piece} → IsStatements d brace no_acts (symbol_at r CloseBrace ∷ ps) ps
-    and_then : {d brace : ℕ} {a : Act} {body : Acts} {ps qs rs : List Piece}
-        → IsStatement d brace a ps qs → IsStatements d brace body qs rs → IsStatements d brace (act (row_in brace ps) a body) ps rs
+  pub data IsStatements : (d above : ℕ) → Acts → List Piece → List Piece → Type 0 where
+    closed : {d above r : ℕ} {ps : List Piece} → IsStatements d above no_acts (symbol_at r CloseBrace ∷ ps) ps
+    and_then : {d above : ℕ} {a : Act} {body : Acts} {ps qs rs : List Piece}
+        → IsStatement d above a ps qs → IsStatements d above body qs rs → IsStatements d above (act (row_in above ps) a body) ps rs
 
   -- a body
-  pub data IsBody : (d brace : ℕ) → Acts → List Piece → List Piece → Type 0 where
-    a_body : {d brace r : ℕ} {body : Acts} {ps qs : List Piece} → IsStatements d brace body ps qs → IsBody (suc d) brace body (symbol_at r OpenBrace ∷ ps) qs
+  pub data IsBody : (d above : ℕ) → Acts → List Piece → List Piece → Type 0 where
+    a_body : {d above r : ℕ} {body : Acts} {ps qs : List Piece} → IsStatements d above body ps qs → IsBody (suc d) above body (symbol_at r OpenBrace ∷ ps) qs
 
 -- a block: the body of a test, or of a lifecycle block
 pub data IsBlock : Acts → List Piece → List Piece → Type 0 where
-  a_block : {r : ℕ} {body : Acts} {ps qs : List Piece} → IsBody BODY_DEPTH r body (symbol_at r OpenBrace ∷ ps) qs → IsBlock body (symbol_at r OpenBrace ∷ ps) qs
+  a_block : {r : ℕ} {body : Acts} {ps qs : List Piece} → IsBody BODY_DEPTH (r - 1) body (symbol_at r OpenBrace ∷ ps) qs → IsBlock body (symbol_at r OpenBrace ∷ ps) qs
 
 -- what the statements of a body stand for
 abbrev pub body_of : Vec Stmt Global → Acts

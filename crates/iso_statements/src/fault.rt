@@ -1,5 +1,6 @@
 use iso_lexer::token::{Place, TokenFault};
 use std::alloc::{AllocError, AllocFailed};
+use std::fmt;
 use thiserror::Error;
 
 /// What makes bytes no script.
@@ -35,6 +36,39 @@ pub enum ScriptFaultKind {
     EndOfInput,
 }
 
+impl ScriptFaultKind {
+    ghost use Rattle.std.specs.Prelude.{◌≡◌};
+    ghost use Rattle.iso_statements.specs.FaultNames.{fault_name};
+
+    /// How the kind is called.
+    pub fn as_str(self) -> &'static str
+        ensures { result.now ≡ fault_name self }
+    {
+        match self {
+            ScriptFaultKind::BadByte => "BadByte",
+            ScriptFaultKind::BadToken => "BadToken",
+            ScriptFaultKind::NumberTooBig => "NumberTooBig",
+            ScriptFaultKind::OpenText => "OpenText",
+            ScriptFaultKind::Expected => "Expected",
+            ScriptFaultKind::DoubleBlock => "DoubleBlock",
+            ScriptFaultKind::DoubleMember => "DoubleMember",
+            ScriptFaultKind::NameTaken => "NameTaken",
+            ScriptFaultKind::EmptyClass => "EmptyClass",
+            ScriptFaultKind::TooDeep => "TooDeep",
+            ScriptFaultKind::TooLong => "TooLong",
+            ScriptFaultKind::BadDisplay => "BadDisplay",
+            ScriptFaultKind::GlobalKey => "GlobalKey",
+            ScriptFaultKind::EndOfInput => "EndOfInput",
+        }
+    }
+}
+
+impl fmt::Display for ScriptFaultKind {
+    fn fmt<W: fmt::Write>(&self, f: &mut fmt::Formatter<W>) -> fmt::Result {
+        f.write_str(self.as_str())
+    }
+}
+
 /// A fault of a script, and where it lies. Lines and columns count from 1, and a column counts bytes.
 #[derive(Clone, Copy, Debug, PartialEq, Eq)]
 pub struct ScriptFault {
@@ -46,7 +80,7 @@ pub struct ScriptFault {
 /// Why a script could not be read.
 #[derive(Clone, Copy, Debug, PartialEq, Eq, Error)]
 pub enum ScriptError {
-    #[error("{:?} at line {}, column {}", .0.kind, .0.line, .0.column)]
+    #[error("{} at line {}, column {}", .0.kind, .0.line, .0.column)]
     Fault(ScriptFault),
     #[error("out of memory")]
     OutOfMemory,

@@ -145,6 +145,13 @@ impl<'a> Parser<'a> {
         matches!(self.lexer.peek().0, Token::Symbol(next) if next.is(symbol))
     }
 
+    /// Whether this reserved word is next.
+    pub fn is_at_word(&self, word: Word) -> bool
+        ensures { result ≡ is_some (after_word word self.now.lexer) }
+    {
+        matches!(self.lexer.peek().0, Token::Word(next) if next.is(word))
+    }
+
     /// Whether nothing is next.
     pub fn is_at_end(&self) -> bool
         ensures { IsTrue result ↔ (self.now.lexer ≡ []) }
@@ -152,11 +159,10 @@ impl<'a> Parser<'a> {
         matches!(self.lexer.peek().0, Token::End)
     }
 
-    /// The row of the token that is next, in a block whose opening brace stands on this line.
-    pub fn row_in(&self, brace: u32) -> u32
-        ensures { self.now.lexer ≢ [] → result ≡ row_in brace self.now.lexer }
+    /// The row of the token that is next, in a block whose opening brace has this many lines above its own.
+    pub fn row_in(&self, above: u32) -> u32
+        ensures { self.now.lexer ≢ [] → result ≡ row_in above self.now.lexer }
     {
-        let (_, place) = self.lexer.peek();
-        place.line.saturating_sub(brace.saturating_sub(1))
+        self.lexer.peek().1.line.saturating_sub(above)
     }
 }

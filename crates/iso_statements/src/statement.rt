@@ -18,28 +18,29 @@ impl Parser<'_> {
     pub fn block(&mut self) -> Result<Vec<Stmt>, ScriptError>
         ensures { Parses body_of IsBlock result self.old.lexer self.new.lexer }
     {
-        let brace = self.lexer.peek().1.line;
-        self.body(BODY_DEPTH, brace)
+        let above = self.lexer.peek().1.line.saturating_sub(1);
+        self.body(BODY_DEPTH, above)
     }
 
-    /// A body of a block whose opening brace stands on this line, the outermost of so many that may be opened.
+    /// A body of a block whose opening brace has this many lines above its own, the outermost of so many that may be
+    /// opened.
     #[cycle(body)]
-    pub fn body(&mut self, bodies: u32, brace: u32) -> Result<Vec<Stmt>, ScriptError>
-        ensures { Parses body_of (IsBody bodies brace) result self.old.lexer self.new.lexer }
+    pub fn body(&mut self, bodies: u32, above: u32) -> Result<Vec<Stmt>, ScriptError>
+        ensures { Parses body_of (IsBody bodies above) result self.old.lexer self.new.lexer }
     {
         let more = self.open(Symbol::OpenBrace, bodies)?;
-        self.statements(more, brace)
+        self.statements(more, above)
     }
 
     /// Statements, and the brace that closes them.
     #[cycle(body)]
-    fn statements(&mut self, bodies: u32, brace: u32) -> Result<Vec<Stmt>, ScriptError>
-        ensures { Parses body_of (IsStatements bodies brace) result self.old.lexer self.new.lexer }
+    fn statements(&mut self, bodies: u32, above: u32) -> Result<Vec<Stmt>, ScriptError>
+        ensures { Parses body_of (IsStatements bodies above) result self.old.lexer self.new.lexer }
     {
         let mut statements = Vec::new(self.alloc);
         'statements: while !self.lexer.takes(Symbol::CloseBrace) {
-            let row = self.row_in(brace);
-            let form = self.form(bodies, brace)?;
+            let row = self.row_in(above);
+            let form = self.form(bodies, above)?;
             statements.push(Stmt { row, form })?;
         }
         Ok(statements)
@@ -47,18 +48,18 @@ impl Parser<'_> {
 
     /// What a statement does.
     #[cycle(body)]
-    fn form(&mut self, bodies: u32, brace: u32) -> Result<Form, ScriptError>
-        ensures { Parses form_of (IsStatement bodies brace) result self.old.lexer self.new.lexer }
+    fn form(&mut self, bodies: u32, above: u32) -> Result<Form, ScriptError>
+        ensures { Parses form_of (IsStatement bodies above) result self.old.lexer self.new.lexer }
     {
         if let Some(simple) = self.simple() {
             self.lexer.advance();
             return self.simple_form(simple);
         }
         if self.lexer.takes_word(Word::If) {
-            return self.choice(bodies, brace);
+            return self.choice(bodies, above);
         }
         if self.lexer.takes_word(Word::Repeat) {
-            return self.repetition(bodies, brace);
+            return self.repetition(bodies, above);
         }
         let (name, value) = self.binding()?;
         Ok(Form::Assign(name, value))
@@ -66,23 +67,23 @@ impl Parser<'_> {
 
     /// What follows `if`.
     #[cycle(body)]
-    fn choice(&mut self, bodies: u32, brace: u32) -> Result<Form, ScriptError>
-        ensures { (r : ℕ) → Parses form_of (λ a ps qs. IsStatement bodies brace a (word_at r W.If ∷ ps) qs)
+    fn choice(&mut self, bodies: u32, above: u32) -> Result<Form, ScriptError>
+        ensures { (r : ℕ) → Parses form_of (λ a ps qs. IsStatement bodies above a (word_at r W.If ∷ ps) qs)
             result self.old.lexer self.new.lexer }
     {
         let condition = self.expression(PARENTHESES)?;
-        let first = self.body(bodies, brace)?;
-        let second = self.otherwise(bodies, brace)?;
+        let first = self.body(bodies, above)?;
+        let second = self.otherwise(bodies, above)?;
         Ok(Form::If(condition, first, second))
     }
 
     /// The body of an `else`, or none.
     #[cycle(body)]
-    fn otherwise(&mut self, bodies: u32, brace: u32) -> Result<Vec<Stmt>, ScriptError>
-        ensures { Parses body_of (IsElse bodies brace) result self.old.lexer self.new.lexer }
+    fn otherwise(&mut self, bodies: u32, above: u32) -> Result<Vec<Stmt>, ScriptError>
+        ensures { Parses body_of (IsElse bodies above) result self.old.lexer self.new.lexer }
     {
         if self.lexer.takes_word(Word::Else) {
-            self.body(bodies, brace)
+            self.body(bodies, above)
         } else {
             Ok(Vec::new(self.alloc))
         }
@@ -90,12 +91,12 @@ impl Parser<'_> {
 
     /// What follows `repeat`.
     #[cycle(body)]
-    fn repetition(&mut self, bodies: u32, brace: u32) -> Result<Form, ScriptError>
-        ensures { (r : ℕ) → Parses form_of (λ a ps qs. IsStatement bodies brace a (word_at r W.Repeat ∷ ps) qs)
+    fn repetition(&mut self, bodies: u32, above: u32) -> Result<Form, ScriptError>
+        ensures { (r : ℕ) → Parses form_of (λ a ps qs. IsStatement bodies above a (word_at r W.Repeat ∷ ps) qs)
             result self.old.lexer self.new.lexer }
     {
         let count = self.expression(PARENTHESES)?;
-        let body = self.body(bodies, brace)?;
+        let body = self.body(bodies, above)?;
         Ok(Form::Repeat(count, body))
     }
 }

@@ -1,5 +1,11 @@
-use Rattle.iso_script.proofs.Scripts.{is_script}
+use Rattle.std.proofs.lemmas.Result.{err_from_is_err_and}
+use Rattle.iso_script.proofs.Scripts.{is_script, script_classes}
 use Rattle.iso_script.proofs.reader.script.Goals as goal
 
-pub returns-clause-found : goal.returns-clause-found
-returns-clause-found c = rw c.in_ok-copied.ensures (is_script _ _ _ _ _ c.in_ok-expect_word.ensures c.in_ok-name.ensures c.in_ok-classes.ensures.found)
+pub returns-in_err-classes : goal.returns-in_err-classes
+returns-in_err-classes c =
+    let p = err_from_is_err_and c.from_residual-in_err-classes.result c.from_residual-in_err-classes.ensures.1 in
+    rw (p.1, p.2) (λ s h. let k = script_classes _ _ _ _ c.in_ok-expect_word.ensures c.in_ok-name.ensures h in c.in_err-classes.ensures k.0 k.1)
+
+pub returns : goal.returns
+returns c = rw c.in_ok-copied.ensures (is_script _ _ _ _ _ c.in_ok-expect_word.ensures c.in_ok-name.ensures c.in_ok-classes.ensures)

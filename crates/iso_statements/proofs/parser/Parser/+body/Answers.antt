@@ -1,4 +1,4 @@
-use Rattle.std.proofs.Common.{◌∷◌, ◌∙◌, ◌≡◌, ap, sym, subst, length, arith, refl}
+use Rattle.std.proofs.Common.{◌∷◌, ◌∙◌, ap, sym, subst, length, arith, refl}
 use Rattle.std.proofs.lemmas.List.{map_push}
 use Rattle.std.proofs.lemmas.Result.{err_from_is_err_and}
 use Rattle.iso_lexer.specs.Piece.{word_at}
@@ -15,7 +15,7 @@ use Rattle.iso_statements.proofs.Views.{form_of-assign, form_of-if, form_of-repe
 use Rattle.iso_statements.proofs.parser.Parser.+body.Goals as goal
 
 pub statements-statements-init : goal.statements-statements-init
-statements-statements-init t c = rw c.new-statements.ensures.items (none_read also (IsStatements c.args.bodies c.args.brace) c.args.self.now.lexer)
+statements-statements-init t c = rw c.new-statements.ensures.items (none_read also (IsStatements c.args.bodies c.args.above) c.args.self.now.lexer)
 
 pub statements-returns-in_err-form : goal.statements-returns-in_err-form
 statements-returns-in_err-form t c =
@@ -42,7 +42,7 @@ statements-returns t c = all_read _ _ _ _ _ _ c.statements.invariant c.statement
 pub body-returns : goal.body-returns
 body-returns t c =
     let opened = c.in_ok-more.ensures in
-    parses_from body_of (IsStatements _ c.args.brace) (IsBody c.args.bodies c.args.brace) _ _ _ _
+    parses_from body_of (IsStatements _ c.args.above) (IsBody c.args.bodies c.args.above) _ _ _ _
     (λ x rest. is_body _ _ _ x _ _ rest opened.0 opened.1) (λ x rest. body_inner _ _ _ x _ _ rest opened.0 opened.1) c.statements.ensures
 
 pub body-returns-in_err-more : goal.body-returns-in_err-more
@@ -52,7 +52,7 @@ body-returns-in_err-more t c =
 
 pub otherwise-returns-then-takes_word : goal.otherwise-returns-then-takes_word
 otherwise-returns-then-takes_word t c =
-    parses_from body_of (IsBody c.args.bodies c.args.brace) (IsElse c.args.bodies c.args.brace) _ _ _ _
+    parses_from body_of (IsBody c.args.bodies c.args.above) (IsElse c.args.bodies c.args.above) _ _ _ _
     (λ x rest. is_else _ _ x _ _ rest c.if-takes_word.ensures.found) (λ x rest. else_only _ _ x _ _ rest c.if-takes_word.ensures.found) c.body.ensures
 
 pub otherwise-returns-else-takes_word : goal.otherwise-returns-else-takes_word
@@ -60,21 +60,21 @@ otherwise-returns-else-takes_word t c = rw (c.new.ensures.items, c.if-takes_word
 
 pub form-returns-in-Some : goal.form-returns-in-Some
 form-returns-in-Some t c =
-    parses_from form_of (IsSimple c.in-Some.simple) (IsStatement c.args.bodies c.args.brace) _ _ _ _
+    parses_from form_of (IsSimple c.in-Some.simple) (IsStatement c.args.bodies c.args.above) _ _ _ _
     (λ x rest. is_simple _ _ _ x _ _ rest (sym c.in-Some.ensures) c.advance.ensures) (λ x rest. simple_only _ _ _ x _ _ rest (sym c.in-Some.ensures) c.advance.ensures) c.simple_form.ensures
 
 pub form-returns-then-takes_word : goal.form-returns-then-takes_word
 form-returns-then-takes_word t c =
     let s = after_word-Some W.If _ _ c.if-takes_word.ensures.found in
-    parses_from form_of (λ a ps qs. IsStatement c.args.bodies c.args.brace a (word_at s.0 W.If ∷ ps) qs) (IsStatement c.args.bodies c.args.brace) _ _ _ _
-    (λ x rest h. subst (λ ps. IsStatement c.args.bodies c.args.brace x ps rest) (sym s.1) h) (λ x rest h. subst (λ ps. IsStatement c.args.bodies c.args.brace x ps rest) s.1 h) (c.choice.ensures s.0)
+    parses_from form_of (λ a ps qs. IsStatement c.args.bodies c.args.above a (word_at s.0 W.If ∷ ps) qs) (IsStatement c.args.bodies c.args.above) _ _ _ _
+    (λ x rest h. subst (λ ps. IsStatement c.args.bodies c.args.above x ps rest) (sym s.1) h) (λ x rest h. subst (λ ps. IsStatement c.args.bodies c.args.above x ps rest) s.1 h) (c.choice.ensures s.0)
 
 pub form-returns-then-takes_word-2 : goal.form-returns-then-takes_word-2
 form-returns-then-takes_word-2 t c =
     let kept = c.if-takes_word.ensures.kept refl in
     let s = after_word-Some W.Repeat _ _ (ap (after_word W.Repeat) (sym kept) ∙ c.if-takes_word-2.ensures.found) in
-    parses_from form_of (λ a ps qs. IsStatement c.args.bodies c.args.brace a (word_at s.0 W.Repeat ∷ ps) qs) (IsStatement c.args.bodies c.args.brace) _ _ _ _
-    (λ x rest h. subst (λ ps. IsStatement c.args.bodies c.args.brace x ps rest) (sym s.1) h) (λ x rest h. subst (λ ps. IsStatement c.args.bodies c.args.brace x ps rest) s.1 h) (c.repetition.ensures s.0)
+    parses_from form_of (λ a ps qs. IsStatement c.args.bodies c.args.above a (word_at s.0 W.Repeat ∷ ps) qs) (IsStatement c.args.bodies c.args.above) _ _ _ _
+    (λ x rest h. subst (λ ps. IsStatement c.args.bodies c.args.above x ps rest) (sym s.1) h) (λ x rest h. subst (λ ps. IsStatement c.args.bodies c.args.above x ps rest) s.1 h) (c.repetition.ensures s.0)
 
 pub form-returns-in_err-name : goal.form-returns-in_err-name
 form-returns-in_err-name t c =

@@ -24,7 +24,7 @@ abbrev pub decreases-statements : goal.decreases-statements
 decreases-statements l = 5 * l.bodies + 4
 
 abbrev pub invariant-statements-statements : goal.invariant-statements-statements
-invariant-statements-statements l = HaveRead also (IsStatements l.bodies l.brace) (IsStatements l.bodies l.brace) (map stmt_of l.statements.items) l.fn.self.lexer l.self.lexer
+invariant-statements-statements l = HaveRead also (IsStatements l.bodies l.above) (IsStatements l.bodies l.above) (map stmt_of l.statements.items) l.fn.self.lexer l.self.lexer
 
 abbrev pub decreases-statements-statements : goal.decreases-statements-statements
 decreases-statements-statements l = length l.self.lexer

@@ -1,4 +1,4 @@
-use Rattle.std.proofs.Common.{◌∷◌, ◌++◌, [], ◌∙◌, ◌≤◌, ◌<◌, ◌-◌, ◌≡◌, ap, sym, arith, length, is_some, Some, refl}
+use Rattle.std.proofs.Common.{◌∙◌, ◌<◌, ◌-◌, ◌≡◌, ap, sym, arith, length, is_some, Some, refl}
 use Rattle.std.proofs.lemmas.List.{map_push}
 use Rattle.std.proofs.lemmas.Result.{err_from_is_err_and}
 use Rattle.iso_lexer.specs.Piece.{tail}
@@ -9,7 +9,7 @@ use Rattle.iso_statements.specs.Expressions.{infix_next, IsChained, IsEnclosed, 
 use Rattle.iso_statements.specs.Pieces.{name_ahead}
 use Rattle.iso_statements.specs.declared.expression.Infix.TheVariants.{Chain, Compare}
 use Rattle.iso_statements.proofs.Answers.{parses_from}
-use Rattle.iso_statements.proofs.Expressions.{none_next, is_in_parentheses, parentheses_only, is_call, call_only, is_locale, locale_only, is_name, literal_only, is_enclosed, enclosed_only, enclosed_opens, not_followed, all_chained, chain_goes_on, chain_goes_only, not_mixed, not_longer, operand_follows, is_chain, chain_only, is_comparison, comparison_only, unfollowed, room_left, still_few, tail_shorter}
+use Rattle.iso_statements.proofs.Expressions.{none_next, is_in_parentheses, parentheses_only, is_call, is_locale, locale_only, is_name, literal_only, is_enclosed, enclosed_only, enclosed_opens, not_followed, all_chained, chain_goes_on, chain_goes_only, not_mixed, not_longer, operand_follows, is_chain, chain_only, is_comparison, comparison_only, unfollowed, room_left, still_few, tail_shorter}
 use Rattle.iso_statements.proofs.Repetitions.{none_read, read_more}
 use Rattle.iso_statements.proofs.Shorter.{operand_shorter}
 use Rattle.iso_statements.proofs.Views.{term_of-literal, term_of-name, term_of-call, term_of-compare, term_of-chain}

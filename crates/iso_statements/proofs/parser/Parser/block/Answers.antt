@@ -6,4 +6,5 @@ use Rattle.iso_statements.proofs.parser.Parser.block.Goals as goal
 pub returns : goal.returns
 returns c =
     parses_from body_of (IsBody 32 _) IsBlock _ _ _ _
-    (λ x rest. is_block _ _ x _ rest c.peek-brace.ensures.next) (λ x rest. block_inner _ _ x _ rest c.peek-brace.ensures.next) c.body.ensures
+    (λ x rest. is_block _ _ _ x _ rest c.saturating_sub-above.ensures c.peek.ensures.next)
+    (λ x rest. block_inner _ _ _ x _ rest c.saturating_sub-above.ensures c.peek.ensures.next) c.body.ensures

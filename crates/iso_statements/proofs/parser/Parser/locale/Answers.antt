@@ -1,6 +1,5 @@
-use Rattle.std.proofs.Common.{rules}
 use Rattle.std.proofs.lemmas.Result.{err_from_is_err_and}
-use Rattle.iso_statements.proofs.Expressions.{is_no_argument, locale_opens, locale_closes}
+use Rattle.iso_statements.proofs.Expressions.{is_no_argument, locale_opens}
 use Rattle.iso_statements.proofs.Views.{term_of-locale}
 use Rattle.iso_statements.proofs.parser.Parser.locale.Goals as goal
 

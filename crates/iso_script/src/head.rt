@@ -1,0 +1,44 @@
+//! What classes give to their tests.
+ghost use Rattle.std.specs.Prelude.{◌≡◌};
+ghost use Rattle.iso_heads.specs.Blocks.{blocks_of};
+ghost use Rattle.iso_heads.specs.Blocks as B;
+ghost use Rattle.iso_model.specs.ScriptView.{class_head_of};
+ghost use Rattle.iso_script.specs.Grammar.{class_head, statements_in};
+ghost use Rattle.iso_statements.specs.Statements.{body_of};
+
+use iso_heads::block::Blocks;
+use iso_model::heads::{ClassHead, Mark, Variable};
+use iso_model::tree::Stmt;
+use std::alloc::Global;
+
+/// The head of a class that declares these keys and has these statics, fields and lifecycle blocks.
+pub(crate) fn class_head(
+    alloc: Global,
+    marks: Vec<Mark>,
+    statics: Vec<Variable>,
+    fields: Vec<Variable>,
+    blocks: Blocks,
+) -> ClassHead
+    ensures { class_head_of result
+        ≡ class_head marks.items (record { statics = statics.items; fields = fields.items }) (blocks_of blocks) }
+{
+    ClassHead {
+        statics,
+        fields,
+        marks,
+        before_all: statements(alloc, blocks.before_all),
+        after_all: statements(alloc, blocks.after_all),
+        before_each: statements(alloc, blocks.before_each),
+        after_each: statements(alloc, blocks.after_each),
+    }
+}
+
+/// The statements of a lifecycle block: one that is not written has none.
+fn statements(alloc: Global, block: Option<Vec<Stmt>>) -> Vec<Stmt>
+    ensures { body_of result ≡ statements_in (B.body_if block) }
+{
+    match block {
+        Some(body) => body,
+        None => Vec::new(alloc),
+    }
+}
