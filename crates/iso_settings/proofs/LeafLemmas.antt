@@ -1,15 +1,11 @@
 -- The leaves of a table at a joined key: they stand where the rest of the key leads from the values whose keys begin it.
-use Rattle.std.proofs.Common.{◌≡◌, ◌≤◌, ℕ, List, [], ◌∷◌, ◌++◌, Bool, true, false, cond, bytes_eq, codes, length, refl, sym, ap, ◌∙◌, arith, inl, inr, Bor}
+use Rattle.std.proofs.Common.{◌≡◌, ℕ, List, [], ◌∷◌, ◌++◌, bytes_eq, codes, refl, sym, ap, ◌∙◌, inl, inr}
 use Rattle.std.proofs.lemmas.Bool.{cases_Bool}
 use Rattle.std.proofs.lemmas.Bool.Decides.{same_from_decides}
-use Rattle.std.proofs.lemmas.List.{append_assoc, append_cancel_left, append-nil, length-append}
+use Rattle.std.proofs.lemmas.List.{append_assoc, append_cancel_left, append-nil}
 use Rattle.std.proofs.lemmas.Slice.Eq.{bytes_eq-Decides}
-use Rattle.toml.specs.Data.{Data, string, integer, float, boolean, datetime, array, table, Items, Members, no_members, member}
-use Rattle.toml.specs.View.{view}
-use Rattle.toml.specs.declared.value.Value.{Value}
-use Rattle.iso_settings.specs.Leaves.{Leaf, leaves, leaves_at, leaves_behind, values_at, IsFound}
-use Rattle.iso_settings.specs.declared.find.Found.{Found}
-use Rattle.iso_settings.specs.declared.find.Found.TheVariants.{Nothing, One, Several}
+use Rattle.toml.specs.Data.{Data, string, integer, float, boolean, datetime, array, table, Members, no_members, member}
+use Rattle.iso_settings.specs.Leaves.{Leaf, leaves, leaves_at, leaves_behind, values_at}
 
 values_at-append : (k : List ℕ) (xs ys : List Leaf) → values_at k (xs ++ ys) ≡ values_at k xs ++ values_at k ys
 values_at-append k [] ys = refl

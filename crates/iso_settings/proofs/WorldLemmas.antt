@@ -1,12 +1,11 @@
 -- Texts of a table, member by member.
-use Rattle.std.proofs.Common.{◌≡◌, ◌≤◌, ◌<◌, ℕ, List, [], ◌∷◌, ◌++◌, Result, Ok, Err, length, slice_index, refl, sym, ap, ◌∙◌}
+use Rattle.std.proofs.Common.{◌≡◌, ◌≤◌, ◌<◌, ℕ, List, [], ◌∷◌, ◌++◌, Ok, Err, length, slice_index, refl, ap, ◌∙◌}
 use Rattle.std.proofs.lemmas.Str.{IsCharBoundary-at_seam}
-use Rattle.std.specs.FinMap.{insert}
 use Rattle.std.specs.Str.{IsUtf8}
 use Rattle.iso_model.specs.Properties.{Map}
 use Rattle.iso_settings.specs.Leaves.{Leaf}
 use Rattle.iso_settings.specs.Readings.{Reading, ◌>>=◌, GivesAs}
-use Rattle.iso_settings.specs.Worlds.{text_of, texts_of}
+use Rattle.iso_settings.specs.Worlds.{texts_of, with_text}
 use Rattle.iso_settings.specs.declared.fault.SettingsError.{SettingsError}
 use Rattle.iso_settings.specs.declared.fault.SettingsError.TheVariants.{Fault, OutOfMemory}
 
@@ -23,7 +22,7 @@ bind-same (Err fault) f g h same = refl
 
 pub texts_of-append : (top : List ℕ) (xs ys : List Leaf) (before : Map) → texts_of top before (xs ++ ys) ≡ texts_of top before xs >>= (λ m. texts_of top m ys)
 texts_of-append top [] ys before = refl
-texts_of-append top (x ∷ xs) ys before = bind-same (text_of top before x.0 x.1) _ _ _ (λ text. texts_of-append top xs ys (insert before x.0 text))
+texts_of-append top (x ∷ xs) ys before = bind-same (with_text top before x.0 x.1) _ _ _ (λ texts. texts_of-append top xs ys texts)
 
 -- a fault of the first part is one of the whole
 pub fault_first : {A B C D : Type 0} (s : A → B) (t : C → D) (whole : Reading D) (r : Reading B) (f : B → Reading D) (e : SettingsError) → whole ≡ r >>= f → GivesAs s r (Err e) → GivesAs t whole (Err e)

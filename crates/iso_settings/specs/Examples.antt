@@ -1,13 +1,12 @@
 -- The words of example documents. What each is read as is stated, and proved, in the source module `examples`.
 use Prim.Native.String.{String}
-use Rattle.std.specs.Prelude.{ℕ, pos, negsuc, Bool, true, List, [], ◌∷◌, codes, Option, Some, Ok}
+use Rattle.std.specs.Prelude.{ℕ, pos, true, List, [], ◌∷◌, codes, Option, Some, Ok}
 use Rattle.toml.specs.Data.{Data, string, integer, boolean, table, Members, no_members, member}
 use Rattle.iso_model.specs.Keys.{file_key}
 use Rattle.iso_model.specs.declared.resource.Resource.{Resource}
 use Rattle.iso_settings.specs.Readings.{Reading, ◌>>=◌}
 use Rattle.iso_settings.specs.Settings.{jupiter, settings_in}
 use Rattle.iso_settings.specs.Worlds.{world_in, starting_value_in}
-use Rattle.iso_settings.specs.declared.settings.Settings.{Settings}
 
 -- a key of a table, and what stands there
 abbrev pub Entry : Type 0

@@ -1,6 +1,6 @@
 -- The leaves of a TOML table: its values that are no tables, each under the path of its keys joined by dots.
 use Rattle.std.specs.Prelude.{◌≡◌, ◌≤◌, ℕ, List, [], ◌∷◌, ◌++◌, cond, bytes_eq, codes, length}
-use Rattle.toml.specs.Data.{Data, string, integer, float, boolean, datetime, array, table, Members, no_members, member}
+use Rattle.toml.specs.Data.{Data, table, Members, no_members, member}
 use Rattle.toml.specs.View.{view}
 use Rattle.iso_settings.specs.declared.find.Found.{Found}
 use Rattle.iso_settings.specs.declared.find.Found.TheVariants.{Nothing, One, Several}

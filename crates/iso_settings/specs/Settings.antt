@@ -4,7 +4,7 @@ use Prim.Native.String.{String}
 use Rattle.std.specs.Prelude.{ℕ, ◌*◌, ℤ, pos, negsuc, Bool, true, false, ◌&&◌, nat_le, min, if◌then◌else◌, List, [], ◌∷◌, ◌++◌, codes, length, Option, Some, None, unwrap_or, Ok, Err}
 use Rattle.std.specs.Str.{str_eq_ignore_ascii_case, all_ascii_digits}
 use Rattle.std.specs.Str.Parse.{digits_value}
-use Rattle.toml.specs.Data.{Data, string, integer, float, boolean, datetime, array, table, Members}
+use Rattle.toml.specs.Data.{Data, string, integer, boolean, Members}
 use Rattle.iso_model.specs.declared.script.Mode.{Mode}
 use Rattle.iso_model.specs.declared.script.Mode.TheVariants.{SameThread, Concurrent}
 use Rattle.iso_settings.specs.Leaves.{Leaf, leaves, values_at}
@@ -29,17 +29,27 @@ is_word text word = str_eq_ignore_ascii_case text (codes word)
 -- a truth value, which may be given as a text
 abbrev pub flag : Rule Bool
 flag key (boolean value) = Ok value
-flag key (string text) = if is_word text "true" then Ok true else if is_word text "false" then Ok false else Err (WrongValue key)
+flag key (string text) =
+    if is_word text "true" then Ok true
+    else if is_word text "false" then Ok false
+    else Err (WrongValue key)
 flag key _ = Err (WrongValue key)
 
 -- an execution mode
 abbrev pub mode : Rule Mode
-mode key (string text) = if is_word text "same_thread" then Ok SameThread else if is_word text "concurrent" then Ok Concurrent else Err (WrongValue key)
+mode key (string text) =
+    if is_word text "same_thread" then Ok SameThread
+    else if is_word text "concurrent" then Ok Concurrent
+    else Err (WrongValue key)
 mode key _ = Err (WrongValue key)
 
 -- a strategy; JUnit's `custom` names a Java class
 abbrev pub strategy : Rule Strategy
-strategy key (string text) = if is_word text "dynamic" then Ok Dynamic else if is_word text "fixed" then Ok Fixed else if is_word text "custom" then Err (Unsupported key) else Err (WrongValue key)
+strategy key (string text) =
+    if is_word text "dynamic" then Ok Dynamic
+    else if is_word text "fixed" then Ok Fixed
+    else if is_word text "custom" then Err (Unsupported key)
+    else Err (WrongValue key)
 strategy key _ = Err (WrongValue key)
 
 -- a number of 1 to 64
@@ -62,7 +72,7 @@ abbrev pub lifecycle : Rule (Unit {0})
 lifecycle key (string text) = if is_word text "per_method" then Ok tt else Err (Unsupported key)
 lifecycle key _ = Err (WrongValue key)
 
--- The only value at a key, if there is one. Where the key is reached by two spellings, it is a wrong value whatever its values are.
+-- The only value at a key, if there is one. A key that two spellings reach is a wrong value, whatever its values are.
 abbrev pub only_value : List ℕ → List Data → Reading (Option Data)
 only_value key [] = Ok None
 only_value key (value ∷ []) = Ok (Some value)
@@ -77,8 +87,8 @@ read rule key (Some value) = rule key value >>= (λ x. Ok (Some x))
 abbrev pub setting : {A : Type 0} → Rule A → List Leaf → List ℕ → Reading (Option A)
 setting rule all key = only_value key (values_at key all) >>= read rule key
 
--- The number of workers: one where parallel execution is off. The dynamic strategy gives the processors times the factor, at most 64,
--- the fixed one its parallelism.
+-- The number of workers: one where parallel execution is off. The dynamic strategy gives the processors times the
+-- factor, at most 64, the fixed one its parallelism.
 abbrev pub workers : (is_parallel : Bool) → (chosen : Strategy) → (factor : ℕ) → (parallelism : Option ℕ) → (processors : ℕ) → Reading ℕ
 workers false chosen factor parallelism processors = Ok 1
 workers true Dynamic factor parallelism processors = Ok (min (processors * factor) 64)

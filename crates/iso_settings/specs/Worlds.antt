@@ -3,7 +3,7 @@ use Rattle.std.specs.Prelude.{ℕ, Bool, ◌&&◌, ◌||◌, not, nat_le, nat_lt
 use Rattle.std.specs.List.{starts_with, list_all}
 use Rattle.std.specs.FinMap.{code, empty, get, insert}
 use Rattle.std.specs.Coded.{Coded, code_by, coded×, coded_list, coded_ℕ}
-use Rattle.toml.specs.Data.{Data, string, integer, float, boolean, datetime, array, table, Members, no_members, member}
+use Rattle.toml.specs.Data.{Data, string, table, Members, no_members, member}
 use Rattle.iso_model.specs.Keys.{properties_key, locale_key, file_prefix}
 use Rattle.iso_model.specs.Properties.{Map}
 use Rattle.iso_model.specs.declared.limits.TheConstants.{TEXT_BYTES}
@@ -24,13 +24,21 @@ pub record Start : Type 0 where
   pub properties : Map
 
 -- a start is stored as its parts
-abbrev pub start_code : Coded Start
-start_code =
-    code_by (Map × (List ℕ × Map)) (coded× map_code (coded× (coded_list coded_ℕ) map_code)) (λ s. (s.files, (s.locale, s.properties))) (λ p. record { files = p.0; locale = p.1.0; properties = p.1.1 }) (λ _. refl)
+abbrev Parts : Type 0
+Parts = Map × (List ℕ × Map)
 
--- the world that says nothing
-abbrev pub nothing_said : Start
-nothing_said = record { files = empty; locale = codes "en"; properties = empty }
+abbrev parts : Start → Parts
+parts s = (s.files, (s.locale, s.properties))
+
+abbrev with_parts : Parts → Start
+with_parts p = record { files = p.0; locale = p.1.0; properties = p.1.1 }
+
+abbrev pub start_code : Coded Start
+start_code = code_by Parts (coded× map_code (coded× (coded_list coded_ℕ) map_code)) parts with_parts (λ _. refl)
+
+-- the start of a world that says nothing
+abbrev pub empty_start : Start
+empty_start = record { files = empty; locale = codes "en"; properties = empty }
 
 -- the value that a key starts with: a file that isn't named is missing
 abbrev pub starting_value_in : Start → List ℕ → Resource
@@ -62,10 +70,14 @@ text_of top before key (string text) =
     checked (top ++ codes "." ++ key) (not (is_printable key && is_printable text) || is_some (get before key)) (is_long key || is_long text) text
 text_of top before key _ = Err (WrongValue (top ++ codes "." ++ key))
 
--- the texts of leaves, and those read before them
+-- the texts read before a leaf, and its own
+abbrev pub with_text : (top : List ℕ) → (before : Map) → (key : List ℕ) → Data → Reading Map
+with_text top before key value = text_of top before key value >>= (λ text. Ok (insert before key text))
+
+-- the texts read before some leaves, and theirs
 abbrev pub texts_of : (top : List ℕ) → (before : Map) → List Leaf → Reading Map
 texts_of top before [] = Ok before
-texts_of top before (leaf ∷ rest) = text_of top before leaf.0 leaf.1 >>= (λ text. texts_of top (insert before leaf.0 text) rest)
+texts_of top before (leaf ∷ rest) = with_text top before leaf.0 leaf.1 >>= (λ texts. texts_of top texts rest)
 
 -- a table of texts
 abbrev pub table_of : List ℕ → Data → Reading Map
@@ -88,4 +100,4 @@ with_entries start (member key value rest) = with_entry start key value >>= (λ 
 -- the world of a document: of the table that it is, where it is TOML
 abbrev pub world_in : Option Members → Reading Start
 world_in None = Err NotToml
-world_in (Some document) = with_entries nothing_said document
+world_in (Some document) = with_entries empty_start document

@@ -7,7 +7,7 @@ ghost use Rattle.iso_model.specs.declared.resource.Resource.TheVariants.{File, L
 ghost use Rattle.iso_model.specs.declared.script.Mode.TheVariants.{Concurrent, SameThread};
 ghost use Rattle.iso_settings.specs.Examples.{at, document, enabled, factor, file_in, inner, number, parallelism, set, start_in, strategy, text, workers_in, yes};
 ghost use Rattle.iso_settings.specs.Settings.{jupiter, settings_in};
-ghost use Rattle.iso_settings.specs.Worlds.{nothing_said, starting_value_in, world_in};
+ghost use Rattle.iso_settings.specs.Worlds.{empty_start, starting_value_in, world_in};
 ghost use Rattle.iso_settings.specs.declared.fault.SettingsFault.TheVariants.{MissingParallelism, NotToml, OutOfRange, Unsupported, WrongValue};
 
 /// Without any key parallel execution is off. A text that is no TOML is a fault.
@@ -67,9 +67,9 @@ pub fn joined_keys_of_settings_are_unique()
 {}
 
 /// In a world that says nothing each key starts as the language has it.
-pub fn silent_world_starts_as_the_language_says()
-    ensures empty { world_in (document []) ≡ Ok nothing_said }
-    ensures starts { (key : List ℕ) → starting_value_in nothing_said key ≡ starting_value key }
+pub fn empty_world_starts_as_the_language_says()
+    ensures empty { world_in (document []) ≡ Ok empty_start }
+    ensures starts { (key : List ℕ) → starting_value_in empty_start key ≡ starting_value key }
 {}
 
 /// A leaf of `files` is a file at its joined key, and the locale is a text.

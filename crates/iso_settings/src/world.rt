@@ -2,8 +2,8 @@ ghost use Rattle.std.specs.Prelude.{◌≡◌, ◌++◌, IfOk, OnOk, codes, stri
 ghost use Rattle.toml.specs.Parse.{parse_document};
 ghost use Rattle.toml.specs.View.{table_view, view};
 ghost use Rattle.iso_settings.specs.Leaves.{leaves_at, leaves_behind};
-ghost use Rattle.iso_settings.specs.Readings.{Gives};
-ghost use Rattle.iso_settings.specs.Worlds.{is_long, is_printable, locale_of, table_of, text_of, texts_of, world_in};
+ghost use Rattle.iso_settings.specs.Readings.{Gives, GivesAs};
+ghost use Rattle.iso_settings.specs.Worlds.{is_long, is_printable, locale_of, table_of, text_of, texts_of, with_text, world_in};
 
 use crate::fault::SettingsError;
 use crate::table::read_table;
@@ -44,11 +44,11 @@ pub fn read_world(alloc: Global, text: &str) -> Result<World, SettingsError>
 }
 
 impl World {
-    ghost use Rattle.iso_settings.specs.Worlds.{nothing_said, starting_value_in, with_entries, with_entry};
+    ghost use Rattle.iso_settings.specs.Worlds.{empty_start, starting_value_in, with_entries, with_entry};
 
     /// The world that says nothing.
-    fn silent(alloc: Global) -> Result<World, AllocError>
-        ensures { IfOk result (λ world. world ≡ nothing_said) }
+    fn empty(alloc: Global) -> Result<World, AllocError>
+        ensures { IfOk result (λ world. world ≡ empty_start) }
     {
         Ok(World {
             files: Properties::new(alloc),
@@ -59,9 +59,9 @@ impl World {
 
     /// The world of a table.
     fn of_table(alloc: Global, table: &Table) -> Result<World, SettingsError>
-        ensures { Gives (with_entries nothing_said (table_view table.now)) result }
+        ensures { Gives (with_entries empty_start (table_view table.now)) result }
     {
-        let mut world = World::silent(alloc)?;
+        let mut world = World::empty(alloc)?;
         'entries: for (key, value) in table.iter() {
             world = world.with_entry(alloc, key.as_str(), value)?;
         }
@@ -142,32 +142,34 @@ fn table_of(alloc: Global, top: &str, value: &Value) -> Result<Properties, Setti
     match value {
         Value::Table(table) => {
             let mut path = String::new(alloc);
-            add_texts(alloc, top, &mut path, table, Properties::new(alloc))
+            let mut texts = Properties::new(alloc);
+            add_texts(alloc, top, &mut path, table, &mut texts)?;
+            Ok(texts)
         }
         _ => Err(SettingsError::wrong_value(alloc, top)),
     }
 }
 
-/// Adds the texts of a table, whose keys are put behind a path. After an error the path is of no use.
+/// Adds the texts of a table, whose keys are put behind a path. After an error path and texts are of no use.
 #[cycle(texts)]
 fn add_texts(
     alloc: Global,
     top: &str,
     path: &mut String,
     table: &Table,
-    before: Properties,
-) -> Result<Properties, SettingsError>
-    ensures texts { Gives (texts_of top.now before (leaves_behind (string_bytes path.old) (table_view table.now))) result }
+    texts: &mut Properties,
+) -> Result<(), SettingsError>
+    ensures texts { GivesAs (λ _. texts.new)
+        (texts_of top.now texts.old (leaves_behind (string_bytes path.old) (table_view table.now))) result }
     ensures path { OnOk result (string_bytes path.new ≡ string_bytes path.old) }
 {
     let start = path.as_str().len();
-    let mut texts = before;
     'members: for (name, value) in table.iter() {
         path.push_str(name.as_str())?;
-        texts = add_value(alloc, top, path, value, texts)?;
+        add_value(alloc, top, path, value, texts)?;
         path.truncate(start);
     }
-    Ok(texts)
+    Ok(())
 }
 
 /// Adds the texts of what stands at a key.
@@ -177,26 +179,38 @@ fn add_value(
     top: &str,
     key: &mut String,
     value: &Value,
-    before: Properties,
-) -> Result<Properties, SettingsError>
-    ensures texts { Gives (texts_of top.now before (leaves_at (string_bytes key.old) (view value.now))) result }
+    texts: &mut Properties,
+) -> Result<(), SettingsError>
+    ensures texts { GivesAs (λ _. texts.new)
+        (texts_of top.now texts.old (leaves_at (string_bytes key.old) (view value.now))) result }
     ensures key { OnOk result (string_bytes key.new ≡ string_bytes key.old) }
 {
     match value {
         Value::Table(table) => {
             let end = key.as_str().len();
             key.push_str(".")?;
-            let texts = add_texts(alloc, top, key, table, before)?;
+            add_texts(alloc, top, key, table, texts)?;
             key.truncate(end);
-            Ok(texts)
+            Ok(())
         }
-        _ => {
-            let text = text_of(alloc, top, &before, key.as_str(), value)?;
-            let mut texts = before;
-            texts.set(String::from_str(alloc, key.as_str())?, text)?;
-            Ok(texts)
-        }
+        _ => add_text(alloc, top, key.as_str(), value, texts),
     }
+}
+
+/// Adds the text of a leaf. Tables nest up to some 6,500 deep, so what a leaf needs is kept out of the walk's frames.
+#[inline(never)]
+fn add_text(
+    alloc: Global,
+    top: &str,
+    key: &str,
+    value: &Value,
+    texts: &mut Properties,
+) -> Result<(), SettingsError>
+    ensures { GivesAs (λ _. texts.new) (with_text top.now texts.old key.now (view value.now)) result }
+{
+    let text = text_of(alloc, top, texts, key, value)?;
+    texts.set(String::from_str(alloc, key)?, text)?;
+    Ok(())
 }
 
 /// The text of a leaf of a table, whose joined key is none of those read before.

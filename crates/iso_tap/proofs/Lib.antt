@@ -1,3 +1,4 @@
 pub mod EscapeLemmas
+pub mod PlanLemmas
 pub mod PrinterLemmas
 pub mod Sequences

@@ -1,4 +1,5 @@
 pub mod Escapes
 pub mod Pieces
+pub mod PlanText
 pub mod Printers
 pub mod Sinks

@@ -1,0 +1,57 @@
+-- The plan as it is printed: the number of workers, then a line for each node: its number, its kind, its execution mode,
+-- the locks that it takes, and where it stands.
+use Rattle.std.specs.Prelude.{ℕ, zero, suc, ◌-◌, List, [], ◌++◌, cond, codes, length, reverse, slice_index_or}
+use Rattle.std.specs.Fmt.{decimal}
+use Rattle.std.specs.List.{join_by}
+use Rattle.iso_model.specs.declared.access.Access.{Access}
+use Rattle.iso_model.specs.declared.access.Access.TheVariants.{Read, Write}
+use Rattle.iso_model.specs.declared.script.Mode.{Mode}
+use Rattle.iso_model.specs.declared.script.Mode.TheVariants.{SameThread, Concurrent}
+use Rattle.iso_plan.specs.KeyTable.{keys}
+use Rattle.iso_plan.specs.Locks.{locks}
+use Rattle.iso_plan.specs.Modes.{mode}
+use Rattle.iso_plan.specs.Paths.{is_test, path, row_at}
+use Rattle.iso_plan.specs.Tree.{Kind, Row}
+use Rattle.iso_plan.specs.declared.lock.Lock.{Lock}
+use Rattle.iso_settings.specs.declared.settings.Settings.{Settings}
+
+-- the word of what a node is; one that is printed is a class or a test
+abbrev pub kind_word : Kind → List ℕ
+kind_word k = cond (is_test k) (codes "test") (codes "class")
+
+-- the word of an execution mode, as scripts have it
+abbrev pub mode_word : Mode → List ℕ
+mode_word SameThread = codes "same_thread"
+mode_word Concurrent = codes "concurrent"
+
+-- how a key is taken: for READ or for READ_WRITE
+abbrev pub access_word : Access → List ℕ
+access_word Read = codes "r:"
+access_word Write = codes "w:"
+
+-- a lock, with the spelling of its key
+abbrev pub lock_text : (keys : List (List ℕ)) → Lock → List ℕ
+lock_text keys l = access_word l.access ++ slice_index_or keys l.key []
+
+-- locks, with commas between them
+abbrev pub locks_text : (keys : List (List ℕ)) → List Lock → List ℕ
+locks_text keys ls = join_by (lock_text keys) (codes ",") ls
+
+-- where a node stands: the names on its path from the top-level class down, with dots between them. A top-level class's name begins with its team's.
+abbrev pub place_text : List Row → ℕ → List ℕ
+place_text tree n = join_by (λ m. (row_at tree m).name) (codes ".") (reverse (path tree n))
+
+-- the line of a node
+abbrev pub node_line : List Row → Settings → ℕ → List ℕ
+node_line tree s n =
+    decimal n ++ codes " " ++ kind_word (row_at tree n).kind ++ codes " " ++ mode_word (mode tree s n) ++ codes " ["
+    ++ locks_text (keys tree) (locks tree n) ++ codes "] " ++ place_text tree n ++ codes "\n"
+
+-- the lines of so many nodes, of which the first has number n
+abbrev pub node_lines : List Row → Settings → (count n : ℕ) → List ℕ
+node_lines tree s zero n = []
+node_lines tree s (suc count) n = node_line tree s n ++ node_lines tree s count (suc n)
+
+-- the plan: all nodes but the root
+abbrev pub plan_text : List Row → Settings → (workers : ℕ) → List ℕ
+plan_text tree s workers = codes "workers " ++ decimal workers ++ codes "\n" ++ node_lines tree s (length tree - 1) 1
