@@ -1,4 +1,7 @@
+pub mod ConflictLemmas
 pub mod LawLemmas
+pub mod MoveLemmas
 pub mod NumberLemmas
 pub mod TouchLemmas
 pub mod UndoLemmas
+pub mod VaultLemmas

@@ -1,9 +1,12 @@
 //! Values in the hands of one worker at a time: trays, and the vault that lends to them.
 #![tactic(auto)]
 
+mod conflict;
 pub mod examples;
 pub mod laws;
 pub mod mark;
+mod moves;
 mod slots;
 mod starting;
 pub mod tray;
+pub mod vault;

@@ -2,9 +2,15 @@
 ghost use Rattle.std.specs.Prelude.{◌≡◌, ◌<◌, None, IfOk, cond, length, map, option_copied};
 ghost use Rattle.iso_locks.specs.Trays.{CanUndo, empty_tray, is_lent, kept_at, marked, undone};
 ghost use Rattle.iso_model.specs.Rights.{access_in, is_writable};
+ghost use Rattle.iso_locks.specs.Moves.{moved_away, moved_here};
+ghost use Rattle.iso_locks.specs.Vaults.{giving_back, receiving};
+ghost use Rattle.iso_plan.specs.KeyTable.{keys};
+ghost use Rattle.iso_plan.specs.Locks.{locks};
 ghost use Rattle.iso_plan.specs.Paths.{column};
+ghost use Rattle.iso_plan.specs.RowView.{tree_of};
 
 use crate::mark::Mark;
+use crate::moves::move_values;
 use crate::slots::Slots;
 use crate::starting::{Starting, number_of, starts_of};
 use iso_model::access::Access;
@@ -13,6 +19,7 @@ use iso_model::resource::{Ask, Change};
 use iso_model::resource_key::ResourceKey;
 use iso_model::rights::Rights;
 use iso_model::touch::Touch;
+use iso_plan::lock::Lock;
 use iso_plan::plan::Plan;
 use iso_settings::world::World;
 use iso_store::held::{self, Held};
@@ -105,6 +112,34 @@ impl<'a> Tray<'a> {
         ensures { self.new ≡ undone mark self.old }
     {
         self.values.undo_all(mark.into_values());
+    }
+
+    /// Holds a node from now on, with the values that its locks for READ_WRITE are on, where they are home.
+    pub(crate) fn receive(&mut self, node: u32, taken: &[Lock], home: &mut Slots)
+        requires node { node < length self.old.plan.rows }
+        requires home { length home.old ≡ length (keys (tree_of self.old.plan)) }
+        requires taken { taken.now ≡ locks (tree_of self.old.plan) node }
+        ensures fits { length self.old.values ≡ length (keys (tree_of self.old.plan)) }
+        ensures tray { self.new ≡ receiving node home.old self.old }
+        ensures home { home.new ≡ moved_away (locks (tree_of self.old.plan) node) home.old }
+    {
+        let number = node as usize;
+        self.lent[number] = true;
+        move_values(taken, home, &mut self.values);
+    }
+
+    /// Holds a node no longer. The values that its locks for READ_WRITE are on come home.
+    pub(crate) fn give_back(&mut self, node: u32, taken: &[Lock], home: &mut Slots)
+        requires node { node < length self.old.plan.rows }
+        requires home { length home.old ≡ length (keys (tree_of self.old.plan)) }
+        requires taken { taken.now ≡ locks (tree_of self.old.plan) node }
+        ensures fits { length self.old.values ≡ length (keys (tree_of self.old.plan)) }
+        ensures tray { self.new ≡ giving_back node self.old }
+        ensures home { home.new ≡ moved_here (locks (tree_of self.old.plan) node) self.old.values home.old }
+    {
+        let number = node as usize;
+        self.lent[number] = false;
+        move_values(taken, &mut self.values, home);
     }
 }
 

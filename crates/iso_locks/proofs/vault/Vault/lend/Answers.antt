@@ -1,0 +1,45 @@
+use Rattle.std.proofs.Common.{◌≡◌, ◌<◌, ◌&&◌, List, length, map, set, None, Bool, true, is_some, ap, sym, ◌∙◌, subst, arith}
+use Rattle.iso_plan.specs.Locks.{conflict, locks}
+use Rattle.iso_plan.specs.Planned.{Planned}
+use Rattle.iso_plan.specs.RowView.{tree_of}
+use Rattle.iso_settings.specs.Worlds.{Start}
+use Rattle.iso_locks.specs.Moves.{moved_away}
+use Rattle.iso_locks.specs.Slots.{Slots}
+use Rattle.iso_locks.specs.Trays.{TrayView, is_lent}
+use Rattle.iso_locks.specs.Vaults.{IsLentTo, IsVault, VaultView, lending, lowest}
+use Rattle.iso_locks.proofs.VaultLemmas.{home-lent, lent-to, lent-vault}
+use Rattle.iso_locks.proofs.vault.Vault.lend.Goals as goal
+
+pub invariant_of-self : goal.invariant_of-self
+invariant_of-self c =
+    let plan : Planned = c.self.inside.plan.now in
+    let same : c.args.tray.now.plan ≡ plan = c.requires.plan ∙ sym (ap (λ (v : VaultView). v.plan) c.self.view_is) in
+    let moved : c.receive.new.home ≡ moved_away (locks (tree_of plan) c.args.node) c.self.inside.values = c.receive.ensures.home ∙ ap (λ (p : Planned). moved_away (locks (tree_of p) c.args.node) c.self.inside.values) same in
+    let rows : length plan.rows ≡ length c.args.self.now.plan.rows = ap (λ (v : VaultView). length v.plan.rows) c.self.view_is in
+    let req = c.requires.node in
+    let node : c.args.node < length plan.rows = omega arith in
+    let P : Slots → Type 0 = λ h. IsVault plan c.self.inside.world.now (set c.self.inside.lent.items c.args.node true) h in
+    subst P (sym moved) (lent-vault plan c.self.inside.world.now c.self.inside.lent.items c.self.inside.values c.args.node node c.self.invariant)
+
+pub returns-clause-vault : goal.returns-clause-vault
+returns-clause-vault c =
+    let plan : Planned = c.self.inside.plan.now in
+    let same : c.args.tray.now.plan ≡ plan = c.requires.plan ∙ sym (ap (λ (v : VaultView). v.plan) c.self.view_is) in
+    let moved : c.receive.new.home ≡ moved_away (locks (tree_of plan) c.args.node) c.self.inside.values = c.receive.ensures.home ∙ ap (λ (p : Planned). moved_away (locks (tree_of p) c.args.node) c.self.inside.values) same in
+    let with_home : List Bool → VaultView = λ h. record { plan = plan; world = c.self.inside.world.now; lent = set c.self.inside.lent.items c.args.node true; home = h } in
+    ap with_home (ap (map is_some) moved ∙ home-lent (locks (tree_of plan) c.args.node) c.self.inside.values) ∙ ap (lending c.args.node) c.self.view_is
+
+pub returns-clause-tray : goal.returns-clause-tray
+returns-clause-tray c =
+    let t : TrayView = c.args.tray.now in
+    let plan : Planned = c.self.inside.plan.now in
+    let same : plan ≡ t.plan = ap (λ (v : VaultView). v.plan) c.self.view_is ∙ sym c.requires.plan in
+    let world : c.self.inside.world.now ≡ t.world = ap (λ (v : VaultView). v.world) c.self.view_is ∙ sym c.requires.world in
+    let free : lowest (λ m. is_lent c.self.inside.lent.items m && conflict (tree_of plan) m c.args.node) (length plan.rows) ≡ None =
+    ap (λ (ls : List Bool). lowest (λ m. is_lent ls m && conflict (tree_of plan) m c.args.node) (length plan.rows)) (sym c.deref.ensures.value) ∙ sym c.lowest_in_the_way.ensures ∙ c.in_default.is in
+    let P : Planned → Type 0 = λ p. IsVault p c.self.inside.world.now c.self.inside.lent.items c.self.inside.values in
+    let Q : Start → Type 0 = λ w. IsVault t.plan w c.self.inside.lent.items c.self.inside.values in
+    let kept : IsVault t.plan t.world c.self.inside.lent.items c.self.inside.values = subst Q world (subst P same c.self.invariant) in
+    let F : Planned → Type 0 = λ p. lowest (λ m. is_lent c.self.inside.lent.items m && conflict (tree_of p) m c.args.node) (length p.rows) ≡ None in
+    let R : TrayView → Type 0 = λ u. IsLentTo c.args.node t u in
+    subst R (sym c.receive.ensures.tray) (lent-to t c.self.inside.lent.items (map is_some c.self.inside.values) c.self.inside.values c.args.node kept (subst F same free) c.receive.ensures.fits)

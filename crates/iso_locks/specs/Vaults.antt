@@ -1,0 +1,113 @@
+-- What contracts see of a vault, and what moves when a node is lent and taken back.
+use Rattle.std.specs.Prelude.{◌≡◌, ℕ, zero, suc, ◌<◌, List, length, replicate, Option, Some, None, Bool, true, false, ◌||◌, ◌&&◌, not, cond, option_map, slice_index_or, slice_set, refl}
+use Rattle.std.specs.Option.{option_or}
+use Rattle.std.specs.Coded.{Coded, code_by, coded×, coded_list, coded_bool}
+use Rattle.iso_model.specs.declared.resource.Resource.{Resource}
+use Rattle.iso_plan.specs.KeyTable.{keys}
+use Rattle.iso_plan.specs.Locks.{conflict, locks}
+use Rattle.iso_plan.specs.Paths.{column}
+use Rattle.iso_plan.specs.Planned.{Planned}
+use Rattle.iso_plan.specs.RowView.{tree_of}
+use Rattle.iso_plan.specs.Tree.{Row}
+use Rattle.iso_plan.specs.contracts.plan.Plan as plan
+use Rattle.iso_settings.specs.Worlds.{Start, start_code, starting_value_in}
+use Rattle.iso_store.specs.Histories.{History}
+use Rattle.iso_locks.specs.Moves.{is_written, moved_away, moved_here}
+use Rattle.iso_locks.specs.Slots.{Slots, slot}
+use Rattle.iso_locks.specs.Trays.{TrayView, is_lent, key_at}
+
+-- what a vault was made for, the nodes that are lent, by their numbers, and which values are home, by the numbers of their keys. A value that is home stands at its start.
+pub record VaultView : Type 0 where
+  pub plan : Planned
+  pub world : Start
+  pub lent : List Bool
+  pub home : List Bool
+
+abbrev pub vault_code : Coded VaultView
+vault_code =
+    code_by (Planned × (Start × (List Bool × List Bool))) (coded× plan.the_row.coded (coded× start_code (coded× (coded_list coded_bool) (coded_list coded_bool)))) (λ v. (v.plan, (v.world, (v.lent, v.home)))) (λ p. record { plan = p.0; world = p.1.0; lent = p.1.1.0; home = p.1.1.1 }) (λ _. refl)
+
+-- a vault from which nothing is lent: every value is home
+abbrev pub whole_vault : Planned → Start → VaultView
+whole_vault plan world =
+    record { plan = plan; world = world; lent = replicate (length plan.rows) false; home = replicate (length (keys (tree_of plan))) true }
+
+-- whether a value is home
+abbrev pub is_home : List Bool → ℕ → Bool
+is_home home i = slice_index_or home i false
+
+-- whether a node is lent that conflicts with another one
+abbrev pub is_in_the_way : VaultView → ℕ → ℕ → Bool
+is_in_the_way v n m = is_lent v.lent m && conflict (tree_of v.plan) m n
+
+-- the lowest number below n that passes a test
+abbrev pub lowest : (ℕ → Bool) → ℕ → Option ℕ
+lowest test zero = None
+lowest test (suc n) = option_or (lowest test n) (cond (test n) (Some n) None)
+
+-- the lowest lent node that conflicts with a node
+abbrev pub busy : VaultView → ℕ → Option ℕ
+busy v n = lowest (is_in_the_way v n) (length v.plan.rows)
+
+-- a node may be lent to a tray of the same plan and starting values: it is lent neither from the vault nor to the tray
+pub record CanLend (n : ℕ) (v : VaultView) (t : TrayView) : Type 0 where
+  pub node : n < length v.plan.rows
+  pub plan : t.plan ≡ v.plan
+  pub world : t.world ≡ v.world
+  pub free : is_lent v.lent n ≡ false
+  pub apart : is_lent t.lent n ≡ false
+
+-- the vault when a node was lent: what it takes for READ_WRITE is no longer home
+abbrev pub lending : ℕ → VaultView → VaultView
+lending n v =
+    record v { lent = slice_set v.lent n true; home = column (λ i. not (is_written (locks (tree_of v.plan) n) i) && is_home v.home i) (length v.home) }
+
+-- the vault when a node was taken back: what it takes for READ_WRITE is home
+abbrev pub regaining : ℕ → VaultView → VaultView
+regaining n v =
+    record v { lent = slice_set v.lent n false; home = column (λ i. is_written (locks (tree_of v.plan) n) i || is_home v.home i) (length v.home) }
+
+-- the value in a slot as it is now
+abbrev pub value_in : Slots → ℕ → Option Resource
+value_in slots i = option_map (λ (h : History). h.now) (slot slots i)
+
+-- a value stands in a tray where it starts
+abbrev pub StandsAtStart : TrayView → ℕ → Type 0
+StandsAtStart t i = value_in t.values i ≡ Some (starting_value_in t.world (key_at (tree_of t.plan) i))
+
+-- a node was lent to a tray: what it takes for READ_WRITE stands there at its start, and no other value moved
+pub record IsLentTo (n : ℕ) (old new : TrayView) : Type 0 where
+  pub plan : new.plan ≡ old.plan
+  pub world : new.world ≡ old.world
+  pub lent : new.lent ≡ slice_set old.lent n true
+  pub written : (i : ℕ) → i < length (keys (tree_of old.plan)) → is_written (locks (tree_of old.plan) n) i ≡ true → StandsAtStart new i
+  pub others : (i : ℕ) → is_written (locks (tree_of old.plan) n) i ≡ false → slot new.values i ≡ slot old.values i
+
+-- a tray can give a node back: it is of the same plan and starting values, and holds all that the node takes for READ_WRITE, each at its start
+pub record CanTakeBack (n : ℕ) (v : VaultView) (t : TrayView) : Type 0 where
+  pub node : n < length v.plan.rows
+  pub plan : t.plan ≡ v.plan
+  pub world : t.world ≡ v.world
+  pub lent : is_lent v.lent n ≡ true
+  pub at_start : (i : ℕ) → i < length (keys (tree_of v.plan)) → is_written (locks (tree_of v.plan) n) i ≡ true → StandsAtStart t i
+
+-- the tray when a node was taken back from it: what the node takes for READ_WRITE is gone, all else stays
+abbrev pub giving_back : ℕ → TrayView → TrayView
+giving_back n t = record t { lent = slice_set t.lent n false; values = moved_away (locks (tree_of t.plan) n) t.values }
+
+-- the tray when a node was lent to it by a vault with these values
+abbrev pub receiving : ℕ → Slots → TrayView → TrayView
+receiving n home t = record t { lent = slice_set t.lent n true; values = moved_here (locks (tree_of t.plan) n) home t.values }
+
+-- a value that isn't home was lent to a node that takes it for READ_WRITE
+pub record IsAway (tree : List Row) (given : List Bool) (i : ℕ) : Type 0 where
+  pub node : ℕ
+  pub lent : is_lent given node ≡ true
+  pub writes : is_written (locks tree node) i ≡ true
+
+-- what holds of the lists that a vault keeps: each value that is home stands at its start, and each other one was lent to a node that takes it for READ_WRITE
+pub record IsVault (planned : Planned) (start : Start) (given : List Bool) (values : Slots) : Type 0 where
+  pub lent_fits : length given ≡ length planned.rows
+  pub values_fit : length values ≡ length (keys (tree_of planned))
+  pub at_start : (i : ℕ) (h : History) → slot values i ≡ Some h → h.now ≡ starting_value_in start (key_at (tree_of planned) i)
+  pub away : (i : ℕ) → i < length values → slot values i ≡ None → IsAway (tree_of planned) given i

@@ -1,0 +1,41 @@
+//! Locks that exclude each other.
+ghost use Rattle.std.specs.Prelude.{◌≡◌, ◌||◌};
+ghost use Rattle.iso_locks.specs.Conflicts.{conflicts, excludes, shares};
+
+use iso_model::access::Access;
+use iso_plan::lock::Lock;
+
+/// Whether two nodes with these locks conflict: they take one key, and one of them takes it for READ_WRITE.
+pub(crate) fn conflicts(some: &[Lock], others: &[Lock]) -> bool
+    ensures { result ≡ conflicts some.now others.now }
+{
+    for lock in some {
+        if shares(*lock, others) {
+            return true;
+        }
+    }
+    false
+}
+
+/// Whether one of some locks excludes a lock.
+fn shares(lock: Lock, others: &[Lock]) -> bool
+    ensures { result ≡ shares lock others.now }
+{
+    for other in others {
+        if excludes(lock, *other) {
+            return true;
+        }
+    }
+    false
+}
+
+/// Whether two locks are on one key, and one of them is for READ_WRITE.
+fn excludes(lock: Lock, other: Lock) -> bool
+    ensures { result ≡ excludes lock other }
+{
+    lock.key == other.key
+        && match (lock.access, other.access) {
+            (Access::Read, Access::Read) => false,
+            _ => true,
+        }
+}

@@ -1,0 +1,46 @@
+//! Values that move between slots of the same numbers.
+ghost use Rattle.std.specs.Prelude.{◌≡◌, ◌<◌, None, length, slice_set};
+ghost use Rattle.std.specs.Option.{option_or};
+ghost use Rattle.iso_locks.specs.Moves.{AreWithin, moved_away, moved_here, put_here, taken_away};
+ghost use Rattle.iso_locks.specs.Slots.{slot};
+
+use crate::slots::Slots;
+use iso_model::access::Access;
+use iso_plan::lock::Lock;
+
+/// Moves what locks for READ_WRITE are on from there to here, where it is there. Takes no memory.
+pub(crate) fn move_values(locks: &[Lock], there: &mut Slots, here: &mut Slots)
+    requires fits { length there.old ≡ length here.old }
+    requires within { AreWithin (length here.old) locks.now }
+    ensures here { here.new ≡ moved_here locks.now there.old here.old }
+    ensures there { there.new ≡ moved_away locks.now there.old }
+{
+    'locks: for n in 0..locks.len() {
+        move_locked(locks[n], there, here);
+    }
+}
+
+/// Moves what one lock is on, if it is for READ_WRITE.
+fn move_locked(lock: Lock, there: &mut Slots, here: &mut Slots)
+    requires there { lock.key < length there.old }
+    requires here { lock.key < length here.old }
+    ensures here { here.new ≡ put_here lock there.old here.old }
+    ensures there { there.new ≡ taken_away lock there.old }
+{
+    match lock.access {
+        Access::Write => move_slot(lock.key as usize, there, here),
+        Access::Read => {}
+    }
+}
+
+/// Moves the value with a number, if it is there.
+fn move_slot(number: usize, there: &mut Slots, here: &mut Slots)
+    requires there { number < length there.old }
+    requires here { number < length here.old }
+    ensures here { here.new ≡ slice_set here.old number (option_or (slot there.old number) (slot here.old number)) }
+    ensures there { there.new ≡ slice_set there.old number None }
+{
+    if let Some(held) = there.take(number) {
+        here.put(number, Some(held));
+    }
+}

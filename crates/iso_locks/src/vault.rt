@@ -1,0 +1,133 @@
+//! The values that no worker holds.
+ghost use Rattle.std.specs.Prelude.{◌≡◌, ◌<◌, ◌&&◌, ℕ, IfOk, MatchResult, None, OnErr, OnOk, Some, is_some, length, map, replicate, true};
+ghost use Rattle.iso_locks.specs.Slots.{slot};
+ghost use Rattle.iso_locks.specs.Trays.{is_lent, key_at};
+ghost use Rattle.iso_locks.specs.Vaults.{CanLend, CanTakeBack, IsLentTo, busy, giving_back, is_home, lending, lowest, regaining, whole_vault};
+ghost use Rattle.iso_plan.specs.KeyTable.{keys};
+ghost use Rattle.iso_plan.specs.Locks.{conflict};
+ghost use Rattle.iso_plan.specs.RowView.{tree_of};
+ghost use Rattle.iso_settings.specs.Worlds.{starting_value_in};
+ghost use Rattle.iso_store.specs.Histories.{History};
+
+use crate::conflict::conflicts;
+use crate::slots::Slots;
+use crate::tray::Tray;
+use iso_model::access::Access;
+use iso_model::key::Key;
+use iso_model::text::Text;
+use iso_plan::plan::Plan;
+use iso_settings::world::World;
+use iso_store::held::Held;
+use std::alloc::{AllocError, Global};
+use std::marker::Model;
+
+/// A node can't be lent: the lowest lent node that conflicts with it.
+#[derive(Debug, Clone, Copy, PartialEq, Eq)]
+pub struct Busy {
+    pub node: u32,
+}
+
+/// The values that are lent to nobody, each at its start, and the nodes that are lent.
+#[derive(Drop)]
+pub struct Vault<'a> {
+    plan: &'a Plan,
+    world: &'a World,
+    lent: Vec<bool>,
+    values: Slots,
+}
+
+impl<'a> Model for Vault<'a> {
+    ghost use Rattle.std.specs.Prelude.{is_some, map};
+    ghost use Rattle.iso_locks.specs.Vaults.{IsVault, VaultView, vault_code};
+
+    ghost Value = { VaultView };
+
+    ghost coded = { vault_code };
+
+    ghost view = { λ v. record { plan = v.plan.now; world = v.world.now; lent = v.lent.items; home = map is_some v.values } };
+
+    ghost invariant = { λ v. IsVault v.plan.now v.world.now v.lent.items v.values };
+}
+
+impl<'a> Vault<'a> {
+    /// A vault for a plan and a world, in which every value is home. It takes all memory that lending and taking
+    /// back need.
+    pub fn new(alloc: Global, plan: &'a Plan, world: &'a World) -> Result<Vault<'a>, AllocError>
+        ensures { IfOk result (λ v. v ≡ whole_vault plan.now world.now) }
+    {
+        let nodes = plan.len() as usize;
+        Ok(Vault {
+            plan,
+            world,
+            lent: vec![in alloc; false; nodes]?,
+            values: values(alloc, plan, world)?,
+        })
+    }
+
+    /// Whether the value of the key with a number is home.
+    pub fn home(&self, key: u32) -> bool
+        requires { key < length (keys (tree_of self.now.plan)) }
+        ensures { result ≡ is_home self.now.home key }
+    {
+        self.values.get(key as usize).is_some()
+    }
+
+    /// Lends a node to a tray: each value that the node takes for READ_WRITE moves into the tray, and the keys that
+    /// it or its locking node holds for READ are open there for looking. `Busy` names the lowest lent node that
+    /// conflicts with it; nothing is moved then. Takes no memory.
+    pub fn lend(&mut self, node: u32, tray: &mut Tray<'_>) -> Result<(), Busy>
+        requires { CanLend node self.old tray.old }
+        ensures busy { MatchResult result (λ _. busy self.old node ≡ None) (λ b. busy self.old node ≡ Some b.node) }
+        ensures vault { OnOk result (self.new ≡ lending node self.old) }
+        ensures tray { OnOk result (IsLentTo node tray.old tray.new) }
+        ensures vault_stays { OnErr result (self.new ≡ self.old) }
+        ensures tray_stays { OnErr result (tray.new ≡ tray.old) }
+    {
+        if let Some(m) = lowest_in_the_way(self.plan, &self.lent, node) {
+            return Err(Busy { node: m });
+        }
+        let locks = self.plan.locks(node);
+        self.lent[node as usize] = true;
+        tray.receive(node, locks, &mut self.values);
+        Ok(())
+    }
+
+    /// Takes a node back from a tray: what it takes for READ_WRITE comes home. Takes no memory.
+    pub fn take_back(&mut self, node: u32, tray: &mut Tray<'_>)
+        requires { CanTakeBack node self.old tray.old }
+        ensures vault { self.new ≡ regaining node self.old }
+        ensures tray { tray.new ≡ giving_back node tray.old }
+    {
+        let locks = self.plan.locks(node);
+        self.lent[node as usize] = false;
+        tray.give_back(node, locks, &mut self.values);
+    }
+}
+
+/// All values of a plan at their start, by key number.
+fn values(alloc: Global, plan: &Plan, world: &World) -> Result<Slots, AllocError>
+    ensures fits { IfOk result (λ s. map is_some s ≡ replicate (length (keys (tree_of plan.now))) true) }
+    ensures start { IfOk result (λ s. (i : ℕ) (h : History) → slot s i ≡ Some h → h.now ≡ starting_value_in world.now (key_at (tree_of plan.now) i)) }
+{
+    let mut values = Slots::new(alloc);
+    'keys: for number in 0..plan.key_count() {
+        let key = Key::new(Text::copied(alloc, plan.key(number))?);
+        let value = world.copy(alloc, &key)?;
+        values.add(Some(Held::new(alloc, value)))?;
+    }
+    Ok(values)
+}
+
+/// The lowest lent node that conflicts with a node.
+fn lowest_in_the_way(plan: &Plan, lent: &[bool], node: u32) -> Option<u32>
+    requires node { node < length plan.now.rows }
+    requires lent { length lent.now ≡ length plan.now.rows }
+    ensures { result ≡ lowest (λ m. is_lent lent.now m && conflict (tree_of plan.now) m node) (length plan.now.rows) }
+{
+    'nodes: for m in 0..plan.len() {
+        if lent[m as usize] && conflicts(plan.locks(m), plan.locks(node)) {
+            return Some(m);
+        }
+    }
+    None
+}
