@@ -1,3 +1,4 @@
+pub mod LawLemmas
 pub mod NumberLemmas
 pub mod TouchLemmas
 pub mod UndoLemmas

@@ -1,5 +1,5 @@
 -- What contracts see of a tray, and the resources that it holds: the values that nodes lent to it may change, and the starting values that they may look at.
-use Rattle.std.specs.Prelude.{◌≡◌, ℕ, zero, suc, List, [], length, map, replicate, Option, Some, None, Bool, true, false, ◌||◌, ◌&&◌, cond, bytes_eq, is_some, slice_index_or, refl}
+use Rattle.std.specs.Prelude.{◌≡◌, ℕ, zero, suc, List, [], length, map, replicate, Option, Some, None, Bool, true, false, ◌||◌, ◌&&◌, cond, bytes_eq, is_some, slice_index_or, refl, option_map, slice_set}
 use Rattle.std.specs.Option.{option_or}
 use Rattle.std.specs.Coded.{Coded, code_by, coded×, coded_list, coded_option, coded_bool, coded_ℕ}
 use Rattle.iso_model.specs.Resources.{Resources}
@@ -16,7 +16,8 @@ use Rattle.iso_plan.specs.RowView.{tree_of}
 use Rattle.iso_plan.specs.Tree.{Row}
 use Rattle.iso_plan.specs.contracts.plan.Plan as plan
 use Rattle.iso_settings.specs.Worlds.{Start, start_code, starting_value_in}
-use Rattle.iso_store.specs.Histories.{History, history_code}
+use Rattle.iso_model.specs.declared.resource.Change.{Change}
+use Rattle.iso_store.specs.Histories.{History, after, history_code}
 use Rattle.iso_locks.specs.Slots.{Slots, HasLater, slot}
 use Rattle.iso_locks.specs.declared.starting.Starting.{Starting}
 
@@ -142,6 +143,16 @@ marked t n = record { node = n; values = kept (tree_of t.plan) n t.values }
 pub record CanUndo (mark : MarkView) (t : TrayView) : Type 0 where
   pub fits : length mark.values ≡ length t.values
   pub later : (i : ℕ) (h : History) → slot mark.values i ≡ Some h → HasLater t.values i h
+
+-- a tray after further changes alone: each value that was there is there, and was only changed further
+pub record GoesOn (old new : TrayView) : Type 0 where
+  pub fits : length new.values ≡ length old.values
+  pub later : (i : ℕ) (h : History) → slot old.values i ≡ Some h → HasLater new.values i h
+
+-- the tray with one value changed
+abbrev pub with_change : Change → ℕ → TrayView → TrayView
+with_change change i t =
+    record t { values = slice_set t.values i (option_map (after change) (slot t.values i)) }
 
 -- a tray gone back to a mark: the values that were kept stand as they stood then, all others stay
 abbrev pub undone : MarkView → TrayView → TrayView

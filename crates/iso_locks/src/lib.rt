@@ -2,6 +2,7 @@
 #![tactic(auto)]
 
 pub mod examples;
+pub mod laws;
 pub mod mark;
 mod slots;
 mod starting;

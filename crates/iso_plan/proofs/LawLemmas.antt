@@ -51,7 +51,7 @@ rights-step tree t n k pos =
 -- the root has none
 pub root-unreadable : (tree : List Row) → IsTree tree → (k : List ℕ) → is_readable (node_rights tree 0 k) ≡ false
 root-unreadable tree t k =
-    ap (λ (r : Row). is_readable (rights_of (marks_with (own_test r.kind) (chain_classes tree 0)) k)) t.root_is
+    ap (λ (r : Row). is_readable (rights_with r.kind (chain_classes tree 0) k)) t.root_is
     ∙ ap (λ (ns : List ℕ). is_readable (rights_of (marks_of (heads_on tree ns)) k)) (path-root tree)
 
 readable_more : (a b : Option Access) → is_readable b ≡ true → is_readable (strongest a b) ≡ true

@@ -6,3 +6,4 @@ pub mod FirstPart
 pub mod Runs
 pub mod Pieces
 pub mod Commands
+pub mod PlanRuns

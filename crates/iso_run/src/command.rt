@@ -2,14 +2,15 @@
 ghost use Rattle.std.specs.Prelude.{◌≡◌, ◌≤◌, ◌+◌, [], ◌∷◌, IfSome, IfOk, MatchResult, map, take};
 ghost use Rattle.iso_arguments.specs.Requests.{IsCount};
 ghost use Rattle.iso_model.specs.declared.limits.TheConstants.{FILE_BYTES};
-ghost use Rattle.iso_run.specs.Commands.{Answered, Ended, IsEarly, NotAnswered, RanOn};
+ghost use Rattle.iso_run.specs.Commands.{Answered, Ended, NotAnswered, RanOn};
 
 use crate::command_fault::CommandFault;
 use crate::fault::RunFault;
 use crate::files::{InputBytes, lent, read_files};
+use crate::plan::show_plan;
 use crate::run::run_serial;
 use iso_arguments::request::{InputFiles, Request, WordsFault, read_words};
-use iso_inputs::inputs::{Inputs, read_inputs};
+use iso_inputs::inputs::Inputs;
 use iso_tap::sink::Sink;
 use iso_tap::text::write_text;
 use std::alloc::{AllocGlobal, Global};
@@ -75,7 +76,7 @@ fn answer<'a, G: AllocGlobal + Files, R: Read, W: Sink>(
         Request::Show(text) => show(text.as_str(), output),
         Request::Plan(files) => {
             let bytes = read_files(rt, &files, input)?;
-            plan(rt.alloc(), &bytes, &files)
+            plan(rt.alloc(), &bytes, &files, output)
         }
         Request::Run { serial: _, files } => {
             let bytes = read_files(rt, &files, input)?;
@@ -130,14 +131,17 @@ fn run<'a, W: Sink>(
     }
 }
 
-/// Reads what a plan is made of. It is not printed yet.
-fn plan<'a>(
+/// Prints a plan.
+fn plan<'a, W: Sink>(
     alloc: Global,
     bytes: &InputBytes,
     files: &InputFiles<'a>,
+    output: &mut W,
 ) -> Result<u8, CommandFault<'a>>
     requires { IsCount files.now.processors }
-    ensures { MatchResult result (λ s. ⊥) IsEarly }
+    ensures { MatchResult result
+        (λ s. Answered s (W.account output.old) (W.account output.new))
+        (λ f. NotAnswered f (W.account output.old) (W.account output.new)) }
 {
     let scripts = lent(alloc, &bytes.scripts)?;
     let inputs = Inputs {
@@ -146,12 +150,18 @@ fn plan<'a>(
         world: &bytes.world,
         processors: files.processors,
     };
-    let fault = match read_inputs(alloc, inputs) {
-        Ok(_) => RunFault::NotYet,
-        Err(error) => RunFault::from(error),
-    };
-    let name = script_name(&fault, files);
-    Err(CommandFault::Run(fault, name))
+    match show_plan(alloc, inputs, output) {
+        Ok(()) => {
+            if output.flush().is_err() {
+                return Err(CommandFault::Unwritten);
+            }
+            Ok(ALL_OK)
+        }
+        Err(fault) => {
+            let name = script_name(&fault, files);
+            Err(CommandFault::Run(fault, name))
+        }
+    }
 }
 
 /// The name of the script that a fault is of: `stdin` where no script is named.

@@ -78,7 +78,7 @@ impl fmt::Display for FaultLine<'_> {
             RunFault::Settings(fault) => write!(f, "jtap: settings: {fault}"),
             RunFault::World(fault) => write!(f, "jtap: world: {fault}"),
             RunFault::Script(_, ScriptFault { kind, line, column }) => {
-                write!(f, "jtap: {name}:{line}:{column}: {kind:?}")
+                write!(f, "jtap: {name}:{line}:{column}: {kind}")
             }
             RunFault::Plan(fault) => write!(f, "jtap: plan: {fault}"),
             RunFault::Memory => f.write_str("jtap: out of memory"),

@@ -6,6 +6,7 @@ mod command_fault;
 pub mod fault;
 mod files;
 mod first_part;
+pub mod plan;
 pub mod report;
 pub mod results;
 pub mod run;

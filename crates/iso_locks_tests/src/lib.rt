@@ -1,0 +1,5 @@
+//! Tests of trays.
+#![tactic(auto)]
+
+#[cfg(test)]
+mod tray;

@@ -1,0 +1,26 @@
+//! The printed plan of inputs.
+ghost use Rattle.std.specs.Prelude.{◌≤◌, MatchResult};
+ghost use Rattle.iso_run.specs.PlanRuns.{NotShown, Shown};
+
+use crate::fault::RunFault;
+use iso_inputs::inputs::{Inputs, read_inputs};
+use iso_tap::plan::write_plan;
+use iso_tap::sink::Sink;
+use std::alloc::Global;
+
+/// Reads inputs as `run_serial` does, for every script, and writes their plan to the sink: the line `workers W`, and then
+/// of each node its number, kind, mode, locks and path.
+///
+/// The first fault of the inputs is answered; with any but `Write` the sink is asked nothing. `NotYet` isn't answered.
+pub fn show_plan<W: Sink>(alloc: Global, inputs: Inputs<'_>, sink: &mut W) -> Result<(), RunFault>
+    requires { 1 ≤ inputs.processors }
+    ensures { MatchResult result
+        (λ _. Shown inputs.entry (W.account sink.old) (W.account sink.new))
+        (NotShown inputs.entry (W.account sink.old) (W.account sink.new)) }
+{
+    let suite = read_inputs(alloc, inputs)?;
+    match write_plan(&suite.plan, suite.settings.workers(), sink) {
+        Ok(()) => Ok(()),
+        Err(fault) => Err(RunFault::Write(fault.written)),
+    }
+}
