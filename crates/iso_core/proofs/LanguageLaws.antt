@@ -1,16 +1,15 @@
 -- The language of scripts keeps the laws of bodies.
-use Rattle.std.proofs.Common.{◌≡◌, ℕ, List, [], ◌∷◌, ◌++◌, Option, Some, None, Bool, true, false, refl, sym, ap, ◌∙◌}
+use Rattle.std.proofs.Common.{◌≡◌, ℕ, List, ◌∷◌, Option, Some, None, true, false, refl, ap, ◌∙◌}
 use Rattle.iso_core.specs.ScriptLanguage.{Head, marks_on, marks_in, chain_rights, come_to, scripts}
-use Rattle.iso_isolation.specs.Languages.{Content, Agree, Alike, RightsLaws, BodyLaws}
+use Rattle.iso_isolation.specs.Languages.{Agree, Alike, RightsLaws, BodyLaws}
 use Rattle.iso_model.proofs.BodyKeys.{body-step-untouched, body-finish-untouched, body-step-alike, body-finish-alike}
 use Rattle.iso_model.proofs.BodyRuns.{body-step-finish}
 use Rattle.iso_model.proofs.RightsLemmas.{rights_of-append}
-use Rattle.iso_model.specs.Bodies.{Stage, during, ended, Going, going, is_ended}
+use Rattle.iso_model.specs.Bodies.{Stage, during, ended, going, is_ended}
 use Rattle.iso_model.specs.Resources.{Resources}
-use Rattle.iso_model.specs.Rights.{Rights, strongest, rights_of, is_readable, is_writable}
+use Rattle.iso_model.specs.Rights.{strongest, rights_of, is_readable, is_writable}
 use Rattle.iso_model.specs.declared.access.Access.{Access}
 use Rattle.iso_model.specs.declared.access.Access.TheVariants.{Read, Write}
-use Rattle.iso_model.specs.declared.heads.Mark.{Mark}
 
 pub readable-of : (a : Option Access) → is_writable a ≡ true → is_readable a ≡ true
 readable-of None h = h

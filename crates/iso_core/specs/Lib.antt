@@ -1,1 +1,2 @@
 pub mod ScriptLanguage
+pub mod PlanSuites
