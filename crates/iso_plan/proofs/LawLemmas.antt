@@ -292,8 +292,8 @@ takes-only tree m k h =
     ⊎_elim (λ g. or_last (is_locking tree m) (is_top tree m) g.0) (λ g. or_left (is_locking tree m) (is_top tree m) g.0) (takes-by tree m k h)
 
 -- a key that is taken has a number
-taken_known : (tree : List Row) (m : ℕ) (k : List ℕ) → is_readable (taken tree m k) ≡ true → list_any (bytes_eq k) (keys tree) ≡ true
-taken_known tree m k h =
+pub taken-known : (tree : List Row) (m : ℕ) (k : List ℕ) → is_readable (taken tree m k) ≡ true → list_any (bytes_eq k) (keys tree) ≡ true
+taken-known tree m k h =
     ⊎_elim (λ g. ap (λ (j : List ℕ). list_any (bytes_eq j) (keys tree)) (sym g.1) ∙ global_known tree)
     (λ g. let d = declarer tree m (length tree) k g.1 in rows_have tree (global_key ∷ []) d.node k d.reads)
     (takes-by tree m k h)
@@ -318,7 +318,7 @@ locks_write f [] k i h w = h
 locks_write f (x ∷ ks) k i h w = writes_by f x ks k i w (bytes_eq k x) refl h (λ rest. locks_write f ks k (suc i) rest w)
 
 pub taken-writes : (tree : List Row) (m : ℕ) (k : List ℕ) → is_writable (taken tree m k) ≡ true → takes_write tree m ≡ true
-taken-writes tree m k w = locks_write (taken tree m) (keys tree) k 0 (taken_known tree m k (readable_of (taken tree m k) w)) w
+taken-writes tree m k w = locks_write (taken tree m) (keys tree) k 0 (taken-known tree m k (readable_of (taken tree m k) w)) w
 
 on_by : (test : ℕ → Bool) (n : ℕ) (ns : List ℕ) (m : ℕ) → test m ≡ true → (t : Bool) → (n == m) ≡ t → (t || is_on ns m) ≡ true → (is_on ns m ≡ true → list_any test ns ≡ true) → (test n || list_any test ns) ≡ true
 on_by test n ns m w true e h ih =

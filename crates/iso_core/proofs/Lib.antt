@@ -1,0 +1,5 @@
+pub mod LanguageLaws
+pub mod AloneRuns
+pub mod SuiteLaws
+pub mod PlanChains
+pub mod Headline

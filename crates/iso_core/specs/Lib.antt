@@ -1,0 +1,3 @@
+pub mod ScriptLanguage
+pub mod PlanSuites
+pub mod ExampleRuns

@@ -1,0 +1,51 @@
+//! Laws of the runs of every plan. Each function does nothing: its contract is the law, and is proved.
+ghost use Rattle.std.specs.Prelude.{◌≡◌, ◌∷◌, ℕ, List, map};
+ghost use Rattle.iso_core.specs.PlanSuites.{IsClassAt, IsTestAt, Launch, MayEnd, launched};
+ghost use Rattle.iso_core.specs.ScriptLanguage.{of_class, of_test, scripts};
+ghost use Rattle.iso_isolation.specs.Alone.{run_alone};
+ghost use Rattle.iso_isolation.specs.Languages.{BodyLaws};
+ghost use Rattle.iso_isolation.specs.Suites.{SuiteLaws};
+ghost use Rattle.iso_model.specs.Agreement.{ClassesAgree, TestsAgree};
+ghost use Rattle.iso_model.specs.Alone.{class_alone, test_alone};
+ghost use Rattle.iso_model.specs.Chains.{ClassHead, TestHead};
+ghost use Rattle.iso_model.specs.Resources.{Resources};
+ghost use Rattle.iso_model.specs.declared.outcome.Outcome.{Outcome};
+
+/// The isolation theorem: whatever scripts, settings and starting values are run, on any number of workers and in any order of
+/// events that the locks allow, the outcome of each finished test is that of the test run alone on the starting values of the
+/// keys that it and its classes are marked with; and so is the outcome of each finished class.
+pub fn outcomes_are_those_of_tests_and_classes_run_alone()
+    ensures tests { (l : Launch) (n : ℕ) (t : TestHead) (cs : List ClassHead) (r : Outcome)
+        → MayEnd l n r → IsTestAt l n t cs → r ≡ test_alone t cs l.start }
+    ensures classes { (l : Launch) (n : ℕ) (c : ClassHead) (cs : List ClassHead) (r : Outcome)
+        → MayEnd l n r → IsClassAt l n c cs → r ≡ class_alone c cs l.start }
+{}
+
+/// Tests, and classes, that agree on their heads, on those of the classes around them and on the starting values of the keys that
+/// these are marked with have equal outcomes, whatever else is run beside them, under whatever settings and in whatever order.
+pub fn what_agrees_has_equal_outcomes()
+    ensures tests { (l m : Launch) (i j : ℕ) (t u : TestHead) (cs ds : List ClassHead) (r q : Outcome)
+        → IsTestAt l i t cs → IsTestAt m j u ds → TestsAgree t cs l.start u ds m.start → MayEnd l i r → MayEnd m j q → r ≡ q }
+    ensures classes { (l m : Launch) (i j : ℕ) (c d : ClassHead) (cs ds : List ClassHead) (r q : Outcome)
+        → IsClassAt l i c cs → IsClassAt m j d ds → ClassesAgree c cs l.start d ds m.start → MayEnd l i r → MayEnd m j q → r ≡ q }
+{}
+
+/// Bodies of scripts keep what the isolation theorem asks of bodies: they change and look at what the marks of their chain let them,
+/// and come to the same in whatever steps they are done.
+pub fn scripts_keep_the_laws_of_bodies()
+    ensures { BodyLaws scripts }
+{}
+
+/// The plan of all scripts keeps what the isolation theorem asks of suites: its locks cover the access rights, and what stands in
+/// a node that takes a key for READ_WRITE is forced to SAME_THREAD.
+pub fn plans_keep_the_laws_of_suites()
+    ensures { (l : Launch) → SuiteLaws scripts (launched l) }
+{}
+
+/// A chain run alone in the language of scripts is the test, or the class, run alone.
+pub fn chains_run_alone_are_tests_and_classes_run_alone()
+    ensures test { (t : TestHead) (cs : List ClassHead) (start : Resources)
+        → run_alone scripts (of_test t ∷ map of_class cs) start ≡ test_alone t cs start }
+    ensures class { (c : ClassHead) (cs : List ClassHead) (start : Resources)
+        → run_alone scripts (of_class c ∷ map of_class cs) start ≡ class_alone c cs start }
+{}
