@@ -232,6 +232,43 @@ fn scripts_run_under_settings_and_a_world(rt: HostRuntime) -> Result<(), Fail> {
     Ok(())
 }
 
+/// Two classes of a team: one that reads a key which a test in it writes, and one that holds an isolated class.
+const CART_AND_DESK: &str = "team shop
+concurrent read \"K\" class Cart { concurrent test a { } write \"K\" test b { } }
+class Desk { test c { } isolated class Till { test d { } } }
+";
+
+const TWO_WORKERS: &str = "[junit.jupiter.execution.parallel]
+enabled = true
+mode.default = \"concurrent\"
+config.strategy = \"fixed\"
+config.fixed.parallelism = 2
+";
+
+const CART_AND_DESK_PLAN: &str = "workers 2
+1 class concurrent [r:iso:global,w:K] shop.Cart
+2 test same_thread [] shop.Cart.a
+3 test same_thread [] shop.Cart.b
+4 class concurrent [w:iso:global] shop.Desk
+5 test same_thread [] shop.Desk.c
+6 class same_thread [] shop.Desk.Till
+7 test same_thread [] shop.Desk.Till.d
+";
+
+#[test]
+fn plan_is_printed(rt: HostRuntime) -> Result<(), Fail> {
+    let folder = new_folder(&rt)?;
+    let folder = folder.as_str();
+    put(&rt, folder, "script", CART_AND_DESK.as_bytes())?;
+    put(&rt, folder, "settings", TWO_WORKERS.as_bytes())?;
+    let ran = run(&rt, folder, "plan --settings @settings @script")?;
+    assert_eq!(rt; ran.status, 0);
+    assert!(rt; ran.output.bytes() == CART_AND_DESK_PLAN.as_bytes());
+    assert!(rt; ran.errors.bytes().is_empty());
+    fs::remove_dir_all(&rt, folder)?;
+    Ok(())
+}
+
 #[test]
 fn more_than_64_scripts_are_too_many(rt: HostRuntime) -> Result<(), Fail> {
     let folder = new_folder(&rt)?;
