@@ -1,6 +1,6 @@
 //! Laws of the runs of every plan. Each function does nothing: its contract is the law, and is proved.
 ghost use Rattle.std.specs.Prelude.{◌≡◌, ◌∷◌, [], ℕ, List, Some, map, true};
-ghost use Rattle.iso_core.specs.PlanSuites.{IsClassAt, IsTestAt, Launch, MayEnd, launched};
+ghost use Rattle.iso_core.specs.PlanSuites.{IsClassAt, IsTestAt, Launch, MayEnd, launch, launched, suite_of};
 ghost use Rattle.iso_core.specs.ScriptLanguage.{of_class, of_test, scripts};
 ghost use Rattle.iso_isolation.specs.Alone.{run_alone};
 ghost use Rattle.iso_isolation.specs.Events.{Event, Leave};
@@ -15,7 +15,12 @@ ghost use Rattle.iso_model.specs.Agreement.{ClassesAgree, TestsAgree};
 ghost use Rattle.iso_model.specs.Alone.{class_alone, test_alone};
 ghost use Rattle.iso_model.specs.Chains.{ClassHead, TestHead};
 ghost use Rattle.iso_model.specs.Resources.{Resources};
+ghost use Rattle.iso_model.specs.Scripts.{Script};
 ghost use Rattle.iso_model.specs.declared.outcome.Outcome.{Outcome};
+ghost use Rattle.iso_plan.specs.RowView.{tree_of};
+ghost use Rattle.iso_plan.specs.Tree.{tree};
+
+use iso_plan::plan::Plan;
 
 /// The isolation theorem: whatever scripts, settings and starting values are run, on any number of workers and in any order of
 /// events that the locks allow, the outcome of each finished test is that of the test run alone on the starting values of the
@@ -25,6 +30,12 @@ pub fn outcomes_are_those_of_tests_and_classes_run_alone()
         → MayEnd l n r → IsTestAt l n t cs → r ≡ test_alone t cs l.start }
     ensures classes { (l : Launch) (n : ℕ) (c : ClassHead) (cs : List ClassHead) (r : Outcome)
         → MayEnd l n r → IsClassAt l n c cs → r ≡ class_alone c cs l.start }
+{}
+
+/// The suite of a plan with the tree of some scripts, as `iso_plan::plan::build` answers it, is that of their launch.
+pub fn plan_of_scripts_has_the_suite_of_their_launch(plan: &Plan)
+    ensures { (written : List Script) (start : Resources) → tree_of plan.now ≡ tree written
+        → suite_of (tree_of plan.now) plan.now.settings start ≡ launched (launch written plan.now.settings start) }
 {}
 
 /// Tests, and classes, that agree on their heads, on those of the classes around them and on the starting values of the keys that
