@@ -3,3 +3,4 @@ pub mod AloneRuns
 pub mod SuiteLaws
 pub mod PlanChains
 pub mod Headline
+pub mod BodyEnds

@@ -48,6 +48,9 @@ pub record Launch : Type 0 where
   pub settings : Settings
   pub start : Resources
 
+abbrev pub launch : List Script → Settings → Resources → Launch
+launch written settings start = record { written = written; settings = settings; start = start }
+
 -- the nodes of what is run, and its suite
 abbrev pub nodes_of : Launch → List Row
 nodes_of l = tree l.written
