@@ -23,7 +23,7 @@ returns-then-conflicts c =
     let m = c.nodes.m in
     let n = c.args.node in
     let test : ℕ → Bool = λ j. is_lent c.args.lent.now j && conflict tree j n in
-    let clash : conflict tree m n ≡ true = told tree m n c.locks.result.now c.locks-then-lent-m.result.now c.conflicts.result true c.locks.ensures c.locks-then-lent-m.ensures c.conflicts.ensures c.if-conflicts.true in
+    let clash : conflict tree m n ≡ true = told tree m n c.locks.result.now c.locks-then-lent-m.result.now c.conflicts.result true c.locks.ensures.locks c.locks-then-lent-m.ensures.locks c.conflicts.ensures c.if-conflicts.true in
     let passes : test m ≡ true = ap₂ (λ (p q : Bool). p && q) c.if-lent-m.true clash in
     let within : m + 1 < length c.args.plan.now.rows + 1 = omega (arith, c.len-m-end.ensures) in
     sym (lowest-stays test (m + 1) (length c.args.plan.now.rows) m (lowest-here test m c.nodes.invariant passes) within)
@@ -36,7 +36,7 @@ nodes-preserved c =
     let test : ℕ → Bool = λ j. is_lent c.args.lent.now j && conflict tree j n in
     let fails : test m ≡ false = elim c.else-lent-m.branch [
       | else-lent-m-via-then-lent-m+else-conflicts w ↦
-          ap (λ (q : Bool). is_lent c.args.lent.now m && q) (told tree m n w.locks.result.now w.locks-then-lent-m.result.now w.conflicts.result false w.locks.ensures w.locks-then-lent-m.ensures w.conflicts.ensures w.if-conflicts.false) ∙ and-false (is_lent c.args.lent.now m)
+          ap (λ (q : Bool). is_lent c.args.lent.now m && q) (told tree m n w.locks.result.now w.locks-then-lent-m.result.now w.conflicts.result false w.locks.ensures.locks w.locks-then-lent-m.ensures.locks w.conflicts.ensures w.if-conflicts.false) ∙ and-false (is_lent c.args.lent.now m)
       | else-lent-m-via-else-lent-m w ↦ ap (λ (p : Bool). p && conflict tree m n) w.if-lent-m.false
     ] in
     lowest-pass test m c.nodes.invariant fails
