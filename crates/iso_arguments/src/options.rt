@@ -29,14 +29,14 @@ pub fn command_line<'a>(alloc: Global) -> Result<Command<'a>, Error> {
         .action(ArgAction::SetTrue)
         .help("Run every class and test in order on one thread");
     let run = Command::new(alloc, "run")
-        .bin_name("jtap run")?
         .about("Run scripts, and write their report in TAP 14 to standard output")
         .arg(serial)?;
-    let plan = Command::new(alloc, "plan").bin_name("jtap plan")?.about(
+    let plan = Command::new(alloc, "plan").about(
         "Print how the scripts would run: workers, modes and locks of each node",
     );
     Ok(
         Command::new(alloc, "jtap")
+            .bin_name("jtap")?
             .no_binary_name(true)
             .version("0.1.0")
             .about(ABOUT)
