@@ -117,7 +117,7 @@ impl<'a> BlockRun<'a> {
         ensures names { names_before self.new ≡ names_before self.old }
         ensures rights { run_rights self.new ≡ run_rights self.old }
         ensures keys { OnOk result (HasKeys (run_rights self.new) (T.content touch.new) (T.writes touch.new)) }
-        ensures writes { T.writes touch.new ≡ T.writes touch.old }
+        ensures goes_on { T.goes_on touch.old touch.new }
     {
         if !self.is_live() {
             return Ok(self.progress());
@@ -226,7 +226,7 @@ impl<'a> BlockRun<'a> {
         requires { HasKeys (run_rights self.old) (T.content touch.old) (T.writes touch.old) }
         ensures done { OnOk result (machine_of self.new (T.content touch.new) ≡ step_at (run_rights self.old) (pieces_of self.old) (local_of self.old).env.steps (state_of self.old (T.content touch.old))) }
         ensures block { SameBlock self.old self.new }
-        ensures writes { T.writes touch.new ≡ T.writes touch.old }
+        ensures goes_on { T.goes_on touch.old touch.new }
     {
         match self.top {
             None => Ok(()),

@@ -25,7 +25,7 @@ pub fn run_block<T: Touch>(
     requires { HasKeys (access_in rights.now) (T.content touch.old) (T.writes touch.old) }
     ensures whole { IfOk result (λ e. end_state e (T.content touch.new) ≡ block (access_in rights.now) (block_of statements.now) names (T.content touch.old)) }
     ensures keys { OnOk result (HasKeys (access_in rights.now) (T.content touch.new) (T.writes touch.new)) }
-    ensures writes { T.writes touch.new ≡ T.writes touch.old }
+    ensures goes_on { T.goes_on touch.old touch.new }
 {
     let mut run = BlockRun::new(alloc, statements, names, rights);
     while !run.is_ended() {

@@ -2,8 +2,8 @@
 use Rattle.std.proofs.Common.{◌≡◌, ◌<◌, ℕ, suc, List, [], ◌∷◌, length, slice_set, slice_index_or, Option, Some, None, option_map, is_some, Bool, true, false, true≢false, cond, bytes_eq, refl, sym, ap, ◌∙◌, arith}
 use Rattle.std.proofs.lemmas.Slice.Eq.{bytes_eq-Decides}
 use Rattle.iso_model.specs.Memory.{slot_of, value_at}
-use Rattle.iso_model.specs.Resources.{Resources, changed, changed_at}
-use Rattle.iso_model.specs.Touch.{Kind, HasKind, kind_of_value}
+use Rattle.iso_model.specs.Resources.{changed, changed_at}
+use Rattle.iso_model.specs.Touch.{Kind, HasKind}
 use Rattle.iso_model.specs.declared.resource.Change.{Change}
 use Rattle.iso_model.specs.declared.resource.Resource.{Resource}
 

@@ -1,11 +1,11 @@
 -- The names of a test outlast its blocks, and the first of them are those of its outer classes.
-use Rattle.std.proofs.Common.{◌≡◌, ℕ, ◌+◌, ◌-◌, List, [], ◌∷◌, ◌++◌, length, map, take, drop, append_assoc, Bool, true, false, cond, refl, sym, ap, ◌∙◌, arith, true≢false}
+use Rattle.std.proofs.Common.{◌≡◌, ◌+◌, List, [], ◌∷◌, ◌++◌, length, map, take, drop, append_assoc, Bool, true, false, cond, refl, sym, ap, ◌∙◌, arith}
 use Rattle.std.proofs.lemmas.List.{map-append, length-append, length-map, length-drop, take-append-drop}
 use Rattle.std.proofs.Math.Seq.{take-append_seam, take-length}
 use Rattle.std.specs.List.{list_all}
 use Rattle.iso_model.specs.Changes.{lasting}
 use Rattle.iso_model.specs.Chains.{ClassHead, TestHead, class_rights, test_rights}
-use Rattle.iso_model.specs.Environments.{Environment, environment}
+use Rattle.iso_model.specs.Environments.{environment}
 use Rattle.iso_model.specs.Names.{bound, at_literals, frozen}
 use Rattle.iso_model.specs.Openings.{Frame, Opening, words_of, statics_of, before_all, opened, opening}
 use Rattle.iso_model.specs.Resources.{Resources}

@@ -1,5 +1,5 @@
 -- Resources that are held in a list of keys with their values.
-use Rattle.std.specs.Prelude.{ℕ, suc, List, [], ◌∷◌, Option, Some, None, cond, bytes_eq}
+use Rattle.std.specs.Prelude.{ℕ, suc, List, [], ◌∷◌, Some, None, cond, bytes_eq}
 use Rattle.iso_model.specs.Resources.{Resources}
 use Rattle.iso_model.specs.declared.memory.Memory.{Memory}
 use Rattle.iso_model.specs.declared.resource.Resource.{Resource}

@@ -37,11 +37,13 @@ impl Memory {
 }
 
 impl Touch for Memory {
-    ghost use Rattle.std.specs.Prelude.{true};
+    ghost use Rattle.std.specs.Prelude.{true, refl};
 
     ghost content = { held };
 
     ghost writes = { λ m k. true };
+
+    ghost goes_on = { λ m n. Unit {0} };
 
     fn look(&self, key: ResourceKey<'_>, ask: Ask<'_>) -> Option<&str> {
         match find(&self.slots, key) {
@@ -54,6 +56,12 @@ impl Touch for Memory {
         let slot = slot_of(&self.slots, key);
         self.slots[slot].1.change(change)
     }
+
+    ghost still = { λ t. record {} };
+
+    ghost further = { λ t u v p q. record {} };
+
+    ghost same_writes = { λ t u p. refl };
 }
 
 /// The value at a key.

@@ -16,6 +16,9 @@ pub trait Touch {
     /// Whether it lets the value of a key be changed.
     ghost writes: { Self → List ℕ → Bool };
 
+    /// Whether the second state may come of the first by changes of values alone.
+    ghost goes_on: { Self → Self → Type 0 };
+
     /// The text that is asked for, or `None` where the property is absent or the file missing.
     fn look(&self, key: ResourceKey<'_>, ask: Ask<'_>) -> Option<&str>
         requires { HasKind (content self.now (spelling key)) (kind_of_ask ask) }
@@ -27,5 +30,14 @@ pub trait Touch {
         requires writes { writes self.old (spelling key) ≡ true }
         ensures ok { OnOk result (content self.new ≡ changed_at (content self.old) (spelling key.entry) change) }
         ensures err { OnErr result (content self.new ≡ content self.old) }
-        ensures writes { writes self.new ≡ writes self.old };
+        ensures goes_on { goes_on self.old self.new };
+
+    /// Each state goes on to itself.
+    ghost still: { (t : Self) → goes_on t t };
+
+    /// Changes may follow one another.
+    ghost further: { (t u v : Self) → goes_on t u → goes_on u v → goes_on t v };
+
+    /// The same keys may be changed before and after.
+    ghost same_writes: { (t u : Self) → goes_on t u → writes u ≡ writes t };
 }

@@ -1,4 +1,6 @@
+pub mod ChildLemmas
 pub mod Columns
+pub mod FullLemmas
 pub mod Growth
 pub mod KeyLemmas
 pub mod LawLemmas

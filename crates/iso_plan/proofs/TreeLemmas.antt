@@ -3,6 +3,7 @@ use Rattle.std.proofs.Common.{◌≡◌, ℕ, ◌+◌, ◌<◌, ◌≤◌, List,
 use Rattle.std.proofs.lemmas.Bool.Decides.{nat_tests}
 use Rattle.std.proofs.lemmas.List.{length-append, get_or_append_left, get_or_push, get_or_past}
 use Rattle.iso_model.specs.Scripts.{Class, class, Member, class_member, test_member, Members, no_members, member, Script}
+use Rattle.iso_plan.proofs.FullLemmas.{tree-full}
 use Rattle.iso_plan.specs.Paths.{row_at, parent, is_test, IsTree}
 use Rattle.iso_plan.specs.Tree.{Row, root_row, test_row, class_row, top_row, member_rows, members_rows, class_rows, top_rows, team_rows, script_rows, tree}
 
@@ -105,4 +106,4 @@ placed ss n pos =
     record { below = omega arith; inner = ap (λ p. is_test (row_at (tree ss) p).kind) up })
 
 pub tree-is : (ss : List Script) → IsTree (tree ss)
-tree-is ss = record { rooted = omega arith; root_is = refl; below = λ n pos. (placed ss n pos).below; inner = λ n pos. (placed ss n pos).inner }
+tree-is ss = record { rooted = omega arith; root_is = refl; below = λ n pos. (placed ss n pos).below; inner = λ n pos. (placed ss n pos).inner; full = tree-full ss }

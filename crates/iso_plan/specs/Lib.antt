@@ -1,3 +1,4 @@
+pub mod Children
 pub mod Covers
 pub mod Examples
 pub mod Faults

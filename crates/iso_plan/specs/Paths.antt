@@ -55,6 +55,12 @@ is_test root = false
 is_test (class_node isolated head) = false
 is_test (test_node head) = true
 
+-- whether it is a class or a test
+abbrev pub is_class_or_test : Kind → Bool
+is_class_or_test root = false
+is_class_or_test (class_node isolated head) = true
+is_class_or_test (test_node head) = true
+
 -- the nodes with a number below n that stand directly in node m, in order
 abbrev pub children_below : List Row → ℕ → ℕ → List ℕ
 children_below tree m zero = []
@@ -64,12 +70,13 @@ children_below tree m (suc n) = cond (not (is_root n) && parent tree n == m) (ch
 abbrev pub children : List Row → ℕ → List ℕ
 children tree m = children_below tree m (length tree)
 
--- there is a root, and each other node stands in one with a smaller number, which is no test
+-- there is a root, and each other node is a class or a test and stands in one with a smaller number, which is no test
 pub record IsTree (tree : List Row) : Type 0 where
   pub rooted : 0 < length tree
   pub root_is : row_at tree 0 ≡ root_row
   pub below : (n : ℕ) → 0 < n → parent tree n < n
   pub inner : (n : ℕ) → 0 < n → is_test (row_at tree (parent tree n)).kind ≡ false
+  pub full : (n : ℕ) → 0 < n → n < length tree → is_class_or_test (row_at tree n).kind ≡ true
 
 -- what each of the first n nodes has
 abbrev pub column : {A : Type 0} → (ℕ → A) → ℕ → List A

@@ -1,15 +1,31 @@
 //! Laws of every plan: what the proofs of its runs rest on.
-ghost use Rattle.std.specs.Prelude.{◌≡◌, ◌<◌, ◌||◌, ◌++◌, ◌∷◌, [], ℕ, List, false, length, true};
+ghost use Rattle.std.specs.Prelude.{◌≡◌, ◌<◌, ◌||◌, ◌++◌, ◌∷◌, [], ℕ, List, false, length, slice_index_or, true};
 ghost use Rattle.iso_model.specs.Rights.{is_readable, is_writable};
 ghost use Rattle.iso_model.specs.declared.script.Mode.TheVariants.{SameThread};
+ghost use Rattle.iso_plan.specs.Children.{IsChild, IsListed};
 ghost use Rattle.iso_plan.specs.Covers.{IsCovered};
 ghost use Rattle.iso_plan.specs.Locks.{conflict, is_locking, taken};
 ghost use Rattle.iso_plan.specs.Modes.{mode};
 ghost use Rattle.iso_plan.specs.NodeChains.{chain_classes, class_heads, node_rights};
-ghost use Rattle.iso_plan.specs.Paths.{is_test, is_top, is_under, parent, path, row_at};
+ghost use Rattle.iso_plan.specs.Paths.{IsTree, children, is_test, is_top, is_under, parent, path, row_at};
 ghost use Rattle.iso_plan.specs.RowView.{tree_of};
 
 use crate::plan::Plan;
+
+/// The nodes are a tree: node 0 is the root, and each other one is a class or a test that stands in the root or in a class with a
+/// smaller number. What the laws below say of plans is proved of all such trees.
+pub fn nodes_are_a_tree(plan: &Plan)
+    ensures { IsTree (tree_of plan.now) }
+{
+    plan.hold_a_tree();
+}
+
+/// The children of a node are those nodes that have it as their parent.
+pub fn children_have_their_parent(plan: &Plan)
+    ensures children { (m i : ℕ) → i < length (children (tree_of plan.now) m)
+        → IsChild (tree_of plan.now) m (length (tree_of plan.now)) (slice_index_or (children (tree_of plan.now) m) i 0) }
+    ensures listed { (n : ℕ) → 0 < n → n < length (tree_of plan.now) → IsListed (children (tree_of plan.now) (parent (tree_of plan.now) n)) n }
+{}
 
 /// A node stands in one with a smaller number, so that its parent comes before it.
 pub fn parents_come_first(plan: &Plan)

@@ -26,7 +26,7 @@ impl<'a> BlockRun<'a> {
         requires keys { HasKeys (run_rights self.old) (T.content touch.old) (T.writes touch.old) }
         ensures done { OnOk result (machine_of self.new (T.content touch.new) ≡ step_at (run_rights self.old) (pieces_of self.old) (local_of self.old).env.steps (state_of self.old (T.content touch.old))) }
         ensures block { SameBlock self.old self.new }
-        ensures writes { T.writes touch.new ≡ T.writes touch.old }
+        ensures goes_on { T.goes_on touch.old touch.new }
     {
         match statements {
             [] => Ok(()),
@@ -54,7 +54,7 @@ impl<'a> BlockRun<'a> {
             (begin (run_rights self.old) s.0 s.1 (state_of self.old (T.content touch.old)))
             (rest_of names (block_of rest.now) ∷ pieces_in None self.old.below.items)) }
         ensures block { SameBlock self.old self.new }
-        ensures writes { T.writes touch.new ≡ T.writes touch.old }
+        ensures goes_on { T.goes_on touch.old touch.new }
     {
         self.top = Some(Pending::Rest(names, rest));
         self.begin(touch, first)?;
@@ -70,7 +70,7 @@ impl<'a> BlockRun<'a> {
             let m = begin (run_rights self.old) s.0 s.1 (state_of self.old (T.content touch.old)) in
             (state_of self.new (T.content touch.new) ≡ m.state) × (pieces_of self.new ≡ m.pieces ++ pieces_of self.old)) }
         ensures block { SameBlock self.old self.new }
-        ensures writes { T.writes touch.new ≡ T.writes touch.old }
+        ensures goes_on { T.goes_on touch.old touch.new }
     {
         let row = statement.row;
         match &statement.form {

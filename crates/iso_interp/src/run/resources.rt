@@ -31,7 +31,7 @@ impl<'a> BlockRun<'a> {
         requires { HasKeys (run_rights self.old) (T.content touch.old) (T.writes touch.old) }
         ensures done { OnOk result (state_of self.new (T.content touch.new) ≡ performed (run_rights self.old) row (set_prop (term_of name.now) (term_of text.now)) (state_of self.old (T.content touch.old))) }
         ensures work { SameWork self.old self.new }
-        ensures writes { T.writes touch.new ≡ T.writes touch.old }
+        ensures goes_on { T.goes_on touch.old touch.new }
     {
         let change = match self.texts(touch, name, text)? {
             Ok((name, text)) => {
@@ -52,7 +52,7 @@ impl<'a> BlockRun<'a> {
         requires { HasKeys (run_rights self.old) (T.content touch.old) (T.writes touch.old) }
         ensures done { OnOk result (state_of self.new (T.content touch.new) ≡ performed (run_rights self.old) row (clear_prop (term_of name.now)) (state_of self.old (T.content touch.old))) }
         ensures work { SameWork self.old self.new }
-        ensures writes { T.writes touch.new ≡ T.writes touch.old }
+        ensures goes_on { T.goes_on touch.old touch.new }
     {
         let change = match self.text(touch, name)? {
             Ok(name) => Change::ClearProp(name.into_text(self.alloc)?),
@@ -71,7 +71,7 @@ impl<'a> BlockRun<'a> {
         requires { HasKeys (run_rights self.old) (T.content touch.old) (T.writes touch.old) }
         ensures done { OnOk result (state_of self.new (T.content touch.new) ≡ performed (run_rights self.old) row (set_locale (term_of text.now)) (state_of self.old (T.content touch.old))) }
         ensures work { SameWork self.old self.new }
-        ensures writes { T.writes touch.new ≡ T.writes touch.old }
+        ensures goes_on { T.goes_on touch.old touch.new }
     {
         let change = match self.text(touch, text)? {
             Ok(text) => Change::SetLocale(text.into_text(self.alloc)?),
@@ -91,7 +91,7 @@ impl<'a> BlockRun<'a> {
         requires { HasKeys (run_rights self.old) (T.content touch.old) (T.writes touch.old) }
         ensures done { OnOk result (state_of self.new (T.content touch.new) ≡ performed (run_rights self.old) row (write_file (term_of path.now) (term_of text.now)) (state_of self.old (T.content touch.old))) }
         ensures work { SameWork self.old self.new }
-        ensures writes { T.writes touch.new ≡ T.writes touch.old }
+        ensures goes_on { T.goes_on touch.old touch.new }
     {
         let (path, text) = match self.texts(touch, path, text)? {
             Ok((path, text)) => (path.into_text(self.alloc)?, text.into_text(self.alloc)?),
@@ -116,7 +116,7 @@ impl<'a> BlockRun<'a> {
         requires { HasKeys (run_rights self.old) (T.content touch.old) (T.writes touch.old) }
         ensures done { OnOk result (state_of self.new (T.content touch.new) ≡ performed (run_rights self.old) row (append_file (term_of path.now) (term_of text.now)) (state_of self.old (T.content touch.old))) }
         ensures work { SameWork self.old self.new }
-        ensures writes { T.writes touch.new ≡ T.writes touch.old }
+        ensures goes_on { T.goes_on touch.old touch.new }
     {
         let (path, text) = match self.texts(touch, path, text)? {
             Ok((path, text)) => (path.into_text(self.alloc)?, text.into_text(self.alloc)?),
@@ -147,7 +147,7 @@ impl<'a> BlockRun<'a> {
         requires { HasKeys (run_rights self.old) (T.content touch.old) (T.writes touch.old) }
         ensures done { OnOk result (state_of self.new (T.content touch.new) ≡ performed (run_rights self.old) row (delete_file (term_of path.now)) (state_of self.old (T.content touch.old))) }
         ensures work { SameWork self.old self.new }
-        ensures writes { T.writes touch.new ≡ T.writes touch.old }
+        ensures goes_on { T.goes_on touch.old touch.new }
     {
         let path = match self.text(touch, path)? {
             Ok(path) => path.lasting(self.alloc)?,
@@ -178,7 +178,7 @@ impl<'a> BlockRun<'a> {
         requires kind { kind_of_key (spelling key) ≡ kind_of_change change }
         ensures done { OnOk result (state_of self.new (T.content touch.new) ≡ changes (run_rights self.old) row (spelling key.entry) change (state_of self.old (T.content touch.old))) }
         ensures work { SameWork self.old self.new }
-        ensures writes { T.writes touch.new ≡ T.writes touch.old }
+        ensures goes_on { T.goes_on touch.old touch.new }
     {
         if self.rights.lets_change(key) {
             touch.change(key, change)

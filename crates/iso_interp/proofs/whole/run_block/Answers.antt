@@ -21,7 +21,7 @@ loop-run-init g c = record {
   rights = c.new-run.ensures.rights;
   names = c.new-run.ensures.names;
   keys = c.requires;
-  writes = search rules;
+  goes_on = g.met.T.Touch.still _;
 }
 
 pub loop-run-preserved : goal.loop-run-preserved
@@ -34,7 +34,7 @@ loop-run-preserved g c =
       rights = c.in_ok-step.ensures.rights ∙ i.rights;
       names = c.in_ok-step.ensures.names ∙ i.names;
       keys = subst (λ (r : Rights). HasKeys r (content c.step.new.touch) (g.T.Touch.writes c.step.new.touch)) (c.in_ok-step.ensures.rights ∙ i.rights) c.in_ok-step.ensures.keys;
-      writes = c.in_ok-step.ensures.writes ∙ i.writes;
+      goes_on = g.met.T.Touch.further _ _ _ i.goes_on c.in_ok-step.ensures.goes_on;
     }
 
 pub loop-run-smaller : goal.loop-run-smaller

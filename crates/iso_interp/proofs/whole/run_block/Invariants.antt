@@ -15,7 +15,7 @@ invariant-loop-run g l =
       rights : run_rights l.run ≡ access_in l.rights;
       names : names_before l.run ≡ length l.fn.names.names;
       keys : HasKeys (access_in l.rights) (content l.touch) (g.T.Touch.writes l.touch);
-      writes : g.T.Touch.writes l.touch ≡ g.T.Touch.writes l.fn.touch;
+      goes_on : g.T.Touch.goes_on l.fn.touch l.touch;
     }
 
 abbrev pub decreases-loop-run : goal.decreases-loop-run

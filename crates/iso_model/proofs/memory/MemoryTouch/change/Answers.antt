@@ -2,7 +2,7 @@ use Rattle.std.proofs.Common.{◌≡◌, ◌<◌, ◌∙◌, sym, ap, ap₂, ari
 use Rattle.std.proofs.lemmas.Result.{on_ok_weaker}
 use Rattle.iso_model.specs.Memory.{slot_of, value_at}
 use Rattle.iso_model.specs.ResourceKeys.{spelling}
-use Rattle.iso_model.specs.Resources.{changed, changed_at}
+use Rattle.iso_model.specs.Resources.{changed}
 use Rattle.iso_model.specs.Touch.{kind_of_change}
 use Rattle.iso_model.specs.declared.resource.Resource.{Resource}
 use Rattle.iso_model.proofs.MemoryLemmas.{slot_of-kind, changed_slot}
