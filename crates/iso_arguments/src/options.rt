@@ -23,7 +23,7 @@ static PLAN_END: &str = "Example:
   jtap plan --settings junit.toml cart.jtap";
 
 /// The whole command line. The words begin with the subcommand's name.
-pub fn command_line<'a>(alloc: Global) -> Result<Command<'a>, Error> {
+pub(crate) fn command_line<'a>(alloc: Global) -> Result<Command<'a>, Error> {
     let serial = Arg::new(alloc, "serial")
         .long("serial")
         .action(ArgAction::SetTrue)

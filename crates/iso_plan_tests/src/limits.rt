@@ -1,9 +1,10 @@
 //! The limits of a plan, and its faults.
-use crate::scripts::{concurrent, marks, plain_class, script_of, script_of_class, test};
-use iso_model::access::Access;
+use crate::scripts::{concurrent, read};
 use iso_model::script::Script;
 use iso_plan::fault::{PlanError, PlanFault};
 use iso_plan::plan::build;
+use iso_script::fault::ScriptError;
+use iso_script::reader::read_script;
 use std::alloc::{AllocError, Global};
 use std::test::Fail;
 
@@ -12,87 +13,86 @@ fn planned(alloc: Global, scripts: &[Script]) -> Result<u32, PlanError> {
     Ok(build(alloc, scripts, &concurrent())?.len())
 }
 
-/// One class with so many tests, each with a key of its own where asked.
-fn large(alloc: Global, tests: u32, keys: bool) -> Result<Vec<Script>, AllocError> {
-    let mut members = Vec::new(alloc);
+/// A script of one class with so many tests. Each test has one of so many keys for itself, where there are some.
+fn large(alloc: Global, tests: u32, keys: u32) -> Result<String, AllocError> {
+    let mut text = String::from_str(alloc, "team shop\nclass Large {\n")?;
     for number in 0..tests {
-        let name = format!(in alloc; "t{number}")?;
-        let marks = if keys {
-            marks(alloc, Access::Read, &[name.as_str()])?
-        } else {
-            Vec::new(alloc)
-        };
-        members.push(test(alloc, name.as_str(), None, marks)?)?;
+        if keys > 0 {
+            let key = number % keys;
+            text.push_str(format!(in alloc; "write \"k{key}\" ")?.as_str())?;
+        }
+        text.push_str(format!(in alloc; "test t{number} {{ }}\n")?.as_str())?;
     }
-    let mut scripts = Vec::new(alloc);
-    scripts.push(script_of(alloc, "shop", plain_class(alloc, "C", members)?)?)?;
-    Ok(scripts)
+    text.push_str("}\n")?;
+    Ok(text)
+}
+
+/// How many nodes the plan of one such script has.
+fn large_planned(
+    alloc: Global,
+    tests: u32,
+    keys: u32,
+) -> Result<Result<u32, PlanError>, ScriptError> {
+    let scripts = read(alloc, &[large(alloc, tests, keys)?.as_str()])?;
+    Ok(planned(alloc, &scripts))
 }
 
 /// So many scripts of one team, each with a class of its own.
-fn many(alloc: Global, count: u32) -> Result<Vec<Script>, AllocError> {
+fn many(alloc: Global, count: u32) -> Result<Vec<Script>, ScriptError> {
     let mut scripts = Vec::new(alloc);
     for number in 0..count {
-        let name = format!(in alloc; "C{number}")?;
-        scripts.push(script_of_class(alloc, "shop", name.as_str())?)?;
+        let text = format!(in alloc; "team shop\nclass C{number} {{ test t {{ }} }}\n")?;
+        scripts.push(read_script(alloc, text.as_bytes())?)?;
     }
     Ok(scripts)
 }
 
 #[test]
 fn node_4096_is_the_last(rt: HostRuntime) -> Result<(), Fail> {
-    let alloc = rt.alloc();
-    assert_eq!(rt; planned(alloc, &large(alloc, 4_094, false)?), Ok(4_096));
+    assert_eq!(rt; large_planned(rt.alloc(), 4_094, 0)?, Ok(4_096));
     let fault = PlanError::Fault(PlanFault::TooManyNodes);
-    assert_eq!(rt; planned(alloc, &large(alloc, 4_095, false)?), Err(fault));
+    assert_eq!(rt; large_planned(rt.alloc(), 4_095, 0)?, Err(fault));
     Ok(())
 }
 
 #[test]
 fn declared_key_255_is_the_last(rt: HostRuntime) -> Result<(), Fail> {
-    let alloc = rt.alloc();
-    assert_eq!(rt; planned(alloc, &large(alloc, 255, true)?), Ok(257));
+    assert_eq!(rt; large_planned(rt.alloc(), 300, 255)?, Ok(302));
     let fault = PlanError::Fault(PlanFault::TooManyKeys);
-    assert_eq!(rt; planned(alloc, &large(alloc, 256, true)?), Err(fault));
+    assert_eq!(rt; large_planned(rt.alloc(), 300, 256)?, Err(fault));
     Ok(())
 }
 
 /// All limits reached at once: ample memory gives a plan.
 #[test]
 fn largest_plan_is_made(rt: HostRuntime) -> Result<(), Fail> {
-    let alloc = rt.alloc();
-    let mut scripts = many(alloc, 63)?;
-    let mut members = Vec::new(alloc);
-    for number in 0..3_968u32 {
-        let name = format!(in alloc; "t{number}")?;
-        let turn = number % 255;
-        let key = format!(in alloc; "k{turn}")?;
-        let marks = marks(alloc, Access::Write, &[key.as_str()])?;
-        members.push(test(alloc, name.as_str(), None, marks)?)?;
-    }
-    scripts.push(script_of(alloc, "shop", plain_class(alloc, "C", members)?)?)?;
-    assert_eq!(rt; planned(alloc, &scripts), Ok(4_096));
+    let mut scripts = many(rt.alloc(), 63)?;
+    let text = large(rt.alloc(), 3_968, 255)?;
+    scripts.push(read_script(rt.alloc(), text.as_bytes())?)?;
+    assert_eq!(rt; planned(rt.alloc(), &scripts), Ok(4_096));
     Ok(())
 }
 
 #[test]
 fn script_64_is_the_last(rt: HostRuntime) -> Result<(), Fail> {
-    let alloc = rt.alloc();
-    assert_eq!(rt; planned(alloc, &many(alloc, 64)?), Ok(129));
+    let mut scripts = many(rt.alloc(), 64)?;
+    assert_eq!(rt; planned(rt.alloc(), &scripts), Ok(129));
+    scripts.push(read_script(rt.alloc(), OF_SHOP.as_bytes())?)?;
     let fault = PlanError::Fault(PlanFault::TooManyScripts);
-    assert_eq!(rt; planned(alloc, &many(alloc, 65)?), Err(fault));
+    assert_eq!(rt; planned(rt.alloc(), &scripts), Err(fault));
     Ok(())
 }
 
+const OF_SHOP: &str = "team shop\nclass C { test t { } }\n";
+
+const OF_BANK: &str = "team bank\nclass C { test t { } }\n";
+
 #[test]
 fn class_of_one_team_stands_once(rt: HostRuntime) -> Result<(), Fail> {
-    let alloc = rt.alloc();
-    let mut scripts = Vec::new(alloc);
-    scripts.push(script_of_class(alloc, "shop", "C")?)?;
-    scripts.push(script_of_class(alloc, "bank", "C")?)?;
-    assert_eq!(rt; planned(alloc, &scripts), Ok(5));
-    scripts.push(script_of_class(alloc, "shop", "C")?)?;
+    let two = read(rt.alloc(), &[OF_SHOP, OF_BANK])?;
+    assert_eq!(rt; planned(rt.alloc(), &two), Ok(5));
+    let three = read(rt.alloc(), &[OF_SHOP, OF_BANK, OF_SHOP])?;
     let fault = PlanError::Fault(PlanFault::DoubleClass);
-    assert_eq!(rt; planned(alloc, &scripts), Err(fault));
+    assert_eq!(rt; planned(rt.alloc(), &three), Err(fault));
     Ok(())
 }

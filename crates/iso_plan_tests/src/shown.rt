@@ -1,39 +1,42 @@
 //! A plan as a text.
+use crate::scripts::read;
 use iso_model::access::Access;
-use iso_model::script::{Mode, Script};
+use iso_model::script::Mode;
 use iso_plan::lock::Lock;
 use iso_plan::plan::{Plan, build};
 use iso_settings::settings::Settings;
 use std::alloc::{AllocError, Global};
 use std::test::Fail;
 
-/// A line for each node but the root: its number, what it is, its mode, its locks, its name, and its locking node.
-pub(crate) fn shown(
-    alloc: Global,
-    scripts: &[Script],
-    settings: &Settings,
-) -> Result<String, Fail> {
-    let plan = build(alloc, scripts, settings)?;
+/// A line for each node of a script's plan but the root: its number, what it is, its mode, its locks, its name, and
+/// its locking node.
+pub(crate) fn shown(alloc: Global, script: &str, settings: &Settings) -> Result<String, Fail> {
+    let plan = build(alloc, &read(alloc, &[script])?, settings)?;
     let mut text = String::new(alloc);
     for node in 1..plan.len() {
-        let kind = if plan.is_test(node) { "test" } else { "class" };
-        let mode = match plan.mode(node) {
-            Mode::SameThread => "same_thread",
-            Mode::Concurrent => "concurrent",
-        };
-        let name = plan.name(node);
-        let head = format!(in alloc; "{node} {kind} {mode} [")?;
-        text.push_str(head.as_str())?;
-        add_locks(&mut text, &plan, plan.locks(node))?;
-        let tail = format!(in alloc; "] {name}")?;
-        text.push_str(tail.as_str())?;
-        if let Some(locking) = plan.locking_node(node) {
-            let by = format!(in alloc; " by {locking}")?;
-            text.push_str(by.as_str())?;
-        }
-        text.push_str("\n")?;
+        add_node(alloc, &mut text, &plan, node)?;
     }
     Ok(text)
+}
+
+/// The line of a node that the plan has.
+fn add_node(alloc: Global, text: &mut String, plan: &Plan, node: u32) -> Result<(), AllocError> {
+    if node >= plan.len() {
+        return Ok(());
+    }
+    let kind = if plan.is_test(node) { "test" } else { "class" };
+    let mode = match plan.mode(node) {
+        Mode::SameThread => "same_thread",
+        Mode::Concurrent => "concurrent",
+    };
+    text.push_str(format!(in alloc; "{node} {kind} {mode} [")?.as_str())?;
+    add_locks(text, plan, plan.locks(node))?;
+    let name = plan.name(node);
+    text.push_str(format!(in alloc; "] {name}")?.as_str())?;
+    if let Some(locking) = plan.locking_node(node) {
+        text.push_str(format!(in alloc; " by {locking}")?.as_str())?;
+    }
+    text.push_str("\n")
 }
 
 fn add_locks(text: &mut String, plan: &Plan, locks: &[Lock]) -> Result<(), AllocError> {

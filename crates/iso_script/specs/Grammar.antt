@@ -79,9 +79,15 @@ mutual
         → IsMember (suc d) taken (class_member c) ps rs
 
   -- A class after its name. A class in it can take no name of its statics and fields.
-  pub data IsClass : (d : ℕ) (taken : List (List ℕ)) (marks : Marks) (n : List ℕ) → Class → List Piece → List Piece → Type 0 where
-    a_class : {d b : ℕ} {taken : List (List ℕ)} {marks : Marks} {n : List ℕ} {display : Option (List ℕ)} {variables : Variables} {blocks : Blocks} {ms : Members} {ps qs rs ss ts : List Piece}
-        → IsDisplayed display ps (symbol_at b OpenBrace ∷ qs) → IsVariables taken variables qs rs → IsBlocks blocks rs ss → HasMembers d (V.names_of variables ++ taken) ms ss ts
+  pub data IsClass : (d : ℕ) (taken : List (List ℕ)) (marks : Marks) (n : List ℕ)
+      → Class → List Piece → List Piece → Type 0 where
+    a_class : {d b : ℕ} {taken : List (List ℕ)} {marks : Marks} {n : List ℕ}
+        {display : Option (List ℕ)} {variables : Variables} {blocks : Blocks} {ms : Members}
+        {ps qs rs ss ts : List Piece}
+        → IsDisplayed display ps (symbol_at b OpenBrace ∷ qs)
+        → IsVariables taken variables qs rs
+        → IsBlocks blocks rs ss
+        → HasMembers d (V.names_of variables ++ taken) ms ss ts
         → IsClass d taken marks n (class (title marks n display variables blocks) ms) ps ts
 
   -- the members of a class, and the brace that closes them: one at least, and no two of one name

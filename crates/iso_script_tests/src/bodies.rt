@@ -1,41 +1,15 @@
 //! Statements and expressions: what is read, the place of each fault, and every limit.
+use crate::made::{Faulty, Row, made, row_with_another_fault, with_another_fault};
 use iso_model::script::{Member, Script};
 use iso_model::tree::{Expr, Form, Operator, Stmt};
-use iso_script::fault::{ScriptError, ScriptFaultKind};
+use iso_script::fault::ScriptFaultKind::{BadDisplay, Expected, NumberTooBig, TooDeep};
 use iso_script::reader::read_script;
-use std::alloc::{AllocError, Global};
 use std::test::Fail;
 
-/// A script whose one test has a body of these pieces, each so many times. The body begins at line 2, column 20.
-fn script_of(alloc: Global, pieces: &[(&str, usize)]) -> Result<Vec<u8>, AllocError> {
-    let mut script = Vec::new(alloc);
-    script.extend_from_slice("team shop\nclass C { test t { ".as_bytes())?;
-    for (piece, count) in pieces {
-        for _ in 0..*count {
-            script.extend_from_slice(piece.as_bytes())?;
-        }
-    }
-    script.extend_from_slice(" } }".as_bytes())?;
-    Ok(script)
-}
+/// What stands before a body that begins at line 2, column 20, and after it.
+const BEFORE: &str = "team shop\nclass C { test t { ";
 
-/// The fault of such a script, and its column in line 2.
-fn fault_in(
-    alloc: Global,
-    pieces: &[(&str, usize)],
-) -> Result<Option<(ScriptFaultKind, u32)>, AllocError> {
-    let script = script_of(alloc, pieces)?;
-    Ok(match read_script(alloc, &script) {
-        Err(ScriptError::Fault(fault)) if fault.line == 2 => Some((fault.kind, fault.column)),
-        _ => None,
-    })
-}
-
-/// Whether such a script is read.
-fn is_read(alloc: Global, pieces: &[(&str, usize)]) -> Result<bool, AllocError> {
-    let script = script_of(alloc, pieces)?;
-    Ok(read_script(alloc, &script).is_ok())
-}
+const AFTER: &str = " } }";
 
 /// The statements of the first test of the first class.
 fn body_of(script: &Script) -> Option<&[Stmt]> {
@@ -45,149 +19,139 @@ fn body_of(script: &Script) -> Option<&[Stmt]> {
     }
 }
 
+/// A body of each form, and of each expression.
+const FORMS: [Row<'static>; 18] = [
+    (&[("let x = -9223372036854775808;", 1)], None),
+    (&[("x = x - -1;", 1)], None),
+    (&[("print text(1 + 2 + 3);", 1)], None),
+    (&[("print (1 + 2) * 3;", 1)], None),
+    (&[("assert true == (1 < 2);", 1)], None),
+    (&[("assert len(\"a\" ++ \"b\") != 3;", 1)], None),
+    (&[("assert_equal 1, 2;", 1)], None),
+    (&[("assume has_prop(\"a\"), \"no property\";", 1)], None),
+    (&[("fail \"\";", 1)], None),
+    (
+        &[("if has_file(\"a\") { } else { print file(\"a\"); }", 1)],
+        None,
+    ),
+    (&[("if true { if false { } }", 1)], None),
+    (&[("repeat 3 { let y = 1; }", 1)], None),
+    (&[("set_prop \"a\", prop(\"b\");", 1)], None),
+    (&[("clear_prop \"a\";", 1)], None),
+    (&[("set_locale locale();", 1)], None),
+    (&[("write_file \"a\", \"b\";", 1)], None),
+    (&[("append_file \"a\", \"b\";", 1)], None),
+    (&[("delete_file \"a\";", 1)], None),
+];
+
 #[test]
 fn every_form_is_read(rt: HostRuntime) -> Result<(), Fail> {
-    for statement in [
-        "let x = -9223372036854775808;",
-        "x = x - -1;",
-        "print text(1 + 2 + 3);",
-        "print (1 + 2) * 3;",
-        "assert true == (1 < 2);",
-        "assert len(\"a\" ++ \"b\") != 3;",
-        "assert_equal 1, 2;",
-        "assume has_prop(\"a\"), \"no property\";",
-        "fail \"\";",
-        "if has_file(\"a\") { } else { print file(\"a\"); }",
-        "if true { if false { } }",
-        "repeat 3 { let y = 1; }",
-        "set_prop \"a\", prop(\"b\");",
-        "clear_prop \"a\";",
-        "set_locale locale();",
-        "write_file \"a\", \"b\";",
-        "append_file \"a\", \"b\";",
-        "delete_file \"a\";",
-    ] {
-        assert!(rt; is_read(rt.alloc(), &[(statement, 1)])?, "in {statement}");
-    }
+    assert_eq!(rt;
+        row_with_another_fault(rt.alloc(), BEFORE, &FORMS, AFTER)?,
+        None
+    );
     Ok(())
 }
+
+/// What no body is, each with its fault.
+const FAULTS: [Faulty<'static>; 22] = [
+    ("print 2 + 3 * 4;", Expected, 2, 32),
+    ("print 1 == 2 == 3;", Expected, 2, 33),
+    ("print 1 + 2 == 3;", Expected, 2, 32),
+    ("print 1 < 2 + 3;", Expected, 2, 32),
+    ("print 1 - 9223372036854775808;", NumberTooBig, 2, 30),
+    ("print (1;", Expected, 2, 28),
+    ("print ();", Expected, 2, 27),
+    ("print locale;", Expected, 2, 32),
+    ("print locale(1);", Expected, 2, 33),
+    ("print text 1;", Expected, 2, 31),
+    ("print test;", Expected, 2, 26),
+    ("let 1 = 2;", Expected, 2, 24),
+    ("let x 2;", Expected, 2, 26),
+    ("x == 1;", Expected, 2, 22),
+    ("if true print 1;", Expected, 2, 28),
+    ("else { }", Expected, 2, 20),
+    ("repeat 2 { } else { }", Expected, 2, 33),
+    ("fail 1;", Expected, 2, 25),
+    ("assume true, 1;", Expected, 2, 33),
+    ("assume true, \"\";", BadDisplay, 2, 33),
+    ("assume true, \" a\";", BadDisplay, 2, 33),
+    ("assume true, \"a \";", BadDisplay, 2, 33),
+];
 
 #[test]
 fn faults_of_bodies_have_their_places(rt: HostRuntime) -> Result<(), Fail> {
-    use ScriptFaultKind::{BadDisplay, Expected, NumberTooBig};
+    assert_eq!(rt;
+        with_another_fault(rt.alloc(), BEFORE, &FAULTS, AFTER)?,
+        None
+    );
+    Ok(())
+}
 
-    for (statement, kind, column) in [
-        ("print 2 + 3 * 4;", Expected, 32),
-        ("print 1 == 2 == 3;", Expected, 33),
-        ("print 1 + 2 == 3;", Expected, 32),
-        ("print 1 < 2 + 3;", Expected, 32),
-        ("print 1 - 9223372036854775808;", NumberTooBig, 30),
-        ("print (1;", Expected, 28),
-        ("print ();", Expected, 27),
-        ("print locale;", Expected, 32),
-        ("print locale(1);", Expected, 33),
-        ("print text 1;", Expected, 31),
-        ("print test;", Expected, 26),
-        ("let 1 = 2;", Expected, 24),
-        ("let x 2;", Expected, 26),
-        ("x == 1;", Expected, 22),
-        ("if true print 1;", Expected, 28),
-        ("else { }", Expected, 20),
-        ("repeat 2 { } else { }", Expected, 33),
-        ("fail 1;", Expected, 25),
-        ("assume true, 1;", Expected, 33),
-        ("assume true, \"\";", BadDisplay, 33),
-        ("assume true, \" a\";", BadDisplay, 33),
-        ("assume true, \"a \";", BadDisplay, 33),
-    ] {
-        assert_eq!(rt;
-            fault_in(rt.alloc(), &[(statement, 1)])?,
-            Some((kind, column)),
-            "in {statement}"
-        );
+/// The most parentheses, operands and bodies, the longest reason, and one more of each.
+const LIMITS: [Row<'static>; 13] = [
+    (
+        &[("print ", 1), ("(", 32), ("1", 1), (")", 32), (";", 1)],
+        None,
+    ),
+    (&[("print ", 1), ("(", 33)], Some((TooDeep, 2, 58))),
+    (
+        &[("print ", 1), ("text(", 32), ("1", 1), (")", 32), (";", 1)],
+        None,
+    ),
+    (&[("print ", 1), ("text(", 33)], Some((TooDeep, 2, 190))),
+    (
+        &[
+            ("print ", 1),
+            ("(", 31),
+            ("locale()", 1),
+            (")", 31),
+            (";", 1),
+        ],
+        None,
+    ),
+    (
+        &[("print ", 1), ("(", 32), ("locale()", 1)],
+        Some((TooDeep, 2, 64)),
+    ),
+    (&[("print 1", 1), (" + 1", 31), (";", 1)], None),
+    (
+        &[("print 1", 1), (" + 1", 32), (";", 1)],
+        Some((TooDeep, 2, 152)),
+    ),
+    (
+        &[("print 1", 1), (" + 1", 31), (" - 1;", 1)],
+        Some((Expected, 2, 152)),
+    ),
+    (&[("if true { ", 31), ("}", 31)], None),
+    (&[("if true { ", 32), ("}", 32)], Some((TooDeep, 2, 338))),
+    (&[("assume true, \"", 1), ("a", 200), ("\";", 1)], None),
+    (
+        &[("assume true, \"", 1), ("a", 201), ("\";", 1)],
+        Some((BadDisplay, 2, 33)),
+    ),
+];
+
+#[test]
+fn bodies_have_limits(rt: HostRuntime) -> Result<(), Fail> {
+    assert_eq!(rt;
+        row_with_another_fault(rt.alloc(), BEFORE, &LIMITS, AFTER)?,
+        None
+    );
+    Ok(())
+}
+
+/// The first statement of the first test of the first class.
+fn first_of(script: &Script) -> Option<&Stmt> {
+    body_of(script)?.get(0)
+}
+
+/// The rows of an `if` and of the first statements of its two bodies.
+fn rows_of_if(statement: &Stmt) -> Option<(u32, u32, u32)> {
+    match &statement.form {
+        Form::If(_, yes, no) => Some((statement.row, yes.get(0)?.row, no.get(0)?.row)),
+        _ => None,
     }
-    Ok(())
-}
-
-#[test]
-fn parentheses_have_a_limit(rt: HostRuntime) -> Result<(), Fail> {
-    use ScriptFaultKind::TooDeep;
-
-    let alloc = rt.alloc();
-    assert!(rt;
-        is_read(
-            alloc,
-            &[("print ", 1), ("(", 32), ("1", 1), (")", 32), (";", 1)]
-        )?
-    );
-    assert_eq!(rt;
-        fault_in(alloc, &[("print ", 1), ("(", 33)])?,
-        Some((TooDeep, 58))
-    );
-    assert!(rt;
-        is_read(
-            alloc,
-            &[("print ", 1), ("text(", 32), ("1", 1), (")", 32), (";", 1)]
-        )?
-    );
-    assert_eq!(rt;
-        fault_in(alloc, &[("print ", 1), ("text(", 33)])?,
-        Some((TooDeep, 190))
-    );
-    assert!(rt;
-        is_read(
-            alloc,
-            &[
-                ("print ", 1),
-                ("(", 31),
-                ("locale()", 1),
-                (")", 31),
-                (";", 1)
-            ]
-        )?
-    );
-    assert_eq!(rt;
-        fault_in(alloc, &[("print ", 1), ("(", 32), ("locale()", 1)])?,
-        Some((TooDeep, 64))
-    );
-    Ok(())
-}
-
-#[test]
-fn operands_have_a_limit(rt: HostRuntime) -> Result<(), Fail> {
-    let alloc = rt.alloc();
-    assert!(rt; is_read(alloc, &[("print 1", 1), (" + 1", 31), (";", 1)])?);
-    assert_eq!(rt;
-        fault_in(alloc, &[("print 1", 1), (" + 1", 32), (";", 1)])?,
-        Some((ScriptFaultKind::TooDeep, 152))
-    );
-    assert_eq!(rt;
-        fault_in(alloc, &[("print 1", 1), (" + 1", 31), (" - 1;", 1)])?,
-        Some((ScriptFaultKind::Expected, 152))
-    );
-    Ok(())
-}
-
-#[test]
-fn bodies_have_a_limit(rt: HostRuntime) -> Result<(), Fail> {
-    let alloc = rt.alloc();
-    assert!(rt; is_read(alloc, &[("if true { ", 31), ("}", 31)])?);
-    assert_eq!(rt;
-        fault_in(alloc, &[("if true { ", 32), ("}", 32)])?,
-        Some((ScriptFaultKind::TooDeep, 338))
-    );
-    Ok(())
-}
-
-#[test]
-fn reasons_have_a_limit(rt: HostRuntime) -> Result<(), Fail> {
-    let alloc = rt.alloc();
-    assert!(rt; is_read(alloc, &[("assume true, \"", 1), ("a", 200), ("\";", 1)])?);
-    assert_eq!(rt;
-        fault_in(alloc, &[("assume true, \"", 1), ("a", 201), ("\";", 1)])?,
-        Some((ScriptFaultKind::BadDisplay, 33))
-    );
-    Ok(())
 }
 
 /// Rows count from the line of the test's own brace, in the bodies of an `if` too.
@@ -206,35 +170,39 @@ class C {
 }
 ";
     let script = read_script(rt.alloc(), text.as_bytes())?;
-    let body = body_of(&script).ok_or("no body")?;
-    let first = body.get(0).ok_or("no statement")?;
-    assert_eq!(rt; first.row, 2);
-    let Form::If(_, yes, no) = &first.form else {
-        return Err(Fail::from("no if"));
-    };
-    assert_eq!(rt; yes.get(0).map(|s| s.row), Some(4));
-    assert_eq!(rt; no.get(0).map(|s| s.row), Some(6));
+    let first = first_of(&script).ok_or("no statement")?;
+    assert_eq!(rt; rows_of_if(first), Some((2, 4, 6)));
     Ok(())
+}
+
+/// Whether a form prints a first operand less two others.
+fn is_subtraction_of_three(form: &Form) -> bool {
+    match form {
+        Form::Print(Expr::Chain(Operator::Subtract, _, rest)) => rest.len() == 2,
+        _ => false,
+    }
 }
 
 /// The operands of a chain stand in one row of the tree, which groups them to the left.
 #[test]
 fn operands_stay_in_order(rt: HostRuntime) -> Result<(), Fail> {
-    let script = script_of(rt.alloc(), &[("print 1 - 2 - 3;", 1)])?;
+    let script = made(
+        rt.alloc(),
+        &[(BEFORE, 1), ("print 1 - 2 - 3;", 1), (AFTER, 1)],
+    )?;
     let script = read_script(rt.alloc(), &script)?;
-    let body = body_of(&script).ok_or("no body")?;
-    let first = body.get(0).ok_or("no statement")?;
-    let Form::Print(Expr::Chain(Operator::Subtract, _, rest)) = &first.form else {
-        return Err(Fail::from("no chain"));
-    };
-    assert_eq!(rt; rest.len(), 2);
+    let first = first_of(&script).ok_or("no statement")?;
+    assert!(rt; is_subtraction_of_three(&first.form));
     Ok(())
 }
 
 /// A body of 1 MiB, the largest there is.
 #[test]
 fn the_largest_body_is_read(rt: HostRuntime) -> Result<(), Fail> {
-    let script = script_of(rt.alloc(), &[("print 1;", 131_067)])?;
+    let script = made(
+        rt.alloc(),
+        &[(BEFORE, 1), ("print 1;", 131_067), (AFTER, 1)],
+    )?;
     assert!(rt; script.len() <= 1_048_576 && script.len() + 16 > 1_048_576);
     let script = read_script(rt.alloc(), &script)?;
     let body = body_of(&script).ok_or("no body")?;

@@ -1,9 +1,13 @@
 //! Classes: what is read, the place of each fault, and every limit.
-use crate::made::{Placed, fault_of, made};
+use crate::made::{Faulty, Row, add, fault_of, made, row_with_another_fault, with_another_fault};
 use iso_model::access::Access;
 use iso_model::data::Data;
-use iso_model::script::{Class, Member, Mode};
-use iso_script::fault::{ScriptError, ScriptFaultKind};
+use iso_model::heads::{ClassHead, Mark, Variable};
+use iso_model::script::{Class, Member, Mode, Test};
+use iso_script::fault::ScriptFaultKind::{
+    BadDisplay, DoubleBlock, DoubleMember, EmptyClass, EndOfInput, Expected, GlobalKey, NameTaken,
+    NumberTooBig, OpenText, TooDeep, TooLong,
+};
 use iso_script::reader::read_script;
 use std::alloc::{AllocError, Global};
 use std::test::Fail;
@@ -14,6 +18,7 @@ read \"a\" isolated write \"b\" same_thread read \"a\"
 class Cart \"The cart\" {
   field count = -3;
   static price = 7;
+  field size = 4;
   static name = \"pen\";
   after_each { }
   before_all { print 1; print 2; }
@@ -25,53 +30,83 @@ class Cart \"The cart\" {
 }
 ";
 
-/// The member of a class that is a class of this name.
-fn nested<'a>(class: &'a Class, index: usize, name: &str) -> Option<&'a Class> {
-    match class.members.get(index)? {
-        Member::Class(class) if class.name.as_str() == name => Some(class),
-        _ => None,
+/// Whether these are the marks, in this order.
+fn is_marked(marks: &[Mark], expected: &[(Access, &str)]) -> bool {
+    for (index, (access, key)) in expected.iter().enumerate() {
+        let Some(mark) = marks.get(index) else {
+            return false;
+        };
+        if mark.access != *access || mark.key.as_str() != *key {
+            return false;
+        }
     }
+    marks.len() == expected.len()
+}
+
+/// Whether this variable has this name and starts with this number.
+fn is_number(variable: Option<&Variable>, name: &str, number: i64) -> bool {
+    match variable {
+        Some(
+            Variable {
+                name: found,
+                value: Data::Whole(whole),
+            },
+        ) => found.as_str() == name && *whole == number,
+        _ => false,
+    }
+}
+
+/// Whether a head is that of `Cart`.
+fn is_head_of_cart(head: &ClassHead) -> bool {
+    is_marked(
+        &head.marks,
+        &[
+            (Access::Read, "a"),
+            (Access::Write, "b"),
+            (Access::Read, "a"),
+        ],
+    ) && (head.statics.len(), head.fields.len()) == (2, 2)
+        && is_number(head.statics.get(0), "price", 7)
+        && is_number(head.fields.get(0), "count", -3)
+        && is_number(head.fields.get(1), "size", 4)
+        && (head.before_all.len(), head.after_each.len()) == (2, 0)
+}
+
+/// Whether a class is `Cart`, its members aside.
+fn is_cart(class: &Class) -> bool {
+    class.name.as_str() == "Cart"
+        && matches!(&class.display, Some(text) if text.as_str() == "The cart")
+        && class.isolated
+        && class.mode == Some(Mode::SameThread)
+        && is_head_of_cart(&class.head)
+}
+
+/// The one member of `Full`, where this is that class.
+fn member_of_full(class: &Class) -> Option<&Member> {
+    let is_full = class.name.as_str() == "Full"
+        && class.display.is_none()
+        && class.mode.is_none()
+        && !class.isolated
+        && class.members.len() == 1;
+    if is_full { class.members.get(0) } else { None }
+}
+
+/// Whether a test is that of `Full`.
+fn is_total(test: &Test) -> bool {
+    test.name.as_str() == "total"
+        && test.mode == Some(Mode::Concurrent)
+        && (test.head.marks.len(), test.head.body.len()) == (1, 1)
 }
 
 #[test]
 fn whole_class_is_read(rt: HostRuntime) -> Result<(), Fail> {
     let script = read_script(rt.alloc(), CART.as_bytes())?;
     let cart = script.classes.get(0).ok_or("no class")?;
-    assert_eq!(rt; cart.name.as_str(), "Cart");
-    assert_eq!(rt;
-        cart.display.as_ref().map(|text| text.as_str()),
-        Some("The cart")
-    );
-    assert!(rt; cart.isolated && cart.mode == Some(Mode::SameThread));
-
-    let head = &cart.head;
-    for (index, (access, key)) in [
-        (Access::Read, "a"),
-        (Access::Write, "b"),
-        (Access::Read, "a"),
-    ]
-    .iter()
-    .enumerate()
-    {
-        let mark = head.marks.get(index).ok_or("no mark")?;
-        assert!(rt; mark.access == *access && mark.key.as_str() == *key);
-    }
-    assert_eq!(rt; head.marks.len(), 3);
-    assert_eq!(rt; (head.statics.len(), head.fields.len()), (2, 1));
-    let price = head.statics.get(0).ok_or("no static")?;
-    assert!(rt; price.name.as_str() == "price" && matches!(price.value, Data::Whole(7)));
-    let count = head.fields.get(0).ok_or("no field")?;
-    assert!(rt; count.name.as_str() == "count" && matches!(count.value, Data::Whole(-3)));
-    assert_eq!(rt; (head.before_all.len(), head.after_each.len()), (2, 0));
-
-    assert_eq!(rt; cart.members.len(), 2);
-    let full = nested(cart, 0, "Full").ok_or("no class in it")?;
-    assert!(rt; full.display.is_none() && full.mode.is_none() && !full.isolated);
-    let Some(Member::Test(total)) = full.members.get(0) else {
-        return Err(Fail::from("no test in it"));
+    assert!(rt; is_cart(cart) && cart.members.len() == 2);
+    let Some(Member::Class(full)) = cart.members.get(0) else {
+        return Err(Fail::from("no class in it"));
     };
-    assert!(rt; total.name.as_str() == "total" && total.mode == Some(Mode::Concurrent));
-    assert_eq!(rt; (total.head.marks.len(), total.head.body.len()), (1, 1));
+    assert!(rt; matches!(member_of_full(full), Some(Member::Test(total)) if is_total(total)));
     Ok(())
 }
 
@@ -85,116 +120,139 @@ class B { after_each { } read \"k\" test c { print x - 2 - 3; } } }";
 fn prefixes_and_changed_bytes_have_an_answer(rt: HostRuntime) -> Result<(), Fail> {
     let alloc = rt.alloc();
     let mut bytes = Vec::from_slice(alloc, SHORT.as_bytes())?;
-    assert!(rt; read_script(alloc, &bytes).is_ok());
+    assert_eq!(rt; fault_of(alloc, &bytes)?, None);
     for place in 0..bytes.len() {
-        let prefix = read_script(alloc, &bytes[..place]);
-        assert!(rt;
-            !matches!(prefix, Err(ScriptError::OutOfMemory)),
-            "up to {place}"
-        );
+        fault_of(alloc, &bytes[..place])?;
         let byte = bytes[place];
         for other in 0..=255u8 {
             bytes[place] = other;
-            let answer = read_script(alloc, &bytes);
-            assert!(rt;
-                !matches!(answer, Err(ScriptError::OutOfMemory)),
-                "at {place}"
-            );
+            fault_of(alloc, &bytes)?;
         }
         bytes[place] = byte;
     }
     Ok(())
 }
 
+/// What stands before a class.
+const TEAM: &str = "team shop\n";
+
+/// What can't begin a script, after a team, with its fault.
+const FAULTS: [Faulty<'static>; 45] = [
+    // the grammar
+    ("test t { }", Expected, 2, 1),
+    ("isolated test t { }", Expected, 2, 10),
+    ("class team { }", Expected, 2, 7),
+    ("disabled class C { }", Expected, 2, 1),
+    ("class C { children; }", Expected, 2, 11),
+    ("class C { isolated test t { } }", Expected, 2, 20),
+    (
+        "class C { concurrent isolated read \"k\" test t",
+        Expected,
+        2,
+        40,
+    ),
+    ("class C { read \"k\" }", Expected, 2, 20),
+    ("class C { test t { } before_all { } }", Expected, 2, 22),
+    (
+        "class C { before_all { } test t { } before_all",
+        Expected,
+        2,
+        37,
+    ),
+    ("class C { before_all { } static x = 1;", Expected, 2, 26),
+    (
+        "class C { class D { test t { } } field x = 1;",
+        Expected,
+        2,
+        34,
+    ),
+    ("class C { test t { print 2 + 3 * 4;", Expected, 2, 32),
+    ("class C 1", Expected, 2, 9),
+    ("write \"k\"", EndOfInput, 2, 10),
+    // numbers, keys and display texts
+    (
+        "class C { static n = 9223372036854775808;",
+        NumberTooBig,
+        2,
+        22,
+    ),
+    (
+        "class C { static n = -9223372036854775809;",
+        NumberTooBig,
+        2,
+        23,
+    ),
+    ("read \"\" class C", Expected, 2, 6),
+    ("class C { write \"iso:global\" test", GlobalKey, 2, 17),
+    ("class C \"\" {", BadDisplay, 2, 9),
+    ("class C { test t \"a \" {", BadDisplay, 2, 18),
+    // what is written twice
+    ("isolated isolated class C", DoubleMember, 2, 10),
+    ("concurrent same_thread class C", DoubleMember, 2, 12),
+    (
+        "same_thread read \"a\" same_thread class C",
+        DoubleMember,
+        2,
+        22,
+    ),
+    (
+        "class C { same_thread concurrent test t",
+        DoubleMember,
+        2,
+        23,
+    ),
+    (
+        "class C { before_all { } before_all { }",
+        DoubleBlock,
+        2,
+        26,
+    ),
+    (
+        "class C { after_each { } before_all { } after_each",
+        DoubleBlock,
+        2,
+        41,
+    ),
+    (
+        "class C { test D { } class D { test t { } }",
+        DoubleMember,
+        2,
+        28,
+    ),
+    (
+        "class C { class D { test t { } } test D",
+        DoubleMember,
+        2,
+        39,
+    ),
+    ("class C { static x = 1; static x = 2;", NameTaken, 2, 32),
+    ("class C { static x = 1; field x = 2;", NameTaken, 2, 31),
+    (
+        "class C { field x = 1; class D { static x = 2;",
+        NameTaken,
+        2,
+        41,
+    ),
+    ("class C { }", EmptyClass, 2, 11),
+    ("class C { static x = 1; }", EmptyClass, 2, 25),
+    ("class C { class D { } }", EmptyClass, 2, 21),
+    // over lines
+    ("isolated\nisolated class C", DoubleMember, 3, 1),
+    ("class C { static x = 1;\nstatic x = 2;", NameTaken, 3, 8),
+    // what ends too early, or has another word
+    ("read x", Expected, 2, 6),
+    ("write", EndOfInput, 2, 6),
+    ("write \"a", OpenText, 2, 7),
+    ("class C \" a\" {", BadDisplay, 2, 9),
+    ("class C { field x 1;", Expected, 2, 19),
+    ("class C { before_all;", Expected, 2, 21),
+    ("same_thread concurrent", DoubleMember, 2, 13),
+    ("concurrent read \"a\" concurrent", DoubleMember, 2, 21),
+];
+
 #[test]
 fn faults_of_classes_have_their_places(rt: HostRuntime) -> Result<(), Fail> {
-    use ScriptFaultKind::{
-        BadDisplay, DoubleBlock, DoubleMember, EmptyClass, EndOfInput, Expected, GlobalKey,
-        NameTaken, NumberTooBig,
-    };
-    for (text, kind, column) in [
-        // the grammar
-        ("test t { }", Expected, 1),
-        ("isolated test t { }", Expected, 10),
-        ("class team { }", Expected, 7),
-        ("disabled class C { }", Expected, 1),
-        ("class C { children; }", Expected, 11),
-        ("class C { isolated test t { } }", Expected, 20),
-        (
-            "class C { concurrent isolated read \"k\" test t",
-            Expected,
-            40,
-        ),
-        ("class C { read \"k\" }", Expected, 20),
-        ("class C { test t { } before_all { } }", Expected, 22),
-        (
-            "class C { before_all { } test t { } before_all",
-            Expected,
-            37,
-        ),
-        ("class C { before_all { } static x = 1;", Expected, 26),
-        (
-            "class C { class D { test t { } } field x = 1;",
-            Expected,
-            34,
-        ),
-        ("class C { test t { print 2 + 3 * 4;", Expected, 32),
-        ("class C 1", Expected, 9),
-        ("write \"k\"", EndOfInput, 10),
-        // numbers, keys and display texts
-        (
-            "class C { static n = 9223372036854775808;",
-            NumberTooBig,
-            22,
-        ),
-        (
-            "class C { static n = -9223372036854775809;",
-            NumberTooBig,
-            23,
-        ),
-        ("read \"\" class C", Expected, 6),
-        ("class C { write \"iso:global\" test", GlobalKey, 17),
-        ("class C \"\" {", BadDisplay, 9),
-        ("class C { test t \"a \" {", BadDisplay, 18),
-        // what is written twice
-        ("isolated isolated class C", DoubleMember, 10),
-        ("concurrent same_thread class C", DoubleMember, 12),
-        (
-            "same_thread read \"a\" same_thread class C",
-            DoubleMember,
-            22,
-        ),
-        ("class C { same_thread concurrent test t", DoubleMember, 23),
-        ("class C { before_all { } before_all { }", DoubleBlock, 26),
-        (
-            "class C { after_each { } before_all { } after_each",
-            DoubleBlock,
-            41,
-        ),
-        (
-            "class C { test D { } class D { test t { } }",
-            DoubleMember,
-            28,
-        ),
-        ("class C { class D { test t { } } test D", DoubleMember, 39),
-        ("class C { static x = 1; static x = 2;", NameTaken, 32),
-        ("class C { static x = 1; field x = 2;", NameTaken, 31),
-        (
-            "class C { field x = 1; class D { static x = 2;",
-            NameTaken,
-            41,
-        ),
-        ("class C { }", EmptyClass, 11),
-        ("class C { static x = 1; }", EmptyClass, 25),
-        ("class C { class D { } }", EmptyClass, 21),
-    ] {
-        let script = made(rt.alloc(), &[("team shop\n", 1), (text, 1)])?;
-        assert_eq!(rt;
-            fault_of(rt.alloc(), &script),
-            Some((kind, 2, column)),
-            "in {text}"
-        );
-    }
+    assert_eq!(rt; with_another_fault(rt.alloc(), TEAM, &FAULTS, "")?, None);
     Ok(())
 }
 
@@ -211,110 +269,123 @@ class F { static x = 4; test x { } }
 }
 
 /// The largest that is read, and the smallest that is refused.
+const LIMITS: [Row<'static>; 14] = [
+    (&[("class C { ", 8), ("test t { } ", 1), ("} ", 8)], None),
+    (&[("class C { ", 9)], Some((TooDeep, 2, 81))),
+    (
+        &[("class C { ", 8), ("isolated class", 1)],
+        Some((TooDeep, 2, 90)),
+    ),
+    (
+        &[
+            ("class C { before_all { ", 1),
+            ("if true { ", 31),
+            ("} ", 32),
+            ("test t { } }", 1),
+        ],
+        None,
+    ),
+    (
+        &[("class C { before_all { ", 1), ("if true { ", 32)],
+        Some((TooDeep, 2, 342)),
+    ),
+    (&[("class ", 1), ("n", 64), (" { test t { } }", 1)], None),
+    (&[("class ", 1), ("n", 65)], Some((TooLong, 2, 71))),
+    (
+        &[("read \"", 1), ("k", 255), ("\" class C { test t { } }", 1)],
+        None,
+    ),
+    (
+        &[("read \"", 1), ("k", 256), ("\"", 1)],
+        Some((TooLong, 2, 6)),
+    ),
+    (
+        &[("read \"", 1), ("k", 4097), ("\"", 1)],
+        Some((TooLong, 2, 4103)),
+    ),
+    (
+        &[("class C \"", 1), ("d", 200), ("\" { test t { } }", 1)],
+        None,
+    ),
+    (
+        &[("class C \"", 1), ("d", 201), ("\"", 1)],
+        Some((BadDisplay, 2, 9)),
+    ),
+    (
+        &[("class C { test t \"", 1), ("d", 201), ("\"", 1)],
+        Some((BadDisplay, 2, 18)),
+    ),
+    (
+        &[("read \"k\" ", 116_500), ("class C { test t { } }", 1)],
+        None,
+    ),
+];
+
 #[test]
 fn limits_of_classes(rt: HostRuntime) -> Result<(), Fail> {
-    use ScriptFaultKind::{BadDisplay, TooDeep, TooLong};
-    let rows: [(&[(&str, usize)], Option<Placed>); 13] = [
-        (&[("class C { ", 8), ("test t { } ", 1), ("} ", 8)], None),
-        (&[("class C { ", 9)], Some((TooDeep, 2, 81))),
-        (
-            &[("class C { ", 8), ("isolated class", 1)],
-            Some((TooDeep, 2, 90)),
-        ),
-        (
-            &[
-                ("class C { before_all { ", 1),
-                ("if true { ", 31),
-                ("} ", 32),
-                ("test t { } }", 1),
-            ],
-            None,
-        ),
-        (
-            &[("class C { before_all { ", 1), ("if true { ", 32)],
-            Some((TooDeep, 2, 342)),
-        ),
-        (&[("class ", 1), ("n", 64), (" { test t { } }", 1)], None),
-        (&[("class ", 1), ("n", 65)], Some((TooLong, 2, 71))),
-        (
-            &[("read \"", 1), ("k", 255), ("\" class C { test t { } }", 1)],
-            None,
-        ),
-        (
-            &[("read \"", 1), ("k", 256), ("\"", 1)],
-            Some((TooLong, 2, 6)),
-        ),
-        (
-            &[("read \"", 1), ("k", 4097), ("\"", 1)],
-            Some((TooLong, 2, 4103)),
-        ),
-        (
-            &[("class C \"", 1), ("d", 200), ("\" { test t { } }", 1)],
-            None,
-        ),
-        (
-            &[("class C \"", 1), ("d", 201), ("\"", 1)],
-            Some((BadDisplay, 2, 9)),
-        ),
-        (
-            &[("class C { test t \"", 1), ("d", 201), ("\"", 1)],
-            Some((BadDisplay, 2, 18)),
-        ),
-    ];
-    for (index, (pieces, fault)) in rows.iter().enumerate() {
-        let mut script = made(rt.alloc(), &[("team shop\n", 1)])?;
-        script.extend_from_slice(&made(rt.alloc(), pieces)?)?;
-        assert_eq!(rt; fault_of(rt.alloc(), &script), *fault, "row {index}");
-        assert!(rt;
-            read_script(rt.alloc(), &script).is_ok() == fault.is_none(),
-            "row {index}"
-        );
+    assert_eq!(rt;
+        row_with_another_fault(rt.alloc(), TEAM, &LIMITS, "")?,
+        None
+    );
+    Ok(())
+}
+
+/// Adds numbers from 0 on, each between two pieces.
+fn add_numbered(
+    alloc: Global,
+    script: &mut Vec<u8>,
+    before: &str,
+    count: u32,
+    after: &str,
+) -> Result<(), AllocError> {
+    for number in 0..count {
+        script.extend_from_slice(format!(in alloc; "{before}{number}{after}")?.as_bytes())?;
     }
     Ok(())
 }
 
-/// A text with numbers from 0 on between two pieces.
-fn numbered(alloc: Global, before: &str, count: u32, after: &str) -> Result<String, AllocError> {
-    let mut text = String::new(alloc);
-    for number in 0..count {
-        text.push_str(format!(in alloc; "{before}{number}{after}")?.as_str())?;
-    }
-    Ok(text)
+/// As many members as a plan can have, and as many statics, fields and marks as a script has room for.
+fn full_script(alloc: Global) -> Result<Vec<u8>, AllocError> {
+    let mut script = made(
+        alloc,
+        &[
+            ("team shop ", 1),
+            ("read \"k\" ", 38_000),
+            ("class C { ", 1),
+        ],
+    )?;
+    add_numbered(alloc, &mut script, "static s", 17_000, " = 1; ")?;
+    add_numbered(alloc, &mut script, "field f", 17_000, " = 1; ")?;
+    add_numbered(alloc, &mut script, "test t", 4094, " { } ")?;
+    add(&mut script, &[("}", 1)])?;
+    Ok(script)
 }
 
-/// As many members as a plan can have, and as many statics, fields, keys and classes as a script has room for.
+/// How many marks, statics, fields and members a class has.
+fn sizes(class: &Class) -> (usize, usize, usize, usize) {
+    let head = &class.head;
+    (
+        head.marks.len(),
+        head.statics.len(),
+        head.fields.len(),
+        class.members.len(),
+    )
+}
+
 #[test]
 fn full_classes_are_read(rt: HostRuntime) -> Result<(), Fail> {
-    let alloc = rt.alloc();
-    let tests = numbered(alloc, "test t", 4094, " { } ")?;
-    let marks = made(alloc, &[("read \"k\" ", 38_000)])?;
-    let statics = numbered(alloc, "static s", 17_000, " = 1; ")?;
-    let fields = numbered(alloc, "field f", 17_000, " = 1; ")?;
-    let mut script = made(alloc, &[("team shop ", 1)])?;
-    script.extend_from_slice(&marks)?;
-    script.extend_from_slice("class C { ".as_bytes())?;
-    script.extend_from_slice(statics.as_bytes())?;
-    script.extend_from_slice(fields.as_bytes())?;
-    script.extend_from_slice(tests.as_bytes())?;
-    script.extend_from_slice("}".as_bytes())?;
-    assert!(rt; script.len() <= 1_048_576 && script.len() > 1_000_000);
-
-    let script = read_script(alloc, &script)?;
+    let bytes = full_script(rt.alloc())?;
+    assert!(rt; bytes.len() <= 1_048_576 && bytes.len() > 1_000_000);
+    let script = read_script(rt.alloc(), &bytes)?;
     let class = script.classes.get(0).ok_or("no class")?;
-    assert_eq!(rt; class.head.marks.len(), 38_000);
-    assert_eq!(rt;
-        (class.head.statics.len(), class.head.fields.len()),
-        (17_000, 17_000)
-    );
-    assert_eq!(rt; class.members.len(), 4094);
+    assert_eq!(rt; sizes(class), (38_000, 17_000, 17_000, 4094));
     Ok(())
 }
 
 #[test]
 fn four_thousand_classes_are_read(rt: HostRuntime) -> Result<(), Fail> {
-    let alloc = rt.alloc();
-    let classes = numbered(alloc, " class C", 4000, " { test t { } }")?;
-    let script = format!(in alloc; "team shop{classes}")?;
-    assert_eq!(rt; read_script(alloc, script.as_bytes())?.classes.len(), 4000);
+    let mut script = made(rt.alloc(), &[("team shop", 1)])?;
+    add_numbered(rt.alloc(), &mut script, " class C", 4000, " { test t { } }")?;
+    assert_eq!(rt; read_script(rt.alloc(), &script)?.classes.len(), 4000);
     Ok(())
 }

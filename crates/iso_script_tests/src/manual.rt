@@ -1,6 +1,9 @@
 //! The examples of `docs/LANGUAGE.md`.
-use crate::made::{fault_of, made};
-use iso_script::fault::ScriptFaultKind;
+use crate::made::{Faulty, Row, fault_of, row_with_another_fault, with_another_fault};
+use iso_script::fault::ScriptFaultKind::{
+    BadByte, BadDisplay, BadToken, DoubleBlock, DoubleMember, EmptyClass, EndOfInput, Expected,
+    GlobalKey, NameTaken, NumberTooBig, OpenText, TooDeep, TooLong,
+};
 use iso_script::reader::read_script;
 use std::test::Fail;
 
@@ -30,60 +33,57 @@ fn first_example_is_read(rt: HostRuntime) -> Result<(), Fail> {
     Ok(())
 }
 
-/// The table of the faults of a script, in its order.
+/// The table of the faults of a script, in its order, but for those that no text of this file can have.
+const FAULTS: [Faulty<'static>; 11] = [
+    ("team s ?", BadToken, 1, 8),
+    (
+        "team s class C { test t { print 9223372036854775808; } }",
+        NumberTooBig,
+        1,
+        33,
+    ),
+    ("team s class C { test t { print \"a", OpenText, 1, 33),
+    ("team s test", Expected, 1, 8),
+    (
+        "team s class C { before_all { } before_all { } test t { } }",
+        DoubleBlock,
+        1,
+        33,
+    ),
+    (
+        "team s class C { test t { } test t { } }",
+        DoubleMember,
+        1,
+        34,
+    ),
+    (
+        "team s class C { static x = 1; field x = 2; test t { } }",
+        NameTaken,
+        1,
+        38,
+    ),
+    ("team s class C { }", EmptyClass, 1, 18),
+    ("team s class C \"\" { test t { } }", BadDisplay, 1, 16),
+    (
+        "team s read \"iso:global\" class C { test t { } }",
+        GlobalKey,
+        1,
+        13,
+    ),
+    ("team", EndOfInput, 1, 5),
+];
+
+/// Those that are long.
+const LONG: [Row<'static>; 2] = [
+    (&[("team s", 1), (" class C {", 9)], Some((TooDeep, 1, 88))),
+    (&[("\n", 1_048_577)], Some((TooLong, 1, 1))),
+];
+
 #[test]
 fn examples_have_their_faults(rt: HostRuntime) -> Result<(), Fail> {
-    use ScriptFaultKind::{
-        BadDisplay, BadToken, DoubleBlock, DoubleMember, EmptyClass, EndOfInput, Expected,
-        GlobalKey, NameTaken, NumberTooBig, OpenText,
-    };
     let alloc = rt.alloc();
-    let bad_byte = fault_of(alloc, b"team s\x80");
-    assert_eq!(rt; bad_byte, Some((ScriptFaultKind::BadByte, 1, 7)));
-    for (text, kind, column) in [
-        ("team s ?", BadToken, 8),
-        (
-            "team s class C { test t { print 9223372036854775808; } }",
-            NumberTooBig,
-            33,
-        ),
-        ("team s class C { test t { print \"a", OpenText, 33),
-        ("team s test", Expected, 8),
-        (
-            "team s class C { before_all { } before_all { } test t { } }",
-            DoubleBlock,
-            33,
-        ),
-        ("team s class C { test t { } test t { } }", DoubleMember, 34),
-        (
-            "team s class C { static x = 1; field x = 2; test t { } }",
-            NameTaken,
-            38,
-        ),
-        ("team s class C { }", EmptyClass, 18),
-        ("team s class C \"\" { test t { } }", BadDisplay, 16),
-        (
-            "team s read \"iso:global\" class C { test t { } }",
-            GlobalKey,
-            13,
-        ),
-        ("team", EndOfInput, 5),
-    ] {
-        assert_eq!(rt;
-            fault_of(alloc, text.as_bytes()),
-            Some((kind, 1, column)),
-            "in {text}"
-        );
-    }
-    let nine = made(alloc, &[("team s", 1), (" class C {", 9)])?;
-    assert_eq!(rt;
-        fault_of(alloc, &nine),
-        Some((ScriptFaultKind::TooDeep, 1, 88))
-    );
-    let long = made(alloc, &[("\n", 1_048_577)])?;
-    assert_eq!(rt;
-        fault_of(alloc, &long),
-        Some((ScriptFaultKind::TooLong, 1, 1))
-    );
+    assert_eq!(rt; fault_of(alloc, b"team s\x80")?, Some((BadByte, 1, 7)));
+    assert_eq!(rt; with_another_fault(alloc, "", &FAULTS, "")?, None);
+    assert_eq!(rt; row_with_another_fault(alloc, "", &LONG, "")?, None);
     Ok(())
 }

@@ -1,6 +1,7 @@
 //! Places, faults and tokens, as the description of the script language gives them.
 use iso_lexer::lexer::Lexer;
 use iso_lexer::symbol::Symbol;
+use iso_lexer::token::TokenFault::{BadByte, BadToken, NumberTooBig, OpenText, TooLong};
 use iso_lexer::token::{Place, Token, TokenFault};
 use iso_lexer::word::Word;
 use std::alloc::{AllocError, Global};
@@ -23,46 +24,50 @@ fn first_fault(bytes: &[u8]) -> Option<(TokenFault, u32, u32)> {
     None
 }
 
+/// Bytes with the first fault of their tokens.
+const FAULTS: [(&[u8], TokenFault, u32, u32); 32] = [
+    (
+        b"team T\nclass Aaaaaaaaaaaaaaaaaaaaaaaaaaaaaaaaaaaaaaaaaaaaaaaaaaaaaaaaaaaaaaaaa",
+        TooLong,
+        2,
+        71,
+    ),
+    (b"\x80", BadByte, 1, 1),
+    (b"team\x00", BadByte, 1, 5),
+    (b"a \x7f", BadByte, 1, 3),
+    (b"a\n// b\xffc", BadByte, 2, 5),
+    (b"// \x0b", BadByte, 1, 4),
+    (b"\"a\x01\"", BadByte, 1, 3),
+    (b"\"a\tb\"", BadByte, 1, 3),
+    (b"\"a\rb\"", BadByte, 1, 3),
+    (b"\"a\xc3\xa9\"", BadByte, 1, 3),
+    (b"a / b", BadToken, 1, 3),
+    (b"a ! b", BadToken, 1, 3),
+    (b"a @", BadToken, 1, 3),
+    (b"_a", BadToken, 1, 1),
+    (b"a > b", BadToken, 1, 3),
+    (b"x = 12ab;", BadToken, 1, 5),
+    (b"x = 12_;", BadToken, 1, 5),
+    (b"99999999999999999999x", BadToken, 1, 1),
+    (b"\"ab\\n\"", BadToken, 1, 4),
+    (b"\"a\\\t\"", BadToken, 1, 3),
+    (b"\"a\\\r\"", BadToken, 1, 3),
+    (b"\"a\\\x80\"", BadToken, 1, 3),
+    (b"\n 9223372036854775809", NumberTooBig, 2, 2),
+    (b"00018446744073709551616", NumberTooBig, 1, 1),
+    (b"184467440737095516150000", NumberTooBig, 1, 1),
+    (b" \"ab", OpenText, 1, 2),
+    (b" \"ab\n\"", OpenText, 1, 2),
+    (b" \"ab\\", OpenText, 1, 2),
+    (b" \"ab\\\n\"", OpenText, 1, 2),
+    (b"\"ab\\\"", OpenText, 1, 1),
+    (b"a \"", OpenText, 1, 3),
+    (b"a\r\n\t\"", OpenText, 2, 2),
+];
+
 #[test]
 fn faults_have_their_places(rt: HostRuntime) {
-    use TokenFault::{BadByte, BadToken, NumberTooBig, OpenText, TooLong};
-    let name_of_65 =
-        b"team T\nclass Aaaaaaaaaaaaaaaaaaaaaaaaaaaaaaaaaaaaaaaaaaaaaaaaaaaaaaaaaaaaaaaaa";
-    let rows: [(&[u8], TokenFault, u32, u32); 32] = [
-        (name_of_65, TooLong, 2, 71),
-        (b"\x80", BadByte, 1, 1),
-        (b"team\x00", BadByte, 1, 5),
-        (b"a \x7f", BadByte, 1, 3),
-        (b"a\n// b\xffc", BadByte, 2, 5),
-        (b"// \x0b", BadByte, 1, 4),
-        (b"\"a\x01\"", BadByte, 1, 3),
-        (b"\"a\tb\"", BadByte, 1, 3),
-        (b"\"a\rb\"", BadByte, 1, 3),
-        (b"\"a\xc3\xa9\"", BadByte, 1, 3),
-        (b"a / b", BadToken, 1, 3),
-        (b"a ! b", BadToken, 1, 3),
-        (b"a @", BadToken, 1, 3),
-        (b"_a", BadToken, 1, 1),
-        (b"a > b", BadToken, 1, 3),
-        (b"x = 12ab;", BadToken, 1, 5),
-        (b"x = 12_;", BadToken, 1, 5),
-        (b"99999999999999999999x", BadToken, 1, 1),
-        (b"\"ab\\n\"", BadToken, 1, 4),
-        (b"\"a\\\t\"", BadToken, 1, 3),
-        (b"\"a\\\r\"", BadToken, 1, 3),
-        (b"\"a\\\x80\"", BadToken, 1, 3),
-        (b"\n 9223372036854775809", NumberTooBig, 2, 2),
-        (b"00018446744073709551616", NumberTooBig, 1, 1),
-        (b"184467440737095516150000", NumberTooBig, 1, 1),
-        (b" \"ab", OpenText, 1, 2),
-        (b" \"ab\n\"", OpenText, 1, 2),
-        (b" \"ab\\", OpenText, 1, 2),
-        (b" \"ab\\\n\"", OpenText, 1, 2),
-        (b"\"ab\\\"", OpenText, 1, 1),
-        (b"a \"", OpenText, 1, 3),
-        (b"a\r\n\t\"", OpenText, 2, 2),
-    ];
-    for (index, (script, fault, line, column)) in rows.iter().enumerate() {
+    for (index, (script, fault, line, column)) in FAULTS.iter().enumerate() {
         assert_eq!(rt;
             first_fault(script),
             Some((*fault, *line, *column)),
@@ -124,50 +129,52 @@ fn tokens_of(alloc: Global, bytes: &[u8]) -> Result<String, AllocError> {
     Ok(all)
 }
 
+/// Bytes with their tokens in words.
+const TOKENS: [(&[u8], &str); 17] = [
+    (b"", "1:1 end"),
+    (b" \t\r", "1:4 end"),
+    (b"// a comment", "1:13 end"),
+    (b"a\n", "1:1 name a, 2:1 end"),
+    (b"a // b\n\n  ", "1:1 name a, 3:3 end"),
+    (b"// a\n// b\nteam T", "3:1 word team, 3:6 name T, 3:7 end"),
+    (
+        b"+++ ===",
+        "1:1 PlusPlus, 1:3 Plus, 1:5 EqualsEquals, 1:7 Equals, 1:8 end",
+    ),
+    (
+        b"!==<=",
+        "1:1 NotEquals, 1:3 Equals, 1:4 Less, 1:5 Equals, 1:6 end",
+    ),
+    (
+        b"{}();,",
+        "1:1 OpenBrace, 1:2 CloseBrace, 1:3 OpenParen, 1:4 CloseParen, 1:5 Semicolon, 1:6 Comma, 1:7 end",
+    ),
+    (b"-*", "1:1 Minus, 1:2 Star, 1:3 end"),
+    (
+        b"static n = 9223372036854775808",
+        "1:1 word static, 1:8 name n, 1:10 Equals, 1:12 number 9223372036854775808, 1:31 end",
+    ),
+    (b"007+0", "1:1 number 7, 1:4 Plus, 1:5 number 0, 1:6 end"),
+    (
+        b"if ifs If has_file has_files a_1",
+        "1:1 word if, 1:4 name ifs, 1:8 name If, 1:11 word has_file, 1:20 name has_files, 1:30 name a_1, 1:33 end",
+    ),
+    (
+        b"children disabled",
+        "1:1 word children, 1:10 word disabled, 1:18 end",
+    ),
+    (
+        b"\"\"\"a b\"x",
+        "1:1 text 0 , 1:3 text 3 a b, 1:8 name x, 1:9 end",
+    ),
+    (b"\"\\\"a\\\\\" // \"", "1:1 text 3 \"a\\, 1:13 end"),
+    (b"a @ b", "1:1 name a, 1:3 BadToken, 1:3 end"),
+];
+
 #[test]
 fn tokens_have_their_places(rt: HostRuntime) -> Result<(), Fail> {
-    let rows: [(&[u8], &str); 17] = [
-        (b"", "1:1 end"),
-        (b" \t\r", "1:4 end"),
-        (b"// a comment", "1:13 end"),
-        (b"a\n", "1:1 name a, 2:1 end"),
-        (b"a // b\n\n  ", "1:1 name a, 3:3 end"),
-        (b"// a\n// b\nteam T", "3:1 word team, 3:6 name T, 3:7 end"),
-        (
-            b"+++ ===",
-            "1:1 PlusPlus, 1:3 Plus, 1:5 EqualsEquals, 1:7 Equals, 1:8 end",
-        ),
-        (
-            b"!==<=",
-            "1:1 NotEquals, 1:3 Equals, 1:4 Less, 1:5 Equals, 1:6 end",
-        ),
-        (
-            b"{}();,",
-            "1:1 OpenBrace, 1:2 CloseBrace, 1:3 OpenParen, 1:4 CloseParen, 1:5 Semicolon, 1:6 Comma, 1:7 end",
-        ),
-        (b"-*", "1:1 Minus, 1:2 Star, 1:3 end"),
-        (
-            b"static n = 9223372036854775808",
-            "1:1 word static, 1:8 name n, 1:10 Equals, 1:12 number 9223372036854775808, 1:31 end",
-        ),
-        (b"007+0", "1:1 number 7, 1:4 Plus, 1:5 number 0, 1:6 end"),
-        (
-            b"if ifs If has_file has_files a_1",
-            "1:1 word if, 1:4 name ifs, 1:8 name If, 1:11 word has_file, 1:20 name has_files, 1:30 name a_1, 1:33 end",
-        ),
-        (
-            b"children disabled",
-            "1:1 word children, 1:10 word disabled, 1:18 end",
-        ),
-        (
-            b"\"\"\"a b\"x",
-            "1:1 text 0 , 1:3 text 3 a b, 1:8 name x, 1:9 end",
-        ),
-        (b"\"\\\"a\\\\\" // \"", "1:1 text 3 \"a\\, 1:13 end"),
-        (b"a @ b", "1:1 name a, 1:3 BadToken, 1:3 end"),
-    ];
-    for (script, expected) in rows {
-        assert_eq!(rt; tokens_of(rt.alloc(), script)?.as_str(), expected);
+    for (script, expected) in &TOKENS {
+        assert_eq!(rt; tokens_of(rt.alloc(), script)?.as_str(), *expected);
     }
     Ok(())
 }
@@ -185,7 +192,6 @@ fn long_text(alloc: Global, length: usize, after: &[u8]) -> Result<Vec<u8>, Allo
 
 #[test]
 fn long_texts_are_refused(rt: HostRuntime) -> Result<(), Fail> {
-    use TokenFault::{BadByte, BadToken, OpenText, TooLong};
     let rows: [(usize, &[u8], Option<(TokenFault, u32, u32)>); 8] = [
         (4096, b"\"", None),
         (4095, b"\\\"\"", None),

@@ -13,7 +13,7 @@ fn fault(alloc: Global, text: &str) -> Result<String, AllocError> {
     }
 }
 
-/// The same of lines under `junit.jupiter.execution.parallel`, without that prefix of the key.
+/// The fault of lines under `junit.jupiter.execution.parallel`, without that prefix of the key.
 fn parallel_fault(alloc: Global, lines: &str) -> Result<String, AllocError> {
     let text = format!(in alloc; "[junit.jupiter.execution.parallel]\n{lines}")?;
     let fault = fault(alloc, text.as_str())?;
@@ -22,88 +22,118 @@ fn parallel_fault(alloc: Global, lines: &str) -> Result<String, AllocError> {
         .replace(alloc, "junit.jupiter.execution.parallel.", "")
 }
 
+/// The first of these lines whose fault is another.
+fn with_another_fault<'a>(
+    alloc: Global,
+    rows: &[(&'a str, &str)],
+) -> Result<Option<&'a str>, AllocError> {
+    for (lines, want) in rows {
+        if parallel_fault(alloc, lines)?.as_str() != *want {
+            return Ok(Some(lines));
+        }
+    }
+    Ok(None)
+}
+
 /// The examples of `docs/SETTINGS.md`.
+const EXAMPLES: [(&str, &str); 3] = [
+    ("enabled = tru", "NotToml"),
+    (
+        "[junit.jupiter.execution.parallel]\nenabled = 1",
+        "WrongValue junit.jupiter.execution.parallel.enabled",
+    ),
+    (
+        "[junit.jupiter.testinstance.lifecycle]\ndefault = \"per_class\"",
+        "Unsupported junit.jupiter.testinstance.lifecycle.default",
+    ),
+];
+
 #[test]
 fn examples_have_their_fault(rt: HostRuntime) -> Result<(), Fail> {
-    for (text, want) in [
-        ("enabled = tru", "NotToml"),
-        (
-            "[junit.jupiter.execution.parallel]\nenabled = 1",
-            "WrongValue junit.jupiter.execution.parallel.enabled",
-        ),
-        (
-            "[junit.jupiter.testinstance.lifecycle]\ndefault = \"per_class\"",
-            "Unsupported junit.jupiter.testinstance.lifecycle.default",
-        ),
-    ] {
-        assert_eq!(rt; fault(rt.alloc(), text)?.as_str(), want);
+    for (text, want) in &EXAMPLES {
+        assert_eq!(rt; fault(rt.alloc(), text)?.as_str(), *want);
     }
     Ok(())
 }
+
+const REFUSED: [(&str, &str); 15] = [
+    ("enabled = \"yes\"", "WrongValue enabled"),
+    ("mode.default = \"parallel\"", "WrongValue mode.default"),
+    (
+        "mode.classes.default = true",
+        "WrongValue mode.classes.default",
+    ),
+    (
+        "config.strategy = \"custom\"",
+        "Unsupported config.strategy",
+    ),
+    ("config.strategy = \"other\"", "WrongValue config.strategy"),
+    (
+        "config.dynamic.factor = 65",
+        "OutOfRange config.dynamic.factor",
+    ),
+    (
+        "enabled = true\nconfig.strategy = \"fixed\"",
+        "MissingParallelism",
+    ),
+    (
+        "config.fixed.parallelism = \"0000000008\"",
+        "WrongValue config.fixed.parallelism",
+    ),
+    (
+        "config.fixed.parallelism = \"\"",
+        "WrongValue config.fixed.parallelism",
+    ),
+    (
+        "config.fixed.parallelism = \"+8\"",
+        "WrongValue config.fixed.parallelism",
+    ),
+    (
+        "config.fixed.parallelism = 8.0",
+        "WrongValue config.fixed.parallelism",
+    ),
+    (
+        "config.fixed.parallelism = [8]",
+        "WrongValue config.fixed.parallelism",
+    ),
+    (
+        "config.fixed.parallelism = 0",
+        "OutOfRange config.fixed.parallelism",
+    ),
+    (
+        "config.fixed.parallelism = \"65\"",
+        "OutOfRange config.fixed.parallelism",
+    ),
+    (
+        "config.fixed.parallelism = -1",
+        "OutOfRange config.fixed.parallelism",
+    ),
+];
 
 #[test]
 fn values_are_refused(rt: HostRuntime) -> Result<(), Fail> {
-    for (lines, want) in [
-        ("enabled = \"yes\"", "WrongValue enabled"),
-        ("mode.default = \"parallel\"", "WrongValue mode.default"),
-        (
-            "mode.classes.default = true",
-            "WrongValue mode.classes.default",
-        ),
-        (
-            "config.strategy = \"custom\"",
-            "Unsupported config.strategy",
-        ),
-        ("config.strategy = \"other\"", "WrongValue config.strategy"),
-        (
-            "config.dynamic.factor = 65",
-            "OutOfRange config.dynamic.factor",
-        ),
-        (
-            "enabled = true\nconfig.strategy = \"fixed\"",
-            "MissingParallelism",
-        ),
-    ] {
-        assert_eq!(rt; parallel_fault(rt.alloc(), lines)?.as_str(), want);
-    }
+    assert_eq!(rt; with_another_fault(rt.alloc(), &REFUSED)?, None);
     Ok(())
 }
 
-#[test]
-fn parallelism_is_refused(rt: HostRuntime) -> Result<(), Fail> {
-    for (number, want) in [
-        ("\"0000000008\"", "WrongValue config.fixed.parallelism"),
-        ("\"\"", "WrongValue config.fixed.parallelism"),
-        ("\"+8\"", "WrongValue config.fixed.parallelism"),
-        ("8.0", "WrongValue config.fixed.parallelism"),
-        ("[8]", "WrongValue config.fixed.parallelism"),
-        ("0", "OutOfRange config.fixed.parallelism"),
-        ("\"65\"", "OutOfRange config.fixed.parallelism"),
-        ("-1", "OutOfRange config.fixed.parallelism"),
-    ] {
-        let lines = format!(in rt.alloc(); "config.fixed.parallelism = {number}")?;
-        assert_eq!(rt; parallel_fault(rt.alloc(), lines.as_str())?.as_str(), want);
-    }
-    Ok(())
-}
+/// Lines with several faults.
+const SEVERAL: [(&str, &str); 3] = [
+    (
+        "config.fixed.parallelism = 65\nconfig.dynamic.factor = 0",
+        "OutOfRange config.dynamic.factor",
+    ),
+    (
+        "config.strategy = \"custom\"\nmode.default = 1\nenabled = 2",
+        "WrongValue enabled",
+    ),
+    (
+        "\"mode.default\" = \"concurrent\"\nmode.default = \"concurrent\"",
+        "WrongValue mode.default",
+    ),
+];
 
 #[test]
 fn first_fault_is_answered(rt: HostRuntime) -> Result<(), Fail> {
-    for (lines, want) in [
-        (
-            "config.fixed.parallelism = 65\nconfig.dynamic.factor = 0",
-            "OutOfRange config.dynamic.factor",
-        ),
-        (
-            "config.strategy = \"custom\"\nmode.default = 1\nenabled = 2",
-            "WrongValue enabled",
-        ),
-        (
-            "\"mode.default\" = \"concurrent\"\nmode.default = \"concurrent\"",
-            "WrongValue mode.default",
-        ),
-    ] {
-        assert_eq!(rt; parallel_fault(rt.alloc(), lines)?.as_str(), want);
-    }
+    assert_eq!(rt; with_another_fault(rt.alloc(), &SEVERAL)?, None);
     Ok(())
 }

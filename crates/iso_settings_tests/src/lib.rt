@@ -10,6 +10,8 @@ mod fault;
 #[cfg(test)]
 mod limits;
 #[cfg(test)]
+mod made;
+#[cfg(test)]
 mod settings;
 #[cfg(test)]
 mod world;

@@ -1,82 +1,99 @@
 //! The limits of settings and worlds: long texts, long keys, many keys.
-use crate::world::{fault, property, start, text_of};
+use crate::made::made;
+use crate::world::{fault, property_otherwise, starting_otherwise};
 use iso_settings::settings::read_settings;
-use iso_settings::world::read_world;
 use std::alloc::{AllocError, Global};
 use std::test::Fail;
 
-/// A text so many times, between two others.
-fn filled(
-    alloc: Global,
-    before: &str,
-    piece: &str,
-    count: usize,
-    after: &str,
-) -> Result<String, AllocError> {
-    let mut text = String::from_str(alloc, before)?;
-    for _ in 0..count {
-        text.push_str(piece)?;
+/// The pieces of a world, and of its fault as it shows.
+type Row<'a> = (&'a [(&'a str, usize)], &'a [(&'a str, usize)]);
+
+/// Texts have 4,096 bytes at most, and so have joined keys, without `files` and `properties` in front. A key that
+/// two tables join is as long as both and the dot. Of one key WrongValue comes first.
+const LIMITS: [Row<'static>; 10] = [
+    (&[("locale = \"", 1), ("a", 4096), ("\"", 1)], &[]),
+    (
+        &[("locale = \"", 1), ("a", 4097), ("\"", 1)],
+        &[("OutOfRange locale", 1)],
+    ),
+    (
+        &[("locale = \"", 1), ("a", 4097), ("\\n\"", 1)],
+        &[("WrongValue locale", 1)],
+    ),
+    (&[("[files]\na = \"", 1), ("a", 4096), ("\"", 1)], &[]),
+    (
+        &[("[files]\na = \"", 1), ("a", 4097), ("\"\nb = 1", 1)],
+        &[("OutOfRange files.a", 1)],
+    ),
+    (&[("[files]\n", 1), ("a", 4096), (" = \"\"", 1)], &[]),
+    (
+        &[("[files]\n", 1), ("a", 4097), (" = \"\"", 1)],
+        &[("OutOfRange files.", 1), ("a", 4097)],
+    ),
+    (
+        &[("[files]\n", 1), ("a", 4097), (" = 1", 1)],
+        &[("WrongValue files.", 1), ("a", 4097)],
+    ),
+    (
+        &[
+            ("[properties.", 1),
+            ("a", 2048),
+            ("]\n", 1),
+            ("b", 2047),
+            (" = \"\"", 1),
+        ],
+        &[],
+    ),
+    (
+        &[
+            ("[properties.", 1),
+            ("a", 2048),
+            ("]\n", 1),
+            ("b", 2048),
+            (" = \"\"", 1),
+        ],
+        &[
+            ("OutOfRange properties.", 1),
+            ("a", 2048),
+            (".", 1),
+            ("b", 2048),
+        ],
+    ),
+];
+
+/// The first row that has another fault.
+fn with_another_fault(alloc: Global, rows: &[Row<'_>]) -> Result<Option<usize>, AllocError> {
+    for (index, (text, want)) in rows.iter().enumerate() {
+        let text = made(alloc, text)?;
+        let found = fault(alloc, text.as_str())?;
+        if found.as_str() != made(alloc, want)?.as_str() {
+            return Ok(Some(index));
+        }
     }
-    text.push_str(after)?;
-    Ok(text)
+    Ok(None)
 }
 
-/// Texts have 4,096 bytes at most. Of one key WrongValue comes first.
 #[test]
-fn texts_have_a_limit(rt: HostRuntime) -> Result<(), Fail> {
-    for (before, count, after, want) in [
-        ("locale = \"", 4096, "\"", ""),
-        ("locale = \"", 4097, "\"", "OutOfRange locale"),
-        ("locale = \"", 4097, "\\n\"", "WrongValue locale"),
-        ("[files]\na = \"", 4096, "\"", ""),
-        ("[files]\na = \"", 4097, "\"\nb = 1", "OutOfRange files.a"),
-    ] {
-        let text = filled(rt.alloc(), before, "a", count, after)?;
-        assert_eq!(rt; fault(rt.alloc(), text.as_str())?.as_str(), want);
-    }
-    Ok(())
-}
-
-/// So have joined keys, without `files` and `properties` in front.
-#[test]
-fn keys_have_a_limit(rt: HostRuntime) -> Result<(), Fail> {
-    for (before, count, after, kind) in [
-        ("[files]\n", 4096, " = \"\"", ""),
-        ("[files]\n", 4097, " = \"\"", "OutOfRange"),
-        ("[files]\n", 4097, " = 1", "WrongValue"),
-    ] {
-        let text = filled(rt.alloc(), before, "a", count, after)?;
-        let fault = fault(rt.alloc(), text.as_str())?;
-        let key = filled(rt.alloc(), " files.", "a", count, "")?;
-        assert!(rt; fault.as_str().strip_suffix(key.as_str()).unwrap_or("") == kind);
-        assert_eq!(rt; fault.as_str().is_empty(), kind.is_empty());
-    }
-    Ok(())
-}
-
-/// A key that two tables join is as long as both and the dot.
-#[test]
-fn joined_keys_have_a_limit(rt: HostRuntime) -> Result<(), Fail> {
-    let table = filled(rt.alloc(), "[properties.", "a", 2048, "]\n")?;
-    let text = filled(rt.alloc(), table.as_str(), "b", 2047, " = \"\"")?;
-    assert_eq!(rt; fault(rt.alloc(), text.as_str())?.as_str(), "");
-    let text = filled(rt.alloc(), table.as_str(), "b", 2048, " = \"\"")?;
-    let key = filled(rt.alloc(), "OutOfRange properties.", "a", 2048, ".")?;
-    let want = filled(rt.alloc(), key.as_str(), "b", 2048, "")?;
-    assert_eq!(rt; fault(rt.alloc(), text.as_str())?.as_str(), want.as_str());
+fn texts_and_keys_have_limits(rt: HostRuntime) -> Result<(), Fail> {
+    assert_eq!(rt; with_another_fault(rt.alloc(), &LIMITS)?, None);
     Ok(())
 }
 
 #[test]
 fn longest_text_at_the_longest_key_is_kept(rt: HostRuntime) -> Result<(), Fail> {
     let alloc = rt.alloc();
-    let key = filled(alloc, "[files]\n", "a", 4096, " = \"")?;
-    let text = filled(alloc, key.as_str(), "b", 4096, "\"")?;
-    let world = read_world(alloc, text.as_str())?;
-    let key = filled(alloc, "file:", "a", 4096, "")?;
-    let want = filled(alloc, "", "b", 4096, "")?;
-    let file = start(alloc, &world, key.as_str())?;
-    assert!(rt; text_of(&file) == Some(want.as_str()));
+    let pieces = [
+        ("[files]\n", 1),
+        ("a", 4096),
+        (" = \"", 1),
+        ("b", 4096),
+        ("\"", 1),
+    ];
+    let text = made(alloc, &pieces)?;
+    let key = made(alloc, &[("file:", 1), ("a", 4096)])?;
+    let want = made(alloc, &[("b", 4096)])?;
+    let rows = [(key.as_str(), Some(want.as_str()))];
+    assert!(rt; starting_otherwise(alloc, text.as_str(), &rows)?.is_none());
     Ok(())
 }
 
@@ -95,10 +112,8 @@ fn numbered(alloc: Global, table: &str) -> Result<String, AllocError> {
 fn world_of_a_mebibyte_is_read(rt: HostRuntime) -> Result<(), Fail> {
     let text = numbered(rt.alloc(), "[properties]\n")?;
     assert_eq!(rt; text.len(), 1_048_423);
-    let world = read_world(rt.alloc(), text.as_str())?;
-    let properties = start(rt.alloc(), &world, "java.lang.System.properties")?;
-    assert!(rt; property(&properties, "k100000") == Some(""));
-    assert!(rt; property(&properties, "k195309") == Some(""));
+    let rows = [("k100000", Some("")), ("k195309", Some(""))];
+    assert_eq!(rt; property_otherwise(rt.alloc(), text.as_str(), &rows)?, None);
     Ok(())
 }
 

@@ -1,4 +1,5 @@
 //! What settings come to.
+use crate::made::made;
 use iso_model::script::Mode;
 use iso_settings::fault::SettingsError;
 use iso_settings::settings::{Settings, read_settings};
@@ -24,23 +25,26 @@ fn nothing_given_is_one_worker(rt: HostRuntime) -> Result<(), Fail> {
     Ok(())
 }
 
+/// Lines, with processors and the workers that they give.
+const WORKERS: [(&str, u32, u32); 7] = [
+    ("enabled = true", 3, 3),
+    ("enabled = true\nconfig.dynamic.factor = 2", 40, 64),
+    ("enabled = true\nconfig.dynamic.factor = 2", 31, 62),
+    ("enabled = true\nconfig.dynamic.factor = 64", u32::MAX, 64),
+    (
+        "enabled = true\nmode.default = \"concurrent\"\nconfig.strategy = \"fixed\"\nconfig.fixed.parallelism = 2",
+        40,
+        2,
+    ),
+    ("config.dynamic.factor = 2", 40, 1),
+    ("enabled = \"False\"\nconfig.strategy = \"fixed\"", 40, 1),
+];
+
 #[test]
 fn workers_are_chosen_by_the_strategy(rt: HostRuntime) -> Result<(), Fail> {
-    for (lines, processors, want) in [
-        ("enabled = true", 3, 3),
-        ("enabled = true\nconfig.dynamic.factor = 2", 40, 64),
-        ("enabled = true\nconfig.dynamic.factor = 2", 31, 62),
-        ("enabled = true\nconfig.dynamic.factor = 64", u32::MAX, 64),
-        (
-            "enabled = true\nmode.default = \"concurrent\"\nconfig.strategy = \"fixed\"\nconfig.fixed.parallelism = 2",
-            40,
-            2,
-        ),
-        ("config.dynamic.factor = 2", 40, 1),
-        ("enabled = \"False\"\nconfig.strategy = \"fixed\"", 40, 1),
-    ] {
-        let settings = parallel(rt.alloc(), lines, processors)?;
-        assert_eq!(rt; settings.workers(), want, "{lines}");
+    for (lines, processors, want) in &WORKERS {
+        let settings = parallel(rt.alloc(), lines, *processors)?;
+        assert_eq!(rt; settings.workers(), *want, "{lines}");
     }
     Ok(())
 }
@@ -49,8 +53,9 @@ fn workers_are_chosen_by_the_strategy(rt: HostRuntime) -> Result<(), Fail> {
 #[test]
 fn parallelism_is_a_number_or_digits(rt: HostRuntime) -> Result<(), Fail> {
     for (number, want) in [("2", 2), ("64", 64), ("\"8\"", 8), ("\"000000008\"", 8)] {
-        let lines = "enabled = \"TRUE\"\nconfig.strategy = \"Fixed\"\nconfig.dynamic.factor = 3";
-        let lines = format!(in rt.alloc(); "{lines}\nconfig.fixed.parallelism = {number}")?;
+        let fixed =
+            "enabled = \"TRUE\"\nconfig.strategy = \"Fixed\"\nconfig.dynamic.factor = 3\nconfig.fixed.parallelism = ";
+        let lines = made(rt.alloc(), &[(fixed, 1), (number, 1)])?;
         let settings = parallel(rt.alloc(), lines.as_str(), 40)?;
         assert_eq!(rt; settings.workers(), want, "{number}");
     }

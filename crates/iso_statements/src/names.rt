@@ -1,7 +1,7 @@
 //! Names that have to be new.
-ghost use Rattle.std.specs.Prelude.{◌≡◌, ℕ, List, [], ◌∷◌, ◌++◌, IfErr, IfOk, Some, false, not};
+ghost use Rattle.std.specs.Prelude.{◌≡◌, ℕ, List, [], ◌∷◌, ◌++◌, IfErr, IfOk, None, Some, false, not, true};
 ghost use Rattle.iso_lexer.specs.Piece.{Piece};
-ghost use Rattle.iso_statements.specs.Faults.{IsMemory};
+ghost use Rattle.iso_statements.specs.Faults.{IsFaultOf, IsMemory, IsMemoryOr, IsUnexpected};
 ghost use Rattle.iso_statements.specs.Names.{Knows, is_among};
 ghost use Rattle.iso_statements.specs.Pieces.{name_next};
 
@@ -32,6 +32,10 @@ impl<'a> Parser<'a> {
         ensures only { (names : List (List ℕ)) → Knows seen.old names
             → (n : List ℕ) (rest : List Piece) → name_next self.old.lexer ≡ Some (n, rest)
             → is_among names n ≡ false → IfErr result IsMemory }
+        ensures taken { (names : List (List ℕ)) → Knows seen.old names
+            → (n : List ℕ) (rest : List Piece) → name_next self.old.lexer ≡ Some (n, rest)
+            → is_among names n ≡ true → IfErr result (IsMemoryOr kind) }
+        ensures unexpected { name_next self.old.lexer ≡ None → IfErr result (IsFaultOf (IsUnexpected self.old.lexer)) }
     {
         let Token::Name(name) = self.lexer.peek().0 else {
             return Err(self.unexpected());

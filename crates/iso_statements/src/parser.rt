@@ -1,9 +1,9 @@
-ghost use Rattle.std.specs.Prelude.{ℕ, suc, ◌≡◌, ◌≢◌, ◌≤◌, ◌↔◌, List, [], Some, None, IsTrue, MatchResult, is_some, length, option_map};
+ghost use Rattle.std.specs.Prelude.{ℕ, suc, ◌≡◌, ◌≢◌, ◌≤◌, ◌↔◌, List, [], Some, None, IsTrue, MatchResult, IfErr, is_some, length, option_map};
 ghost use Rattle.iso_lexer.specs.Lexical.{HasPieces};
 ghost use Rattle.iso_lexer.specs.Piece.{Piece, tail};
 ghost use Rattle.iso_lexer.specs.Tokens.{after, after_word, text_of};
 ghost use Rattle.iso_model.specs.declared.limits.TheConstants.{FILE_BYTES};
-ghost use Rattle.iso_statements.specs.Faults.{IsFaultOf, IsUnexpected};
+ghost use Rattle.iso_statements.specs.Faults.{IsFaultOf, IsUnexpected, IsUnopened};
 ghost use Rattle.iso_statements.specs.Pieces.{name_ahead, name_next, row_in, text_next};
 
 use crate::fault::{ScriptError, ScriptFaultKind};
@@ -124,9 +124,10 @@ impl<'a> Parser<'a> {
 
     /// Goes past an opening symbol, which has to be next, where so many may be opened. Answers how many more may be.
     pub fn open(&mut self, symbol: Symbol, left: u32) -> Result<u32, ScriptError>
-        ensures { MatchResult result
+        ensures opened { MatchResult result
             (λ more. (left ≡ suc more) × (after symbol self.old.lexer ≡ Some self.new.lexer))
             (λ e. (more : ℕ) → left ≡ suc more → after symbol self.old.lexer ≡ None) }
+        ensures fault { IfErr result (IsFaultOf (IsUnopened symbol self.old.lexer)) }
     {
         if !self.is_at(symbol) {
             return Err(self.unexpected());

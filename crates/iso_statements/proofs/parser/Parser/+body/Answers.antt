@@ -41,14 +41,14 @@ statements-returns t c = all_read _ _ _ _ _ _ c.statements.invariant c.statement
 
 pub body-returns : goal.body-returns
 body-returns t c =
-    let opened = c.in_ok-more.ensures in
+    let opened = c.in_ok-more.ensures.opened in
     parses_from body_of (IsStatements _ c.args.above) (IsBody c.args.bodies c.args.above) _ _ _ _
     (λ x rest. is_body _ _ _ x _ _ rest opened.0 opened.1) (λ x rest. body_inner _ _ _ x _ _ rest opened.0 opened.1) c.statements.ensures
 
 pub body-returns-in_err-more : goal.body-returns-in_err-more
 body-returns-in_err-more t c =
     let p = err_from_is_err_and c.from_residual.result c.from_residual.ensures.1 in
-    rw p.1 (λ x rest h. absurd (not_opened _ _ x _ rest c.in_err-more.ensures h))
+    rw p.1 (λ x rest h. absurd (not_opened _ _ x _ rest c.in_err-more.ensures.opened h))
 
 pub otherwise-returns-then-takes_word : goal.otherwise-returns-then-takes_word
 otherwise-returns-then-takes_word t c =

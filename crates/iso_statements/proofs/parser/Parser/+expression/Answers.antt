@@ -61,17 +61,17 @@ chained-returns t c = all_chained _ _ _ _ _ _ c.operands.invariant.read (none_ne
 pub enclosed-returns-in_err-more : goal.enclosed-returns-in_err-more
 enclosed-returns-in_err-more t c =
     let p = err_from_is_err_and c.from_residual.result c.from_residual.ensures.1 in
-    rw p.1 (λ x rest h. absurd (enclosed_opens _ x _ rest c.in_err-more.ensures h))
+    rw p.1 (λ x rest h. absurd (enclosed_opens _ x _ rest c.in_err-more.ensures.opened h))
 
 pub enclosed-returns-in_err-expect : goal.enclosed-returns-in_err-expect
 enclosed-returns-in_err-expect t c =
     let p = err_from_is_err_and c.from_residual-in_err-expect.result c.from_residual-in_err-expect.ensures.1 in
     rw p.1 (λ x rest h.
-    let q = enclosed_only _ _ x _ _ rest c.in_ok-more.ensures.0 c.in_ok-more.ensures.1 h in
+    let q = enclosed_only _ _ x _ _ rest c.in_ok-more.ensures.opened.0 c.in_ok-more.ensures.opened.1 h in
     absurd (not_followed _ CloseParen _ x _ _ rest q.0 c.in_ok-expression.ensures c.in_err-expect.ensures.0 q.1))
 
 pub enclosed-returns : goal.enclosed-returns
-enclosed-returns t c = is_enclosed _ _ _ _ _ _ _ c.in_ok-more.ensures.0 c.in_ok-more.ensures.1 c.in_ok-expression.ensures c.in_ok-expect.ensures
+enclosed-returns t c = is_enclosed _ _ _ _ _ _ _ c.in_ok-more.ensures.opened.0 c.in_ok-more.ensures.opened.1 c.in_ok-expression.ensures c.in_ok-expect.ensures
 
 pub operand-returns-then-is_at : goal.operand-returns-then-is_at
 operand-returns-then-is_at t c =
