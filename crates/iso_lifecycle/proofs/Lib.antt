@@ -1,4 +1,12 @@
+pub mod Barring
+pub mod Beginnings
+pub mod Combined
+pub mod Comings
+pub mod ExampleResults
 pub mod Following
+pub mod Framing
+pub mod Getting
 pub mod JobLemmas
+pub mod Putting
 pub mod RunLemmas
 pub mod WorkLemmas

@@ -1,13 +1,17 @@
 -- A body's step is that of its block.
-use Rattle.std.proofs.Common.{◌≡◌, ℕ, List, [], ◌∷◌, Option, Some, Bool, true, false, refl, sym, ap, ◌∙◌, subst}
-use Rattle.iso_model.specs.Bodies.{Account, Stage, account_after, body_step, going, going_at, stage_at, stage_from}
+use Rattle.std.proofs.Common.{◌≡◌, List, [], ◌∷◌, Option, Some, None, true, false, refl, sym, ap, ◌∙◌, subst, true≢false}
+use Rattle.iso_model.specs.Bodies.{Stage, account_after, account_of, ended, is_ended, body_step, going, going_at, stage_at, stage_from}
 use Rattle.iso_model.specs.Resources.{Resources}
 use Rattle.iso_model.specs.Rights.{Rights, access_in}
 use Rattle.iso_model.specs.Steps.{Machine, Piece, is_done, step}
 use Rattle.iso_interp.specs.Runs.{local_of, machine_of, names_before, pieces_of, progress_of, run_rights}
 use Rattle.iso_interp.specs.declared.run.BlockRun.{BlockRun}
 use Rattle.iso_interp.specs.declared.run.Progress.TheVariants.{More}
-use Rattle.iso_lifecycle.specs.BodyRuns.{settled_with}
+use Rattle.iso_lifecycle.specs.BodyRuns.{account_in_run, settled_with, stage_of}
+use Rattle.iso_lifecycle.specs.Origins.{HasCome, done_whole}
+use Rattle.iso_lifecycle.specs.Subjects.{Subject}
+use Rattle.iso_lifecycle.specs.declared.body_run.BodyRun.{BodyRun}
+use Rattle.iso_lifecycle.specs.declared.kind.BodyKind.{BodyKind}
 use Rattle.iso_lifecycle.specs.Works.{HaveRights, account_in, beside_in, jobs_left, stage_with}
 use Rattle.iso_lifecycle.specs.declared.work.Rest.{Rest}
 use Rattle.iso_lifecycle.proofs.Following.{goes-on, passes}
@@ -44,3 +48,16 @@ block-stepped r q block run new rest m n is same stepped count =
 pub block-goes_on : (new : BlockRun) (rest : Rest) (n : Resources) → progress_of (pieces_of new) ≡ More → going (stage_with (Some new) rest) n ≡ going (settled_with (Some new) rest) n
 block-goes_on new rest n more =
     ap (λ (s : Stage). going s n) (goes-on (stage_from (jobs_left rest)) (pieces_of new) (local_of new) (names_before new) (beside_in rest) (jobs_left rest) (more-left (pieces_of new) more))
+
+-- a block that does nothing has the body's rights
+pub idle-rights : (block : Option BlockRun) (idle : BlockRun) (rest after : Rest) → block ≡ Some idle → run_rights idle ≡ access_in rest.rights.now → after.rights ≡ rest.rights → HaveRights block after
+idle-rights block idle rest after is same kept =
+    subst (λ (o : Option BlockRun). HaveRights o after) (sym is) (λ k i. (same ∙ ap (λ r. access_in r.now) (sym kept)) i k)
+
+ended-with : (block : Option BlockRun) (rest : Rest) → is_ended (stage_with block rest) ≡ true → stage_with block rest ≡ ended (account_in rest)
+ended-with None rest ends = refl
+ended-with (Some run) rest ends = absurd (true≢false (sym ends))
+
+-- an ended body came to what it comes to, done whole
+pub come-account : (kind : BodyKind) (s : Subject) (run : BodyRun) → is_ended (stage_of run) ≡ true → HasCome kind s (stage_of run) → account_in_run run ≡ account_of (done_whole kind s)
+come-account kind s run ends come = subst (λ (g : Stage). HasCome kind s g) (ended-with run.block run.rest ends) come

@@ -1,6 +1,6 @@
 -- Where a run of a body stands.
 use Rattle.std.specs.Prelude.{ℕ, Option, Some, None}
-use Rattle.iso_model.specs.Bodies.{Account, Stage, during, ended, account_after, stage_at, stage_from}
+use Rattle.iso_model.specs.Bodies.{Account, Stage, ended, stage_at, stage_from}
 use Rattle.iso_model.specs.Rights.{Rights, access_in}
 use Rattle.iso_interp.specs.Runs.{local_of, names_before, pieces_of}
 use Rattle.iso_interp.specs.declared.run.BlockRun.{BlockRun}

@@ -1,6 +1,6 @@
 -- The jobs that are left of a test, from the place of the first of them in the class chain.
 -- Classes stand outermost first here.
-use Rattle.std.specs.Prelude.{ℕ, zero, suc, ◌+◌, ◌<◌, List, [], ◌∷◌, ◌++◌, length, take, drop, reverse, slice_index_or, Option, Some, None, Bool, true, false, cond, nat_lt}
+use Rattle.std.specs.Prelude.{ℕ, zero, suc, ◌+◌, ◌<◌, List, [], ◌∷◌, ◌++◌, take, drop, reverse, slice_index_or, Option, Some, None, true, cond, nat_lt}
 use Rattle.std.specs.Coded.{Unit-prop, le_prop}
 use Rattle.iso_model.specs.Chains.{ClassHead, empty_head}
 use Rattle.iso_model.specs.Jobs as J

@@ -1,4 +1,14 @@
 pub mod BodyRuns
+pub mod BodyViews
+pub mod Combining
+pub mod DoneViews
+pub mod Ends
+pub mod Entries
 pub mod Heads
 pub mod JobPlaces
+pub mod OriginViews
+pub mod Origins
+pub mod ResultExamples
+pub mod ResultViews
+pub mod Subjects
 pub mod Works

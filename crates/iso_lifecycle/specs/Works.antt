@@ -1,6 +1,5 @@
 -- Where the work of a body stands.
-use Rattle.std.specs.Prelude.{◌≡◌, ℕ, List, [], ◌∷◌, Option, Some, None}
-use Rattle.std.specs.Borrow.{Bor}
+use Rattle.std.specs.Prelude.{◌≡◌, ℕ, List, Option, Some, None}
 use Rattle.std.specs.Coded.{Coded-set, coded_option, Unit-prop, Π_prop}
 use Rattle.iso_model.specs.contracts.access.Access.{the_row}
 use Rattle.iso_model.specs.Bodies.{Account, Beside, Stage, during, ended, stage_from}

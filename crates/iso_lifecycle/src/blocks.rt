@@ -31,7 +31,7 @@ pub(crate) fn statements<'a>(
 }
 
 /// The head of the class at a depth.
-fn head(classes: &[Arc<ClassHead>], depth: usize) -> &ClassHead
+pub(crate) fn head(classes: &[Arc<ClassHead>], depth: usize) -> &ClassHead
     requires { depth < length classes.now }
     ensures { class_head_of result.now ≡ head_at (heads_in classes.now) depth }
 {

@@ -1,5 +1,5 @@
 //! A run of a whole body, one step at a time: its blocks, in the order of their jobs.
-ghost use Rattle.std.specs.Prelude.{◌≡◌, ◌<◌, ◌∷◌, ◌^◌, [], length, true, false, OnOk, IfOk};
+ghost use Rattle.std.specs.Prelude.{◌≡◌, ◌<◌, ◌∷◌, ◌^◌, [], length, true, false, OnOk, OnErr, IfOk};
 ghost use Rattle.iso_model.specs.Bodies.{account_after, body_step, ended, fresh_account, going, is_ended, stage_from};
 ghost use Rattle.iso_model.specs.ChainView.{innermost_first};
 ghost use Rattle.iso_model.specs.Jobs.{job, test_jobs};
@@ -101,13 +101,14 @@ impl<'a> BodyRun<'a> {
     }
 
     /// Does the first piece that is left; where its block has then ended, the next begins that has something to do.
-    /// A body that has ended stays as it is.
+    /// A body that has ended stays as it is. One that met want of memory never ends.
     pub fn step<T: Touch>(&mut self, touch: &mut T) -> Result<(), AllocError>
         requires { HasKeys (rights_of self.old) (T.content touch.old) (T.writes touch.old) }
         ensures step { OnOk result (going (stage_of self.new) (T.content touch.new) ≡ body_step (rights_of self.old) (going (stage_of self.old) (T.content touch.old))) }
+        ensures stopped { OnErr result (is_ended (stage_of self.new) ≡ false) }
         ensures rights { rights_of self.new ≡ rights_of self.old }
         ensures keys { OnOk result (HasKeys (rights_of self.new) (T.content touch.new) (T.writes touch.new)) }
-        ensures writes { T.writes touch.new ≡ T.writes touch.old }
+        ensures goes_on { T.goes_on touch.old touch.new }
     {
         let Some(run) = &mut self.block else {
             return Ok(());
@@ -116,6 +117,21 @@ impl<'a> BodyRun<'a> {
             Progress::More => Ok(()),
             Progress::Ended => self.settle(),
         }
+    }
+
+    /// Stops the body where it is, so that it never ends: what it came to is lost.
+    pub(crate) fn stop(&mut self)
+        ensures stopped { is_ended (stage_of self.new) ≡ false }
+        ensures rights { rights_of self.new ≡ rights_of self.old }
+    {
+        self.block = Some(self.rest.idle());
+    }
+
+    /// Its names, while no block is under way.
+    pub(crate) fn names(&self) -> &[Binding]
+        ensures { result.now ≡ (account_in_run self.now).names }
+    {
+        self.rest.names.as_slice()
     }
 
     /// Whether nothing is left to do.
@@ -141,6 +157,7 @@ impl<'a> BodyRun<'a> {
     /// Leaves a block of which nothing is left, and begins the next that has something to do.
     fn settle(&mut self) -> Result<(), AllocError>
         ensures stage { OnOk result (stage_of self.new ≡ settled_stage self.old) }
+        ensures stopped { OnErr result (is_ended (stage_of self.new) ≡ false) }
         ensures rights { rights_of self.new ≡ rights_of self.old }
     {
         let Some(run) = &self.block else {
@@ -149,7 +166,8 @@ impl<'a> BodyRun<'a> {
         if !run.is_ended() {
             return Ok(());
         }
-        if let Some(run) = self.block.take() {
+        let idle = self.rest.idle();
+        if let Some(run) = self.block.replace(idle) {
             self.rest.leave(run)?;
             self.block = self.rest.follow()?;
         }

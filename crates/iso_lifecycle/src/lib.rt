@@ -2,6 +2,17 @@
 #![tactic(auto)]
 
 mod blocks;
+pub mod body;
 pub mod body_run;
+pub mod done;
+mod entry;
+pub mod frame;
 mod job;
+pub mod kind;
+mod names;
+mod origin;
+pub mod result_examples;
+pub mod results;
+mod verdict;
+pub mod view;
 mod work;

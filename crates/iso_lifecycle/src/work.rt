@@ -8,6 +8,7 @@ use iso_interp::run::{BlockEnd, BlockRun};
 use iso_model::heads::ClassHead;
 use iso_model::names::{Binding, Names};
 use iso_model::outcome::Ending;
+use iso_model::place::BlockName;
 use iso_model::rights::Rights;
 use iso_model::text::Text;
 use iso_model::tree::Stmt;
@@ -89,6 +90,14 @@ impl<'a> Rest<'a> {
         let names = self.environment(job)?;
         let block = statements(self.classes, self.test, job);
         Ok(BlockRun::new(self.alloc, block, names, self.rights))
+    }
+
+    /// A block that does nothing, in place of one that is left: as long as it stands there the body hasn't ended.
+    pub(crate) fn idle(&self) -> BlockRun<'a>
+        ensures { run_rights result ≡ access_in self.now.rights.now }
+    {
+        let names = Names::new(Vec::new(self.alloc), 0, BlockName::Test);
+        BlockRun::new(self.alloc, &[], names, self.rights)
     }
 
     /// Whether a job is to be done, after what the blocks before it came to: an `after_each` always is.

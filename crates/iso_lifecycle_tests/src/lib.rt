@@ -2,6 +2,6 @@
 #![tactic(auto)]
 
 #[cfg(test)]
-mod scripts;
+mod bodies;
 #[cfg(test)]
-mod tests;
+mod runner;

@@ -1,11 +1,10 @@
-use Rattle.std.proofs.Common.{◌≡◌, ◌+◌, ◌<◌, length, min, ap, sym, ◌∙◌, arith}
+use Rattle.std.proofs.Common.{◌≡◌, ◌<◌, length, ap, arith}
 use Rattle.std.proofs.lemmas.List.{length-map}
 use Rattle.std.specs.Arc.{arc_value}
 use Rattle.iso_model.specs.Chains.{ClassHead}
 use Rattle.iso_model.specs.ScriptView.{class_head_of}
-use Rattle.iso_model.specs.Tests.{names_in}
 use Rattle.iso_lifecycle.specs.Heads.{heads_in}
-use Rattle.iso_lifecycle.specs.JobPlaces.{head_at, outside}
+use Rattle.iso_lifecycle.specs.JobPlaces.{head_at}
 use Rattle.iso_lifecycle.proofs.JobLemmas.{names-more}
 use Rattle.iso_lifecycle.proofs.blocks.names_of.Goals as goal
 

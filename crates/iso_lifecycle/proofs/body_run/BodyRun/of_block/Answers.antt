@@ -1,4 +1,4 @@
-use Rattle.std.proofs.Common.{◌≡◌, ap}
+use Rattle.std.proofs.Common.{ap}
 use Rattle.iso_model.specs.Rights.{Rights}
 use Rattle.iso_lifecycle.proofs.body_run.BodyRun.of_block.Goals as goal
 

@@ -1,4 +1,4 @@
-use Rattle.std.proofs.Common.{◌≡◌, ℕ, List, Some, length, min, take, drop, ap, ap₂, sym, ◌∙◌, subst, arith}
+use Rattle.std.proofs.Common.{◌≡◌, ℕ, Some, length, min, take, drop, ap, ap₂, sym, ◌∙◌, subst, arith}
 use Rattle.std.proofs.lemmas.List.{length-map, take_min, drop_min}
 use Rattle.std.specs.Arc.{arc_value}
 use Rattle.iso_model.specs.Environments.{environment}

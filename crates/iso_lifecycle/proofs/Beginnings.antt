@@ -1,0 +1,66 @@
+-- Where a body begins, and where its steps lead.
+use Rattle.std.proofs.Common.{◌≡◌, ℕ, suc, List, [], ◌∷◌, length, reverse, Option, Some, false, sym, ap, ◌∙◌, arith, subst, true≢false}
+use Rattle.iso_model.proofs.BodyKeys.{body-step-alike}
+use Rattle.iso_model.specs.Bodies.{Going, Stage, body_step, during, ended, fresh_account, going, is_ended, stage_from, test_stage}
+use Rattle.iso_model.specs.BodyAgreement.{AlikeGoing}
+use Rattle.iso_model.specs.Chains.{ClassHead, TestHead}
+use Rattle.iso_model.specs.Jobs.{job, opening_names, test_jobs}
+use Rattle.iso_model.specs.Openings.{statics_of}
+use Rattle.iso_model.specs.Resources.{Resources}
+use Rattle.iso_model.specs.Syntax.{Acts}
+use Rattle.iso_model.specs.Tests.{test_names}
+use Rattle.iso_model.specs.declared.names.Binding.{Binding}
+use Rattle.iso_model.specs.declared.place.BlockName.TheVariants.{Class}
+use Rattle.iso_model.specs.declared.place.Lifecycle.TheVariants as L
+use Rattle.iso_plan.specs.NodeChains.{chain_test}
+use Rattle.iso_plan.specs.RowView.{tree_of}
+use Rattle.iso_lifecycle.specs.BodyViews.{EqualAt}
+use Rattle.iso_lifecycle.specs.JobPlaces.{head_at, outside}
+use Rattle.iso_lifecycle.specs.Origins.{HasCome, HasLeft}
+use Rattle.iso_lifecycle.specs.Subjects.{Subject, begun, begun_closing, begun_opening, begun_testing, classes_of, enclosing, opening_of, reached, rights_of_subject}
+use Rattle.iso_lifecycle.specs.declared.kind.BodyKind.{BodyKind}
+use Rattle.iso_lifecycle.specs.declared.kind.BodyKind.TheVariants.{BeforeAll, Test, AfterAll}
+use Rattle.iso_lifecycle.proofs.JobLemmas.{outside-all, outside-more}
+
+-- the last of the classes, outermost first, is the innermost
+pub last-class : (os : List ClassHead) (d : ℕ) → suc d ≡ length os → reverse os ≡ head_at os d ∷ outside os d
+last-class os d e = sym (outside-all os) ∙ ap (outside os) (sym e) ∙ outside-more os d (omega (arith, e))
+
+pub opening-begins : (s : Subject) (c : ClassHead) (cs : List ClassHead) (n : ℕ) (acts : Acts) (names : List Binding) → classes_of s ≡ c ∷ cs → n ≡ length (c ∷ cs) → acts ≡ c.before_all
+    → names ≡ opening_names c (opening_of (enclosing s)).frames
+    → stage_from (job (Class n L.BeforeAll) acts (length names) false ∷ []) (fresh_account names) ≡ (begun BeforeAll s).stage
+opening-begins s c cs n acts names chain count block are =
+    (λ i. stage_from (job (Class (count i) L.BeforeAll) (block i) (length (are i)) false ∷ []) (fresh_account (are i)))
+    ∙ sym (λ i. (begun_opening (chain i) (opening_of (enclosing s))).stage)
+
+pub closing-begins : (s : Subject) (c : ClassHead) (cs : List ClassHead) (n : ℕ) (acts : Acts) (names : List Binding) → classes_of s ≡ c ∷ cs → n ≡ length (c ∷ cs) → acts ≡ c.after_all
+    → names ≡ statics_of (opening_of s).frames
+    → stage_from (job (Class n L.AfterAll) acts (length names) false ∷ []) (fresh_account names) ≡ (begun AfterAll s).stage
+closing-begins s c cs n acts names chain count block are =
+    (λ i. stage_from (job (Class (count i) L.AfterAll) (block i) (length (are i)) false ∷ []) (fresh_account (are i)))
+    ∙ sym (λ i. (begun_closing (chain i) (opening_of s)).stage)
+
+pub testing-begins : (s : Subject) (t : TestHead) (cs : List ClassHead) (names : List Binding) → chain_test (tree_of s.plan) s.node ≡ Some t → cs ≡ classes_of s
+    → names ≡ test_names cs (opening_of s).frames
+    → stage_from (test_jobs t cs) (fresh_account names) ≡ (begun Test s).stage
+testing-begins s t cs names own chain are =
+    ap (λ (ns : List Binding). stage_from (test_jobs t cs) (fresh_account ns)) are
+    ∙ ap (λ (ds : List ClassHead). test_stage t ds (opening_of s).frames) chain
+    ∙ sym (ap (λ (o : Option TestHead). (begun_testing o (classes_of s) (opening_of s)).stage) own)
+
+-- a step more
+pub steps-on : (kind : BodyKind) (s : Subject) (n : ℕ) (now next : Stage) (m k : Resources) → now ≡ (reached kind s n).stage → EqualAt (rights_of_subject s) m (reached kind s n).resources
+    → going next k ≡ body_step (rights_of_subject s) (going now m) → AlikeGoing (rights_of_subject s) (going next k) (reached kind s (suc n))
+steps-on kind s n now next m k stage same stepped =
+    let r = rights_of_subject s in
+    let alike : AlikeGoing r (going now m) (reached kind s n) = record { stage = stage; resources = record { same = same.at } } in
+    subst (λ (g : Going). AlikeGoing r g (reached kind s (suc n))) (sym stepped) (body-step-alike r (going now m) (reached kind s n) alike)
+
+-- a body that hasn't ended owes nothing
+pub owes-come : (kind : BodyKind) (s : Subject) (stage : Stage) → is_ended stage ≡ false → HasCome kind s stage
+owes-come kind s (during p n b js) more = tt
+owes-come kind s (ended a) more = absurd (true≢false more)
+
+pub owes-left : (kind : BodyKind) (s : Subject) (stage : Stage) (frame : Option Subject) → is_ended stage ≡ false → HasLeft kind s stage frame
+owes-left kind s (during p n b js) frame more = tt
+owes-left kind s (ended a) frame more = absurd (true≢false more)

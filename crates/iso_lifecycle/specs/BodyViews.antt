@@ -1,0 +1,36 @@
+-- What a body is for, and where it stands.
+use Rattle.std.specs.Prelude.{◌≡◌, ℕ, List, true}
+use Rattle.iso_model.specs.Bodies.{Stage}
+use Rattle.iso_model.specs.Resources.{Resources}
+use Rattle.iso_model.specs.Rights.{Rights, is_readable}
+use Rattle.iso_lifecycle.specs.BodyRuns.{stage_of}
+use Rattle.iso_lifecycle.specs.OriginViews.{kind_of_origin, subject_of_origin}
+use Rattle.iso_lifecycle.specs.Subjects.{Subject, begun, reached, rights_of_subject}
+use Rattle.iso_lifecycle.specs.declared.body.Body.{Body}
+use Rattle.iso_lifecycle.specs.declared.kind.BodyKind.{BodyKind}
+use Rattle.iso_lifecycle.specs.declared.origin.Origin.{Origin}
+
+abbrev pub subject_of : Body → Subject
+subject_of b = subject_of_origin b.origin
+
+abbrev pub kind_of_body : Body → BodyKind
+kind_of_body b = kind_of_origin b.origin
+
+abbrev pub stage_of_body : Body → Stage
+stage_of_body b = stage_of b.run
+
+-- a body of this node and kind, at its beginning
+pub record IsBegun (o : Origin) (b : Body) : Type 0 where
+  pub subject : subject_of b ≡ subject_of_origin o
+  pub kind : kind_of_body b ≡ kind_of_origin o
+  pub stage : stage_of_body b ≡ (begun (kind_of_origin o) (subject_of_origin o)).stage
+
+-- contents that are equal at the keys that rights let be looked at
+pub record EqualAt (r : Rights) (m n : Resources) : Type 0 where
+  pub at : (k : List ℕ) → is_readable (r k) ≡ true → m k ≡ n k
+
+-- A body, and the resources at the keys of its rights, stand where so many steps of it alone have left them.
+pub record Stands (b : Body) (m : Resources) : Type 0 where
+  pub steps : ℕ
+  pub stage : stage_of_body b ≡ (reached (kind_of_body b) (subject_of b) steps).stage
+  pub resources : EqualAt (rights_of_subject (subject_of b)) m (reached (kind_of_body b) (subject_of b) steps).resources

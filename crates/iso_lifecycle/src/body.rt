@@ -1,0 +1,225 @@
+//! The body of a node, one step at a time.
+ghost use Rattle.std.specs.Prelude.{◌≡◌, ◌<◌, IfOk, OnOk, length, map, true, false};
+ghost use Rattle.iso_model.specs.Bodies.{body_step, going, is_ended};
+ghost use Rattle.iso_model.specs.Touch.{HasKeys};
+ghost use Rattle.iso_lifecycle.specs.BodyRuns.{rights_of, stage_of};
+ghost use Rattle.iso_lifecycle.specs.OriginViews.{AreFrames, kind_of_origin, subject_of_origin};
+ghost use Rattle.iso_lifecycle.specs.Origins.{HasCome, HasCome-prop, HasLeft, HasLeft-prop, HasRights, HasRights-prop, outer_names};
+ghost use Rattle.iso_lifecycle.specs.Subjects.{begun, enclosing, framed, is_kind_of, opening_of, rights_of_subject, subject};
+ghost use Rattle.iso_plan.specs.Paths.{row_at};
+ghost use Rattle.iso_plan.specs.RowView.{tree_of};
+
+use crate::blocks::head;
+use crate::body_run::BodyRun;
+use crate::done::{Closed, Done, Opened, What};
+use crate::frame::{Frame, are_of_classes};
+use crate::kind::BodyKind;
+use crate::names::{add_variables, statics_of, test_names};
+use crate::origin::Origin;
+use crate::verdict::{first_ending, verdict};
+use iso_model::names::Sort;
+use iso_model::outcome::Outcome;
+use iso_model::place::{BlockName, Lifecycle};
+use iso_model::touch::Touch;
+use iso_plan::laws::{chains_grow_down, paths_lead_up};
+use iso_plan::plan::Plan;
+use iso_settings::world::World;
+use std::alloc::{AllocError, Global};
+use std::snapshot::Snapshot;
+
+/// A body of a node of a plan: a class's `before_all` or `after_all`, or a whole test (JUnit 5, test lifecycle). After want of
+/// memory in a step it never ends, and is only to be dropped.
+#[derive(Drop)]
+pub struct Body<'a> {
+    alloc: Global,
+    pub(crate) origin: Origin<'a>,
+    pub(crate) run: BodyRun<'a>,
+    outer: usize,
+    frame: Option<Frame>,
+    ghost outer_is: { outer ≡ outer_names (kind_of_origin origin) (subject_of_origin origin) },
+    ghost rights: { HasRights (subject_of_origin origin) (rights_of run) } by { HasRights-prop (subject_of_origin origin) (rights_of run) },
+    ghost come: { HasCome (kind_of_origin origin) (subject_of_origin origin) (stage_of run) } by { HasCome-prop (kind_of_origin origin) (subject_of_origin origin) (stage_of run) },
+    ghost left: { HasLeft (kind_of_origin origin) (subject_of_origin origin) (stage_of run) frame } by { HasLeft-prop (kind_of_origin origin) (subject_of_origin origin) (stage_of run) frame },
+}
+
+impl<'a> Body<'a> {
+    ghost use Rattle.iso_lifecycle.specs.BodyViews.{IsBegun, Stands, kind_of_body, stage_of_body, subject_of};
+
+    /// A body at its beginning, with the frames of the classes that its node stands in, outermost first, and for an `after_all`
+    /// its own.
+    pub fn begin(
+        alloc: Global,
+        plan: &'a Plan,
+        node: u32,
+        kind: BodyKind,
+        frames: &[Frame],
+        start: Snapshot<World>,
+    ) -> Result<Body<'a>, AllocError>
+        requires node { 0 < node }
+        requires within { node < length plan.now.rows }
+        requires fits { is_kind_of kind (row_at (tree_of plan.now) node).kind ≡ true }
+        requires frames { frames.now ≡ map (subject plan.now start.value) (framed kind (subject plan.now start.value node)) }
+        requires well { (opening_of (enclosing (subject plan.now start.value node))).well ≡ true }
+        ensures subject { IfOk result (λ b. subject_of b ≡ subject plan.now start.value node) }
+        ensures kind { IfOk result (λ b. kind_of_body b ≡ kind) }
+        ensures begun { IfOk result (λ b. stage_of_body b ≡ (begun kind (subject plan.now start.value node)).stage) }
+    {
+        let origin = Origin {
+            plan,
+            start,
+            node,
+            kind,
+        };
+        match kind {
+            BodyKind::BeforeAll => Body::opening(alloc, origin, frames),
+            BodyKind::Test => Body::testing(alloc, origin, frames),
+            BodyKind::AfterAll => Body::closing(alloc, origin, frames),
+        }
+    }
+
+    /// The `before_all` of a class.
+    fn opening(alloc: Global, origin: Origin<'a>, frames: &[Frame]) -> Result<Body<'a>, AllocError>
+        requires kind { kind_of_origin origin ≡ BodyKind.BeforeAll }
+        requires frames { AreFrames origin frames.now }
+        ensures { IfOk result (IsBegun origin.entry) }
+    {
+        are_of_classes(frames);
+        paths_lead_up(origin.plan);
+        chains_grow_down(origin.plan);
+        let classes = origin.plan.chain(origin.node).classes;
+        let class = head(classes, classes.len() - 1);
+        let mut names = statics_of(alloc, frames)?;
+        let outer = names.len();
+        add_variables(alloc, &mut names, &class.statics, Sort::Static)?;
+        let words = BlockName::Class(classes.len() as u32, Lifecycle::BeforeAll);
+        let run = BodyRun::of_block(alloc, &class.before_all, words, names, origin.rights())?;
+        Body::new(alloc, origin, run, outer)
+    }
+
+    /// A whole test.
+    fn testing(alloc: Global, origin: Origin<'a>, frames: &[Frame]) -> Result<Body<'a>, AllocError>
+        requires kind { kind_of_origin origin ≡ BodyKind.Test }
+        requires frames { AreFrames origin frames.now }
+        ensures { IfOk result (IsBegun origin.entry) }
+    {
+        are_of_classes(frames);
+        paths_lead_up(origin.plan);
+        chains_grow_down(origin.plan);
+        let chain = origin.plan.chain(origin.node);
+        let Some(test) = chain.test else {
+            unreachable!();
+        };
+        let names = test_names(alloc, chain.classes, frames)?;
+        let run = BodyRun::of_test(alloc, chain.classes, test, names, origin.rights())?;
+        Body::new(alloc, origin, run, 0)
+    }
+
+    /// The `after_all` of a class.
+    fn closing(alloc: Global, origin: Origin<'a>, frames: &[Frame]) -> Result<Body<'a>, AllocError>
+        requires kind { kind_of_origin origin ≡ BodyKind.AfterAll }
+        requires frames { AreFrames origin frames.now }
+        ensures { IfOk result (IsBegun origin.entry) }
+    {
+        are_of_classes(frames);
+        paths_lead_up(origin.plan);
+        chains_grow_down(origin.plan);
+        let classes = origin.plan.chain(origin.node).classes;
+        let class = head(classes, classes.len() - 1);
+        let names = statics_of(alloc, frames)?;
+        let words = BlockName::Class(classes.len() as u32, Lifecycle::AfterAll);
+        let run = BodyRun::of_block(alloc, &class.after_all, words, names, origin.rights())?;
+        Body::new(alloc, origin, run, 0)
+    }
+
+    /// A body whose run is at its beginning, with so many names of the enclosing classes.
+    fn new(
+        alloc: Global,
+        origin: Origin<'a>,
+        run: BodyRun<'a>,
+        outer: usize,
+    ) -> Result<Body<'a>, AllocError>
+        requires outer { outer ≡ outer_names (kind_of_origin origin) (subject_of_origin origin) }
+        requires rights { HasRights (subject_of_origin origin) (rights_of run) }
+        requires begun { stage_of run ≡ (begun (kind_of_origin origin) (subject_of_origin origin)).stage }
+        ensures { IfOk result (IsBegun origin.entry) }
+    {
+        let frame = origin.frame(alloc, &run, outer)?;
+        Ok(Body {
+            alloc,
+            origin,
+            outer,
+            run,
+            frame,
+        })
+    }
+
+    /// Does the first piece that is left, on what the body's last step left, and at first on what the openings before it left, at the
+    /// keys of its rights.
+    pub fn step<T: Touch>(&mut self, touch: &mut T) -> Result<(), AllocError>
+        requires under_way { is_ended (stage_of_body self.old) ≡ false }
+        requires keys { HasKeys (rights_of_subject (subject_of self.old)) (T.content touch.old) (T.writes touch.old) }
+        requires stands { Stands self.old (T.content touch.old) }
+        ensures step { OnOk result (going (stage_of_body self.new) (T.content touch.new)
+            ≡ body_step (rights_of_subject (subject_of self.old)) (going (stage_of_body self.old) (T.content touch.old))) }
+        ensures stands { OnOk result (Stands self.new (T.content touch.new)) }
+        ensures keys { OnOk result (HasKeys (rights_of_subject (subject_of self.old)) (T.content touch.new) (T.writes touch.new)) }
+        ensures subject { subject_of self.new ≡ subject_of self.old }
+        ensures kind { kind_of_body self.new ≡ kind_of_body self.old }
+        ensures goes_on { T.goes_on touch.old touch.new }
+    {
+        self.run.step(touch)?;
+        match self.origin.frame(self.alloc, &self.run, self.outer) {
+            Ok(frame) => {
+                self.frame = frame;
+                Ok(())
+            }
+            Err(error) => {
+                self.run.stop();
+                Err(error)
+            }
+        }
+    }
+
+    /// Whether nothing is left to do.
+    pub fn is_ended(&self) -> bool
+        ensures { result ≡ is_ended (stage_of_body self.now) }
+    {
+        self.run.is_ended()
+    }
+
+    /// What the body came to, once it has ended. Takes no memory.
+    pub fn into_done(self) -> Done
+        requires { is_ended (stage_of_body self) ≡ true }
+        ensures subject { result.subject ≡ subject_of self.entry }
+        ensures kind { result.kind ≡ kind_of_body self.entry }
+    {
+        let Body {
+            origin,
+            run,
+            frame,
+            ..
+        } = self;
+        chains_grow_down(origin.plan);
+        let end = run.finish();
+        match origin.kind {
+            BodyKind::BeforeAll => {
+                let Some(frame) = frame else {
+                    unreachable!();
+                };
+                origin.done(What::Opened(Opened {
+                    frame,
+                    ending: first_ending(end.endings),
+                    lines: end.output,
+                }))
+            }
+            BodyKind::Test => origin.done(What::Tested(Outcome {
+                verdict: verdict(end.endings),
+                output: end.output,
+            })),
+            BodyKind::AfterAll => origin.done(What::Closed(Closed {
+                ending: first_ending(end.endings),
+                lines: end.output,
+            })),
+        }
+    }
+}

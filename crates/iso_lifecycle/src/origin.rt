@@ -1,0 +1,104 @@
+//! What a body is of.
+ghost use Rattle.std.specs.Prelude.{◌≡◌, ◌<◌, ◌^◌, IfOk, length, true};
+ghost use Rattle.iso_model.specs.Bodies.{is_ended};
+ghost use Rattle.iso_model.specs.Rights.{access_in};
+ghost use Rattle.iso_plan.specs.Paths.{row_at};
+ghost use Rattle.iso_plan.specs.RowView.{tree_of};
+ghost use Rattle.iso_lifecycle.specs.BodyRuns.{stage_of};
+ghost use Rattle.iso_lifecycle.specs.Origins.{HasCome, HasLeft, outer_names};
+ghost use Rattle.iso_lifecycle.specs.Subjects.{IsFrame, enclosing, is_kind_of, opening_of, rights_of_subject, subject};
+
+use crate::body_run::BodyRun;
+use crate::done::{Done, What};
+use crate::frame::Frame;
+use crate::kind::BodyKind;
+use crate::names::frozen_past;
+use iso_model::names::Binding;
+use iso_model::rights::Rights;
+use iso_plan::laws::chains_grow_down;
+use iso_plan::plan::Plan;
+use iso_settings::world::World;
+use std::alloc::{AllocError, Global};
+use std::snapshot::Snapshot;
+
+/// The node and kind of a body, whose enclosing classes were opened well.
+#[derive(Drop)]
+pub(crate) struct Origin<'a> {
+    pub(crate) plan: &'a Plan,
+    pub(crate) start: Snapshot<World>,
+    pub(crate) node: u32,
+    pub(crate) kind: BodyKind,
+    ghost inner: { 0 < node },
+    ghost small: { node < 2 ^ 32 },
+    ghost within: { node < length plan.now.rows },
+    ghost fits: { is_kind_of kind (row_at (tree_of plan.now) node).kind ≡ true },
+    ghost enclosed: { (opening_of (enclosing (subject plan.now start.value node))).well ≡ true },
+}
+
+impl<'a> Origin<'a> {
+    ghost use Rattle.iso_lifecycle.specs.OriginViews.{kind_of_origin, subject_of_origin};
+    ghost use Rattle.iso_lifecycle.specs.Ends.{IsEnd, kind_of_what};
+
+    /// The access rights of the body: its node's.
+    pub(crate) fn rights(&self) -> &'a Rights
+        ensures { access_in result.now ≡ rights_of_subject (subject_of_origin self.now) }
+    {
+        self.plan.rights(self.node)
+    }
+
+    /// The frame that an ended `before_all` leaves, so many names of which are of the enclosing classes. No other body leaves one.
+    pub(crate) fn frame(
+        &self,
+        alloc: Global,
+        run: &BodyRun<'_>,
+        outer: usize,
+    ) -> Result<Option<Frame>, AllocError>
+        requires outer { outer ≡ outer_names (kind_of_origin self.now) (subject_of_origin self.now) }
+        requires come { HasCome (kind_of_origin self.now) (subject_of_origin self.now) (stage_of run.now) }
+        ensures { IfOk result (λ frame. HasLeft (kind_of_origin self.now) (subject_of_origin self.now) (stage_of run.now) frame) }
+    {
+        match self.kind {
+            BodyKind::Test | BodyKind::AfterAll => Ok(None),
+            BodyKind::BeforeAll => {
+                if !run.is_ended() {
+                    return Ok(None);
+                }
+                let statics = self.statics(alloc, run, outer)?;
+                let frame = Frame::new(alloc, self.plan, &self.start, self.node, statics)?;
+                Ok(Some(frame))
+            }
+        }
+    }
+
+    /// The statics that an ended `before_all` leaves.
+    fn statics(
+        &self,
+        alloc: Global,
+        run: &BodyRun<'_>,
+        outer: usize,
+    ) -> Result<Vec<Binding>, AllocError>
+        requires kind { kind_of_origin self.now ≡ BodyKind.BeforeAll }
+        requires ended { is_ended (stage_of run.now) ≡ true }
+        requires outer { outer ≡ outer_names (kind_of_origin self.now) (subject_of_origin self.now) }
+        requires come { HasCome (kind_of_origin self.now) (subject_of_origin self.now) (stage_of run.now) }
+        ensures { IfOk result (λ statics. IsFrame (subject_of_origin self.now) statics.items) }
+    {
+        chains_grow_down(self.plan);
+        frozen_past(alloc, run.names(), outer)
+    }
+
+    /// The body's end, which it came to.
+    pub(crate) fn done(self, what: What) -> Done
+        requires kind { kind_of_what what ≡ kind_of_origin self }
+        requires end { IsEnd (subject_of_origin self) what }
+        ensures subject { result.subject ≡ subject_of_origin self.entry }
+        ensures kind { result.kind ≡ kind_of_origin self.entry }
+    {
+        Done {
+            plan: Snapshot::of(self.plan),
+            start: self.start,
+            node: self.node,
+            what,
+        }
+    }
+}

@@ -1,0 +1,148 @@
+//! The results of a run.
+ghost use Rattle.std.specs.Prelude.{◌≡◌, ◌<◌, [], ℕ, IfOk, IfSome, cond, is_some, None, Some, false, length, option_copied, replicate, slice_set, true};
+ghost use Rattle.std.specs.Option.{option_map};
+ghost use Rattle.iso_model.specs.Verdicts.{barred_verdict};
+ghost use Rattle.iso_lifecycle.specs.Ends.{IsOpening};
+ghost use Rattle.iso_lifecycle.specs.declared.entry.Entry.TheVariants.{Empty};
+ghost use Rattle.iso_lifecycle.specs.ResultViews.{CanPut, is_barred, is_barring, is_opened, no_results, outcome_in, outcome_of_view, result_in, with_done};
+ghost use Rattle.iso_lifecycle.specs.Subjects.{subject};
+
+use crate::done::{Done, Opened};
+use crate::entry::Entry;
+use crate::frame::Frame;
+use crate::view::View;
+use iso_model::outcome::Ending;
+use iso_plan::laws::nodes_are_a_tree;
+use iso_plan::plan::Plan;
+use iso_settings::world::World;
+use std::alloc::{AllocError, Global};
+use std::marker::Model;
+use std::snapshot::Snapshot;
+
+/// The results of a run: what the bodies of the nodes of a plan came to.
+///
+/// Contracts see the plan, the start, and which bodies' ends were put. That each result is what the definitions say is kept by the type.
+#[derive(Drop)]
+pub struct Results<'a> {
+    plan: &'a Plan,
+    start: Snapshot<World>,
+    entries: Vec<Entry>,
+}
+
+impl<'a> Model for Results<'a> {
+    ghost use Rattle.iso_lifecycle.specs.ResultViews.{ResultsView, results_code};
+
+    ghost Value = { ResultsView };
+
+    ghost coded = { results_code };
+
+    ghost use Rattle.iso_lifecycle.specs.Entries.{AreKept, seen};
+
+    ghost view = { λ r. seen r.plan.now r.start.value r.entries.items };
+
+    ghost invariant = { λ r. AreKept r.plan.now r.start.value r.entries.items };
+}
+
+/// So many entries of which nothing was put.
+fn empty(alloc: Global, count: usize) -> Result<Vec<Entry>, AllocError>
+    ensures { IfOk result (λ v. v.items ≡ replicate count Empty) }
+{
+    let mut entries = Vec::new(alloc);
+    'entries: for _n in 0..count {
+        entries.push(Entry::Empty)?;
+    }
+    Ok(entries)
+}
+
+impl<'a> Results<'a> {
+    /// No results of a plan. It takes all memory that `put` needs.
+    pub fn new(
+        alloc: Global,
+        plan: &'a Plan,
+        start: Snapshot<World>,
+    ) -> Result<Results<'a>, AllocError>
+        ensures { IfOk result (λ r. r ≡ no_results plan.now start.value) }
+    {
+        let entries = empty(alloc, plan.len() as usize)?;
+        Ok(Results {
+            plan,
+            start,
+            entries,
+        })
+    }
+
+    /// Puts what a body came to. Takes no memory.
+    pub fn put(&mut self, done: Done)
+        requires { CanPut done self.old }
+        ensures { self.new ≡ with_done done self.old }
+    {
+        let Done { node, what, .. } = done;
+        self.entries[node as usize].put(what);
+    }
+
+    /// The result of a node: of a test once its end was put, of a class once both its ends were put, and of each node that stands in a
+    /// class whose `before_all` was put and didn't end well.
+    pub fn get(&self, node: u32) -> Option<View<'_>>
+        requires { node < length self.now.plan.rows }
+        ensures { option_map outcome_of_view result ≡ result_in self.now node }
+    {
+        match &self.entries[node as usize] {
+            Entry::Tested(outcome) => Some(View::of_test(outcome)),
+            Entry::Closed(opened, closed) => Some(View::of_class(opened, closed)),
+            Entry::Empty | Entry::Opened(_) => {
+                let opened = self.barred_by(node)?;
+                Some(View::barred(&opened.ending))
+            }
+        }
+    }
+
+    /// What bars a node: the `before_all` of a class that it stands in, where that was put and didn't end well.
+    fn barred_by(&self, node: u32) -> Option<&Opened>
+        requires { node < length self.now.plan.rows }
+        ensures barred { is_some result ≡ is_barred self.now node }
+        ensures outcome { IfSome result (λ o. outcome_in self.now node ≡ record { verdict = barred_verdict o.now.ending; output = [] }) }
+    {
+        nodes_are_a_tree(self.plan);
+        let mut at = node;
+        'up: while let Some(class) = self.plan.parent(at) {
+            if let Some(opened) = self.barring(class) {
+                return Some(opened);
+            }
+            at = class;
+        }
+        None
+    }
+
+    /// The `before_all` of a class, where it was put and didn't end well.
+    fn barring(&self, node: u32) -> Option<&Opened>
+        requires { node < length self.now.plan.rows }
+        ensures barring { is_some result ≡ is_barring self.now node }
+        ensures opening { IfSome result (λ o. IsOpening (subject self.now.plan self.now.start node) o.now) }
+    {
+        let opened = self.opened(node)?;
+        match &opened.ending {
+            Ending::Well => None,
+            Ending::Fail(_) | Ending::Fault(_, _) | Ending::Assumed(_) => Some(opened),
+        }
+    }
+
+    /// The `before_all` of a class, where it was put.
+    fn opened(&self, node: u32) -> Option<&Opened>
+        requires { node < length self.now.plan.rows }
+        ensures put { is_some result ≡ is_opened self.now node }
+        ensures opening { IfSome result (λ o. IsOpening (subject self.now.plan self.now.start node) o.now) }
+    {
+        match &self.entries[node as usize] {
+            Entry::Opened(opened) | Entry::Closed(opened, _) => Some(opened),
+            Entry::Empty | Entry::Tested(_) => None,
+        }
+    }
+
+    /// The frame of a class whose `before_all` was put.
+    pub fn frame(&self, node: u32) -> Option<&Frame>
+        requires { node < length self.now.plan.rows }
+        ensures { option_copied result ≡ cond (is_opened self.now node) (Some (subject self.now.plan self.now.start node)) None }
+    {
+        Some(&self.opened(node)?.frame)
+    }
+}

@@ -1,0 +1,50 @@
+//! What the endings of a body's blocks come to.
+ghost use Rattle.std.specs.Prelude.{◌≡◌};
+ghost use Rattle.iso_model.specs.Bodies.{first_ending};
+ghost use Rattle.iso_model.specs.Verdicts.{verdict};
+ghost use Rattle.iso_lifecycle.specs.Combining.{or_skipped, with_first};
+
+use iso_model::outcome::{Ending, Note, Verdict};
+
+/// The first of the endings, that of a body of one block. Takes no memory.
+pub(crate) fn first_ending(endings: Vec<Ending>) -> Ending
+    ensures { result ≡ first_ending endings.items }
+{
+    match endings.into_iter().next() {
+        Some(ending) => ending,
+        None => Ending::Well,
+    }
+}
+
+/// The combined verdict, from the last ending to the first. Takes no memory.
+pub(crate) fn verdict(mut endings: Vec<Ending>) -> Verdict
+    ensures { result ≡ verdict endings.items }
+{
+    let mut verdict = Verdict::Pass;
+    while let Some(ending) = endings.pop() {
+        verdict = with_first(ending, verdict);
+    }
+    verdict
+}
+
+/// The verdict with an ending before those that came to this.
+fn with_first(ending: Ending, rest: Verdict) -> Verdict
+    ensures { result ≡ with_first ending rest }
+{
+    match ending {
+        Ending::Well => rest,
+        Ending::Fail(note) => Verdict::Fail(note),
+        Ending::Fault(kind, note) => Verdict::Fault(kind, note),
+        Ending::Assumed(note) => or_skipped(rest, note),
+    }
+}
+
+/// A fail or fault, or else Skipped by this note.
+fn or_skipped(verdict: Verdict, note: Note) -> Verdict
+    ensures { result ≡ or_skipped verdict note }
+{
+    match verdict {
+        Verdict::Fail(_) | Verdict::Fault(_, _) => verdict,
+        Verdict::Pass | Verdict::Skipped(_) | Verdict::Blocked(_) => Verdict::Skipped(note),
+    }
+}
