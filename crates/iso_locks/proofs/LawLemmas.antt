@@ -1,31 +1,18 @@
 -- Marks that a tray can go back to, and further changes.
-use Rattle.std.proofs.Common.{◌≡◌, ℕ, ◌<◌, List, [], ◌∷◌, ◌++◌, length, Option, Some, None, Bool, true, false, cond, set, option_map, ap, sym, ◌∙◌, append_assoc, arith, refl, inl, inr}
+use Rattle.std.proofs.Common.{◌≡◌, ℕ, ◌<◌, ◌≤◌, [], ◌∷◌, length, Option, Some, None, Bool, true, false, cond, set, option_map, ap, sym, ◌∙◌, arith, refl, inl, inr, subst, Result, Ok, Err, OnOk, OnErr}
 use Rattle.std.proofs.lemmas.Bool.{cases_eq, cases_lt}
 use Rattle.std.proofs.lemmas.List.{get_or_past, get_or-set_same, get_or-set_other, length-set}
 use Rattle.iso_model.specs.declared.resource.Change.{Change}
-use Rattle.iso_model.specs.declared.resource.Resource.{Resource}
 use Rattle.iso_plan.proofs.Columns.{column-read, length-column}
 use Rattle.iso_plan.specs.RowView.{tree_of}
-use Rattle.iso_store.specs.Histories.{History, IsEarlier, after, values}
+use Rattle.iso_store.specs.Histories.{History, IsEarlier, after}
 use Rattle.iso_locks.specs.Slots.{Slots, HasLater, slot}
-use Rattle.iso_locks.specs.Trays.{CanUndo, GoesOn, MarkView, TrayView, kept, marked, may_write, with_change}
-
-earlier-self : (h : History) → IsEarlier h h
-earlier-self h = record { newer = []; is = refl }
+use Rattle.iso_locks.specs.Onward.{earlier-self, later-further, on-further, on-still, onward-still}
+use Rattle.iso_locks.specs.Trays.{CanUndo, GoesOn, IsOnward, MarkView, TrayView, kept, marked, may_write, with_change}
+use Rattle.iso_locks.proofs.TouchLemmas.{has-still}
 
 earlier-after : (h : History) (change : Change) → IsEarlier h (after change h)
 earlier-after h change = record { newer = (after change h).now ∷ []; is = refl }
-
-earlier-further : (g h k : History) → IsEarlier g h → IsEarlier h k → IsEarlier g k
-earlier-further g h k a b = record {
-  newer = b.newer ++ a.newer;
-  is = b.is ∙ ap (λ (vs : List Resource). b.newer ++ vs) a.is ∙ sym (append_assoc b.newer a.newer (values g));
-}
-
-later-further : (u v : Slots) (i : ℕ) (g : History) → HasLater u i g → ((h : History) → slot u i ≡ Some h → HasLater v i h) → HasLater v i g
-later-further u v i g a on =
-    let b = on a.now a.there in
-    record { now = b.now; there = b.there; later = earlier-further g a.now b.now a.later b.later }
 
 kept_by : (b : Bool) (o : Option History) (h : History) → cond b o None ≡ Some h → o ≡ Some h
 kept_by true o h e = e
@@ -56,12 +43,6 @@ other-mark t u mark on can = record {
   later = λ i h e. later-further t.values u.values i h (can.later i h e) (on.later i);
 }
 
-pub on-still : (t : TrayView) → GoesOn t t
-on-still t = record { fits = refl; later = λ i h e. record { now = h; there = e; later = earlier-self h } }
-
-pub on-further : (t u v : TrayView) → GoesOn t u → GoesOn u v → GoesOn t v
-on-further t u v a b = record { fits = b.fits ∙ a.fits; later = λ i h e. later-further u.values v.values i h (a.later i h e) (b.later i) }
-
 changed-slot : (slots : Slots) (change : Change) (i j : ℕ) (h : History) → slot slots j ≡ Some h → HasLater (set slots i (option_map (after change) (slot slots i))) j h
 changed-slot slots change i j h e =
     elim (cases_lt j (length slots)) [
@@ -77,10 +58,39 @@ changed-slot slots change i j h e =
       | inr past ↦ let beyond : slot slots j ≡ None = get_or_past slots j None past in absurd (let nothing : None ≡ Some h = sym beyond ∙ e in cc)
     ]
 
+nothing-changed : (slots : Slots) (change : Change) (i j : ℕ) → slot slots j ≡ None → slot (set slots i (option_map (after change) (slot slots i))) j ≡ None
+nothing-changed slots change i j e =
+    elim (cases_lt j (length slots)) [
+      | inl within ↦ elim (cases_eq j i) [
+        | inl same ↦
+            let here : i < length slots = omega arith in
+            ap (slot (set slots i (option_map (after change) (slot slots i)))) same ∙ get_or-set_same slots i (option_map (after change) (slot slots i)) None here
+            ∙ ap (λ (n : ℕ). option_map (after change) (slot slots n)) (sym same) ∙ ap (option_map (after change)) e
+        | inr other ↦ get_or-set_other slots i j (option_map (after change) (slot slots i)) None other ∙ e
+      ]
+      | inr past ↦
+          let more : length (set slots i (option_map (after change) (slot slots i))) ≤ j = rw (length-set slots i (option_map (after change) (slot slots i))) past in
+          get_or_past (set slots i (option_map (after change) (slot slots i))) j None more
+    ]
+
 pub on-change : (t : TrayView) (i : ℕ) (change : Change) → GoesOn t (with_change change i t)
 on-change t i change = record {
   fits = length-set t.values i (option_map (after change) (slot t.values i));
+  only = λ j e. nothing-changed t.values change i j e;
   later = λ j h e. changed-slot t.values change i j h e;
 }
+
+-- a tray whose values were left as they were, or changed at one number
+pub on-apply : {A B : Type 0} (r : Result A B) (t : TrayView) (next : Slots) (i : ℕ) (change : Change) → i < length t.values
+    → OnOk r (next ≡ set t.values i (option_map (after change) (slot t.values i))) → OnErr r (next ≡ t.values) → IsOnward t (record t { values = next })
+on-apply (Ok x) t next i change within ok err = record {
+  plan = refl;
+  world = refl;
+  lent = refl;
+  there = λ p q. has-still (tree_of t.plan) t.values next i change within ok q p;
+  values = subst (λ (vs : Slots). GoesOn t (record t { values = vs })) (sym ok) (on-change t i change);
+  frames = refl;
+}
+on-apply (Err e) t next i change within ok err = subst (λ (vs : Slots). IsOnward t (record t { values = vs })) (sym err) (onward-still t)
 
 pub ruleset laws = (own-mark, other-mark, on-still, on-further, on-change)

@@ -1,4 +1,5 @@
 pub mod ConflictLemmas
+pub mod FlatLemmas
 pub mod LawLemmas
 pub mod MoveLemmas
 pub mod NumberLemmas

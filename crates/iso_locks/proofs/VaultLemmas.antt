@@ -1,5 +1,5 @@
 -- A vault stays as it should be when nodes are lent and taken back.
-use Rattle.std.proofs.Common.{◌≡◌, ◌≢◌, ℕ, ◌<◌, ◌≤◌, List, [], ◌∷◌, length, map, Option, Some, None, Bool, true, false, ◌||◌, ◌&&◌, ◌==◌, not, cond, set, is_some, option_map, ◌⊎◌, ap, ap₂, sym, ◌∙◌, arith, refl, inl, inr}
+use Rattle.std.proofs.Common.{◌≡◌, ◌≢◌, ℕ, ◌<◌, ◌≤◌, List, [], ◌∷◌, length, map, Option, Some, None, Bool, true, false, ◌||◌, ◌&&◌, ◌==◌, not, cond, set, is_some, option_map, ◌⊎◌, ap, ap₂, sym, subst, ◌∙◌, arith, refl, inl, inr}
 use Rattle.std.specs.Option.{option_or}
 use Rattle.std.proofs.lemmas.Bool.{cases_eq, cases_lt}
 use Rattle.std.proofs.lemmas.List.{get_or_past, get_or-map, get_or-set_same, get_or-set_other, length-map, length-set}
@@ -18,7 +18,7 @@ use Rattle.iso_locks.specs.Conflicts.{conflicts, excludes, shares}
 use Rattle.iso_locks.specs.Moves.{is_written, moved_away, moved_here, writes_key}
 use Rattle.iso_locks.specs.Slots.{Slots, slot}
 use Rattle.iso_locks.specs.Trays.{TrayView, is_lent, key_at}
-use Rattle.iso_locks.specs.Vaults.{IsLentTo, IsVault, VaultView, busy, is_home, is_in_the_way, receiving, value_in}
+use Rattle.iso_locks.specs.Vaults.{CanTakeBack, IsLentTo, IsVault, VaultView, busy, is_home, is_in_the_way, receiving, value_in}
 use Rattle.iso_locks.proofs.ConflictLemmas.{conflicts-is, lowest-none}
 
 or-true : (a b : Bool) → b ≡ true → (a || b) ≡ true
@@ -173,6 +173,7 @@ lent-to t given home values n kept free count =
       plan = refl;
       world = refl;
       lent = refl;
+      fits = length-column f (length t.values);
       written = λ i h w.
           let inside : i < length t.values = omega arith in
           let stored : i < length values = omega arith in
@@ -184,6 +185,7 @@ lent-to t given home values n kept free count =
         | inl inside ↦ column_slot f (length t.values) i inside ∙ ap (λ (b : Bool). cond b (option_or (slot values i) (slot t.values i)) (slot t.values i)) w
         | inr past ↦ past_slot f (length t.values) i past ∙ sym (get_or_past t.values i None past)
       ];
+      frames = refl;
     }
 
 some_of_value : (o : Option History) (s : Resource) → option_map (λ (g : History). g.now) o ≡ Some s → is_some o ≡ true
@@ -236,3 +238,15 @@ back-vault plan world given values there n kept starts =
 
 pub some-back : (there : Slots) (i : ℕ) (s : Resource) → value_in there i ≡ Some s → is_some (slot there i) ≡ true
 some-back there i s e = some_of_value (slot there i) s e
+
+-- what was lent to a tray stands there at its start
+pub taken-as-lent : (n : ℕ) (v : VaultView) (t u : TrayView) → IsLentTo n t u → n < length v.plan.rows → u.plan ≡ v.plan → u.world ≡ v.world → is_lent v.lent n ≡ true → CanTakeBack n v u
+taken-as-lent n v t u on node plan world lent =
+    let same : v.plan ≡ t.plan = sym plan ∙ on.plan in
+    record {
+      node = node;
+      plan = plan;
+      world = world;
+      lent = lent;
+      at_start = λ i h w. on.written i (subst (λ (p : Planned). i < length (keys (tree_of p))) same h) (ap (λ (p : Planned). is_written (locks (tree_of p) n) i) (sym same) ∙ w);
+    }

@@ -1,10 +1,11 @@
 -- What contracts see of a tray, and the resources that it holds: the values that nodes lent to it may change, and the starting values that they may look at.
-use Rattle.std.specs.Prelude.{◌≡◌, ℕ, zero, suc, List, [], length, map, replicate, Option, Some, None, Bool, true, false, ◌||◌, ◌&&◌, cond, bytes_eq, is_some, slice_index_or, refl, option_map, slice_set}
+use Rattle.std.specs.Prelude.{◌≡◌, ◌≤◌, ℕ, zero, suc, List, [], length, map, replicate, Option, Some, None, Bool, true, false, ◌||◌, ◌&&◌, cond, bytes_eq, is_some, slice_index_or, refl, option_map, slice_set}
 use Rattle.std.specs.Option.{option_or}
 use Rattle.std.specs.Coded.{Coded, code_by, coded×, coded_list, coded_option, coded_bool, coded_ℕ}
 use Rattle.iso_model.specs.Resources.{Resources}
 use Rattle.iso_model.specs.Rights.{access_in, is_writable}
 use Rattle.iso_model.specs.declared.access.Access.{Access}
+use Rattle.iso_model.specs.declared.limits.TheConstants.{CLASS_DEPTH}
 use Rattle.iso_model.specs.declared.access.Access.TheVariants.{Read, Write}
 use Rattle.iso_model.specs.declared.resource.Resource.{Resource}
 use Rattle.iso_plan.specs.KeyTable.{keys}
@@ -18,25 +19,46 @@ use Rattle.iso_plan.specs.contracts.plan.Plan as plan
 use Rattle.iso_settings.specs.Worlds.{Start, start_code, starting_value_in}
 use Rattle.iso_model.specs.declared.resource.Change.{Change}
 use Rattle.iso_store.specs.Histories.{History, after, history_code}
+use Rattle.iso_lifecycle.specs.Subjects.{Subject, subject_code}
 use Rattle.iso_locks.specs.Slots.{Slots, HasLater, slot}
 use Rattle.iso_locks.specs.declared.starting.Starting.{Starting}
 
--- what a tray was made for, the nodes that are lent to it, by their numbers, and the values that were moved into it, by the numbers of their keys
+-- what a tray was made for, the nodes that are lent to it, by their numbers, the values that were moved into it, by the numbers of their keys, and the frames handed to it, in that order
 pub record TrayView : Type 0 where
   pub plan : Planned
   pub world : Start
   pub lent : List Bool
   pub values : Slots
+  pub frames : List Subject
 
 -- a tray is stored as its parts
-abbrev pub tray_code : Coded TrayView
-tray_code =
-    code_by (Planned × (Start × (List Bool × Slots))) (coded× plan.the_row.coded (coded× start_code (coded× (coded_list coded_bool) (coded_list (coded_option history_code))))) (λ t. (t.plan, (t.world, (t.lent, t.values)))) (λ p. record { plan = p.0; world = p.1.0; lent = p.1.1.0; values = p.1.1.1 }) (λ _. refl)
+abbrev Parts : Type 0
+Parts = Planned × (Start × (List Bool × (Slots × List Subject)))
 
--- a tray to which nothing is lent
+abbrev parts : TrayView → Parts
+parts t = (t.plan, (t.world, (t.lent, (t.values, t.frames))))
+
+abbrev with_parts : Parts → TrayView
+with_parts p = record { plan = p.0; world = p.1.0; lent = p.1.1.0; values = p.1.1.1.0; frames = p.1.1.1.1 }
+
+abbrev held_code : Coded (Slots × List Subject)
+held_code = coded× (coded_list (coded_option history_code)) (coded_list subject_code)
+
+abbrev parts_code : Coded Parts
+parts_code = coded× plan.the_row.coded (coded× start_code (coded× (coded_list coded_bool) held_code))
+
+abbrev pub tray_code : Coded TrayView
+tray_code = code_by Parts parts_code parts with_parts (λ _. refl)
+
+-- a tray to which nothing is lent or handed
 abbrev pub empty_tray : Planned → Start → TrayView
-empty_tray plan world =
-    record { plan = plan; world = world; lent = replicate (length plan.rows) false; values = replicate (length (keys (tree_of plan))) None }
+empty_tray plan world = record {
+  plan = plan;
+  world = world;
+  lent = replicate (length plan.rows) false;
+  values = replicate (length (keys (tree_of plan))) None;
+  frames = [];
+}
 
 -- a key with the value that it starts with
 abbrev pub start_at : Start → List ℕ → Starting
@@ -144,10 +166,20 @@ pub record CanUndo (mark : MarkView) (t : TrayView) : Type 0 where
   pub fits : length mark.values ≡ length t.values
   pub later : (i : ℕ) (h : History) → slot mark.values i ≡ Some h → HasLater t.values i h
 
--- a tray after further changes alone: each value that was there is there, and was only changed further
+-- a tray after further changes alone: each value that was there is there, and was only changed further, and no other value is there
 pub record GoesOn (old new : TrayView) : Type 0 where
   pub fits : length new.values ≡ length old.values
+  pub only : (i : ℕ) → slot old.values i ≡ None → slot new.values i ≡ None
   pub later : (i : ℕ) (h : History) → slot old.values i ≡ Some h → HasLater new.values i h
+
+-- a tray after changes of its values alone: it is of the same plan and world, the same nodes are lent to it, the same values are there and the same frames
+pub record IsOnward (old new : TrayView) : Type 0 where
+  pub plan : new.plan ≡ old.plan
+  pub world : new.world ≡ old.world
+  pub lent : new.lent ≡ old.lent
+  pub there : has_value new ≡ has_value old
+  pub values : GoesOn old new
+  pub frames : new.frames ≡ old.frames
 
 -- the tray with one value changed
 abbrev pub with_change : Change → ℕ → TrayView → TrayView
@@ -158,8 +190,9 @@ with_change change i t =
 abbrev pub undone : MarkView → TrayView → TrayView
 undone mark t = record t { values = restored mark.values t.values }
 
--- what holds of the lists that a tray keeps
-pub record IsTray (plan : Planned) (world : Start) (lent : List Bool) (values : Slots) (starts : List Starting) : Type 0 where
+-- what holds of the lists that a tray keeps, with room for so many frames
+pub record IsTray (plan : Planned) (world : Start) (lent : List Bool) (values : Slots) (starts : List Starting) (room : ℕ) : Type 0 where
   pub lent_fits : length lent ≡ length plan.rows
   pub values_fit : length values ≡ length (keys (tree_of plan))
   pub starts_are : starts ≡ map (start_at world) (keys (tree_of plan))
+  pub has_room : CLASS_DEPTH ≤ room

@@ -23,9 +23,21 @@ pub record VaultView : Type 0 where
   pub lent : List Bool
   pub home : List Bool
 
+-- a vault is stored as its parts
+abbrev Parts : Type 0
+Parts = Planned × (Start × (List Bool × List Bool))
+
+abbrev parts : VaultView → Parts
+parts v = (v.plan, (v.world, (v.lent, v.home)))
+
+abbrev with_parts : Parts → VaultView
+with_parts p = record { plan = p.0; world = p.1.0; lent = p.1.1.0; home = p.1.1.1 }
+
+abbrev parts_code : Coded Parts
+parts_code = coded× plan.the_row.coded (coded× start_code (coded× (coded_list coded_bool) (coded_list coded_bool)))
+
 abbrev pub vault_code : Coded VaultView
-vault_code =
-    code_by (Planned × (Start × (List Bool × List Bool))) (coded× plan.the_row.coded (coded× start_code (coded× (coded_list coded_bool) (coded_list coded_bool)))) (λ v. (v.plan, (v.world, (v.lent, v.home)))) (λ p. record { plan = p.0; world = p.1.0; lent = p.1.1.0; home = p.1.1.1 }) (λ _. refl)
+vault_code = code_by Parts parts_code parts with_parts (λ _. refl)
 
 -- a vault from which nothing is lent: every value is home
 abbrev pub whole_vault : Planned → Start → VaultView
@@ -80,8 +92,10 @@ pub record IsLentTo (n : ℕ) (old new : TrayView) : Type 0 where
   pub plan : new.plan ≡ old.plan
   pub world : new.world ≡ old.world
   pub lent : new.lent ≡ slice_set old.lent n true
+  pub fits : length new.values ≡ length old.values
   pub written : (i : ℕ) → i < length (keys (tree_of old.plan)) → is_written (locks (tree_of old.plan) n) i ≡ true → StandsAtStart new i
   pub others : (i : ℕ) → is_written (locks (tree_of old.plan) n) i ≡ false → slot new.values i ≡ slot old.values i
+  pub frames : new.frames ≡ old.frames
 
 -- a tray can give a node back: it is of the same plan and starting values, and holds all that the node takes for READ_WRITE, each at its start
 pub record CanTakeBack (n : ℕ) (v : VaultView) (t : TrayView) : Type 0 where

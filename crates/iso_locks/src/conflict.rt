@@ -1,9 +1,21 @@
 //! Locks that exclude each other.
-ghost use Rattle.std.specs.Prelude.{◌≡◌, ◌||◌};
+ghost use Rattle.std.specs.Prelude.{◌≡◌, ◌<◌, ◌||◌, length};
 ghost use Rattle.iso_locks.specs.Conflicts.{conflicts, excludes, shares};
+ghost use Rattle.iso_plan.specs.Locks.{conflict};
+ghost use Rattle.iso_plan.specs.RowView.{tree_of};
 
 use iso_model::access::Access;
 use iso_plan::lock::Lock;
+use iso_plan::plan::Plan;
+
+/// Whether two nodes of a plan conflict: they take one key, and one of them takes it for READ_WRITE. Takes no memory.
+pub fn nodes_conflict(plan: &Plan, node: u32, other: u32) -> bool
+    requires node { node < length plan.now.rows }
+    requires other { other < length plan.now.rows }
+    ensures { result ≡ conflict (tree_of plan.now) node other }
+{
+    conflicts(plan.locks(node), plan.locks(other))
+}
 
 /// Whether two nodes with these locks conflict: they take one key, and one of them takes it for READ_WRITE.
 pub(crate) fn conflicts(some: &[Lock], others: &[Lock]) -> bool

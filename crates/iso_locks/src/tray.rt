@@ -1,7 +1,10 @@
 //! One worker's values.
-ghost use Rattle.std.specs.Prelude.{◌≡◌, ◌<◌, None, IfOk, cond, length, map, option_copied};
+ghost use Rattle.std.specs.Prelude.{◌≡◌, ◌<◌, ◌++◌, ◌∷◌, [], None, IfOk, cond, length, map, option_copied};
+ghost use Rattle.iso_locks.specs.Flats.{IsFlat, flat};
+ghost use Rattle.iso_lifecycle.specs.Subjects.{started};
 ghost use Rattle.iso_locks.specs.Trays.{CanUndo, empty_tray, is_lent, kept_at, marked, undone};
 ghost use Rattle.iso_model.specs.Rights.{access_in, is_writable};
+ghost use Rattle.iso_model.specs.declared.limits.TheConstants.{CLASS_DEPTH};
 ghost use Rattle.iso_locks.specs.Moves.{moved_away, moved_here};
 ghost use Rattle.iso_locks.specs.Vaults.{giving_back, receiving};
 ghost use Rattle.iso_plan.specs.KeyTable.{keys};
@@ -13,8 +16,11 @@ use crate::mark::Mark;
 use crate::moves::move_values;
 use crate::slots::Slots;
 use crate::starting::{Starting, number_of, starts_of};
+use crate::vault::values;
+use iso_lifecycle::frame::Frame;
 use iso_model::access::Access;
 use iso_model::key::Key;
+use iso_model::limits::CLASS_DEPTH;
 use iso_model::resource::{Ask, Change};
 use iso_model::resource_key::ResourceKey;
 use iso_model::rights::Rights;
@@ -29,8 +35,8 @@ use std::marker::Model;
 /// What one worker holds of the resources: the values that nodes lent to it may change, and copies of all
 /// starting values, to be looked at where such a node holds the key for READ.
 ///
-/// Contracts see the plan and the world that it was made for, the nodes that are lent to it and the values that
-/// were moved into it, each with its history.
+/// Contracts see the plan and the world that it was made for, the nodes that are lent to it, the values that
+/// were moved into it, each with its history, and the frames that were handed to it.
 #[derive(Drop)]
 pub struct Tray<'a> {
     plan: &'a Plan,
@@ -39,10 +45,11 @@ pub struct Tray<'a> {
     values: Slots,
     /// The keys with their starting values, by key number.
     starts: Vec<Starting>,
+    frames: Vec<Frame>,
 }
 
 impl<'a> Model for Tray<'a> {
-    ghost use Rattle.std.specs.Prelude.{◌≡◌, length};
+    ghost use Rattle.std.specs.Prelude.{◌≡◌, length, vec_capacity};
     ghost use Rattle.iso_plan.specs.KeyTable.{keys};
     ghost use Rattle.iso_plan.specs.RowView.{tree_of};
     ghost use Rattle.iso_locks.specs.Trays.{IsTray, TrayView, tray_code};
@@ -51,14 +58,14 @@ impl<'a> Model for Tray<'a> {
 
     ghost coded = { tray_code };
 
-    ghost view = { λ t. record { plan = t.plan.now; world = t.world.now; lent = t.lent.items; values = t.values } };
+    ghost view = { λ t. record { plan = t.plan.now; world = t.world.now; lent = t.lent.items; values = t.values; frames = t.frames.items } };
 
-    ghost invariant = { λ t. IsTray t.plan.now t.world.now t.lent.items t.values t.starts.items };
+    ghost invariant = { λ t. IsTray t.plan.now t.world.now t.lent.items t.values t.starts.items (vec_capacity t.frames) };
 }
 
 impl<'a> Tray<'a> {
-    /// A tray for a plan and a world, to which nothing is lent. It takes all memory that lending, undoing and
-    /// taking back need.
+    /// A tray for a plan and a world, to which nothing is lent or handed. It takes all memory that lending, undoing,
+    /// taking back and handing frames need.
     pub fn new(alloc: Global, plan: &'a Plan, world: &'a World) -> Result<Tray<'a>, AllocError>
         ensures { IfOk result (λ t. t ≡ empty_tray plan.now world.now) }
     {
@@ -70,7 +77,20 @@ impl<'a> Tray<'a> {
             lent: vec![in alloc; false; nodes]?,
             values: Slots::empty(alloc, count)?,
             starts: starts_of(alloc, plan, world)?,
+            frames: Vec::with_capacity(alloc, CLASS_DEPTH as usize)?,
         })
+    }
+
+    /// A tray for a plan and a world that has every value, each at its start: the flat map of a run. No node is lent to it.
+    pub fn flat(alloc: Global, plan: &'a Plan, world: &'a World) -> Result<Tray<'a>, AllocError>
+        ensures plan { IfOk result (λ t. t.plan ≡ plan.now) }
+        ensures world { IfOk result (λ t. t.world ≡ world.now) }
+        ensures every_value { IfOk result IsFlat }
+        ensures start { IfOk result (λ t. flat t ≡ started world.now) }
+    {
+        let mut tray = Tray::new(alloc, plan, world)?;
+        tray.values = values(alloc, plan, world)?;
+        Ok(tray)
     }
 
     /// The plan that it was made for.
@@ -93,6 +113,28 @@ impl<'a> Tray<'a> {
         ensures { result ≡ is_lent self.now.lent node }
     {
         self.lent[node as usize]
+    }
+
+    /// The frames that were handed to it since the last clearing, in that order.
+    pub fn frames(&self) -> &[Frame]
+        ensures { result.now ≡ self.now.frames }
+    {
+        &self.frames
+    }
+
+    /// Hands it a frame, after those that it has: one for each class that a test or a block stands in. Takes no memory.
+    pub fn hand(&mut self, frame: Frame)
+        requires { length self.old.frames < CLASS_DEPTH }
+        ensures { self.new ≡ record self.old { frames = self.old.frames ++ frame ∷ [] } }
+    {
+        self.frames.push_reserved(frame);
+    }
+
+    /// Lets go of all frames that were handed to it. Takes no memory.
+    pub fn clear_frames(&mut self)
+        ensures { self.new ≡ record self.old { frames = [] } }
+    {
+        self.frames.clear();
     }
 
     /// Keeps the values that a node's rights let it change, as they stand now.
@@ -144,11 +186,14 @@ impl<'a> Tray<'a> {
 }
 
 impl<'a> Touch for Tray<'a> {
-    ghost use Rattle.iso_locks.specs.Trays.{content, has_value};
+    ghost use Rattle.iso_locks.specs.Trays.{IsOnward, content, has_value};
+    ghost use Rattle.iso_locks.specs.Onward.{onward-further, onward-still, onward-writes};
 
     ghost content = { content };
 
     ghost writes = { has_value };
+
+    ghost goes_on = { IsOnward };
 
     fn look(&self, key: ResourceKey<'_>, ask: Ask<'_>) -> Option<&str> {
         match number_of(&self.starts, key) {
@@ -166,6 +211,12 @@ impl<'a> Touch for Tray<'a> {
             None => Ok(()),
         }
     }
+
+    ghost still = { onward-still };
+
+    ghost further = { onward-further };
+
+    ghost same_writes = { onward-writes };
 }
 
 /// The values that rights let be changed, as they stand now, by key number.

@@ -64,6 +64,14 @@ impl<'a> Vault<'a> {
         })
     }
 
+    /// Whether a node was lent and not taken back.
+    pub fn is_lent(&self, node: u32) -> bool
+        requires { node < length self.now.plan.rows }
+        ensures { result ≡ is_lent self.now.lent node }
+    {
+        self.lent[node as usize]
+    }
+
     /// Whether the value of the key with a number is home.
     pub fn home(&self, key: u32) -> bool
         requires { key < length (keys (tree_of self.now.plan)) }
@@ -105,7 +113,7 @@ impl<'a> Vault<'a> {
 }
 
 /// All values of a plan at their start, by key number.
-fn values(alloc: Global, plan: &Plan, world: &World) -> Result<Slots, AllocError>
+pub(crate) fn values(alloc: Global, plan: &Plan, world: &World) -> Result<Slots, AllocError>
     ensures fits { IfOk result (λ s. map is_some s ≡ replicate (length (keys (tree_of plan.now))) true) }
     ensures start { IfOk result (λ s. (i : ℕ) (h : History) → slot s i ≡ Some h → h.now ≡ starting_value_in world.now (key_at (tree_of plan.now) i)) }
 {

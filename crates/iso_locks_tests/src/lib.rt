@@ -1,5 +1,7 @@
-//! Tests of trays.
+//! Tests of trays and vaults.
 #![tactic(auto)]
 
 #[cfg(test)]
 mod tray;
+#[cfg(test)]
+mod vault;

@@ -20,4 +20,5 @@ invariant_of-self c = record {
   lent_fits = length-set c.self.inside.lent.items c.args.node false ∙ c.self.invariant.lent_fits;
   values_fit = there-count c.args.taken.now c.self.inside.values c.move_values.new.there c.move_values.ensures.there ∙ c.self.invariant.values_fit;
   starts_are = c.self.invariant.starts_are;
+  has_room = c.self.invariant.has_room;
 }

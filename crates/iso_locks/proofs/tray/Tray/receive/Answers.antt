@@ -21,4 +21,5 @@ invariant_of-self c = record {
   lent_fits = length-set c.self.inside.lent.items c.args.node true ∙ c.self.invariant.lent_fits;
   values_fit = here-count c.args.taken.now c.args.home.now c.self.inside.values c.move_values.new.here c.move_values.ensures.here ∙ c.self.invariant.values_fit;
   starts_are = c.self.invariant.starts_are;
+  has_room = c.self.invariant.has_room;
 }

@@ -13,4 +13,5 @@ invariant_of-self c = record {
   lent_fits = c.self.invariant.lent_fits;
   values_fit = column-count c.into_values.result.items c.self.inside.values c.undo_all.new.self c.undo_all.ensures ∙ c.self.invariant.values_fit;
   starts_are = c.self.invariant.starts_are;
+  has_room = c.self.invariant.has_room;
 }
