@@ -1,4 +1,6 @@
+pub mod BlockLemmas
 pub mod EscapeLemmas
 pub mod PlanLemmas
 pub mod PrinterLemmas
+pub mod ReportLemmas
 pub mod Sequences

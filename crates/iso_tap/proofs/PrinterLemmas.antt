@@ -1,6 +1,8 @@
 -- Texts that a printer writes one after another.
-use Rattle.std.proofs.Common.{◌≡◌, ℕ, ◌+◌, ◌<◌, List, [], ◌∷◌, ◌++◌, length, get_or, drop, Result, Ok, Err, refl, sym, ap, subst, ◌∙◌, arith, append_assoc, append-nil, add-one, drop-cons}
+use Rattle.std.proofs.Common.{◌≡◌, ℕ, ◌+◌, ◌<◌, List, [], ◌∷◌, ◌++◌, length, get_or, drop, Result, Ok, Err, refl, sym, ap, subst, ◌∙◌, arith, append_assoc, append-nil, add-one, drop-cons, replicate, take, ◌≤◌, ◌-◌, true≢false}
 use Rattle.std.proofs.lemmas.Result.{on_ok_weaker, on_err_weaker}
+use Rattle.std.proofs.lemmas.List.{replicate-append-replicate, take-replicate}
+use Rattle.std.specs.Result.{IsErr}
 use Rattle.iso_tap.specs.Printers.{Prints}
 use Rattle.iso_tap.specs.declared.printer.Printer.{Printer}
 use Rattle.iso_tap.specs.declared.sink.Sink.{Ghosts}
@@ -10,6 +12,17 @@ use Rattle.iso_tap.proofs.Sequences.{Wrote-none, Wrote-then, CutOff-more, CutOff
 -- a list from a place on, with its first element apart
 pub drop_next : {A : Type 0} (xs : List A) (i : ℕ) (d : A) → i < length xs → drop i xs ≡ get_or xs i d ∷ drop (i + 1) xs
 drop_next xs i d h = rw (add-one, drop-cons xs i d) refl
+
+-- the same, where an equal element is known
+pub drop_item : {A : Type 0} (x : A) (xs : List A) (i : ℕ) → i < length xs → x ≡ get_or xs i x → drop i xs ≡ x ∷ drop (i + 1) xs
+drop_item x xs i h e = drop_next xs i x h ∙ ap (λ y. y ∷ drop (i + 1) xs) (sym e)
+
+-- the spaces that are left, with the first of so many apart
+pub spaces_next : (n left most : ℕ) → n ≤ left → n ≤ most → replicate {A = ℕ} left 32 ≡ take n (replicate {A = ℕ} most 32) ++ replicate (left - n) 32
+spaces_next n left most h k =
+    let e : n + (left - n) ≡ left = omega arith in
+    let space : ℕ = 32 in
+    ap (λ (m : ℕ). replicate m space) (sym e) ∙ sym (replicate-append-replicate n (left - n) space) ∙ ap (λ (s : List ℕ). s ++ replicate (left - n) space) (sym (take-replicate n most space k))
 
 module _ {W : Type 0} {g : Ghosts W} where
   pub prints_nothing : (a : Printer W g) → Prints a a [] (Ok tt)
@@ -32,6 +45,15 @@ module _ {W : Type 0} {g : Ghosts W} where
   -- two texts, of which the first was cut off
   pub prints_cut : {a b : Printer W g} {s : List ℕ} (t : List ℕ) (e f : SinkFailed) → Prints a b s (Err e) → Prints a b (s ++ t) (Err f)
   prints_cut t e f h = record { sink = h.sink; wrote = tt; cut = CutOff-more t h.cut; counted = h.counted }
+
+  -- the exit of a `?`, where the text that was cut off is the last but for t
+  pub prints_stopped : {a b : Printer W g} {s : List ℕ} {e : SinkFailed} (t : List ℕ) (r : Result (Unit {0}) SinkFailed) → IsErr r → Prints a b s (Err e) → Prints a b (s ++ t) r
+  prints_stopped t (Ok x) h k = absurd (true≢false (sym h))
+  prints_stopped {e = e} t (Err f) h k = prints_cut t e f k
+
+  -- the same, with no text left
+  pub prints_failed : {a b : Printer W g} {s : List ℕ} {e : SinkFailed} (r : Result (Unit {0}) SinkFailed) → IsErr r → Prints a b s (Err e) → Prints a b s r
+  prints_failed {a} {b} {s} r h k = prints_as (prints_stopped [] r h k) s (append-nil s)
 
   -- of the whole text this rest is left to print
   pub record LeftToPrint (start now : Printer W g) (whole rest : List ℕ) : Type 0 where

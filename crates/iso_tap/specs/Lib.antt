@@ -2,4 +2,8 @@ pub mod Escapes
 pub mod Pieces
 pub mod PlanText
 pub mod Printers
+pub mod ReportBlocks
+pub mod ReportExamples
+pub mod ReportLines
+pub mod Reports
 pub mod Sinks

@@ -5,7 +5,7 @@ ghost use Rattle.iso_tap.specs.Printers.{Writes};
 
 use crate::fault::TapFault;
 use crate::printer::{Piece, Printer};
-use crate::sink::Sink;
+use crate::sink::{Sink, SinkFailed};
 
 /// Writes a text as it stands in a title or a reason (TAP version 14): with a backslash before each
 /// backslash and each hash. Takes no memory.
@@ -23,8 +23,30 @@ pub fn escape<W: Sink>(text: &str, sink: &mut W) -> Result<(), TapFault>
     }
 }
 
+impl<'a, W: Sink> Printer<'a, W> {
+    ghost use Rattle.iso_tap.specs.Escapes.{with_escapes};
+    ghost use Rattle.iso_tap.specs.Printers.{Prints};
+
+    /// Writes a text with a backslash before each backslash and each of this other byte. What stands
+    /// between these goes to the sink in one call.
+    pub fn escaped(&mut self, other: u8, text: &[u8]) -> Result<(), SinkFailed>
+        ensures { Prints self.old self.new (with_escapes other text.now) result }
+    {
+        let mut rest = text;
+        let mut plain = plain_len(other, rest);
+        while plain < rest.len() {
+            let (run, special) = rest.split_at(plain);
+            self.bytes(run)?;
+            self.bytes(&[b'\\', special[0]])?;
+            rest = &special[1..];
+            plain = plain_len(other, rest);
+        }
+        self.bytes(rest)
+    }
+}
+
 /// How many bytes stand before the first that is escaped, which is a backslash or this other byte.
-pub(crate) fn plain_len(other: u8, text: &[u8]) -> usize
+fn plain_len(other: u8, text: &[u8]) -> usize
     ensures { result ≡ plain_len other text.now }
 {
     let mut len = 0;

@@ -1,12 +1,17 @@
 //! Texts that are written to a sink.
 #![tactic(auto)]
 
+mod blocks;
 pub mod escape;
 pub mod examples;
 pub mod fault;
 pub mod memory;
+pub mod ok;
 pub mod output;
+mod places;
 pub mod plan;
+mod points;
 mod printer;
+pub mod report;
 pub mod sink;
 pub mod text;

@@ -1,10 +1,14 @@
 //! A printer, which writes texts to a sink one after another.
-ghost use Rattle.std.specs.Prelude.{◌≡◌, ◌≤◌};
+ghost use Rattle.std.specs.Prelude.{◌≡◌, ◌≤◌, replicate};
 ghost use Rattle.std.specs.Fmt.{decimal};
+ghost use Rattle.iso_tap.specs.ReportLines.{line_at};
 
-use crate::escape::plain_len;
 use crate::sink::{Sink, SinkFailed};
+use iso_model::place::Place;
 use itoa::Buffer;
+
+/// Spaces for one call: a printed line in a test in eight classes stands behind 36.
+const SPACES: [u8; 64] = [b' '; 64];
 
 /// A piece of a line.
 #[derive(Clone, Copy)]
@@ -16,6 +20,8 @@ pub(crate) enum Piece<'a> {
     Escaped(&'a str),
     /// A text as it stands between quotes.
     InQuotes(&'a str),
+    /// A place as it stands between quotes: it has nothing to escape.
+    At(Place),
 }
 
 /// Writes texts to a sink, one after another, and counts the bytes that it wrote.
@@ -28,7 +34,6 @@ pub(crate) struct Printer<'a, W: Sink> {
 }
 
 impl<'a, W: Sink> Printer<'a, W> {
-    ghost use Rattle.iso_tap.specs.Escapes.{with_escapes};
     ghost use Rattle.iso_tap.specs.Pieces.{piece_text, pieces_text};
     ghost use Rattle.iso_tap.specs.Printers.{Prints};
 
@@ -64,29 +69,25 @@ impl<'a, W: Sink> Printer<'a, W> {
         Ok(())
     }
 
+    /// Writes so many spaces.
+    fn spaces(&mut self, count: u64) -> Result<(), SinkFailed>
+        ensures { Prints self.old self.new (replicate count 32) result }
+    {
+        let mut left = count;
+        while left > 0 {
+            let run = left.min(SPACES.len() as u64);
+            self.bytes(&SPACES[..run as usize])?;
+            left -= run;
+        }
+        Ok(())
+    }
+
     /// Writes a number in decimal.
-    fn number(&mut self, number: u64) -> Result<(), SinkFailed>
+    pub fn number(&mut self, number: u64) -> Result<(), SinkFailed>
         ensures { Prints self.old self.new (decimal number) result }
     {
         let mut buffer = Buffer::new();
         self.bytes(buffer.format(number).as_bytes())
-    }
-
-    /// Writes a text with a backslash before each backslash and each of this other byte. What stands
-    /// between these goes to the sink in one call.
-    fn escaped(&mut self, other: u8, text: &[u8]) -> Result<(), SinkFailed>
-        ensures { Prints self.old self.new (with_escapes other text.now) result }
-    {
-        let mut rest = text;
-        let mut plain = plain_len(other, rest);
-        while plain < rest.len() {
-            let (run, special) = rest.split_at(plain);
-            self.bytes(run)?;
-            self.bytes(&[b'\\', special[0]])?;
-            rest = &special[1..];
-            plain = plain_len(other, rest);
-        }
-        self.bytes(rest)
     }
 
     /// Writes a piece.
@@ -98,6 +99,7 @@ impl<'a, W: Sink> Printer<'a, W> {
             Piece::Number(number) => self.number(number),
             Piece::Escaped(text) => self.escaped(b'#', text.as_bytes()),
             Piece::InQuotes(text) => self.escaped(b'"', text.as_bytes()),
+            Piece::At(place) => self.at(place),
         }
     }
 
@@ -109,5 +111,13 @@ impl<'a, W: Sink> Printer<'a, W> {
             self.piece(piece)?;
         }
         Ok(())
+    }
+    /// Writes pieces as a line at an indentation.
+    pub fn line(&mut self, indent: u64, pieces: &[Piece<'_>]) -> Result<(), SinkFailed>
+        ensures { Prints self.old self.new (line_at indent (pieces_text pieces.now)) result }
+    {
+        self.spaces(indent)?;
+        self.pieces(pieces)?;
+        self.bytes(b"\n")
     }
 }

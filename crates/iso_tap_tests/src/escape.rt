@@ -1,6 +1,5 @@
 //! Escaped texts, on sinks that take all, take little, or fail.
-ghost use Rattle.std.specs.Prelude.{Some, length};
-
+use crate::failing::{FailingSink, has_begun};
 use iso_tap::escape::escape;
 use iso_tap::fault::TapFault;
 use iso_tap::memory::MemorySink;
@@ -34,70 +33,14 @@ fn text_goes_to_a_writer(rt: HostRuntime) {
     assert!(rt; output.flush().is_ok());
 }
 
-/// Takes few bytes a call, and fails once it was called so often. It counts what it is asked.
-#[derive(Drop)]
-struct FailingSink {
-    bytes: Vec<u8>,
-    most: usize,
-    calls: u32,
-    asked: u32,
-    failures: u64,
-}
-
-impl Sink for FailingSink {
-    ghost use Rattle.iso_tap.specs.Sinks.{Account};
-
-    ghost account = { λ s. record {
-      bytes = Some s.bytes.items;
-      count = length s.bytes.items;
-      failures = s.failures;
-    } };
-
-    fn write(&mut self, bytes: &[u8]) -> Result<usize, SinkFailed> {
-        self.asked = self.asked.saturating_add(1);
-        let taken = bytes.len().min(self.most.max(1));
-        if self.asked <= self.calls {
-            if self.bytes.extend_from_slice(&bytes[..taken]).is_ok() {
-                return Ok(taken);
-            }
-        }
-        self.failures = self.failures.saturating_add(1);
-        Err(SinkFailed)
-    }
-
-    fn flush(&mut self) -> Result<(), SinkFailed> {
-        Ok(())
-    }
-}
-
-/// Whether the sink took the first bytes of the title, as many as the answer says, and was asked
-/// nothing more once it had failed.
-fn has_begun(sink: &FailingSink, answer: Result<(), TapFault>) -> bool {
-    let whole = ESCAPED.as_bytes();
-    let begun = whole.starts_with(sink.bytes.as_slice());
-    match answer {
-        Ok(()) => begun && sink.bytes.len() == whole.len() && sink.failures == 0,
-        Err(fault) => {
-            let told = sink.bytes.len() as u64 == fault.written;
-            begun && told && sink.failures == 1 && sink.asked == sink.calls.saturating_add(1)
-        }
-    }
-}
-
 #[test]
 fn failed_sink_keeps_what_it_took(rt: HostRuntime) {
     for most in [1, 7, 4_096] {
         for calls in 0..30 {
-            let mut sink = FailingSink {
-                bytes: Vec::new(rt.alloc()),
-                most,
-                calls,
-                asked: 0,
-                failures: 0,
-            };
+            let mut sink = FailingSink::new(rt.alloc(), most, calls);
             let answer = escape(TITLE, &mut sink);
             assert!(rt;
-                has_begun(&sink, answer),
+                has_begun(&sink, ESCAPED.as_bytes(), answer),
                 "{most} bytes a call, {calls} calls"
             );
         }

@@ -4,4 +4,10 @@
 #[cfg(test)]
 mod escape;
 #[cfg(test)]
+mod failing;
+#[cfg(test)]
+mod output;
+#[cfg(test)]
 mod plan;
+#[cfg(test)]
+mod report;

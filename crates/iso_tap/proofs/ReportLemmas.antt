@@ -1,0 +1,102 @@
+-- What is said of a node, from what is said of its children.
+use Rattle.std.proofs.Common.{◌≡◌, ◌<◌, ◌≤◌, ℕ, zero, suc, ◌+◌, List, [], ◌∷◌, ◌++◌, length, get_or, Bool, true, false, ◌&&◌, ◌==◌, not, cond, refl, sym, ap, ap₂, ◌∙◌, arith, true≢false}
+use Rattle.std.specs.List.{All, AllByRecursion, list_all}
+use Rattle.std.proofs.lemmas.List.Elements.{All-nil, All-cons, All-append, All-get_or, recursion_from_All}
+use Rattle.iso_model.specs.declared.outcome.Outcome.{Outcome}
+use Rattle.iso_plan.proofs.PathLemmas.{eq_from}
+use Rattle.iso_plan.specs.Paths.{IsTree, children, children_below, is_root, is_test, parent, row_at}
+use Rattle.iso_plan.specs.Tree.{Row}
+use Rattle.iso_tap.specs.ReportBlocks.{point}
+use Rattle.iso_tap.specs.ReportLines.{is_ok_verdict, plan_line, subtest_line}
+use Rattle.iso_tap.specs.Reports.{is_ok, is_ok_within, numbered, reported, reported_within, subtest}
+
+push_if : (P : ℕ → Type 0) (n : ℕ) (xs : List ℕ) (t : Bool) → (t ≡ true → P n) → All P xs → All P (cond t (xs ++ n ∷ []) xs)
+push_if P n xs true h all = All-append P xs (n ∷ []) all (All-cons P n [] (h refl) (All-nil P))
+push_if P n xs false h all = all
+
+child_is : (tree : List Row) (m n : ℕ) → (not (is_root n) && parent tree n == m) ≡ true → (0 < n) × (parent tree n ≡ m)
+child_is tree m zero h = absurd (true≢false (sym h))
+child_is tree m (suc n) h = (omega arith, eq_from (parent tree (suc n)) m h)
+
+-- what holds of each node that stands directly in a node holds of its children
+children-have : (P : ℕ → Type 0) (tree : List Row) (m k : ℕ) → ((n : ℕ) → 0 < n → n < k → parent tree n ≡ m → P n) → All P (children_below tree m k)
+children-have P tree m zero h = All-nil P
+children-have P tree m (suc n) h =
+    push_if P n (children_below tree m n) (not (is_root n) && parent tree n == m)
+    (λ e. let c = child_is tree m n e in h n c.0 (omega arith) c.1)
+    (children-have P tree m n (λ c pos less is. h c pos (omega arith) is))
+
+-- a child comes after the node that it stands in, and is one of the nodes
+abbrev pub IsChild : List Row → ℕ → ℕ → Type 0
+IsChild tree m n = (0 < n) × (m < n) × (n < length tree)
+
+pub children-are : (tree : List Row) (m : ℕ) → IsTree tree → All (IsChild tree m) (children tree m)
+children-are tree m t =
+    children-have (IsChild tree m) tree m (length tree) (λ n pos less is. let e = t.below n pos in (pos, omega arith, less))
+
+-- the child at a place
+pub child-at : (tree : List Row) (m i : ℕ) (d : ℕ) → IsTree tree → i < length (children tree m) → IsChild tree m (get_or (children tree m) i d)
+child-at tree m i d t h = All-get_or (IsChild tree m) (children tree m) i d h (children-are tree m t)
+
+all_same : (tree : List Row) (m : ℕ) (f g : ℕ → Bool) → ((n : ℕ) → IsChild tree m n → f n ≡ g n) → (ns : List ℕ) → AllByRecursion (IsChild tree m) ns → list_all f ns ≡ list_all g ns
+all_same tree m f g same [] h = refl
+all_same tree m f g same (n ∷ ns) h = ap₂ (λ a b. a && b) (same n h.0) (all_same tree m f g same ns h.1)
+
+numbered_same : (tree : List Row) (m : ℕ) (f g : ℕ → ℕ → List ℕ) → ((i n : ℕ) → IsChild tree m n → f i n ≡ g i n) → (i : ℕ) (ns : List ℕ) → AllByRecursion (IsChild tree m) ns → numbered f i ns ≡ numbered g i ns
+numbered_same tree m f g same i [] h = refl
+numbered_same tree m f g same i (n ∷ ns) h = ap₂ (λ a b. a ++ b) (same i n h.0) (numbered_same tree m f g same (i + 1) ns h.1)
+
+pub point-same : (indent number : ℕ) {b c : Bool} {s t : List ℕ} {o p : Outcome} → b ≡ c → s ≡ t → o ≡ p → point indent number b s o ≡ point indent number c t p
+point-same indent number e f h = rw (e, f, h) refl
+
+module _ (tree : List Row) (outcome : ℕ → Outcome) (t : IsTree tree) where
+  -- a depth that reaches past the last node is enough
+  ok_enough : (d e n : ℕ) → n < length tree → length tree ≤ n + d → length tree ≤ n + e → is_ok_within d tree outcome n ≡ is_ok_within e tree outcome n
+  ok_enough zero e n h k l = absurd (omega arith)
+  ok_enough (suc d) zero n h k l = absurd (omega arith)
+  ok_enough (suc d) (suc e) n h k l =
+      ap (λ b. is_ok_verdict (outcome n).verdict && b)
+      (all_same tree n (is_ok_within d tree outcome) (is_ok_within e tree outcome) (λ c is. ok_enough d e c is.2 (let less = is.1 in omega arith) (let less = is.1 in omega arith))
+      (children tree n) (recursion_from_All (IsChild tree n) (children tree n) (children-are tree n t)))
+
+  ok_from : (d n : ℕ) → 0 < n → n < length tree → length tree ≡ d → is_ok_within d tree outcome n ≡ (is_ok_verdict (outcome n).verdict && list_all (is_ok tree outcome) (children tree n))
+  ok_from zero n pos h e = absurd (omega arith)
+  ok_from (suc d) n pos h e =
+      ap (λ b. is_ok_verdict (outcome n).verdict && b)
+      (all_same tree n (is_ok_within d tree outcome) (is_ok tree outcome) (λ c is. ok_enough d (length tree) c is.2 (let less = is.1 in omega arith) (omega arith))
+      (children tree n) (recursion_from_All (IsChild tree n) (children tree n) (children-are tree n t)))
+
+  -- whether a point is ok, from its children's
+  pub ok-down : (n : ℕ) → 0 < n → n < length tree → is_ok tree outcome n ≡ (is_ok_verdict (outcome n).verdict && list_all (is_ok tree outcome) (children tree n))
+  ok-down n pos h = ok_from (length tree) n pos h refl
+
+  -- the same, where an equal outcome is known
+  pub ok-by : (n : ℕ) (o : Outcome) (b : Bool) → o ≡ outcome n → b ≡ is_ok_verdict o.verdict → 0 < n → n < length tree → is_ok tree outcome n ≡ (b && list_all (is_ok tree outcome) (children tree n))
+  ok-by n o b same is pos h =
+      ok-down n pos h ∙ ap (λ v. v && list_all (is_ok tree outcome) (children tree n)) (sym (is ∙ ap (λ (x : Outcome). is_ok_verdict x.verdict) same))
+
+  -- the text of a node, from its children's
+  abbrev pub shown : (indent : ℕ) (text : ℕ → ℕ → List ℕ) (number n : ℕ) → List ℕ
+  shown indent text number n =
+      subtest indent (row_at tree n) text (children tree n) ++ point indent number (is_ok tree outcome n) (row_at tree n).title (outcome n)
+
+  shown_same : (indent number n : ℕ) (f g : ℕ → ℕ → List ℕ) → ((i c : ℕ) → IsChild tree n c → f i c ≡ g i c) → shown indent f number n ≡ shown indent g number n
+  shown_same indent number n f g same =
+      ap (λ (s : List ℕ). cond (is_test (row_at tree n).kind) [] (subtest_line indent (row_at tree n).title ++ (plan_line (indent + 4) (length (children tree n)) ++ s)) ++ point indent number (is_ok tree outcome n) (row_at tree n).title (outcome n))
+      (numbered_same tree n f g same 1 (children tree n) (recursion_from_All (IsChild tree n) (children tree n) (children-are tree n t)))
+
+  text_enough : (d e indent number n : ℕ) → n < length tree → length tree ≤ n + d → length tree ≤ n + e → reported_within d tree outcome indent number n ≡ reported_within e tree outcome indent number n
+  text_enough zero e indent number n h k l = absurd (omega arith)
+  text_enough (suc d) zero indent number n h k l = absurd (omega arith)
+  text_enough (suc d) (suc e) indent number n h k l =
+      shown_same indent number n (reported_within d tree outcome (indent + 4)) (reported_within e tree outcome (indent + 4))
+      (λ i c is. text_enough d e (indent + 4) i c is.2 (let less = is.1 in omega arith) (let less = is.1 in omega arith))
+
+  text_from : (d indent number n : ℕ) → 0 < n → n < length tree → length tree ≡ d → reported_within d tree outcome indent number n ≡ shown indent (reported tree outcome (indent + 4)) number n
+  text_from zero indent number n pos h e = absurd (omega arith)
+  text_from (suc d) indent number n pos h e =
+      shown_same indent number n (reported_within d tree outcome (indent + 4)) (reported tree outcome (indent + 4))
+      (λ i c is. text_enough d (length tree) (indent + 4) i c is.2 (let less = is.1 in omega arith) (omega arith))
+
+  pub text-down : (indent number n : ℕ) → 0 < n → n < length tree → reported tree outcome indent number n ≡ shown indent (reported tree outcome (indent + 4)) number n
+  text-down indent number n pos h = text_from (length tree) indent number n pos h refl

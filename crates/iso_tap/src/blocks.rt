@@ -1,0 +1,134 @@
+//! The block under a point.
+ghost use Rattle.std.specs.Prelude.{◌≡◌, ◌<◌, ◌+◌, ◌^◌, ◌++◌, ◌==◌, Some, length};
+ghost use Rattle.std.specs.Option.{option_map};
+ghost use Rattle.iso_lifecycle.specs.ResultViews.{outcome_of_view, verdict_of_view};
+ghost use Rattle.iso_tap.specs.Escapes.{quoted};
+ghost use Rattle.iso_tap.specs.ReportBlocks.{block_lines, item_lines, note_lines, note_of, output_lines, verdict_lines, verdict_word};
+ghost use Rattle.iso_tap.specs.ReportLines.{line_at};
+
+use crate::printer::{Piece, Printer};
+use crate::sink::{Sink, SinkFailed};
+use iso_lifecycle::view::{View, ViewVerdict};
+use iso_model::outcome::Note;
+use iso_model::text::Text;
+
+impl<'a, W: Sink> Printer<'a, W> {
+    ghost use Rattle.iso_tap.specs.Printers.{Prints};
+
+    /// Writes the block of an outcome.
+    pub fn block(&mut self, indent: u64, outcome: View<'_>) -> Result<(), SinkFailed>
+        requires { indent + 2 < 2 ^ 64 }
+        ensures { Prints self.old self.new (block_lines indent (outcome_of_view outcome.entry)) result }
+    {
+        self.line(indent, &[Piece::Plain(b"---")])?;
+        self.verdict(indent, outcome.verdict)?;
+        self.output(indent, outcome)?;
+        self.line(indent, &[Piece::Plain(b"...")])
+    }
+
+    /// Writes the word of a verdict, and its message and place where it has them.
+    fn verdict(&mut self, indent: u64, verdict: ViewVerdict<'_>) -> Result<(), SinkFailed>
+        ensures { Prints self.old self.new (verdict_lines indent (verdict_of_view verdict.entry)) result }
+    {
+        let word = verdict_word(verdict);
+        self.line(
+            indent,
+            &[Piece::Plain(b"verdict: "), Piece::Plain(word.as_bytes())],
+        )?;
+        match note(verdict) {
+            Some(note) => self.note(indent, note),
+            None => Ok(()),
+        }
+    }
+
+    /// Writes a message and its place.
+    fn note(&mut self, indent: u64, note: &Note) -> Result<(), SinkFailed>
+        ensures { Prints self.old self.new (note_lines indent (Some note.now)) result }
+    {
+        self.quoted(indent, b"message: ", &note.message)?;
+        self.line(
+            indent,
+            &[
+                Piece::Plain(b"at: \""),
+                Piece::At(note.place),
+                Piece::Plain(b"\""),
+            ],
+        )
+    }
+
+    /// Writes what was printed.
+    fn output(&mut self, indent: u64, outcome: View<'_>) -> Result<(), SinkFailed>
+        requires { indent + 2 < 2 ^ 64 }
+        ensures { Prints self.old self.new (output_lines indent (outcome_of_view outcome.entry).output) result }
+    {
+        if printed_nothing(outcome) {
+            return self.line(indent, &[Piece::Plain(b"output: []")]);
+        }
+        self.line(indent, &[Piece::Plain(b"output:")])?;
+        self.items(indent + 2, outcome.lines)?;
+        self.items(indent + 2, outcome.more)
+    }
+
+    /// Writes printed lines, one item each.
+    fn items(&mut self, indent: u64, lines: &[Text]) -> Result<(), SinkFailed>
+        ensures { Prints self.old self.new (item_lines indent lines.now) result }
+    {
+        'lines: for line in lines {
+            self.quoted(indent, b"- ", line)?;
+        }
+        Ok(())
+    }
+
+    /// Writes a line that ends with a text in quotes.
+    fn quoted<'x>(
+        &mut self,
+        indent: u64,
+        before: &'x [u8],
+        text: &'x Text,
+    ) -> Result<(), SinkFailed>
+        ensures { Prints self.old self.new (line_at indent (before.now ++ quoted text.now)) result }
+    {
+        self.line(
+            indent,
+            &[
+                Piece::Plain(before),
+                Piece::Plain(b"\""),
+                Piece::InQuotes(text.as_str()),
+                Piece::Plain(b"\""),
+            ],
+        )
+    }
+}
+
+/// Whether nothing was printed.
+pub(crate) fn printed_nothing(outcome: View<'_>) -> bool
+    ensures { result ≡ (length (outcome_of_view outcome.entry).output == 0) }
+{
+    outcome.lines.is_empty() && outcome.more.is_empty()
+}
+
+/// The word of a verdict.
+fn verdict_word(verdict: ViewVerdict<'_>) -> &'static str
+    ensures { result.now ≡ verdict_word (verdict_of_view verdict.entry) }
+{
+    match verdict {
+        ViewVerdict::Pass => "pass",
+        ViewVerdict::Fail(_) => "fail",
+        ViewVerdict::Fault(..) => "fault",
+        ViewVerdict::Skipped(_) => "skipped",
+        ViewVerdict::Blocked(_) => "blocked",
+    }
+}
+
+/// The message of a verdict with its place, if it has one.
+fn note<'a>(verdict: ViewVerdict<'a>) -> Option<&'a Note>
+    ensures { option_map (λ n. n.now) result ≡ note_of (verdict_of_view verdict.entry) }
+{
+    match verdict {
+        ViewVerdict::Pass => None,
+        ViewVerdict::Fail(note)
+        | ViewVerdict::Fault(_, note)
+        | ViewVerdict::Skipped(note)
+        | ViewVerdict::Blocked(note) => Some(note),
+    }
+}
