@@ -1,12 +1,23 @@
-//! Worked examples, run through the program's `command` and compared byte for byte; and reports of
-//! results that no script comes to yet.
+//! Worked examples, run through the program's `command`.
 #![tactic(auto)]
 
 #[cfg(test)]
-mod first_part;
+mod folder;
+#[cfg(test)]
+mod lifecycle;
 #[cfg(test)]
 mod program;
 #[cfg(test)]
 mod ran;
 #[cfg(test)]
-mod reports;
+mod restoring;
+#[cfg(test)]
+mod rights;
+#[cfg(test)]
+mod row;
+#[cfg(test)]
+mod scripts;
+#[cfg(test)]
+mod statements;
+#[cfg(test)]
+mod teams;

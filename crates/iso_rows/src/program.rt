@@ -1,7 +1,8 @@
 //! The program over files in a folder of its own: its words, the order in which it reads, its lines and statuses.
 ghost use Rattle.std.specs.Prelude.{None};
 
-use crate::ran::{Ran, run_words};
+use crate::folder::{in_folder, new_folder, put, run, words_of};
+use crate::ran::run_words;
 use iso_run::command::command;
 use iso_tap::memory::MemorySink;
 use iso_tap::sink::{Sink, SinkFailed};
@@ -9,46 +10,6 @@ use std::alloc::{AllocError, Global};
 use std::fs;
 use std::io::{self, Read};
 use std::test::Fail;
-
-/// A new folder.
-fn new_folder(rt: &HostRuntime) -> Result<String, Fail> {
-    for number in 0..100_000u32 {
-        let path = format!(in rt.alloc(); "/tmp/jtap_rows_{number}")?;
-        if fs::create_dir(rt, path.as_str()).is_ok() {
-            return Ok(path);
-        }
-    }
-    Err(Fail::from(AllocError))
-}
-
-/// Writes a file of this folder.
-fn put(rt: &HostRuntime, folder: &str, name: &str, bytes: &[u8]) -> Result<(), Fail> {
-    let path = format!(in rt.alloc(); "{folder}/{name}")?;
-    fs::write(rt, path.as_str(), bytes)?;
-    Ok(())
-}
-
-/// A line of words as a list, in which `@` stands for the folder and a slash.
-fn words_of(alloc: Global, folder: &str, line: &str) -> Result<Vec<String>, AllocError> {
-    let mut words = Vec::new(alloc);
-    for word in line.split_ascii_whitespace() {
-        words.push(in_folder(alloc, folder, word)?)?;
-    }
-    Ok(words)
-}
-
-/// A text in which the folder and a slash stand in place of each `@`.
-fn in_folder(alloc: Global, folder: &str, text: &str) -> Result<String, AllocError> {
-    let prefix = format!(in alloc; "{folder}/")?;
-    text.replace(alloc, '@', prefix.as_str())
-}
-
-/// Runs the program with a line of words, and nothing on standard input.
-fn run(rt: &HostRuntime, folder: &str, line: &str) -> Result<Ran, Fail> {
-    let words = words_of(rt.alloc(), folder, line)?;
-    let mut input: &[u8] = &[];
-    Ok(run_words(rt, &words, &mut input))
-}
 
 /// So many bytes, of which the first are these and the others spaces.
 fn filled(alloc: Global, start: &str, len: usize) -> Result<Vec<u8>, AllocError> {
@@ -79,12 +40,6 @@ fn put_files(rt: &HostRuntime, folder: &str) -> Result<(), Fail> {
     )?;
     put(rt, folder, "shop", "team shop\n".as_bytes())?;
     put(rt, folder, "bad", "team shop\nclass C { }\n".as_bytes())?;
-    put(
-        rt,
-        folder,
-        "beyond",
-        "team shop\nclass C { test t { print 1 + 2; } }\n".as_bytes(),
-    )?;
     put(rt, folder, "text", &[b'a', 0xFF])?;
     put(
         rt,
@@ -132,7 +87,6 @@ fn faults_have_a_line_and_a_status(rt: HostRuntime) -> Result<(), Fail> {
         ("run @cart @bad", 2, "jtap: @bad:2:11: EmptyClass\n"),
         ("run @empty", 2, "jtap: @empty:1:1: EndOfInput\n"),
         ("run @large", 2, "jtap: @large:1:1: TooLong\n"),
-        ("run @beyond", 2, "jtap: not yet\n"),
         ("run --settings @text @cart", 2, "jtap: settings: NotToml\n"),
         (
             "run --settings @wrong @cart",
@@ -187,10 +141,10 @@ fn faults_have_a_line_and_a_status(rt: HostRuntime) -> Result<(), Fail> {
             2,
             "jtap: world: WrongValue files.a\n",
         ),
-        ("run @beyond @bad @bad", 2, "jtap: @bad:2:11: EmptyClass\n"),
-        ("run @beyond @cart @cart", 2, "jtap: plan: DoubleClass\n"),
+        ("run @desk @bad @bad", 2, "jtap: @bad:2:11: EmptyClass\n"),
+        ("run @desk @cart @cart", 2, "jtap: plan: DoubleClass\n"),
     ] {
-        let ran = run(&rt, folder, words)?;
+        let ran = run(&rt, folder, words, "")?;
         let line = in_folder(rt.alloc(), folder, line)?;
         assert_eq!(rt; ran.status, status, "of {words}");
         assert!(rt; ran.errors.bytes() == line.as_bytes(), "of {words}");
@@ -211,12 +165,12 @@ fn scripts_run_under_settings_and_a_world(rt: HostRuntime) -> Result<(), Fail> {
         "run --settings @settings --world @world @cart",
         "run --settings @empty --world @largest @cart @shop @shop",
     ] {
-        let ran = run(&rt, folder, words)?;
+        let ran = run(&rt, folder, words, "")?;
         assert_eq!(rt; ran.status, 0, "of {words}");
         assert!(rt; ran.output.bytes() == CART_REPORT.as_bytes(), "of {words}");
         assert!(rt; ran.errors.bytes().is_empty(), "of {words}");
     }
-    let ran = run(&rt, folder, "run @cart @desk")?;
+    let ran = run(&rt, folder, "run @cart @desk", "")?;
     assert_eq!(rt; ran.status, 1);
     assert!(rt;
         ran.output
@@ -261,7 +215,7 @@ fn plan_is_printed(rt: HostRuntime) -> Result<(), Fail> {
     let folder = folder.as_str();
     put(&rt, folder, "script", CART_AND_DESK.as_bytes())?;
     put(&rt, folder, "settings", TWO_WORKERS.as_bytes())?;
-    let ran = run(&rt, folder, "plan --settings @settings @script")?;
+    let ran = run(&rt, folder, "plan --settings @settings @script", "")?;
     assert_eq!(rt; ran.status, 0);
     assert!(rt; ran.output.bytes() == CART_AND_DESK_PLAN.as_bytes());
     assert!(rt; ran.errors.bytes().is_empty());
@@ -278,9 +232,9 @@ fn more_than_64_scripts_are_too_many(rt: HostRuntime) -> Result<(), Fail> {
     for _ in 0..64 {
         line.push_str(" @shop")?;
     }
-    assert_eq!(rt; run(&rt, folder, line.as_str())?.status, 0);
+    assert_eq!(rt; run(&rt, folder, line.as_str(), "")?.status, 0);
     line.push_str(" @shop")?;
-    let ran = run(&rt, folder, line.as_str())?;
+    let ran = run(&rt, folder, line.as_str(), "")?;
     assert_eq!(rt; ran.status, 2);
     assert!(rt; ran.errors.bytes() == "jtap: plan: TooManyScripts\n".as_bytes());
     fs::remove_dir_all(&rt, folder)?;
@@ -297,7 +251,7 @@ fn wrong_words_are_refused(rt: HostRuntime) -> Result<(), Fail> {
         "plan --serial",
         "walk",
     ] {
-        let ran = run(&rt, "", line)?;
+        let ran = run(&rt, "", line, "")?;
         assert_eq!(rt; ran.status, 2, "of {line}");
         assert!(rt;
             ran.errors.bytes().starts_with("error: ".as_bytes()),
@@ -317,7 +271,7 @@ fn help_and_version_are_printed(rt: HostRuntime) -> Result<(), Fail> {
         ("plan --help", "Print how"),
         ("--version", "jtap 0.1.0\n"),
     ] {
-        let ran = run(&rt, "", line)?;
+        let ran = run(&rt, "", line, "")?;
         assert_eq!(rt; ran.status, 0, "of {line}");
         assert!(rt;
             ran.output.bytes().starts_with(start.as_bytes()),

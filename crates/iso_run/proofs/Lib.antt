@@ -1,4 +1,2 @@
-mod Answering
-pub mod FirstPart
 mod Reading
-mod Turns
+mod Reporting

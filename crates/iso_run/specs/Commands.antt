@@ -19,7 +19,6 @@ command_status (Run fault name) = status fault
 
 -- what a fault of a run leaves of the output: the report's beginning where the output failed, and else nothing was asked of it
 abbrev pub NotReported : RunFault → Account → Account → Type 0
-NotReported F.NotYet old new = Untouched old new
 NotReported (F.Settings fault) old new = Untouched old new
 NotReported (F.World fault) old new = Untouched old new
 NotReported (F.Script index fault) old new = Untouched old new

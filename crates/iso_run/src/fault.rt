@@ -16,8 +16,6 @@ pub const FAILED: u8 = 3;
 /// Why a run has no report, or only its beginning.
 #[derive(Drop)]
 pub enum RunFault {
-    /// A script lies outside the first part of the language, which is not run yet.
-    NotYet,
     Settings(SettingsFault),
     World(SettingsFault),
     /// The fault of one script, by its place among the scripts, counted from 0.
@@ -35,8 +33,7 @@ impl RunFault {
         ensures { result ≡ status self.now }
     {
         match self {
-            RunFault::NotYet
-            | RunFault::Settings(_)
+            RunFault::Settings(_)
             | RunFault::World(_)
             | RunFault::Script(..)
             | RunFault::Plan(_) => REFUSED,
@@ -74,7 +71,6 @@ impl fmt::Display for FaultLine<'_> {
     fn fmt<W: fmt::Write>(&self, f: &mut fmt::Formatter<W>) -> fmt::Result {
         let name = self.name;
         match self.fault {
-            RunFault::NotYet => f.write_str("jtap: not yet"),
             RunFault::Settings(fault) => write!(f, "jtap: settings: {fault}"),
             RunFault::World(fault) => write!(f, "jtap: world: {fault}"),
             RunFault::Script(_, ScriptFault { kind, line, column }) => {

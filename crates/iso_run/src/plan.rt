@@ -11,7 +11,7 @@ use std::alloc::Global;
 /// Reads inputs as `run_serial` does, for every script, and writes their plan to the sink: the line `workers W`, and then
 /// of each node its number, kind, mode, locks and path.
 ///
-/// The first fault of the inputs is answered; with any but `Write` the sink is asked nothing. `NotYet` isn't answered.
+/// The first fault of the inputs is answered; with any but `Write` the sink is asked nothing.
 pub fn show_plan<W: Sink>(alloc: Global, inputs: Inputs<'_>, sink: &mut W) -> Result<(), RunFault>
     requires { 1 ≤ inputs.processors }
     ensures { MatchResult result

@@ -1,0 +1,8 @@
+pub mod BodyLemmas
+pub mod KeyLemmas
+pub mod LeaveLemmas
+pub mod NodeLemmas
+pub mod OpeningLemmas
+pub mod ResultLemmas
+pub mod StepLemmas
+pub mod TrayLemmas

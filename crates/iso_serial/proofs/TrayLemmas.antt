@@ -1,0 +1,351 @@
+-- A tray as nodes are lent to it and taken back.
+use Rattle.std.proofs.Common.{◌≡◌, ◌≢◌, ℕ, zero, suc, ◌<◌, ◌≤◌, List, length, set, Option, Some, None, Bool, true, false, ◌&&◌, cond, is_some, option_map, ◌⊎◌, inl, inr, refl, sym, ap, ap₂, ◌∙◌, subst, arith}
+use Rattle.std.proofs.lemmas.Bool.{cases_eq, cases_lt}
+use Rattle.std.proofs.lemmas.List.{get_or-set_other, get_or-set_same, get_or_past, length-map, length-set}
+use Rattle.std.specs.Option.{option_or}
+use Rattle.iso_lifecycle.specs.BodyViews.{EqualAt}
+use Rattle.iso_lifecycle.specs.Subjects.{opening_of, rights_of_subject, subject}
+use Rattle.iso_lifecycle.specs.declared.kind.BodyKind.TheVariants.{BeforeAll, Test, AfterAll}
+use Rattle.iso_locks.proofs.NumberLemmas.{number-spells, number-within}
+use Rattle.iso_locks.specs.Moves.{is_written}
+use Rattle.iso_locks.specs.Slots.{slot}
+use Rattle.iso_locks.specs.Trays.{IsOnward, TrayView, content, has_at, has_value, is_lent, is_open, key_at, number_of, resources, seen, seen_at}
+use Rattle.iso_locks.specs.Vaults.{CanLend, IsLentTo, VaultView, busy, is_in_the_way, lending, lowest, regaining, value_in}
+use Rattle.iso_model.specs.Resources.{Resources}
+use Rattle.iso_model.specs.Rights.{is_readable, is_writable}
+use Rattle.iso_model.specs.Touch.{HasKeys, kind_of_value}
+use Rattle.iso_model.specs.declared.resource.Resource.{Resource}
+use Rattle.iso_plan.proofs.Columns.{column-read, length-column}
+use Rattle.iso_plan.proofs.LawLemmas.{conflict-apart, covered, root-unreadable}
+use Rattle.iso_plan.proofs.PathLemmas.{under-le, under-self, under-step}
+use Rattle.iso_plan.specs.KeyTable.{keys}
+use Rattle.iso_plan.specs.Locks.{conflict, locks, taken}
+use Rattle.iso_plan.specs.NodeChains.{node_rights}
+use Rattle.iso_plan.specs.Paths.{IsTree, column, is_test, is_under, parent, row_at}
+use Rattle.iso_plan.specs.Planned.{Planned}
+use Rattle.iso_plan.specs.RowView.{row_of, tree_of}
+use Rattle.iso_plan.specs.Tree.{Row}
+use Rattle.iso_settings.specs.Worlds.{Start, starting_value_in}
+use Rattle.iso_store.specs.Histories.{History}
+use Rattle.iso_serial.proofs.KeyLemmas.{has-number, open-of, or-true, readable-of, written-conflict, written-is, written-within}
+use Rattle.iso_serial.proofs.OpeningLemmas.{IsOpened, opened-apart, opened-whole, opening-kind, opening-start}
+use Rattle.iso_serial.proofs.ResultLemmas.{above-parent, not-above, root-or-not, true-or-false}
+use Rattle.iso_serial.specs.Standing.{AreLentAlong, HoldsAlong, IsAsOpened, IsAsOpenedApart, IsDone, IsLentAlong, IsWrittenOn, held}
+
+pub record IsHeld (o : Option History) : Type 0 where
+  pub value : History
+  pub is : o ≡ Some value
+
+pub held-of : (o : Option History) → is_some o ≡ true → IsHeld o
+held-of (Some h) e = record { value = h; is = refl }
+held-of None e = absurd (cc)
+
+pub some-or-none : (o : Option History) → IsHeld o ⊎ (o ≡ None)
+some-or-none (Some h) = inl (record { value = h; is = refl })
+some-or-none None = inr refl
+
+now-of : (o : Option History) (r : Resource) → option_map (λ (h : History). h.now) o ≡ Some r → is_some o ≡ true
+now-of (Some h) r e = refl
+now-of None r e = absurd (cc)
+
+seen-open : (o : Option History) (s : Resource) → is_some (seen o true s) ≡ true
+seen-open (Some h) s = refl
+seen-open None s = refl
+
+seen-start : (b : Bool) (s : Resource) → is_some (seen None b s) ≡ true → seen None b s ≡ Some s
+seen-start true s e = refl
+seen-start false s e = absurd (cc)
+
+pub cond-none : (b : Bool) → cond b None None ≡ (let none : Option History = None in none)
+cond-none true = refl
+cond-none false = refl
+
+pub or-some : (o p : Option History) → is_some p ≡ true → is_some (option_or o p) ≡ true
+or-some (Some h) p e = refl
+or-some None p e = e
+
+pub or-some-cases : (b : Bool) (o p : Option History) → is_some (option_or (cond b o None) p) ≡ true → (is_some o ≡ true) ⊎ (is_some p ≡ true)
+or-some-cases true (Some h) p e = inl refl
+or-some-cases true None p e = inr e
+or-some-cases false o p e = inr e
+
+pub column-slot : (f : ℕ → Option History) (n i : ℕ) → (n ≤ i → f i ≡ None) → slot (column f n) i ≡ f i
+column-slot f n i past = elim (cases_lt i n) [
+  | inl less ↦ column-read f (column f n) n i None refl less
+  | inr more ↦ let count = length-column f n in get_or_past (column f n) i None (omega arith) ∙ sym (past more)
+]
+
+lowest-no : (test : ℕ → Bool) (n : ℕ) → ((m : ℕ) → m < n → test m ≡ false) → lowest test n ≡ None
+lowest-no test zero h = refl
+lowest-no test (suc n) h = rw (lowest-no test n (λ m less. h m (omega arith)), h n (omega arith)) refl
+
+both : (a b : Bool) → (a && b) ≡ true → (a ≡ true) × (b ≡ true)
+both true b e = (refl, e)
+both false b e = absurd (cc)
+
+module _ (plan : Planned) (world : Start) (t : IsTree (tree_of plan)) where
+  abbrev tr : List Row
+  tr = tree_of plan
+
+  abbrev left : ℕ → Resources
+  left p = (opening_of (subject plan world p)).resources
+
+  abbrev start : List ℕ → Resource
+  start k = starting_value_in world k
+
+  pub record Number (k : List ℕ) : Type 0 where
+    pub at : ℕ
+    pub is : number_of tr k ≡ Some at
+    pub within : at < length (keys tr)
+    pub key_is : key_at tr at ≡ k
+
+  number-by : (u : TrayView) (k : List ℕ) (o : Option ℕ) → number_of tr k ≡ o → is_some (seen_at tr world u.lent u.values k o) ≡ true → Number k
+  number-by u k None e h = absurd (cc)
+  number-by u k (Some i) e h = record { at = i; is = e; within = number-within (keys tr) k (length (keys tr)) i e; key_is = number-spells (keys tr) k (length (keys tr)) i e }
+
+  -- a key at which a tray has something has a number
+  pub number : (u : TrayView) (k : List ℕ) → is_some (held plan world u k) ≡ true → Number k
+  number u k h = number-by u k (number_of tr k) refl h
+
+  pub held-some : (u : TrayView) (k : List ℕ) (i : ℕ) (h : History) → number_of tr k ≡ Some i → slot u.values i ≡ Some h → held plan world u k ≡ Some h.now
+  held-some u k i h e s = ap (seen_at tr world u.lent u.values k) e ∙ ap (λ (o : Option History). seen o (is_open tr u.lent k) (start k)) s
+
+  pub held-start : (u : TrayView) (k : List ℕ) (i : ℕ) → number_of tr k ≡ Some i → slot u.values i ≡ None → is_some (held plan world u k) ≡ true → held plan world u k ≡ Some (start k)
+  held-start u k i e s h =
+      let at : held plan world u k ≡ seen None (is_open tr u.lent k) (start k) = ap (seen_at tr world u.lent u.values k) e ∙ ap (λ (o : Option History). seen o (is_open tr u.lent k) (start k)) s in
+      at ∙ seen-start (is_open tr u.lent k) (start k) (ap is_some (sym at) ∙ h)
+
+  -- trays to which the same is lent hold the same at a key whose slots are equal
+  pub held-same : (u w : TrayView) (k : List ℕ) (i : ℕ) → number_of tr k ≡ Some i → u.lent ≡ w.lent → slot u.values i ≡ slot w.values i → held plan world u k ≡ held plan world w k
+  held-same u w k i e lent same =
+      ap (seen_at tr world u.lent u.values k) e ∙ ap₂ (λ (ls : List Bool) (o : Option History). seen o (is_open tr ls k) (start k)) lent same ∙ sym (ap (seen_at tr world w.lent w.values k) e)
+
+  -- a key that a node may change is taken for READ_WRITE on its path
+  pub write-covered : (n : ℕ) (k : List ℕ) (i : ℕ) → 0 < n → n < length tr → is_writable (node_rights tr n k) ≡ true → number_of tr k ≡ Some i → IsWrittenOn tr n i
+  write-covered n k i pos within w e =
+      let c = covered tr t n k pos within (readable-of (node_rights tr n k) w) in
+      let num = has-number tr c.taker k c.reads in
+      let whole : Some num.number ≡ Some i = sym num.is ∙ e in
+      let same : num.number ≡ i = cc in
+      record {
+        node = c.taker;
+        above = c.above;
+        writes = ap (is_written (locks tr c.taker)) (sym same) ∙ written-is tr c.taker num.number num.within ∙ ap (λ (j : List ℕ). is_writable (taken tr c.taker j)) num.key_is ∙ c.writes w;
+      }
+
+  write-above : (p : ℕ) (k : List ℕ) (i : ℕ) → p < length tr → is_writable (node_rights tr p k) ≡ true → number_of tr k ≡ Some i → IsWrittenOn tr p i
+  write-above p k i within w e = elim (root-or-not p) [
+    | inl zeroth ↦
+        let none : is_readable (node_rights tr p k) ≡ false = ap (λ (j : ℕ). is_readable (node_rights tr j k)) zeroth ∙ root-unreadable tr t k in
+        let wrong : false ≡ true = sym none ∙ readable-of (node_rights tr p k) w in
+        absurd (cc)
+    | inr pos ↦ write-covered p k i pos within w e
+  ]
+
+  -- what stands above a node conflicts with it nowhere
+  no-conflict : (m n : ℕ) → 0 < n → is_under tr m (parent tr n) ≡ true → conflict tr m n ≡ true → ⊥
+  no-conflict m n pos above c =
+      let under : is_under tr m n ≡ true = under-step tr t.below m n pos ∙ or-true _ (is_under tr m (parent tr n)) above in
+      let same = conflict-apart tr t.below m n c under in
+      let le = under-le tr t.below m (parent tr n) above in
+      let less = t.below n pos in
+      omega arith
+
+  pub no-clash : (n i : ℕ) → 0 < n → IsWrittenOn tr (parent tr n) i → is_written (locks tr n) i ≡ true → ⊥
+  no-clash n i pos on w = no-conflict on.node n pos on.above (written-conflict tr on.node n i on.writes w)
+
+  -- what stands at its start in the opening of a node's parent: a key that no node of its path has, and a key that the node takes
+  pub start-absent : (u : TrayView) (p : ℕ) (k : List ℕ) (i : ℕ) → p < length tr → is_test (row_at tr p).kind ≡ false → HoldsAlong plan world p u → number_of tr k ≡ Some i → slot u.values i ≡ None → left p k ≡ Some (start k)
+  start-absent u p k i within e h num none = elim (true-or-false (is_writable (node_rights tr p k))) [
+    | inl w ↦ let wrong : false ≡ true = sym (ap is_some none) ∙ h.there i (write-above p k i within w num) in absurd (cc)
+    | inr locked ↦ opening-start plan world p k e locked
+  ]
+
+  pub start-taken : (n : ℕ) (k : List ℕ) (i : ℕ) → 0 < n → n < length tr → number_of tr k ≡ Some i → is_written (locks tr n) i ≡ true → left (parent tr n) k ≡ Some (start k)
+  start-taken n k i pos within num w =
+      let less = t.below n pos in
+      elim (true-or-false (is_writable (node_rights tr (parent tr n) k))) [
+        | inl may ↦ absurd (no-clash n i pos (write-above (parent tr n) k i (omega arith) may num) w)
+        | inr locked ↦ opening-start plan world (parent tr n) k (t.inner n pos) locked
+      ]
+
+  -- what a node may look at is there
+  covered-held : (u : TrayView) (n : ℕ) (k : List ℕ) → 0 < n → n < length tr → HoldsAlong plan world n u → is_readable (node_rights tr n k) ≡ true → is_some (held plan world u k) ≡ true
+  covered-held u n k pos within h r =
+      let c = covered tr t n k pos within r in
+      let num = has-number tr c.taker k c.reads in
+      let le = under-le tr t.below c.taker n c.above in
+      elim (true-or-false (is_writable (taken tr c.taker k))) [
+        | inl w ↦
+            let writes : is_written (locks tr c.taker) num.number ≡ true = written-is tr c.taker num.number num.within ∙ ap (λ (j : List ℕ). is_writable (taken tr c.taker j)) num.key_is ∙ w in
+            let s = held-of (slot u.values num.number) (h.there num.number (record { node = c.taker; above = c.above; writes = writes })) in
+            ap is_some (held-some u k num.number s.value num.is s.is)
+        | inr only ↦
+            let shown = open-of tr u.lent c.taker k (omega arith) (h.lent.along c.taker ∙ c.above) c.reads only in
+            ap is_some (ap (seen_at tr world u.lent u.values k) num.is ∙ ap (λ (b : Bool). seen (slot u.values num.number) b (start k)) shown) ∙ seen-open (slot u.values num.number) (start k)
+      ]
+
+  content-is : (u : TrayView) (p : ℕ) → HoldsAlong plan world p u → content u ≡ held plan world u
+  content-is u p h = ap₂ (λ (pl : Planned) (w : Start). resources (tree_of pl) w u.lent u.values) h.plan_is h.world_is
+
+  -- a body of n finds its keys, as the opening of p has left them
+  pub tray-equal : (u : TrayView) (n p : ℕ) → 0 < n → n < length tr → HoldsAlong plan world n u → IsAsOpened plan world p u → EqualAt (rights_of_subject (subject plan world n)) (content u) (left p)
+  tray-equal u n p pos within h v = record {
+    at = λ k r. ap (λ (m : Resources). m k) (content-is u n h) ∙ v k (covered-held u n k pos within h r);
+  }
+
+  pub tray-keys : (u : TrayView) (n p : ℕ) → 0 < n → n < length tr → HoldsAlong plan world n u → IsAsOpened plan world p u → HasKeys (rights_of_subject (subject plan world n)) (content u) (has_value u)
+  tray-keys u n p pos within h v = record {
+    looks = λ k r. ap (option_map kind_of_value) ((tray-equal u n p pos within h v).at k r) ∙ opening-kind plan world p k;
+    changes = λ k w.
+        let c = covered tr t n k pos within (readable-of (node_rights tr n k) w) in
+        let num = has-number tr c.taker k c.reads in
+        ap (λ (pl : Planned). has_at u.values (number_of (tree_of pl) k)) h.plan_is ∙ ap (has_at u.values) num.is ∙ h.there num.number (write-covered n k num.number pos within w num.is);
+  }
+
+  -- lending
+  lent-more : (l : List Bool) (n : ℕ) → 0 < n → n < length plan.rows → AreLentAlong plan (parent tr n) l → AreLentAlong plan n (set l n true)
+  lent-more l n pos within a =
+      let fits = a.fits in
+      record {
+        fits = length-set l n true ∙ a.fits;
+        along = λ m. elim (cases_eq m n) [
+          | inl same ↦ ap (is_lent (set l n true)) same ∙ get_or-set_same l n true false (omega arith) ∙ sym (ap (λ (j : ℕ). is_under tr j n) same ∙ under-self tr t.below n pos)
+          | inr other ↦ get_or-set_other l n m true false other ∙ a.along m ∙ sym (above-parent tr t.below m n pos other)
+        ];
+      }
+
+  pub lent-less : (l : List Bool) (n : ℕ) → 0 < n → n < length plan.rows → AreLentAlong plan n l → AreLentAlong plan (parent tr n) (set l n false)
+  lent-less l n pos within a =
+      let fits = a.fits in
+      record {
+        fits = length-set l n false ∙ a.fits;
+        along = λ m. elim (cases_eq m n) [
+          | inl same ↦ ap (is_lent (set l n false)) same ∙ get_or-set_same l n false false (omega arith) ∙ sym (ap (λ (j : ℕ). is_under tr j (parent tr n)) same ∙ not-above tr t.below n pos)
+          | inr other ↦ get_or-set_other l n m false false other ∙ a.along m ∙ above-parent tr t.below m n pos other
+        ];
+      }
+
+  pub free : (v : VaultView) (n : ℕ) → 0 < n → IsLentAlong plan world (parent tr n) v → busy v n ≡ None
+  free v n pos a =
+      lowest-no (is_in_the_way v n) (length v.plan.rows)
+      (λ m less. elim (true-or-false (is_in_the_way v n m)) [
+        | inl way ↦
+            let parts = both (is_lent v.lent m) (conflict (tree_of v.plan) m n) way in
+            absurd (no-conflict m n pos (sym (a.lent.along m) ∙ parts.0) (ap (λ (pl : Planned). conflict (tree_of pl) m n) (sym a.plan_is) ∙ parts.1))
+        | inr out ↦ out
+      ])
+
+  pub can-lend : (v : VaultView) (u : TrayView) (n : ℕ) → 0 < n → n < length plan.rows → IsLentAlong plan world (parent tr n) v → HoldsAlong plan world (parent tr n) u → CanLend n v u
+  can-lend v u n pos within a h =
+      let rows : length v.plan.rows ≡ length plan.rows = ap (λ (pl : Planned). length pl.rows) a.plan_is in
+      record {
+        node = omega arith;
+        plan = h.plan_is ∙ sym a.plan_is;
+        world = h.world_is ∙ sym a.world_is;
+        free = a.lent.along n ∙ not-above tr t.below n pos;
+        apart = h.lent.along n ∙ not-above tr t.below n pos;
+      }
+
+  pub vault-lent : (v : VaultView) (n : ℕ) → 0 < n → n < length plan.rows → IsLentAlong plan world (parent tr n) v → IsLentAlong plan world n (lending n v)
+  vault-lent v n pos within a = record { plan_is = a.plan_is; world_is = a.world_is; lent = lent-more v.lent n pos within a.lent }
+
+  pub vault-back : (v : VaultView) (n : ℕ) → 0 < n → n < length plan.rows → IsLentAlong plan world n v → IsLentAlong plan world (parent tr n) (regaining n v)
+  vault-back v n pos within a = record { plan_is = a.plan_is; world_is = a.world_is; lent = lent-less v.lent n pos within a.lent }
+
+  module _ (u w : TrayView) (n : ℕ) (pos : 0 < n) (within : n < length plan.rows) (h : HoldsAlong plan world (parent tr n) u) (v : IsAsOpened plan world (parent tr n) u) (l : IsLentTo n u w) where
+    inside : n < length tr
+    inside = let count : length tr ≡ length plan.rows = length-map plan.rows row_of in omega arith
+
+    lent-start : (i : ℕ) → is_written (locks tr n) i ≡ true → value_in w.values i ≡ Some (start (key_at tr i))
+    lent-start i e =
+        let less : i < length (keys (tree_of u.plan)) = subst (λ (pl : Planned). i < length (keys (tree_of pl))) (sym h.plan_is) (written-within tr n i e) in
+        let old : is_written (locks (tree_of u.plan) n) i ≡ true = ap (λ (pl : Planned). is_written (locks (tree_of pl) n) i) h.plan_is ∙ e in
+        l.written i less old ∙ ap₂ (λ (x : Start) (pl : Planned). Some (starting_value_in x (key_at (tree_of pl) i))) (l.world ∙ h.world_is) (l.plan ∙ h.plan_is)
+
+    lent-other : (i : ℕ) → is_written (locks tr n) i ≡ false → slot w.values i ≡ slot u.values i
+    lent-other i e = l.others i (ap (λ (pl : Planned). is_written (locks (tree_of pl) n) i) h.plan_is ∙ e)
+
+    there-by : (i : ℕ) → (on : IsWrittenOn tr n i) → is_some (slot w.values i) ≡ true
+    there-by i on = elim (true-or-false (is_written (locks tr n) i)) [
+      | inl own ↦ now-of (slot w.values i) (start (key_at tr i)) (lent-start i own)
+      | inr apart ↦
+          let other : on.node ≢ n = λ e. let wrong : true ≡ false = sym on.writes ∙ ap (λ (j : ℕ). is_written (locks tr j) i) e ∙ apart in cc in
+          ap is_some (lent-other i apart) ∙ h.there i (record { node = on.node; above = sym (above-parent tr t.below on.node n pos other) ∙ on.above; writes = on.writes })
+    ]
+
+    only-by : (i : ℕ) → is_some (slot w.values i) ≡ true → IsWrittenOn tr n i
+    only-by i s = elim (true-or-false (is_written (locks tr n) i)) [
+      | inl own ↦ record { node = n; above = under-self tr t.below n pos; writes = own }
+      | inr apart ↦
+          let on = h.only i (ap is_some (sym (lent-other i apart)) ∙ s) in
+          record { node = on.node; above = under-step tr t.below on.node n pos ∙ or-true _ (is_under tr on.node (parent tr n)) on.above; writes = on.writes }
+    ]
+
+    pub lent-holds : HoldsAlong plan world n w
+    lent-holds = record {
+      plan_is = l.plan ∙ h.plan_is;
+      world_is = l.world ∙ h.world_is;
+      lent = subst (λ (bs : List Bool). AreLentAlong plan n bs) (sym l.lent) (lent-more u.lent n pos within h.lent);
+      there = there-by;
+      only = only-by;
+    }
+
+    pub lent-values : IsAsOpened plan world (parent tr n) w
+    lent-values k s =
+        let num = number w k s in
+        let less = t.below n pos in
+        let up : parent tr n < length tr = let i = inside in omega arith in
+        elim (true-or-false (is_written (locks tr n) num.at)) [
+          | inl own ↦
+              let value = lent-start num.at own in
+              let x = held-of (slot w.values num.at) (now-of (slot w.values num.at) (start (key_at tr num.at)) value) in
+              let is : Some x.value.now ≡ Some (start (key_at tr num.at)) = ap (option_map (λ (y : History). y.now)) (sym x.is) ∙ value in
+              held-some w k num.at x.value num.is x.is ∙ is ∙ ap (λ (j : List ℕ). Some (start j)) num.key_is ∙ sym (start-taken n k num.at pos inside num.is own)
+          | inr apart ↦ elim (some-or-none (slot u.values num.at)) [
+            | inl x ↦
+                let old = held-some u k num.at x.value num.is x.is in
+                held-some w k num.at x.value num.is (lent-other num.at apart ∙ x.is) ∙ sym old ∙ v k (ap is_some old)
+            | inr none ↦ held-start w k num.at num.is (lent-other num.at apart ∙ none) s ∙ sym (start-absent u (parent tr n) k num.at up (t.inner n pos) h num.is none)
+          ]
+        ]
+
+  -- a tray after further changes holds what it held
+  pub onward-holds : (u w : TrayView) (p : ℕ) → HoldsAlong plan world p u → IsOnward u w → HoldsAlong plan world p w
+  onward-holds u w p h o = record {
+    plan_is = o.plan ∙ h.plan_is;
+    world_is = o.world ∙ h.world_is;
+    lent = subst (λ (bs : List Bool). AreLentAlong plan p bs) (sym o.lent) h.lent;
+    there = λ i on. let x = held-of (slot u.values i) (h.there i on) in ap is_some (o.values.later i x.value x.is).there;
+    only = λ i s. elim (some-or-none (slot u.values i)) [
+      | inl x ↦ h.only i (ap is_some x.is)
+      | inr none ↦ let wrong : false ≡ true = sym (ap is_some (o.values.only i none)) ∙ s in absurd (cc)
+    ];
+  }
+
+  still-held : (u w : TrayView) (n p : ℕ) (k : List ℕ) → HoldsAlong plan world n u → HoldsAlong plan world n w → content w k ≡ content u k → held plan world w k ≡ held plan world u k
+  still-held u w n p k hu hw e = sym (ap (λ (m : Resources). m k) (content-is w n hw)) ∙ e ∙ ap (λ (m : Resources). m k) (content-is u n hu)
+
+  -- after a `before_all` all stands as the class's opening leaves it
+  pub opened-values : (u w : TrayView) (n : ℕ) → HoldsAlong plan world n u → HoldsAlong plan world n w → IsOpened plan world n → IsAsOpened plan world (parent tr n) u → IsDone plan world BeforeAll n u w → IsAsOpened plan world n w
+  opened-values u w n hu hw is v d k s = elim (true-or-false (is_readable (node_rights tr n k))) [
+    | inl r ↦ sym (ap (λ (m : Resources). m k) (content-is w n hw)) ∙ d.whole.at k r ∙ ap (λ (m : Resources). m k) (opened-whole plan world n is)
+    | inr unread ↦
+        let locked : is_writable (node_rights tr n k) ≡ false = elim (true-or-false (is_writable (node_rights tr n k))) [
+          | inl may ↦ let wrong : false ≡ true = sym unread ∙ readable-of (node_rights tr n k) may in absurd (cc)
+          | inr lock ↦ lock
+        ] in
+        let same = still-held u w n n k hu hw (d.others k locked) in
+        same ∙ v k (ap is_some (sym same) ∙ s) ∙ sym (opened-apart plan world n k is locked)
+  ]
+
+  -- after a test, and after an `after_all`, so does each key that the node may not change
+  pub test-apart : (u w : TrayView) (n : ℕ) → HoldsAlong plan world n u → HoldsAlong plan world n w → IsAsOpened plan world (parent tr n) u → IsDone plan world Test n u w → IsAsOpenedApart plan world (parent tr n) n w
+  test-apart u w n hu hw v d k locked s =
+      let same = still-held u w n n k hu hw (d.others k locked) in
+      same ∙ v k (ap is_some (sym same) ∙ s)
+
+  pub closed-apart : (u w : TrayView) (n : ℕ) → HoldsAlong plan world n u → HoldsAlong plan world n w → IsOpened plan world n → IsAsOpened plan world n u → IsDone plan world AfterAll n u w → IsAsOpenedApart plan world (parent tr n) n w
+  closed-apart u w n hu hw is v d k locked s =
+      let same = still-held u w n n k hu hw (d.others k locked) in
+      same ∙ v k (ap is_some (sym same) ∙ s) ∙ opened-apart plan world n k is locked

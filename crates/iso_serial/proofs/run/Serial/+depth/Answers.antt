@@ -1,0 +1,191 @@
+use Rattle.std.proofs.Common.{◌≡◌, ℕ, ◌<◌, List, None, length, get_or, true, is_some, not, ap, sym, ◌∙◌, subst, arith, inl, inr}
+use Rattle.std.proofs.lemmas.Bool.{cases_eq}
+use Rattle.std.proofs.lemmas.List.{length-map}
+use Rattle.iso_lifecycle.specs.ResultViews.{has_result, outcome_in, outcome_of_view}
+use Rattle.iso_locks.specs.Vaults.{busy}
+use Rattle.iso_plan.specs.Paths.{children, parent}
+use Rattle.iso_plan.specs.Planned.{Planned}
+use Rattle.iso_plan.specs.RowView.{row_of, tree_of}
+use Rattle.iso_settings.specs.Worlds.{Start}
+use Rattle.iso_serial.proofs.NodeLemmas.{child-at, done-by, entry, further-on, further-still, left-further, left-stands, lends, may-lend, may-take, may-undo, ok-by, on-ok-is, on-one, waits-by}
+use Rattle.iso_serial.specs.Standing.{GoesFurther, Stands, StandsAtEnd}
+use Rattle.iso_serial.specs.declared.run.Standing.{Standing}
+use Rattle.iso_serial.proofs.run.Serial.+depth.Goals as goal
+use Rattle.iso_serial.proofs.run.Serial.+depth.Goals.{children-then-is_none+in_ok-node, children-else-is_none, node-then-is_test+in_ok-test, node-else-is_test+in_ok-class}
+
+pub children-get-requires : goal.children-get-requires
+children-get-requires t c =
+    let plan : Planned = c.args.self.now.plan.now in
+    let child = child-at plan c.args.self.now.world.now c.args.class c.children.child-index c.children-child-items.result.now c.children-child-items.ensures c.children-test.true in
+    let w = child.within in
+    let count : length (tree_of plan) ≡ length plan.rows = length-map plan.rows row_of in
+    let rows : length c.children.standing.results.plan.rows ≡ length plan.rows = ap (λ (p : Planned). length p.rows) c.children.invariant.stands.results.plan_is in
+    omega arith
+
+pub children-node-requires : goal.children-node-requires
+children-node-requires t c =
+    let plan : Planned = c.args.self.now.plan.now in
+    let world : Start = c.args.self.now.world.now in
+    let child = child-at plan world c.args.class c.children.child-index c.children-child-items.result.now c.children-child-items.ensures c.children-test.true in
+    let n = get_or c.children-child-items.result.now c.children.child-index 0 in
+    let w = child.within in
+    let count : length (tree_of plan) ≡ length plan.rows = length-map plan.rows row_of in
+    let within : n < length plan.rows = omega arith in
+    let below : parent (tree_of plan) n < n = c.requires.entered.tree.below n child.positive in
+    let less : c.args.class < n = subst (λ (j : ℕ). j < n) child.parent_is below in
+    let v = c.children.standing.results in (
+      omega (arith, c.decreases, less, within),
+      (
+        child.positive,
+        (
+          within,
+          (
+            subst (λ (j : ℕ). Stands plan world j c.children.standing) (sym child.parent_is) c.children.invariant.stands,
+            waits-by outcome_of_view c.get.result (has_result v n) (outcome_in v n) c.get.ensures c.if-is_none.ensures,
+          ),
+        ),
+      ),
+    )
+
+pub children-children-preserved : goal.children-children-preserved
+children-children-preserved t c =
+    let plan : Planned = c.args.self.now.plan.now in
+    let world : Start = c.args.self.now.world.now in
+    let items = c.children-child-items.result.now in
+    let at = c.children.child-index in
+    let n = get_or items at 0 in
+    let child = child-at plan world c.args.class at items c.children-child-items.ensures c.children-test.true in
+    let i = c.children.invariant in
+    let new : Standing = c.if-is_none.standing in
+    let same : get_or (children (tree_of plan) c.args.class) at 0 ≡ n = ap (λ (xs : List ℕ). get_or xs at 0) (sym c.children-child-items.ensures) in
+    let further : GoesFurther c.children.standing new = elim c.if-is_none.branch [
+      | children-then-is_none+in_ok-node w ↦ subst (λ (x : Standing). GoesFurther c.children.standing x) (sym w.standing-is) w.in_ok-node.ensures.further
+      | children-else-is_none w ↦ subst (λ (x : Standing). GoesFurther c.children.standing x) (sym w.standing-is) (further-still c.children.standing)
+    ] in
+    let here : has_result new.results n ≡ true = elim c.if-is_none.branch [
+      | children-then-is_none+in_ok-node w ↦ ap (λ (x : Standing). has_result x.results n) w.standing-is ∙ w.in_ok-node.ensures.done
+      | children-else-is_none w ↦
+          let some : is_some c.get.result ≡ true = c.is_none.ensures ∙ ap not w.if-is_none.false in
+          ap (λ (x : Standing). has_result x.results n) w.standing-is ∙ done-by outcome_of_view c.get.result (has_result c.children.standing.results n) (outcome_in c.children.standing.results n) c.get.ensures some
+    ] in
+    record {
+      stands = elim c.if-is_none.branch [
+        | children-then-is_none+in_ok-node w ↦ subst (λ (x : Standing). Stands plan world c.args.class x) (sym w.standing-is) (subst (λ (j : ℕ). Stands plan world j w.node.new.standing) child.parent_is w.in_ok-node.ensures.stands)
+        | children-else-is_none w ↦ subst (λ (x : Standing). Stands plan world c.args.class x) (sym w.standing-is) i.stands
+      ];
+      done = λ j h. elim (cases_eq j at) [
+        | inl equal ↦ ap (λ (x : ℕ). has_result new.results (get_or (children (tree_of plan) c.args.class) x 0)) equal ∙ ap (has_result new.results) same ∙ here
+        | inr other ↦ further.results (get_or (children (tree_of plan) c.args.class) j 0) (i.done j (omega arith))
+      ];
+      further = further-on c.args.standing.now c.children.standing new i.further further;
+    }
+
+pub class-returns-clause-further : goal.class-returns-clause-further
+class-returns-clause-further t c =
+    on-one c.close.result c.close.ensures.further
+    (λ last. further-on c.args.standing.now c.open.new.standing c.close.new.standing c.in_ok-open.ensures.further (further-on c.open.new.standing c.children.new.standing c.close.new.standing c.in_ok-children.ensures.further last))
+
+pub node-lend-requires : goal.node-lend-requires
+node-lend-requires t c = may-lend c.args.self.now.plan.now c.args.self.now.world.now c.args.node c.args.standing.now c.requires.positive c.requires.within c.requires.stands c.requires.waits
+
+pub node-unwrap-requires : goal.node-unwrap-requires
+node-unwrap-requires t c =
+    let none = lends c.args.self.now.plan.now c.args.self.now.world.now c.args.node c.args.standing.now c.requires.positive c.requires.within c.requires.stands c.requires.waits in
+    ok-by c.lend.result (busy c.args.standing.now.vault c.args.node) (λ _. busy c.args.standing.now.vault c.args.node ≡ None) (λ b. b.node) c.lend.ensures.busy none
+
+pub node-test-requires-clause-stands : goal.node-test-requires-clause-stands
+node-test-requires-clause-stands t c =
+    entry c.args.self.now.plan.now c.args.self.now.world.now c.args.node c.args.standing.now c.requires.positive c.requires.within c.requires.stands c.requires.waits c.lend.new.self c.lend.new.tray
+    (on-ok-is c.lend.result c.unwrap.result c.unwrap.ensures c.lend.ensures.vault) (on-ok-is c.lend.result c.unwrap.result c.unwrap.ensures c.lend.ensures.tray)
+
+pub node-class-requires : goal.node-class-requires
+node-class-requires t c = (
+  omega (arith, c.decreases),
+  (
+    entry c.args.self.now.plan.now c.args.self.now.world.now c.args.node c.args.standing.now c.requires.positive c.requires.within c.requires.stands c.requires.waits c.lend.new.self c.lend.new.tray
+        (on-ok-is c.lend.result c.unwrap.result c.unwrap.ensures c.lend.ensures.vault) (on-ok-is c.lend.result c.unwrap.result c.unwrap.ensures c.lend.ensures.tray),
+    sym c.is_test.ensures ∙ c.if-is_test.false,
+  ),
+)
+
+pub node-undo-requires : goal.node-undo-requires
+node-undo-requires t c =
+    let plan : Planned = c.args.self.now.plan.now in
+    let world : Start = c.args.self.now.world.now in
+    let n = c.args.node in
+    let old : Standing = c.args.standing.now in
+    let lent : Standing = record { vault = c.lend.new.self; tray = c.lend.new.tray; frames = old.frames; results = old.results } in
+    let end : Standing = c.if-is_test.standing in
+    let ve = on-ok-is c.lend.result c.unwrap.result c.unwrap.ensures c.lend.ensures.vault in
+    let l = on-ok-is c.lend.result c.unwrap.result c.unwrap.ensures c.lend.ensures.tray in
+    let at : StandsAtEnd plan world n end = elim c.if-is_test.branch [
+      | node-then-is_test+in_ok-test w ↦ subst (λ (x : Standing). StandsAtEnd plan world n x) (sym w.standing-is) w.in_ok-test.ensures.stands
+      | node-else-is_test+in_ok-class w ↦ subst (λ (x : Standing). StandsAtEnd plan world n x) (sym w.standing-is) w.in_ok-class.ensures.stands
+    ] in
+    let on : GoesFurther lent end = elim c.if-is_test.branch [
+      | node-then-is_test+in_ok-test w ↦ subst (λ (x : Standing). GoesFurther lent x) (sym w.standing-is) w.in_ok-test.ensures.further
+      | node-else-is_test+in_ok-class w ↦ subst (λ (x : Standing). GoesFurther lent x) (sym w.standing-is) w.in_ok-class.ensures.further
+    ] in
+    may-undo plan world n old c.requires.positive c.requires.within c.requires.stands c.requires.waits c.lend.new.self c.lend.new.tray c.in_ok-mark.mark end ve l c.in_ok-mark.ensures at on
+
+pub node-take_back-requires : goal.node-take_back-requires
+node-take_back-requires t c =
+    let plan : Planned = c.args.self.now.plan.now in
+    let world : Start = c.args.self.now.world.now in
+    let n = c.args.node in
+    let old : Standing = c.args.standing.now in
+    let lent : Standing = record { vault = c.lend.new.self; tray = c.lend.new.tray; frames = old.frames; results = old.results } in
+    let end : Standing = c.if-is_test.standing in
+    let ve = on-ok-is c.lend.result c.unwrap.result c.unwrap.ensures c.lend.ensures.vault in
+    let l = on-ok-is c.lend.result c.unwrap.result c.unwrap.ensures c.lend.ensures.tray in
+    let at : StandsAtEnd plan world n end = elim c.if-is_test.branch [
+      | node-then-is_test+in_ok-test w ↦ subst (λ (x : Standing). StandsAtEnd plan world n x) (sym w.standing-is) w.in_ok-test.ensures.stands
+      | node-else-is_test+in_ok-class w ↦ subst (λ (x : Standing). StandsAtEnd plan world n x) (sym w.standing-is) w.in_ok-class.ensures.stands
+    ] in
+    let on : GoesFurther lent end = elim c.if-is_test.branch [
+      | node-then-is_test+in_ok-test w ↦ subst (λ (x : Standing). GoesFurther lent x) (sym w.standing-is) w.in_ok-test.ensures.further
+      | node-else-is_test+in_ok-class w ↦ subst (λ (x : Standing). GoesFurther lent x) (sym w.standing-is) w.in_ok-class.ensures.further
+    ] in
+    may-take plan world n old c.requires.positive c.requires.within c.requires.stands c.requires.waits c.lend.new.self c.lend.new.tray c.in_ok-mark.mark end ve l c.in_ok-mark.ensures at on c.undo.new.self c.undo.ensures
+
+pub node-returns-clause-stands : goal.node-returns-clause-stands
+node-returns-clause-stands t c =
+    let plan : Planned = c.args.self.now.plan.now in
+    let world : Start = c.args.self.now.world.now in
+    let n = c.args.node in
+    let old : Standing = c.args.standing.now in
+    let lent : Standing = record { vault = c.lend.new.self; tray = c.lend.new.tray; frames = old.frames; results = old.results } in
+    let end : Standing = c.if-is_test.standing in
+    let ve = on-ok-is c.lend.result c.unwrap.result c.unwrap.ensures c.lend.ensures.vault in
+    let l = on-ok-is c.lend.result c.unwrap.result c.unwrap.ensures c.lend.ensures.tray in
+    let at : StandsAtEnd plan world n end = elim c.if-is_test.branch [
+      | node-then-is_test+in_ok-test w ↦ subst (λ (x : Standing). StandsAtEnd plan world n x) (sym w.standing-is) w.in_ok-test.ensures.stands
+      | node-else-is_test+in_ok-class w ↦ subst (λ (x : Standing). StandsAtEnd plan world n x) (sym w.standing-is) w.in_ok-class.ensures.stands
+    ] in
+    let on : GoesFurther lent end = elim c.if-is_test.branch [
+      | node-then-is_test+in_ok-test w ↦ subst (λ (x : Standing). GoesFurther lent x) (sym w.standing-is) w.in_ok-test.ensures.further
+      | node-else-is_test+in_ok-class w ↦ subst (λ (x : Standing). GoesFurther lent x) (sym w.standing-is) w.in_ok-class.ensures.further
+    ] in
+    left-stands plan world n old c.requires.positive c.requires.within c.requires.stands c.requires.waits c.lend.new.self c.lend.new.tray c.in_ok-mark.mark end ve l c.in_ok-mark.ensures at on
+    c.take_back.new.self c.undo.new.self c.take_back.new.tray c.take_back.ensures.vault c.undo.ensures c.take_back.ensures.tray
+
+pub node-returns-clause-further : goal.node-returns-clause-further
+node-returns-clause-further t c =
+    let plan : Planned = c.args.self.now.plan.now in
+    let world : Start = c.args.self.now.world.now in
+    let n = c.args.node in
+    let old : Standing = c.args.standing.now in
+    let lent : Standing = record { vault = c.lend.new.self; tray = c.lend.new.tray; frames = old.frames; results = old.results } in
+    let end : Standing = c.if-is_test.standing in
+    let ve = on-ok-is c.lend.result c.unwrap.result c.unwrap.ensures c.lend.ensures.vault in
+    let l = on-ok-is c.lend.result c.unwrap.result c.unwrap.ensures c.lend.ensures.tray in
+    let at : StandsAtEnd plan world n end = elim c.if-is_test.branch [
+      | node-then-is_test+in_ok-test w ↦ subst (λ (x : Standing). StandsAtEnd plan world n x) (sym w.standing-is) w.in_ok-test.ensures.stands
+      | node-else-is_test+in_ok-class w ↦ subst (λ (x : Standing). StandsAtEnd plan world n x) (sym w.standing-is) w.in_ok-class.ensures.stands
+    ] in
+    let on : GoesFurther lent end = elim c.if-is_test.branch [
+      | node-then-is_test+in_ok-test w ↦ subst (λ (x : Standing). GoesFurther lent x) (sym w.standing-is) w.in_ok-test.ensures.further
+      | node-else-is_test+in_ok-class w ↦ subst (λ (x : Standing). GoesFurther lent x) (sym w.standing-is) w.in_ok-class.ensures.further
+    ] in
+    left-further plan world n old c.requires.positive c.requires.within c.requires.stands c.requires.waits c.lend.new.self c.lend.new.tray c.in_ok-mark.mark end ve l c.in_ok-mark.ensures at on
+    c.take_back.new.self c.undo.new.self c.take_back.new.tray c.undo.ensures c.take_back.ensures.tray
