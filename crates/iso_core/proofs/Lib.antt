@@ -4,3 +4,8 @@ pub mod SuiteLaws
 pub mod PlanChains
 pub mod Headline
 pub mod BodyEnds
+pub mod Below
+pub mod Looks
+pub mod Inside
+pub mod Barring
+pub mod Leaving

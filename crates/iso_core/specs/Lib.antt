@@ -1,3 +1,7 @@
-pub mod ScriptLanguage
-pub mod PlanSuites
+pub mod CodeEvents
 pub mod ExampleRuns
+pub mod Phases
+pub mod PlanSuites
+pub mod Refusing
+pub mod ScriptLanguage
+pub mod Standings

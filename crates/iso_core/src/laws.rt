@@ -2,8 +2,9 @@
 ghost use Rattle.std.specs.Prelude.{◌≡◌, ◌∷◌, [], ℕ, List, Some, map, true};
 ghost use Rattle.iso_core.specs.PlanSuites.{IsClassAt, IsTestAt, Launch, MayEnd, launch, launched, suite_of};
 ghost use Rattle.iso_core.specs.ScriptLanguage.{of_class, of_test, scripts};
+ghost use Rattle.iso_core.specs.Standings.{CoreState, LooksLike, Standing, after_in, plain_state};
 ghost use Rattle.iso_isolation.specs.Alone.{run_alone};
-ghost use Rattle.iso_isolation.specs.Events.{Event, Leave};
+ghost use Rattle.iso_isolation.specs.Events.{Event, Leave, Step};
 ghost use Rattle.iso_isolation.specs.Histories.{EndLaws, GoesOn, IsHistory, SameHistory, Values, has_no_step, state_of};
 ghost use Rattle.iso_isolation.specs.Languages.{BodyLaws};
 ghost use Rattle.iso_isolation.specs.Refusals.{refusal};
@@ -91,4 +92,11 @@ pub fn chains_run_alone_are_tests_and_classes_run_alone()
         → run_alone scripts (of_test t ∷ map of_class cs) start ≡ test_alone t cs start }
     ensures class { (c : ClassHead) (cs : List ClassHead) (start : Resources)
         → run_alone scripts (of_class c ∷ map of_class cs) start ≡ class_alone c cs start }
+{}
+
+/// Every standing is that of some state, so that what it tells of all states that look so is never empty; and the Steps of a body
+/// leave it as it is.
+pub fn standings_tell_of_states()
+    ensures some { (v : Standing) → LooksLike v (plain_state v) }
+    ensures step { (v : Standing) (start : Resources) (s : CoreState) (w : ℕ) → LooksLike v s → LooksLike v (after_in v start s (Step w)) }
 {}

@@ -101,32 +101,32 @@ class_head key changes is_well = record { is_test = false; key = key; looks = fa
 abbrev pub test_head : ℕ → Bool → Bool → ℕ → Head
 test_head key looks changes turns = record { is_test = true; key = key; looks = looks; changes = changes; turns = turns; is_well = true }
 
-abbrev pub row : ℕ → Head → Bool → Option ℕ → Bool → Row
-row parent head same lock writer = record { parent = parent; head = head; is_same_thread = same; lock = lock; is_writer = writer }
+abbrev pub node_in : ℕ → Head → Bool → Option ℕ → Bool → Row
+node_in parent head same lock writer = record { parent = parent; head = head; is_same_thread = same; lock = lock; is_writer = writer }
 
-abbrev pub no_row : Row
-no_row = row 0 (class_head 0 false true) true None false
+abbrev pub no_node : Row
+no_node = node_in 0 (class_head 0 false true) true None false
 
 -- 1: a class that counts up key 2, with two tests 2 and 3 that do so too, and a mark of its own for it alone.
 -- 4: a class with three CONCURRENT tests: 5 counts up key 1 twice, 6 and 7 look at key 1.
 -- 8: a class whose `before_all` fails, with a class 9 and in it a test 10.
 abbrev pub rows : List Row
 rows =
-    no_row
-    ∷ row 0 (class_head 2 true true) false (Some 2) true
-    ∷ row 1 (test_head 2 false false 2) true None false
-    ∷ row 1 (test_head 2 false false 1) true None false
-    ∷ row 0 (class_head 0 false true) false None false
-    ∷ row 4 (test_head 1 false true 2) false (Some 1) true
-    ∷ row 4 (test_head 1 true false 1) false (Some 1) false
-    ∷ row 4 (test_head 1 true false 1) false (Some 1) false
-    ∷ row 0 (class_head 0 false false) false None false
-    ∷ row 8 (class_head 0 false true) false None false
-    ∷ row 9 (test_head 0 false false 1) false None false
+    no_node
+    ∷ node_in 0 (class_head 2 true true) false (Some 2) true
+    ∷ node_in 1 (test_head 2 false false 2) true None false
+    ∷ node_in 1 (test_head 2 false false 1) true None false
+    ∷ node_in 0 (class_head 0 false true) false None false
+    ∷ node_in 4 (test_head 1 false true 2) false (Some 1) true
+    ∷ node_in 4 (test_head 1 true false 1) false (Some 1) false
+    ∷ node_in 4 (test_head 1 true false 1) false (Some 1) false
+    ∷ node_in 0 (class_head 0 false false) false None false
+    ∷ node_in 8 (class_head 0 false true) false None false
+    ∷ node_in 9 (test_head 0 false false 1) false None false
     ∷ []
 
 abbrev pub row_at : ℕ → Row
-row_at n = at no_row rows n
+row_at n = at no_node rows n
 
 -- a node, the class that it stands in and so on, at most so many
 abbrev pub up_from : ℕ → ℕ → List ℕ

@@ -1,0 +1,16 @@
+use Rattle.std.proofs.Common.{ap, ◌∙◌, subst}
+use Rattle.iso_core.specs.CodeEvents.{worker_of}
+use Rattle.iso_core.specs.Standings.{EndsAs, refusal_in}
+use Rattle.iso_core.proofs.standing.Standing.refusal.Goals as goal
+use Rattle.iso_schedule.specs.EventView.{event_of}
+use Rattle.iso_schedule.specs.declared.event.Event.{Event}
+
+pub returns-in-Step-clause-kind : goal.returns-in-Step-clause-kind
+returns-in-Step-clause-kind c = λ start s like ends.
+    ap (λ (e : Event). refusal_in c.args.self.now start s (event_of e)) c.in-Step.is
+    ∙ c.refusal_of_step.ensures.kind start s like (subst (λ (e : Event). EndsAs c.args.self.now s (worker_of e) c.args.ended) c.in-Step.is ends)
+
+pub returns-in-Leave-clause-kind : goal.returns-in-Leave-clause-kind
+returns-in-Leave-clause-kind c = λ start s like ends.
+    ap (λ (e : Event). refusal_in c.args.self.now start s (event_of e)) c.in-Leave.is
+    ∙ c.refusal_of_leave.ensures.kind start s like (subst (λ (e : Event). EndsAs c.args.self.now s (worker_of e) c.args.ended) c.in-Leave.is ends)
