@@ -168,6 +168,9 @@ impl<'a> Body<'a> {
         ensures goes_on { T.goes_on touch.old touch.new }
     {
         self.run.step(touch)?;
+        if !self.run.is_ended() {
+            return Ok(());
+        }
         match self.origin.frame(self.alloc, &self.run, self.outer) {
             Ok(frame) => {
                 self.frame = frame;

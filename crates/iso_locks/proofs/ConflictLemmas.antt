@@ -1,5 +1,5 @@
 -- Locks by key number conflict where the nodes that take them do.
-use Rattle.std.proofs.Common.{◌≡◌, ℕ, zero, suc, ◌+◌, ◌<◌, List, [], ◌∷◌, ◌++◌, length, map, Option, Some, None, Bool, true, false, ◌||◌, ◌&&◌, ◌==◌, cond, get_or, ap, ap₂, inl, inr, ◌-◌, ◌∙◌, arith, add-one, refl}
+use Rattle.std.proofs.Common.{◌≡◌, ℕ, zero, suc, ◌+◌, ◌<◌, List, [], ◌∷◌, ◌++◌, length, map, Option, Some, None, Bool, true, false, ◌||◌, ◌&&◌, ◌==◌, cond, get_or, ap, ap₂, inl, inr, ◌-◌, ◌∙◌, sym, arith, add-one, refl}
 use Rattle.std.proofs.lemmas.Bool.{cases_eq}
 use Rattle.std.specs.List.{list_any}
 use Rattle.std.specs.Option.{option_or}
@@ -57,6 +57,15 @@ conflicts-by j f g (k ∷ ks) =
 pub conflicts-is : (tree : List Row) (m n : ℕ) → conflicts (locks tree m) (locks tree n) ≡ conflict tree m n
 conflicts-is tree m n = conflicts-by 0 (taken tree m) (taken tree n) (keys tree)
 
+-- no locks conflict with none
+conflicts-none : (ls : List Lock) → conflicts ls [] ≡ false
+conflicts-none [] = refl
+conflicts-none (l ∷ ls) = conflicts-none ls
+
+-- a node that takes no locks conflicts with no node
+pub conflict-none : (tree : List Row) (m n : ℕ) → locks tree n ≡ [] → conflict tree m n ≡ false
+conflict-none tree m n e = sym (conflicts-is tree m n) ∙ ap (λ (ms : List Lock). conflicts (locks tree m) ms) e ∙ conflicts-none (locks tree m)
+
 -- a key that two nodes take, one of them for READ_WRITE, makes them conflict
 pub any-at : (p : List ℕ → Bool) (ks : List (List ℕ)) (i : ℕ) → i < length ks → p (get_or ks i []) ≡ true → list_any p ks ≡ true
 any-at p [] i h e = absurd (omega arith)
@@ -74,6 +83,10 @@ lowest-none test zero m e h = absurd (omega arith)
 lowest-none test (suc n) m e h =
     let parts = none_by (lowest test n) (test n) n e in
     elim (cases_eq m n) [ inl same ↦ ap test same ∙ parts.1 | inr other ↦ lowest-none test n m parts.0 (omega arith) ]
+
+pub lowest-never : (test : ℕ → Bool) → ((m : ℕ) → test m ≡ false) → (n : ℕ) → lowest test n ≡ None
+lowest-never test h zero = refl
+lowest-never test h (suc n) = rw (lowest-never test h n, h n) refl
 
 pub lowest-here : (test : ℕ → Bool) (n : ℕ) → lowest test n ≡ None → test n ≡ true → lowest test (n + 1) ≡ Some n
 lowest-here test n e h = rw (add-one, e, h) refl

@@ -126,14 +126,19 @@ pub(crate) fn values(alloc: Global, plan: &Plan, world: &World) -> Result<Slots,
     Ok(values)
 }
 
-/// The lowest lent node that conflicts with a node.
+/// The lowest lent node that conflicts with a node. None does with one that takes no locks, so that lending a node whose locks
+/// an enclosing class took costs no search.
 fn lowest_in_the_way(plan: &Plan, lent: &[bool], node: u32) -> Option<u32>
     requires node { node < length plan.now.rows }
     requires lent { length lent.now ≡ length plan.now.rows }
     ensures { result ≡ lowest (λ m. is_lent lent.now m && conflict (tree_of plan.now) m node) (length plan.now.rows) }
 {
+    let taken = plan.locks(node);
+    if taken.is_empty() {
+        return None;
+    }
     'nodes: for m in 0..plan.len() {
-        if lent[m as usize] && conflicts(plan.locks(m), plan.locks(node)) {
+        if lent[m as usize] && conflicts(plan.locks(m), taken) {
             return Some(m);
         }
     }

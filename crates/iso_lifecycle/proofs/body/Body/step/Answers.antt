@@ -1,5 +1,5 @@
-use Rattle.std.proofs.Common.{◌≡◌, suc, ap, ◌∙◌}
-use Rattle.iso_model.specs.Bodies.{body_step, going}
+use Rattle.std.proofs.Common.{◌≡◌, suc, ap, ◌∙◌, false, sym}
+use Rattle.iso_model.specs.Bodies.{body_step, going, is_ended}
 use Rattle.iso_model.specs.BodyAgreement.{AlikeGoing}
 use Rattle.iso_model.specs.Rights.{Rights}
 use Rattle.iso_lifecycle.specs.BodyRuns.{rights_of, stage_of}
@@ -21,6 +21,34 @@ invariant_of-self g c =
       come = owes-come b.origin.kind s stage more;
       left = owes-left b.origin.kind s stage b.frame more;
     }
+
+pub invariant_of-self-then-not-is_ended : goal.invariant_of-self-then-not-is_ended
+invariant_of-self-then-not-is_ended g c =
+    let b = c.args.self.now in
+    let s = subject_of_origin b.origin in
+    let stage = stage_of c.step.new.self in
+    let more : is_ended stage ≡ false = sym c.if-not-is_ended.ensures in
+    record {
+      outer_is = b.outer_is;
+      rights = λ k. ap (λ (r : Rights). r k) c.step.ensures.rights ∙ b.rights k;
+      come = owes-come b.origin.kind s stage more;
+      left = owes-left b.origin.kind s stage b.frame more;
+    }
+
+pub returns-then-not-is_ended-clause-stands : goal.returns-then-not-is_ended-clause-stands
+returns-then-not-is_ended-clause-stands g c =
+    let b = c.args.self.now in
+    let s = subject_of_origin b.origin in
+    let kind = b.origin.kind in
+    let m = g.T.Touch.content c.args.touch.now in
+    let k = g.T.Touch.content c.step.new.touch in
+    let now = stage_of b.run in
+    let next = stage_of c.step.new.self in
+    let n = c.requires.stands.steps in
+    let same : rights_of b.run ≡ rights_of_subject s = λ i q. b.rights q i in
+    let stepped : going next k ≡ body_step (rights_of_subject s) (going now m) = c.in_ok-step.ensures.step ∙ (λ i. body_step (same i) (going now m)) in
+    let alike : AlikeGoing (rights_of_subject s) (going next k) (reached kind s (suc n)) = steps-on kind s n now next m k c.requires.stands.stage c.requires.stands.resources stepped in
+    record { steps = suc n; stage = alike.stage; resources = record { at = alike.resources.same } }
 
 pub frame-requires-clause-come : goal.frame-requires-clause-come
 frame-requires-clause-come g c =
