@@ -33,10 +33,8 @@ impl RunFault {
         ensures { result ≡ status self.now }
     {
         match self {
-            RunFault::Settings(_)
-            | RunFault::World(_)
-            | RunFault::Script(..)
-            | RunFault::Plan(_) => REFUSED,
+            RunFault::Settings(_) | RunFault::World(_) | RunFault::Script(..) | RunFault::Plan(_) =>
+                REFUSED,
             RunFault::Memory | RunFault::Write(_) => FAILED,
         }
     }
