@@ -1,10 +1,11 @@
 -- What the values of an evaluation stand for, wherever their texts are.
-use Rattle.std.specs.Prelude.{ℕ, List, Option, Some, None, Result, Ok, Err, cond}
-use Rattle.iso_model.specs.Evaluation.{Given, is_equal, then}
+use Rattle.std.specs.Prelude.{ℕ, List, ◌++◌, Option, Some, None, Result, Ok, Err, cond}
+use Rattle.iso_model.specs.Evaluation.{Given, is_equal, is_short, then}
 use Rattle.iso_model.specs.Texts.{difference_message}
 use Rattle.iso_model.specs.declared.data.Data.{Data}
 use Rattle.iso_model.specs.declared.data.Data.TheVariants as D
 use Rattle.iso_model.specs.declared.fault.Fault.{Fault}
+use Rattle.iso_model.specs.declared.fault.Fault.TheVariants.{MissingFile, TextTooLong}
 use Rattle.iso_interp.specs.declared.value.TextValue.{TextValue}
 use Rattle.iso_interp.specs.declared.value.TextValue.TheVariants.{Lent, Looked, Made}
 use Rattle.iso_interp.specs.declared.value.Value.{Value}
@@ -36,3 +37,8 @@ texts_given (Err fault) = Err fault
 abbrev pub difference : Given → Given → Result (Option (List ℕ)) Fault
 difference a b =
     then a (λ x. then b (λ y. then (is_equal x y) (λ holds. Ok (cond holds None (Some (difference_message x y))))))
+
+-- a text after that of a file, where the file is there and they aren't too long together
+abbrev pub appended : List ℕ → List ℕ → Option (List ℕ) → Result (List ℕ) Fault
+appended p t None = Err (MissingFile p)
+appended p t (Some before) = cond (is_short (before ++ t)) (Ok (before ++ t)) (Err TextTooLong)

@@ -1,6 +1,6 @@
 //! The value of an expression, over the names, the rights and the resources of a block.
-ghost use Rattle.std.specs.Prelude.{◌≡◌, [], IfOk, Err, option_map};
-ghost use Rattle.iso_model.specs.Evaluation.{called, evaluated, evaluated_all, joined, joined_all, or_fault, then};
+ghost use Rattle.std.specs.Prelude.{◌≡◌, [], IfOk, Err, Ok, option_map};
+ghost use Rattle.iso_model.specs.Evaluation.{called, compared, evaluated, evaluated_all, joined, joined_all, or_fault, then};
 ghost use Rattle.iso_model.specs.Names.{binding_of};
 ghost use Rattle.iso_model.specs.ResourceKeys.{spelling};
 ghost use Rattle.iso_model.specs.Rights.{access_in};
@@ -8,6 +8,7 @@ ghost use Rattle.iso_model.specs.SyntaxView.{term_of, terms_of_all};
 ghost use Rattle.iso_model.specs.Syntax.{locale};
 ghost use Rattle.iso_model.specs.Touch.{HasKeys};
 ghost use Rattle.iso_model.specs.declared.data.Data.TheVariants as Kinds;
+ghost use Rattle.iso_model.specs.declared.data.Data.TheVariants.{Flag};
 ghost use Rattle.iso_model.specs.declared.fault.Fault.TheVariants as Faults;
 ghost use Rattle.iso_model.specs.declared.names.Binding.{Binding};
 ghost use Rattle.iso_model.specs.declared.tree.Function.TheVariants as Functions;
@@ -23,7 +24,7 @@ use iso_model::resource_key::ResourceKey;
 use iso_model::rights::Rights;
 use iso_model::text::Text;
 use iso_model::touch::Touch;
-use iso_model::tree::{Expr, Function, Operator};
+use iso_model::tree::{Comparison, Expr, Function, Operator};
 use std::alloc::{AllocError, Global};
 
 /// The value of an expression, or its first fault. Operands are evaluated from the left, each once.
@@ -49,16 +50,8 @@ pub fn evaluate<'a, 't, T: Touch>(
             }
         }
         Expr::Compare(comparison, first, second) => {
-            let first = match evaluate(alloc, names, rights, touch, first)? {
-                Ok(value) => value,
-                Err(fault) => return Ok(Err(fault)),
-            };
-            let second = match evaluate(alloc, names, rights, touch, second)? {
-                Ok(value) => value,
-                Err(fault) => return Ok(Err(fault)),
-            };
-            match compared(*comparison, &first, &second) {
-                Ok(holds) => Ok(Ok(Value::Flag(holds))),
+            match evaluate(alloc, names, rights, touch, first)? {
+                Ok(value) => against(alloc, names, rights, touch, *comparison, value, second),
                 Err(fault) => Ok(Err(fault)),
             }
         }
@@ -89,12 +82,63 @@ fn chain<'a, 't, T: Touch>(
 {
     let mut sum = Ok(first);
     for operand in rest {
-        match evaluate(alloc, names, rights, touch, operand)? {
-            Ok(value) => sum = joined_to(alloc, operator, sum, value)?,
-            Err(fault) => return Ok(Err(fault)),
+        match evaluate(alloc, names, rights, touch, operand) {
+            Ok(Ok(value)) => sum = joined_to(alloc, operator, sum, value)?,
+            // A call drops the sum: its variants then stand in the proof of that call alone.
+            Ok(Err(fault)) => {
+                drop(sum);
+                return Ok(Err(fault));
+            }
+            Err(error) => {
+                drop(sum);
+                return Err(error);
+            }
         }
     }
     Ok(sum)
+}
+
+/// Whether a comparison of a first value with a second operand holds.
+#[cycle(evaluate)]
+fn against<'a, 't, T: Touch>(
+    alloc: Global,
+    names: &'a Names,
+    rights: &Rights,
+    touch: &'t T,
+    comparison: Comparison,
+    first: Value<'a, 't>,
+    second: &'a Expr,
+) -> Result<Given<'a, 't>, AllocError>
+    requires { HasKeys (access_in rights.now) (T.content touch.now) (T.writes touch.now) }
+    ensures { IfOk result (λ g. given_of g ≡ then
+        (evaluated names.now.names (T.content touch.now) (access_in rights.now) (term_of second.now))
+        (λ y. then (compared comparison (data_of first.entry) y) (λ holds. Ok (Flag holds)))) }
+{
+    match evaluate(alloc, names, rights, touch, second) {
+        Ok(Ok(second)) => Ok(comparison_of(comparison, first, second)),
+        Ok(Err(fault)) => {
+            drop(first);
+            Ok(Err(fault))
+        }
+        Err(error) => {
+            drop(first);
+            Err(error)
+        }
+    }
+}
+
+/// Whether a comparison of two values holds, as a value.
+fn comparison_of<'a, 't>(
+    comparison: Comparison,
+    first: Value<'_, '_>,
+    second: Value<'_, '_>,
+) -> Given<'a, 't>
+    ensures { given_of result ≡ then (compared comparison (data_of first.entry) (data_of second.entry)) (λ holds. Ok (Flag holds)) }
+{
+    match compared(comparison, &first, &second) {
+        Ok(holds) => Ok(Value::Flag(holds)),
+        Err(fault) => Err(fault),
+    }
 }
 
 /// What a chain comes to with one value more. Its fault stays.

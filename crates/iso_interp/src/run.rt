@@ -10,6 +10,7 @@ mod values;
 
 use crate::expression::evaluate;
 use crate::value::{Given, TextValue, as_count, as_flag, as_text, as_texts};
+use iso_model::data::Data;
 use iso_model::fault::{Fault, FaultKind};
 use iso_model::lines::Lines;
 use iso_model::names::Names;
@@ -172,6 +173,7 @@ impl<'a> BlockRun<'a> {
     }
 
     /// Leaves the pieces in which nothing is left to do, and all of them once the block has ended.
+    #[inline(always)]
     fn settle(&mut self)
         ensures settled { point_of_run self.new ≡ next_point (pieces_of self.old) (local_of self.old) }
         ensures block { SameBlock self.old self.new }
@@ -185,6 +187,7 @@ impl<'a> BlockRun<'a> {
     }
 
     /// Leaves the pieces at the front in which nothing is left to do.
+    #[inline(always)]
     fn leave_done(&mut self)
         ensures left { point_of_run self.new ≡ leave_done (pieces_of self.old) (local_of self.old) }
         ensures block { SameBlock self.old self.new }
@@ -196,7 +199,7 @@ impl<'a> BlockRun<'a> {
                     if !statements.is_empty() {
                         return;
                     }
-                    self.names.keep(names);
+                    self.keep_names(names);
                 }
                 Some(Pending::Turning(_, turns, _)) => {
                     if turns > 0 {
@@ -206,6 +209,26 @@ impl<'a> BlockRun<'a> {
             }
             self.top = self.below.pop();
         }
+    }
+
+    /// Drops the names past the first so many.
+    #[inline(always)]
+    fn keep_names(&mut self, count: usize)
+        ensures names { local_of self.new ≡ with_names (take count (local_of self.old).env.names) (local_of self.old) }
+        ensures work { SameWork self.old self.new }
+    {
+        if count < self.names.len() {
+            self.drop_names(count);
+        }
+    }
+
+    /// Drops names. Few steps do, so this stays out of what each step does.
+    #[inline(never)]
+    fn drop_names(&mut self, count: usize)
+        ensures names { local_of self.new ≡ with_names (take count (local_of self.old).env.names) (local_of self.old) }
+        ensures work { SameWork self.old self.new }
+    {
+        self.names.keep(count);
     }
 
     /// Puts a piece before the others.
@@ -328,6 +351,55 @@ impl<'a> BlockRun<'a> {
         };
         match self.value(touch, second)? {
             Ok(second) => Ok(as_texts(first, second)),
+            Err(fault) => Ok(Err(fault)),
+        }
+    }
+
+    /// A text that is the value's own, of an expression that has to be a text.
+    fn own_text<T: Touch>(
+        &self,
+        touch: &T,
+        expression: &Expr,
+    ) -> Result<Result<Text, Fault>, AllocError>
+        requires { HasKeys (run_rights self.now) (T.content touch.now) (T.writes touch.now) }
+        ensures { IfOk result (λ g. g ≡ text_value (run_rights self.now) (state_of self.now (T.content touch.now)) (term_of expression.now)) }
+    {
+        match self.text(touch, expression)? {
+            Ok(text) => Ok(Ok(text.into_text(self.alloc)?)),
+            Err(fault) => Ok(Err(fault)),
+        }
+    }
+
+    /// Texts that are the values' own, of two expressions that have to be texts.
+    fn own_texts<T: Touch>(
+        &self,
+        touch: &T,
+        first: &Expr,
+        second: &Expr,
+    ) -> Result<Result<(Text, Text), Fault>, AllocError>
+        requires { HasKeys (run_rights self.now) (T.content touch.now) (T.writes touch.now) }
+        ensures { IfOk result (λ g. g ≡ text_values (run_rights self.now) (state_of self.now (T.content touch.now)) (term_of first.now) (term_of second.now)) }
+    {
+        match self.texts(touch, first, second)? {
+            Ok((first, second)) => Ok(Ok((
+                first.into_text(self.alloc)?,
+                second.into_text(self.alloc)?,
+            ))),
+            Err(fault) => Ok(Err(fault)),
+        }
+    }
+
+    /// The value of an expression, with a text of its own.
+    fn own_value<T: Touch>(
+        &self,
+        touch: &T,
+        expression: &Expr,
+    ) -> Result<Result<Data, Fault>, AllocError>
+        requires { HasKeys (run_rights self.now) (T.content touch.now) (T.writes touch.now) }
+        ensures { IfOk result (λ g. g ≡ value (run_rights self.now) (state_of self.now (T.content touch.now)) (term_of expression.now)) }
+    {
+        match self.value(touch, expression)? {
+            Ok(value) => Ok(Ok(value.into_data(self.alloc)?)),
             Err(fault) => Ok(Err(fault)),
         }
     }

@@ -43,17 +43,6 @@ impl<'a, 't> TextValue<'a, 't> {
         }
     }
 
-    /// The same, whatever becomes of the resources: copied where one of them lends it.
-    pub fn lasting<'b>(self, alloc: Global) -> Result<TextValue<'a, 'b>, AllocError>
-        ensures { IfOk result (λ t. bytes_of t ≡ bytes_of self.entry) }
-    {
-        match self {
-            TextValue::Lent(text) => Ok(TextValue::Lent(text)),
-            TextValue::Looked(text) => Ok(TextValue::Made(Text::copied(alloc, text)?)),
-            TextValue::Made(text) => Ok(TextValue::Made(text)),
-        }
-    }
-
     /// The text itself: copied, unless it was made.
     pub fn into_text(self, alloc: Global) -> Result<Text, AllocError>
         ensures { IfOk result (λ t. t ≡ bytes_of self.entry) }

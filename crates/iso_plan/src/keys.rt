@@ -1,5 +1,5 @@
 //! The keys of a plan, numbered.
-ghost use Rattle.std.specs.Prelude.{◌≡◌, ◌+◌, ◌≤◌, IfErr, IfOk, OnOk, length, map};
+ghost use Rattle.std.specs.Prelude.{◌≡◌, ◌+◌, ◌≤◌, [], IfErr, IfOk, OnOk, length, map};
 ghost use Rattle.indexmap.specs.IndexSet.{keys as set_keys};
 ghost use Rattle.iso_model.specs.declared.limits.TheConstants.{KEYS};
 ghost use Rattle.iso_plan.specs.Faults.{IsCrowded};
@@ -17,22 +17,25 @@ use std::alloc::{AllocError, Global};
 /// The key that no script may declare.
 pub(crate) const GLOBAL_KEY: &str = "iso:global";
 
-/// The keys of nodes by number, in the order in which they are first marked, the global key first.
+/// Numbers the keys of nodes in a table, in the order in which they are first marked, the global key first.
 /// More than 255 besides it are `TooManyKeys`.
-pub(crate) fn keys(alloc: Global, rows: &[Row]) -> Result<IndexSet<&str>, PlanError>
-    ensures keys { IfOk result (λ s. map (λ k. k.now) s.keys ≡ keys (map row_of rows.now)) }
-    ensures few { IfOk result (λ s. length s.keys ≤ KEYS + 1) }
+pub(crate) fn number_keys<'a>(
+    table: &mut IndexSet<&'a str>,
+    rows: &'a [Row],
+) -> Result<(), PlanError>
+    requires empty { table.old.keys ≡ [] }
+    ensures keys { OnOk result (map (λ k. k.now) table.new.keys ≡ keys (map row_of rows.now)) }
+    ensures few { OnOk result (length table.new.keys ≤ KEYS + 1) }
     ensures crowded { IfErr result (IsCrowded (length (keys (map row_of rows.now)))) }
 {
-    let mut table = IndexSet::new(alloc);
     table.insert(GLOBAL_KEY)?;
     'rows: for row in rows {
-        add_marks(&mut table, row.kind.marks())?;
+        add_marks(table, row.kind.marks())?;
     }
     if table.as_slice().len() > KEYS as usize + 1 {
         return Err(PlanError::Fault(PlanFault::TooManyKeys));
     }
-    Ok(table)
+    Ok(())
 }
 
 /// Adds the keys of marks that aren't there yet.

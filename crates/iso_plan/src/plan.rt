@@ -18,7 +18,7 @@ ghost use Rattle.iso_plan.specs.Tree.{tree};
 use crate::chains::chains;
 use crate::children::children;
 use crate::fault::{PlanError, PlanFault};
-use crate::keys::{copied, keys};
+use crate::keys::{copied, number_keys};
 use crate::lock::Lock;
 use crate::locking::{isolated, locking_nodes};
 use crate::locks::locks;
@@ -27,6 +27,7 @@ use crate::names::has_double_class;
 use crate::rights::rights;
 use crate::row::{Kind, Row};
 use crate::tree::tree;
+use indexmap::IndexSet;
 use iso_model::chain::Chain;
 use iso_model::heads::ClassHead;
 use iso_model::limits::SCRIPTS;
@@ -34,7 +35,7 @@ use iso_model::rights::Rights;
 use iso_model::script::{Mode, Script};
 use iso_model::text::Text;
 use iso_settings::settings::Settings;
-use std::alloc::Global;
+use std::alloc::{AllocError, Global};
 use std::marker::Model;
 use std::sync::Arc;
 
@@ -77,12 +78,27 @@ impl Model for Plan {
         p.locking.items (map (λ l. l.items) p.locks.items) p.modes.items };
 }
 
-/// What the nodes of a plan lock, and the keys by number.
+/// The children of the nodes of a plan, their class chains, and the rights that these give.
+#[derive(Drop)]
+struct Chained {
+    children: Vec<Vec<u32>>,
+    chains: Vec<Vec<Arc<ClassHead>>>,
+    rights: Vec<Rights>,
+}
+
+/// What the nodes of a plan lock.
+#[derive(Drop)]
+struct Locked {
+    locking: Vec<Option<u32>>,
+    locks: Vec<Vec<Lock>>,
+}
+
+/// The keys of a plan by number, with what its nodes lock of them, and their modes.
 #[derive(Drop)]
 struct Gathered {
     keys: Vec<Text>,
-    locking: Vec<Option<u32>>,
-    locks: Vec<Vec<Lock>>,
+    locked: Locked,
+    modes: Vec<Mode>,
 }
 
 /// The plan of scripts under settings.
@@ -103,44 +119,94 @@ pub fn build(alloc: Global, scripts: &[Script], settings: &Settings) -> Result<P
         return Err(PlanError::Fault(PlanFault::DoubleClass));
     }
     let rows = tree(alloc, scripts)?;
-    let gathered = gather(alloc, &rows)?;
-    let modes = modes(alloc, &rows, *settings, &gathered.locks)?;
-    let children = children(alloc, &rows)?;
-    let chains = chains(alloc, &rows)?;
-    let rights = rights(alloc, &rows, &chains)?;
+    let chained = chain_all(alloc, &rows)?;
+    let gathered = gather(alloc, &rows, *settings)?;
     Ok(Plan {
         rows,
         settings: *settings,
-        children,
-        chains,
-        rights,
+        children: chained.children,
+        chains: chained.chains,
+        rights: chained.rights,
         keys: gathered.keys,
-        locking: gathered.locking,
-        locks: gathered.locks,
-        modes,
+        locking: gathered.locked.locking,
+        locks: gathered.locked.locks,
+        modes: gathered.modes,
     })
 }
 
-/// The keys, locking nodes and locks of nodes.
-fn gather(alloc: Global, rows: &[Row]) -> Result<Gathered, PlanError>
+/// The children, chains and rights of nodes.
+fn chain_all(alloc: Global, rows: &[Row]) -> Result<Chained, AllocError>
+    requires tree { IsTree (map row_of rows.now) }
+    requires fits { length rows.now ≤ NODES }
+    ensures children { IfOk result (λ l. map (λ c. c.items) l.children.items ≡ column (children (map row_of rows.now)) (length rows.now)) }
+    ensures chains { IfOk result (λ l. map (λ c. innermost_first c.items) l.chains.items ≡ column (chain_classes (map row_of rows.now)) (length rows.now)) }
+    ensures rights { IfOk result (λ l. map access_in l.rights.items ≡ column (node_rights (map row_of rows.now)) (length rows.now)) }
+{
+    let children = children(alloc, rows)?;
+    let chains = chains(alloc, rows)?;
+    let rights = rights(alloc, rows, &chains)?;
+    Ok(Chained {
+        children,
+        chains,
+        rights,
+    })
+}
+
+/// The keys, locks and modes of nodes. More than 255 different declared keys are `TooManyKeys`.
+fn gather(alloc: Global, rows: &[Row], settings: Settings) -> Result<Gathered, PlanError>
     requires tree { IsTree (map row_of rows.now) }
     requires fits { length rows.now ≤ NODES }
     ensures keys { IfOk result (λ l. l.keys.items ≡ keys (map row_of rows.now)) }
     ensures few { IfOk result (λ l. length l.keys.items ≤ KEYS + 1) }
-    ensures locking { IfOk result (λ l. l.locking.items ≡ column (locking_node (map row_of rows.now)) (length rows.now)) }
-    ensures locks { IfOk result (λ l. map (λ v. v.items) l.locks.items ≡ column (locks (map row_of rows.now)) (length rows.now)) }
+    ensures locking { IfOk result (λ l. l.locked.locking.items ≡ column (locking_node (map row_of rows.now)) (length rows.now)) }
+    ensures locks { IfOk result (λ l. map (λ v. v.items) l.locked.locks.items ≡ column (locks (map row_of rows.now)) (length rows.now)) }
+    ensures modes { IfOk result (λ l. l.modes.items ≡ column (mode (map row_of rows.now) settings) (length rows.now)) }
     ensures crowded { IfErr result (IsCrowded (length (keys (map row_of rows.now)))) }
 {
-    let table = keys(alloc, rows)?;
-    let isolated = isolated(alloc, rows)?;
-    let locking = locking_nodes(alloc, rows, &isolated)?;
-    let locks = locks(alloc, rows, &table, &isolated, &locking)?;
+    let mut table = IndexSet::new(alloc);
+    number_keys(&mut table, rows)?;
+    Ok(gather_by(alloc, rows, settings, &table)?)
+}
+
+/// What is gathered of nodes whose keys are numbered.
+fn gather_by(
+    alloc: Global,
+    rows: &[Row],
+    settings: Settings,
+    table: &IndexSet<&str>,
+) -> Result<Gathered, AllocError>
+    requires tree { IsTree (map row_of rows.now) }
+    requires fits { length rows.now ≤ NODES }
+    requires keys { map (λ k. k.now) table.now.keys ≡ keys (map row_of rows.now) }
+    requires few { length (keys (map row_of rows.now)) ≤ KEYS + 1 }
+    ensures keys { IfOk result (λ l. l.keys.items ≡ keys (map row_of rows.now)) }
+    ensures locking { IfOk result (λ l. l.locked.locking.items ≡ column (locking_node (map row_of rows.now)) (length rows.now)) }
+    ensures locks { IfOk result (λ l. map (λ v. v.items) l.locked.locks.items ≡ column (locks (map row_of rows.now)) (length rows.now)) }
+    ensures modes { IfOk result (λ l. l.modes.items ≡ column (mode (map row_of rows.now) settings) (length rows.now)) }
+{
+    let locked = lock_all(alloc, rows, table)?;
+    let modes = modes(alloc, rows, settings, &locked.locks)?;
     let keys = copied(alloc, table.as_slice())?;
     Ok(Gathered {
         keys,
-        locking,
-        locks,
+        locked,
+        modes,
     })
+}
+
+/// The locking nodes and the locks of nodes whose keys are numbered.
+fn lock_all(alloc: Global, rows: &[Row], table: &IndexSet<&str>) -> Result<Locked, AllocError>
+    requires tree { IsTree (map row_of rows.now) }
+    requires fits { length rows.now ≤ NODES }
+    requires keys { map (λ k. k.now) table.now.keys ≡ keys (map row_of rows.now) }
+    requires few { length (keys (map row_of rows.now)) ≤ KEYS + 1 }
+    ensures locking { IfOk result (λ l. l.locking.items ≡ column (locking_node (map row_of rows.now)) (length rows.now)) }
+    ensures locks { IfOk result (λ l. map (λ v. v.items) l.locks.items ≡ column (locks (map row_of rows.now)) (length rows.now)) }
+{
+    let isolated = isolated(alloc, rows)?;
+    let locking = locking_nodes(alloc, rows, &isolated)?;
+    let locks = locks(alloc, rows, table, &isolated, &locking)?;
+    Ok(Locked { locking, locks })
 }
 
 impl Plan {

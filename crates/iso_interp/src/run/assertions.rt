@@ -1,5 +1,5 @@
 //! The statements that test values, and the one that fails.
-ghost use Rattle.std.specs.Prelude.{◌≡◌, OnOk, IfOk};
+ghost use Rattle.std.specs.Prelude.{◌≡◌, Ok, OnOk, IfOk};
 ghost use Rattle.iso_model.specs.Statements.{performed, upon, value};
 ghost use Rattle.iso_model.specs.Syntax.{assert, assert_equal, assume};
 ghost use Rattle.iso_model.specs.SyntaxView.{term_of};
@@ -101,11 +101,7 @@ impl<'a> BlockRun<'a> {
             Ok(value) => value,
             Err(fault) => return Ok(Err(fault)),
         };
-        match is_equal(&expected, &actual) {
-            Ok(true) => Ok(Ok(None)),
-            Ok(false) => Ok(Ok(Some(difference_message(self.alloc, expected, actual)?))),
-            Err(fault) => Ok(Err(fault)),
-        }
+        difference_of(self.alloc, expected, actual)
     }
 
     /// `assume EXPRESSION, REASON;`
@@ -139,6 +135,21 @@ impl<'a> BlockRun<'a> {
         let message = message.copy(self.alloc)?;
         self.fail(row, message);
         Ok(())
+    }
+}
+
+/// What an `assert_equal` says of two values, where they differ.
+fn difference_of(
+    alloc: Global,
+    expected: Value<'_, '_>,
+    actual: Value<'_, '_>,
+) -> Result<Result<Option<Text>, Fault>, AllocError>
+    ensures { IfOk result (λ g. g ≡ difference (Ok (data_of expected.entry)) (Ok (data_of actual.entry))) }
+{
+    match is_equal(&expected, &actual) {
+        Ok(true) => Ok(Ok(None)),
+        Ok(false) => Ok(Ok(Some(difference_message(alloc, expected, actual)?))),
+        Err(fault) => Ok(Err(fault)),
     }
 }
 

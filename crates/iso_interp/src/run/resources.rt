@@ -1,20 +1,23 @@
 //! The statements that change resources.
-ghost use Rattle.std.specs.Prelude.{◌≡◌, OnOk};
+ghost use Rattle.std.specs.Prelude.{◌≡◌, IfOk, OnOk};
+ghost use Rattle.iso_model.specs.Keys.{file_key};
 ghost use Rattle.iso_model.specs.ResourceKeys.{spelling};
-ghost use Rattle.iso_model.specs.Statements.{changes, performed};
+ghost use Rattle.iso_model.specs.Resources.{text_in};
+ghost use Rattle.iso_model.specs.Statements.{allowed, appending, changes, deleting, performed};
 ghost use Rattle.iso_model.specs.Syntax.{append_file, clear_prop, delete_file, set_locale, set_prop, write_file};
 ghost use Rattle.iso_model.specs.SyntaxView.{term_of};
-ghost use Rattle.iso_model.specs.Touch.{HasKeys, kind_of_change, kind_of_key};
+ghost use Rattle.iso_model.specs.Touch.{HasKeys, HasKind, file, kind_of_change, kind_of_key};
 ghost use Rattle.iso_model.specs.declared.fault.Fault.TheVariants as Faults;
 ghost use Rattle.iso_interp.specs.Runs.{SameWork, faulted, local_of, run_rights, state_of};
+ghost use Rattle.iso_interp.specs.Values.{appended};
 
 use crate::operators::joined_text;
 use crate::run::BlockRun;
 use iso_model::access::Access;
 use iso_model::fault::Fault;
-use iso_model::key::Key;
 use iso_model::resource::{Ask, Change};
 use iso_model::resource_key::ResourceKey;
+use iso_model::text::Text;
 use iso_model::touch::Touch;
 use iso_model::tree::Expr;
 use std::alloc::AllocError;
@@ -33,13 +36,13 @@ impl<'a> BlockRun<'a> {
         ensures work { SameWork self.old self.new }
         ensures goes_on { T.goes_on touch.old touch.new }
     {
-        let change = match self.texts(touch, name, text)? {
+        match self.own_texts(touch, name, text)? {
             Ok((name, text)) => {
-                Change::SetProp(name.into_text(self.alloc)?, text.into_text(self.alloc)?)
+                let change = Change::SetProp(name, text);
+                self.change(touch, row, ResourceKey::Properties, change)
             }
-            Err(fault) => return self.fault(row, fault),
-        };
-        self.change(touch, row, ResourceKey::Properties, change)
+            Err(fault) => self.fault(row, fault),
+        }
     }
 
     /// `clear_prop NAME;`
@@ -54,11 +57,13 @@ impl<'a> BlockRun<'a> {
         ensures work { SameWork self.old self.new }
         ensures goes_on { T.goes_on touch.old touch.new }
     {
-        let change = match self.text(touch, name)? {
-            Ok(name) => Change::ClearProp(name.into_text(self.alloc)?),
-            Err(fault) => return self.fault(row, fault),
-        };
-        self.change(touch, row, ResourceKey::Properties, change)
+        match self.own_text(touch, name)? {
+            Ok(name) => {
+                let change = Change::ClearProp(name);
+                self.change(touch, row, ResourceKey::Properties, change)
+            }
+            Err(fault) => self.fault(row, fault),
+        }
     }
 
     /// `set_locale TEXT;`
@@ -73,11 +78,13 @@ impl<'a> BlockRun<'a> {
         ensures work { SameWork self.old self.new }
         ensures goes_on { T.goes_on touch.old touch.new }
     {
-        let change = match self.text(touch, text)? {
-            Ok(text) => Change::SetLocale(text.into_text(self.alloc)?),
-            Err(fault) => return self.fault(row, fault),
-        };
-        self.change(touch, row, ResourceKey::Locale, change)
+        match self.own_text(touch, text)? {
+            Ok(text) => {
+                let change = Change::SetLocale(text);
+                self.change(touch, row, ResourceKey::Locale, change)
+            }
+            Err(fault) => self.fault(row, fault),
+        }
     }
 
     /// `write_file PATH, TEXT;`
@@ -93,16 +100,13 @@ impl<'a> BlockRun<'a> {
         ensures work { SameWork self.old self.new }
         ensures goes_on { T.goes_on touch.old touch.new }
     {
-        let (path, text) = match self.texts(touch, path, text)? {
-            Ok((path, text)) => (path.into_text(self.alloc)?, text.into_text(self.alloc)?),
-            Err(fault) => return self.fault(row, fault),
-        };
-        self.change(
-            touch,
-            row,
-            ResourceKey::File(path.as_str()),
-            Change::WriteFile(text),
-        )
+        match self.own_texts(touch, path, text)? {
+            Ok((path, text)) => {
+                let key = ResourceKey::File(path.as_str());
+                self.change(touch, row, key, Change::WriteFile(text))
+            }
+            Err(fault) => self.fault(row, fault),
+        }
     }
 
     /// `append_file PATH, TEXT;`
@@ -118,22 +122,53 @@ impl<'a> BlockRun<'a> {
         ensures work { SameWork self.old self.new }
         ensures goes_on { T.goes_on touch.old touch.new }
     {
-        let (path, text) = match self.texts(touch, path, text)? {
-            Ok((path, text)) => (path.into_text(self.alloc)?, text.into_text(self.alloc)?),
-            Err(fault) => return self.fault(row, fault),
-        };
+        match self.own_texts(touch, path, text)? {
+            Ok((path, text)) => self.append(touch, row, &path, &text),
+            Err(fault) => self.fault(row, fault),
+        }
+    }
+
+    /// Appends a text to the file at a path, where the rights let it.
+    fn append<T: Touch>(
+        &mut self,
+        touch: &mut T,
+        row: u32,
+        path: &Text,
+        text: &Text,
+    ) -> Result<(), AllocError>
+        requires { HasKeys (run_rights self.old) (T.content touch.old) (T.writes touch.old) }
+        ensures done { OnOk result (state_of self.new (T.content touch.new) ≡ allowed (run_rights self.old) row (file_key path.now)
+            (state_of self.old (T.content touch.old))
+            (appending row path.now text.now (text_in (T.content touch.old (file_key path.now))) (state_of self.old (T.content touch.old)))) }
+        ensures work { SameWork self.old self.new }
+        ensures goes_on { T.goes_on touch.old touch.new }
+    {
         let key = ResourceKey::File(path.as_str());
         if !self.rights.lets_change(key) {
-            let key = key.key(self.alloc)?;
             return self.undeclared(row, key);
         }
-        let joined = match touch.look(key, Ask::File) {
-            Some(before) => joined_text(self.alloc, before, text.as_str())?,
-            None => return self.fault(row, Fault::MissingFile(path)),
+        match self.appended(touch, path, text)? {
+            Ok(text) => touch.change(key, Change::WriteFile(text)),
+            Err(fault) => self.fault(row, fault),
+        }
+    }
+
+    /// The text of the file at a path with a text after it.
+    fn appended<T: Touch>(
+        &self,
+        touch: &T,
+        path: &Text,
+        text: &Text,
+    ) -> Result<Result<Text, Fault>, AllocError>
+        requires { HasKind (T.content touch.now (file_key path.now)) file }
+        ensures { IfOk result (λ g. g ≡ appended path.now text.now (text_in (T.content touch.now (file_key path.now)))) }
+    {
+        let Some(before) = touch.look(ResourceKey::File(path.as_str()), Ask::File) else {
+            return Ok(Err(Fault::MissingFile(path.copy(self.alloc)?)));
         };
-        match joined {
-            Some(text) => touch.change(key, Change::WriteFile(text)),
-            None => self.fault(row, Fault::TextTooLong),
+        match joined_text(self.alloc, before, text.as_str())? {
+            Some(joined) => Ok(Ok(joined)),
+            None => Ok(Err(Fault::TextTooLong)),
         }
     }
 
@@ -149,19 +184,28 @@ impl<'a> BlockRun<'a> {
         ensures work { SameWork self.old self.new }
         ensures goes_on { T.goes_on touch.old touch.new }
     {
-        let path = match self.text(touch, path)? {
-            Ok(path) => path.lasting(self.alloc)?,
-            Err(fault) => return self.fault(row, fault),
-        };
+        match self.own_text(touch, path)? {
+            Ok(path) => self.delete(touch, row, &path),
+            Err(fault) => self.fault(row, fault),
+        }
+    }
+
+    /// Deletes the file at a path, where the rights let it.
+    fn delete<T: Touch>(&mut self, touch: &mut T, row: u32, path: &Text) -> Result<(), AllocError>
+        requires { HasKeys (run_rights self.old) (T.content touch.old) (T.writes touch.old) }
+        ensures done { OnOk result (state_of self.new (T.content touch.new) ≡ allowed (run_rights self.old) row (file_key path.now)
+            (state_of self.old (T.content touch.old))
+            (deleting row path.now (text_in (T.content touch.old (file_key path.now))) (state_of self.old (T.content touch.old)))) }
+        ensures work { SameWork self.old self.new }
+        ensures goes_on { T.goes_on touch.old touch.new }
+    {
         let key = ResourceKey::File(path.as_str());
         if !self.rights.lets_change(key) {
-            let key = key.key(self.alloc)?;
-            drop(path);
             return self.undeclared(row, key);
         }
         if touch.look(key, Ask::File).is_none() {
-            let path = path.into_text(self.alloc)?;
-            return self.fault(row, Fault::MissingFile(path));
+            let missing = path.copy(self.alloc)?;
+            return self.fault(row, Fault::MissingFile(missing));
         }
         touch.change(key, Change::DeleteFile)
     }
@@ -183,16 +227,17 @@ impl<'a> BlockRun<'a> {
         if self.rights.lets_change(key) {
             touch.change(key, change)
         } else {
-            let key = key.key(self.alloc)?;
+            drop(change);
             self.undeclared(row, key)
         }
     }
 
     /// Ends the block by the fault of a change that isn't declared.
-    fn undeclared(&mut self, row: u32, key: Key) -> Result<(), AllocError>
-        ensures ended { OnOk result (local_of self.new ≡ faulted row (Faults.Undeclared Access.Write key) (local_of self.old)) }
+    fn undeclared(&mut self, row: u32, key: ResourceKey<'_>) -> Result<(), AllocError>
+        ensures ended { OnOk result (local_of self.new ≡ faulted row (Faults.Undeclared Access.Write (spelling key.entry)) (local_of self.old)) }
         ensures work { SameWork self.old self.new }
     {
+        let key = key.key(self.alloc)?;
         self.fault(row, Fault::Undeclared(Access::Write, key))
     }
 }

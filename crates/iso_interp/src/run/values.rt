@@ -1,12 +1,15 @@
 //! The statements that name, assign and print values.
 ghost use Rattle.std.specs.Prelude.{◌≡◌, OnOk};
-ghost use Rattle.iso_model.specs.Statements.{performed};
+ghost use Rattle.iso_model.specs.Names.{assigned};
+ghost use Rattle.iso_model.specs.Resources.{Resources};
+ghost use Rattle.iso_model.specs.Statements.{declares, locally, performed, prints, upon, with_names};
 ghost use Rattle.iso_model.specs.Syntax.{assign, let_name, print};
 ghost use Rattle.iso_model.specs.SyntaxView.{term_of};
 ghost use Rattle.iso_model.specs.Touch.{HasKeys};
 ghost use Rattle.iso_interp.specs.Runs.{SameWork, run_rights, state_of};
 
 use crate::run::BlockRun;
+use iso_model::data::Data;
 use iso_model::fault::Fault;
 use iso_model::names::AssignFault;
 use iso_model::text::Text;
@@ -27,15 +30,22 @@ impl<'a> BlockRun<'a> {
         ensures done { OnOk result (state_of self.new (T.content touch.now) ≡ performed (run_rights self.old) row (let_name name.now (term_of expression.now)) (state_of self.old (T.content touch.now))) }
         ensures work { SameWork self.old self.new }
     {
-        let value = match self.value(touch, expression)? {
-            Ok(value) => value.into_data(self.alloc)?,
-            Err(fault) => return self.fault(row, fault),
-        };
-        if self.names.get(name.as_str()).is_some() {
-            let taken = name.copy(self.alloc)?;
-            return self.fault(row, Fault::DoubleName(taken));
+        match self.own_value(touch, expression)? {
+            Ok(value) => self.declare(row, name, value),
+            Err(fault) => self.fault(row, fault),
         }
+    }
+
+    /// Adds a local, unless its name is visible already.
+    fn declare(&mut self, row: u32, name: &Text, value: Data) -> Result<(), AllocError>
+        ensures done { OnOk result ((m : Resources) → state_of self.new m ≡ declares row name.now value (state_of self.old m)) }
+        ensures work { SameWork self.old self.new }
+    {
         let name = name.copy(self.alloc)?;
+        if self.names.get(name.as_str()).is_some() {
+            drop(value);
+            return self.fault(row, Fault::DoubleName(name));
+        }
         self.names.declare(name, value)
     }
 
@@ -51,10 +61,17 @@ impl<'a> BlockRun<'a> {
         ensures done { OnOk result (state_of self.new (T.content touch.now) ≡ performed (run_rights self.old) row (assign name.now (term_of expression.now)) (state_of self.old (T.content touch.now))) }
         ensures work { SameWork self.old self.new }
     {
-        let value = match self.value(touch, expression)? {
-            Ok(value) => value.into_data(self.alloc)?,
-            Err(fault) => return self.fault(row, fault),
-        };
+        match self.own_value(touch, expression)? {
+            Ok(value) => self.set(row, name, value),
+            Err(fault) => self.fault(row, fault),
+        }
+    }
+
+    /// Sets a name that is visible and isn't frozen.
+    fn set(&mut self, row: u32, name: &Text, value: Data) -> Result<(), AllocError>
+        ensures done { OnOk result ((m : Resources) → state_of self.new m ≡ upon row (assigned self.old.names.names name.now value) (state_of self.old m) (λ names. locally (with_names names) (state_of self.old m))) }
+        ensures work { SameWork self.old self.new }
+    {
         match self.names.assign(name.as_str(), value) {
             Ok(()) => Ok(()),
             Err(AssignFault::UnknownName) => {
@@ -79,10 +96,20 @@ impl<'a> BlockRun<'a> {
         ensures done { OnOk result (state_of self.new (T.content touch.now) ≡ performed (run_rights self.old) row (print (term_of expression.now)) (state_of self.old (T.content touch.now))) }
         ensures work { SameWork self.old self.new }
     {
-        let line = match self.value(touch, expression)? {
-            Ok(value) => value.text(self.alloc)?.into_text(self.alloc)?,
-            Err(fault) => return self.fault(row, fault),
-        };
+        match self.value(touch, expression)? {
+            Ok(value) => {
+                let line = value.text(self.alloc)?.into_text(self.alloc)?;
+                self.write(row, line)
+            }
+            Err(fault) => self.fault(row, fault),
+        }
+    }
+
+    /// Prints a line, where it fits into the output.
+    fn write(&mut self, row: u32, line: Text) -> Result<(), AllocError>
+        ensures done { OnOk result ((m : Resources) → state_of self.new m ≡ prints row line (state_of self.old m)) }
+        ensures work { SameWork self.old self.new }
+    {
         if !self.names.count_line(line.as_str().len()) {
             return self.fault(row, Fault::OutputFull);
         }
