@@ -155,6 +155,7 @@ impl<'a> Body<'a> {
 
     /// Does the first piece that is left, on what the body's last step left, and at first on what the openings before it left, at the
     /// keys of its rights.
+    #[inline(always)]
     pub fn step<T: Touch>(&mut self, touch: &mut T) -> Result<(), AllocError>
         requires under_way { is_ended (stage_of_body self.old) ≡ false }
         requires keys { HasKeys (rights_of_subject (subject_of self.old)) (T.content touch.old) (T.writes touch.old) }

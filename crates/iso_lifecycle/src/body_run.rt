@@ -102,6 +102,7 @@ impl<'a> BodyRun<'a> {
 
     /// Does the first piece that is left; where its block has then ended, the next begins that has something to do.
     /// A body that has ended stays as it is. One that met want of memory never ends.
+    #[inline(always)]
     pub fn step<T: Touch>(&mut self, touch: &mut T) -> Result<(), AllocError>
         requires { HasKeys (rights_of self.old) (T.content touch.old) (T.writes touch.old) }
         ensures step { OnOk result (going (stage_of self.new) (T.content touch.new) ≡ body_step (rights_of self.old) (going (stage_of self.old) (T.content touch.old))) }

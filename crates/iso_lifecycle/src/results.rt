@@ -113,6 +113,14 @@ impl<'a> Results<'a> {
         None
     }
 
+    /// Whether the `before_all` of a class was put and didn't end well. Takes no memory.
+    pub fn bars(&self, node: u32) -> bool
+        requires { node < length self.now.plan.rows }
+        ensures { result ≡ is_barring self.now node }
+    {
+        self.barring(node).is_some()
+    }
+
     /// The `before_all` of a class, where it was put and didn't end well.
     fn barring(&self, node: u32) -> Option<&Opened>
         requires { node < length self.now.plan.rows }
