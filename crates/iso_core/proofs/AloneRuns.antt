@@ -23,15 +23,15 @@ marks-heads : (cs : List ClassHead) → marks_in (heads cs) ≡ marks_of cs
 marks-heads [] = refl
 marks-heads (c ∷ cs) = ap (λ (ms : List Mark). c.marks ++ ms) (marks-heads cs)
 
-classes-heads : (cs : List ClassHead) → classes_in (heads cs) ≡ cs
+pub classes-heads : (cs : List ClassHead) → classes_in (heads cs) ≡ cs
 classes-heads [] = refl
 classes-heads (c ∷ cs) = ap (λ (ds : List ClassHead). c ∷ ds) (classes-heads cs)
 
-abbrev OpeningOf : Type 0
+abbrev pub OpeningOf : Type 0
 OpeningOf = L.Opening (List ℕ) Resource Frame
 
 -- what an opening is to the isolation theorem
-abbrev told : M.Opening → OpeningOf
+abbrev pub told : M.Opening → OpeningOf
 told o = record { frames = o.frames; content = o.resources; well = o.well }
 
 told-either : (b : Bool) (o p : M.Opening) → cond b (told o) (told p) ≡ told (cond b o p)
@@ -51,7 +51,7 @@ entered-class c cs o =
 abbrev opened_more : ClassHead → List ClassHead → OpeningOf → OpeningOf
 opened_more c cs o = cond o.well (L.opened scripts o (entered scripts (of_class c ∷ heads cs) o)) o
 
-openings : (cs : List ClassHead) (m : Resources) → L.opening scripts (heads cs) m ≡ told (M.opening cs m)
+pub openings : (cs : List ClassHead) (m : Resources) → L.opening scripts (heads cs) m ≡ told (M.opening cs m)
 openings [] m = refl
 openings (c ∷ cs) m =
     let o = M.opening cs m in

@@ -1,3 +1,6 @@
+pub mod BodiesAlone
+pub mod BodiesFollow
+pub mod FramesUp
 pub mod LanguageLaws
 pub mod AloneRuns
 pub mod SuiteLaws
@@ -9,3 +12,16 @@ pub mod Looks
 pub mod Inside
 pub mod Barring
 pub mod Leaving
+pub mod CoreRuns
+pub mod CoreRefusals
+pub mod CoreValues
+pub mod CoreSteps
+pub mod CoreResults
+pub mod CoreKinds
+pub mod PlanOpenings
+pub mod ResultPuts
+pub mod ResultLeaves
+pub mod Apart
+pub mod FlatStates
+pub mod FlatValues
+pub mod Isolating

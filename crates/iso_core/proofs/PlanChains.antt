@@ -13,12 +13,12 @@ use Rattle.iso_model.specs.Scripts.{Class, class, Member, class_member, test_mem
 use Rattle.iso_model.specs.declared.resource.Resource.{Resource}
 use Rattle.iso_plan.proofs.PathLemmas.{along, chain-step, path-root, path-step}
 use Rattle.iso_plan.specs.NodeChains.{chain_classes, chain_test, class_heads, heads_on, own_test}
-use Rattle.iso_plan.specs.Paths.{IsTree, is_test, parent, path, row_at}
+use Rattle.iso_plan.specs.Paths.{IsTree, is_class_or_test, is_test, parent, path, row_at}
 use Rattle.iso_plan.specs.Tree.{Kind, root, class_node, test_node, Row, root_row, member_rows, members_rows, class_rows, top_rows, team_rows, script_rows, tree}
 use Rattle.iso_settings.specs.declared.settings.Settings.{Settings}
 
 -- whether a node is a class or a test
-abbrev is_written : Kind → Bool
+abbrev pub is_written : Kind → Bool
 is_written root = false
 is_written (class_node isolated head) = true
 is_written (test_node head) = true
@@ -67,9 +67,18 @@ written-at [] i h less = absurd (omega arith)
 written-at (r ∷ rows) zero h less = (split_by (is_written r.kind) (all_written rows) h).0
 written-at (r ∷ rows) (suc i) h less = written-at rows i (split_by (is_written r.kind) (all_written rows) h).1 (omega arith)
 
+kept-written : (kind : Kind) → is_class_or_test kind ≡ true → is_written kind ≡ true
+kept-written root e = e
+kept-written (class_node isolated head) e = e
+kept-written (test_node head) e = e
+
 -- each node but the root is a class or a test
 abbrev IsFull : List Row → Type 0
 IsFull rows = (n : ℕ) → 0 < n → n < length rows → is_written (row_at rows n).kind ≡ true
+
+-- what every tree's nodes are
+pub written : (rows : List Row) → IsTree rows → IsFull rows
+written rows t n pos inside = kept-written (row_at rows n).kind (t.full n pos inside)
 
 pub tree-full : (ss : List Script) → IsFull (tree ss)
 tree-full ss zero pos inside = absurd (omega arith)
@@ -115,7 +124,8 @@ module _ (rows : List Row) (t : IsTree rows) (full : IsFull rows) (settings : Se
       ∙ class-head (row_at rows n).kind (chain_classes rows (parent rows n)) e (full n pos inside)
       ∙ sym (ap heads (chain-step rows t.below n pos))
 
-  heads-at : (n : ℕ) → IsHeads n
+  -- the chain of a node that is no test
+  pub heads-at : (n : ℕ) → IsHeads n
   heads-at = along rows t.below IsHeads heads-root heads-step
 
   -- past the nodes stands no test, and no class

@@ -2,8 +2,14 @@
 //! of the core in code, which events are refused.
 #![tactic(auto)]
 
+pub mod core_fault;
 pub mod examples;
+mod flat_map;
+mod following;
+mod frames;
 pub mod laws;
+pub mod machine;
 pub mod phase;
 pub mod refused;
+pub mod run_events;
 pub mod standing;

@@ -150,6 +150,13 @@ impl<'a> Standing<'a> {
         self.stopped = true;
     }
 
+    /// Whether it was stopped.
+    pub fn is_stopped(&self) -> bool
+        ensures { result ≡ self.now.stopped }
+    {
+        self.stopped
+    }
+
     /// Whether every node but the root is finished. It goes over all nodes.
     pub fn is_complete(&self) -> bool
         ensures { (start : Resources) (s : CoreState) → LooksLike self.now s → is_complete_in self.now start s ≡ result }

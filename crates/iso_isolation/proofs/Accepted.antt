@@ -16,16 +16,16 @@ use Rattle.iso_isolation.proofs.Statuses.{waiting_is}
 use Rattle.iso_isolation.proofs.LockEvents.{MayEnter}
 
 -- none of a list of kinds applies
-abbrev NoneApplies : List (Option Refused) → Type 0
+abbrev pub NoneApplies : List (Option Refused) → Type 0
 NoneApplies [] = Unit {0}
 NoneApplies (o ∷ os) = (o ≡ None) × NoneApplies os
 
-none_applies : (os : List (Option Refused)) → is_none (first_of os) ≡ true → NoneApplies os
+pub none_applies : (os : List (Option Refused)) → is_none (first_of os) ≡ true → NoneApplies os
 none_applies [] e = tt
 none_applies (None ∷ os) e = (refl, none_applies os e)
 none_applies (Some r ∷ os) e = absurd cc
 
-not_refused : (b : Bool) (kind : Refused) → refuse b kind ≡ None → b ≡ false
+pub not_refused : (b : Bool) (kind : Refused) → refuse b kind ≡ None → b ≡ false
 not_refused true kind e = absurd cc
 not_refused false kind e = refl
 
@@ -59,7 +59,7 @@ nonzero_from n e z = eqb-false n 0 e z
 root_false : (n : ℕ) → (n ≡ 0 → ⊥) → is_root n ≡ false
 root_false n nz = ne_eqb n 0 nz
 
-in_plan : (most n : ℕ) → leb most n ≡ false → n < most
+pub in_plan : (most n : ℕ) → leb most n ≡ false → n < most
 in_plan most n e = elim (leb_tells most n) [ inl p ↦ absurd cc | inr p ↦ p.1 ]
 
 -- the four tests of `is_unfinished_sibling`, and the three of `is_unfinished_child`

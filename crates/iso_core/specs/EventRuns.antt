@@ -1,0 +1,47 @@
+-- What a list of events comes to that a new core takes in turn.
+use Rattle.std.specs.Prelude.{◌≡◌, ℕ, ◌<◌, List, Option, Some, true, take, slice_index_or, length}
+use Rattle.iso_core.specs.CodeEvents.{refused_of}
+use Rattle.iso_core.specs.Cores.{CoreView, events_of, new_core, refusal_in, suite_in}
+use Rattle.iso_core.specs.ScriptLanguage.{scripts}
+use Rattle.iso_core.specs.declared.core_fault.CoreFault.{CoreFault}
+use Rattle.iso_core.specs.declared.core_fault.CoreFault.TheVariants as F
+use Rattle.iso_core.specs.declared.run_events.EventsFault.{EventsFault}
+use Rattle.iso_isolation.specs.Refusals.{Refused}
+use Rattle.iso_isolation.specs.Runs.{is_run}
+use Rattle.iso_isolation.specs.States.{first}
+use Rattle.iso_plan.specs.Planned.{Planned}
+use Rattle.iso_schedule.specs.declared.event.Event.{Event}
+use Rattle.iso_schedule.specs.declared.event.Event.TheVariants.{Step}
+use Rattle.iso_settings.specs.Worlds.{Start}
+
+-- a new core that has taken these events
+abbrev pub core_after : Planned → Start → ℕ → List Event → CoreView
+core_after plan world workers es = record (new_core plan world workers) { events = es }
+
+-- each of these events is accepted after those before it
+abbrev pub AreAccepted : Planned → Start → ℕ → List Event → Type 0
+AreAccepted plan world workers es =
+    let c = new_core plan world workers in
+    is_run scripts (suite_in c) workers (first scripts (suite_in c)) (events_of es) ≡ true
+
+-- all events were accepted, and the core has taken them
+pub record Ran (plan : Planned) (world : Start) (workers : ℕ) (es : List Event) (c : CoreView) : Type 0 where
+  pub accepted : AreAccepted plan world workers es
+  pub core : c ≡ core_after plan world workers es
+
+abbrev pub event_at : List Event → ℕ → Event
+event_at es i = slice_index_or es i (Step 0)
+
+-- the event after the first so many is refused for this reason, and all those before it were accepted
+pub record RefusedAt (plan : Planned) (world : Start) (workers : ℕ) (es : List Event) (i : ℕ) (why : Option Refused) : Type 0 where
+  pub within : i < length es
+  pub earlier : AreAccepted plan world workers (take i es)
+  pub refused : refusal_in (core_after plan world workers (take i es)) (event_at es i) ≡ why
+
+-- where a list of events ended early: an event was refused, or memory was wanted once so many were accepted
+abbrev pub EndedBy : CoreFault → Planned → Start → ℕ → List Event → ℕ → Type 0
+EndedBy (F.Refused why) plan world workers es i = RefusedAt plan world workers es i (Some (refused_of why))
+EndedBy F.OutOfMemory plan world workers es i = AreAccepted plan world workers (take i es)
+
+abbrev pub StoppedAt : Planned → Start → ℕ → List Event → EventsFault → Type 0
+StoppedAt plan world workers es f = EndedBy f.fault plan world workers es f.index
