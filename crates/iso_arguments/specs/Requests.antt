@@ -1,7 +1,7 @@
 -- What a request asks for.
 use Rattle.std.specs.Prelude.{◌≡◌, ℕ, ◌≤◌, [], None, ⊤}
 use Rattle.iso_arguments.specs.declared.request.Request.{Request}
-use Rattle.iso_arguments.specs.declared.request.Request.TheVariants.{Run, Plan, Show}
+use Rattle.iso_arguments.specs.declared.request.Request.TheVariants.{Run, Plan, Replay, Show}
 
 -- the numbers of processors that may be asked for
 abbrev pub IsCount : ℕ → Type 0
@@ -11,10 +11,12 @@ IsCount n = (1 ≤ n) × (n ≤ 1024)
 abbrev pub AsksForSomeProcessors : Request → Type 0
 AsksForSomeProcessors (Run serial files) = IsCount files.processors
 AsksForSomeProcessors (Plan files) = IsCount files.processors
+AsksForSomeProcessors (Replay schedule files) = IsCount files.processors
 AsksForSomeProcessors (Show text) = ⊤
 
 -- a run of one script from standard input, without settings or world, counting with one processor
 abbrev pub IsPlainRun : Request → Type 0
 IsPlainRun (Run serial files) = (files.settings ≡ None) × (files.world ≡ None) × (files.scripts.items ≡ []) × (files.processors ≡ 1)
 IsPlainRun (Plan files) = ⊥
+IsPlainRun (Replay schedule files) = ⊥
 IsPlainRun (Show text) = ⊥

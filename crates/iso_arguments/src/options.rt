@@ -13,7 +13,7 @@ static FIRST_PAGE_END: &str = "Example:
 Exit status:
   0  every top-level point is ok, or a plan, a help or a version was printed
   1  some top-level point is not ok
-  2  refused input: words, settings, world, scripts or plan
+  2  refused input: words, settings, world, scripts, plan or schedule
   3  want of memory, a file that can't be read, or a failed write";
 
 static RUN_END: &str = "Example:
@@ -21,6 +21,9 @@ static RUN_END: &str = "Example:
 
 static PLAN_END: &str = "Example:
   jtap plan --settings junit.toml cart.jtap";
+
+static REPLAY_END: &str = "Example:
+  jtap replay --schedule cart.schedule --settings junit.toml cart.jtap";
 
 /// The whole command line. The words begin with the subcommand's name.
 pub(crate) fn command_line<'a>(alloc: Global) -> Result<Command<'a>, Error> {
@@ -43,7 +46,23 @@ pub(crate) fn command_line<'a>(alloc: Global) -> Result<Command<'a>, Error> {
             .after_help(FIRST_PAGE_END)
             .disable_help_subcommand(true)
             .subcommand(with_inputs(alloc, run.after_help(RUN_END))?)?
-            .subcommand(with_inputs(alloc, plan.after_help(PLAN_END))?)?,
+            .subcommand(with_inputs(alloc, plan.after_help(PLAN_END))?)?
+            .subcommand(with_inputs(alloc, replay(alloc)?)?)?,
+    )
+}
+
+/// The subcommand that replays a schedule.
+fn replay<'a>(alloc: Global) -> Result<Command<'a>, Error> {
+    let schedule = Arg::new(alloc, "schedule")
+        .long("schedule")
+        .value_name("FILE")
+        .required(true)
+        .help("Events to replay, one a line");
+    Ok(
+        Command::new(alloc, "replay")
+            .about("Replay a recorded schedule, and write the report as `run` does")
+            .after_help(REPLAY_END)
+            .arg(schedule)?,
     )
 }
 

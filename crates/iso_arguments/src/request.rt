@@ -9,7 +9,7 @@ use std::alloc::{AllocError, AllocFailed, AllocGlobal, Global};
 use std::env::{self, Env};
 use std::io;
 
-/// The files that a run or a plan is made of, as the words name them.
+/// The files that a run, a plan or a replay is made of, as the words name them.
 #[derive(Drop)]
 pub struct InputFiles<'a> {
     pub settings: Option<&'a str>,
@@ -39,9 +39,17 @@ impl<'a> InputFiles<'a> {
 #[derive(Drop)]
 pub enum Request<'a> {
     /// A run and its report; `serial` on one thread.
-    Run { serial: bool, files: InputFiles<'a> },
+    Run {
+        serial: bool,
+        files: InputFiles<'a>,
+    },
     /// The printed plan.
     Plan(InputFiles<'a>),
+    /// A replay of the schedule in a file of this name, and its report.
+    Replay {
+        schedule: &'a str,
+        files: InputFiles<'a>,
+    },
     /// A text for standard output: a help page or the version.
     Show(String),
 }
@@ -128,6 +136,11 @@ fn requested<'a>(alloc: Global, matches: &ArgMatches<'a>) -> Result<Request<'a>,
 {
     match matches.subcommand() {
         Some(("plan", found)) => Ok(Request::Plan(files_of(alloc, found)?)),
+        Some(("replay", found)) => Ok(Request::Replay {
+            // `--schedule` is required: it has a value.
+            schedule: found.get_str("schedule").unwrap_or(""),
+            files: files_of(alloc, found)?,
+        }),
         Some((_, found)) => Ok(Request::Run {
             serial: found.get_flag("serial"),
             files: files_of(alloc, found)?,

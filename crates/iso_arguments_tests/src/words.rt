@@ -69,6 +69,22 @@ fn plan_takes_scripts_in_order(rt: HostRuntime) -> Result<(), AllocError> {
 }
 
 #[test]
+fn replay_takes_a_schedule_and_the_inputs_of_a_run(rt: HostRuntime) -> Result<(), AllocError> {
+    let words = words_in(
+        rt.alloc(),
+        "replay --world w.toml a.jtap --schedule steps --processors 8 --settings s.toml",
+    )?;
+    match read_words(rt.alloc(), &words) {
+        Ok(Request::Replay { schedule, files }) => {
+            assert_eq!(rt; schedule, "steps");
+            assert!(rt; has_files(&files, Some("s.toml"), Some("w.toml"), Some("a.jtap"), 8));
+        }
+        _ => panic!(rt; "no replay"),
+    }
+    Ok(())
+}
+
+#[test]
 fn other_words_are_refused(rt: HostRuntime) -> Result<(), AllocError> {
     for line in [
         "plan --serial",
@@ -77,6 +93,12 @@ fn other_words_are_refused(rt: HostRuntime) -> Result<(), AllocError> {
         "run --processors many",
         "run --processors",
         "run --setings s.toml",
+        "run --schedule steps",
+        "replay a.jtap",
+        "replay --schedule",
+        "replay --schedule steps --serial",
+        "replay --schedule steps --schedule steps",
+        "replay --schedule steps --processors 0",
         "walk",
         "a.jtap",
     ] {
@@ -94,7 +116,13 @@ fn other_words_are_refused(rt: HostRuntime) -> Result<(), AllocError> {
 
 #[test]
 fn help_and_version_are_shown_in_80_columns(rt: HostRuntime) -> Result<(), AllocError> {
-    for line in ["--help", "run --help", "plan --help", "--version"] {
+    for line in [
+        "--help",
+        "run --help",
+        "plan --help",
+        "replay --help",
+        "--version",
+    ] {
         let words = words_in(rt.alloc(), line)?;
         match read_words(rt.alloc(), &words) {
             Ok(Request::Show(text)) => {

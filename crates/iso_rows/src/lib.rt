@@ -10,6 +10,10 @@ mod program;
 #[cfg(test)]
 mod ran;
 #[cfg(test)]
+mod random;
+#[cfg(test)]
+mod replay;
+#[cfg(test)]
 mod restoring;
 #[cfg(test)]
 mod rights;

@@ -3,14 +3,14 @@ use crate::folder::{new_folder, put, run};
 use std::fs;
 use std::test::Fail;
 
-const SETTINGS: &str = r#"[junit.jupiter.execution.parallel]
+pub(crate) const SETTINGS: &str = r#"[junit.jupiter.execution.parallel]
 enabled = true
 mode.default = "concurrent"
 config.strategy = "fixed"
 config.fixed.parallelism = 2
 "#;
 
-const WORLD: &str = r#"locale = "de"
+pub(crate) const WORLD: &str = r#"locale = "de"
 
 [files]
 "/orders/today.csv" = "pen, book"
@@ -21,7 +21,7 @@ const WORLD: &str = r#"locale = "de"
 "shop.currency" = "USD"
 "#;
 
-const SHOP: &str =
+pub(crate) const SHOP: &str =
     r#"// Prices in system properties and labels in the default locale. What a test changes, the next one finds restored.
 team shop
 
@@ -63,7 +63,7 @@ class Labels {
 }
 "#;
 
-const ORDERS: &str =
+pub(crate) const ORDERS: &str =
     r#"// Orders in files. The database has another version than its class wants, so nothing in that class runs.
 team orders
 
@@ -105,7 +105,7 @@ class Database {
 }
 "#;
 
-const OPS: &str = r#"// Nothing else runs beside the migration.
+pub(crate) const OPS: &str = r#"// Nothing else runs beside the migration.
 team ops
 
 isolated

@@ -23,6 +23,9 @@ NotReported (F.Settings fault) old new = Untouched old new
 NotReported (F.World fault) old new = Untouched old new
 NotReported (F.Script index fault) old new = Untouched old new
 NotReported (F.Plan fault) old new = Untouched old new
+NotReported (F.Schedule fault) old new = Untouched old new
+NotReported (F.Refused index why) old new = Untouched old new
+NotReported F.Unfinished old new = Untouched old new
 NotReported F.Memory old new = Untouched old new
 NotReported (F.Write written) old new = HasFailed old.failures new.failures
 

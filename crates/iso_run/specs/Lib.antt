@@ -1,3 +1,4 @@
 pub mod Commands
 pub mod PlanRuns
+pub mod Replays
 pub mod Runs

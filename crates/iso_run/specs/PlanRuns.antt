@@ -6,7 +6,7 @@ use Rattle.iso_inputs.specs.declared.inputs.Inputs.{Inputs}
 use Rattle.iso_plan.specs.Tree.{tree}
 use Rattle.iso_run.specs.Runs.{Broken, Untouched}
 use Rattle.iso_run.specs.declared.fault.RunFault.{RunFault}
-use Rattle.iso_run.specs.declared.fault.RunFault.TheVariants.{Settings, World, Script, Plan, Memory, Write}
+use Rattle.iso_run.specs.declared.fault.RunFault.TheVariants.{Settings, World, Script, Plan, Schedule, Refused, Unfinished, Memory, Write}
 use Rattle.iso_tap.specs.PlanText.{plan_text}
 use Rattle.iso_tap.specs.Sinks.{Account, Wrote}
 
@@ -26,11 +26,14 @@ pub record PlanCutShort (inputs : Inputs) (old new : Account) (written : ℕ) : 
   pub is_suite : IsSuite inputs suite
   pub broken : Broken (suite_plan suite) old new written
 
--- Why no whole plan was written. But for a failed write the sink was asked nothing.
+-- Why no whole plan was written: never for a schedule. But for a failed write the sink was asked nothing.
 abbrev pub NotShown : Inputs → Account → Account → RunFault → Type 0
 NotShown inputs old new (Settings fault) = HasFault inputs (F.Settings fault) × Untouched old new
 NotShown inputs old new (World fault) = HasFault inputs (F.World fault) × Untouched old new
 NotShown inputs old new (Script index fault) = HasFault inputs (F.Script index fault) × Untouched old new
 NotShown inputs old new (Plan fault) = HasFault inputs (F.Plan fault) × Untouched old new
+NotShown inputs old new (Schedule fault) = ⊥
+NotShown inputs old new (Refused index why) = ⊥
+NotShown inputs old new Unfinished = ⊥
 NotShown inputs old new Memory = Untouched old new
 NotShown inputs old new (Write written) = PlanCutShort inputs old new written

@@ -6,7 +6,7 @@ use Rattle.iso_inputs.specs.declared.fault.InputError.TheVariants.{Fault, OutOfM
 use Rattle.iso_inputs.specs.declared.fault.InputFault.TheVariants as F
 use Rattle.iso_inputs.specs.declared.inputs.Inputs.{Inputs}
 use Rattle.iso_run.specs.declared.fault.RunFault.{RunFault}
-use Rattle.iso_run.specs.declared.fault.RunFault.TheVariants.{Settings, World, Script, Plan, Memory, Write}
+use Rattle.iso_run.specs.declared.fault.RunFault.TheVariants.{Settings, World, Script, Plan, Schedule, Refused as IsRefused, Unfinished, Memory, Write}
 use Rattle.iso_lifecycle.specs.Subjects.{outcome_alone, started}
 use Rattle.iso_model.specs.declared.outcome.Outcome.{Outcome}
 use Rattle.iso_plan.specs.Tree.{tree}
@@ -27,6 +27,9 @@ status (Settings fault) = 2
 status (World fault) = 2
 status (Script index fault) = 2
 status (Plan fault) = 2
+status (Schedule fault) = 2
+status (IsRefused index why) = 2
+status Unfinished = 2
 status Memory = 3
 status (Write written) = 3
 
@@ -64,11 +67,14 @@ pub record CutShort (inputs : Inputs) (old new : Account) (written : ℕ) : Type
   pub is_suite : IsSuite inputs suite
   pub broken : Broken (suite_report suite) old new written
 
--- Why a run has no whole report. But for a failed write the sink was asked nothing.
+-- Why a run has no whole report: never for a schedule. But for a failed write the sink was asked nothing.
 abbrev pub Refused : Inputs → Account → Account → RunFault → Type 0
 Refused inputs old new (Settings fault) = HasFault inputs (F.Settings fault) × Untouched old new
 Refused inputs old new (World fault) = HasFault inputs (F.World fault) × Untouched old new
 Refused inputs old new (Script index fault) = HasFault inputs (F.Script index fault) × Untouched old new
 Refused inputs old new (Plan fault) = HasFault inputs (F.Plan fault) × Untouched old new
+Refused inputs old new (Schedule fault) = ⊥
+Refused inputs old new (IsRefused index why) = ⊥
+Refused inputs old new Unfinished = ⊥
 Refused inputs old new Memory = Untouched old new
 Refused inputs old new (Write written) = CutShort inputs old new written

@@ -6,8 +6,9 @@ ghost use Rattle.iso_run.specs.Commands.{Answered, Ended, NotAnswered, RanOn};
 
 use crate::command_fault::CommandFault;
 use crate::fault::RunFault;
-use crate::files::{InputBytes, lent, read_files};
+use crate::files::{InputBytes, lent, read_file, read_files};
 use crate::plan::show_plan;
+use crate::replay::run_schedule;
 use crate::run::run_serial;
 use iso_arguments::request::{InputFiles, Request, WordsFault, read_words};
 use iso_inputs::inputs::Inputs;
@@ -23,8 +24,8 @@ const ALL_OK: u8 = 0;
 /// The status where some top-level point is not ok.
 const NOT_OK: u8 = 1;
 
-/// Runs the program: reads the words, then the files that they name in the order settings, world, scripts, writes a
-/// report, a plan or a help page to `output`, and a fault's line to `errors`. Where no script is named, one is read
+/// Runs the program: reads the words, then the files that they name in the order settings, world, scripts, schedule, writes
+/// a report, a plan or a help page to `output`, and a fault's line to `errors`. Where no script is named, one is read
 /// from `input`. Answers the exit status: 0 where every top-level point is ok, or a plan or help was printed, 1 where
 /// some top-level point is not ok, 2 for refused input, 3 for want of memory and failed reads and writes. A failed write
 /// to `errors` changes nothing.
@@ -82,6 +83,11 @@ fn answer<'a, G: AllocGlobal + Files, R: Read, W: Sink>(
             let bytes = read_files(rt, &files, input)?;
             run(rt.alloc(), &bytes, &files, output)
         }
+        Request::Replay { schedule, files } => {
+            let bytes = read_files(rt, &files, input)?;
+            let schedule = read_file(rt, schedule)?;
+            replay(rt.alloc(), &bytes, &schedule, &files, output)
+        }
     }
 }
 
@@ -118,6 +124,41 @@ fn run<'a, W: Sink>(
         processors: files.processors,
     };
     match run_serial(alloc, inputs, output) {
+        Ok(summary) => {
+            if output.flush().is_err() {
+                return Err(CommandFault::Unwritten);
+            }
+            Ok(if summary.all_ok { ALL_OK } else { NOT_OK })
+        }
+        Err(fault) => {
+            let name = script_name(&fault, files);
+            Err(CommandFault::Run(fault, name))
+        }
+    }
+}
+
+/// Replays a schedule of a suite, and writes its report.
+fn replay<'a, W: Sink>(
+    alloc: Global,
+    bytes: &InputBytes,
+    schedule: &[u8],
+    files: &InputFiles<'a>,
+    output: &mut W,
+) -> Result<u8, CommandFault<'a>>
+    requires { IsCount files.now.processors }
+    ensures { MatchResult result
+        (RanOn (map (λ v. v.items) bytes.now.scripts.items) bytes.now.settings.items bytes.now.world.items
+        files.now.processors (W.account output.old) (W.account output.new))
+        (λ f. NotAnswered f (W.account output.old) (W.account output.new)) }
+{
+    let scripts = lent(alloc, &bytes.scripts)?;
+    let inputs = Inputs {
+        scripts: &scripts,
+        settings: &bytes.settings,
+        world: &bytes.world,
+        processors: files.processors,
+    };
+    match run_schedule(alloc, inputs, schedule, output) {
         Ok(summary) => {
             if output.flush().is_err() {
                 return Err(CommandFault::Unwritten);

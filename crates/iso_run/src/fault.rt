@@ -1,9 +1,14 @@
 //! Why a run has no report, or only its beginning.
 ghost use Rattle.std.specs.Prelude.{◌≡◌};
+ghost use Rattle.iso_run.specs.Replays.{events_fault, schedule_fault};
 ghost use Rattle.iso_run.specs.Runs.{run_fault, status};
 
+use iso_core::core_fault::CoreFault;
+use iso_core::refused::Refused;
+use iso_core::run_events::EventsFault;
 use iso_inputs::fault::{InputError, InputFault};
 use iso_plan::fault::PlanFault;
+use iso_schedule::fault::{ScheduleError, ScheduleFault};
 use iso_script::fault::ScriptFault;
 use iso_settings::fault::SettingsFault;
 use std::fmt;
@@ -21,6 +26,12 @@ pub enum RunFault {
     /// The fault of one script, by its place among the scripts, counted from 0.
     Script(usize, ScriptFault),
     Plan(PlanFault),
+    /// The first wrong line of a schedule.
+    Schedule(ScheduleFault),
+    /// The first event of a schedule that was refused, counted from 0, and why.
+    Refused(usize, Refused),
+    /// A schedule was accepted to its end, and a node but the root isn't finished.
+    Unfinished,
     /// Memory ran out. Nothing was written.
     Memory,
     /// The sink failed, once it had taken so many bytes of the report.
@@ -33,8 +44,13 @@ impl RunFault {
         ensures { result ≡ status self.now }
     {
         match self {
-            RunFault::Settings(_) | RunFault::World(_) | RunFault::Script(..) | RunFault::Plan(_) =>
-                REFUSED,
+            RunFault::Settings(_)
+            | RunFault::World(_)
+            | RunFault::Script(..)
+            | RunFault::Plan(_)
+            | RunFault::Schedule(_)
+            | RunFault::Refused(..)
+            | RunFault::Unfinished => REFUSED,
             RunFault::Memory | RunFault::Write(_) => FAILED,
         }
     }
@@ -50,6 +66,28 @@ impl From<InputError> for RunFault {
             InputError::Fault(InputFault::Script(index, fault)) => RunFault::Script(index, fault),
             InputError::Fault(InputFault::Plan(fault)) => RunFault::Plan(fault),
             InputError::OutOfMemory => RunFault::Memory,
+        }
+    }
+}
+
+impl From<ScheduleError> for RunFault {
+    ghost from_gives = { λ error fault. fault ≡ schedule_fault error };
+
+    fn from(error: ScheduleError) -> RunFault {
+        match error {
+            ScheduleError::Fault(fault) => RunFault::Schedule(fault),
+            ScheduleError::OutOfMemory => RunFault::Memory,
+        }
+    }
+}
+
+impl From<EventsFault> for RunFault {
+    ghost from_gives = { λ error fault. fault ≡ events_fault error };
+
+    fn from(error: EventsFault) -> RunFault {
+        match error.fault {
+            CoreFault::Refused(why) => RunFault::Refused(error.index, why),
+            CoreFault::OutOfMemory => RunFault::Memory,
         }
     }
 }
@@ -75,6 +113,11 @@ impl fmt::Display for FaultLine<'_> {
                 write!(f, "jtap: {name}:{line}:{column}: {kind}")
             }
             RunFault::Plan(fault) => write!(f, "jtap: plan: {fault}"),
+            RunFault::Schedule(ScheduleFault { kind, line }) => {
+                write!(f, "jtap: schedule: line {line}: {kind}")
+            }
+            RunFault::Refused(index, why) => write!(f, "jtap: schedule: event {index}: {why}"),
+            RunFault::Unfinished => f.write_str("jtap: schedule: unfinished"),
             RunFault::Memory => f.write_str("jtap: out of memory"),
             RunFault::Write(_) => f.write_str(WRITE_FAILED),
         }

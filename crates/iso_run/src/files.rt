@@ -83,7 +83,10 @@ fn read_scripts<'a, G: AllocGlobal + Files, R: Read>(
 }
 
 /// Reads a file.
-fn read_file<'a, G: AllocGlobal + Files>(rt: &G, name: &'a str) -> Result<Vec<u8>, CommandFault<'a>>
+pub(crate) fn read_file<'a, G: AllocGlobal + Files>(
+    rt: &G,
+    name: &'a str,
+) -> Result<Vec<u8>, CommandFault<'a>>
     ensures early { IfErr result IsEarly }
 {
     match File::open(rt, name) {

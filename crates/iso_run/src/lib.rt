@@ -6,4 +6,5 @@ mod command_fault;
 pub mod fault;
 mod files;
 pub mod plan;
+pub mod replay;
 pub mod run;

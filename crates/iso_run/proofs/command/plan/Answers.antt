@@ -1,8 +1,8 @@
-use Rattle.std.proofs.Common.{◌≡◌, ap, sym, ◌∙◌}
+use Rattle.std.proofs.Common.{ap, sym, ◌∙◌}
 use Rattle.iso_run.specs.PlanRuns.{suite_plan}
 use Rattle.iso_run.proofs.Reading.{unchanged}
 use Rattle.iso_run.proofs.command.plan.Goals as goal
-use Rattle.iso_tap.specs.Sinks.{Account, failures_after}
+use Rattle.iso_tap.specs.Sinks.{failures_after}
 
 pub returns-in-Ok : goal.returns-in-Ok
 returns-in-Ok g c =

@@ -1,4 +1,3 @@
-use Rattle.std.proofs.Common.{◌≡◌, ap, sym, ◌∙◌}
 use Rattle.iso_inputs.specs.Suites.{suite_of}
 use Rattle.iso_run.proofs.plan.show_plan.Goals as goal
 

@@ -1,4 +1,3 @@
-use Rattle.std.proofs.Common.{◌≡◌}
 use Rattle.iso_inputs.specs.Suites.{suite_of}
 use Rattle.iso_run.proofs.Reporting.{reported-cut, reported-whole}
 use Rattle.iso_run.proofs.run.run_serial.Goals as goal
