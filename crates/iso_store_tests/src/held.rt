@@ -7,7 +7,7 @@ use iso_model::resource::{Ask, Change, Resource};
 use iso_model::text::Text;
 use iso_store::held::Held;
 use std::alloc::{AllocError, Global};
-use std::test::Fail;
+use std::process::Abort;
 
 /// A value under test. It is spent wherever the test ends.
 struct Trial {
@@ -33,80 +33,114 @@ fn write(alloc: Global, text: &str) -> Result<Change, AllocError> {
     Ok(Change::WriteFile(Text::copied(alloc, text)?))
 }
 
+fn set_locale(alloc: Global, locale: &str) -> Result<Change, AllocError> {
+    Ok(Change::SetLocale(Text::copied(alloc, locale)?))
+}
+
+/// Sets property a to "1".
+fn set_a(alloc: Global, properties: &mut Properties) -> Result<(), AllocError> {
+    let name = String::from_str(alloc, "a")?;
+    properties.set(name, Text::copied(alloc, "1")?)
+}
+
 /// Properties of which a is "1".
 fn a_is_1(alloc: Global) -> Result<Trial, AllocError> {
     let mut properties = Properties::new(alloc);
-    properties.set(String::from_str(alloc, "a")?, Text::copied(alloc, "1")?)?;
+    set_a(alloc, &mut properties)?;
     Ok(Trial {
         held: Held::new(alloc, Resource::Props(properties)),
     })
 }
 
-#[test]
-fn properties_go_back_to_a_mark(rt: HostRuntime) -> Result<(), Fail> {
-    let alloc = rt.alloc();
-    let mut trial = a_is_1(alloc)?;
-    let mark = trial.held.mark();
-    trial.held.apply(clear(alloc, "a")?)?;
-    assert_eq!(rt; trial.held.look(Ask::Prop("a")), None);
-    trial.held.apply(set(alloc, "b", "2")?)?;
-    assert_eq!(rt; trial.held.look(Ask::Prop("b")), Some("2"));
-    trial.held.undo_to(mark);
-    assert_eq!(rt; trial.held.look(Ask::Prop("a")), Some("1"));
-    assert_eq!(rt; trial.held.look(Ask::Prop("b")), None);
+/// Makes a change. What could be gone back to before can be gone back to after it.
+fn make(held: &mut Held, change: Result<Change, AllocError>) -> Result<(), AllocError>
+    ensures { OnOk result ((mark : History) → IsEarlier mark held.old → IsEarlier mark held.new) }
+{
+    held.apply(change?)?;
+    Ok(())
+}
+
+/// Asserts what a value answers.
+fn expect(rt: &impl Abort, held: &Held, ask: Ask<'_>, want: Option<&str>) {
+    assert_eq!(rt; held.look(ask), want);
+}
+
+fn a_and_b_go_back(rt: &impl Abort, alloc: Global, held: &mut Held) -> Result<(), AllocError> {
+    let mark = held.mark();
+    make(held, clear(alloc, "a"))?;
+    expect(rt, held, Ask::Prop("a"), None);
+    make(held, set(alloc, "b", "2"))?;
+    expect(rt, held, Ask::Prop("b"), Some("2"));
+    held.undo_to(mark);
+    expect(rt, held, Ask::Prop("a"), Some("1"));
+    expect(rt, held, Ask::Prop("b"), None);
     Ok(())
 }
 
 #[test]
-fn file_that_was_missing_is_missing_again(rt: HostRuntime) -> Result<(), Fail> {
-    let alloc = rt.alloc();
+fn properties_go_back_to_a_mark(rt: HostRuntime) -> Result<(), AllocError> {
+    let mut trial = a_is_1(rt.alloc())?;
+    a_and_b_go_back(&rt, rt.alloc(), &mut trial.held)
+}
+
+fn file_goes_back(rt: &impl Abort, alloc: Global, held: &mut Held) -> Result<(), AllocError> {
+    let missing = held.mark();
+    make(held, write(alloc, "made"))?;
+    let made = held.mark();
+    make(held, Ok(Change::DeleteFile))?;
+    expect(rt, held, Ask::File, None);
+    make(held, write(alloc, "made again"))?;
+    expect(rt, held, Ask::File, Some("made again"));
+    held.undo_to(made);
+    expect(rt, held, Ask::File, Some("made"));
+    held.undo_to(missing);
+    expect(rt, held, Ask::File, None);
+    Ok(())
+}
+
+#[test]
+fn file_that_was_missing_is_missing_again(rt: HostRuntime) -> Result<(), AllocError> {
     let mut trial = Trial {
-        held: Held::new(alloc, Resource::File(None)),
+        held: Held::new(rt.alloc(), Resource::File(None)),
     };
-    let missing = trial.held.mark();
-    trial.held.apply(write(alloc, "made")?)?;
-    let made = trial.held.mark();
-    trial.held.apply(Change::DeleteFile)?;
-    assert_eq!(rt; trial.held.look(Ask::File), None);
-    trial.held.apply(write(alloc, "made again")?)?;
-    assert_eq!(rt; trial.held.look(Ask::File), Some("made again"));
-    trial.held.undo_to(made);
-    assert_eq!(rt; trial.held.look(Ask::File), Some("made"));
-    trial.held.undo_to(missing);
-    assert_eq!(rt; trial.held.look(Ask::File), None);
+    file_goes_back(&rt, rt.alloc(), &mut trial.held)
+}
+
+fn a_goes_back_twice(rt: &impl Abort, alloc: Global, held: &mut Held) -> Result<(), AllocError> {
+    let outer = held.mark();
+    make(held, set(alloc, "a", "2"))?;
+    let inner = held.mark();
+    make(held, set(alloc, "a", "3"))?;
+    held.undo_to(inner);
+    expect(rt, held, Ask::Prop("a"), Some("2"));
+    make(held, clear(alloc, "a"))?;
+    held.undo_to(outer);
+    expect(rt, held, Ask::Prop("a"), Some("1"));
     Ok(())
 }
 
 #[test]
-fn marks_stand_inside_marks(rt: HostRuntime) -> Result<(), Fail> {
-    let alloc = rt.alloc();
-    let mut trial = a_is_1(alloc)?;
-    let outer = trial.held.mark();
-    trial.held.apply(set(alloc, "a", "2")?)?;
-    let inner = trial.held.mark();
-    trial.held.apply(set(alloc, "a", "3")?)?;
-    trial.held.undo_to(inner);
-    assert_eq!(rt; trial.held.look(Ask::Prop("a")), Some("2"));
-    trial.held.apply(clear(alloc, "a")?)?;
-    trial.held.undo_to(outer);
-    assert_eq!(rt; trial.held.look(Ask::Prop("a")), Some("1"));
+fn marks_stand_inside_marks(rt: HostRuntime) -> Result<(), AllocError> {
+    let mut trial = a_is_1(rt.alloc())?;
+    a_goes_back_twice(&rt, rt.alloc(), &mut trial.held)
+}
+
+fn locale_goes_back(rt: &impl Abort, alloc: Global, held: &mut Held) -> Result<(), AllocError> {
+    let mark = held.mark();
+    make(held, set_locale(alloc, "fr"))?;
+    expect(rt, held, Ask::Locale, Some("fr"));
+    held.undo_to(mark);
+    expect(rt, held, Ask::Locale, Some("en"));
     Ok(())
 }
 
 #[test]
-fn locale_comes_back_as_it_started(rt: HostRuntime) -> Result<(), Fail> {
-    let alloc = rt.alloc();
+fn locale_comes_back_as_it_started(rt: HostRuntime) -> Result<(), AllocError> {
+    let locale = Text::copied(rt.alloc(), "en")?;
     let mut trial = Trial {
-        held: Held::new(alloc, Resource::Locale(Text::copied(alloc, "en")?)),
+        held: Held::new(rt.alloc(), Resource::Locale(locale)),
     };
-    let mark = trial.held.mark();
-    trial
-        .held
-        .apply(Change::SetLocale(Text::copied(alloc, "fr")?))?;
-    assert_eq!(rt; trial.held.look(Ask::Locale), Some("fr"));
-    trial.held.undo_to(mark);
-    assert_eq!(rt; trial.held.look(Ask::Locale), Some("en"));
-    Ok(())
+    locale_goes_back(&rt, rt.alloc(), &mut trial.held)
 }
 
 /// What a is in a value that came back.
@@ -118,27 +152,33 @@ fn text_of_a(value: &Resource) -> Option<&str> {
 }
 
 #[test]
-fn value_comes_back_where_it_started(rt: HostRuntime) -> Result<(), Fail> {
-    let alloc = rt.alloc();
-    let mut properties = Properties::new(alloc);
-    properties.set(String::from_str(alloc, "a")?, Text::copied(alloc, "1")?)?;
-    let held = Held::new(alloc, Resource::Props(properties));
+fn value_comes_back_where_it_started(rt: HostRuntime) -> Result<(), AllocError> {
+    let mut properties = Properties::new(rt.alloc());
+    set_a(rt.alloc(), &mut properties)?;
+    let held = Held::new(rt.alloc(), Resource::Props(properties));
     let value = held.into_resource();
     assert_eq!(rt; text_of_a(&value), Some("1"));
     Ok(())
 }
 
-#[test]
-fn change_of_another_kind_changes_nothing(rt: HostRuntime) -> Result<(), Fail> {
-    let alloc = rt.alloc();
-    let mut trial = a_is_1(alloc)?;
-    let mark = trial.held.mark();
-    trial.held.apply(Change::DeleteFile)?;
-    assert_eq!(rt; trial.held.look(Ask::Prop("a")), Some("1"));
-    assert_eq!(rt; trial.held.look(Ask::Locale), None);
-    trial.held.undo_to(mark);
-    assert_eq!(rt; trial.held.look(Ask::Prop("a")), Some("1"));
+fn deletion_changes_no_property(
+    rt: &impl Abort,
+    alloc: Global,
+    held: &mut Held,
+) -> Result<(), AllocError> {
+    let mark = held.mark();
+    make(held, Ok(Change::DeleteFile))?;
+    expect(rt, held, Ask::Prop("a"), Some("1"));
+    expect(rt, held, Ask::Locale, None);
+    held.undo_to(mark);
+    expect(rt, held, Ask::Prop("a"), Some("1"));
     Ok(())
+}
+
+#[test]
+fn change_of_another_kind_changes_nothing(rt: HostRuntime) -> Result<(), AllocError> {
+    let mut trial = a_is_1(rt.alloc())?;
+    deletion_changes_no_property(&rt, rt.alloc(), &mut trial.held)
 }
 
 /// A text of 4,096 bytes, the longest.
@@ -151,67 +191,72 @@ fn longest(alloc: Global) -> Result<String, AllocError> {
 }
 
 /// Sets 9,999 properties to this text.
-fn set_many(alloc: Global, trial: &mut Trial, text: &str) -> Result<(), AllocError>
-    ensures { OnOk result ((mark : History)
-        → IsEarlier mark trial.old.held → IsEarlier mark trial.new.held) }
+fn set_many(alloc: Global, held: &mut Held, text: &str) -> Result<(), AllocError>
+    ensures { OnOk result ((mark : History) → IsEarlier mark held.old → IsEarlier mark held.new) }
 {
     for n in 0..9_999 {
         let name = format!(in alloc; "{n}")?;
-        trial.held.apply(set(alloc, name.as_str(), text)?)?;
+        make(held, set(alloc, name.as_str(), text))?;
     }
     Ok(())
 }
 
-#[test]
-fn as_many_changes_as_a_block_has_steps_are_undone(rt: HostRuntime) -> Result<(), Fail> {
-    let alloc = rt.alloc();
-    let long = longest(alloc)?;
-    let mut trial = a_is_1(alloc)?;
-    trial.held.apply(set(alloc, long.as_str(), long.as_str())?)?;
-    let mark = trial.held.mark();
-    set_many(alloc, &mut trial, long.as_str())?;
-    assert_eq!(rt; trial.held.look(Ask::Prop("9998")), Some(long.as_str()));
-    trial.held.undo_to(mark);
-    assert_eq!(rt; trial.held.look(Ask::Prop("9998")), None);
-    assert_eq!(rt;
-        trial.held.look(Ask::Prop(long.as_str())),
-        Some(long.as_str())
-    );
+fn many_changes_are_undone(
+    rt: &impl Abort,
+    alloc: Global,
+    held: &mut Held,
+    long: &str,
+) -> Result<(), AllocError> {
+    make(held, set(alloc, long, long))?;
+    let mark = held.mark();
+    set_many(alloc, held, long)?;
+    expect(rt, held, Ask::Prop("9998"), Some(long));
+    held.undo_to(mark);
+    expect(rt, held, Ask::Prop("9998"), None);
+    expect(rt, held, Ask::Prop(long), Some(long));
     Ok(())
+}
+
+#[test]
+fn as_many_changes_as_a_block_has_steps_are_undone(rt: HostRuntime) -> Result<(), AllocError> {
+    let long = longest(rt.alloc())?;
+    let mut trial = a_is_1(rt.alloc())?;
+    many_changes_are_undone(&rt, rt.alloc(), &mut trial.held, long.as_str())
 }
 
 /// Whether a change was made, or was refused and left all as it was.
 fn changes_or_stays(
-    trial: &mut Trial,
+    held: &mut Held,
     change: Change,
     before: Option<&str>,
     after: Option<&str>,
 ) -> bool
-    ensures { (mark : History) → IsEarlier mark trial.old.held → IsEarlier mark trial.new.held }
+    ensures { (mark : History) → IsEarlier mark held.old → IsEarlier mark held.new }
 {
-    match trial.held.apply(change) {
-        Ok(()) => trial.held.look(Ask::Prop("a")) == after,
-        Err(_) => trial.held.look(Ask::Prop("a")) == before,
+    match held.apply(change) {
+        Ok(()) => held.look(Ask::Prop("a")) == after,
+        Err(_) => held.look(Ask::Prop("a")) == before,
     }
+}
+
+/// Makes two changes that may be refused, and goes back.
+fn refused_changes_go_back(rt: &impl Abort, held: &mut Held, cleared: Change, again: Change) {
+    let mark = held.mark();
+    assert!(rt; changes_or_stays(held, cleared, Some("1"), None));
+    let before = held.look(Ask::Prop("a")).is_some();
+    let before = if before { Some("1") } else { None };
+    assert!(rt; changes_or_stays(held, again, before, Some("2")));
+    held.undo_to(mark);
+    expect(rt, held, Ask::Prop("a"), Some("1"));
 }
 
 /// Run with each growth refused in turn, by `rt try --test --fail-alloc N`.
 #[test]
-fn refused_growth_changes_nothing(rt: HostRuntime) -> Result<(), Fail> {
-    let alloc = rt.alloc();
-    let (Ok(mut trial), Ok(cleared), Ok(again)) = (
-        a_is_1(alloc),
-        clear(alloc, "a"),
-        set(alloc, "a", "2"),
-    ) else {
-        return Ok(());
-    };
-    let mark = trial.held.mark();
-    assert!(rt; changes_or_stays(&mut trial, cleared, Some("1"), None));
-    let before = trial.held.look(Ask::Prop("a")).is_some();
-    let before = if before { Some("1") } else { None };
-    assert!(rt; changes_or_stays(&mut trial, again, before, Some("2")));
-    trial.held.undo_to(mark);
-    assert_eq!(rt; trial.held.look(Ask::Prop("a")), Some("1"));
-    Ok(())
+fn refused_growth_changes_nothing(rt: HostRuntime) {
+    if let Ok(mut trial) = a_is_1(rt.alloc())
+        && let Ok(cleared) = clear(rt.alloc(), "a")
+        && let Ok(again) = set(rt.alloc(), "a", "2")
+    {
+        refused_changes_go_back(&rt, &mut trial.held, cleared, again);
+    }
 }

@@ -1,6 +1,6 @@
 use Rattle.std.proofs.Common.{sym}
 use Rattle.iso_store.proofs.HistoryLemmas.{earlier_same}
-use Rattle.iso_store_tests.proofs.held.as_many_changes_as_a_block_has_steps_are_undone.Goals as goal
+use Rattle.iso_store_tests.proofs.held.many_changes_are_undone.Goals as goal
 
 pub undo_to-requires : goal.undo_to-requires
 undo_to-requires g c = c.in_ok-set_many.ensures c.mark-mark.result (earlier_same (sym c.mark-mark.ensures))

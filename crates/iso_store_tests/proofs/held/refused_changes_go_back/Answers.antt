@@ -1,6 +1,6 @@
-use Rattle.std.proofs.Common.{sym, ◌∙◌}
-use Rattle.iso_store.proofs.HistoryLemmas.{earlier_same, earlier_equal, earlier_longer}
-use Rattle.iso_store_tests.proofs.held.refused_growth_changes_nothing.Goals as goal
+use Rattle.std.proofs.Common.{sym}
+use Rattle.iso_store.proofs.HistoryLemmas.{earlier_same}
+use Rattle.iso_store_tests.proofs.held.refused_changes_go_back.Goals as goal
 
 pub undo_to-requires : goal.undo_to-requires
 undo_to-requires g c =
