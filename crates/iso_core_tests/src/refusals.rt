@@ -7,8 +7,10 @@ use iso_core::refused::Refused::{
     NoNode, NoWorker, NotClass, NotOpen, NotOwner, ParentClosed, WorkerBusy,
 };
 use iso_core::run_events::{EventsFault, run_events};
+use iso_inputs::inputs::Suite;
 use iso_schedule::reader::read_schedule;
 use std::alloc::Global;
+use std::process::Abort;
 use std::test::Fail;
 
 /// Two classes: one that reads a key which a test in it writes, and one that holds an isolated class.
@@ -26,27 +28,33 @@ class B { read \"K\" test d { } } }
 /// A schedule, and why its last event is refused.
 type Row = (&'static str, Refused);
 
-/// The first schedule whose last event isn't refused for this reason, on two workers.
-fn first_other(alloc: Global, script: &str, rows: &[Row]) -> Result<Option<&'static str>, Fail> {
-    let suite = suite_of(alloc, script)?;
-    for (schedule, why) in rows {
-        let events = read_schedule(alloc, schedule.as_bytes())?;
-        let Err(fault) = run_events(alloc, &suite.plan, &suite.world, 2, &events) else {
-            return Ok(Some(schedule));
-        };
-        let want = EventsFault {
-            index: events.len().saturating_sub(1),
-            fault: CoreFault::Refused(*why),
-        };
-        if fault != want {
-            return Ok(Some(schedule));
-        }
+/// Whether the last event of a schedule is refused for this reason, on two workers.
+fn is_refused(alloc: Global, suite: &Suite, (schedule, why): Row) -> Result<bool, Fail> {
+    let events = read_schedule(alloc, schedule.as_bytes())?;
+    let want = EventsFault {
+        index: events.len().saturating_sub(1),
+        fault: CoreFault::Refused(why),
+    };
+    let ran = run_events(alloc, &suite.plan, &suite.world, 2, &events);
+    Ok(ran.err() == Some(want))
+}
+
+/// Asserts that of each schedule.
+fn expect_each(rt: &impl Abort, alloc: Global, suite: &Suite, rows: &[Row]) -> Result<(), Fail> {
+    for row in rows {
+        assert!(rt; is_refused(alloc, suite, *row)?, "after {}", row.0);
     }
-    Ok(None)
+    Ok(())
+}
+
+/// The same on the suite of a script.
+fn expect_refusals(rt: &impl Abort, alloc: Global, script: &str, rows: &[Row]) -> Result<(), Fail> {
+    let suite = suite_of(alloc, script)?;
+    expect_each(rt, alloc, &suite, rows)
 }
 
 /// Each kind by itself.
-const KINDS: [Row; 15] = [
+static KINDS: [Row; 15] = [
     ("enter 2 1", NoWorker),
     ("enter 0 6", NoNode),
     ("enter 0 1\nenter 0 1", WorkerBusy),
@@ -70,12 +78,11 @@ const KINDS: [Row; 15] = [
 
 #[test]
 fn each_kind_is_refused(rt: HostRuntime) -> Result<(), Fail> {
-    assert_eq!(rt; first_other(rt.alloc(), TWO_FILES, &KINDS)?, None);
-    Ok(())
+    expect_refusals(&rt, rt.alloc(), TWO_FILES, &KINDS)
 }
 
 /// Nodes on the thread of their class.
-const ON_ONE_THREAD: [Row; 6] = [
+static ON_ONE_THREAD: [Row; 6] = [
     ("enter 0 1\nleave 0\nenter 0 3", EarlierSibling),
     ("enter 0 1\nleave 0\nenter 1 2", NotOwner),
     // An isolated class excludes every other top-level class, and is excluded by it.
@@ -94,15 +101,11 @@ const ON_ONE_THREAD: [Row; 6] = [
 
 #[test]
 fn siblings_on_one_thread_keep_their_order(rt: HostRuntime) -> Result<(), Fail> {
-    assert_eq!(rt;
-        first_other(rt.alloc(), CART_AND_DESK, &ON_ONE_THREAD)?,
-        None
-    );
-    Ok(())
+    expect_refusals(&rt, rt.alloc(), CART_AND_DESK, &ON_ONE_THREAD)
 }
 
 /// Every two kinds that an event can be refused for at once.
-const PAIRS: [Row; 37] = [
+static PAIRS: [Row; 37] = [
     // NoWorker comes before NoNode, ParentClosed, AlreadyEntered, NotOwner, EarlierSibling and LockHeld,
     ("enter 2 7", NoWorker),
     ("enter 2 2", NoWorker),
@@ -175,6 +178,5 @@ const PAIRS: [Row; 37] = [
 
 #[test]
 fn first_of_two_kinds_is_answered(rt: HostRuntime) -> Result<(), Fail> {
-    assert_eq!(rt; first_other(rt.alloc(), SIBLINGS, &PAIRS)?, None);
-    Ok(())
+    expect_refusals(&rt, rt.alloc(), SIBLINGS, &PAIRS)
 }

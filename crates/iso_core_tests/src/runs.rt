@@ -1,11 +1,16 @@
 //! Schedules whose events are all accepted, and what the nodes have come to after them.
+ghost use Rattle.std.specs.Prelude.{◌≡◌, ◌<◌, IfOk, length};
+
 use crate::suites::{TWO_FILES, suite_of};
 use iso_core::core_fault::CoreFault;
 use iso_core::machine::Core;
 use iso_core::refused::Refused;
 use iso_core::run_events::run_events;
+use iso_inputs::inputs::Suite;
 use iso_lifecycle::view::{View, ViewVerdict};
 use iso_model::outcome::Note;
+use iso_model::text::Text;
+use iso_plan::plan::Plan;
 use iso_schedule::event::Event;
 use iso_schedule::reader::read_schedule;
 use std::alloc::{AllocError, Global};
@@ -51,7 +56,7 @@ test one { set_prop \"a\", \"y\"; } test two { assert_equal \"x\", prop(\"a\"); 
 read \"java.lang.System.properties\" class B { test three { assert_equal \"1\", prop(\"a\"); } }
 ";
 
-const ROWS: [Row; 11] = [
+static ROWS: [Row; 11] = [
     Row {
         script: TWO_FILES,
         schedule: READERS_FIRST,
@@ -138,73 +143,156 @@ enter 1 4\nleave 1\nenter 0 5\nstep 0\nleave 0\nshut 1 4\nleave 1",
     },
 ];
 
-/// A result in words, with its lines.
-fn told(alloc: Global, view: View<'_>) -> Result<String, AllocError> {
-    let (word, note) = match view.verdict {
-        ViewVerdict::Pass => ("pass", None),
-        ViewVerdict::Fail(note) => ("fail", Some(note)),
-        ViewVerdict::Fault(_, note) => ("fault", Some(note)),
-        ViewVerdict::Skipped(note) => ("skipped", Some(note)),
-        ViewVerdict::Blocked(note) => ("blocked", Some(note)),
-    };
-    let mut told = match note {
-        None => String::from_str(alloc, word)?,
-        Some(Note { message, place }) => {
-            let place = place.text(alloc)?;
-            format!(in alloc; "{word}: {} at {}", message.as_str(), place.as_str())?
-        }
-    };
-    for line in view.lines.iter().chain(view.more) {
+/// How a result ended, in words.
+fn ending(alloc: Global, verdict: ViewVerdict<'_>) -> Result<String, AllocError> {
+    match verdict {
+        ViewVerdict::Pass => String::from_str(alloc, "pass"),
+        ViewVerdict::Fail(note) => noted(alloc, "fail", note),
+        ViewVerdict::Fault(_, note) => noted(alloc, "fault", note),
+        ViewVerdict::Skipped(note) => noted(alloc, "skipped", note),
+        ViewVerdict::Blocked(note) => noted(alloc, "blocked", note),
+    }
+}
+
+/// A word, with what a note says and where.
+fn noted(alloc: Global, word: &str, note: &Note) -> Result<String, AllocError> {
+    let place = note.place.text(alloc)?;
+    format!(in alloc; "{word}: {} at {}", note.message.as_str(), place.as_str())
+}
+
+/// Adds lines to a text.
+fn push_lines(told: &mut String, lines: &[Text]) -> Result<(), AllocError> {
+    for line in lines {
         told.push_str(" | ")?;
         told.push_str(line.as_str())?;
     }
+    Ok(())
+}
+
+/// Adds all lines of a result to a text.
+fn push_output(told: &mut String, view: View<'_>) -> Result<(), AllocError> {
+    push_lines(told, view.lines)?;
+    push_lines(told, view.more)
+}
+
+/// A result in words, with its lines.
+fn told(alloc: Global, view: View<'_>) -> Result<String, AllocError> {
+    let mut told = ending(alloc, view.verdict)?;
+    push_output(&mut told, view)?;
     Ok(told)
 }
 
-/// Replays a schedule, and compares what nodes have come to.
-fn compare(rt: &impl Abort, alloc: Global, row: &Row) -> Result<(), Fail> {
-    let suite = suite_of(alloc, row.script)?;
-    let events = read_schedule(alloc, row.schedule.as_bytes())?;
-    let core = run_events(alloc, &suite.plan, &suite.world, 2, &events)?;
-    assert_eq!(rt; core.is_complete(), row.whole, "after {}", row.schedule);
+/// What a node has come to in words, with its lines.
+fn told_of(alloc: Global, core: &Core<'_>, node: u32) -> Result<String, AllocError>
+    requires { node < length core.now.plan.rows }
+{
+    match core.outcome(node) {
+        None => String::from_str(alloc, "none"),
+        Some(view) => told(alloc, view),
+    }
+}
+
+/// The core of a suite on two workers once it has taken a schedule.
+fn core_after<'a>(alloc: Global, suite: &'a Suite, schedule: &str) -> Result<Core<'a>, Fail>
+    ensures { IfOk result (λ c. c.plan ≡ suite.now.plan) }
+{
+    let events = read_schedule(alloc, schedule.as_bytes())?;
+    Ok(run_events(alloc, &suite.plan, &suite.world, 2, &events)?)
+}
+
+/// Compares what a node has come to.
+fn compare_node(
+    rt: &impl Abort,
+    alloc: Global,
+    core: &Core<'_>,
+    node: u32,
+    want: &str,
+    schedule: &str,
+) -> Result<(), AllocError>
+    requires { node < length core.now.plan.rows }
+{
+    let told = told_of(alloc, core, node)?;
+    assert!(rt; told.as_str() == want, "node {node} after {schedule}");
+    Ok(())
+}
+
+/// Compares whether a run is whole, and what nodes have come to.
+fn compare_core(
+    rt: &impl Abort,
+    alloc: Global,
+    plan: &Plan,
+    core: &Core<'_>,
+    row: &Row,
+) -> Result<(), AllocError>
+    requires { core.now.plan ≡ plan.now }
+{
+    assert!(rt; core.is_complete() == row.whole, "after {}", row.schedule);
     for (node, want) in row.nodes {
-        assert!(rt; *node < suite.plan.len());
-        let told = match core.outcome(*node) {
-            None => String::from_str(alloc, "none")?,
-            Some(view) => told(alloc, view)?,
-        };
-        assert_eq!(rt; told.as_str(), *want, "node {node} after {}", row.schedule);
+        assert!(rt; *node < plan.len());
+        compare_node(rt, alloc, core, *node, want, row.schedule)?;
     }
     Ok(())
+}
+
+/// Replays a schedule on its suite, and compares what that comes to.
+fn compare(rt: &impl Abort, alloc: Global, suite: &Suite, row: &Row) -> Result<(), Fail> {
+    let core = core_after(alloc, suite, row.schedule)?;
+    Ok(compare_core(rt, alloc, &suite.plan, &core, row)?)
+}
+
+/// The same on the suite of a row.
+fn compare_row(rt: &impl Abort, alloc: Global, row: &Row) -> Result<(), Fail> {
+    let suite = suite_of(alloc, row.script)?;
+    compare(rt, alloc, &suite, row)
 }
 
 #[test]
 fn nodes_come_to_what_they_come_to_alone(rt: HostRuntime) -> Result<(), Fail> {
     for row in &ROWS {
-        compare(&rt, rt.alloc(), row)?;
+        compare_row(&rt, rt.alloc(), row)?;
     }
     Ok(())
 }
 
 /// A class of 4,094 tests, as many as there may be.
-#[test]
-fn as_many_nodes_as_there_may_be_are_entered_and_left(rt: HostRuntime) -> Result<(), Fail> {
-    let alloc = rt.alloc();
+fn widest_script(alloc: Global) -> Result<String, AllocError> {
     let mut script = String::from_str(alloc, "team shop\nclass C {\n")?;
-    let mut schedule = String::from_str(alloc, "enter 0 1\nleave 0\n")?;
     for node in 2..4_096u32 {
         let test = format!(in alloc; "test t{node} {{ }}\n")?;
         script.push_str(test.as_str())?;
+    }
+    script.push_str("}\n")?;
+    Ok(script)
+}
+
+/// A schedule in which that class is opened, each of its tests is entered and left, and the class is closed.
+fn longest_schedule(alloc: Global) -> Result<String, AllocError> {
+    let mut schedule = String::from_str(alloc, "enter 0 1\nleave 0\n")?;
+    for node in 2..4_096u32 {
         let events = format!(in alloc; "enter 1 {node}\nleave 1\n")?;
         schedule.push_str(events.as_str())?;
     }
-    script.push_str("}\n")?;
     schedule.push_str("shut 0 1\nleave 0\n")?;
-    let suite = suite_of(alloc, script.as_str())?;
-    assert_eq!(rt; suite.plan.len(), 4_096);
-    let events = read_schedule(alloc, schedule.as_bytes())?;
-    let core = run_events(alloc, &suite.plan, &suite.world, 2, &events)?;
-    assert!(rt; core.is_complete());
+    Ok(schedule)
+}
+
+/// Whether a suite has ended after a schedule.
+fn is_ended_after(alloc: Global, suite: &Suite, schedule: &str) -> Result<bool, Fail> {
+    Ok(core_after(alloc, suite, schedule)?.is_complete())
+}
+
+/// The suite of that class.
+fn widest_suite(alloc: Global) -> Result<Suite, Fail> {
+    let script = widest_script(alloc)?;
+    Ok(suite_of(alloc, script.as_str())?)
+}
+
+#[test]
+fn as_many_nodes_as_there_may_be_are_entered_and_left(rt: HostRuntime) -> Result<(), Fail> {
+    let schedule = longest_schedule(rt.alloc())?;
+    let suite = widest_suite(rt.alloc())?;
+    let is_widest = suite.plan.len() == 4_096;
+    assert!(rt; is_widest && is_ended_after(rt.alloc(), &suite, schedule.as_str())?);
     Ok(())
 }
 
@@ -223,30 +311,37 @@ fn is_stopped(core: &mut Core<'_>) -> bool {
     true
 }
 
-/// Run with each growth refused in turn, by `rt try --test --fail-alloc N`: a step that is refused one stops the core, and
-/// any other event is accepted after it.
-#[test]
-fn refused_growth_stops_a_step_alone(rt: HostRuntime) -> Result<(), Fail> {
-    let alloc = rt.alloc();
-    let (Ok(suite), Ok(events)) = (
-        suite_of(alloc, TWO_FILES),
-        read_schedule(alloc, READERS_FIRST.as_bytes()),
-    ) else {
-        return Ok(());
-    };
-    let Ok(mut core) = Core::new(alloc, &suite.plan, &suite.world, 2) else {
-        return Ok(());
-    };
-    for event in &events {
+/// Whether a core takes events to the end, but for a step that is refused memory, which stops it, and any other event that is, which it takes next.
+fn takes_or_stops(core: &mut Core<'_>, events: &[Event]) -> bool {
+    for event in events {
         if core.apply(*event).is_ok() {
             continue;
         }
         if let Event::Step { .. } = event {
-            assert!(rt; is_stopped(&mut core));
-            return Ok(());
+            return is_stopped(core);
         }
-        assert!(rt; core.apply(*event).is_ok());
+        if core.apply(*event).is_err() {
+            return false;
+        }
     }
-    assert!(rt; core.is_complete());
-    Ok(())
+    core.is_complete()
+}
+
+/// Whether a new core of a suite, where there is memory for it, takes these events so.
+fn new_core_takes_or_stops(alloc: Global, suite: &Suite, events: &[Event]) -> bool {
+    match Core::new(alloc, &suite.plan, &suite.world, 2) {
+        Ok(mut core) => takes_or_stops(&mut core, events),
+        Err(_) => true,
+    }
+}
+
+/// Run with each growth refused in turn, by `rt try --test --fail-alloc N`: a step that is refused one stops the core, and
+/// any other event is accepted after it.
+#[test]
+fn refused_growth_stops_a_step_alone(rt: HostRuntime) {
+    if let Ok(events) = read_schedule(rt.alloc(), READERS_FIRST.as_bytes())
+        && let Ok(suite) = suite_of(rt.alloc(), TWO_FILES)
+    {
+        assert!(rt; new_core_takes_or_stops(rt.alloc(), &suite, &events));
+    }
 }

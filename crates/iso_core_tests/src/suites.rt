@@ -13,14 +13,14 @@ mode.default = \"concurrent\"
 const START: &str = "files.a = \"s\"\nproperties.a = \"1\"\n";
 
 /// Four concurrent tests on two files.
-pub const TWO_FILES: &str = "team shop
+pub(crate) const TWO_FILES: &str = "team shop
 class A { read \"file:a\" test r1 { print file(\"a\"); print \"x\"; } read \"file:a\" test r2 { print file(\"a\"); }
 write \"file:a\" test w1 { write_file \"a\", \"n\"; assert_equal \"n\", file(\"a\"); }
 write \"file:b\" test w2 { write_file \"b\", \"m\"; print file(\"b\"); } }
 ";
 
 /// The suite of a script, in which nodes are concurrent unless they are marked otherwise.
-pub fn suite_of(alloc: Global, script: &str) -> Result<Suite, &'static str> {
+pub(crate) fn suite_of(alloc: Global, script: &str) -> Result<Suite, &'static str> {
     let scripts = [script.as_bytes()];
     let inputs = Inputs {
         scripts: &scripts,
