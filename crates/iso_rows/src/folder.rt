@@ -1,5 +1,5 @@
 //! A folder of files that the program's words name.
-use crate::ran::{Ran, run_words};
+use crate::ran::{Answer, Ran, run_words};
 use std::alloc::{AllocError, Global};
 use std::fs;
 use std::test::Fail;
@@ -22,6 +22,27 @@ pub(crate) fn put(rt: &HostRuntime, folder: &str, name: &str, bytes: &[u8]) -> R
     Ok(())
 }
 
+/// Writes files of this folder: a name and a text each.
+pub(crate) fn put_all(rt: &HostRuntime, folder: &str, files: &[(&str, &str)]) -> Result<(), Fail> {
+    for (name, text) in files {
+        put(rt, folder, name, text.as_bytes())?;
+    }
+    Ok(())
+}
+
+/// A new folder with these files.
+pub(crate) fn new_folder_of(rt: &HostRuntime, files: &[(&str, &str)]) -> Result<String, Fail> {
+    let folder = new_folder(rt)?;
+    put_all(rt, folder.as_str(), files)?;
+    Ok(folder)
+}
+
+/// Removes a folder with its files.
+pub(crate) fn remove(rt: &HostRuntime, folder: &str) -> Result<(), Fail> {
+    fs::remove_dir_all(rt, folder)?;
+    Ok(())
+}
+
 /// A line of words as a list, in which `@` stands for the folder and a slash.
 pub(crate) fn words_of(alloc: Global, folder: &str, line: &str) -> Result<Vec<String>, AllocError> {
     let mut words = Vec::new(alloc);
@@ -38,8 +59,25 @@ pub(crate) fn in_folder(alloc: Global, folder: &str, text: &str) -> Result<Strin
 }
 
 /// Runs the program with a line of words, and a text on standard input.
-pub(crate) fn run(rt: &HostRuntime, folder: &str, line: &str, input: &str) -> Result<Ran, Fail> {
+pub(crate) fn run(
+    rt: &HostRuntime,
+    folder: &str,
+    line: &str,
+    input: &str,
+) -> Result<Ran, AllocError> {
     let words = words_of(rt.alloc(), folder, line)?;
     let mut input = input.as_bytes();
     Ok(run_words(rt, &words, &mut input))
+}
+
+/// Whether the program, run so, answers this.
+pub(crate) fn answers(
+    rt: &HostRuntime,
+    folder: &str,
+    line: &str,
+    input: &str,
+    answer: Answer<'_>,
+) -> Result<bool, AllocError> {
+    let ran = run(rt, folder, line, input)?;
+    Ok(answer.is_of(&ran))
 }

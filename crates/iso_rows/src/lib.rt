@@ -2,6 +2,8 @@
 #![tactic(auto)]
 
 #[cfg(test)]
+mod expect;
+#[cfg(test)]
 mod folder;
 #[cfg(test)]
 mod lifecycle;
@@ -11,6 +13,8 @@ mod program;
 mod ran;
 #[cfg(test)]
 mod random;
+#[cfg(test)]
+mod refusal;
 #[cfg(test)]
 mod replay;
 #[cfg(test)]

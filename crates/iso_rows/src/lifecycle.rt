@@ -1,7 +1,7 @@
 //! The lifecycle of classes and tests, and how their blocks' endings combine.
 use crate::row::Row;
 
-pub(crate) const ROWS: [Row; 9] = [
+pub(crate) static ROWS: [Row; 9] = [
     // Outer blocks run before inner ones, and after them.
     Row {
         world: "",

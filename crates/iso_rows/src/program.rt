@@ -1,13 +1,14 @@
 //! The program over files in a folder of its own: its words, the order in which it reads, its lines and statuses.
 ghost use Rattle.std.specs.Prelude.{None};
 
-use crate::folder::{in_folder, new_folder, put, run, words_of};
-use crate::ran::run_words;
+use crate::expect::{expect, expect_no_other};
+use crate::folder::{answers, new_folder_of, put, remove, run, words_of};
+use crate::ran::{Answer, Ran, run_words};
+use crate::refusal::{Refusal, first_other_refusal};
 use iso_run::command::command;
 use iso_tap::memory::MemorySink;
 use iso_tap::sink::{Sink, SinkFailed};
 use std::alloc::{AllocError, Global};
-use std::fs;
 use std::io::{self, Read};
 use std::test::Fail;
 
@@ -29,161 +30,165 @@ ok 1 - shop.Cart
 ";
 
 /// Files that the tests below name.
-fn put_files(rt: &HostRuntime, folder: &str) -> Result<(), Fail> {
-    put(rt, folder, "cart", CART.as_bytes())?;
-    put(rt, folder, "empty", &[])?;
-    put(
-        rt,
-        folder,
+static FILES: [(&str, &str); 10] = [
+    ("cart", CART),
+    ("empty", ""),
+    (
         "desk",
-        "team shop\nclass Desk { test t { assert_equal 1, 2; } }\n".as_bytes(),
-    )?;
-    put(rt, folder, "shop", "team shop\n".as_bytes())?;
-    put(rt, folder, "bad", "team shop\nclass C { }\n".as_bytes())?;
-    put(rt, folder, "text", &[b'a', 0xFF])?;
-    put(
-        rt,
-        folder,
+        "team shop\nclass Desk { test t { assert_equal 1, 2; } }\n",
+    ),
+    ("shop", "team shop\n"),
+    ("bad", "team shop\nclass C { }\n"),
+    (
         "settings",
-        "junit.jupiter.execution.parallel.enabled = true\n".as_bytes(),
-    )?;
-    put(
-        rt,
-        folder,
-        "wrong",
-        "junit.jupiter.execution.parallel.enabled = 1\n".as_bytes(),
-    )?;
-    put(
-        rt,
-        folder,
+        "junit.jupiter.execution.parallel.enabled = true\n",
+    ),
+    ("wrong", "junit.jupiter.execution.parallel.enabled = 1\n"),
+    (
         "missing",
-        "[junit.jupiter.execution.parallel]\nenabled = true\nconfig.strategy = \"fixed\"\n".as_bytes(),
-    )?;
-    put(rt, folder, "world", "locale = \"de\"\n".as_bytes())?;
-    put(rt, folder, "numbers", "[files]\na = 1\n".as_bytes())?;
-    put(
-        rt,
-        folder,
-        "large",
-        filled(rt.alloc(), "", 1_048_577)?.as_slice(),
-    )?;
-    put(
-        rt,
-        folder,
-        "largest",
-        filled(rt.alloc(), "locale = \"de\"\n", 1_048_576)?.as_slice(),
-    )?;
-    Ok(())
+        "[junit.jupiter.execution.parallel]\nenabled = true\nconfig.strategy = \"fixed\"\n",
+    ),
+    ("world", "locale = \"de\"\n"),
+    ("numbers", "[files]\na = 1\n"),
+];
+
+/// Writes a file of so many bytes.
+fn put_filled(
+    rt: &HostRuntime,
+    folder: &str,
+    name: &str,
+    start: &str,
+    len: usize,
+) -> Result<(), Fail> {
+    let bytes = filled(rt.alloc(), start, len)?;
+    put(rt, folder, name, bytes.as_slice())
 }
+
+/// Writes files that are no text, or of a length about the limit.
+fn put_others(rt: &HostRuntime, folder: &str) -> Result<(), Fail> {
+    put(rt, folder, "text", &[b'a', 0xFF])?;
+    put_filled(rt, folder, "large", "", 1_048_577)?;
+    put_filled(rt, folder, "largest", "locale = \"de\"\n", 1_048_576)
+}
+
+/// A new folder with all of these files.
+fn new_files(rt: &HostRuntime) -> Result<String, Fail> {
+    let folder = new_folder_of(rt, &FILES)?;
+    put_others(rt, folder.as_str())?;
+    Ok(folder)
+}
+
+static REFUSALS: [Refusal; 22] = [
+    // Each file has its own fault.
+    ("run @bad", 2, "jtap: @bad:2:11: EmptyClass\n"),
+    ("run @cart @bad", 2, "jtap: @bad:2:11: EmptyClass\n"),
+    ("run @empty", 2, "jtap: @empty:1:1: EndOfInput\n"),
+    ("run @large", 2, "jtap: @large:1:1: TooLong\n"),
+    ("run --settings @text @cart", 2, "jtap: settings: NotToml\n"),
+    (
+        "run --settings @wrong @cart",
+        2,
+        "jtap: settings: WrongValue junit.jupiter.execution.parallel.enabled\n",
+    ),
+    (
+        "run --settings @missing @cart",
+        2,
+        "jtap: settings: MissingParallelism\n",
+    ),
+    ("run --world @text @cart", 2, "jtap: world: NotToml\n"),
+    (
+        "run --world @numbers @cart",
+        2,
+        "jtap: world: WrongValue files.a\n",
+    ),
+    ("run @cart @cart", 2, "jtap: plan: DoubleClass\n"),
+    (
+        "run --settings @large @cart",
+        2,
+        "jtap: @large: too large\n",
+    ),
+    ("run --world @large @cart", 2, "jtap: @large: too large\n"),
+    ("run @none", 3, "jtap: @none: cannot be read\n"),
+    ("run @", 3, "jtap: @: cannot be read\n"),
+    (
+        "plan --world @none @cart",
+        3,
+        "jtap: @none: cannot be read\n",
+    ),
+    // All files are read before any of them is read as what it is, in this order.
+    ("run @bad @none", 3, "jtap: @none: cannot be read\n"),
+    (
+        "run --world @none --settings @large @bad",
+        2,
+        "jtap: @large: too large\n",
+    ),
+    (
+        "run --world @none --settings @wrong @bad",
+        3,
+        "jtap: @none: cannot be read\n",
+    ),
+    // Then the settings come first, and the world before the scripts.
+    (
+        "run --world @numbers --settings @missing @bad",
+        2,
+        "jtap: settings: MissingParallelism\n",
+    ),
+    (
+        "run --world @numbers @bad",
+        2,
+        "jtap: world: WrongValue files.a\n",
+    ),
+    ("run @desk @bad @bad", 2, "jtap: @bad:2:11: EmptyClass\n"),
+    ("run @desk @cart @cart", 2, "jtap: plan: DoubleClass\n"),
+];
 
 #[test]
 fn faults_have_a_line_and_a_status(rt: HostRuntime) -> Result<(), Fail> {
-    let folder = new_folder(&rt)?;
-    let folder = folder.as_str();
-    put_files(&rt, folder)?;
-    for (words, status, line) in [
-        // Each file has its own fault.
-        ("run @bad", 2, "jtap: @bad:2:11: EmptyClass\n"),
-        ("run @cart @bad", 2, "jtap: @bad:2:11: EmptyClass\n"),
-        ("run @empty", 2, "jtap: @empty:1:1: EndOfInput\n"),
-        ("run @large", 2, "jtap: @large:1:1: TooLong\n"),
-        ("run --settings @text @cart", 2, "jtap: settings: NotToml\n"),
-        (
-            "run --settings @wrong @cart",
-            2,
-            "jtap: settings: WrongValue junit.jupiter.execution.parallel.enabled\n",
-        ),
-        (
-            "run --settings @missing @cart",
-            2,
-            "jtap: settings: MissingParallelism\n",
-        ),
-        ("run --world @text @cart", 2, "jtap: world: NotToml\n"),
-        (
-            "run --world @numbers @cart",
-            2,
-            "jtap: world: WrongValue files.a\n",
-        ),
-        ("run @cart @cart", 2, "jtap: plan: DoubleClass\n"),
-        (
-            "run --settings @large @cart",
-            2,
-            "jtap: @large: too large\n",
-        ),
-        ("run --world @large @cart", 2, "jtap: @large: too large\n"),
-        ("run @none", 3, "jtap: @none: cannot be read\n"),
-        ("run @", 3, "jtap: @: cannot be read\n"),
-        (
-            "plan --world @none @cart",
-            3,
-            "jtap: @none: cannot be read\n",
-        ),
-        // All files are read before any of them is read as what it is, in this order.
-        ("run @bad @none", 3, "jtap: @none: cannot be read\n"),
-        (
-            "run --world @none --settings @large @bad",
-            2,
-            "jtap: @large: too large\n",
-        ),
-        (
-            "run --world @none --settings @wrong @bad",
-            3,
-            "jtap: @none: cannot be read\n",
-        ),
-        // Then the settings come first, and the world before the scripts.
-        (
-            "run --world @numbers --settings @missing @bad",
-            2,
-            "jtap: settings: MissingParallelism\n",
-        ),
-        (
-            "run --world @numbers @bad",
-            2,
-            "jtap: world: WrongValue files.a\n",
-        ),
-        ("run @desk @bad @bad", 2, "jtap: @bad:2:11: EmptyClass\n"),
-        ("run @desk @cart @cart", 2, "jtap: plan: DoubleClass\n"),
-    ] {
-        let ran = run(&rt, folder, words, "")?;
-        let line = in_folder(rt.alloc(), folder, line)?;
-        assert_eq!(rt; ran.status, status, "of {words}");
-        assert!(rt; ran.errors.bytes() == line.as_bytes(), "of {words}");
-        assert!(rt; ran.output.bytes().is_empty(), "of {words}");
+    let folder = new_files(&rt)?;
+    expect_no_other(&rt, first_other_refusal(&rt, folder.as_str(), &REFUSALS)?);
+    remove(&rt, folder.as_str())
+}
+
+/// Words that run the cart alone.
+static CART_RUNS: [&str; 4] = [
+    "run @cart",
+    "run --serial --processors 1024 @cart",
+    "run --settings @settings --world @world @cart",
+    "run --settings @empty --world @largest @cart @shop @shop",
+];
+
+/// The first of these words that the program answers otherwise than with the cart's report.
+fn first_other_run(rt: &HostRuntime, folder: &str) -> Result<Option<&'static str>, AllocError> {
+    let answer = Answer {
+        status: 0,
+        output: CART_REPORT,
+        errors: "",
+    };
+    for words in &CART_RUNS {
+        if !answers(rt, folder, words, "", answer)? {
+            return Ok(Some(words));
+        }
     }
-    fs::remove_dir_all(&rt, folder)?;
-    Ok(())
+    Ok(None)
+}
+
+/// Whether a failing desk is reported after the cart.
+fn desk_is_reported_last(rt: &HostRuntime, folder: &str) -> Result<bool, AllocError> {
+    let ran = run(rt, folder, "run @cart @desk", "")?;
+    let report = ran.output.bytes();
+    Ok(
+        ran.status == 1
+            && report.starts_with("TAP version 14\n1..2\n# Subtest: shop.Cart\n".as_bytes())
+            && report.ends_with("not ok 2 - shop.Desk\n".as_bytes()),
+    )
 }
 
 #[test]
 fn scripts_run_under_settings_and_a_world(rt: HostRuntime) -> Result<(), Fail> {
-    let folder = new_folder(&rt)?;
-    let folder = folder.as_str();
-    put_files(&rt, folder)?;
-    for words in [
-        "run @cart",
-        "run --serial --processors 1024 @cart",
-        "run --settings @settings --world @world @cart",
-        "run --settings @empty --world @largest @cart @shop @shop",
-    ] {
-        let ran = run(&rt, folder, words, "")?;
-        assert_eq!(rt; ran.status, 0, "of {words}");
-        assert!(rt; ran.output.bytes() == CART_REPORT.as_bytes(), "of {words}");
-        assert!(rt; ran.errors.bytes().is_empty(), "of {words}");
-    }
-    let ran = run(&rt, folder, "run @cart @desk", "")?;
-    assert_eq!(rt; ran.status, 1);
-    assert!(rt;
-        ran.output
-            .bytes()
-            .starts_with("TAP version 14\n1..2\n# Subtest: shop.Cart\n".as_bytes())
-    );
-    assert!(rt;
-        ran.output
-            .bytes()
-            .ends_with("not ok 2 - shop.Desk\n".as_bytes())
-    );
-    fs::remove_dir_all(&rt, folder)?;
-    Ok(())
+    let folder = new_files(&rt)?;
+    expect_no_other(&rt, first_other_run(&rt, folder.as_str())?);
+    assert!(rt; desk_is_reported_last(&rt, folder.as_str())?);
+    remove(&rt, folder.as_str())
 }
 
 /// Two classes of a team: one that reads a key which a test in it writes, and one that holds an isolated class.
@@ -209,75 +214,106 @@ const CART_AND_DESK_PLAN: &str = "workers 2
 7 test same_thread [] shop.Desk.Till.d
 ";
 
+static PLAN_FILES: [(&str, &str); 2] = [("script", CART_AND_DESK), ("settings", TWO_WORKERS)];
+
 #[test]
 fn plan_is_printed(rt: HostRuntime) -> Result<(), Fail> {
-    let folder = new_folder(&rt)?;
-    let folder = folder.as_str();
-    put(&rt, folder, "script", CART_AND_DESK.as_bytes())?;
-    put(&rt, folder, "settings", TWO_WORKERS.as_bytes())?;
-    let ran = run(&rt, folder, "plan --settings @settings @script", "")?;
-    assert_eq!(rt; ran.status, 0);
-    assert!(rt; ran.output.bytes() == CART_AND_DESK_PLAN.as_bytes());
-    assert!(rt; ran.errors.bytes().is_empty());
-    fs::remove_dir_all(&rt, folder)?;
-    Ok(())
+    let folder = new_folder_of(&rt, &PLAN_FILES)?;
+    let answer = Answer {
+        status: 0,
+        output: CART_AND_DESK_PLAN,
+        errors: "",
+    };
+    let words = "plan --settings @settings @script";
+    assert!(rt; answers(&rt, folder.as_str(), words, "", answer)?);
+    remove(&rt, folder.as_str())
+}
+
+/// The words that run so many scripts.
+fn many_scripts(alloc: Global, count: u32) -> Result<String, AllocError> {
+    let mut line = String::from_str(alloc, "run")?;
+    for _ in 0..count {
+        line.push_str(" @shop")?;
+    }
+    Ok(line)
+}
+
+/// What the program answers to these words.
+fn run_many(rt: &HostRuntime, folder: &str, count: u32) -> Result<Ran, AllocError> {
+    let line = many_scripts(rt.alloc(), count)?;
+    run(rt, folder, line.as_str(), "")
+}
+
+/// Whether as many scripts as there may be are run.
+fn are_taken(rt: &HostRuntime, folder: &str) -> Result<bool, AllocError> {
+    Ok(run_many(rt, folder, 64)?.status == 0)
+}
+
+/// Whether one script more is refused.
+fn is_one_too_many(rt: &HostRuntime, folder: &str) -> Result<bool, AllocError> {
+    let ran = run_many(rt, folder, 65)?;
+    Ok(Answer::refused(2, "jtap: plan: TooManyScripts\n").is_of(&ran))
 }
 
 #[test]
 fn more_than_64_scripts_are_too_many(rt: HostRuntime) -> Result<(), Fail> {
-    let folder = new_folder(&rt)?;
-    let folder = folder.as_str();
-    put_files(&rt, folder)?;
-    let mut line = String::from_str(rt.alloc(), "run")?;
-    for _ in 0..64 {
-        line.push_str(" @shop")?;
-    }
-    assert_eq!(rt; run(&rt, folder, line.as_str(), "")?.status, 0);
-    line.push_str(" @shop")?;
-    let ran = run(&rt, folder, line.as_str(), "")?;
-    assert_eq!(rt; ran.status, 2);
-    assert!(rt; ran.errors.bytes() == "jtap: plan: TooManyScripts\n".as_bytes());
-    fs::remove_dir_all(&rt, folder)?;
-    Ok(())
+    let folder = new_files(&rt)?;
+    assert!(rt; are_taken(&rt, folder.as_str())?);
+    assert!(rt; is_one_too_many(&rt, folder.as_str())?);
+    remove(&rt, folder.as_str())
+}
+
+static WRONG_WORDS: [&str; 6] = [
+    "run --processors 0",
+    "run --processors 1025",
+    "run --processors many",
+    "run --setings s",
+    "plan --serial",
+    "walk",
+];
+
+/// Whether words are answered by lines of errors alone.
+fn are_wrong(rt: &HostRuntime, line: &str) -> Result<bool, AllocError> {
+    let ran = run(rt, "", line, "")?;
+    let errors = ran.errors.bytes();
+    Ok(
+        ran.status == 2
+            && errors.starts_with("error: ".as_bytes())
+            && errors.ends_with("\n".as_bytes())
+            && ran.output.bytes().is_empty(),
+    )
 }
 
 #[test]
 fn wrong_words_are_refused(rt: HostRuntime) -> Result<(), Fail> {
-    for line in [
-        "run --processors 0",
-        "run --processors 1025",
-        "run --processors many",
-        "run --setings s",
-        "plan --serial",
-        "walk",
-    ] {
-        let ran = run(&rt, "", line, "")?;
-        assert_eq!(rt; ran.status, 2, "of {line}");
-        assert!(rt;
-            ran.errors.bytes().starts_with("error: ".as_bytes()),
-            "of {line}"
-        );
-        assert!(rt; ran.errors.bytes().ends_with("\n".as_bytes()), "of {line}");
-        assert!(rt; ran.output.bytes().is_empty(), "of {line}");
+    for line in &WRONG_WORDS {
+        expect(&rt, are_wrong(&rt, line)?, line);
     }
     Ok(())
 }
 
+/// Words, and how what the program writes begins.
+static PAGES: [(&str, &str); 4] = [
+    ("--help", "Runs scripted test classes"),
+    ("run --help", "Run scripts"),
+    ("plan --help", "Print how"),
+    ("--version", "jtap 0.1.0\n"),
+];
+
+/// Whether words are answered by a page that begins so.
+fn print_a_page(rt: &HostRuntime, line: &str, start: &str) -> Result<bool, AllocError> {
+    let ran = run(rt, "", line, "")?;
+    Ok(
+        ran.status == 0
+            && ran.output.bytes().starts_with(start.as_bytes())
+            && ran.errors.bytes().is_empty(),
+    )
+}
+
 #[test]
 fn help_and_version_are_printed(rt: HostRuntime) -> Result<(), Fail> {
-    for (line, start) in [
-        ("--help", "Runs scripted test classes"),
-        ("run --help", "Run scripts"),
-        ("plan --help", "Print how"),
-        ("--version", "jtap 0.1.0\n"),
-    ] {
-        let ran = run(&rt, "", line, "")?;
-        assert_eq!(rt; ran.status, 0, "of {line}");
-        assert!(rt;
-            ran.output.bytes().starts_with(start.as_bytes()),
-            "of {line}"
-        );
-        assert!(rt; ran.errors.bytes().is_empty(), "of {line}");
+    for (line, start) in &PAGES {
+        expect(&rt, print_a_page(&rt, line, start)?, line);
     }
     Ok(())
 }
@@ -302,14 +338,17 @@ impl Read for FailingReader {
     }
 }
 
+/// Whether an input that fails after so many bytes is told as one that can't be read.
+fn is_told_unreadable(rt: &HostRuntime, left: usize) -> bool {
+    let mut input = FailingReader { left };
+    let ran = run_words(rt, &[], &mut input);
+    Answer::refused(3, "jtap: stdin: cannot be read\n").is_of(&ran)
+}
+
 #[test]
 fn standard_input_that_fails_cannot_be_read(rt: HostRuntime) {
     for left in [0, 1, 5000] {
-        let mut input = FailingReader { left };
-        let ran = run_words(&rt, &[], &mut input);
-        assert_eq!(rt; ran.status, 3);
-        assert!(rt; ran.errors.bytes() == "jtap: stdin: cannot be read\n".as_bytes());
-        assert!(rt; ran.output.bytes().is_empty());
+        assert!(rt; is_told_unreadable(&rt, left), "after {left} bytes");
     }
 }
 
@@ -337,21 +376,26 @@ impl Sink for StuckSink {
     }
 }
 
+/// Whether the program, run so, tells of a failed write, and tries none after it.
+fn tells_failed_write_once(rt: &HostRuntime, words: &[String]) -> bool {
+    let mut input: &[u8] = CART.as_bytes();
+    let mut output = StuckSink {
+        failures: 0,
+        flushed: 0,
+    };
+    let mut errors = MemorySink::new(rt.alloc());
+    let status = command(rt, words, &mut input, &mut output, &mut errors);
+    status == 3
+        && errors.bytes() == "jtap: write failed\n".as_bytes()
+        && output.failures == 1
+        && output.flushed == 0
+}
+
 #[test]
 fn failed_write_is_told_once(rt: HostRuntime) -> Result<(), Fail> {
-    for words in ["", "--help"] {
-        let words = words_of(rt.alloc(), "", words)?;
-        let mut input: &[u8] = CART.as_bytes();
-        let mut output = StuckSink {
-            failures: 0,
-            flushed: 0,
-        };
-        let mut errors = MemorySink::new(rt.alloc());
-        let status = command(&rt, &words, &mut input, &mut output, &mut errors);
-        assert_eq!(rt; status, 3);
-        assert!(rt; errors.bytes() == "jtap: write failed\n".as_bytes());
-        assert_eq!(rt; output.failures, 1);
-        assert_eq!(rt; output.flushed, 0);
+    for line in ["", "--help"] {
+        let words = words_of(rt.alloc(), "", line)?;
+        expect(&rt, tells_failed_write_once(&rt, &words), line);
     }
     Ok(())
 }
@@ -391,20 +435,31 @@ fn failed_flush_is_a_failed_write(rt: HostRuntime) {
     };
     let mut errors = MemorySink::new(rt.alloc());
     let status = command(&rt, &[], &mut input, &mut output, &mut errors);
-    assert_eq!(rt; status, 3);
-    assert!(rt; errors.bytes() == "jtap: write failed\n".as_bytes());
-    assert!(rt; output.sink.bytes() == CART_REPORT.as_bytes());
+    assert!(rt;
+        status == 3
+            && errors.bytes() == "jtap: write failed\n".as_bytes()
+            && output.sink.bytes() == CART_REPORT.as_bytes()
+    );
+}
+
+/// Whether a script on the input ends with this status, and no more of it is read than one byte past the limit.
+fn is_read_to_the_limit(rt: &HostRuntime, script: &[u8], status: u8) -> bool {
+    let mut input = script;
+    let ran = run_words(rt, &[], &mut input);
+    ran.status == status && input.len() == script.len().saturating_sub(1_048_577)
+}
+
+/// The same of a script of so many bytes.
+fn reads_to_the_limit(rt: &HostRuntime, len: usize, status: u8) -> Result<bool, AllocError> {
+    let script = filled(rt.alloc(), CART, len)?;
+    Ok(is_read_to_the_limit(rt, script.as_slice(), status))
 }
 
 /// A script above the limit is cut one byte past it, and refused.
 #[test]
 fn standard_input_above_the_limit_is_too_long(rt: HostRuntime) -> Result<(), Fail> {
     for (len, status) in [(1_048_576, 0), (1_048_577, 2), (1_100_000, 2)] {
-        let script = filled(rt.alloc(), CART, len)?;
-        let mut input: &[u8] = script.as_slice();
-        let ran = run_words(&rt, &[], &mut input);
-        assert_eq!(rt; ran.status, status, "of {len} bytes");
-        assert_eq!(rt; input.len(), len.saturating_sub(1_048_577));
+        assert!(rt; reads_to_the_limit(&rt, len, status)?, "of {len} bytes");
     }
     Ok(())
 }

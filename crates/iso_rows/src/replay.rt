@@ -1,6 +1,9 @@
 //! Recorded schedules, replayed by the program.
-use crate::folder::{in_folder, new_folder, put, run};
-use std::fs;
+use crate::expect::{expect, expect_no_other};
+use crate::folder::{answers, new_folder_of, put, put_all, remove, run};
+use crate::ran::{Answer, Ran};
+use crate::refusal::{Refusal, first_other_refusal};
+use std::alloc::AllocError;
 use std::test::Fail;
 
 const SETTINGS: &str = "[junit.jupiter.execution.parallel]
@@ -50,25 +53,19 @@ const WHOLE: &str =
 enter 1 4\nenter 0 5\nstep 1\nstep 0\nstep 1\nstep 0\nleave 1\nleave 0\nshut 0 1\nleave 0\n";
 
 /// What the words below name besides the schedule.
-fn new_suite(rt: &HostRuntime) -> Result<String, Fail> {
-    let folder = new_folder(rt)?;
-    for (name, text) in [
-        ("settings", SETTINGS),
-        ("world", "files.a = \"s\"\n"),
-        ("script", SCRIPT),
-        ("shop", "team shop\n"),
-        ("bad", "team shop\nclass C { }\n"),
-        ("wrong", "junit.jupiter.execution.parallel.enabled = 1\n"),
-    ] {
-        put(rt, folder.as_str(), name, text.as_bytes())?;
-    }
-    Ok(folder)
-}
+static FILES: [(&str, &str); 6] = [
+    ("settings", SETTINGS),
+    ("world", "files.a = \"s\"\n"),
+    ("script", SCRIPT),
+    ("shop", "team shop\n"),
+    ("bad", "team shop\nclass C { }\n"),
+    ("wrong", "junit.jupiter.execution.parallel.enabled = 1\n"),
+];
 
 const REPLAY: &str = "replay --schedule @schedule --settings @settings --world @world @script";
 
 /// Faults of a schedule: its text, and the line that the program writes.
-const FAULTS: [(&str, &str); 14] = [
+static FAULTS: [(&str, &str); 14] = [
     ("", "unfinished"),
     ("enter 0 1\nleave 0\n", "unfinished"),
     // Lines are counted from 1, empty ones too; a bad line comes before a number that is too big.
@@ -94,47 +91,69 @@ const FAULTS: [(&str, &str); 14] = [
     ("leave 0\nleave\n", "line 2: BadLine"),
 ];
 
-#[test]
-fn faults_of_a_schedule_have_a_line(rt: HostRuntime) -> Result<(), Fail> {
-    let folder = new_suite(&rt)?;
-    let folder = folder.as_str();
-    for (schedule, fault) in FAULTS {
-        put(&rt, folder, "schedule", schedule.as_bytes())?;
-        let ran = run(&rt, folder, REPLAY, "")?;
-        let line = format!(in rt.alloc(); "jtap: schedule: {fault}\n")?;
-        assert_eq!(rt; ran.status, 2, "of {fault}");
-        assert!(rt; ran.errors.bytes() == line.as_bytes(), "of {fault}");
-        assert!(rt; ran.output.bytes().is_empty(), "of {fault}");
-    }
-    fs::remove_dir_all(&rt, folder)?;
-    Ok(())
+/// Whether the replay of a schedule answers this.
+fn replay_answers(
+    rt: &HostRuntime,
+    folder: &str,
+    schedule: &str,
+    answer: Answer<'_>,
+) -> Result<bool, Fail> {
+    put(rt, folder, "schedule", schedule.as_bytes())?;
+    Ok(answers(rt, folder, REPLAY, "", answer)?)
 }
 
-/// Whether the replay of a schedule writes the worked suite's report and nothing else.
-fn gives_the_report(rt: &HostRuntime, folder: &str, schedule: &str) -> Result<bool, Fail> {
-    put(rt, folder, "schedule", schedule.as_bytes())?;
-    let ran = run(rt, folder, REPLAY, "")?;
-    Ok(ran.status == 0 && ran.output.bytes() == REPORT.as_bytes() && ran.errors.bytes().is_empty())
+/// Whether a schedule is refused for this fault.
+fn is_refused(rt: &HostRuntime, folder: &str, schedule: &str, fault: &str) -> Result<bool, Fail> {
+    let line = format!(in rt.alloc(); "jtap: schedule: {fault}\n")?;
+    replay_answers(rt, folder, schedule, Answer::refused(2, line.as_str()))
+}
+
+#[test]
+fn faults_of_a_schedule_have_a_line(rt: HostRuntime) -> Result<(), Fail> {
+    let folder = new_folder_of(&rt, &FILES)?;
+    for (schedule, fault) in &FAULTS {
+        expect(
+            &rt,
+            is_refused(&rt, folder.as_str(), schedule, fault)?,
+            fault,
+        );
+    }
+    remove(&rt, folder.as_str())
+}
+
+/// The worked suite's report and nothing else.
+const WHOLE_ANSWER: Answer<'static> = Answer {
+    status: 0,
+    output: REPORT,
+    errors: "",
+};
+
+/// Whether the replay with a carriage return before each line feed, and with empty lines, writes the report.
+fn returns_are_passed_over(rt: &HostRuntime, folder: &str) -> Result<bool, Fail> {
+    let returns = WHOLE.replace(rt.alloc(), '\n', "\r\n\n\r\n")?;
+    replay_answers(rt, folder, returns.as_str(), WHOLE_ANSWER)
+}
+
+/// Whether the replay writes the report with line feeds, without the last, and with carriage returns and empty lines.
+fn replays_give_the_report(rt: &HostRuntime, folder: &str) -> Result<bool, Fail> {
+    Ok(
+        replay_answers(rt, folder, WHOLE, WHOLE_ANSWER)?
+            && replay_answers(rt, folder, WHOLE.trim_ascii_end(), WHOLE_ANSWER)?
+            && returns_are_passed_over(rt, folder)?,
+    )
 }
 
 #[test]
 fn replay_writes_the_report_of_the_serial_run(rt: HostRuntime) -> Result<(), Fail> {
-    let folder = new_suite(&rt)?;
-    let folder = folder.as_str();
+    let folder = new_folder_of(&rt, &FILES)?;
     let serial = "run --serial --settings @settings --world @world @script";
-    let serial = run(&rt, folder, serial, "")?;
-    assert!(rt; serial.output.bytes() == REPORT.as_bytes());
-    // With line feeds, without the last, and with a carriage return before each, and empty lines.
-    assert!(rt; gives_the_report(&rt, folder, WHOLE)?);
-    assert!(rt; gives_the_report(&rt, folder, WHOLE.trim_ascii_end())?);
-    let returns = WHOLE.replace(rt.alloc(), '\n', "\r\n\n\r\n")?;
-    assert!(rt; gives_the_report(&rt, folder, returns.as_str())?);
-    fs::remove_dir_all(&rt, folder)?;
-    Ok(())
+    assert!(rt; answers(&rt, folder.as_str(), serial, "", WHOLE_ANSWER)?);
+    assert!(rt; replays_give_the_report(&rt, folder.as_str())?);
+    remove(&rt, folder.as_str())
 }
 
 /// The schedule is read last, and one that can't be read is a fault of the files.
-const ORDER: [(&str, u8, &str); 6] = [
+static ORDER: [Refusal; 6] = [
     (
         "replay --schedule @none @script",
         3,
@@ -169,21 +188,13 @@ const ORDER: [(&str, u8, &str); 6] = [
 
 #[test]
 fn schedule_is_read_last(rt: HostRuntime) -> Result<(), Fail> {
-    let folder = new_suite(&rt)?;
-    let folder = folder.as_str();
-    for (words, status, line) in ORDER {
-        let ran = run(&rt, folder, words, "")?;
-        let line = in_folder(rt.alloc(), folder, line)?;
-        assert_eq!(rt; ran.status, status, "of {words}");
-        assert!(rt; ran.errors.bytes() == line.as_bytes(), "of {words}");
-        assert!(rt; ran.output.bytes().is_empty(), "of {words}");
-    }
-    fs::remove_dir_all(&rt, folder)?;
-    Ok(())
+    let folder = new_folder_of(&rt, &FILES)?;
+    expect_no_other(&rt, first_other_refusal(&rt, folder.as_str(), &ORDER)?);
+    remove(&rt, folder.as_str())
 }
 
 /// Suites by whole schedules: the script, the schedule, and the status of the run.
-const WHOLES: [(&str, &str, u8); 3] = [
+static WHOLES: [(&str, &str, u8); 3] = [
     ("team shop\n", "", 0),
     (
         "team shop\nclass C { test t { fail \"no\"; } }\n",
@@ -197,39 +208,74 @@ const WHOLES: [(&str, &str, u8); 3] = [
     ),
 ];
 
+/// Whether the replay writes the report of a run, and ends with its status.
+fn is_replayed(rt: &HostRuntime, folder: &str, serial: &Ran) -> Result<bool, AllocError> {
+    let ran = run(rt, folder, REPLAY, "")?;
+    Ok(ran.status == serial.status && ran.output.bytes() == serial.output.bytes())
+}
+
+/// Whether the serial run ends with this status, and the replay as it does.
+fn both_end(rt: &HostRuntime, folder: &str, status: u8) -> Result<bool, AllocError> {
+    let serial = run(rt, folder, "run --serial --settings @settings @script", "")?;
+    Ok(serial.status == status && is_replayed(rt, folder, &serial)?)
+}
+
+/// The same with this script and this schedule.
+fn both_end_on(
+    rt: &HostRuntime,
+    folder: &str,
+    script: &str,
+    schedule: &str,
+    status: u8,
+) -> Result<bool, Fail> {
+    put_all(rt, folder, &[("script", script), ("schedule", schedule)])?;
+    Ok(both_end(rt, folder, status)?)
+}
+
 #[test]
 fn replay_ends_with_the_status_of_the_serial_run(rt: HostRuntime) -> Result<(), Fail> {
-    let folder = new_suite(&rt)?;
-    let folder = folder.as_str();
-    for (script, schedule, status) in WHOLES {
-        put(&rt, folder, "script", script.as_bytes())?;
-        put(&rt, folder, "schedule", schedule.as_bytes())?;
-        let serial = run(&rt, folder, "run --serial --settings @settings @script", "")?;
-        let ran = run(&rt, folder, REPLAY, "")?;
-        assert_eq!(rt; ran.status, status, "of {script}");
-        assert_eq!(rt; serial.status, status, "of {script}");
-        assert!(rt; ran.output.bytes() == serial.output.bytes(), "of {script}");
+    let folder = new_folder_of(&rt, &FILES)?;
+    for (script, schedule, status) in &WHOLES {
+        expect(
+            &rt,
+            both_end_on(&rt, folder.as_str(), script, schedule, *status)?,
+            script,
+        );
     }
-    fs::remove_dir_all(&rt, folder)?;
-    Ok(())
+    remove(&rt, folder.as_str())
+}
+
+/// Writes a schedule of so many empty lines.
+fn put_empty_lines(rt: &HostRuntime, folder: &str, count: usize) -> Result<(), Fail> {
+    let mut schedule = Vec::new(rt.alloc());
+    schedule.resize(count, b'\n')?;
+    put(rt, folder, "schedule", schedule.as_slice())
+}
+
+/// Whether it is refused with this line.
+fn lines_are_refused(
+    rt: &HostRuntime,
+    folder: &str,
+    count: usize,
+    line: &str,
+) -> Result<bool, Fail> {
+    put_empty_lines(rt, folder, count)?;
+    Ok(answers(rt, folder, REPLAY, "", Answer::refused(2, line))?)
 }
 
 /// Empty lines up to the limit, and past it.
 #[test]
 fn schedule_above_the_limit_is_too_long(rt: HostRuntime) -> Result<(), Fail> {
-    let folder = new_suite(&rt)?;
-    let folder = folder.as_str();
-    for (len, line) in [
+    let folder = new_folder_of(&rt, &FILES)?;
+    for (count, line) in [
         (1_048_576, "jtap: schedule: unfinished\n"),
         (1_048_577, "jtap: schedule: line 1: TooLong\n"),
     ] {
-        let mut schedule = Vec::new(rt.alloc());
-        schedule.resize(len, b'\n')?;
-        put(&rt, folder, "schedule", schedule.as_slice())?;
-        let ran = run(&rt, folder, REPLAY, "")?;
-        assert_eq!(rt; ran.status, 2);
-        assert!(rt; ran.errors.bytes() == line.as_bytes());
+        expect(
+            &rt,
+            lines_are_refused(&rt, folder.as_str(), count, line)?,
+            line,
+        );
     }
-    fs::remove_dir_all(&rt, folder)?;
-    Ok(())
+    remove(&rt, folder.as_str())
 }

@@ -4,7 +4,7 @@ use crate::row::Row;
 /// A world in which the property `a` is "1".
 const ONE_PROPERTY: &str = "properties.a = \"1\"\n";
 
-pub(crate) const ROWS: [Row; 5] = [
+pub(crate) static ROWS: [Row; 5] = [
     // Each test finds what the world says.
     Row {
         world: ONE_PROPERTY,

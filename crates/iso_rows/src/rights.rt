@@ -1,7 +1,7 @@
 //! What a block may look at and change is what its class chain declares, whatever its neighbours hold.
 use crate::row::Row;
 
-pub(crate) const ROWS: [Row; 4] = [
+pub(crate) static ROWS: [Row; 4] = [
     // A block that declares nothing looks at nothing.
     Row {
         world: "",

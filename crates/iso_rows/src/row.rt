@@ -1,5 +1,6 @@
 //! Rows of the worked examples.
-use crate::folder::{put, run};
+use crate::folder::{answers, put};
+use crate::ran::Answer;
 use std::test::Fail;
 
 /// A script under a world, and what the program answers.
@@ -12,6 +13,19 @@ pub(crate) struct Row {
     pub report: &'static str,
 }
 
+/// Whether the program answers a row as it was worked out.
+fn is_as_worked_out(rt: &HostRuntime, folder: &str, row: &Row) -> Result<bool, Fail> {
+    put(rt, folder, "world", row.world.as_bytes())?;
+    let script = format!(in rt.alloc(); "team shop\n{}\n", row.classes)?;
+    let answer = Answer {
+        status: row.status,
+        output: row.report,
+        errors: "",
+    };
+    let words = "run --serial --world @world";
+    Ok(answers(rt, folder, words, script.as_str(), answer)?)
+}
+
 /// The script of the first row of which the program answers something else.
 pub(crate) fn first_other<'a>(
     rt: &HostRuntime,
@@ -19,13 +33,7 @@ pub(crate) fn first_other<'a>(
     rows: &'a [Row],
 ) -> Result<Option<&'a str>, Fail> {
     for row in rows {
-        put(rt, folder, "world", row.world.as_bytes())?;
-        let script = format!(in rt.alloc(); "team shop\n{}\n", row.classes)?;
-        let ran = run(rt, folder, "run --serial --world @world", script.as_str())?;
-        let as_worked_out = ran.status == row.status
-            && ran.output.bytes() == row.report.as_bytes()
-            && ran.errors.bytes().is_empty();
-        if !as_worked_out {
+        if !is_as_worked_out(rt, folder, row)? {
             return Ok(Some(row.classes));
         }
     }

@@ -1,7 +1,7 @@
 //! Statements, numbers, titles and places.
 use crate::row::Row;
 
-pub(crate) const ROWS: [Row; 10] = [
+pub(crate) static ROWS: [Row; 10] = [
     // No class.
     Row {
         world: "",

@@ -1,6 +1,6 @@
 //! The example of three teams: properties, a locale, files, a class that isn't opened, a skipped test, an isolated class.
-use crate::folder::{new_folder, put, run};
-use std::fs;
+use crate::folder::{answers, new_folder_of, remove};
+use crate::ran::Answer;
 use std::test::Fail;
 
 pub(crate) const SETTINGS: &str = r#"[junit.jupiter.execution.parallel]
@@ -259,24 +259,23 @@ not ok 5 - ops.migration "v2"
 ok 6 - ops.Health
 "#;
 
+static FILES: [(&str, &str); 5] = [
+    ("settings", SETTINGS),
+    ("world", WORLD),
+    ("shop", SHOP),
+    ("orders", ORDERS),
+    ("ops", OPS),
+];
+
 #[test]
 fn three_teams_are_reported(rt: HostRuntime) -> Result<(), Fail> {
-    let folder = new_folder(&rt)?;
-    let folder = folder.as_str();
-    for (name, text) in [
-        ("settings", SETTINGS),
-        ("world", WORLD),
-        ("shop", SHOP),
-        ("orders", ORDERS),
-        ("ops", OPS),
-    ] {
-        put(&rt, folder, name, text.as_bytes())?;
-    }
+    let folder = new_folder_of(&rt, &FILES)?;
     let words = "run --settings @settings --world @world @shop @orders @ops";
-    let ran = run(&rt, folder, words, "")?;
-    assert_eq!(rt; ran.status, 1);
-    assert!(rt; ran.output.bytes() == REPORT.as_bytes());
-    assert!(rt; ran.errors.bytes().is_empty());
-    fs::remove_dir_all(&rt, folder)?;
-    Ok(())
+    let answer = Answer {
+        status: 1,
+        output: REPORT,
+        errors: "",
+    };
+    assert!(rt; answers(&rt, folder.as_str(), words, "", answer)?);
+    remove(&rt, folder.as_str())
 }
