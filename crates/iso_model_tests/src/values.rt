@@ -14,9 +14,15 @@ use iso_model::text::Text;
 use std::alloc::{AllocError, Global};
 use std::sync::Arc;
 
-/// What `text` gives of a copy of a value.
-fn written(alloc: Global, value: Data) -> Result<Text, AllocError> {
-    value.copy(alloc)?.text(alloc)
+/// Whether `text` gives this of a copy of a value.
+fn writes(alloc: Global, value: &Data, want: &str) -> Result<bool, AllocError> {
+    let copied = value.copy(alloc)?;
+    is_text(copied.text(alloc), want)
+}
+
+/// Whether a text, if there was memory for it, is this.
+fn is_text(text: Result<Text, AllocError>, want: &str) -> Result<bool, AllocError> {
+    Ok(text?.as_str() == want)
 }
 
 #[test]
@@ -28,17 +34,17 @@ fn values_are_written_in_decimal_and_words(rt: HostRuntime) -> Result<(), AllocE
         (0, "0"),
         (i64::MAX, "9223372036854775807"),
     ] {
-        assert_eq!(rt; written(alloc, Data::Whole(number))?.as_str(), want);
+        assert!(rt; writes(alloc, &Data::Whole(number), want)?);
     }
-    assert_eq!(rt; written(alloc, Data::Flag(true))?.as_str(), "true");
-    assert_eq!(rt; written(alloc, Data::Flag(false))?.as_str(), "false");
+    assert!(rt; writes(alloc, &Data::Flag(true), "true")?);
+    assert!(rt; writes(alloc, &Data::Flag(false), "false")?);
     let text = Data::Text(Text::copied(alloc, "a b")?);
-    assert_eq!(rt; written(alloc, text)?.as_str(), "a b");
+    assert!(rt; writes(alloc, &text, "a b")?);
     Ok(())
 }
 
 fn says(alloc: Global, fault: Fault, want: &str) -> Result<bool, AllocError> {
-    Ok(fault.message(alloc)?.as_str() == want)
+    is_text(fault.message(alloc), want)
 }
 
 #[test]
@@ -92,7 +98,7 @@ fn places_name_their_block(rt: HostRuntime) -> Result<(), AllocError> {
             "class 8 after_each row 12",
         ),
     ] {
-        assert_eq!(rt; place.text(alloc)?.as_str(), want);
+        assert!(rt; is_text(place.text(alloc), want)?);
     }
     Ok(())
 }
@@ -108,6 +114,12 @@ fn word(value: &Resource) -> &str {
     }
 }
 
+/// Whether the value that a key starts with is this in a word.
+fn starts_as(alloc: Global, key: &Key, want: &str) -> Result<bool, AllocError> {
+    let value = Resource::starting(alloc, key)?;
+    Ok(word(&value) == want)
+}
+
 #[test]
 fn keys_start_at_their_value(rt: HostRuntime) -> Result<(), AllocError> {
     let alloc = rt.alloc();
@@ -118,37 +130,60 @@ fn keys_start_at_their_value(rt: HostRuntime) -> Result<(), AllocError> {
         ("k", "lock"),
     ] {
         let key = Key::new(Text::copied(alloc, spelling)?);
-        let value = Resource::starting(alloc, &key)?;
-        assert!(rt; word(&value) == want, "{spelling}");
+        assert!(rt; starts_as(alloc, &key, want)?, "{spelling}");
     }
     Ok(())
 }
 
+/// Sets a property.
+fn set(
+    alloc: Global,
+    properties: &mut Properties,
+    name: &str,
+    text: &str,
+) -> Result<(), AllocError> {
+    let name = String::from_str(alloc, name)?;
+    properties.set(name, Text::copied(alloc, text)?)
+}
+
+/// Whether a property is this text, or is absent.
+fn is_set(properties: &Properties, name: &str, want: Option<&str>) -> bool {
+    properties.get(name).map(|text| text.as_str()) == want
+}
+
 #[test]
 fn cleared_property_is_absent(rt: HostRuntime) -> Result<(), AllocError> {
-    let alloc = rt.alloc();
-    let mut properties = Properties::new(alloc);
-    properties.set(String::from_str(alloc, "a")?, Text::copied(alloc, "1")?)?;
-    properties.set(String::from_str(alloc, "b")?, Text::copied(alloc, "")?)?;
-    assert!(rt; properties.get("a").is_some_and(|text| text.as_str() == "1"));
+    let mut properties = Properties::new(rt.alloc());
+    set(rt.alloc(), &mut properties, "a", "1")?;
+    set(rt.alloc(), &mut properties, "b", "")?;
+    assert!(rt; is_set(&properties, "a", Some("1")));
     properties.clear("a");
     properties.clear("c");
-    assert!(rt; properties.get("a").is_none());
-    assert!(rt; properties.get("b").is_some());
-    assert!(rt; properties.get("c").is_none());
+    assert!(rt; is_set(&properties, "a", None));
+    assert!(rt; is_set(&properties, "b", Some("")));
+    assert!(rt; is_set(&properties, "c", None));
     Ok(())
+}
+
+/// Names of which the only one is the local x, which is 1.
+fn x_is_1(alloc: Global) -> Result<Names, AllocError> {
+    let name = Text::copied(alloc, "x")?;
+    let mut names = Names::new(Vec::new(alloc), 0, BlockName::Test);
+    names.declare(name, Data::Whole(1))?;
+    Ok(names)
+}
+
+/// Whether a name stands for a local.
+fn is_local(names: &Names, name: &str) -> bool {
+    names
+        .get(name)
+        .is_some_and(|binding| binding.sort == Sort::Local)
 }
 
 #[test]
 fn local_is_visible_until_it_is_dropped(rt: HostRuntime) -> Result<(), AllocError> {
-    let alloc = rt.alloc();
-    let mut names = Names::new(Vec::new(alloc), 0, BlockName::Test);
-    names.declare(Text::copied(alloc, "x")?, Data::Whole(1))?;
-    assert!(rt;
-        names
-            .get("x")
-            .is_some_and(|binding| binding.sort == Sort::Local)
-    );
+    let mut names = x_is_1(rt.alloc())?;
+    assert!(rt; is_local(&names, "x"));
     names.keep(0);
     assert!(rt; names.get("x").is_none());
     Ok(())
@@ -156,9 +191,7 @@ fn local_is_visible_until_it_is_dropped(rt: HostRuntime) -> Result<(), AllocErro
 
 #[test]
 fn visible_name_is_assigned(rt: HostRuntime) -> Result<(), AllocError> {
-    let alloc = rt.alloc();
-    let mut names = Names::new(Vec::new(alloc), 0, BlockName::Test);
-    names.declare(Text::copied(alloc, "x")?, Data::Whole(1))?;
+    let mut names = x_is_1(rt.alloc())?;
     assert!(rt; names.assign("y", Data::Whole(2)) == Err(AssignFault::UnknownName));
     assert!(rt; names.assign("x", Data::Flag(true)).is_ok());
     assert!(rt; names.take_step());
@@ -204,23 +237,38 @@ fn rights_of(alloc: Global, class: Access, test: Access) -> Result<Rights, Alloc
     Rights::of(alloc, chain)
 }
 
+/// Whether a file is declared so.
+fn is_declared(
+    alloc: Global,
+    rights: &Rights,
+    path: &str,
+    want: Option<Access>,
+) -> Result<bool, AllocError> {
+    let key = Key::of_file(alloc, path)?;
+    Ok(rights.access(&key) == want)
+}
+
 #[test]
 fn strongest_mark_of_a_chain_counts(rt: HostRuntime) -> Result<(), AllocError> {
     let alloc = rt.alloc();
     let rights = rights_of(alloc, Access::Write, Access::Read)?;
-    assert!(rt; rights.access(&Key::of_file(alloc, "a")?) == Some(Access::Write));
-    assert!(rt; rights.access(&Key::of_file(alloc, "b")?).is_none());
+    assert!(rt; is_declared(alloc, &rights, "a", Some(Access::Write))?);
+    assert!(rt; is_declared(alloc, &rights, "b", None)?);
     Ok(())
+}
+
+/// Declares file `a`.
+fn declare(alloc: Global, rights: &mut Rights, access: Access) -> Result<(), AllocError> {
+    rights.declare(Key::of_file(alloc, "a")?, access)
 }
 
 #[test]
 fn newest_access_of_a_key_counts(rt: HostRuntime) -> Result<(), AllocError> {
     let alloc = rt.alloc();
-    let key = Key::of_file(alloc, "a")?;
     let mut rights = Rights::new(alloc);
-    assert!(rt; rights.access(&key).is_none());
-    rights.declare(Key::of_file(alloc, "a")?, Access::Read)?;
-    rights.declare(Key::of_file(alloc, "a")?, Access::Write)?;
-    assert!(rt; rights.access(&key) == Some(Access::Write));
+    assert!(rt; is_declared(alloc, &rights, "a", None)?);
+    declare(alloc, &mut rights, Access::Read)?;
+    declare(alloc, &mut rights, Access::Write)?;
+    assert!(rt; is_declared(alloc, &rights, "a", Some(Access::Write))?);
     Ok(())
 }
