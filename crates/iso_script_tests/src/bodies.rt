@@ -1,9 +1,10 @@
 //! Statements and expressions: what is read, the place of each fault, and every limit.
-use crate::made::{Faulty, Row, made, row_with_another_fault, with_another_fault};
+use crate::made::{Faulty, Row, check_rows, check_texts, made};
 use iso_model::script::{Member, Script};
 use iso_model::tree::{Expr, Form, Operator, Stmt};
 use iso_script::fault::ScriptFaultKind::{BadDisplay, Expected, NumberTooBig, TooDeep};
 use iso_script::reader::read_script;
+use std::alloc::AllocError;
 use std::test::Fail;
 
 /// What stands before a body that begins at line 2, column 20, and after it.
@@ -20,7 +21,7 @@ fn body_of(script: &Script) -> Option<&[Stmt]> {
 }
 
 /// A body of each form, and of each expression.
-const FORMS: [Row<'static>; 18] = [
+static FORMS: [Row<'static>; 18] = [
     (&[("let x = -9223372036854775808;", 1)], None),
     (&[("x = x - -1;", 1)], None),
     (&[("print text(1 + 2 + 3);", 1)], None),
@@ -45,16 +46,12 @@ const FORMS: [Row<'static>; 18] = [
 ];
 
 #[test]
-fn every_form_is_read(rt: HostRuntime) -> Result<(), Fail> {
-    assert_eq!(rt;
-        row_with_another_fault(rt.alloc(), BEFORE, &FORMS, AFTER)?,
-        None
-    );
-    Ok(())
+fn every_form_is_read(rt: HostRuntime) -> Result<(), AllocError> {
+    check_rows(&rt, rt.alloc(), BEFORE, &FORMS, AFTER)
 }
 
 /// What no body is, each with its fault.
-const FAULTS: [Faulty<'static>; 22] = [
+static FAULTS: [Faulty<'static>; 22] = [
     ("print 2 + 3 * 4;", Expected, 2, 32),
     ("print 1 == 2 == 3;", Expected, 2, 33),
     ("print 1 + 2 == 3;", Expected, 2, 32),
@@ -80,16 +77,12 @@ const FAULTS: [Faulty<'static>; 22] = [
 ];
 
 #[test]
-fn faults_of_bodies_have_their_places(rt: HostRuntime) -> Result<(), Fail> {
-    assert_eq!(rt;
-        with_another_fault(rt.alloc(), BEFORE, &FAULTS, AFTER)?,
-        None
-    );
-    Ok(())
+fn faults_of_bodies_have_their_places(rt: HostRuntime) -> Result<(), AllocError> {
+    check_texts(&rt, rt.alloc(), BEFORE, &FAULTS, AFTER)
 }
 
 /// The most parentheses, operands and bodies, the longest reason, and one more of each.
-const LIMITS: [Row<'static>; 13] = [
+static LIMITS: [Row<'static>; 13] = [
     (
         &[("print ", 1), ("(", 32), ("1", 1), (")", 32), (";", 1)],
         None,
@@ -133,12 +126,8 @@ const LIMITS: [Row<'static>; 13] = [
 ];
 
 #[test]
-fn bodies_have_limits(rt: HostRuntime) -> Result<(), Fail> {
-    assert_eq!(rt;
-        row_with_another_fault(rt.alloc(), BEFORE, &LIMITS, AFTER)?,
-        None
-    );
-    Ok(())
+fn bodies_have_limits(rt: HostRuntime) -> Result<(), AllocError> {
+    check_rows(&rt, rt.alloc(), BEFORE, &LIMITS, AFTER)
 }
 
 /// The first statement of the first test of the first class.
@@ -146,8 +135,9 @@ fn first_of(script: &Script) -> Option<&Stmt> {
     body_of(script)?.get(0)
 }
 
-/// The rows of an `if` and of the first statements of its two bodies.
-fn rows_of_if(statement: &Stmt) -> Option<(u32, u32, u32)> {
+/// The rows of the first statement, an `if`, and of the first statements of its two bodies.
+fn rows_of_if(script: &Script) -> Option<(u32, u32, u32)> {
+    let statement = first_of(script)?;
     match &statement.form {
         Form::If(_, yes, no) => Some((statement.row, yes.get(0)?.row, no.get(0)?.row)),
         _ => None,
@@ -170,8 +160,7 @@ class C {
 }
 ";
     let script = read_script(rt.alloc(), text.as_bytes())?;
-    let first = first_of(&script).ok_or("no statement")?;
-    assert_eq!(rt; rows_of_if(first), Some((2, 4, 6)));
+    assert_eq!(rt; rows_of_if(&script), Some((2, 4, 6)));
     Ok(())
 }
 
@@ -191,8 +180,8 @@ fn operands_stay_in_order(rt: HostRuntime) -> Result<(), Fail> {
         &[(BEFORE, 1), ("print 1 - 2 - 3;", 1), (AFTER, 1)],
     )?;
     let script = read_script(rt.alloc(), &script)?;
-    let first = first_of(&script).ok_or("no statement")?;
-    assert!(rt; is_subtraction_of_three(&first.form));
+    let first = first_of(&script);
+    assert!(rt; matches!(first, Some(first) if is_subtraction_of_three(&first.form)));
     Ok(())
 }
 
@@ -205,7 +194,6 @@ fn the_largest_body_is_read(rt: HostRuntime) -> Result<(), Fail> {
     )?;
     assert!(rt; script.len() <= 1_048_576 && script.len() + 16 > 1_048_576);
     let script = read_script(rt.alloc(), &script)?;
-    let body = body_of(&script).ok_or("no body")?;
-    assert_eq!(rt; body.len(), 131_067);
+    assert!(rt; matches!(body_of(&script), Some(body) if body.len() == 131_067));
     Ok(())
 }

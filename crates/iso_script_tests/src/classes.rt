@@ -1,9 +1,9 @@
 //! Classes: what is read, the place of each fault, and every limit.
-use crate::made::{Faulty, Row, add, fault_of, made, row_with_another_fault, with_another_fault};
+use crate::made::{Faulty, Row, add, check_rows, check_texts, fault_of, made};
 use iso_model::access::Access;
 use iso_model::data::Data;
 use iso_model::heads::{ClassHead, Mark, Variable};
-use iso_model::script::{Class, Member, Mode, Test};
+use iso_model::script::{Class, Member, Mode, Script, Test};
 use iso_script::fault::ScriptFaultKind::{
     BadDisplay, DoubleBlock, DoubleMember, EmptyClass, EndOfInput, Expected, GlobalKey, NameTaken,
     NumberTooBig, OpenText, TooDeep, TooLong,
@@ -98,15 +98,21 @@ fn is_total(test: &Test) -> bool {
         && (test.head.marks.len(), test.head.body.len()) == (1, 1)
 }
 
+/// Whether the first member of `Cart` is `Full`, with its test.
+fn has_full(cart: &Class) -> bool {
+    match cart.members.get(0) {
+        Some(Member::Class(full)) =>
+            matches!(member_of_full(full), Some(Member::Test(total)) if is_total(total)),
+        _ => false,
+    }
+}
+
 #[test]
 fn whole_class_is_read(rt: HostRuntime) -> Result<(), Fail> {
     let script = read_script(rt.alloc(), CART.as_bytes())?;
-    let cart = script.classes.get(0).ok_or("no class")?;
-    assert!(rt; is_cart(cart) && cart.members.len() == 2);
-    let Some(Member::Class(full)) = cart.members.get(0) else {
-        return Err(Fail::from("no class in it"));
-    };
-    assert!(rt; matches!(member_of_full(full), Some(Member::Test(total)) if is_total(total)));
+    let cart = script.classes.get(0);
+    assert!(rt; matches!(cart, Some(cart) if is_cart(cart) && cart.members.len() == 2));
+    assert!(rt; matches!(cart, Some(cart) if has_full(cart)));
     Ok(())
 }
 
@@ -137,7 +143,7 @@ fn prefixes_and_changed_bytes_have_an_answer(rt: HostRuntime) -> Result<(), Fail
 const TEAM: &str = "team shop\n";
 
 /// What can't begin a script, after a team, with its fault.
-const FAULTS: [Faulty<'static>; 45] = [
+static FAULTS: [Faulty<'static>; 45] = [
     // the grammar
     ("test t { }", Expected, 2, 1),
     ("isolated test t { }", Expected, 2, 10),
@@ -251,9 +257,8 @@ const FAULTS: [Faulty<'static>; 45] = [
 ];
 
 #[test]
-fn faults_of_classes_have_their_places(rt: HostRuntime) -> Result<(), Fail> {
-    assert_eq!(rt; with_another_fault(rt.alloc(), TEAM, &FAULTS, "")?, None);
-    Ok(())
+fn faults_of_classes_have_their_places(rt: HostRuntime) -> Result<(), AllocError> {
+    check_texts(&rt, rt.alloc(), TEAM, &FAULTS, "")
 }
 
 /// A name is taken in the classes under its own, and in no other.
@@ -269,7 +274,7 @@ class F { static x = 4; test x { } }
 }
 
 /// The largest that is read, and the smallest that is refused.
-const LIMITS: [Row<'static>; 14] = [
+static LIMITS: [Row<'static>; 14] = [
     (&[("class C { ", 8), ("test t { } ", 1), ("} ", 8)], None),
     (&[("class C { ", 9)], Some((TooDeep, 2, 81))),
     (
@@ -322,12 +327,8 @@ const LIMITS: [Row<'static>; 14] = [
 ];
 
 #[test]
-fn limits_of_classes(rt: HostRuntime) -> Result<(), Fail> {
-    assert_eq!(rt;
-        row_with_another_fault(rt.alloc(), TEAM, &LIMITS, "")?,
-        None
-    );
-    Ok(())
+fn limits_of_classes(rt: HostRuntime) -> Result<(), AllocError> {
+    check_rows(&rt, rt.alloc(), TEAM, &LIMITS, "")
 }
 
 /// Adds numbers from 0 on, each between two pieces.
@@ -361,15 +362,16 @@ fn full_script(alloc: Global) -> Result<Vec<u8>, AllocError> {
     Ok(script)
 }
 
-/// How many marks, statics, fields and members a class has.
-fn sizes(class: &Class) -> (usize, usize, usize, usize) {
+/// How many marks, statics, fields and members the first class has.
+fn sizes(script: &Script) -> Option<(usize, usize, usize, usize)> {
+    let class = script.classes.get(0)?;
     let head = &class.head;
-    (
+    Some((
         head.marks.len(),
         head.statics.len(),
         head.fields.len(),
         class.members.len(),
-    )
+    ))
 }
 
 #[test]
@@ -377,8 +379,7 @@ fn full_classes_are_read(rt: HostRuntime) -> Result<(), Fail> {
     let bytes = full_script(rt.alloc())?;
     assert!(rt; bytes.len() <= 1_048_576 && bytes.len() > 1_000_000);
     let script = read_script(rt.alloc(), &bytes)?;
-    let class = script.classes.get(0).ok_or("no class")?;
-    assert_eq!(rt; sizes(class), (38_000, 17_000, 17_000, 4094));
+    assert_eq!(rt; sizes(&script), Some((38_000, 17_000, 17_000, 4094)));
     Ok(())
 }
 

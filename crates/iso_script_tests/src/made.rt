@@ -2,6 +2,7 @@
 use iso_script::fault::{ScriptError, ScriptFaultKind};
 use iso_script::reader::read_script;
 use std::alloc::{AllocError, Global};
+use std::process::Abort;
 
 /// A fault's kind, line and column.
 pub type Placed = (ScriptFaultKind, u32, u32);
@@ -38,36 +39,45 @@ pub fn fault_of(alloc: Global, script: &[u8]) -> Result<Option<Placed>, AllocErr
     }
 }
 
-/// The first of these texts that has another fault, where each stands between `before` and `after`.
-pub fn with_another_fault<'a>(
+/// The fault of these pieces between `before` and `after`.
+fn fault_between(
     alloc: Global,
     before: &str,
-    texts: &[Faulty<'a>],
+    pieces: &[(&str, usize)],
     after: &str,
-) -> Result<Option<&'a str>, AllocError> {
-    for (text, kind, line, column) in texts {
-        let script = made(alloc, &[(before, 1), (text, 1), (after, 1)])?;
-        if fault_of(alloc, &script)? != Some((*kind, *line, *column)) {
-            return Ok(Some(text));
-        }
-    }
-    Ok(None)
+) -> Result<Option<Placed>, AllocError> {
+    let mut script = made(alloc, &[(before, 1)])?;
+    add(&mut script, pieces)?;
+    add(&mut script, &[(after, 1)])?;
+    fault_of(alloc, &script)
 }
 
-/// The first row that has another fault, where its pieces stand between `before` and `after`.
-pub fn row_with_another_fault(
+/// Each of these texts has its fault, where it stands between `before` and `after`.
+pub fn check_texts(
+    rt: &impl Abort,
+    alloc: Global,
+    before: &str,
+    texts: &[Faulty<'_>],
+    after: &str,
+) -> Result<(), AllocError> {
+    for (text, kind, line, column) in texts {
+        let fault = fault_between(alloc, before, &[(*text, 1)], after)?;
+        assert_eq!(rt; fault, Some((*kind, *line, *column)), "{text}");
+    }
+    Ok(())
+}
+
+/// Each row has its fault, where its pieces stand between `before` and `after`.
+pub fn check_rows(
+    rt: &impl Abort,
     alloc: Global,
     before: &str,
     rows: &[Row<'_>],
     after: &str,
-) -> Result<Option<usize>, AllocError> {
-    for (index, (pieces, fault)) in rows.iter().enumerate() {
-        let mut script = made(alloc, &[(before, 1)])?;
-        add(&mut script, pieces)?;
-        add(&mut script, &[(after, 1)])?;
-        if fault_of(alloc, &script)? != *fault {
-            return Ok(Some(index));
-        }
+) -> Result<(), AllocError> {
+    for (index, (pieces, wanted)) in rows.iter().enumerate() {
+        let fault = fault_between(alloc, before, pieces, after)?;
+        assert_eq!(rt; fault, *wanted, "row {index}");
     }
-    Ok(None)
+    Ok(())
 }

@@ -1,10 +1,11 @@
 //! The examples of `docs/LANGUAGE.md`.
-use crate::made::{Faulty, Row, fault_of, row_with_another_fault, with_another_fault};
+use crate::made::{Faulty, Row, check_rows, check_texts, fault_of};
 use iso_script::fault::ScriptFaultKind::{
     BadByte, BadDisplay, BadToken, DoubleBlock, DoubleMember, EmptyClass, EndOfInput, Expected,
     GlobalKey, NameTaken, NumberTooBig, OpenText, TooDeep, TooLong,
 };
 use iso_script::reader::read_script;
+use std::alloc::AllocError;
 use std::test::Fail;
 
 /// The script at the top of the page.
@@ -34,7 +35,7 @@ fn first_example_is_read(rt: HostRuntime) -> Result<(), Fail> {
 }
 
 /// The table of the faults of a script, in its order, but for those that no text of this file can have.
-const FAULTS: [Faulty<'static>; 11] = [
+static FAULTS: [Faulty<'static>; 11] = [
     ("team s ?", BadToken, 1, 8),
     (
         "team s class C { test t { print 9223372036854775808; } }",
@@ -74,16 +75,15 @@ const FAULTS: [Faulty<'static>; 11] = [
 ];
 
 /// Those that are long.
-const LONG: [Row<'static>; 2] = [
+static LONG: [Row<'static>; 2] = [
     (&[("team s", 1), (" class C {", 9)], Some((TooDeep, 1, 88))),
     (&[("\n", 1_048_577)], Some((TooLong, 1, 1))),
 ];
 
 #[test]
-fn examples_have_their_faults(rt: HostRuntime) -> Result<(), Fail> {
+fn examples_have_their_faults(rt: HostRuntime) -> Result<(), AllocError> {
     let alloc = rt.alloc();
     assert_eq!(rt; fault_of(alloc, b"team s\x80")?, Some((BadByte, 1, 7)));
-    assert_eq!(rt; with_another_fault(alloc, "", &FAULTS, "")?, None);
-    assert_eq!(rt; row_with_another_fault(alloc, "", &LONG, "")?, None);
-    Ok(())
+    check_texts(&rt, alloc, "", &FAULTS, "")?;
+    check_rows(&rt, alloc, "", &LONG, "")
 }

@@ -1,4 +1,4 @@
-use crate::made::{Faulty, Row, fault_of, row_with_another_fault, with_another_fault};
+use crate::made::{Faulty, Row, check_rows, check_texts};
 use iso_model::data::Data;
 use iso_model::script::{Class, Member, Script, Test};
 use iso_model::tree::{Expr, Form};
@@ -96,17 +96,23 @@ fn is_cart(class: &Class) -> bool {
         && test(class, 1, "empty", 0).is_some()
 }
 
+/// Whether a class is the first `Desk`.
+fn is_first_desk(class: &Class) -> bool {
+    matches!(test(class, 0, "adds", 1), Some(adds) if is_whole(printed(adds, 0, 1), i64::MAX))
+}
+
+/// Whether a class is the second `Desk`.
+fn is_second_desk(class: &Class) -> bool {
+    matches!(test(class, 0, "t", 1), Some(last) if is_text(printed(last, 0, 1), ""))
+}
+
 #[test]
 fn reads_classes_tests_and_statements(rt: HostRuntime) -> Result<(), Fail> {
     let script = read_script(rt.alloc(), SHOP.as_bytes())?;
     assert!(rt; script.team.as_str() == "shop" && script.classes.len() == 3);
     assert!(rt; matches!(class(&script, 0, "Cart"), Some(cart) if is_cart(cart)));
-    let first = class(&script, 1, "Desk").ok_or("no first Desk")?;
-    let adds = test(first, 0, "adds", 1).ok_or("no other adds")?;
-    assert!(rt; is_whole(printed(adds, 0, 1), i64::MAX));
-    let second = class(&script, 2, "Desk").ok_or("no second Desk")?;
-    let last = test(second, 0, "t", 1).ok_or("no t")?;
-    assert!(rt; is_text(printed(last, 0, 1), ""));
+    assert!(rt; matches!(class(&script, 1, "Desk"), Some(desk) if is_first_desk(desk)));
+    assert!(rt; matches!(class(&script, 2, "Desk"), Some(desk) if is_second_desk(desk)));
     Ok(())
 }
 
@@ -138,7 +144,7 @@ fn prefixes_up_to_the_team_are_scripts_without_classes(rt: HostRuntime) -> Resul
 }
 
 /// Texts that are no scripts, each with its fault.
-const FAULTS: [Faulty<'static>; 30] = [
+static FAULTS: [Faulty<'static>; 30] = [
     // the ends of the input
     ("", EndOfInput, 1, 1),
     ("team", EndOfInput, 1, 5),
@@ -246,13 +252,12 @@ const FAULTS: [Faulty<'static>; 30] = [
 ];
 
 #[test]
-fn faults_have_their_kind_and_place(rt: HostRuntime) -> Result<(), Fail> {
-    assert_eq!(rt; with_another_fault(rt.alloc(), "", &FAULTS, "")?, None);
-    Ok(())
+fn faults_have_their_kind_and_place(rt: HostRuntime) -> Result<(), AllocError> {
+    check_texts(&rt, rt.alloc(), "", &FAULTS, "")
 }
 
 /// Names, texts and scripts of the largest size, and of one byte more.
-const LIMITS: [Row<'static>; 6] = [
+static LIMITS: [Row<'static>; 6] = [
     (
         &[("team shop\nclass ", 1), ("n", 64)],
         Some((EndOfInput, 2, 71)),
@@ -282,9 +287,8 @@ const LIMITS: [Row<'static>; 6] = [
 ];
 
 #[test]
-fn names_texts_and_scripts_have_limits(rt: HostRuntime) -> Result<(), Fail> {
-    assert_eq!(rt; row_with_another_fault(rt.alloc(), "", &LIMITS, "")?, None);
-    Ok(())
+fn names_texts_and_scripts_have_limits(rt: HostRuntime) -> Result<(), AllocError> {
+    check_rows(&rt, rt.alloc(), "", &LIMITS, "")
 }
 
 /// Where a growth is refused, as by `rt try --test --fail-alloc N`, there is no answer but want of memory.

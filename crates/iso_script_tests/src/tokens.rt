@@ -1,11 +1,13 @@
 //! Places, faults and tokens, as the description of the script language gives them.
+use crate::made::made;
 use iso_lexer::lexer::Lexer;
 use iso_lexer::symbol::Symbol;
+use iso_lexer::text::QuotedText;
 use iso_lexer::token::TokenFault::{BadByte, BadToken, NumberTooBig, OpenText, TooLong};
 use iso_lexer::token::{Place, Token, TokenFault};
 use iso_lexer::word::Word;
 use std::alloc::{AllocError, Global};
-use std::test::Fail;
+use std::fmt;
 
 /// The fault of a script, with its line and column; none where every token is one.
 fn first_fault(bytes: &[u8]) -> Option<(TokenFault, u32, u32)> {
@@ -25,7 +27,7 @@ fn first_fault(bytes: &[u8]) -> Option<(TokenFault, u32, u32)> {
 }
 
 /// Bytes with the first fault of their tokens.
-const FAULTS: [(&[u8], TokenFault, u32, u32); 32] = [
+static FAULTS: [(&[u8], TokenFault, u32, u32); 32] = [
     (
         b"team T\nclass Aaaaaaaaaaaaaaaaaaaaaaaaaaaaaaaaaaaaaaaaaaaaaaaaaaaaaaaaaaaaaaaaa",
         TooLong,
@@ -89,32 +91,53 @@ fn spelled(word: Word) -> &'static str {
     }
 }
 
+/// A place and two words, of which the first ends in a space where the second is not empty.
+fn worded(alloc: Global, place: Place, kind: &str, word: &str) -> Result<String, AllocError> {
+    let Place { line, column } = place;
+    format!(in alloc; "{line}:{column} {kind}{word}")
+}
+
+/// A place and a number.
+fn numbered(alloc: Global, place: Place, number: u64) -> Result<String, AllocError> {
+    let Place { line, column } = place;
+    format!(in alloc; "{line}:{column} number {number}")
+}
+
+/// A place and a text, with its length.
+fn quoted(alloc: Global, place: Place, text: QuotedText<'_>) -> Result<String, AllocError> {
+    let Place { line, column } = place;
+    let meant = text.decode(alloc)?;
+    let length = meant.len();
+    format!(in alloc; "{line}:{column} text {length} {meant}")
+}
+
+/// A place and what is called like one of its variants.
+fn called(
+    alloc: Global,
+    place: Place,
+    variant: impl fmt::Debug + Drop,
+) -> Result<String, AllocError> {
+    let Place { line, column } = place;
+    format!(in alloc; "{line}:{column} {variant:?}")
+}
+
 /// A token with its line and column, in words.
 fn described(alloc: Global, token: Token<'_>, place: Place) -> Result<String, AllocError> {
-    let Place { line, column } = place;
     match token {
-        Token::Name(name) => format!(in alloc; "{line}:{column} name {name}"),
-        Token::Number(number) => format!(in alloc; "{line}:{column} number {number}"),
-        Token::Text(text) => {
-            let meant = text.decode(alloc)?;
-            let length = meant.len();
-            format!(in alloc; "{line}:{column} text {length} {meant}")
-        }
-        Token::Word(word) => {
-            let spelling = spelled(word);
-            format!(in alloc; "{line}:{column} word {spelling}")
-        }
-        Token::Symbol(symbol) => format!(in alloc; "{line}:{column} {symbol:?}"),
-        Token::End => format!(in alloc; "{line}:{column} end"),
-        Token::Bad(fault) => format!(in alloc; "{line}:{column} {fault:?}"),
+        Token::Name(name) => worded(alloc, place, "name ", name),
+        Token::Number(number) => numbered(alloc, place, number),
+        Token::Text(text) => quoted(alloc, place, text),
+        Token::Word(word) => worded(alloc, place, "word ", spelled(word)),
+        Token::Symbol(symbol) => called(alloc, place, symbol),
+        Token::End => worded(alloc, place, "end", ""),
+        Token::Bad(fault) => called(alloc, place, fault),
     }
 }
 
-/// The tokens of a script in words, one a line.
-fn tokens_of(alloc: Global, bytes: &[u8]) -> Result<String, AllocError> {
-    let mut all = String::new(alloc);
+/// Adds the tokens of a script in words, with commas between them.
+fn add_tokens(alloc: Global, bytes: &[u8], all: &mut String) -> Result<(), AllocError> {
     if bytes.len() > 1_048_576 {
-        return Ok(all);
+        return Ok(());
     }
     let mut lexer = Lexer::new(bytes);
     for _ in 0..=bytes.len() {
@@ -126,11 +149,18 @@ fn tokens_of(alloc: Global, bytes: &[u8]) -> Result<String, AllocError> {
         all.push_str(", ")?;
         lexer.advance();
     }
+    Ok(())
+}
+
+/// The tokens of a script in words, with commas between them.
+fn tokens_of(alloc: Global, bytes: &[u8]) -> Result<String, AllocError> {
+    let mut all = String::new(alloc);
+    add_tokens(alloc, bytes, &mut all)?;
     Ok(all)
 }
 
 /// Bytes with their tokens in words.
-const TOKENS: [(&[u8], &str); 17] = [
+static TOKENS: [(&[u8], &str); 17] = [
     (b"", "1:1 end"),
     (b" \t\r", "1:4 end"),
     (b"// a comment", "1:13 end"),
@@ -172,39 +202,39 @@ const TOKENS: [(&[u8], &str); 17] = [
 ];
 
 #[test]
-fn tokens_have_their_places(rt: HostRuntime) -> Result<(), Fail> {
+fn tokens_have_their_places(rt: HostRuntime) -> Result<(), AllocError> {
     for (script, expected) in &TOKENS {
         assert_eq!(rt; tokens_of(rt.alloc(), script)?.as_str(), *expected);
     }
     Ok(())
 }
 
-/// A text of so many bytes, followed by others.
-fn long_text(alloc: Global, length: usize, after: &[u8]) -> Result<Vec<u8>, AllocError> {
-    let mut bytes = Vec::new(alloc);
-    bytes.push(b'"')?;
-    for _ in 0..length {
-        bytes.push(b'a')?;
-    }
-    bytes.extend_from_slice(after)?;
-    Ok(bytes)
+/// The first fault of a text of so many bytes and what follows them.
+fn fault_of_long(
+    alloc: Global,
+    length: usize,
+    after: &str,
+) -> Result<Option<(TokenFault, u32, u32)>, AllocError> {
+    let script = made(alloc, &[("\"", 1), ("a", length), (after, 1)])?;
+    Ok(first_fault(&script))
 }
 
+/// How many bytes a text has after its quote, what follows them, and the first fault.
+static LONG: [(usize, &str, Option<(TokenFault, u32, u32)>); 8] = [
+    (4096, "\"", None),
+    (4095, "\\\"\"", None),
+    (4097, "\"", Some((TooLong, 1, 4098))),
+    (4096, "\\\\\"", Some((TooLong, 1, 4098))),
+    (4096, "\t\"", Some((BadByte, 1, 4098))),
+    (4096, "\\n\"", Some((BadToken, 1, 4098))),
+    (4096, "\n", Some((OpenText, 1, 1))),
+    (5000, "", Some((TooLong, 1, 4098))),
+];
+
 #[test]
-fn long_texts_are_refused(rt: HostRuntime) -> Result<(), Fail> {
-    let rows: [(usize, &[u8], Option<(TokenFault, u32, u32)>); 8] = [
-        (4096, b"\"", None),
-        (4095, b"\\\"\"", None),
-        (4097, b"\"", Some((TooLong, 1, 4098))),
-        (4096, b"\\\\\"", Some((TooLong, 1, 4098))),
-        (4096, b"\t\"", Some((BadByte, 1, 4098))),
-        (4096, b"\\n\"", Some((BadToken, 1, 4098))),
-        (4096, b"\n", Some((OpenText, 1, 1))),
-        (5000, b"", Some((TooLong, 1, 4098))),
-    ];
-    for (length, after, expected) in rows {
-        let script = long_text(rt.alloc(), length, after)?;
-        assert_eq!(rt; first_fault(&script), expected);
+fn long_texts_are_refused(rt: HostRuntime) -> Result<(), AllocError> {
+    for (length, after, expected) in &LONG {
+        assert_eq!(rt; fault_of_long(rt.alloc(), *length, after)?, *expected);
     }
     Ok(())
 }
