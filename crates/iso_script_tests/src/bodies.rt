@@ -1,11 +1,10 @@
 //! Statements and expressions: what is read, the place of each fault, and every limit.
-use crate::made::{Faulty, Row, check_rows, check_texts, made};
+use crate::made::{Faulty, Row, check_rows, check_script, check_texts, made};
 use iso_model::script::{Member, Script};
 use iso_model::tree::{Expr, Form, Operator, Stmt};
+use iso_script::fault::ScriptError;
 use iso_script::fault::ScriptFaultKind::{BadDisplay, Expected, NumberTooBig, TooDeep};
-use iso_script::reader::read_script;
 use std::alloc::AllocError;
-use std::test::Fail;
 
 /// What stands before a body that begins at line 2, column 20, and after it.
 const BEFORE: &str = "team shop\nclass C { test t { ";
@@ -144,9 +143,14 @@ fn rows_of_if(script: &Script) -> Option<(u32, u32, u32)> {
     }
 }
 
+/// Whether the rows of an `if` and its bodies count from the brace of the test.
+fn counts_from_the_test(script: &Script) -> bool {
+    rows_of_if(script) == Some((2, 4, 6))
+}
+
 /// Rows count from the line of the test's own brace, in the bodies of an `if` too.
 #[test]
-fn rows_count_from_the_outermost_brace(rt: HostRuntime) -> Result<(), Fail> {
+fn rows_count_from_the_outermost_brace(rt: HostRuntime) -> Result<(), ScriptError> {
     let text = "team shop
 class C {
   test t
@@ -159,9 +163,7 @@ class C {
   }
 }
 ";
-    let script = read_script(rt.alloc(), text.as_bytes())?;
-    assert_eq!(rt; rows_of_if(&script), Some((2, 4, 6)));
-    Ok(())
+    check_script(&rt, rt.alloc(), text.as_bytes(), counts_from_the_test)
 }
 
 /// Whether a form prints a first operand less two others.
@@ -172,28 +174,33 @@ fn is_subtraction_of_three(form: &Form) -> bool {
     }
 }
 
+/// Whether the first statement prints a first operand less two others.
+fn subtracts_two(script: &Script) -> bool {
+    matches!(first_of(script), Some(first) if is_subtraction_of_three(&first.form))
+}
+
 /// The operands of a chain stand in one row of the tree, which groups them to the left.
 #[test]
-fn operands_stay_in_order(rt: HostRuntime) -> Result<(), Fail> {
+fn operands_stay_in_order(rt: HostRuntime) -> Result<(), ScriptError> {
     let script = made(
         rt.alloc(),
         &[(BEFORE, 1), ("print 1 - 2 - 3;", 1), (AFTER, 1)],
     )?;
-    let script = read_script(rt.alloc(), &script)?;
-    let first = first_of(&script);
-    assert!(rt; matches!(first, Some(first) if is_subtraction_of_three(&first.form)));
-    Ok(())
+    check_script(&rt, rt.alloc(), &script, subtracts_two)
+}
+
+/// Whether the first test has the most statements.
+fn has_the_largest_body(script: &Script) -> bool {
+    matches!(body_of(script), Some(body) if body.len() == 131_067)
 }
 
 /// A body of 1 MiB, the largest there is.
 #[test]
-fn the_largest_body_is_read(rt: HostRuntime) -> Result<(), Fail> {
+fn the_largest_body_is_read(rt: HostRuntime) -> Result<(), ScriptError> {
     let script = made(
         rt.alloc(),
         &[(BEFORE, 1), ("print 1;", 131_067), (AFTER, 1)],
     )?;
     assert!(rt; script.len() <= 1_048_576 && script.len() + 16 > 1_048_576);
-    let script = read_script(rt.alloc(), &script)?;
-    assert!(rt; matches!(body_of(&script), Some(body) if body.len() == 131_067));
-    Ok(())
+    check_script(&rt, rt.alloc(), &script, has_the_largest_body)
 }

@@ -1,16 +1,15 @@
 //! Classes: what is read, the place of each fault, and every limit.
-use crate::made::{Faulty, Row, add, check_rows, check_texts, fault_of, made};
+use crate::made::{Faulty, Row, add, check_rows, check_script, check_texts, fault_of, made};
 use iso_model::access::Access;
 use iso_model::data::Data;
 use iso_model::heads::{ClassHead, Mark, Variable};
 use iso_model::script::{Class, Member, Mode, Script, Test};
+use iso_script::fault::ScriptError;
 use iso_script::fault::ScriptFaultKind::{
     BadDisplay, DoubleBlock, DoubleMember, EmptyClass, EndOfInput, Expected, GlobalKey, NameTaken,
     NumberTooBig, OpenText, TooDeep, TooLong,
 };
-use iso_script::reader::read_script;
 use std::alloc::{AllocError, Global};
-use std::test::Fail;
 
 /// Two classes, one in the other, with all that a class can have.
 const CART: &str = "team shop
@@ -107,13 +106,17 @@ fn has_full(cart: &Class) -> bool {
     }
 }
 
+/// Whether a script has the class `Cart`, with its members.
+fn has_cart(script: &Script) -> bool {
+    match script.classes.get(0) {
+        Some(cart) => is_cart(cart) && cart.members.len() == 2 && has_full(cart),
+        None => false,
+    }
+}
+
 #[test]
-fn whole_class_is_read(rt: HostRuntime) -> Result<(), Fail> {
-    let script = read_script(rt.alloc(), CART.as_bytes())?;
-    let cart = script.classes.get(0);
-    assert!(rt; matches!(cart, Some(cart) if is_cart(cart) && cart.members.len() == 2));
-    assert!(rt; matches!(cart, Some(cart) if has_full(cart)));
-    Ok(())
+fn whole_class_is_read(rt: HostRuntime) -> Result<(), ScriptError> {
+    check_script(&rt, rt.alloc(), CART.as_bytes(), has_cart)
 }
 
 /// Two nested classes with lifecycle blocks, marks and a chain, in few bytes.
@@ -123,7 +126,7 @@ class B { after_each { } read \"k\" test c { print x - 2 - 3; } } }";
 
 /// A prefix and a change of one byte are read or have a fault.
 #[test]
-fn prefixes_and_changed_bytes_have_an_answer(rt: HostRuntime) -> Result<(), Fail> {
+fn prefixes_and_changed_bytes_have_an_answer(rt: HostRuntime) -> Result<(), AllocError> {
     let alloc = rt.alloc();
     let mut bytes = Vec::from_slice(alloc, SHORT.as_bytes())?;
     assert_eq!(rt; fault_of(alloc, &bytes)?, None);
@@ -261,16 +264,20 @@ fn faults_of_classes_have_their_places(rt: HostRuntime) -> Result<(), AllocError
     check_texts(&rt, rt.alloc(), TEAM, &FAULTS, "")
 }
 
+/// Whether a script has three classes.
+fn has_three_classes(script: &Script) -> bool {
+    script.classes.len() == 3
+}
+
 /// A name is taken in the classes under its own, and in no other.
 #[test]
-fn names_are_free_again(rt: HostRuntime) -> Result<(), Fail> {
+fn names_are_free_again(rt: HostRuntime) -> Result<(), ScriptError> {
     let text = "team shop
 class C { class D { static x = 1; test t { } } class E { field x = 2; test x { } } }
 class F { static x = 3; test x { } }
 class F { static x = 4; test x { } }
 ";
-    assert_eq!(rt; read_script(rt.alloc(), text.as_bytes())?.classes.len(), 3);
-    Ok(())
+    check_script(&rt, rt.alloc(), text.as_bytes(), has_three_classes)
 }
 
 /// The largest that is read, and the smallest that is refused.
@@ -362,31 +369,37 @@ fn full_script(alloc: Global) -> Result<Vec<u8>, AllocError> {
     Ok(script)
 }
 
-/// How many marks, statics, fields and members the first class has.
-fn sizes(script: &Script) -> Option<(usize, usize, usize, usize)> {
-    let class = script.classes.get(0)?;
+/// How many marks, statics, fields and members a class has.
+fn sizes(class: &Class) -> (usize, usize, usize, usize) {
     let head = &class.head;
-    Some((
+    (
         head.marks.len(),
         head.statics.len(),
         head.fields.len(),
         class.members.len(),
-    ))
+    )
+}
+
+/// Whether the first class of a script is full.
+fn is_full(script: &Script) -> bool {
+    matches!(script.classes.get(0), Some(class) if sizes(class) == (38_000, 17_000, 17_000, 4094))
 }
 
 #[test]
-fn full_classes_are_read(rt: HostRuntime) -> Result<(), Fail> {
+fn full_classes_are_read(rt: HostRuntime) -> Result<(), ScriptError> {
     let bytes = full_script(rt.alloc())?;
     assert!(rt; bytes.len() <= 1_048_576 && bytes.len() > 1_000_000);
-    let script = read_script(rt.alloc(), &bytes)?;
-    assert_eq!(rt; sizes(&script), Some((38_000, 17_000, 17_000, 4094)));
-    Ok(())
+    check_script(&rt, rt.alloc(), &bytes, is_full)
+}
+
+/// Whether a script has four thousand classes.
+fn has_four_thousand_classes(script: &Script) -> bool {
+    script.classes.len() == 4000
 }
 
 #[test]
-fn four_thousand_classes_are_read(rt: HostRuntime) -> Result<(), Fail> {
+fn four_thousand_classes_are_read(rt: HostRuntime) -> Result<(), ScriptError> {
     let mut script = made(rt.alloc(), &[("team shop", 1)])?;
     add_numbered(rt.alloc(), &mut script, " class C", 4000, " { test t { } }")?;
-    assert_eq!(rt; read_script(rt.alloc(), &script)?.classes.len(), 4000);
-    Ok(())
+    check_script(&rt, rt.alloc(), &script, has_four_thousand_classes)
 }

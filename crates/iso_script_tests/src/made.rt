@@ -1,4 +1,5 @@
 //! Scripts that are made of pieces, and tables of the faults that they have.
+use iso_model::script::Script;
 use iso_script::fault::{ScriptError, ScriptFaultKind};
 use iso_script::reader::read_script;
 use std::alloc::{AllocError, Global};
@@ -37,6 +38,20 @@ pub fn fault_of(alloc: Global, script: &[u8]) -> Result<Option<Placed>, AllocErr
         Err(ScriptError::Fault(fault)) => Ok(Some((fault.kind, fault.line, fault.column))),
         Err(ScriptError::OutOfMemory) => Err(AllocError),
     }
+}
+
+/// A script is read, and this holds of it.
+pub fn check_script(
+    rt: &impl Abort,
+    alloc: Global,
+    script: &[u8],
+    holds: fn(&Script) -> bool,
+) -> Result<(), ScriptError>
+    requires { IsAlwaysCallable holds }
+{
+    let script = read_script(alloc, script)?;
+    assert!(rt; holds(&script));
+    Ok(())
 }
 
 /// The fault of these pieces between `before` and `after`.

@@ -1,12 +1,12 @@
 //! The examples of `docs/LANGUAGE.md`.
-use crate::made::{Faulty, Row, check_rows, check_texts, fault_of};
+use crate::made::{Faulty, Row, check_rows, check_script, check_texts, fault_of};
+use iso_model::script::Script;
+use iso_script::fault::ScriptError;
 use iso_script::fault::ScriptFaultKind::{
     BadByte, BadDisplay, BadToken, DoubleBlock, DoubleMember, EmptyClass, EndOfInput, Expected,
     GlobalKey, NameTaken, NumberTooBig, OpenText, TooDeep, TooLong,
 };
-use iso_script::reader::read_script;
 use std::alloc::AllocError;
-use std::test::Fail;
 
 /// The script at the top of the page.
 const SHOP: &str = "team shop
@@ -28,10 +28,14 @@ class Cart {
 }
 ";
 
+/// Whether a script has one class.
+fn has_one_class(script: &Script) -> bool {
+    script.classes.len() == 1
+}
+
 #[test]
-fn first_example_is_read(rt: HostRuntime) -> Result<(), Fail> {
-    assert_eq!(rt; read_script(rt.alloc(), SHOP.as_bytes())?.classes.len(), 1);
-    Ok(())
+fn first_example_is_read(rt: HostRuntime) -> Result<(), ScriptError> {
+    check_script(&rt, rt.alloc(), SHOP.as_bytes(), has_one_class)
 }
 
 /// The table of the faults of a script, in its order, but for those that no text of this file can have.

@@ -1,4 +1,4 @@
-use crate::made::{Faulty, Row, check_rows, check_texts};
+use crate::made::{Faulty, Row, check_rows, check_script, check_texts};
 use iso_model::data::Data;
 use iso_model::script::{Class, Member, Script, Test};
 use iso_model::tree::{Expr, Form};
@@ -9,7 +9,6 @@ use iso_script::fault::ScriptFaultKind::{
 };
 use iso_script::reader::read_script;
 use std::alloc::{AllocError, Global};
-use std::test::Fail;
 
 /// A class by its place and its name.
 fn class<'a>(script: &'a Script, index: usize, name: &str) -> Option<&'a Class> {
@@ -106,14 +105,18 @@ fn is_second_desk(class: &Class) -> bool {
     matches!(test(class, 0, "t", 1), Some(last) if is_text(printed(last, 0, 1), ""))
 }
 
+/// Whether a script is `SHOP`.
+fn is_shop(script: &Script) -> bool {
+    script.team.as_str() == "shop"
+        && script.classes.len() == 3
+        && matches!(class(script, 0, "Cart"), Some(cart) if is_cart(cart))
+        && matches!(class(script, 1, "Desk"), Some(desk) if is_first_desk(desk))
+        && matches!(class(script, 2, "Desk"), Some(desk) if is_second_desk(desk))
+}
+
 #[test]
-fn reads_classes_tests_and_statements(rt: HostRuntime) -> Result<(), Fail> {
-    let script = read_script(rt.alloc(), SHOP.as_bytes())?;
-    assert!(rt; script.team.as_str() == "shop" && script.classes.len() == 3);
-    assert!(rt; matches!(class(&script, 0, "Cart"), Some(cart) if is_cart(cart)));
-    assert!(rt; matches!(class(&script, 1, "Desk"), Some(desk) if is_first_desk(desk)));
-    assert!(rt; matches!(class(&script, 2, "Desk"), Some(desk) if is_second_desk(desk)));
-    Ok(())
+fn reads_classes_tests_and_statements(rt: HostRuntime) -> Result<(), ScriptError> {
+    check_script(&rt, rt.alloc(), SHOP.as_bytes(), is_shop)
 }
 
 /// How long the name of a script's team is and how many classes it has, where it is read.
@@ -126,7 +129,7 @@ fn team_and_classes(alloc: Global, bytes: &[u8]) -> Result<Option<(usize, usize)
 }
 
 #[test]
-fn prefixes_up_to_the_team_are_scripts_without_classes(rt: HostRuntime) -> Result<(), Fail> {
+fn prefixes_up_to_the_team_are_scripts_without_classes(rt: HostRuntime) -> Result<(), AllocError> {
     let whole = "team shop\nclass Out { test t { print \"t\"; } }\n".as_bytes();
     for length in 0..=45 {
         let expected = match length {
