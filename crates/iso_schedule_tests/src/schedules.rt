@@ -3,6 +3,7 @@ use iso_schedule::event::Event;
 use iso_schedule::fault::ScheduleError;
 use iso_schedule::reader::read_schedule;
 use std::alloc::{AllocError, Global};
+use std::process::Abort;
 use std::test::Fail;
 
 /// The start of a run of two workers, with line ends of both kinds and lines that are skipped.
@@ -27,29 +28,44 @@ fn events_are_read_in_order(rt: HostRuntime) -> Result<(), Fail> {
 }
 
 /// How bytes are refused, as a fault is shown; nothing for a schedule.
-pub(crate) fn refusal(alloc: Global, bytes: &[u8]) -> Result<String, AllocError> {
+fn refusal(alloc: Global, bytes: &[u8]) -> Result<String, AllocError> {
     match read_schedule(alloc, bytes) {
         Ok(_) => Ok(String::new(alloc)),
         Err(error) => format!(in alloc; "{error}"),
     }
 }
 
+/// Bytes are refused so, or read where there is nothing to show.
+pub(crate) fn check_refusal(
+    rt: &impl Abort,
+    alloc: Global,
+    bytes: &[u8],
+    want: &str,
+) -> Result<(), AllocError> {
+    let found = refusal(alloc, bytes)?;
+    assert_eq!(rt; found.as_str(), want);
+    Ok(())
+}
+
+/// Bytes, and how they are refused.
+static REFUSALS: [(&[u8], &str); 8] = [
+    (b"", ""),
+    (b"leave 0", ""),
+    (b"enter 0 1\nleave 0\nent", "BadLine at line 3"),
+    (b"leave 0000000000", "NumberTooBig at line 1"),
+    (b"leave 000000000\n", ""),
+    (
+        b"step 0\n\r\nstep 9999999999\nwait\n",
+        "NumberTooBig at line 3",
+    ),
+    (b"step 0\nstep \xC3\xA9\n", "BadLine at line 2"),
+    (b"step 0\n\0\n", "BadLine at line 2"),
+];
+
 #[test]
-fn first_fault_is_shown(rt: HostRuntime) -> Result<(), Fail> {
-    for (bytes, want) in [
-        (b"".as_slice(), ""),
-        (b"leave 0".as_slice(), ""),
-        (b"enter 0 1\nleave 0\nent".as_slice(), "BadLine at line 3"),
-        (b"leave 0000000000".as_slice(), "NumberTooBig at line 1"),
-        (b"leave 000000000\n".as_slice(), ""),
-        (
-            b"step 0\n\r\nstep 9999999999\nwait\n".as_slice(),
-            "NumberTooBig at line 3",
-        ),
-        (b"step 0\nstep \xC3\xA9\n".as_slice(), "BadLine at line 2"),
-        (b"step 0\n\0\n".as_slice(), "BadLine at line 2"),
-    ] {
-        assert_eq!(rt; refusal(rt.alloc(), bytes)?.as_str(), want);
+fn first_fault_is_shown(rt: HostRuntime) -> Result<(), AllocError> {
+    for (bytes, want) in &REFUSALS {
+        check_refusal(&rt, rt.alloc(), bytes, want)?;
     }
     Ok(())
 }
