@@ -164,8 +164,28 @@ fn gather(alloc: Global, rows: &[Row], settings: Settings) -> Result<Gathered, P
     ensures crowded { IfErr result (IsCrowded (length (keys (map row_of rows.now)))) }
 {
     let mut table = IndexSet::new(alloc);
-    number_keys(&mut table, rows)?;
-    Ok(gather_by(alloc, rows, settings, &table)?)
+    gather_in(alloc, rows, settings, &mut table)
+}
+
+/// What is gathered of nodes by a table in which their keys are numbered. More than 255 different declared keys are `TooManyKeys`.
+fn gather_in<'a>(
+    alloc: Global,
+    rows: &'a [Row],
+    settings: Settings,
+    table: &mut IndexSet<&'a str>,
+) -> Result<Gathered, PlanError>
+    requires tree { IsTree (map row_of rows.now) }
+    requires fits { length rows.now ≤ NODES }
+    requires empty { table.old.keys ≡ [] }
+    ensures keys { IfOk result (λ l. l.keys.items ≡ keys (map row_of rows.now)) }
+    ensures few { IfOk result (λ l. length l.keys.items ≤ KEYS + 1) }
+    ensures locking { IfOk result (λ l. l.locked.locking.items ≡ column (locking_node (map row_of rows.now)) (length rows.now)) }
+    ensures locks { IfOk result (λ l. map (λ v. v.items) l.locked.locks.items ≡ column (locks (map row_of rows.now)) (length rows.now)) }
+    ensures modes { IfOk result (λ l. l.modes.items ≡ column (mode (map row_of rows.now) settings) (length rows.now)) }
+    ensures crowded { IfErr result (IsCrowded (length (keys (map row_of rows.now)))) }
+{
+    number_keys(table, rows)?;
+    Ok(gather_by(alloc, rows, settings, table)?)
 }
 
 /// What is gathered of nodes whose keys are numbered.

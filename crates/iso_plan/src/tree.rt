@@ -151,12 +151,12 @@ fn test_row(alloc: Global, parent: u32, test: &Test) -> Result<Row, AllocError>
 {
     Ok(Row {
         parent,
-        kind: Kind::Test {
-            head: test.head.clone()?,
-        },
         name: test.name.copy(alloc)?,
         title: shown(&test.display, &test.name).copy(alloc)?,
         mode: test.mode,
+        kind: Kind::Test {
+            head: test.head.clone()?,
+        },
     })
 }
 
@@ -166,13 +166,13 @@ fn class_row(alloc: Global, parent: u32, class: &Class) -> Result<Row, AllocErro
 {
     Ok(Row {
         parent,
+        name: class.name.copy(alloc)?,
+        title: shown(&class.display, &class.name).copy(alloc)?,
+        mode: class.mode,
         kind: Kind::Class {
             isolated: class.isolated,
             head: class.head.clone()?,
         },
-        name: class.name.copy(alloc)?,
-        title: shown(&class.display, &class.name).copy(alloc)?,
-        mode: class.mode,
     })
 }
 
@@ -182,13 +182,13 @@ fn top_row(alloc: Global, team: &Text, class: &Class) -> Result<Row, AllocError>
 {
     Ok(Row {
         parent: 0,
+        name: in_team(alloc, team, &class.name)?,
+        title: in_team(alloc, team, shown(&class.display, &class.name))?,
+        mode: class.mode,
         kind: Kind::Class {
             isolated: class.isolated,
             head: class.head.clone()?,
         },
-        name: in_team(alloc, team, &class.name)?,
-        title: in_team(alloc, team, shown(&class.display, &class.name))?,
-        mode: class.mode,
     })
 }
 
