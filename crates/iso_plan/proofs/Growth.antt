@@ -1,11 +1,19 @@
 -- A list of nodes that grows by the nodes of one member after another.
-use Rattle.std.proofs.Common.{◌≡◌, ℕ, ◌+◌, ◌<◌, ◌≤◌, List, ◌∷◌, ◌++◌, length, map, drop, get_or, vec_len, sym, ap, ◌∙◌, arith, append_assoc}
+use Rattle.std.proofs.Common.{◌≡◌, ℕ, ◌+◌, ◌<◌, ◌≤◌, List, [], ◌∷◌, ◌++◌, Result, IfErr, length, map, drop, get_or, vec_len, sym, ap, ap₂, ◌∙◌, arith, append_assoc}
 use Rattle.std.proofs.lemmas.List.{length-append, length-map, drop_more}
+use Rattle.std.proofs.lemmas.Result.{IfErr-weaker}
 use Rattle.std.specs.declared.alloc.Global.{Global}
 use Rattle.std.specs.declared.vec.Vec.{Vec}
+use Rattle.iso_model.specs.ScriptView.{class_of, class_step, member_of, member_step, members_of}
+use Rattle.iso_model.specs.Scripts as S
+use Rattle.iso_model.specs.Scripts.{class}
+use Rattle.iso_model.specs.declared.script.Class.{Class}
+use Rattle.iso_model.specs.declared.script.Member.{Member}
+use Rattle.iso_model.specs.declared.script.Member.TheFolds.{fold_out-Class}
 use Rattle.iso_plan.specs.Faults.{IsFull}
-use Rattle.iso_plan.specs.RowView.{row_of}
+use Rattle.iso_plan.specs.RowView.{row_of, title_of}
 use Rattle.iso_plan.specs.Tree as T
+use Rattle.iso_plan.specs.Tree.{members_rows}
 use Rattle.iso_plan.specs.declared.fault.PlanError.{PlanError}
 use Rattle.iso_plan.specs.declared.fault.PlanError.TheVariants.{Fault, OutOfMemory}
 use Rattle.iso_plan.specs.declared.row.Row.{Row}
@@ -32,3 +40,27 @@ bounded v v' F G A e =
 pub full-more : (k m : ℕ) (e : PlanError) → k ≤ m → IsFull k e → IsFull m e
 full-more k m (Fault fault) h f = (f.0, omega arith)
 full-more k m OutOfMemory h f = f
+
+-- a class is what is written before its members, and these
+pub class-is : (c : Class) → class_of c ≡ class (title_of c) (members_of (map member_of c.members.items))
+class-is c = fold_out-Class S.Member S.Class member_step class_step c
+
+-- a node x, which is to be y, is added to nodes R, and then the nodes of its members
+pub grown-first : (R R1 R2 : List T.Row) (x y : T.Row) (p n n1 : ℕ) (ms ms' : List Member) → R1 ≡ R ++ x ∷ [] → x ≡ y → p ≡ n → n1 ≡ n + 1 → ms ≡ ms'
+    → R2 ≡ R1 ++ members_rows p n1 (members_of (map member_of ms)) → R2 ≡ R ++ y ∷ members_rows n (n + 1) (members_of (map member_of ms'))
+grown-first R R1 R2 x y p n n1 ms ms' first same number next members rest =
+    rest ∙ ap₂ (λ (xs : List T.Row) (m : ℕ). xs ++ members_rows p m (members_of (map member_of ms))) (first ∙ ap (λ (z : T.Row). R ++ z ∷ []) same) next
+    ∙ append_assoc R (y ∷ []) (members_rows p (n + 1) (members_of (map member_of ms)))
+    ∙ ap₂ (λ (q : ℕ) (xs : List Member). R ++ y ∷ members_rows q (n + 1) (members_of (map member_of xs))) number members
+
+-- and what is refused among its members is refused of it
+pub full-rest : {A : Type 0} (r : Result A PlanError) (y : T.Row) (p n n1 : ℕ) (ms ms' : List Member) → p ≡ n → n1 ≡ n + 1 → ms ≡ ms'
+    → IfErr r (IsFull (n1 + length (members_rows p n1 (members_of (map member_of ms))))) → IfErr r (IsFull (n + length (y ∷ members_rows n (n + 1) (members_of (map member_of ms')))))
+full-rest r y p n n1 ms ms' number next members full =
+    let count : ℕ → ℕ → List Member → ℕ = λ q m xs. length (members_rows q m (members_of (map member_of xs))) in
+    let same : count p n1 ms ≡ count n (n + 1) ms' = ap₂ (λ (q m : ℕ). count q m ms) number next ∙ ap (count n (n + 1)) members in
+    IfErr-weaker r (IsFull (n1 + count p n1 ms)) (IsFull (n + length (y ∷ members_rows n (n + 1) (members_of (map member_of ms'))))) (λ e f. full-more (n1 + count p n1 ms) (n + length (y ∷ members_rows n (n + 1) (members_of (map member_of ms')))) e (omega arith) f) full
+
+-- a node that there is no room for is refused, and so is what begins with it
+pub full-first : (n : ℕ) (y : T.Row) (rest : List T.Row) (e : PlanError) → IsFull (n + 1) e → IsFull (n + length (y ∷ rest)) e
+full-first n y rest e f = full-more (n + 1) (n + length (y ∷ rest)) e (omega arith) f

@@ -1,5 +1,6 @@
 pub mod ChildLemmas
 pub mod Columns
+pub mod FaultLemmas
 pub mod FullLemmas
 pub mod Growth
 pub mod KeyLemmas

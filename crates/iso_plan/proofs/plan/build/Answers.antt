@@ -1,8 +1,11 @@
-use Rattle.std.proofs.Common.{◌≡◌, ◌≤◌, List, length, map, ap, sym, ◌∙◌, subst, arith}
+use Rattle.std.proofs.Common.{◌≡◌, ◌+◌, ◌≤◌, [], false, List, length, map, ap, sym, ◌∙◌, subst, arith}
 use Rattle.std.proofs.lemmas.List.{length-map}
+use Rattle.std.proofs.lemmas.Result.{err_from_is_err_and}
 use Rattle.iso_model.specs.ScriptView.{script_of}
-use Rattle.iso_model.specs.declared.limits.TheConstants.{NODES}
+use Rattle.iso_model.specs.declared.limits.TheConstants.{KEYS, NODES, SCRIPTS}
+use Rattle.iso_plan.proofs.FaultLemmas.{accepted, crowded-refused, full-refused}
 use Rattle.iso_plan.proofs.TreeLemmas.{tree-is}
+use Rattle.iso_plan.specs.Faults.{IsCrowded, has_double, top_names}
 use Rattle.iso_plan.specs.KeyTable.{keys}
 use Rattle.iso_plan.specs.Locks.{locking_node, locks}
 use Rattle.iso_plan.specs.Modes.{mode}
@@ -51,3 +54,40 @@ invariant_of-result c =
       modes_are =
           gathered.modes ∙ ap (λ (rs : List Row). column (mode (map row_of rs) settings) (length rs)) c.deref-2.ensures.value ∙ ap (column (mode tree settings)) (sym count);
     }
+
+pub returns-in_err-rows-clause-refused : goal.returns-in_err-rows-clause-refused
+returns-in_err-rows-clause-refused c =
+    let ss = map script_of c.args.scripts.now in
+    let few : length ss ≤ SCRIPTS = rw (length-map c.args.scripts.now script_of) (omega arith) in
+    let single : has_double [] (top_names ss) ≡ false = sym c.in_ok-has_double_class.ensures ∙ c.if-branch.false in
+    let p = err_from_is_err_and c.from_residual-in_err-rows.result c.from_residual-in_err-rows.ensures.1 in
+    rw (p.1, p.2) (full-refused ss c.in_err-rows.field-0.0 few single c.in_err-rows.ensures.full)
+
+pub returns-in_err-gathered-clause-refused : goal.returns-in_err-gathered-clause-refused
+returns-in_err-gathered-clause-refused c =
+    let ss = map script_of c.args.scripts.now in
+    let few : length ss ≤ SCRIPTS = rw (length-map c.args.scripts.now script_of) (omega arith) in
+    let single : has_double [] (top_names ss) ≡ false = sym c.in_ok-has_double_class.ensures ∙ c.if-branch.false in
+    let v = c.in_ok-rows.rows in
+    let nodes : map row_of v.items ≡ tree ss = c.in_ok-rows.ensures.tree in
+    let count : length v.items ≡ length (tree ss) = sym (length-map v.items row_of) ∙ ap length nodes in
+    let fits = c.in_ok-rows.ensures.fits in
+    let small : length (tree ss) ≤ NODES = omega (arith, v.ok.0) in
+    let same : map row_of c.deref-2.result.now ≡ tree ss = ap (map row_of) c.deref-2.ensures.value ∙ nodes in
+    let p = err_from_is_err_and c.from_residual-in_err-gathered.result c.from_residual-in_err-gathered.ensures.1 in
+    let e = c.in_err-gathered.field-0.0 in
+    rw (p.1, p.2) (crowded-refused ss e few single small (subst (λ (rs : List T.Row). IsCrowded (length (keys rs)) e) same c.in_err-gathered.ensures.crowded))
+
+pub returns-clause-accepted : goal.returns-clause-accepted
+returns-clause-accepted c =
+    let ss = map script_of c.args.scripts.now in
+    let few : length ss ≤ SCRIPTS = rw (length-map c.args.scripts.now script_of) (omega arith) in
+    let single : has_double [] (top_names ss) ≡ false = sym c.in_ok-has_double_class.ensures ∙ c.if-branch.false in
+    let v = c.in_ok-rows.rows in
+    let nodes : map row_of v.items ≡ tree ss = c.in_ok-rows.ensures.tree in
+    let count : length v.items ≡ length (tree ss) = sym (length-map v.items row_of) ∙ ap length nodes in
+    let fits = c.in_ok-rows.ensures.fits in
+    let small : length (tree ss) ≤ NODES = omega (arith, v.ok.0) in
+    let table : c.in_ok-gathered.gathered.keys.items ≡ keys (tree ss) = c.in_ok-gathered.ensures.keys ∙ ap keys (ap (map row_of) c.deref-2.ensures.value ∙ nodes) in
+    let known : length (keys (tree ss)) ≤ KEYS + 1 = rw (sym table) c.in_ok-gathered.ensures.few in
+    accepted ss few single small known

@@ -1,9 +1,27 @@
-use Rattle.std.proofs.Common.{◌+◌, length, map, drop, vec_len, arith}
+use Rattle.std.proofs.Common.{◌+◌, ℕ, List, length, map, drop, vec_len, arith, ◌∙◌}
 use Rattle.std.proofs.lemmas.Result.{err_from_is_err_and}
 use Rattle.iso_model.specs.ScriptView.{class_of}
-use Rattle.iso_plan.proofs.Growth.{drop_next, bounded, full-more}
+use Rattle.iso_plan.proofs.Growth.{drop_next, grown-next, counted, bounded, full-more}
+use Rattle.iso_plan.specs.RowView.{row_of}
+use Rattle.iso_plan.specs.Tree as T
 use Rattle.iso_plan.specs.Tree.{team_rows, top_rows}
 use Rattle.iso_plan.proofs.tree.add_team.Goals as goal
+
+pub classes-preserved : goal.classes-preserved
+classes-preserved c =
+    let i = c.classes.class-index in
+    let cs = c.deref-class-items.result.now in
+    let next = drop_next c.class-item.result cs i (omega arith) c.class-item.is in
+    let team = c.args.script.now.team in
+    let rest : ℕ → List T.Row = λ n. team_rows team n (map class_of (drop (i + 1) cs)) in
+    let old = c.classes.rows in
+    let new = c.add_top.new.rows in
+    let more = top_rows team (vec_len old) (class_of c.class-item.result) in
+    let ok = c.in_ok-add_top.ensures.ok in
+    record {
+      fits = c.in_ok-add_top.ensures.fits;
+      grown = grown-next (map row_of old.items) (map row_of new.items) more rest (vec_len old) (vec_len new) ok (counted old new more ok) ∙ rw next at c.classes.invariant.grown;
+    }
 
 pub returns-in_err-add_top-clause-full : goal.returns-in_err-add_top-clause-full
 returns-in_err-add_top-clause-full c =
