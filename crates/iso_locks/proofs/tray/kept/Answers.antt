@@ -1,0 +1,23 @@
+use Rattle.std.proofs.Common.{◌≡◌, [], ◌∷◌, ◌++◌, ◌<◌, ℕ, List, Option, None, cond, length, map, get_or, ap₂, sym, ◌∙◌, arith}
+use Rattle.std.proofs.lemmas.List.{get_or-map}
+use Rattle.iso_model.specs.Rights.{access_in, is_writable}
+use Rattle.iso_plan.proofs.Columns.{column-push}
+use Rattle.iso_store.specs.Histories.{History}
+use Rattle.iso_locks.specs.Trays.{kept_at}
+use Rattle.iso_locks.specs.declared.starting.Starting.{Starting}
+use Rattle.iso_locks.proofs.tray.kept.Goals as goal
+
+pub keys-preserved : goal.keys-preserved
+keys-preserved c =
+    let rights = c.args.rights.now in
+    let starts = c.args.starts.now in
+    let keys = map (λ (s : Starting). s.key) starts in
+    let values = c.args.values.now in
+    let n = c.keys.number in
+    let start = c.index-starts-number.result in
+    let within : n < length starts = omega arith in
+    let key : (get_or starts n start).key ≡ get_or keys n [] = sym (get_or-map (λ (s : Starting). s.key) starts n start [] within) in
+    let this : c.kept_at.result ≡ kept_at rights keys values n =
+    c.kept_at.ensures ∙ ap₂ (λ (k : List ℕ) (h : Option History). cond (is_writable (access_in rights k)) h None) key c.get.ensures in
+    let pushed : c.push.new.self.items ≡ c.keys.marks.items ++ c.kept_at.result ∷ [] = c.in_ok-push.ensures.items in
+    pushed ∙ column-push (kept_at rights keys values) c.keys.marks.items n c.kept_at.result c.keys.invariant this
