@@ -1,4 +1,5 @@
 -- What the values of an evaluation stand for, wherever their texts are.
+use Rattle.std.specs.Borrow.{Bor}
 use Rattle.std.specs.Prelude.{ℕ, List, ◌++◌, Option, Some, None, Result, Ok, Err, cond}
 use Rattle.iso_model.specs.Evaluation.{Given, is_equal, is_short, then}
 use Rattle.iso_model.specs.Texts.{difference_message}
@@ -7,13 +8,12 @@ use Rattle.iso_model.specs.declared.data.Data.TheVariants as D
 use Rattle.iso_model.specs.declared.fault.Fault.{Fault}
 use Rattle.iso_model.specs.declared.fault.Fault.TheVariants.{MissingFile, TextTooLong}
 use Rattle.iso_interp.specs.declared.value.TextValue.{TextValue}
-use Rattle.iso_interp.specs.declared.value.TextValue.TheVariants.{Lent, Looked, Made}
+use Rattle.iso_interp.specs.declared.value.TextValue.TheVariants.{Lent, Made}
 use Rattle.iso_interp.specs.declared.value.Value.{Value}
 use Rattle.iso_interp.specs.declared.value.Value.TheVariants.{Whole, Flag, Text}
 
 abbrev pub bytes_of : TextValue → List ℕ
 bytes_of (Lent t) = t.now
-bytes_of (Looked t) = t.now
 bytes_of (Made t) = t
 
 abbrev pub data_of : Value → Data
@@ -25,13 +25,9 @@ abbrev pub given_of : Result Value Fault → Given
 given_of (Ok v) = Ok (data_of v)
 given_of (Err fault) = Err fault
 
-abbrev pub text_given : Result TextValue Fault → Result (List ℕ) Fault
-text_given (Ok t) = Ok (bytes_of t)
+abbrev pub text_given : Result (Bor (List ℕ)) Fault → Result (List ℕ) Fault
+text_given (Ok t) = Ok t.now
 text_given (Err fault) = Err fault
-
-abbrev pub texts_given : Result (TextValue × TextValue) Fault → Result (List ℕ × List ℕ) Fault
-texts_given (Ok ts) = Ok (bytes_of ts.0, bytes_of ts.1)
-texts_given (Err fault) = Err fault
 
 -- what an `assert_equal` of two values says, where they differ
 abbrev pub difference : Given → Given → Result (Option (List ℕ)) Fault

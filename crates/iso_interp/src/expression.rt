@@ -12,7 +12,7 @@ ghost use Rattle.iso_model.specs.declared.data.Data.TheVariants.{Flag};
 ghost use Rattle.iso_model.specs.declared.fault.Fault.TheVariants as Faults;
 ghost use Rattle.iso_model.specs.declared.names.Binding.{Binding};
 ghost use Rattle.iso_model.specs.declared.tree.Function.TheVariants as Functions;
-ghost use Rattle.iso_interp.specs.Values.{bytes_of, data_of, given_of};
+ghost use Rattle.iso_interp.specs.Values.{data_of, given_of};
 
 use crate::operators::{compared, joined};
 use crate::value::{Given, TextValue, Value, as_text, length};
@@ -30,13 +30,13 @@ use std::alloc::{AllocError, Global};
 /// The value of an expression, or its first fault. Operands are evaluated from the left, each once.
 /// Memory is taken only for a text that is made, and for a fault.
 #[cycle(evaluate)]
-pub fn evaluate<'a, 't, T: Touch>(
+pub fn evaluate<'a, T: Touch>(
     alloc: Global,
     names: &'a Names,
     rights: &Rights,
-    touch: &'t T,
+    touch: &'a T,
     expression: &'a Expr,
-) -> Result<Given<'a, 't>, AllocError>
+) -> Result<Given<'a>, AllocError>
     requires { HasKeys (access_in rights.now) (T.content touch.now) (T.writes touch.now) }
     ensures { IfOk result (λ g. given_of g ≡ evaluated names.now.names (T.content touch.now) (access_in rights.now) (term_of expression.now)) }
 {
@@ -66,15 +66,15 @@ pub fn evaluate<'a, 't, T: Touch>(
 /// A chain of a first value and the operands after it. All of them are evaluated before a fault of
 /// joining them counts.
 #[cycle(evaluate)]
-fn chain<'a, 't, T: Touch>(
+fn chain<'a, T: Touch>(
     alloc: Global,
     names: &'a Names,
     rights: &Rights,
-    touch: &'t T,
+    touch: &'a T,
     operator: Operator,
-    first: Value<'a, 't>,
+    first: Value<'a>,
     rest: &'a [Expr],
-) -> Result<Given<'a, 't>, AllocError>
+) -> Result<Given<'a>, AllocError>
     requires { HasKeys (access_in rights.now) (T.content touch.now) (T.writes touch.now) }
     ensures { IfOk result (λ g. given_of g ≡ then
         (evaluated_all names.now.names (T.content touch.now) (access_in rights.now) (terms_of_all rest.now))
@@ -100,15 +100,15 @@ fn chain<'a, 't, T: Touch>(
 
 /// Whether a comparison of a first value with a second operand holds.
 #[cycle(evaluate)]
-fn against<'a, 't, T: Touch>(
+fn against<'a, T: Touch>(
     alloc: Global,
     names: &'a Names,
     rights: &Rights,
-    touch: &'t T,
+    touch: &'a T,
     comparison: Comparison,
-    first: Value<'a, 't>,
+    first: Value<'a>,
     second: &'a Expr,
-) -> Result<Given<'a, 't>, AllocError>
+) -> Result<Given<'a>, AllocError>
     requires { HasKeys (access_in rights.now) (T.content touch.now) (T.writes touch.now) }
     ensures { IfOk result (λ g. given_of g ≡ then
         (evaluated names.now.names (T.content touch.now) (access_in rights.now) (term_of second.now))
@@ -128,11 +128,7 @@ fn against<'a, 't, T: Touch>(
 }
 
 /// Whether a comparison of two values holds, as a value.
-fn comparison_of<'a, 't>(
-    comparison: Comparison,
-    first: Value<'_, '_>,
-    second: Value<'_, '_>,
-) -> Given<'a, 't>
+fn comparison_of<'a>(comparison: Comparison, first: Value<'_>, second: Value<'_>) -> Given<'a>
     ensures { given_of result ≡ then (compared comparison (data_of first.entry) (data_of second.entry)) (λ holds. Ok (Flag holds)) }
 {
     match compared(comparison, &first, &second) {
@@ -142,22 +138,22 @@ fn comparison_of<'a, 't>(
 }
 
 /// What a chain comes to with one value more. Its fault stays.
-fn joined_to<'a, 't>(
+fn joined_to<'a>(
     alloc: Global,
     operator: Operator,
-    sum: Given<'a, 't>,
-    value: Value<'a, 't>,
-) -> Result<Given<'a, 't>, AllocError>
+    sum: Given<'a>,
+    value: Value<'a>,
+) -> Result<Given<'a>, AllocError>
     ensures { IfOk result (λ g. given_of g ≡ then (given_of sum.entry) (λ x. joined operator x (data_of value.entry))) }
 {
     match sum {
-        Ok(sum) => joined(alloc, operator, sum, value),
+        Ok(sum) => joined(alloc, operator, &sum, &value),
         Err(fault) => Ok(Err(fault)),
     }
 }
 
 /// The value of a name.
-fn named<'a, 't>(alloc: Global, names: &'a Names, name: &Text) -> Result<Given<'a, 't>, AllocError>
+fn named<'a>(alloc: Global, names: &'a Names, name: &Text) -> Result<Given<'a>, AllocError>
     ensures { IfOk result (λ g. given_of g ≡ or_fault (option_map (λ (b : Binding). b.value) (binding_of names.now.names name.now)) (Faults.UnknownName name.now)) }
 {
     match names.get(name.as_str()) {
@@ -167,79 +163,79 @@ fn named<'a, 't>(alloc: Global, names: &'a Names, name: &Text) -> Result<Given<'
 }
 
 /// What a function gives of its operand.
-fn call<'a, 't, T: Touch>(
+fn call<'a, T: Touch>(
     alloc: Global,
     rights: &Rights,
-    touch: &'t T,
+    touch: &'a T,
     function: Function,
-    operand: Value<'a, 't>,
-) -> Result<Given<'a, 't>, AllocError>
+    operand: Value<'a>,
+) -> Result<Given<'a>, AllocError>
     requires { HasKeys (access_in rights.now) (T.content touch.now) (T.writes touch.now) }
     ensures { IfOk result (λ g. given_of g ≡ called (T.content touch.now) (access_in rights.now) function (data_of operand.entry)) }
 {
     if let Function::Text = function {
         return Ok(Ok(Value::Text(operand.text(alloc)?)));
     }
-    match as_text(operand) {
+    match as_text(&operand) {
         Ok(text) => call_on_text(alloc, rights, touch, function, text),
         Err(fault) => Ok(Err(fault)),
     }
 }
 
 /// What a function gives of a text.
-fn call_on_text<'a, 't, T: Touch>(
+fn call_on_text<'a, T: Touch>(
     alloc: Global,
     rights: &Rights,
-    touch: &'t T,
+    touch: &'a T,
     function: Function,
-    text: TextValue<'a, 't>,
-) -> Result<Given<'a, 't>, AllocError>
+    text: &str,
+) -> Result<Given<'a>, AllocError>
     requires { HasKeys (access_in rights.now) (T.content touch.now) (T.writes touch.now) }
-    ensures { IfOk result (λ g. given_of g ≡ called (T.content touch.now) (access_in rights.now) function (Kinds.Text (bytes_of text.entry))) }
+    ensures { IfOk result (λ g. given_of g ≡ called (T.content touch.now) (access_in rights.now) function (Kinds.Text text.now)) }
 {
     match function {
-        Function::Text => Ok(Ok(Value::Text(text))),
-        Function::Len => Ok(Ok(Value::Whole(length(alloc, text.as_str())?))),
+        Function::Text => Ok(Ok(Value::Text(TextValue::Made(Text::copied(alloc, text)?)))),
+        Function::Len => Ok(Ok(Value::Whole(length(alloc, text)?))),
         Function::Prop => property(alloc, rights, touch, text),
-        Function::HasProp => has_property(alloc, rights, touch, text.as_str()),
+        Function::HasProp => has_property(alloc, rights, touch, text),
         Function::File => file(alloc, rights, touch, text),
-        Function::HasFile => has_file(alloc, rights, touch, text.as_str()),
+        Function::HasFile => has_file(alloc, rights, touch, text),
     }
 }
 
 /// The fault of a look at a resource that isn't declared.
-fn undeclared<'a, 't>(alloc: Global, key: ResourceKey<'_>) -> Result<Given<'a, 't>, AllocError>
+fn undeclared<'a>(alloc: Global, key: ResourceKey<'_>) -> Result<Given<'a>, AllocError>
     ensures { IfOk result (λ g. given_of g ≡ Err (Faults.Undeclared Access.Read (spelling key.entry))) }
 {
     Ok(Err(Fault::Undeclared(Access::Read, key.key(alloc)?)))
 }
 
 /// The text of a property.
-fn property<'a, 't, T: Touch>(
+fn property<'a, T: Touch>(
     alloc: Global,
     rights: &Rights,
-    touch: &'t T,
-    name: TextValue<'a, 't>,
-) -> Result<Given<'a, 't>, AllocError>
+    touch: &'a T,
+    name: &str,
+) -> Result<Given<'a>, AllocError>
     requires { HasKeys (access_in rights.now) (T.content touch.now) (T.writes touch.now) }
-    ensures { IfOk result (λ g. given_of g ≡ called (T.content touch.now) (access_in rights.now) Functions.Prop (Kinds.Text (bytes_of name.entry))) }
+    ensures { IfOk result (λ g. given_of g ≡ called (T.content touch.now) (access_in rights.now) Functions.Prop (Kinds.Text name.now)) }
 {
     if !rights.lets_look(ResourceKey::Properties) {
         return undeclared(alloc, ResourceKey::Properties);
     }
-    match touch.look(ResourceKey::Properties, Ask::Prop(name.as_str())) {
-        Some(text) => Ok(Ok(Value::Text(TextValue::Looked(text)))),
-        None => Ok(Err(Fault::MissingProperty(name.into_text(alloc)?))),
+    match touch.look(ResourceKey::Properties, Ask::Prop(name)) {
+        Some(text) => Ok(Ok(Value::Text(TextValue::Lent(text)))),
+        None => Ok(Err(Fault::MissingProperty(Text::copied(alloc, name)?))),
     }
 }
 
 /// Whether a property is there.
-fn has_property<'a, 't, T: Touch>(
+fn has_property<'a, T: Touch>(
     alloc: Global,
     rights: &Rights,
-    touch: &'t T,
+    touch: &'a T,
     name: &str,
-) -> Result<Given<'a, 't>, AllocError>
+) -> Result<Given<'a>, AllocError>
     requires { HasKeys (access_in rights.now) (T.content touch.now) (T.writes touch.now) }
     ensures { IfOk result (λ g. given_of g ≡ called (T.content touch.now) (access_in rights.now) Functions.HasProp (Kinds.Text name.now)) }
 {
@@ -251,31 +247,31 @@ fn has_property<'a, 't, T: Touch>(
 }
 
 /// The text of the file at a path.
-fn file<'a, 't, T: Touch>(
+fn file<'a, T: Touch>(
     alloc: Global,
     rights: &Rights,
-    touch: &'t T,
-    path: TextValue<'a, 't>,
-) -> Result<Given<'a, 't>, AllocError>
+    touch: &'a T,
+    path: &str,
+) -> Result<Given<'a>, AllocError>
     requires { HasKeys (access_in rights.now) (T.content touch.now) (T.writes touch.now) }
-    ensures { IfOk result (λ g. given_of g ≡ called (T.content touch.now) (access_in rights.now) Functions.File (Kinds.Text (bytes_of path.entry))) }
+    ensures { IfOk result (λ g. given_of g ≡ called (T.content touch.now) (access_in rights.now) Functions.File (Kinds.Text path.now)) }
 {
-    if !rights.lets_look(ResourceKey::File(path.as_str())) {
-        return undeclared(alloc, ResourceKey::File(path.as_str()));
+    if !rights.lets_look(ResourceKey::File(path)) {
+        return undeclared(alloc, ResourceKey::File(path));
     }
-    match touch.look(ResourceKey::File(path.as_str()), Ask::File) {
-        Some(text) => Ok(Ok(Value::Text(TextValue::Looked(text)))),
-        None => Ok(Err(Fault::MissingFile(path.into_text(alloc)?))),
+    match touch.look(ResourceKey::File(path), Ask::File) {
+        Some(text) => Ok(Ok(Value::Text(TextValue::Lent(text)))),
+        None => Ok(Err(Fault::MissingFile(Text::copied(alloc, path)?))),
     }
 }
 
 /// Whether the file at a path is there.
-fn has_file<'a, 't, T: Touch>(
+fn has_file<'a, T: Touch>(
     alloc: Global,
     rights: &Rights,
-    touch: &'t T,
+    touch: &'a T,
     path: &str,
-) -> Result<Given<'a, 't>, AllocError>
+) -> Result<Given<'a>, AllocError>
     requires { HasKeys (access_in rights.now) (T.content touch.now) (T.writes touch.now) }
     ensures { IfOk result (λ g. given_of g ≡ called (T.content touch.now) (access_in rights.now) Functions.HasFile (Kinds.Text path.now)) }
 {
@@ -287,11 +283,11 @@ fn has_file<'a, 't, T: Touch>(
 }
 
 /// The locale.
-fn locale<'a, 't, T: Touch>(
+fn locale<'a, T: Touch>(
     alloc: Global,
     rights: &Rights,
-    touch: &'t T,
-) -> Result<Given<'a, 't>, AllocError>
+    touch: &'a T,
+) -> Result<Given<'a>, AllocError>
     requires { HasKeys (access_in rights.now) (T.content touch.now) (T.writes touch.now) }
     ensures { IfOk result (λ g. given_of g ≡ evaluated [] (T.content touch.now) (access_in rights.now) locale) }
 {
@@ -299,7 +295,7 @@ fn locale<'a, 't, T: Touch>(
         return undeclared(alloc, ResourceKey::Locale);
     }
     match touch.look(ResourceKey::Locale, Ask::Locale) {
-        Some(text) => Ok(Ok(Value::Text(TextValue::Looked(text)))),
+        Some(text) => Ok(Ok(Value::Text(TextValue::Lent(text)))),
         None => Ok(Ok(Value::Text(TextValue::Lent("")))),
     }
 }

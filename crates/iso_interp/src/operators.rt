@@ -11,18 +11,18 @@ use iso_model::tree::{Comparison, Operator};
 use std::alloc::{AllocError, Global};
 
 /// One pair of a chain.
-pub fn joined<'a, 't>(
+pub fn joined<'a>(
     alloc: Global,
     operator: Operator,
-    first: Value<'a, 't>,
-    second: Value<'a, 't>,
-) -> Result<Given<'a, 't>, AllocError>
-    ensures { IfOk result (λ g. given_of g ≡ joined operator (data_of first.entry) (data_of second.entry)) }
+    first: &Value<'_>,
+    second: &Value<'_>,
+) -> Result<Given<'a>, AllocError>
+    ensures { IfOk result (λ g. given_of g ≡ joined operator (data_of first.now) (data_of second.now)) }
 {
     match (operator, first, second) {
-        (Operator::Add, Value::Whole(x), Value::Whole(y)) => Ok(sum(x, y)),
-        (Operator::Subtract, Value::Whole(x), Value::Whole(y)) => Ok(difference(x, y)),
-        (Operator::Multiply, Value::Whole(x), Value::Whole(y)) => Ok(product(x, y)),
+        (Operator::Add, Value::Whole(x), Value::Whole(y)) => Ok(sum(*x, *y)),
+        (Operator::Subtract, Value::Whole(x), Value::Whole(y)) => Ok(difference(*x, *y)),
+        (Operator::Multiply, Value::Whole(x), Value::Whole(y)) => Ok(product(*x, *y)),
         (Operator::Join, Value::Text(x), Value::Text(y)) => {
             match joined_text(alloc, x.as_str(), y.as_str())? {
                 Some(text) => Ok(Ok(Value::Text(TextValue::Made(text)))),
@@ -34,7 +34,7 @@ pub fn joined<'a, 't>(
 }
 
 /// The sum of two numbers.
-fn sum<'a, 't>(x: i64, y: i64) -> Given<'a, 't>
+fn sum<'a>(x: i64, y: i64) -> Given<'a>
     ensures { given_of result ≡ whole (x +ℤ y) }
 {
     match x.checked_add(y) {
@@ -44,7 +44,7 @@ fn sum<'a, 't>(x: i64, y: i64) -> Given<'a, 't>
 }
 
 /// The difference of two numbers.
-fn difference<'a, 't>(x: i64, y: i64) -> Given<'a, 't>
+fn difference<'a>(x: i64, y: i64) -> Given<'a>
     ensures { given_of result ≡ whole (x -ℤ y) }
 {
     match x.checked_sub(y) {
@@ -54,7 +54,7 @@ fn difference<'a, 't>(x: i64, y: i64) -> Given<'a, 't>
 }
 
 /// The product of two numbers.
-fn product<'a, 't>(x: i64, y: i64) -> Given<'a, 't>
+fn product<'a>(x: i64, y: i64) -> Given<'a>
     ensures { given_of result ≡ whole (x *ℤ y) }
 {
     match x.checked_mul(y) {
@@ -79,8 +79,8 @@ pub fn joined_text(alloc: Global, first: &str, second: &str) -> Result<Option<Te
 /// Whether a comparison of two values holds.
 pub fn compared(
     comparison: Comparison,
-    first: &Value<'_, '_>,
-    second: &Value<'_, '_>,
+    first: &Value<'_>,
+    second: &Value<'_>,
 ) -> Result<bool, Fault>
     ensures { result ≡ compared comparison (data_of first.now) (data_of second.now) }
 {
@@ -95,7 +95,7 @@ pub fn compared(
 }
 
 /// Whether two values of one kind are equal.
-pub fn is_equal(first: &Value<'_, '_>, second: &Value<'_, '_>) -> Result<bool, Fault>
+pub fn is_equal(first: &Value<'_>, second: &Value<'_>) -> Result<bool, Fault>
     ensures { result ≡ is_equal (data_of first.now) (data_of second.now) }
 {
     match (first, second) {
@@ -107,7 +107,7 @@ pub fn is_equal(first: &Value<'_, '_>, second: &Value<'_, '_>) -> Result<bool, F
 }
 
 /// Whether a number is below another.
-fn is_less(first: &Value<'_, '_>, second: &Value<'_, '_>) -> Result<bool, Fault>
+fn is_less(first: &Value<'_>, second: &Value<'_>) -> Result<bool, Fault>
     ensures { result ≡ is_less (data_of first.now) (data_of second.now) }
 {
     match (first, second) {

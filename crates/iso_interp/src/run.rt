@@ -9,7 +9,7 @@ mod resources;
 mod values;
 
 use crate::expression::evaluate;
-use crate::value::{Given, TextValue, as_count, as_flag, as_text, as_texts};
+use crate::value::{Given, as_count, as_flag, own_text, own_texts};
 use iso_model::data::Data;
 use iso_model::fault::{Fault, FaultKind};
 use iso_model::lines::Lines;
@@ -41,7 +41,7 @@ enum Pending<'a> {
 }
 
 /// Whether something is left to do.
-#[derive(Clone, Copy, PartialEq, Eq)]
+#[derive(Clone, Copy)]
 pub enum Progress {
     More,
     Ended,
@@ -82,7 +82,7 @@ impl<'a> BlockRun<'a> {
     ghost use Rattle.iso_model.specs.Touch.{HasKeys};
     ghost use Rattle.iso_model.specs.declared.fault.FaultKind.TheVariants as FaultKinds;
     ghost use Rattle.iso_model.specs.declared.outcome.Ending.TheVariants as Endings;
-    ghost use Rattle.iso_interp.specs.Values.{given_of, text_given, texts_given};
+    ghost use Rattle.iso_interp.specs.Values.{given_of};
     ghost use Rattle.iso_interp.specs.Runs.{SameBlock, SameWork, end_local, failed, faulted, local_of, machine_of, names_before, piece_of, pieces_in, pieces_of, point_of_run, progress_of, run_rights, skipped, state_of};
     ghost use Rattle.iso_interp.specs.declared.run.Pending.TheVariants.{Rest, Turning};
 
@@ -309,50 +309,15 @@ impl<'a> BlockRun<'a> {
     }
 
     /// The value of an expression.
-    fn value<'s, 't, T: Touch>(
+    fn value<'s, T: Touch>(
         &'s self,
-        touch: &'t T,
+        touch: &'s T,
         expression: &'s Expr,
-    ) -> Result<Given<'s, 't>, AllocError>
+    ) -> Result<Given<'s>, AllocError>
         requires { HasKeys (run_rights self.now) (T.content touch.now) (T.writes touch.now) }
         ensures { IfOk result (λ g. given_of g ≡ value (run_rights self.now) (state_of self.now (T.content touch.now)) (term_of expression.now)) }
     {
         evaluate(self.alloc, &self.names, self.rights, touch, expression)
-    }
-
-    /// The value of an expression that has to be a text.
-    fn text<'s, 't, T: Touch>(
-        &'s self,
-        touch: &'t T,
-        expression: &'s Expr,
-    ) -> Result<Result<TextValue<'s, 't>, Fault>, AllocError>
-        requires { HasKeys (run_rights self.now) (T.content touch.now) (T.writes touch.now) }
-        ensures { IfOk result (λ g. text_given g ≡ text_value (run_rights self.now) (state_of self.now (T.content touch.now)) (term_of expression.now)) }
-    {
-        match self.value(touch, expression)? {
-            Ok(value) => Ok(as_text(value)),
-            Err(fault) => Ok(Err(fault)),
-        }
-    }
-
-    /// The values of two expressions that have to be texts.
-    fn texts<'s, 't, T: Touch>(
-        &'s self,
-        touch: &'t T,
-        first: &'s Expr,
-        second: &'s Expr,
-    ) -> Result<Result<(TextValue<'s, 't>, TextValue<'s, 't>), Fault>, AllocError>
-        requires { HasKeys (run_rights self.now) (T.content touch.now) (T.writes touch.now) }
-        ensures { IfOk result (λ g. texts_given g ≡ text_values (run_rights self.now) (state_of self.now (T.content touch.now)) (term_of first.now) (term_of second.now)) }
-    {
-        let first = match self.value(touch, first)? {
-            Ok(value) => value,
-            Err(fault) => return Ok(Err(fault)),
-        };
-        match self.value(touch, second)? {
-            Ok(second) => Ok(as_texts(first, second)),
-            Err(fault) => Ok(Err(fault)),
-        }
     }
 
     /// A text that is the value's own, of an expression that has to be a text.
@@ -364,13 +329,14 @@ impl<'a> BlockRun<'a> {
         requires { HasKeys (run_rights self.now) (T.content touch.now) (T.writes touch.now) }
         ensures { IfOk result (λ g. g ≡ text_value (run_rights self.now) (state_of self.now (T.content touch.now)) (term_of expression.now)) }
     {
-        match self.text(touch, expression)? {
-            Ok(text) => Ok(Ok(text.into_text(self.alloc)?)),
+        match self.own_value(touch, expression)? {
+            Ok(value) => Ok(own_text(value)),
             Err(fault) => Ok(Err(fault)),
         }
     }
 
-    /// Texts that are the values' own, of two expressions that have to be texts.
+    /// Texts that are the values' own, of two expressions that have to be texts. Both have values before
+    /// one that isn't a text counts.
     fn own_texts<T: Touch>(
         &self,
         touch: &T,
@@ -380,11 +346,12 @@ impl<'a> BlockRun<'a> {
         requires { HasKeys (run_rights self.now) (T.content touch.now) (T.writes touch.now) }
         ensures { IfOk result (λ g. g ≡ text_values (run_rights self.now) (state_of self.now (T.content touch.now)) (term_of first.now) (term_of second.now)) }
     {
-        match self.texts(touch, first, second)? {
-            Ok((first, second)) => Ok(Ok((
-                first.into_text(self.alloc)?,
-                second.into_text(self.alloc)?,
-            ))),
+        let first = match self.own_value(touch, first)? {
+            Ok(value) => value,
+            Err(fault) => return Ok(Err(fault)),
+        };
+        match self.own_value(touch, second)? {
+            Ok(second) => Ok(own_texts(first, second)),
             Err(fault) => Ok(Err(fault)),
         }
     }

@@ -2,7 +2,7 @@
 ghost use Rattle.std.specs.Prelude.{◌≡◌, IfOk, pos, length};
 ghost use Rattle.iso_model.specs.Evaluation.{as_count, as_flag, as_text, as_texts};
 ghost use Rattle.iso_model.specs.Texts.{text_of};
-ghost use Rattle.iso_interp.specs.Values.{bytes_of, data_of, text_given, texts_given};
+ghost use Rattle.iso_interp.specs.Values.{bytes_of, data_of, text_given};
 
 use iso_model::data::Data;
 use iso_model::fault::Fault;
@@ -11,34 +11,31 @@ use std::alloc::{AllocError, Global};
 
 /// A text, where it stands.
 #[derive(Drop)]
-pub enum TextValue<'a, 't> {
-    /// Lent by the tree, or by the value of a name.
+pub enum TextValue<'a> {
+    /// Lent by the tree, by the value of a name or by a resource.
     Lent(&'a str),
-    /// Lent by a resource.
-    Looked(&'t str),
     /// Made by the evaluation.
     Made(Text),
 }
 
 /// A value of the test language, with a text where it stands.
 #[derive(Drop)]
-pub enum Value<'a, 't> {
+pub enum Value<'a> {
     Whole(i64),
     Flag(bool),
-    Text(TextValue<'a, 't>),
+    Text(TextValue<'a>),
 }
 
 /// A value, or the fault that ends the block.
-pub type Given<'a, 't> = Result<Value<'a, 't>, Fault>;
+pub type Given<'a> = Result<Value<'a>, Fault>;
 
-impl<'a, 't> TextValue<'a, 't> {
+impl<'a> TextValue<'a> {
     /// Its bytes, as a `str`.
     pub fn as_str(&self) -> &str
         ensures { result.now ≡ bytes_of self.now }
     {
         match self {
             TextValue::Lent(text) => text,
-            TextValue::Looked(text) => text,
             TextValue::Made(text) => text.as_str(),
         }
     }
@@ -49,15 +46,14 @@ impl<'a, 't> TextValue<'a, 't> {
     {
         match self {
             TextValue::Lent(text) => Text::copied(alloc, text),
-            TextValue::Looked(text) => Text::copied(alloc, text),
             TextValue::Made(text) => Ok(text),
         }
     }
 }
 
-impl<'a, 't> Value<'a, 't> {
+impl<'a> Value<'a> {
     /// A value that stands somewhere.
-    pub fn lent(value: &'a Data) -> Value<'a, 't>
+    pub fn lent(value: &'a Data) -> Value<'a>
         ensures { data_of result ≡ value.now }
     {
         match value {
@@ -78,8 +74,20 @@ impl<'a, 't> Value<'a, 't> {
         }
     }
 
+    /// What `text` gives of it, lent where it is a text already.
+    pub fn shown(&self, alloc: Global) -> Result<TextValue<'_>, AllocError>
+        ensures { IfOk result (λ t. bytes_of t ≡ text_of (data_of self.now)) }
+    {
+        match self {
+            Value::Whole(number) => Ok(TextValue::Made(Text::new(number.to_string(alloc)?))),
+            Value::Flag(true) => Ok(TextValue::Lent("true")),
+            Value::Flag(false) => Ok(TextValue::Lent("false")),
+            Value::Text(text) => Ok(TextValue::Lent(text.as_str())),
+        }
+    }
+
     /// What `text` gives of it.
-    pub fn text(self, alloc: Global) -> Result<TextValue<'a, 't>, AllocError>
+    pub fn text(self, alloc: Global) -> Result<TextValue<'a>, AllocError>
         ensures { IfOk result (λ t. bytes_of t ≡ text_of (data_of self.entry)) }
     {
         match self {
@@ -92,30 +100,37 @@ impl<'a, 't> Value<'a, 't> {
 }
 
 /// The text in a value.
-pub fn as_text<'a, 't>(value: Value<'a, 't>) -> Result<TextValue<'a, 't>, Fault>
-    ensures { text_given result ≡ as_text (data_of value.entry) }
+pub fn as_text<'v>(value: &'v Value<'_>) -> Result<&'v str, Fault>
+    ensures { text_given result ≡ as_text (data_of value.now) }
 {
     match value {
-        Value::Text(text) => Ok(text),
+        Value::Text(text) => Ok(text.as_str()),
         Value::Whole(_) | Value::Flag(_) => Err(Fault::WrongKind),
     }
 }
 
-/// The texts in two values.
-pub fn as_texts<'a, 't>(
-    first: Value<'a, 't>,
-    second: Value<'a, 't>,
-) -> Result<(TextValue<'a, 't>, TextValue<'a, 't>), Fault>
-    ensures { texts_given result ≡ as_texts (data_of first.entry) (data_of second.entry) }
+/// The text that is a value's own.
+pub fn own_text(value: Data) -> Result<Text, Fault>
+    ensures { result ≡ as_text value }
 {
-    match (first, second) {
-        (Value::Text(first), Value::Text(second)) => Ok((first, second)),
-        _ => Err(Fault::WrongKind),
+    match value {
+        Data::Text(text) => Ok(text),
+        Data::Whole(_) | Data::Flag(_) => Err(Fault::WrongKind),
+    }
+}
+
+/// The texts that are two values' own.
+pub fn own_texts(first: Data, second: Data) -> Result<(Text, Text), Fault>
+    ensures { result ≡ as_texts first second }
+{
+    match first {
+        Data::Text(first) => Ok((first, own_text(second)?)),
+        Data::Whole(_) | Data::Flag(_) => Err(Fault::WrongKind),
     }
 }
 
 /// The truth value in a value.
-pub fn as_flag(value: Value<'_, '_>) -> Result<bool, Fault>
+pub fn as_flag(value: Value<'_>) -> Result<bool, Fault>
     ensures { result ≡ as_flag (data_of value.entry) }
 {
     match value {
@@ -125,7 +140,7 @@ pub fn as_flag(value: Value<'_, '_>) -> Result<bool, Fault>
 }
 
 /// The count in a value.
-pub fn as_count(value: Value<'_, '_>) -> Result<u64, Fault>
+pub fn as_count(value: Value<'_>) -> Result<u64, Fault>
     ensures { result ≡ as_count (data_of value.entry) }
 {
     match value {

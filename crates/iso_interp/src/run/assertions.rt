@@ -101,7 +101,7 @@ impl<'a> BlockRun<'a> {
             Ok(value) => value,
             Err(fault) => return Ok(Err(fault)),
         };
-        difference_of(self.alloc, expected, actual)
+        difference_of(self.alloc, &expected, &actual)
     }
 
     /// `assume EXPRESSION, REASON;`
@@ -141,12 +141,12 @@ impl<'a> BlockRun<'a> {
 /// What an `assert_equal` says of two values, where they differ.
 fn difference_of(
     alloc: Global,
-    expected: Value<'_, '_>,
-    actual: Value<'_, '_>,
+    expected: &Value<'_>,
+    actual: &Value<'_>,
 ) -> Result<Result<Option<Text>, Fault>, AllocError>
-    ensures { IfOk result (λ g. g ≡ difference (Ok (data_of expected.entry)) (Ok (data_of actual.entry))) }
+    ensures { IfOk result (λ g. g ≡ difference (Ok (data_of expected.now)) (Ok (data_of actual.now))) }
 {
-    match is_equal(&expected, &actual) {
+    match is_equal(expected, actual) {
         Ok(true) => Ok(Ok(None)),
         Ok(false) => Ok(Ok(Some(difference_message(alloc, expected, actual)?))),
         Err(fault) => Ok(Err(fault)),
@@ -156,13 +156,13 @@ fn difference_of(
 /// What an `assert_equal` says of two values that differ.
 fn difference_message(
     alloc: Global,
-    expected: Value<'_, '_>,
-    actual: Value<'_, '_>,
+    expected: &Value<'_>,
+    actual: &Value<'_>,
 ) -> Result<Text, AllocError>
-    ensures { IfOk result (λ t. t ≡ difference_message (data_of expected.entry) (data_of actual.entry)) }
+    ensures { IfOk result (λ t. t ≡ difference_message (data_of expected.now) (data_of actual.now)) }
 {
-    let expected = expected.text(alloc)?;
-    let actual = actual.text(alloc)?;
+    let expected = expected.shown(alloc)?;
+    let actual = actual.shown(alloc)?;
     let (expected, actual) = (expected.as_str(), actual.as_str());
     Ok(Text::new(format!(in alloc; "expected: <{expected}> but was: <{actual}>")?))
 }
