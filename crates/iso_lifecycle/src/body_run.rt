@@ -96,8 +96,13 @@ impl<'a> BodyRun<'a> {
             },
             block: Some(BlockRun::new(alloc, block, names, rights)),
         };
-        run.settle()?;
-        Ok(run)
+        match run.settle() {
+            Ok(()) => Ok(run),
+            Err(error) => {
+                drop(run);
+                Err(error)
+            }
+        }
     }
 
     /// Does the first piece that is left; where its block has then ended, the next begins that has something to do.

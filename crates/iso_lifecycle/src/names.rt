@@ -8,8 +8,10 @@ ghost use Rattle.iso_lifecycle.specs.Subjects.{frames_of};
 
 use crate::blocks::head;
 use crate::frame::Frame;
+use iso_model::data::Data;
 use iso_model::heads::{ClassHead, Variable};
 use iso_model::names::{Binding, Sort};
+use iso_model::text::Text;
 use std::alloc::{AllocError, Global};
 use std::sync::Arc;
 
@@ -50,18 +52,18 @@ fn add_copies(
     ensures { OnOk result (names.new.items ≡ names.old.items ++ bindings.now) }
 {
     'bindings: for binding in bindings {
-        names.push(copied(alloc, binding, binding.sort)?)?;
+        names.push(copied(alloc, &binding.name, &binding.value, binding.sort)?)?;
     }
     Ok(())
 }
 
-/// An equal name, but of this sort.
-fn copied(alloc: Global, binding: &Binding, sort: Sort) -> Result<Binding, AllocError>
-    ensures { IfOk result (λ b. b ≡ bound sort binding.now.name binding.now.value) }
+/// An equal name with an equal value, of this sort.
+fn copied(alloc: Global, name: &Text, value: &Data, sort: Sort) -> Result<Binding, AllocError>
+    ensures { IfOk result (λ b. b ≡ bound sort name.now value.now) }
 {
     Ok(Binding {
-        name: binding.name.copy(alloc)?,
-        value: binding.value.copy(alloc)?,
+        name: name.copy(alloc)?,
+        value: value.copy(alloc)?,
         sort,
     })
 }
@@ -84,7 +86,7 @@ fn frozen(alloc: Global, bindings: &[Binding]) -> Result<Vec<Binding>, AllocErro
 {
     let mut names = Vec::new(alloc);
     'bindings: for binding in bindings {
-        names.push(copied(alloc, binding, Sort::Frozen)?)?;
+        names.push(copied(alloc, &binding.name, &binding.value, Sort::Frozen)?)?;
     }
     Ok(names)
 }
@@ -99,11 +101,7 @@ pub(crate) fn add_variables(
     ensures { OnOk result (names.new.items ≡ names.old.items ++ at_literals sort variables.now) }
 {
     'variables: for variable in variables {
-        names.push(Binding {
-            name: variable.name.copy(alloc)?,
-            value: variable.value.copy(alloc)?,
-            sort,
-        })?;
+        names.push(copied(alloc, &variable.name, &variable.value, sort)?)?;
     }
     Ok(())
 }

@@ -1,11 +1,12 @@
 //! What a body has beside its block under way.
-ghost use Rattle.std.specs.Prelude.{◌≡◌, ◌<◌, ◌∷◌, ◌^◌, length, true, Some, OnOk, IfOk};
+ghost use Rattle.std.specs.Prelude.{◌≡◌, ◌<◌, ◌∷◌, ◌++◌, ◌^◌, length, true, Some, OnOk, IfOk};
 ghost use Rattle.iso_lifecycle.specs.JobPlaces.{IsPlaced, IsPlaced-prop};
 
 use crate::blocks::{names_of, part, statements};
 use crate::job::Job;
 use iso_interp::run::{BlockEnd, BlockRun};
 use iso_model::heads::ClassHead;
+use iso_model::lines::Lines;
 use iso_model::names::{Binding, Names};
 use iso_model::outcome::Ending;
 use iso_model::place::BlockName;
@@ -13,6 +14,7 @@ use iso_model::rights::Rights;
 use iso_model::text::Text;
 use iso_model::tree::Stmt;
 use std::alloc::{AllocError, Global};
+use std::mem;
 use std::sync::Arc;
 
 /// The jobs that are left of a body, the names that its block under way doesn't see, and what the blocks before it left.
@@ -53,13 +55,10 @@ impl<'a> Rest<'a> {
             output,
             names,
         } = run.finish();
-        let mut lines = output.into_vec();
-        self.printed = names.printed();
-        let mut names = names.into_bindings();
-        names.append(&mut self.names)?;
-        self.names = names;
-        self.lines.append(&mut lines)?;
         self.endings.push(ending)?;
+        add_lines(&mut self.lines, output)?;
+        self.printed = names.printed();
+        put_before(&mut self.names, names.into_bindings())?;
         Ok(())
     }
 
@@ -153,4 +152,23 @@ impl<'a> Rest<'a> {
         }
         Ok(None)
     }
+}
+
+/// Adds lines.
+fn add_lines(lines: &mut Vec<Text>, more: Lines) -> Result<(), AllocError>
+    ensures { OnOk result (lines.new.items ≡ lines.old.items ++ more) }
+{
+    let mut more = more.into_vec();
+    lines.append(&mut more)?;
+    Ok(())
+}
+
+/// Puts names before others.
+fn put_before(names: &mut Vec<Binding>, first: Vec<Binding>) -> Result<(), AllocError>
+    ensures { OnOk result (names.new.items ≡ first.items ++ names.old.items) }
+{
+    let mut first = first;
+    first.append(names)?;
+    drop(mem::replace(names, first));
+    Ok(())
 }
