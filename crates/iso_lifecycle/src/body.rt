@@ -143,19 +143,14 @@ impl<'a> Body<'a> {
         requires begun { stage_of run ≡ (begun (kind_of_origin origin) (subject_of_origin origin)).stage }
         ensures { IfOk result (IsBegun origin.entry) }
     {
-        match origin.frame(alloc, &run, outer) {
-            Ok(frame) => Ok(Body {
-                alloc,
-                origin,
-                outer,
-                run,
-                frame,
-            }),
-            Err(error) => {
-                drop(run);
-                Err(error)
-            }
-        }
+        let frame = origin.frame(alloc, &run, outer)?;
+        Ok(Body {
+            alloc,
+            origin,
+            outer,
+            run,
+            frame,
+        })
     }
 
     /// Does the first piece that is left, on what the body's last step left, and at first on what the openings before it left, at the

@@ -96,13 +96,8 @@ impl<'a> BodyRun<'a> {
             },
             block: Some(BlockRun::new(alloc, block, names, rights)),
         };
-        match run.settle() {
-            Ok(()) => Ok(run),
-            Err(error) => {
-                drop(run);
-                Err(error)
-            }
-        }
+        run.settle()?;
+        Ok(run)
     }
 
     /// Does the first piece that is left; where its block has then ended, the next begins that has something to do.

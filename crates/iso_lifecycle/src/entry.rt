@@ -21,7 +21,8 @@ impl Entry {
         ensures { self.new ≡ entry_with what self.old }
     {
         let before = mem::replace(self, Entry::Empty);
-        *self = before.with(what);
+        // A call drops the empty entry: the variants then stand in the proof of that call alone.
+        drop(mem::replace(self, before.with(what)));
     }
 
     /// The entry with what a body of the node came to.

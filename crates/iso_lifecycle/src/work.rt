@@ -14,7 +14,6 @@ use iso_model::rights::Rights;
 use iso_model::text::Text;
 use iso_model::tree::Stmt;
 use std::alloc::{AllocError, Global};
-use std::mem;
 use std::sync::Arc;
 
 /// The jobs that are left of a body, the names that its block under way doesn't see, and what the blocks before it left.
@@ -169,6 +168,6 @@ fn put_before(names: &mut Vec<Binding>, first: Vec<Binding>) -> Result<(), Alloc
 {
     let mut first = first;
     first.append(names)?;
-    drop(mem::replace(names, first));
+    *names = first;
     Ok(())
 }
