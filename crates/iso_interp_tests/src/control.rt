@@ -1,5 +1,5 @@
 //! Choices and turns, and the steps that they take.
-use crate::scene::{Scene, comes_to, report, run, seeing, steps};
+use crate::scene::{Scene, check_all, comes_to, report, run, seeing, steps};
 use std::test::Fail;
 
 #[test]
@@ -42,20 +42,19 @@ fn each_block_has_all_its_steps(rt: HostRuntime) -> Result<(), Fail> {
     Ok(())
 }
 
+/// Blocks of choices and turns, with what they come to.
+const BODIES: &[(&str, &str)] = &[
+    ("{ if true { print 1; } else { print 2; } }", "1\n"),
+    ("{ if false { print 1; } else { print 2; } }", "2\n"),
+    ("{ if 1 { } }", "fault, test row 1: wrong kind\n"),
+    ("{ repeat 0 { print 1; } }", ""),
+    ("{ repeat -1 { } }", "fault, test row 1: bad count\n"),
+    ("{ repeat true { } }", "fault, test row 1: wrong kind\n"),
+];
+
 #[test]
 fn bodies_are_chosen_by_values_of_their_kind(rt: HostRuntime) -> Result<(), Fail> {
-    let alloc = rt.alloc();
-    for (block, want) in [
-        ("{ if true { print 1; } else { print 2; } }", "1\n"),
-        ("{ if false { print 1; } else { print 2; } }", "2\n"),
-        ("{ if 1 { } }", "fault, test row 1: wrong kind\n"),
-        ("{ repeat 0 { print 1; } }", ""),
-        ("{ repeat -1 { } }", "fault, test row 1: bad count\n"),
-        ("{ repeat true { } }", "fault, test row 1: wrong kind\n"),
-    ] {
-        assert!(rt; comes_to(alloc, Scene::new(alloc), block, want)?, "{block}");
-    }
-    Ok(())
+    check_all(&rt, rt.alloc(), BODIES)
 }
 
 #[test]

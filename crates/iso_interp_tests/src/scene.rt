@@ -21,6 +21,7 @@ use iso_model::text::Text;
 use iso_model::tree::Stmt;
 use iso_statements::parser::Parser;
 use std::alloc::{AllocError, Global};
+use std::process::Abort;
 use std::test::Fail;
 
 /// The resources that a block declares, with their values.
@@ -137,6 +138,28 @@ fn push_note(
 pub fn comes_to(alloc: Global, scene: Scene, block: &str, want: &str) -> Result<bool, Fail> {
     let end = run(alloc, scene, block, seeing(Vec::new(alloc)))?;
     Ok(report(alloc, &end)?.as_str() == want)
+}
+
+/// Checks what blocks come to that declare nothing and see no names.
+pub fn check_all(rt: &impl Abort, alloc: Global, rows: &[(&str, &str)]) -> Result<(), Fail> {
+    for &(block, want) in rows {
+        assert!(rt; comes_to(alloc, Scene::new(alloc), block, want)?, "{block}");
+    }
+    Ok(())
+}
+
+/// Checks what blocks come to that declare properties, the locale and a file so, and see no names.
+pub fn check_declaring(
+    rt: &impl Abort,
+    alloc: Global,
+    access: Access,
+    rows: &[(&str, &str)],
+) -> Result<(), Fail> {
+    for &(block, want) in rows {
+        let scene = Scene::declaring(alloc, access)?;
+        assert!(rt; comes_to(alloc, scene, block, want)?, "{block}");
+    }
+    Ok(())
 }
 
 /// How many steps a block takes that declares nothing; no more are made than this.

@@ -1,5 +1,5 @@
 //! Names, values, and what is printed of them.
-use crate::scene::{Scene, comes_to, report, run, seeing, steps};
+use crate::scene::{Scene, check_all, comes_to, report, run, seeing, steps};
 use iso_model::data::Data;
 use iso_model::names::{Binding, Names, Sort};
 use iso_model::text::Text;
@@ -16,63 +16,77 @@ fn filled(alloc: Global, before: &str, letters: usize, after: &str) -> Result<St
     Ok(text)
 }
 
+/// Blocks that print values, with what they come to.
+const EXPRESSIONS: &[(&str, &str)] = &[
+    ("{ print 2 - 3 - 4; }", "-5\n"),
+    ("{ print (2 + 3) * 4; }", "20\n"),
+    ("{ print -9223372036854775808; }", "-9223372036854775808\n"),
+    (
+        "{ print 9223372036854775806 + 1; }",
+        "9223372036854775807\n",
+    ),
+    (r#"{ print "a" != "b"; }"#, "true\n"),
+    ("{ print -1 < 0; }", "true\n"),
+    (r#"{ print text(5) ++ "x"; }"#, "5x\n"),
+];
+
 #[test]
 fn expressions_have_their_values(rt: HostRuntime) -> Result<(), Fail> {
-    let alloc = rt.alloc();
-    for (block, want) in [
-        ("{ print 2 - 3 - 4; }", "-5\n"),
-        ("{ print (2 + 3) * 4; }", "20\n"),
-        ("{ print -9223372036854775808; }", "-9223372036854775808\n"),
-        (
-            "{ print 9223372036854775806 + 1; }",
-            "9223372036854775807\n",
-        ),
-        (r#"{ print "a" != "b"; }"#, "true\n"),
-        ("{ print -1 < 0; }", "true\n"),
-        (r#"{ print text(5) ++ "x"; }"#, "5x\n"),
-    ] {
-        assert!(rt; comes_to(alloc, Scene::new(alloc), block, want)?, "{block}");
-    }
-    Ok(())
+    check_all(&rt, rt.alloc(), EXPRESSIONS)
 }
+
+/// Blocks whose numbers overflow, with what they come to.
+const OVERFLOWS: &[(&str, &str)] = &[
+    (
+        "{ print 9223372036854775807 + 1; }",
+        "fault, test row 1: overflow\n",
+    ),
+    (
+        "{ print -9223372036854775808 + -1; }",
+        "fault, test row 1: overflow\n",
+    ),
+    (
+        "{ print -9223372036854775808 - 1; }",
+        "fault, test row 1: overflow\n",
+    ),
+    (
+        "{ print 9223372036854775807 - -1; }",
+        "fault, test row 1: overflow\n",
+    ),
+    (
+        "{ print 9223372036854775807 * 2; }",
+        "fault, test row 1: overflow\n",
+    ),
+    (
+        "{ print -9223372036854775808 * -1; }",
+        "fault, test row 1: overflow\n",
+    ),
+];
 
 #[test]
 fn numbers_overflow_at_both_ends(rt: HostRuntime) -> Result<(), Fail> {
-    let alloc = rt.alloc();
-    for block in [
-        "{ print 9223372036854775807 + 1; }",
-        "{ print -9223372036854775808 + -1; }",
-        "{ print -9223372036854775808 - 1; }",
-        "{ print 9223372036854775807 - -1; }",
-        "{ print 9223372036854775807 * 2; }",
-        "{ print -9223372036854775808 * -1; }",
-    ] {
-        let want = "fault, test row 1: overflow\n";
-        assert!(rt; comes_to(alloc, Scene::new(alloc), block, want)?, "{block}");
-    }
-    Ok(())
+    check_all(&rt, rt.alloc(), OVERFLOWS)
 }
+
+/// Blocks of values that give a fault, with what they come to.
+const FAULTS: &[(&str, &str)] = &[
+    // (all operands come before the pairs)
+    (
+        "{ print 9223372036854775807 + 1 + x; }",
+        "fault, test row 1: unknown name x\n",
+    ),
+    (r#"{ print 1 == "1"; }"#, "fault, test row 1: wrong kind\n"),
+    ("{ print false < true; }", "fault, test row 1: wrong kind\n"),
+    ("{ x = 1; }", "fault, test row 1: unknown name x\n"),
+    (
+        "{ print 1;\n print x; print 2; }",
+        "1\nfault, test row 2: unknown name x\n",
+    ),
+];
 
 #[test]
 fn faults_of_values_end_the_block(rt: HostRuntime) -> Result<(), Fail> {
-    let alloc = rt.alloc();
-    for (block, want) in [
-        // (all operands come before the pairs)
-        (
-            "{ print 9223372036854775807 + 1 + x; }",
-            "fault, test row 1: unknown name x\n",
-        ),
-        (r#"{ print 1 == "1"; }"#, "fault, test row 1: wrong kind\n"),
-        ("{ print false < true; }", "fault, test row 1: wrong kind\n"),
-        ("{ x = 1; }", "fault, test row 1: unknown name x\n"),
-        (
-            "{ print 1;\n print x; print 2; }",
-            "1\nfault, test row 2: unknown name x\n",
-        ),
-    ] {
-        assert!(rt; comes_to(alloc, Scene::new(alloc), block, want)?, "{block}");
-    }
-    Ok(())
+    check_all(&rt, rt.alloc(), FAULTS)
 }
 
 #[test]
