@@ -131,7 +131,10 @@ fn against<'a, T: Touch>(
 fn comparison_of<'a>(comparison: Comparison, first: Value<'_>, second: Value<'_>) -> Given<'a>
     ensures { given_of result ≡ then (compared comparison (data_of first.entry) (data_of second.entry)) (λ holds. Ok (Flag holds)) }
 {
-    match compared(comparison, &first, &second) {
+    let holds = compared(comparison, &first, &second);
+    drop(first);
+    drop(second);
+    match holds {
         Ok(holds) => Ok(Value::Flag(holds)),
         Err(fault) => Err(fault),
     }
@@ -147,8 +150,16 @@ fn joined_to<'a>(
     ensures { IfOk result (λ g. given_of g ≡ then (given_of sum.entry) (λ x. joined operator x (data_of value.entry))) }
 {
     match sum {
-        Ok(sum) => joined(alloc, operator, &sum, &value),
-        Err(fault) => Ok(Err(fault)),
+        Ok(sum) => {
+            let given = joined(alloc, operator, &sum, &value);
+            drop(sum);
+            drop(value);
+            given
+        }
+        Err(fault) => {
+            drop(value);
+            Ok(Err(fault))
+        }
     }
 }
 
@@ -176,10 +187,12 @@ fn call<'a, T: Touch>(
     if let Function::Text = function {
         return Ok(Ok(Value::Text(operand.text(alloc)?)));
     }
-    match as_text(&operand) {
+    let given = match as_text(&operand) {
         Ok(text) => call_on_text(alloc, rights, touch, function, text),
         Err(fault) => Ok(Err(fault)),
-    }
+    };
+    drop(operand);
+    given
 }
 
 /// What a function gives of a text.

@@ -101,7 +101,10 @@ impl<'a> BlockRun<'a> {
             Ok(value) => value,
             Err(fault) => return Ok(Err(fault)),
         };
-        difference_of(self.alloc, &expected, &actual)
+        let difference = difference_of(self.alloc, &expected, &actual);
+        drop(expected);
+        drop(actual);
+        difference
     }
 
     /// `assume EXPRESSION, REASON;`
