@@ -133,9 +133,34 @@ fn compare(
     nodes: &[(u32, &str)],
 ) -> Result<(), AllocError> {
     let suite = suite(rt, alloc, classes)?;
+    compare_suite(rt, alloc, &suite, classes, nodes)
+}
+
+/// Runs the suite of classes, and compares what some of its nodes come to.
+fn compare_suite(
+    rt: &impl Abort,
+    alloc: Global,
+    suite: &Suite,
+    classes: &str,
+    nodes: &[(u32, &str)],
+) -> Result<(), AllocError> {
     let results = run_all(rt, alloc, &suite.plan, &suite.world)?;
+    compare_results(rt, alloc, &results, suite.plan.len(), classes, nodes)
+}
+
+/// Compares what some of so many nodes came to.
+fn compare_results(
+    rt: &impl Abort,
+    alloc: Global,
+    results: &Results<'_>,
+    count: u32,
+    classes: &str,
+    nodes: &[(u32, &str)],
+) -> Result<(), AllocError>
+    requires { count ≡ length results.now.plan.rows }
+{
     for (node, wanted) in nodes {
-        assert!(rt; *node < suite.plan.len());
+        assert!(rt; *node < count);
         let Some(view) = results.get(*node) else {
             panic!(rt; "node {node} of {classes} has no result");
         };
@@ -172,17 +197,21 @@ fn passed(results: &Results<'_>, count: u32) -> u32
     passed
 }
 
-/// Sixteen lines of 4,095 bytes, half of them of the test's own block, fill the output.
-#[test]
-fn output_is_counted_over_the_blocks_of_a_test(rt: HostRuntime) -> Result<(), Fail> {
-    let alloc = rt.alloc();
-    let line = "a".repeat(alloc, 4_095)?;
-    let prints = format!(in alloc; "repeat 8 {{ print \"{line}\"; }}")?;
-    let classes = format!(in alloc;
-        "class C {{ before_each {{ {prints} }} after_each {{ print \"\"; }} test t {{ {prints} }} }}"
-    )?;
-    let suite = suite(&rt, alloc, classes.as_str())?;
-    let results = run_all(&rt, alloc, &suite.plan, &suite.world)?;
+/// How many nodes of classes pass.
+fn passed_of(rt: &impl Abort, alloc: Global, classes: &str) -> Result<u32, AllocError> {
+    let suite = suite(rt, alloc, classes)?;
+    passed_in(rt, alloc, &suite)
+}
+
+/// How many nodes of a suite pass.
+fn passed_in(rt: &impl Abort, alloc: Global, suite: &Suite) -> Result<u32, AllocError> {
+    let results = run_all(rt, alloc, &suite.plan, &suite.world)?;
+    Ok(passed(&results, suite.plan.len()))
+}
+
+/// Compares what the test of a suite of one came to, which filled the output.
+fn compare_full(rt: &impl Abort, alloc: Global, suite: &Suite) -> Result<(), AllocError> {
+    let results = run_all(rt, alloc, &suite.plan, &suite.world)?;
     assert!(rt; 2 < suite.plan.len());
     let Some(view) = results.get(2) else {
         panic!(rt; "the test has no result");
@@ -203,42 +232,92 @@ fn output_is_counted_over_the_blocks_of_a_test(rt: HostRuntime) -> Result<(), Fa
     Ok(())
 }
 
-/// Eight classes deep, with 1,000 statics and 1,000 fields, and all the steps that each block may make.
+/// A class whose test prints sixteen lines of 4,095 bytes, half of them of its own block, and one more.
+fn full_class(alloc: Global) -> Result<String, AllocError> {
+    let line = "a".repeat(alloc, 4_095)?;
+    let prints = format!(in alloc; "repeat 8 {{ print \"{line}\"; }}")?;
+    let class = format!(in alloc;
+        "class C {{ before_each {{ {prints} }} after_each {{ print \"\"; }} test t {{ {prints} }} }}"
+    )?;
+    Ok(class)
+}
+
+/// Sixteen lines of 4,095 bytes, half of them of the test's own block, fill the output.
+#[test]
+fn output_is_counted_over_the_blocks_of_a_test(rt: HostRuntime) -> Result<(), Fail> {
+    let alloc = rt.alloc();
+    let class = full_class(alloc)?;
+    let suite = suite(&rt, alloc, class.as_str())?;
+    compare_full(&rt, alloc, &suite)?;
+    Ok(())
+}
+
+/// All the steps that a block may make.
+const TURNS: &str = "{ repeat 9999 { } }";
+
+/// Adds a line that was made for it.
+fn push_line(text: &mut String, line: String) -> Result<(), AllocError> {
+    text.push_str(line.as_str())?;
+    Ok(())
+}
+
+/// Adds the head of a class at a depth, with 125 statics and 125 fields.
+fn push_names(alloc: Global, classes: &mut String, depth: u32) -> Result<(), AllocError> {
+    push_line(classes, format!(in alloc; "class C{depth} {{\n")?)?;
+    for number in 0..125u32 {
+        let names = format!(in alloc;
+            "static s{depth}_{number} = 1; field f{depth}_{number} = 1;\n"
+        )?;
+        push_line(classes, names)?;
+    }
+    Ok(())
+}
+
+/// Adds the four blocks of a class.
+fn push_blocks(alloc: Global, classes: &mut String) -> Result<(), AllocError> {
+    for block in ["before_all", "after_all", "before_each", "after_each"] {
+        push_line(classes, format!(in alloc; "{block} {TURNS}\n")?)?;
+    }
+    Ok(())
+}
+
+/// Classes eight deep, with 1,000 statics and 1,000 fields, and all the steps that each block may make.
+fn largest_classes(alloc: Global) -> Result<String, AllocError> {
+    let mut classes = String::new(alloc);
+    for depth in 0..8u32 {
+        push_names(alloc, &mut classes, depth)?;
+        push_blocks(alloc, &mut classes)?;
+    }
+    push_line(
+        &mut classes,
+        format!(in alloc; "test t {TURNS} }} }} }} }} }} }} }} }}")?,
+    )?;
+    Ok(classes)
+}
+
 #[test]
 fn largest_test_passes(rt: HostRuntime) -> Result<(), Fail> {
     let alloc = rt.alloc();
-    let turns = "{ repeat 9999 { } }";
-    let mut classes = String::new(alloc);
-    for depth in 0..8u32 {
-        classes.push_str(format!(in alloc; "class C{depth} {{\n")?.as_str())?;
-        for number in 0..125u32 {
-            let names = format!(in alloc;
-                "static s{depth}_{number} = 1; field f{depth}_{number} = 1;\n"
-            )?;
-            classes.push_str(names.as_str())?;
-        }
-        for block in ["before_all", "after_all", "before_each", "after_each"] {
-            classes.push_str(format!(in alloc; "{block} {turns}\n")?.as_str())?;
-        }
-    }
-    classes.push_str(format!(in alloc; "test t {turns} }} }} }} }} }} }} }} }}")?.as_str())?;
-    let suite = suite(&rt, alloc, classes.as_str())?;
-    let results = run_all(&rt, alloc, &suite.plan, &suite.world)?;
-    assert_eq!(rt; passed(&results, suite.plan.len()), 9);
+    let classes = largest_classes(alloc)?;
+    assert_eq!(rt; passed_of(&rt, alloc, classes.as_str())?, 9);
     Ok(())
+}
+
+/// A class with the most tests that a plan has room for.
+fn largest_plan(alloc: Global) -> Result<String, AllocError> {
+    let mut classes = String::from_str(alloc, "class C {\n")?;
+    for number in 0..4_094u32 {
+        push_line(&mut classes, format!(in alloc; "test t{number} {{ }}\n")?)?;
+    }
+    classes.push_str("}")?;
+    Ok(classes)
 }
 
 /// A result for each node of the largest plan.
 #[test]
 fn largest_plan_has_its_results(rt: HostRuntime) -> Result<(), Fail> {
     let alloc = rt.alloc();
-    let mut classes = String::from_str(alloc, "class C {\n")?;
-    for number in 0..4_094u32 {
-        classes.push_str(format!(in alloc; "test t{number} {{ }}\n")?.as_str())?;
-    }
-    classes.push_str("}")?;
-    let suite = suite(&rt, alloc, classes.as_str())?;
-    let results = run_all(&rt, alloc, &suite.plan, &suite.world)?;
-    assert_eq!(rt; passed(&results, suite.plan.len()), 4_095);
+    let classes = largest_plan(alloc)?;
+    assert_eq!(rt; passed_of(&rt, alloc, classes.as_str())?, 4_095);
     Ok(())
 }

@@ -34,35 +34,53 @@ pub fn run_all<'a>(
     ensures { IfOk result (λ r. r.plan ≡ plan.now) }
 {
     let mut results = Results::new(alloc, plan, Snapshot::of(world))?;
+    open_all(rt, alloc, plan, world, &mut results)?;
+    close_all(rt, alloc, plan, world, &mut results)?;
+    Ok(results)
+}
+
+/// Runs each class's `before_all` and each test in the order of the plan.
+fn open_all<'a>(
+    rt: &impl Abort,
+    alloc: Global,
+    plan: &'a Plan,
+    world: &'a World,
+    results: &mut Results<'a>,
+) -> Result<(), AllocError>
+    requires plan { results.old.plan ≡ plan.now }
+    requires start { results.old.start ≡ world.now }
+    ensures plan { results.new.plan ≡ plan.now }
+    ensures start { results.new.start ≡ world.now }
+{
     for node in 1..plan.len() {
         if plan.is_test(node) {
-            run_node(rt, alloc, plan, world, node, BodyKind::Test, &mut results)?;
+            run_node(rt, alloc, plan, world, node, BodyKind::Test, results)?;
         } else {
-            run_node(
-                rt,
-                alloc,
-                plan,
-                world,
-                node,
-                BodyKind::BeforeAll,
-                &mut results,
-            )?;
+            run_node(rt, alloc, plan, world, node, BodyKind::BeforeAll, results)?;
         }
     }
+    Ok(())
+}
+
+/// Runs each class's `after_all`.
+fn close_all<'a>(
+    rt: &impl Abort,
+    alloc: Global,
+    plan: &'a Plan,
+    world: &'a World,
+    results: &mut Results<'a>,
+) -> Result<(), AllocError>
+    requires plan { results.old.plan ≡ plan.now }
+    requires start { results.old.start ≡ world.now }
+    ensures plan { results.new.plan ≡ plan.now }
+    ensures start { results.new.start ≡ world.now }
+{
     for node in 1..plan.len() {
         if !plan.is_test(node) {
-            run_node(
-                rt,
-                alloc,
-                plan,
-                world,
-                node,
-                BodyKind::AfterAll,
-                &mut results,
-            )?;
+            run_node(rt, alloc, plan, world, node, BodyKind::AfterAll, results)?;
         }
     }
-    Ok(results)
+    Ok(())
 }
 
 /// Runs a body of a node, and puts what it came to; unless the node has its result.
