@@ -1,6 +1,6 @@
 //! The subcommands and options, as `clap` reads and explains them.
-use clap::{Arg, ArgAction, Command, Error, value_parser};
-use std::alloc::Global;
+use clap::{Arg, ArgAction, Command, value_parser};
+use std::alloc::{AllocError, Global};
 
 static ABOUT: &str =
     "Runs scripted test classes in parallel, each as if alone, and reports in TAP 14.
@@ -26,72 +26,137 @@ static REPLAY_END: &str = "Example:
   jtap replay --schedule cart.schedule --settings junit.toml cart.jtap";
 
 /// The whole command line. The words begin with the subcommand's name.
-pub(crate) fn command_line<'a>(alloc: Global) -> Result<Command<'a>, Error> {
-    let serial = Arg::new(alloc, "serial")
-        .long("serial")
-        .action(ArgAction::SetTrue)
-        .help("Run every class and test in order on one thread");
-    let run = Command::new(alloc, "run")
-        .about("Run scripts, and write their report in TAP 14 to standard output")
-        .arg(serial)?;
-    let plan = Command::new(alloc, "plan").about(
-        "Print how the scripts would run: workers, modes and locks of each node",
-    );
-    Ok(
-        Command::new(alloc, "jtap")
-            .bin_name("jtap")?
-            .no_binary_name(true)
-            .version("0.1.0")
-            .about(ABOUT)
-            .after_help(FIRST_PAGE_END)
-            .disable_help_subcommand(true)
-            .subcommand(with_inputs(alloc, run.after_help(RUN_END))?)?
-            .subcommand(with_inputs(alloc, plan.after_help(PLAN_END))?)?
-            .subcommand(with_inputs(alloc, replay(alloc)?)?)?,
-    )
+pub(crate) fn command_line<'a>(alloc: Global) -> Result<Command<'a>, AllocError> {
+    let command = with_subcommand(first_page(alloc)?, run(alloc))?;
+    let command = with_subcommand(command, plan(alloc))?;
+    with_subcommand(command, replay(alloc))
+}
+
+/// What there is without a subcommand.
+fn first_page<'a>(alloc: Global) -> Result<Command<'a>, AllocError> {
+    Command::new(alloc, "jtap")
+        .no_binary_name(true)
+        .version("0.1.0")
+        .about(ABOUT)
+        .after_help(FIRST_PAGE_END)
+        .disable_help_subcommand(true)
+        .bin_name("jtap")
+}
+
+/// A command with one more subcommand, if that could be made.
+fn with_subcommand<'a>(
+    command: Command<'a>,
+    subcommand: Result<Command<'a>, AllocError>,
+) -> Result<Command<'a>, AllocError> {
+    match subcommand {
+        Ok(subcommand) => command.subcommand(subcommand),
+        Err(error) => {
+            drop(command);
+            Err(error)
+        }
+    }
+}
+
+/// The subcommand that runs scripts.
+fn run<'a>(alloc: Global) -> Result<Command<'a>, AllocError> {
+    let options = vec![in alloc;
+        serial(alloc),
+        settings(alloc),
+        world(alloc),
+        processors(alloc),
+        scripts(alloc),
+    ]?;
+    let about = "Run scripts, and write their report in TAP 14 to standard output";
+    subcommand(alloc, "run", about, RUN_END, options)
+}
+
+/// The subcommand that prints the plan.
+fn plan<'a>(alloc: Global) -> Result<Command<'a>, AllocError> {
+    let options = vec![in alloc;
+        settings(alloc),
+        world(alloc),
+        processors(alloc),
+        scripts(alloc),
+    ]?;
+    let about = "Print how the scripts would run: workers, modes and locks of each node";
+    subcommand(alloc, "plan", about, PLAN_END, options)
 }
 
 /// The subcommand that replays a schedule.
-fn replay<'a>(alloc: Global) -> Result<Command<'a>, Error> {
-    let schedule = Arg::new(alloc, "schedule")
-        .long("schedule")
-        .value_name("FILE")
-        .required(true)
-        .help("Events to replay, one a line");
-    Ok(
-        Command::new(alloc, "replay")
-            .about("Replay a recorded schedule, and write the report as `run` does")
-            .after_help(REPLAY_END)
-            .arg(schedule)?,
+fn replay<'a>(alloc: Global) -> Result<Command<'a>, AllocError> {
+    let options = vec![in alloc;
+        schedule(alloc),
+        settings(alloc),
+        world(alloc),
+        processors(alloc),
+        scripts(alloc),
+    ]?;
+    let about = "Replay a recorded schedule, and write the report as `run` does";
+    subcommand(alloc, "replay", about, REPLAY_END, options)
+}
+
+/// A subcommand with its options.
+fn subcommand<'a>(
+    alloc: Global,
+    name: &'a str,
+    about: &'a str,
+    end: &'a str,
+    options: Vec<Arg<'a>>,
+) -> Result<Command<'a>, AllocError> {
+    Command::new(alloc, name)
+        .about(about)
+        .after_help(end)
+        .args(options)
+}
+
+fn serial<'a>(alloc: Global) -> Arg<'a> {
+    Arg::new(alloc, "serial")
+        .long("serial")
+        .action(ArgAction::SetTrue)
+        .help("Run every class and test in order on one thread")
+}
+
+fn schedule<'a>(alloc: Global) -> Arg<'a> {
+    file(alloc, "schedule", "Events to replay, one a line").required(true)
+}
+
+fn settings<'a>(alloc: Global) -> Arg<'a> {
+    file(
+        alloc,
+        "settings",
+        "Settings in TOML, by JUnit's keys [default: none set]",
     )
 }
 
-/// A subcommand with the options that name its inputs.
-fn with_inputs<'a>(alloc: Global, command: Command<'a>) -> Result<Command<'a>, Error> {
-    let settings = Arg::new(alloc, "settings")
-        .long("settings")
+fn world<'a>(alloc: Global) -> Arg<'a> {
+    file(
+        alloc,
+        "world",
+        "Starting values, in TOML [default: none set]",
+    )
+}
+
+/// An option that names a file.
+fn file<'a>(alloc: Global, name: &'a str, help: &'a str) -> Arg<'a> {
+    Arg::new(alloc, name)
+        .long(name)
         .value_name("FILE")
-        .help("Settings in TOML, by JUnit's keys [default: none set]");
-    let world = Arg::new(alloc, "world")
-        .long("world")
-        .value_name("FILE")
-        .help("Starting values, in TOML [default: none set]");
-    let processors = Arg::new(alloc, "processors")
+        .help(help)
+}
+
+fn processors<'a>(alloc: Global) -> Arg<'a> {
+    Arg::new(alloc, "processors")
         .long("processors")
         .value_name("N")
         .value_parser(value_parser!(u32).range(1..=1024))
         .default_value("1")
-        .help("Processors to count with, 1 to 1024");
-    let scripts = Arg::new(alloc, "scripts")
+        .help("Processors to count with, 1 to 1024")
+}
+
+fn scripts<'a>(alloc: Global) -> Arg<'a> {
+    Arg::new(alloc, "scripts")
         .value_name("SCRIPT")
         .num_args(0..)
         .action(ArgAction::Append)
-        .help("Scripts to read, in this order [default: standard input]");
-    Ok(
-        command
-            .arg(settings)?
-            .arg(world)?
-            .arg(processors)?
-            .arg(scripts)?,
-    )
+        .help("Scripts to read, in this order [default: standard input]")
 }

@@ -107,10 +107,7 @@ pub fn read_words<'a>(alloc: Global, words: &'a [String]) -> Result<Request<'a>,
             files: InputFiles::none(alloc),
         });
     }
-    let command = match command_line(alloc) {
-        Ok(command) => command,
-        Err(error) => return shown(alloc, &error),
-    };
+    let command = command_line(alloc)?;
     match command.try_get_matches_from(words) {
         Ok(matches) => requested(alloc, &matches),
         Err(error) => shown(alloc, &error),
@@ -134,22 +131,25 @@ fn shown<'a>(alloc: Global, error: &Error) -> Result<Request<'a>, WordsFault>
 fn requested<'a>(alloc: Global, matches: &ArgMatches<'a>) -> Result<Request<'a>, WordsFault>
     ensures processors { IfOk result AsksForSomeProcessors }
 {
-    match matches.subcommand() {
-        Some(("plan", found)) => Ok(Request::Plan(files_of(alloc, found)?)),
-        Some(("replay", found)) => Ok(Request::Replay {
-            // `--schedule` is required: it has a value.
-            schedule: found.get_str("schedule").unwrap_or(""),
-            files: files_of(alloc, found)?,
-        }),
-        Some((_, found)) => Ok(Request::Run {
-            serial: found.get_flag("serial"),
-            files: files_of(alloc, found)?,
-        }),
-        None => Ok(Request::Run {
+    let Some((name, found)) = matches.subcommand() else {
+        return Ok(Request::Run {
             serial: false,
             files: InputFiles::none(alloc),
-        }),
-    }
+        });
+    };
+    let files = files_of(alloc, found)?;
+    Ok(match name {
+        "plan" => Request::Plan(files),
+        "replay" => Request::Replay {
+            // `--schedule` is required: it has a value.
+            schedule: found.get_str("schedule").unwrap_or(""),
+            files,
+        },
+        _ => Request::Run {
+            serial: found.get_flag("serial"),
+            files,
+        },
+    })
 }
 
 /// The files that a subcommand names.
