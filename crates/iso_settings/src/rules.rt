@@ -2,6 +2,7 @@
 ghost use Rattle.std.specs.Prelude.{◌≡◌, IfOk, IfSome, option_map, if◌then◌else◌};
 ghost use Rattle.std.specs.Int.{IsInRange};
 ghost use Rattle.std.specs.Str.{all_ascii_digits};
+ghost use Rattle.toml.specs.Data.{string};
 ghost use Rattle.toml.specs.View.{table_view, view};
 ghost use Rattle.std.specs.Str.Parse.{digits_value};
 ghost use Rattle.iso_settings.specs.Leaves.{leaves, values_at};
@@ -69,16 +70,23 @@ pub(crate) fn strategy(
 {
     match value_at(alloc, table, key)? {
         None => Ok(None),
-        Some(Value::String(text)) if text.eq_ignore_ascii_case("dynamic") => Ok(Some(
-            Strategy::Dynamic,
-        )),
-        Some(Value::String(text)) if text.eq_ignore_ascii_case("fixed") => Ok(Some(
-            Strategy::Fixed,
-        )),
-        Some(Value::String(text)) if text.eq_ignore_ascii_case("custom") => Err(
-            SettingsError::unsupported(alloc, key),
-        ),
+        Some(Value::String(text)) => Ok(Some(strategy_named(alloc, key, text)?)),
         Some(_) => Err(SettingsError::wrong_value(alloc, key)),
+    }
+}
+
+/// The strategy of this name.
+fn strategy_named(alloc: Global, key: &str, name: &str) -> Result<Strategy, SettingsError>
+    ensures { Gives (strategy key.now (string name.now)) result }
+{
+    if name.eq_ignore_ascii_case("dynamic") {
+        Ok(Strategy::Dynamic)
+    } else if name.eq_ignore_ascii_case("fixed") {
+        Ok(Strategy::Fixed)
+    } else if name.eq_ignore_ascii_case("custom") {
+        Err(SettingsError::unsupported(alloc, key))
+    } else {
+        Err(SettingsError::wrong_value(alloc, key))
     }
 }
 

@@ -2,8 +2,9 @@ ghost use Rattle.std.specs.Prelude.{◌≡◌, ◌++◌, IfOk, OnOk, codes, stri
 ghost use Rattle.toml.specs.Parse.{parse_document};
 ghost use Rattle.toml.specs.View.{table_view, view};
 ghost use Rattle.iso_settings.specs.Leaves.{leaves_at, leaves_behind};
-ghost use Rattle.iso_settings.specs.Readings.{Gives, GivesAs};
+ghost use Rattle.iso_settings.specs.Readings.{Gives, GivesAs, IsFault};
 ghost use Rattle.iso_settings.specs.Worlds.{is_long, is_printable, locale_of, table_of, text_of, texts_of, with_text, world_in};
+ghost use Rattle.iso_settings.specs.declared.fault.SettingsFault.TheVariants.{OutOfRange, WrongValue};
 
 use crate::fault::SettingsError;
 use crate::table::read_table;
@@ -72,6 +73,14 @@ impl World {
     fn with_entry(mut self, alloc: Global, key: &str, value: &Value) -> Result<World, SettingsError>
         ensures { Gives (with_entry self key.now (view value.now)) result }
     {
+        self.read_entry(alloc, key, value)?;
+        Ok(self)
+    }
+
+    /// Puts what one top-level key says in its place. After an error this world is of no use.
+    fn read_entry(&mut self, alloc: Global, key: &str, value: &Value) -> Result<(), SettingsError>
+        ensures { GivesAs (λ _. self.new) (with_entry self.old key.now (view value.now)) result }
+    {
         if key == "files" {
             self.files = table_of(alloc, key, value)?;
         } else if key == "locale" {
@@ -81,7 +90,7 @@ impl World {
         } else {
             return Err(SettingsError::wrong_value(alloc, key));
         }
-        Ok(self)
+        Ok(())
     }
 
     /// The value that a key starts with. A file that the world doesn't name is missing.
@@ -224,15 +233,35 @@ fn text_of(
     ensures { Gives (text_of top.now before.now key.now (view value.now)) result }
 {
     let Value::String(text) = value else {
-        return Err(SettingsError::wrong_value(alloc, full_key(alloc, top, key)?.as_str()));
+        return Err(wrong_value_in(alloc, top, key));
     };
     if !(is_printable(key) && is_printable(text)) || before.get(key).is_some() {
-        return Err(SettingsError::wrong_value(alloc, full_key(alloc, top, key)?.as_str()));
+        return Err(wrong_value_in(alloc, top, key));
     }
     if is_long(key) || is_long(text) {
-        return Err(SettingsError::out_of_range(alloc, full_key(alloc, top, key)?.as_str()));
+        return Err(out_of_range_in(alloc, top, key));
     }
     Ok(Text::copied(alloc, text)?)
+}
+
+/// The fault `WrongValue` at a joined key of the table `top`.
+fn wrong_value_in(alloc: Global, top: &str, key: &str) -> SettingsError
+    ensures { IsFault (WrongValue (top.now ++ codes "." ++ key.now)) result }
+{
+    match full_key(alloc, top, key) {
+        Ok(full) => SettingsError::wrong_value(alloc, &full),
+        Err(_) => SettingsError::OutOfMemory,
+    }
+}
+
+/// The fault `OutOfRange` at a joined key of the table `top`.
+fn out_of_range_in(alloc: Global, top: &str, key: &str) -> SettingsError
+    ensures { IsFault (OutOfRange (top.now ++ codes "." ++ key.now)) result }
+{
+    match full_key(alloc, top, key) {
+        Ok(full) => SettingsError::out_of_range(alloc, &full),
+        Err(_) => SettingsError::OutOfMemory,
+    }
 }
 
 /// A joined key with its top-level name.
