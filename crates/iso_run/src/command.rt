@@ -1,6 +1,6 @@
 //! The program, over a reader and two sinks.
 ghost use Rattle.std.specs.Prelude.{◌≡◌, ◌≤◌, ◌+◌, [], ◌∷◌, IfSome, IfOk, MatchResult, map, take};
-ghost use Rattle.iso_arguments.specs.Requests.{IsCount};
+ghost use Rattle.iso_arguments.specs.Requests.{AsksForSomeProcessors, IsCount, IsPlainRun};
 ghost use Rattle.iso_model.specs.declared.limits.TheConstants.{FILE_BYTES};
 ghost use Rattle.iso_run.specs.Commands.{Answered, Ended, NotAnswered, RanOn};
 
@@ -73,20 +73,38 @@ fn answer<'a, G: AllocGlobal + Files, R: Read, W: Sink>(
     ensures no_word { words.now ≡ [] → IfSome (R.remaining input.old) (λ bytes. IfOk result
         (RanOn (take (FILE_BYTES + 1) bytes ∷ []) [] [] 1 (W.account output.old) (W.account output.new))) }
 {
-    match read_words(rt.alloc(), words)? {
+    let request = read_words(rt.alloc(), words)?;
+    answer_request(rt, &request, input, output)
+}
+
+/// Does what is asked for, and answers the status, 0 or 1.
+fn answer_request<'a, G: AllocGlobal + Files, R: Read, W: Sink>(
+    rt: &G,
+    request: &Request<'a>,
+    input: &mut R,
+    output: &mut W,
+) -> Result<u8, CommandFault<'a>>
+    requires { AsksForSomeProcessors request.now }
+    ensures ended { MatchResult result
+        (λ s. Answered s (W.account output.old) (W.account output.new))
+        (λ f. NotAnswered f (W.account output.old) (W.account output.new)) }
+    ensures plain { IsPlainRun request.now → IfSome (R.remaining input.old) (λ bytes. IfOk result
+        (RanOn (take (FILE_BYTES + 1) bytes ∷ []) [] [] 1 (W.account output.old) (W.account output.new))) }
+{
+    match request {
         Request::Show(text) => show(text.as_str(), output),
         Request::Plan(files) => {
-            let bytes = read_files(rt, &files, input)?;
-            plan(rt.alloc(), &bytes, &files, output)
+            let bytes = read_files(rt, files, input)?;
+            plan(rt.alloc(), &bytes, files, output)
         }
         Request::Run { serial: _, files } => {
-            let bytes = read_files(rt, &files, input)?;
-            run(rt.alloc(), &bytes, &files, output)
+            let bytes = read_files(rt, files, input)?;
+            run(rt.alloc(), &bytes, files, output)
         }
         Request::Replay { schedule, files } => {
-            let bytes = read_files(rt, &files, input)?;
-            let schedule = read_file(rt, schedule)?;
-            replay(rt.alloc(), &bytes, &schedule, &files, output)
+            let bytes = read_files(rt, files, input)?;
+            let schedule = read_file(rt, *schedule)?;
+            replay(rt.alloc(), &bytes, &schedule, files, output)
         }
     }
 }

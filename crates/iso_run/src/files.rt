@@ -71,14 +71,23 @@ fn read_scripts<'a, G: AllocGlobal + Files, R: Read>(
     ensures standard_input { names.now ≡ [] → IfSome (R.remaining input.old) (λ bytes.
         IfOk result (λ scripts. map (λ v. v.items) scripts.items ≡ take (FILE_BYTES + 1) bytes ∷ [])) }
 {
-    let mut scripts = Vec::new(rt.alloc());
     if names.is_empty() {
-        scripts.push(read_limited(rt.alloc(), input, "stdin")?)?;
-        return Ok(scripts);
+        return one_script(rt.alloc(), read_limited(rt.alloc(), input, "stdin")?);
     }
+    let mut scripts = Vec::new(rt.alloc());
     for name in names {
         scripts.push(read_file(rt, name)?)?;
     }
+    Ok(scripts)
+}
+
+/// The bytes of a script alone.
+fn one_script<'a>(alloc: Global, bytes: Vec<u8>) -> Result<Vec<Vec<u8>>, CommandFault<'a>>
+    ensures early { IfErr result IsEarly }
+    ensures bytes { IfOk result (λ scripts. map (λ v. v.items) scripts.items ≡ bytes.items ∷ []) }
+{
+    let mut scripts = Vec::new(alloc);
+    scripts.push(bytes)?;
     Ok(scripts)
 }
 
