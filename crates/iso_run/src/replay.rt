@@ -34,13 +34,14 @@ pub fn run_schedule<W: Sink>(
     let workers = suite.settings.workers();
     let core = run_events(alloc, &suite.plan, &suite.world, workers, &events)?;
     if !core.is_complete() {
-        return Err(RunFault::Unfinished);
-    }
-    let results = core.results();
-    match write_report(&suite.plan, results, sink) {
-        Ok(()) => Ok(Summary {
-            all_ok: all_ok(&suite.plan, results),
-        }),
-        Err(fault) => Err(RunFault::Write(fault.written)),
+        Err(RunFault::Unfinished)
+    } else {
+        let results = core.results();
+        match write_report(&suite.plan, results, sink) {
+            Ok(()) => Ok(Summary {
+                all_ok: all_ok(&suite.plan, results),
+            }),
+            Err(fault) => Err(RunFault::Write(fault.written)),
+        }
     }
 }

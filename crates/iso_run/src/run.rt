@@ -32,13 +32,13 @@ pub fn run_serial<W: Sink>(
         (Refused inputs.entry (W.account sink.old) (W.account sink.new)) }
 {
     let suite = read_inputs(alloc, inputs)?;
-    let Ok(results) = iso_serial::run::run(alloc, &suite.plan, &suite.world) else {
-        return Err(RunFault::Memory);
-    };
-    match write_report(&suite.plan, &results, sink) {
-        Ok(()) => Ok(Summary {
-            all_ok: all_ok(&suite.plan, &results),
-        }),
-        Err(fault) => Err(RunFault::Write(fault.written)),
+    match iso_serial::run::run(alloc, &suite.plan, &suite.world) {
+        Ok(results) => match write_report(&suite.plan, &results, sink) {
+            Ok(()) => Ok(Summary {
+                all_ok: all_ok(&suite.plan, &results),
+            }),
+            Err(fault) => Err(RunFault::Write(fault.written)),
+        },
+        Err(_) => Err(RunFault::Memory),
     }
 }
