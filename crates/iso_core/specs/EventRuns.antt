@@ -38,10 +38,15 @@ pub record RefusedAt (plan : Planned) (world : Start) (workers : ℕ) (es : List
   pub earlier : AreAccepted plan world workers (take i es)
   pub refused : refusal_in (core_after plan world workers (take i es)) (event_at es i) ≡ why
 
--- where a list of events ended early: an event was refused, or memory was wanted once so many were accepted
+-- memory was wanted for the event after the first so many, all of which were accepted; where there are none, perhaps for a new core
+pub record WantedAt (plan : Planned) (world : Start) (workers : ℕ) (es : List Event) (i : ℕ) : Type 0 where
+  pub within : (i ≡ 0 → ⊥) → i < length es
+  pub earlier : AreAccepted plan world workers (take i es)
+
+-- where a list of events ended early: an event was refused, or memory was wanted for it
 abbrev pub EndedBy : CoreFault → Planned → Start → ℕ → List Event → ℕ → Type 0
 EndedBy (F.Refused why) plan world workers es i = RefusedAt plan world workers es i (Some (refused_of why))
-EndedBy F.OutOfMemory plan world workers es i = AreAccepted plan world workers (take i es)
+EndedBy F.OutOfMemory plan world workers es i = WantedAt plan world workers es i
 
 abbrev pub StoppedAt : Planned → Start → ℕ → List Event → EventsFault → Type 0
 StoppedAt plan world workers es f = EndedBy f.fault plan world workers es f.index

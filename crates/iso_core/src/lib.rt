@@ -1,5 +1,5 @@
-//! The isolation theorem over the definitions of scripts and plans: the language of scripts, the suite of a plan, and their laws. And
-//! of the core in code, which events are refused.
+//! The core of a run, as pure code: events of several workers on one map of resources, each accepted or refused by name; and the
+//! isolation theorem, which is the contract of what it tells of finished classes and tests.
 #![tactic(auto)]
 
 pub mod core_fault;
