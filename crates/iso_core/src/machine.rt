@@ -1,6 +1,7 @@
 //! The core of a run: events of several workers on one map of resources, each accepted or refused.
-ghost use Rattle.std.specs.Prelude.{◌≡◌, ◌<◌, ℕ, IfOk, IfSome, MatchResult, None, OnErr, OnOk, Some, false, is_some, length, replicate, true};
+ghost use Rattle.std.specs.Prelude.{◌≡◌, ◌<◌, ℕ, IfOk, IfSome, MatchResult, None, OnErr, OnOk, Some, false, is_some, length, replicate, set, true};
 ghost use Rattle.std.specs.Option.{option_map};
+ghost use Rattle.std.specs.Vec.{vec_capacity, vec_len};
 ghost use Rattle.iso_core.specs.CodeEvents.{refused_of, worker_of};
 ghost use Rattle.iso_core.specs.Cores.{Accepted, NotAccepted, is_complete, new_core, outcome_in, refusal_in, state_in, suite_in, with_event};
 ghost use Rattle.iso_core.specs.FlatMaps.{IsFlatOf, IsInnermost, OfSameMap, mark_at};
@@ -125,6 +126,35 @@ fn no_bodies<'a>(alloc: Global, workers: usize) -> Result<Vec<Option<Body<'a>>>,
     Ok(bodies)
 }
 
+/// Gives a worker a body.
+fn give_body<'a>(bodies: &mut Vec<Option<Body<'a>>>, worker: u32, body: Body<'a>)
+    requires { worker < length bodies.old.items }
+    ensures { bodies.new.items ≡ set bodies.old.items worker (Some body.entry) }
+{
+    bodies[worker as usize] = Some(body);
+}
+
+/// Makes room for one event more, and saves the values that a node may change, as it is entered. After want of memory nothing has
+/// changed.
+fn enter_values(
+    alloc: Global,
+    events: &mut Vec<Event>,
+    flat: &mut FlatMap<'_>,
+    node: u32,
+) -> Result<(), AllocError>
+    requires inner { 0 < node }
+    requires within { node < length flat.old.tray.plan.rows }
+    requires innermost { IsInnermost flat.old node }
+    ensures events { events.new.items ≡ events.old.items }
+    ensures room { OnOk result (vec_len events.new < vec_capacity events.new) }
+    ensures same { OfSameMap flat.old flat.new }
+    ensures state { OnOk result ((s : CoreNodes) → IsFlatOf flat.old s → IsFlatOf flat.new (E.entering scripts (suite_at flat.old.tray.plan flat.old.tray.world) node s)) }
+    ensures unchanged { OnErr result (flat.new ≡ flat.old) }
+{
+    events.reserve(1)?;
+    flat.enter(alloc, node)
+}
+
 /// Whether the body of a worker has ended; no body has not.
 fn has_ended(bodies: &[Option<Body<'_>>], worker: u32) -> bool
     ensures { result ≡ where_some (body_at bodies.now worker) false (λ b. is_ended (stage_of_body b)) }
@@ -197,9 +227,8 @@ impl<'a> Core<'a> {
         entered_nodes_are_apart(self.plan);
         results_follow_nodes(self.plan);
         bodies_follow_events(self.plan);
-        self.events.reserve(1)?;
-        self.flat.enter(self.alloc, node)?;
-        self.bodies[worker as usize] = Some(body);
+        enter_values(self.alloc, &mut self.events, &mut self.flat, node)?;
+        give_body(&mut self.bodies, worker, body);
         let event = Event::Enter { worker, node };
         self.standing.take(event, true);
         self.events.push_reserved(event);
@@ -267,7 +296,7 @@ impl<'a> Core<'a> {
         results_follow_nodes(self.plan);
         bodies_follow_events(self.plan);
         self.events.reserve(1)?;
-        self.bodies[worker as usize] = Some(body);
+        give_body(&mut self.bodies, worker, body);
         let event = Event::Shut { worker, node };
         self.standing.take(event, true);
         self.events.push_reserved(event);

@@ -1,14 +1,15 @@
-use Rattle.std.proofs.Common.{◌≡◌, ◌<◌, List, [], ◌∷◌, ◌++◌, Some, None, length, set, ap, sym, ◌∙◌, subst, arith}
+use Rattle.std.proofs.Common.{◌≡◌, ◌<◌, List, [], ◌∷◌, ◌++◌, Option, Some, None, length, set, ap, sym, ◌∙◌, subst, arith}
 use Rattle.std.proofs.lemmas.List.{length-set}
 use Rattle.iso_core.proofs.CoreRefusals.{shut-told}
 use Rattle.iso_core.proofs.CoreRuns.{core_of, unstopped}
 use Rattle.iso_core.proofs.CoreSteps.{StandsAfter, core-as, shut, view-next}
 use Rattle.iso_core.proofs.CoreValues.{flat-shut}
-use Rattle.iso_core.specs.Cores.{CoreView, refusal_in, state_in, suite_in, with_event}
+use Rattle.iso_core.specs.Cores.{CoreView, IsCore, refusal_in, state_in, suite_in, with_event}
 use Rattle.iso_core.specs.ScriptLanguage.{scripts}
 use Rattle.iso_core.specs.UnderWay.{IsUnderWay}
 use Rattle.iso_isolation.specs.Events as E
 use Rattle.iso_isolation.specs.Events.{after}
+use Rattle.iso_lifecycle.specs.declared.body.Body.{Body}
 use Rattle.iso_schedule.specs.declared.event.Event.{Event}
 use Rattle.iso_schedule.specs.declared.event.Event.TheVariants as Code
 use Rattle.iso_core.proofs.machine.Core.shut.Goals as goal
@@ -46,8 +47,9 @@ stands c =
 pub invariant_of-self-2 : goal.invariant_of-self-2
 invariant_of-self-2 c =
     let i = c.self.inside in
-    core-as (old c) i.standing i.flat i.bodies.items i.results c.self.invariant c.take.new.self i.flat (set i.bodies.items c.args.worker (Some c.in_ok-body.body)) i.results
-    (Code.Shut c.args.worker c.args.node) c.push_reserved.new.self.items (allowed c) (stands c) (added c)
+    subst (λ (bodies : List (Option Body)). IsCore (core_of i.plan.now i.world.now c.take.new.self c.push_reserved.new.self.items) c.take.new.self i.flat bodies i.results) (sym c.give_body.ensures)
+    (core-as (old c) i.standing i.flat i.bodies.items i.results c.self.invariant c.take.new.self i.flat (set i.bodies.items c.args.worker (Some c.in_ok-body.body)) i.results
+    (Code.Shut c.args.worker c.args.node) c.push_reserved.new.self.items (allowed c) (stands c) (added c))
 
 pub returns-clause-taken : goal.returns-clause-taken
 returns-clause-taken c =
