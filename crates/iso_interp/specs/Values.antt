@@ -1,12 +1,14 @@
 -- What the values of an evaluation stand for, wherever their texts are.
 use Rattle.std.specs.Borrow.{Bor}
-use Rattle.std.specs.Prelude.{ℕ, List, ◌++◌, Option, Some, None, Result, Ok, Err, cond}
+use Rattle.std.specs.Prelude.{ℕ, List, ◌++◌, Option, Some, None, Result, Ok, Err, cond, ◌≡◌, ⊤}
 use Rattle.iso_model.specs.Evaluation.{Given, is_equal, is_short, then}
 use Rattle.iso_model.specs.Texts.{difference_message}
 use Rattle.iso_model.specs.declared.data.Data.{Data}
 use Rattle.iso_model.specs.declared.data.Data.TheVariants as D
 use Rattle.iso_model.specs.declared.fault.Fault.{Fault}
 use Rattle.iso_model.specs.declared.fault.Fault.TheVariants.{MissingFile, TextTooLong}
+use Rattle.iso_interp.specs.declared.interrupt.Interrupt.{Interrupt}
+use Rattle.iso_interp.specs.declared.interrupt.Interrupt.TheVariants as I
 use Rattle.iso_interp.specs.declared.value.TextValue.{TextValue}
 use Rattle.iso_interp.specs.declared.value.TextValue.TheVariants.{Lent, Made}
 use Rattle.iso_interp.specs.declared.value.Value.{Value}
@@ -24,6 +26,12 @@ data_of (Text t) = D.Text (bytes_of t)
 abbrev pub given_of : Result Value Fault → Given
 given_of (Ok v) = Ok (data_of v)
 given_of (Err fault) = Err fault
+
+-- what was given, or the fault: want of memory tells nothing
+abbrev pub Answers : {A B : Type 0} → (A → B) → Result A Interrupt → Result B Fault → Type 0
+Answers view (Ok x) given = given ≡ Ok (view x)
+Answers view (Err (I.Fault fault)) given = given ≡ Err fault
+Answers view (Err I.OutOfMemory) given = ⊤
 
 abbrev pub text_given : Result (Bor (List ℕ)) Fault → Result (List ℕ) Fault
 text_given (Ok t) = Ok t.now

@@ -12,8 +12,9 @@ ghost use Rattle.iso_model.specs.declared.data.Data.TheVariants.{Flag};
 ghost use Rattle.iso_model.specs.declared.fault.Fault.TheVariants as Faults;
 ghost use Rattle.iso_model.specs.declared.names.Binding.{Binding};
 ghost use Rattle.iso_model.specs.declared.tree.Function.TheVariants as Functions;
-ghost use Rattle.iso_interp.specs.Values.{data_of, given_of};
+ghost use Rattle.iso_interp.specs.Values.{Answers, data_of, given_of};
 
+use crate::interrupt::Interrupt;
 use crate::operators::{compared, joined};
 use crate::value::{Given, TextValue, Value, as_text, length};
 use iso_model::access::Access;
@@ -36,28 +37,26 @@ pub fn evaluate<'a, T: Touch>(
     rights: &Rights,
     touch: &'a T,
     expression: &'a Expr,
-) -> Result<Given<'a>, AllocError>
+) -> Result<Value<'a>, Interrupt>
     requires { HasKeys (access_in rights.now) (T.content touch.now) (T.writes touch.now) }
-    ensures { IfOk result (λ g. given_of g ≡ evaluated names.now.names (T.content touch.now) (access_in rights.now) (term_of expression.now)) }
+    ensures { Answers data_of result (evaluated names.now.names (T.content touch.now) (access_in rights.now) (term_of expression.now)) }
 {
     match expression {
-        Expr::Literal(data) => Ok(Ok(Value::lent(data))),
+        Expr::Literal(data) => Ok(Value::lent(data)),
         Expr::Name(name) => named(alloc, names, name),
-        Expr::Chain(operator, first, rest) => {
-            match evaluate(alloc, names, rights, touch, first)? {
-                Ok(value) => chain(alloc, names, rights, touch, *operator, value, rest),
-                Err(fault) => Ok(Err(fault)),
-            }
-        }
+        Expr::Chain(operator, first, rest) => match evaluate(alloc, names, rights, touch, first) {
+            Ok(first) => chain(alloc, names, rights, touch, *operator, first, rest),
+            Err(interrupt) => Err(interrupt),
+        },
         Expr::Compare(comparison, first, second) => {
-            match evaluate(alloc, names, rights, touch, first)? {
-                Ok(value) => against(alloc, names, rights, touch, *comparison, value, second),
-                Err(fault) => Ok(Err(fault)),
+            match evaluate(alloc, names, rights, touch, first) {
+                Ok(first) => against(alloc, names, rights, touch, *comparison, first, second),
+                Err(interrupt) => Err(interrupt),
             }
         }
-        Expr::Call(function, operand) => match evaluate(alloc, names, rights, touch, operand)? {
-            Ok(value) => call(alloc, rights, touch, *function, value),
-            Err(fault) => Ok(Err(fault)),
+        Expr::Call(function, operand) => match evaluate(alloc, names, rights, touch, operand) {
+            Ok(operand) => call(alloc, rights, touch, *function, operand),
+            Err(interrupt) => Err(interrupt),
         },
         Expr::Locale => locale(alloc, rights, touch),
     }
@@ -74,28 +73,27 @@ fn chain<'a, T: Touch>(
     operator: Operator,
     first: Value<'a>,
     rest: &'a [Expr],
-) -> Result<Given<'a>, AllocError>
+) -> Result<Value<'a>, Interrupt>
     requires { HasKeys (access_in rights.now) (T.content touch.now) (T.writes touch.now) }
-    ensures { IfOk result (λ g. given_of g ≡ then
+    ensures { Answers data_of result (then
         (evaluated_all names.now.names (T.content touch.now) (access_in rights.now) (terms_of_all rest.now))
         (λ ds. joined_all operator (data_of first.entry) ds)) }
 {
     let mut sum = Ok(first);
     for operand in rest {
         match evaluate(alloc, names, rights, touch, operand) {
-            Ok(Ok(value)) => sum = joined_to(alloc, operator, sum, value)?,
+            Ok(value) => sum = joined_to(alloc, operator, sum, value)?,
             // A call drops the sum: its variants then stand in the proof of that call alone.
-            Ok(Err(fault)) => {
+            Err(interrupt) => {
                 drop(sum);
-                return Ok(Err(fault));
-            }
-            Err(error) => {
-                drop(sum);
-                return Err(error);
+                return Err(interrupt);
             }
         }
     }
-    Ok(sum)
+    match sum {
+        Ok(value) => Ok(value),
+        Err(fault) => Err(Interrupt::Fault(fault)),
+    }
 }
 
 /// Whether a comparison of a first value with a second operand holds.
@@ -108,35 +106,35 @@ fn against<'a, T: Touch>(
     comparison: Comparison,
     first: Value<'a>,
     second: &'a Expr,
-) -> Result<Given<'a>, AllocError>
+) -> Result<Value<'a>, Interrupt>
     requires { HasKeys (access_in rights.now) (T.content touch.now) (T.writes touch.now) }
-    ensures { IfOk result (λ g. given_of g ≡ then
+    ensures { Answers data_of result (then
         (evaluated names.now.names (T.content touch.now) (access_in rights.now) (term_of second.now))
         (λ y. then (compared comparison (data_of first.entry) y) (λ holds. Ok (Flag holds)))) }
 {
     match evaluate(alloc, names, rights, touch, second) {
-        Ok(Ok(second)) => Ok(comparison_of(comparison, first, second)),
-        Ok(Err(fault)) => {
+        Ok(second) => comparison_of(comparison, first, second),
+        Err(interrupt) => {
             drop(first);
-            Ok(Err(fault))
-        }
-        Err(error) => {
-            drop(first);
-            Err(error)
+            Err(interrupt)
         }
     }
 }
 
 /// Whether a comparison of two values holds, as a value.
-fn comparison_of<'a>(comparison: Comparison, first: Value<'_>, second: Value<'_>) -> Given<'a>
-    ensures { given_of result ≡ then (compared comparison (data_of first.entry) (data_of second.entry)) (λ holds. Ok (Flag holds)) }
+fn comparison_of<'a>(
+    comparison: Comparison,
+    first: Value<'_>,
+    second: Value<'_>,
+) -> Result<Value<'a>, Interrupt>
+    ensures { Answers data_of result (then (compared comparison (data_of first.entry) (data_of second.entry)) (λ holds. Ok (Flag holds))) }
 {
     let holds = compared(comparison, &first, &second);
     drop(first);
     drop(second);
     match holds {
         Ok(holds) => Ok(Value::Flag(holds)),
-        Err(fault) => Err(fault),
+        Err(fault) => Err(Interrupt::Fault(fault)),
     }
 }
 
@@ -164,12 +162,12 @@ fn joined_to<'a>(
 }
 
 /// The value of a name.
-fn named<'a>(alloc: Global, names: &'a Names, name: &Text) -> Result<Given<'a>, AllocError>
-    ensures { IfOk result (λ g. given_of g ≡ or_fault (option_map (λ (b : Binding). b.value) (binding_of names.now.names name.now)) (Faults.UnknownName name.now)) }
+fn named<'a>(alloc: Global, names: &'a Names, name: &Text) -> Result<Value<'a>, Interrupt>
+    ensures { Answers data_of result (or_fault (option_map (λ (b : Binding). b.value) (binding_of names.now.names name.now)) (Faults.UnknownName name.now)) }
 {
     match names.get(name.as_str()) {
-        Some(binding) => Ok(Ok(Value::lent(&binding.value))),
-        None => Ok(Err(Fault::UnknownName(name.copy(alloc)?))),
+        Some(binding) => Ok(Value::lent(&binding.value)),
+        None => Err(Interrupt::Fault(Fault::UnknownName(name.copy(alloc)?))),
     }
 }
 
@@ -180,16 +178,16 @@ fn call<'a, T: Touch>(
     touch: &'a T,
     function: Function,
     operand: Value<'a>,
-) -> Result<Given<'a>, AllocError>
+) -> Result<Value<'a>, Interrupt>
     requires { HasKeys (access_in rights.now) (T.content touch.now) (T.writes touch.now) }
-    ensures { IfOk result (λ g. given_of g ≡ called (T.content touch.now) (access_in rights.now) function (data_of operand.entry)) }
+    ensures { Answers data_of result (called (T.content touch.now) (access_in rights.now) function (data_of operand.entry)) }
 {
     if let Function::Text = function {
-        return Ok(Ok(Value::Text(operand.text(alloc)?)));
+        return Ok(Value::Text(operand.text(alloc)?));
     }
     let given = match as_text(&operand) {
         Ok(text) => call_on_text(alloc, rights, touch, function, text),
-        Err(fault) => Ok(Err(fault)),
+        Err(fault) => Err(Interrupt::Fault(fault)),
     };
     drop(operand);
     given
@@ -202,13 +200,13 @@ fn call_on_text<'a, T: Touch>(
     touch: &'a T,
     function: Function,
     text: &str,
-) -> Result<Given<'a>, AllocError>
+) -> Result<Value<'a>, Interrupt>
     requires { HasKeys (access_in rights.now) (T.content touch.now) (T.writes touch.now) }
-    ensures { IfOk result (λ g. given_of g ≡ called (T.content touch.now) (access_in rights.now) function (Kinds.Text text.now)) }
+    ensures { Answers data_of result (called (T.content touch.now) (access_in rights.now) function (Kinds.Text text.now)) }
 {
     match function {
-        Function::Text => Ok(Ok(Value::Text(TextValue::Made(Text::copied(alloc, text)?)))),
-        Function::Len => Ok(Ok(Value::Whole(length(alloc, text)?))),
+        Function::Text => Ok(Value::Text(TextValue::Made(Text::copied(alloc, text)?))),
+        Function::Len => Ok(Value::Whole(length(alloc, text)?)),
         Function::Prop => property(alloc, rights, touch, text),
         Function::HasProp => has_property(alloc, rights, touch, text),
         Function::File => file(alloc, rights, touch, text),
@@ -217,10 +215,10 @@ fn call_on_text<'a, T: Touch>(
 }
 
 /// The fault of a look at a resource that isn't declared.
-fn undeclared<'a>(alloc: Global, key: ResourceKey<'_>) -> Result<Given<'a>, AllocError>
-    ensures { IfOk result (λ g. given_of g ≡ Err (Faults.Undeclared Access.Read (spelling key.entry))) }
+fn undeclared<'a>(alloc: Global, key: ResourceKey<'_>) -> Result<Value<'a>, Interrupt>
+    ensures { Answers data_of result (Err (Faults.Undeclared Access.Read (spelling key.entry))) }
 {
-    Ok(Err(Fault::Undeclared(Access::Read, key.key(alloc)?)))
+    Err(Interrupt::Fault(Fault::Undeclared(Access::Read, key.key(alloc)?)))
 }
 
 /// The text of a property.
@@ -229,16 +227,16 @@ fn property<'a, T: Touch>(
     rights: &Rights,
     touch: &'a T,
     name: &str,
-) -> Result<Given<'a>, AllocError>
+) -> Result<Value<'a>, Interrupt>
     requires { HasKeys (access_in rights.now) (T.content touch.now) (T.writes touch.now) }
-    ensures { IfOk result (λ g. given_of g ≡ called (T.content touch.now) (access_in rights.now) Functions.Prop (Kinds.Text name.now)) }
+    ensures { Answers data_of result (called (T.content touch.now) (access_in rights.now) Functions.Prop (Kinds.Text name.now)) }
 {
     if !rights.lets_look(ResourceKey::Properties) {
         return undeclared(alloc, ResourceKey::Properties);
     }
     match touch.look(ResourceKey::Properties, Ask::Prop(name)) {
-        Some(text) => Ok(Ok(Value::Text(TextValue::Lent(text)))),
-        None => Ok(Err(Fault::MissingProperty(Text::copied(alloc, name)?))),
+        Some(text) => Ok(Value::Text(TextValue::Lent(text))),
+        None => Err(Interrupt::Fault(Fault::MissingProperty(Text::copied(alloc, name)?))),
     }
 }
 
@@ -248,15 +246,15 @@ fn has_property<'a, T: Touch>(
     rights: &Rights,
     touch: &'a T,
     name: &str,
-) -> Result<Given<'a>, AllocError>
+) -> Result<Value<'a>, Interrupt>
     requires { HasKeys (access_in rights.now) (T.content touch.now) (T.writes touch.now) }
-    ensures { IfOk result (λ g. given_of g ≡ called (T.content touch.now) (access_in rights.now) Functions.HasProp (Kinds.Text name.now)) }
+    ensures { Answers data_of result (called (T.content touch.now) (access_in rights.now) Functions.HasProp (Kinds.Text name.now)) }
 {
     if !rights.lets_look(ResourceKey::Properties) {
         return undeclared(alloc, ResourceKey::Properties);
     }
     let found = touch.look(ResourceKey::Properties, Ask::Prop(name));
-    Ok(Ok(Value::Flag(found.is_some())))
+    Ok(Value::Flag(found.is_some()))
 }
 
 /// The text of the file at a path.
@@ -265,16 +263,16 @@ fn file<'a, T: Touch>(
     rights: &Rights,
     touch: &'a T,
     path: &str,
-) -> Result<Given<'a>, AllocError>
+) -> Result<Value<'a>, Interrupt>
     requires { HasKeys (access_in rights.now) (T.content touch.now) (T.writes touch.now) }
-    ensures { IfOk result (λ g. given_of g ≡ called (T.content touch.now) (access_in rights.now) Functions.File (Kinds.Text path.now)) }
+    ensures { Answers data_of result (called (T.content touch.now) (access_in rights.now) Functions.File (Kinds.Text path.now)) }
 {
     if !rights.lets_look(ResourceKey::File(path)) {
         return undeclared(alloc, ResourceKey::File(path));
     }
     match touch.look(ResourceKey::File(path), Ask::File) {
-        Some(text) => Ok(Ok(Value::Text(TextValue::Lent(text)))),
-        None => Ok(Err(Fault::MissingFile(Text::copied(alloc, path)?))),
+        Some(text) => Ok(Value::Text(TextValue::Lent(text))),
+        None => Err(Interrupt::Fault(Fault::MissingFile(Text::copied(alloc, path)?))),
     }
 }
 
@@ -284,15 +282,15 @@ fn has_file<'a, T: Touch>(
     rights: &Rights,
     touch: &'a T,
     path: &str,
-) -> Result<Given<'a>, AllocError>
+) -> Result<Value<'a>, Interrupt>
     requires { HasKeys (access_in rights.now) (T.content touch.now) (T.writes touch.now) }
-    ensures { IfOk result (λ g. given_of g ≡ called (T.content touch.now) (access_in rights.now) Functions.HasFile (Kinds.Text path.now)) }
+    ensures { Answers data_of result (called (T.content touch.now) (access_in rights.now) Functions.HasFile (Kinds.Text path.now)) }
 {
     if !rights.lets_look(ResourceKey::File(path)) {
         return undeclared(alloc, ResourceKey::File(path));
     }
     let found = touch.look(ResourceKey::File(path), Ask::File);
-    Ok(Ok(Value::Flag(found.is_some())))
+    Ok(Value::Flag(found.is_some()))
 }
 
 /// The locale.
@@ -300,15 +298,15 @@ fn locale<'a, T: Touch>(
     alloc: Global,
     rights: &Rights,
     touch: &'a T,
-) -> Result<Given<'a>, AllocError>
+) -> Result<Value<'a>, Interrupt>
     requires { HasKeys (access_in rights.now) (T.content touch.now) (T.writes touch.now) }
-    ensures { IfOk result (λ g. given_of g ≡ evaluated [] (T.content touch.now) (access_in rights.now) locale) }
+    ensures { Answers data_of result (evaluated [] (T.content touch.now) (access_in rights.now) locale) }
 {
     if !rights.lets_look(ResourceKey::Locale) {
         return undeclared(alloc, ResourceKey::Locale);
     }
     match touch.look(ResourceKey::Locale, Ask::Locale) {
-        Some(text) => Ok(Ok(Value::Text(TextValue::Lent(text)))),
-        None => Ok(Ok(Value::Text(TextValue::Lent("")))),
+        Some(text) => Ok(Value::Text(TextValue::Lent(text))),
+        None => Ok(Value::Text(TextValue::Lent(""))),
     }
 }

@@ -2,6 +2,7 @@
 #![tactic(auto)]
 
 mod expression;
+mod interrupt;
 mod operators;
 pub mod run;
 mod value;

@@ -9,6 +9,7 @@ mod resources;
 mod values;
 
 use crate::expression::evaluate;
+use crate::interrupt::Interrupt;
 use crate::value::{Given, as_count, as_flag, own_text, own_texts};
 use iso_model::data::Data;
 use iso_model::fault::{Fault, FaultKind};
@@ -265,7 +266,7 @@ impl<'a> BlockRun<'a> {
     {
         let message = Text::copied(self.alloc, "out of steps")?;
         let note = self.note(message, row);
-        self.ending = Ending::Fault(FaultKind::OutOfSteps, note);
+        self.end(Ending::Fault(FaultKind::OutOfSteps, note));
         self.top = None;
         self.below.clear();
         Ok(())
@@ -276,9 +277,11 @@ impl<'a> BlockRun<'a> {
         ensures ended { OnOk result (local_of self.new ≡ faulted row fault (local_of self.old)) }
         ensures work { SameWork self.old self.new }
     {
-        let message = fault.message(self.alloc)?;
-        let note = self.note(message, row);
-        self.ending = Ending::Fault(fault.kind(), note);
+        let kind = fault.kind();
+        let message = fault.message(self.alloc);
+        drop(fault);
+        let note = self.note(message?, row);
+        self.end(Ending::Fault(kind, note));
         Ok(())
     }
 
@@ -287,7 +290,8 @@ impl<'a> BlockRun<'a> {
         ensures ended { local_of self.new ≡ failed row message (local_of self.old) }
         ensures work { SameWork self.old self.new }
     {
-        self.ending = Ending::Fail(self.note(message, row));
+        let note = self.note(message, row);
+        self.end(Ending::Fail(note));
     }
 
     /// Ends the block by a false assumption.
@@ -295,7 +299,16 @@ impl<'a> BlockRun<'a> {
         ensures ended { local_of self.new ≡ skipped row reason (local_of self.old) }
         ensures work { SameWork self.old self.new }
     {
-        self.ending = Ending::Assumed(self.note(reason, row));
+        let note = self.note(reason, row);
+        self.end(Ending::Assumed(note));
+    }
+
+    /// Ends the block.
+    fn end(&mut self, ending: Ending)
+        ensures ended { local_of self.new ≡ with_ending ending (local_of self.old) }
+        ensures work { SameWork self.old self.new }
+    {
+        self.ending = ending;
     }
 
     /// A message, with the row where it arose.
@@ -317,7 +330,11 @@ impl<'a> BlockRun<'a> {
         requires { HasKeys (run_rights self.now) (T.content touch.now) (T.writes touch.now) }
         ensures { IfOk result (λ g. given_of g ≡ value (run_rights self.now) (state_of self.now (T.content touch.now)) (term_of expression.now)) }
     {
-        evaluate(self.alloc, &self.names, self.rights, touch, expression)
+        match evaluate(self.alloc, &self.names, self.rights, touch, expression) {
+            Ok(value) => Ok(Ok(value)),
+            Err(Interrupt::Fault(fault)) => Ok(Err(fault)),
+            Err(Interrupt::OutOfMemory) => Err(AllocError),
+        }
     }
 
     /// A text that is the value's own, of an expression that has to be a text.

@@ -1,0 +1,32 @@
+//! What ends the work on an expression or a statement early.
+use iso_model::fault::Fault;
+use std::alloc::AllocError;
+
+/// A fault, which ends the block, or want of memory, which ends its run.
+#[derive(Drop)]
+pub enum Interrupt {
+    Fault(Fault),
+    OutOfMemory,
+}
+
+impl From<AllocError> for Interrupt {
+    ghost use Rattle.std.specs.Prelude.{◌≡◌};
+    ghost use Rattle.iso_interp.specs.declared.interrupt.Interrupt.TheVariants.{OutOfMemory};
+
+    ghost from_gives = { λ _ interrupt. interrupt ≡ OutOfMemory };
+
+    fn from(_error: AllocError) -> Interrupt {
+        Interrupt::OutOfMemory
+    }
+}
+
+impl From<Fault> for Interrupt {
+    ghost use Rattle.std.specs.Prelude.{◌≡◌};
+    ghost use Rattle.iso_interp.specs.declared.interrupt.Interrupt.TheVariants as Interrupts;
+
+    ghost from_gives = { λ fault interrupt. interrupt ≡ Interrupts.Fault fault };
+
+    fn from(fault: Fault) -> Interrupt {
+        Interrupt::Fault(fault)
+    }
+}
