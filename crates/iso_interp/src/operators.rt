@@ -1,6 +1,7 @@
 //! What joins and compares values.
-ghost use Rattle.std.specs.Prelude.{◌≡◌, ◌++◌, ◌+ℤ◌, ◌-ℤ◌, ◌*ℤ◌, Some, None, cond, IfOk};
-ghost use Rattle.iso_model.specs.Evaluation.{compared, is_equal, is_less, is_short, joined, whole};
+ghost use Rattle.std.specs.Prelude.{◌≡◌, ◌++◌, Some, None, cond, IfOk};
+ghost use Rattle.iso_model.specs.Evaluation.{compared, is_equal, is_less, is_short, joined};
+ghost use Rattle.iso_model.specs.declared.data.Data.TheVariants as Kinds;
 ghost use Rattle.iso_interp.specs.Values.{data_of, given_of};
 
 use crate::value::{Given, TextValue, Value};
@@ -19,47 +20,44 @@ pub fn joined<'a>(
 ) -> Result<Given<'a>, AllocError>
     ensures { IfOk result (λ g. given_of g ≡ joined operator (data_of first.now) (data_of second.now)) }
 {
-    match (operator, first, second) {
-        (Operator::Add, Value::Whole(x), Value::Whole(y)) => Ok(sum(*x, *y)),
-        (Operator::Subtract, Value::Whole(x), Value::Whole(y)) => Ok(difference(*x, *y)),
-        (Operator::Multiply, Value::Whole(x), Value::Whole(y)) => Ok(product(*x, *y)),
-        (Operator::Join, Value::Text(x), Value::Text(y)) => {
-            match joined_text(alloc, x.as_str(), y.as_str())? {
-                Some(text) => Ok(Ok(Value::Text(TextValue::Made(text)))),
-                None => Ok(Err(Fault::TextTooLong)),
-            }
-        }
+    match (first, second) {
+        (Value::Whole(x), Value::Whole(y)) => Ok(combined_numbers(operator, *x, *y)),
+        (Value::Text(x), Value::Text(y)) => combined_texts(alloc, operator, x.as_str(), y.as_str()),
         _ => Ok(Err(Fault::WrongKind)),
     }
 }
 
-/// The sum of two numbers.
-fn sum<'a>(x: i64, y: i64) -> Given<'a>
-    ensures { given_of result ≡ whole (x +ℤ y) }
+/// What an operator makes of two numbers.
+fn combined_numbers<'a>(operator: Operator, x: i64, y: i64) -> Given<'a>
+    ensures { given_of result ≡ joined operator (Kinds.Whole x) (Kinds.Whole y) }
 {
-    match x.checked_add(y) {
-        Some(sum) => Ok(Value::Whole(sum)),
+    let number = match operator {
+        Operator::Add => x.checked_add(y),
+        Operator::Subtract => x.checked_sub(y),
+        Operator::Multiply => x.checked_mul(y),
+        Operator::Join => return Err(Fault::WrongKind),
+    };
+    match number {
+        Some(number) => Ok(Value::Whole(number)),
         None => Err(Fault::Overflow),
     }
 }
 
-/// The difference of two numbers.
-fn difference<'a>(x: i64, y: i64) -> Given<'a>
-    ensures { given_of result ≡ whole (x -ℤ y) }
+/// What an operator makes of two texts.
+fn combined_texts<'a>(
+    alloc: Global,
+    operator: Operator,
+    first: &str,
+    second: &str,
+) -> Result<Given<'a>, AllocError>
+    ensures { IfOk result (λ g. given_of g ≡ joined operator (Kinds.Text first.now) (Kinds.Text second.now)) }
 {
-    match x.checked_sub(y) {
-        Some(difference) => Ok(Value::Whole(difference)),
-        None => Err(Fault::Overflow),
+    if !matches!(operator, Operator::Join) {
+        return Ok(Err(Fault::WrongKind));
     }
-}
-
-/// The product of two numbers.
-fn product<'a>(x: i64, y: i64) -> Given<'a>
-    ensures { given_of result ≡ whole (x *ℤ y) }
-{
-    match x.checked_mul(y) {
-        Some(product) => Ok(Value::Whole(product)),
-        None => Err(Fault::Overflow),
+    match joined_text(alloc, first, second)? {
+        Some(text) => Ok(Ok(Value::Text(TextValue::Made(text)))),
+        None => Ok(Err(Fault::TextTooLong)),
     }
 }
 
