@@ -74,13 +74,13 @@ impl<'a> BlockRun<'a> {
     {
         match self.names.assign(name.as_str(), value) {
             Ok(()) => Ok(()),
-            Err(AssignFault::UnknownName) => {
-                let unknown = name.copy(self.alloc)?;
-                self.fault(row, Fault::UnknownName(unknown))
-            }
-            Err(AssignFault::Frozen) => {
-                let frozen = name.copy(self.alloc)?;
-                self.fault(row, Fault::Frozen(frozen))
+            Err(fault) => {
+                let name = name.copy(self.alloc)?;
+                let fault = match fault {
+                    AssignFault::UnknownName => Fault::UnknownName(name),
+                    AssignFault::Frozen => Fault::Frozen(name),
+                };
+                self.fault(row, fault)
             }
         }
     }
