@@ -119,6 +119,9 @@ is_fail t old mid rest next taken =
     let s = after-Some Semicolon mid rest taken in
     subst (λ ps. IsSimple Fail (plain (fail t)) ps rest) (sym (f.1 ∙ ap (λ ps. text_at f.0 t ∷ ps) s.1)) a_fail
 
+pub fail_text : (a : Act) (ps rest : List Piece) → text_next ps ≡ None → IsSimple Fail a ps rest → ⊥
+fail_text a ps rest none a_fail = cc
+
 pub fail_closes : (t : List ℕ) (a : Act) (old mid rest : List Piece) → text_next old ≡ Some (t, mid) → after Semicolon mid ≡ None → IsSimple Fail a old rest → ⊥
 fail_closes t a old mid rest next none (a_fail {q = q} {t = s} {ps = ps}) =
     let p = some_pair_parts s t (symbol_at q Semicolon ∷ ps) mid next in
@@ -132,6 +135,9 @@ is_binding n e old ps mid rest name taken h =
     let s = after-Some Equals ps mid taken in
     let b : List ℕ × Term = (n, e) in
     subst (λ qs. IsBinding b qs rest) (sym (f.1 ∙ ap (λ ps. name_at f.0 n ∷ ps) s.1)) (a_binding h)
+
+pub binding_name : (b : List ℕ × Term) (ps rest : List Piece) → name_next ps ≡ None → IsBinding b ps rest → ⊥
+binding_name b ps rest none (a_binding h) = cc
 
 pub binding_equals : (n : List ℕ) (b : List ℕ × Term) (old ps rest : List Piece) → name_next old ≡ Some (n, ps) → after Equals ps ≡ None → IsBinding b old rest → ⊥
 binding_equals n b old ps rest next none (a_binding {q = q} {n = m} {ps = qs} h) =

@@ -1,11 +1,14 @@
 //! Literals and expressions.
-ghost use Rattle.std.specs.Prelude.{◌≡◌, ◌∷◌, ◌-◌, ℕ, List};
+ghost use Rattle.std.specs.Prelude.{◌≡◌, ◌∷◌, ◌-◌, ℕ, List, MatchResult, None, Some};
 ghost use Rattle.iso_lexer.specs.Piece.{Piece, symbol_at};
+ghost use Rattle.iso_lexer.specs.Tokens.{after};
 ghost use Rattle.iso_lexer.specs.declared.symbol.Symbol.TheVariants.{Minus};
+ghost use Rattle.iso_model.specs.Syntax.{chain, compare};
 ghost use Rattle.iso_model.specs.SyntaxView.{term_of};
 ghost use Rattle.iso_model.specs.declared.data.Data.{Data};
 ghost use Rattle.iso_model.specs.declared.limits.TheConstants.{OPERANDS};
 ghost use Rattle.iso_statements.specs.Expressions.{IsBefore, IsChained, IsEnclosed, IsExpression, IsLiteral, IsLocale, IsOperand, function_next, function_of, infix_next, infix_of, terms_in};
+ghost use Rattle.iso_statements.specs.Faults.{IsMemory};
 ghost use Rattle.iso_statements.specs.Parsing.{Parses};
 
 use crate::fault::{ScriptError, ScriptFaultKind};
@@ -17,6 +20,7 @@ use iso_model::data::Data;
 use iso_model::limits::{OPERANDS, PARENTHESES};
 use iso_model::text::Text;
 use iso_model::tree::{Comparison, Expr, Function, Operator};
+use std::alloc::Global;
 
 /// The most operands of a chain after its first.
 const MORE_OPERANDS: usize = OPERANDS as usize - 1;
@@ -57,6 +61,34 @@ fn function_of(word: Word) -> Option<Function>
         Word::HasFile => Some(Function::HasFile),
         _ => None,
     }
+}
+
+/// An operand and those that follow it in its chain.
+fn chain(
+    alloc: Global,
+    operator: Operator,
+    first: Expr,
+    operands: Vec<Expr>,
+) -> Result<Expr, ScriptError>
+    ensures { MatchResult result (λ e. term_of e ≡ chain operator (term_of first) (terms_in operands)) IsMemory }
+{
+    Ok(Expr::Chain(operator, Box::new(alloc, first)?, operands))
+}
+
+/// Two operands that are compared.
+fn compare(
+    alloc: Global,
+    comparison: Comparison,
+    first: Expr,
+    second: Expr,
+) -> Result<Expr, ScriptError>
+    ensures { MatchResult result (λ e. term_of e ≡ compare comparison (term_of first) (term_of second)) IsMemory }
+{
+    Ok(Expr::Compare(
+        comparison,
+        Box::new(alloc, first)?,
+        Box::new(alloc, second)?,
+    ))
 }
 
 impl Parser<'_> {
@@ -165,8 +197,7 @@ impl Parser<'_> {
     {
         let more = self.open(Symbol::OpenParen, parens)?;
         let expression = self.expression(more)?;
-        self.expect(Symbol::CloseParen)?;
-        Ok(expression)
+        self.followed(expression, Symbol::CloseParen)
     }
 
     /// The operands after the first of a chain, with this operator before each.
@@ -200,20 +231,26 @@ impl Parser<'_> {
         match infix {
             Infix::Chain(operator) => {
                 let operands = self.chained(symbol, parens)?;
-                Ok(Expr::Chain(operator, Box::new(self.alloc, first)?, operands))
+                chain(self.alloc, operator, first, operands)
             }
             Infix::Compare(comparison) => {
                 self.lexer.advance();
-                let second = self.operand(parens)?;
-                if self.infix().is_some() {
-                    return Err(self.unexpected());
-                }
-                Ok(Expr::Compare(
-                    comparison,
-                    Box::new(self.alloc, first)?,
-                    Box::new(self.alloc, second)?,
-                ))
+                let second = self.compared(parens)?;
+                compare(self.alloc, comparison, first, second)
             }
+        }
+    }
+
+    /// The second of two operands that are compared, which no operator follows.
+    #[cycle(expression)]
+    fn compared(&mut self, parens: u32) -> Result<Expr, ScriptError>
+        ensures { Parses term_of (λ e ps qs. IsOperand parens e ps qs × (infix_next qs ≡ None)) result self.old.lexer self.new.lexer }
+    {
+        let second = self.operand(parens)?;
+        if self.infix().is_some() {
+            Err(self.unexpected())
+        } else {
+            Ok(second)
         }
     }
 
@@ -222,6 +259,15 @@ impl Parser<'_> {
         ensures { Parses term_of (IsBefore symbol) result self.old.lexer self.new.lexer }
     {
         let expression = self.expression(PARENTHESES)?;
+        self.followed(expression, symbol)
+    }
+
+    /// Goes past the symbol that has to follow an expression.
+    fn followed(&mut self, expression: Expr, symbol: Symbol) -> Result<Expr, ScriptError>
+        ensures { MatchResult result
+            (λ e. (e ≡ expression) × (after symbol self.old.lexer ≡ Some self.new.lexer))
+            (λ _. after symbol self.old.lexer ≡ None) }
+    {
         self.expect(symbol)?;
         Ok(expression)
     }

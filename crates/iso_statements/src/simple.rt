@@ -1,7 +1,8 @@
 //! Statements without bodies.
-ghost use Rattle.std.specs.Prelude.{◌≡◌, List, ℕ};
+ghost use Rattle.std.specs.Prelude.{◌≡◌, List, ℕ, MatchResult};
 ghost use Rattle.iso_model.specs.Syntax.{Term, plain};
 ghost use Rattle.iso_model.specs.SyntaxView.{form_of, term_of};
+ghost use Rattle.iso_statements.specs.Faults.{IsMemory};
 ghost use Rattle.iso_statements.specs.Parsing.{Parses};
 ghost use Rattle.iso_statements.specs.Statements.{IsBinding, IsDisplay, IsSimple, binding_of, is_display, simple_next, simple_of, with_one, with_two};
 ghost use Rattle.iso_statements.specs.declared.simple.Simple.TheVariants.{Assume, Fail, Let, One, Two};
@@ -14,6 +15,7 @@ use iso_lexer::word::Word;
 use iso_model::limits::DISPLAY_BYTES;
 use iso_model::text::Text;
 use iso_model::tree::{Expr, Form};
+use std::alloc::Global;
 
 /// A statement of one expression.
 #[derive(Clone, Copy)]
@@ -105,6 +107,13 @@ fn is_display(text: &[u8]) -> bool
     text.len() <= DISPLAY_BYTES as usize && *first != b' ' && text[text.len() - 1] != b' '
 }
 
+/// An expression with its name.
+fn named(alloc: Global, name: &str, value: Expr) -> Result<(Text, Expr), ScriptError>
+    ensures { MatchResult result (λ b. binding_of b ≡ (name.now, term_of value)) IsMemory }
+{
+    Ok((Text::copied(alloc, name)?, value))
+}
+
 impl Parser<'_> {
     /// The simple statement whose word is next.
     pub(crate) fn simple(&self) -> Option<Simple>
@@ -180,7 +189,7 @@ impl Parser<'_> {
         let name = self.name()?;
         self.expect(Symbol::Equals)?;
         let value = self.expression_before(Symbol::Semicolon)?;
-        Ok((Text::copied(self.alloc, name)?, value))
+        named(self.alloc, name, value)
     }
 
     /// A display text or a reason.

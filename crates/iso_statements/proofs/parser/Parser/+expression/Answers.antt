@@ -2,17 +2,16 @@ use Rattle.std.proofs.Common.{◌∙◌, ◌<◌, ◌-◌, ◌≡◌, ap, sym, a
 use Rattle.std.proofs.lemmas.List.{map_push}
 use Rattle.std.proofs.lemmas.Result.{err_from_is_err_and}
 use Rattle.iso_lexer.specs.Piece.{tail}
-use Rattle.iso_lexer.specs.declared.symbol.Symbol.TheVariants.{CloseParen}
 use Rattle.iso_model.specs.Syntax.{term}
 use Rattle.iso_model.specs.SyntaxView.{term_of}
-use Rattle.iso_statements.specs.Expressions.{infix_next, IsChained, IsEnclosed, IsLocale, IsOperand, an_operand, a_literal}
+use Rattle.iso_statements.specs.Expressions.{infix_next, IsChained, IsEnclosed, IsExpression, IsLocale, IsOperand, an_operand, a_literal}
 use Rattle.iso_statements.specs.Pieces.{name_ahead}
 use Rattle.iso_statements.specs.declared.expression.Infix.TheVariants.{Chain, Compare}
-use Rattle.iso_statements.proofs.Answers.{parses_from}
-use Rattle.iso_statements.proofs.Expressions.{none_next, is_in_parentheses, parentheses_only, is_call, is_locale, locale_only, is_name, literal_only, is_enclosed, enclosed_only, enclosed_opens, not_followed, all_chained, chain_goes_on, chain_goes_only, not_mixed, not_longer, operand_follows, is_chain, chain_only, is_comparison, comparison_only, unfollowed, room_left, still_few, tail_shorter}
+use Rattle.iso_statements.proofs.Answers.{parses_built, parses_from}
+use Rattle.iso_statements.proofs.Expressions.{none_next, is_in_parentheses, parentheses_only, is_call, is_locale, locale_only, is_name, literal_only, enclosed_opens, followed_is_enclosed, operand_first, all_chained, chain_goes_on, chain_goes_only, not_mixed, not_longer, operand_follows, is_chain, chain_only, is_comparison, comparison_only, unfollowed, room_left, still_few, tail_shorter}
 use Rattle.iso_statements.proofs.Repetitions.{none_read, read_more}
 use Rattle.iso_statements.proofs.Shorter.{operand_shorter}
-use Rattle.iso_statements.proofs.Views.{term_of-literal, term_of-name, term_of-call, term_of-compare, term_of-chain}
+use Rattle.iso_statements.proofs.Views.{term_of-literal, term_of-name, term_of-call}
 use Rattle.iso_statements.proofs.parser.Parser.+expression.Goals as goal
 
 pub chained-operands-init : goal.chained-operands-init
@@ -63,20 +62,27 @@ enclosed-returns-in_err-more t c =
     let p = err_from_is_err_and c.from_residual.result c.from_residual.ensures.1 in
     rw p.1 (λ x rest h. absurd (enclosed_opens _ x _ rest c.in_err-more.ensures.opened h))
 
-pub enclosed-returns-in_err-expect : goal.enclosed-returns-in_err-expect
-enclosed-returns-in_err-expect t c =
-    let p = err_from_is_err_and c.from_residual-in_err-expect.result c.from_residual-in_err-expect.ensures.1 in
-    rw p.1 (λ x rest h.
-    let q = enclosed_only _ _ x _ _ rest c.in_ok-more.ensures.opened.0 c.in_ok-more.ensures.opened.1 h in
-    absurd (not_followed _ CloseParen _ x _ _ rest q.0 c.in_ok-expression.ensures c.in_err-expect.ensures.0 q.1))
-
 pub enclosed-returns : goal.enclosed-returns
-enclosed-returns t c = is_enclosed _ _ _ _ _ _ _ c.in_ok-more.ensures.opened.0 c.in_ok-more.ensures.opened.1 c.in_ok-expression.ensures c.in_ok-expect.ensures
+enclosed-returns t c = followed_is_enclosed _ _ _ _ _ _ _ _ c.in_ok-more.ensures.opened.0 c.in_ok-more.ensures.opened.1 c.in_ok-expression.ensures c.followed.ensures
 
 pub operand-returns-then-is_at : goal.operand-returns-then-is_at
 operand-returns-then-is_at t c =
     parses_from term_of (IsEnclosed c.args.parens) (IsOperand c.args.parens) _ _ _ _
     (λ x rest. is_in_parentheses _ x _ rest c.if-is_at.ensures) (λ x rest. parentheses_only _ x _ rest c.if-is_at.ensures) c.enclosed.ensures
+
+pub compared-returns-in_err-second : goal.compared-returns-in_err-second
+compared-returns-in_err-second t c =
+    let p = err_from_is_err_and c.from_residual.result c.from_residual.ensures.1 in
+    rw (p.1, p.2) (λ x rest h. c.in_err-second.ensures x rest h.0)
+
+pub compared-returns-then-is_some : goal.compared-returns-then-is_some
+compared-returns-then-is_some t c = λ x rest h.
+    absurd (unfollowed _ _ _ _ _ rest c.in_ok-second.ensures (c.if-is_some.ensures ∙ ap is_some c.infix.ensures) h.0 h.1)
+
+pub expression-returns-in_err-first : goal.expression-returns-in_err-first
+expression-returns-in_err-first t c =
+    let p = err_from_is_err_and c.from_residual.result c.from_residual.ensures.1 in
+    rw (p.1, p.2) (λ x rest h. let k = operand_first _ x _ rest h in c.in_err-first.ensures k.0 k.1 k.2)
 
 pub expression-returns-in_default : goal.expression-returns-in_default
 expression-returns-in_default t c = an_operand c.in_ok-first.ensures (sym c.in_default.ensures)
@@ -87,28 +93,24 @@ expression-returns-in_err-operands-in-Chain t c =
     let next : infix_next c.operand.new.self.lexer ≡ Some (c.in-Some.symbol, Chain c.in-Chain.operator) = cc (c.infix.ensures, c.in-Some.is, c.in-Chain.is) in
     rw (p.1, p.2) (λ x rest h. let k = chain_only _ _ _ _ x _ _ rest next c.in_ok-first.ensures h in c.in_err-operands-in-Chain.ensures k.0 rest k.1)
 
-pub expression-returns-in_ok-new-in-Chain : goal.expression-returns-in_ok-new-in-Chain
-expression-returns-in_ok-new-in-Chain t c =
+pub expression-returns-in_ok-operands-in-Chain : goal.expression-returns-in_ok-operands-in-Chain
+expression-returns-in_ok-operands-in-Chain t c =
     let next : infix_next c.operand.new.self.lexer ≡ Some (c.in-Some.symbol, Chain c.in-Chain.operator) = cc (c.infix.ensures, c.in-Some.is, c.in-Chain.is) in
-    rw (term_of-chain, c.in_ok-new-in-Chain.ensures.ok) (is_chain _ _ _ _ _ _ _ _ next c.in_ok-first.ensures c.in_ok-operands-in-Chain.ensures)
+    parses_built term_of (IsExpression c.args.parens) _ _ _ _
+    (is_chain _ _ _ _ _ _ _ _ next c.in_ok-first.ensures c.in_ok-operands-in-Chain.ensures) c.chain.ensures
 
 pub expression-returns-in_err-second-in-Compare : goal.expression-returns-in_err-second-in-Compare
 expression-returns-in_err-second-in-Compare t c =
     let p = err_from_is_err_and c.from_residual-in_err-second-in-Compare.result c.from_residual-in_err-second-in-Compare.ensures.1 in
     let next : infix_next c.operand.new.self.lexer ≡ Some (c.in-Some.symbol, Compare c.in-Compare.comparison) = cc (c.infix.ensures, c.in-Some.is, c.in-Compare.is) in
-    rw (p.1, p.2) (λ x rest h. let k = comparison_only _ _ _ _ x _ _ _ rest next c.in_ok-first.ensures c.advance.ensures h in c.in_err-second-in-Compare.ensures k.0 rest k.1)
+    rw (p.1, p.2) (λ x rest h. let k = comparison_only _ _ _ _ x _ _ _ rest next c.in_ok-first.ensures c.advance.ensures h in c.in_err-second-in-Compare.ensures k.0 rest (k.1, k.2))
 
-pub expression-returns-then-is_some : goal.expression-returns-then-is_some
-expression-returns-then-is_some t c = λ x rest h.
+pub expression-returns-in_ok-second-in-Compare : goal.expression-returns-in_ok-second-in-Compare
+expression-returns-in_ok-second-in-Compare t c =
     let next : infix_next c.operand.new.self.lexer ≡ Some (c.in-Some.symbol, Compare c.in-Compare.comparison) = cc (c.infix.ensures, c.in-Some.is, c.in-Compare.is) in
-    let k = comparison_only _ _ _ _ x _ _ _ rest next c.in_ok-first.ensures c.advance.ensures h in
-    absurd (unfollowed _ _ _ _ _ rest c.in_ok-second-in-Compare.ensures (c.if-is_some.ensures ∙ ap is_some c.infix-in-Compare.ensures) k.1 k.2)
-
-pub expression-returns-in_ok-new-in-Compare-2 : goal.expression-returns-in_ok-new-in-Compare-2
-expression-returns-in_ok-new-in-Compare-2 t c =
-    let next : infix_next c.operand.new.self.lexer ≡ Some (c.in-Some.symbol, Compare c.in-Compare.comparison) = cc (c.infix.ensures, c.in-Some.is, c.in-Compare.is) in
-    rw (term_of-compare, c.in_ok-new-in-Compare.ensures.ok, c.in_ok-new-in-Compare-2.ensures.ok)
-    (is_comparison _ _ _ _ _ _ _ _ _ next c.in_ok-first.ensures c.advance.ensures c.in_ok-second-in-Compare.ensures (none_next _ (c.if-is_some.ensures ∙ ap is_some c.infix-in-Compare.ensures)))
+    let read = c.in_ok-second-in-Compare.ensures in
+    parses_built term_of (IsExpression c.args.parens) _ _ _ _
+    (is_comparison _ _ _ _ _ _ _ _ _ next c.in_ok-first.ensures c.advance.ensures read.0 read.1) c.compare.ensures
 
 pub operand-returns-in-Some : goal.operand-returns-in-Some
 operand-returns-in-Some t c = rw (term_of-call, c.in_ok-new.ensures.ok) (is_call _ _ _ _ _ _ (sym c.in-Some.ensures) c.advance.ensures c.in_ok-operand.ensures)

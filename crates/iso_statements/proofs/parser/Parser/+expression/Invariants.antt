@@ -14,6 +14,9 @@ decreases-operand l = 4 * l.parens + 1
 abbrev pub decreases-chained : goal.decreases-chained
 decreases-chained l = 4 * l.parens + 2
 
+abbrev pub decreases-compared : goal.decreases-compared
+decreases-compared l = 4 * l.parens + 2
+
 abbrev pub decreases-expression : goal.decreases-expression
 decreases-expression l = 4 * l.parens + 3
 
