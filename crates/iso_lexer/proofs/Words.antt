@@ -14,6 +14,10 @@ unfolding word_of
 word_of-spelling Team = refl
 word_of-spelling _ = refl
 
+-- a name that is written as a reserved word is that word
+pub spelled : (w : Word) (n : List ℕ) → n ≡ spelling w → Some w ≡ word_of n
+spelled w n is = sym (ap word_of is ∙ word_of-spelling w)
+
 pub spelling-IsIdentifier : (w : Word) → IsIdentifier (spelling w) × (nat_le (length (spelling w)) 64 ≡ true)
 spelling-IsIdentifier Team = search rules
 spelling-IsIdentifier _ = search rules

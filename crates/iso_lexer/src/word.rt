@@ -56,7 +56,6 @@ impl Word {
     }
 
     /// The reserved word that is written so.
-    #[tactic(auto, unfolding(crate::specs::Spelling::word_of))]
     pub(crate) fn from_name(name: &str) -> Option<Word>
         ensures { result ≡ word_of name.now }
     {
