@@ -78,9 +78,6 @@ fn read_class<'a>(
     parser.expect(Symbol::OpenBrace)?;
     let variables = read_variables(parser, scopes.as_slice())?;
     let blocks = read_blocks(parser)?;
-    scopes.push(variables.names)?;
-    let members = read_members(parser, scopes, classes)?;
-    scopes.pop();
     let head = class_head(
         parser.alloc,
         marks.keys,
@@ -88,12 +85,17 @@ fn read_class<'a>(
         variables.fields,
         blocks,
     );
+    let head = Arc::new(parser.alloc, head)?;
+    scopes.push(variables.names)?;
+    let name = Text::copied(parser.alloc, name)?;
+    let members = read_members(parser, scopes, classes)?;
+    scopes.pop();
     Ok(Class {
-        name: Text::copied(parser.alloc, name)?,
+        name,
         display,
         mode: marks.mode,
         isolated: marks.isolated,
-        head: Arc::new(parser.alloc, head)?,
+        head,
         members,
     })
 }

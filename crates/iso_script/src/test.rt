@@ -28,10 +28,11 @@ pub(crate) fn read_test(
         marks: marks.keys,
         body,
     };
+    let head = Arc::new(parser.alloc, head)?;
     Ok(Test {
         name: Text::copied(parser.alloc, name)?,
         display,
         mode: marks.mode,
-        head: Arc::new(parser.alloc, head)?,
+        head,
     })
 }
