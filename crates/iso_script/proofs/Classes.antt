@@ -77,6 +77,9 @@ brace_next h (a_class {b = b} {variables = variables} {blocks = blocks} {ms = ms
   record { variables = variables; blocks = blocks; members = ms; after_variables = rs; after_blocks = ss; variables_read = k; blocks_read = l; members_read = m },
 )
 
+pub display_next : {d : ℕ} {taken : List (List ℕ)} {marks : Marks} {n : List ℕ} {c : Class} {ps rest : List Piece} → IsClass d taken marks n c ps rest → (display : Option (List ℕ)) × (qs : List Piece) × IsDisplayed display ps qs
+display_next (a_class {b = b} {display = display} {qs = qs} h v bs ms) = (display, symbol_at b OpenBrace ∷ qs, h)
+
 pub not_opened : {d : ℕ} {taken : List (List ℕ)} {marks : Marks} {n : List ℕ} {c : Class} {display : Option (List ℕ)} {ps mid rest : List Piece} → IsDisplayed display ps mid → after OpenBrace mid ≡ None → IsClass d taken marks n c ps rest → ⊥
 not_opened h none k =
     let b = brace_next h k in

@@ -32,6 +32,17 @@ is_script n cs old ps qs word name h =
     let s = named W.Team n old ps qs word name in
     subst (IsScript (record { team = n; classes = cs })) (sym s.2) (a_script h)
 
+-- a script begins with its word and its name
+pub script_word : (s : Script) (ps : List Piece) → after_word W.Team ps ≡ None → IsScript s ps → ⊥
+script_word s ps none (a_script {r = r} {q = q} {n = n} {ps = rest} h) = let e : None ≡ Some (name_at q n ∷ rest) = sym none ∙ after_word-word_at r W.Team (name_at q n ∷ rest) in cc
+
+pub script_name : (s : Script) (old ps : List Piece) → after_word W.Team old ≡ Some ps → name_next ps ≡ None → IsScript s old → ⊥
+script_name s old ps word none (a_script {r = r} {q = q} {n = n} {ps = rest} h) =
+    let e : Some (name_at q n ∷ rest) ≡ Some ps = sym (after_word-word_at r W.Team (name_at q n ∷ rest)) ∙ word in
+    let is : name_at q n ∷ rest ≡ ps = cc in
+    let f : name_next (name_at q n ∷ rest) ≡ None = ap name_next is ∙ none in
+    cc
+
 -- the classes of a script
 pub script_classes : (n : List ℕ) (s : Script) (old ps : List Piece) {qs : List Piece} → after_word W.Team old ≡ Some ps → name_next ps ≡ Some (n, qs) → IsScript s old → (cs : List Class) × AreRead IsTopClass cs qs []
 script_classes n s old ps {qs} word name (a_script {r = r} {q = q} {n = k} {cs = cs} {ps = rest} h) =

@@ -13,12 +13,17 @@ use Rattle.iso_statements.specs.Pieces.{name_next}
 use Rattle.iso_statements.proofs.Small.{none_is, none_left, some_left}
 use Rattle.iso_statements.proofs.Taken.{stands_in_front}
 use Rattle.iso_script.specs.Grammar.{IsMember, has_members}
-use Rattle.iso_script.proofs.Classes.{may_test, no_test, is_class, not_opened, opened, blocks_next, members_next, marks_next, is_test, test_name, test_next, test_left, is_nested, class_name, class_next, class_left, not_next, word_left, name_is_new}
+use Rattle.iso_script.proofs.Classes.{display_next, may_test, no_test, is_class, not_opened, opened, blocks_next, members_next, marks_next, is_test, test_name, test_next, test_left, is_nested, class_name, class_next, class_left, not_next, word_left, name_is_new}
 use Rattle.iso_script.proofs.Members.{names_of-members_of, members_of-some, all_read, next_member, empty_refused}
 use Rattle.iso_script.proofs.Scopes.{know_more, known}
 use Rattle.iso_script.proofs.Shorter.{member_shorter}
 use Rattle.iso_script.proofs.Views.{class_of-parts, member_of-class, member_of-test}
 use Rattle.iso_script.proofs.class.+class.Goals as goal
+
+pub read_class-returns-in_err-display-clause-read : goal.read_class-returns-in_err-display-clause-read
+read_class-returns-in_err-display-clause-read t c = λ taken all.
+    let p = err_from_is_err_and c.from_residual.result c.from_residual.ensures.1 in
+    rw (p.1, p.2) (λ x rest h. let d = display_next h in c.in_err-display.ensures d.0 d.1 d.2)
 
 pub read_class-returns-in_err-expect-clause-read : goal.read_class-returns-in_err-expect-clause-read
 read_class-returns-in_err-expect-clause-read t c = λ taken all.

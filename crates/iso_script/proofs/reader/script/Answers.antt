@@ -1,6 +1,16 @@
 use Rattle.std.proofs.lemmas.Result.{err_from_is_err_and}
-use Rattle.iso_script.proofs.Scripts.{is_script, script_classes}
+use Rattle.iso_script.proofs.Scripts.{is_script, script_classes, script_name, script_word}
 use Rattle.iso_script.proofs.reader.script.Goals as goal
+
+pub returns-in_err-expect_word : goal.returns-in_err-expect_word
+returns-in_err-expect_word c =
+    let p = err_from_is_err_and c.from_residual.result c.from_residual.ensures.1 in
+    rw p.1 (λ s h. absurd (script_word s _ c.in_err-expect_word.ensures.0 h))
+
+pub returns-in_err-name : goal.returns-in_err-name
+returns-in_err-name c =
+    let p = err_from_is_err_and c.from_residual-in_err-name.result c.from_residual-in_err-name.ensures.1 in
+    rw p.1 (λ s h. absurd (script_name s _ _ c.in_ok-expect_word.ensures c.in_err-name.ensures.0 h))
 
 pub returns-in_err-classes : goal.returns-in_err-classes
 returns-in_err-classes c =
