@@ -1,6 +1,6 @@
 use Rattle.std.proofs.Common.{◌∙◌, ap}
 use Rattle.std.proofs.lemmas.Result.{err_from_is_err_and}
-use Rattle.iso_heads.proofs.Variables.{declared_parts, is_declared, no_semicolon}
+use Rattle.iso_heads.proofs.Variables.{declared_parts, is_declared, literal_next, no_equals, no_semicolon}
 use Rattle.iso_statements.specs.Pieces.{name_next}
 use Rattle.iso_heads.proofs.variable.read_variable.Goals as goal
 
@@ -10,6 +10,18 @@ returns-in_err-name-clause-only c = λ taken names all knows.
     rw (p.1, p.2) (λ v rest h new.
     let d = declared_parts c.args.word c.requires h in
     c.in_err-name.ensures.only taken names all knows v.name _ (ap name_next c.advance.ensures ∙ d.3) new)
+
+pub returns-in_err-expect-clause-only : goal.returns-in_err-expect-clause-only
+returns-in_err-expect-clause-only c = λ taken names all knows.
+    let p = err_from_is_err_and c.from_residual-in_err-expect.result c.from_residual-in_err-expect.ensures.1 in
+    rw (p.1, p.2) (λ v rest h new. absurd (no_equals _ _ _ _ _ _ rest c.advance.ensures c.in_ok-name.ensures.found c.requires c.in_err-expect.ensures.0 h))
+
+pub returns-in_err-value-clause-only : goal.returns-in_err-value-clause-only
+returns-in_err-value-clause-only c = λ taken names all knows.
+    let p = err_from_is_err_and c.from_residual-in_err-value.result c.from_residual-in_err-value.ensures.1 in
+    rw (p.1, p.2) (λ v rest h new.
+    let l = literal_next _ _ _ _ _ _ _ rest c.advance.ensures c.in_ok-name.ensures.found c.requires c.in_ok-expect.ensures h in
+    c.in_err-value.ensures v.value _ l.1)
 
 pub returns-in_err-expect-2-clause-only : goal.returns-in_err-expect-2-clause-only
 returns-in_err-expect-2-clause-only c = λ taken names all knows.
