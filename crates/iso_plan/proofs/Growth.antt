@@ -1,6 +1,6 @@
 -- A list of nodes that grows by the nodes of one member after another.
-use Rattle.std.proofs.Common.{◌≡◌, ℕ, ◌+◌, ◌<◌, ◌≤◌, List, [], ◌∷◌, ◌++◌, Result, IfErr, length, map, drop, get_or, vec_len, sym, ap, ap₂, ◌∙◌, arith, append_assoc}
-use Rattle.std.proofs.lemmas.List.{length-append, length-map, drop_more}
+use Rattle.std.proofs.Common.{◌≡◌, ℕ, ◌+◌, ◌<◌, ◌≤◌, List, [], ◌∷◌, ◌++◌, Result, IfErr, length, map, drop, take, get_or, vec_len, sym, ap, ap₂, ◌∙◌, arith, append_assoc}
+use Rattle.std.proofs.lemmas.List.{length-append, length-map, drop_more, map_push, take_more}
 use Rattle.std.proofs.lemmas.Result.{IfErr-weaker}
 use Rattle.std.specs.declared.alloc.Global.{Global}
 use Rattle.std.specs.declared.vec.Vec.{Vec}
@@ -21,6 +21,11 @@ use Rattle.iso_plan.specs.declared.row.Row.{Row}
 -- a list from a place on, with its first element apart
 pub drop_next : {A : Type 0} (x : A) (xs : List A) (i : ℕ) → i < length xs → x ≡ get_or xs i x → drop i xs ≡ x ∷ drop (i + 1) xs
 drop_next x xs i h e = drop_more xs i x h ∙ ap (λ y. y ∷ drop (i + 1) xs) (sym e)
+
+-- what a list's front is made into, with what its next element is made into
+pub mapped-next : {A B : Type 0} (f : A → B) (xs : List A) (ys : List B) (i : ℕ) (d x : A) → i < length xs → x ≡ get_or xs i d → ys ≡ map f (take i xs) → ys ++ f x ∷ [] ≡ map f (take (i + 1) xs)
+mapped-next f xs ys i d x h e same =
+    ap₂ (λ zs z. zs ++ f z ∷ []) same e ∙ sym (map_push f (take i xs) (get_or xs i d)) ∙ ap (map f) (sym (take_more xs i d h))
 
 -- nodes F are added to nodes R, of which there were n
 pub grown-next : (R R' F : List T.Row) (rest : ℕ → List T.Row) (n n' : ℕ) → R' ≡ R ++ F → n' ≡ n + length F → R' ++ rest n' ≡ R ++ (F ++ rest (n + length F))
