@@ -4,7 +4,7 @@ use Rattle.iso_model.specs.ChainView.{innermost_first}
 use Rattle.iso_plan.proofs.Columns.{length-column, column-read, column-push, row-at}
 use Rattle.iso_plan.proofs.PathLemmas.{path-root, chain-step}
 use Rattle.iso_plan.specs.NodeChains.{chain_classes, class_heads, heads_on}
-use Rattle.iso_plan.specs.Paths.{parent, row_at}
+use Rattle.iso_plan.specs.Paths.{column, parent, row_at}
 use Rattle.iso_plan.specs.RowView.{kind_of, row_of}
 use Rattle.iso_model.specs.Chains as C
 use Rattle.iso_model.specs.declared.heads.ClassHead.{ClassHead}
@@ -52,3 +52,8 @@ nodes-preserved c =
     ] in
     ap (map (λ c'. innermost_first c'.items)) c.in_ok-push.ensures.items ∙ map_push (λ c'. innermost_first c'.items) v.items c.if-n-eq0.chain
     ∙ column-push (chain_classes (map row_of rows)) (map (λ c'. innermost_first c'.items) v.items) n (innermost_first c.if-n-eq0.chain.items) c.nodes.invariant this
+
+pub returns : goal.returns
+returns c =
+    let last : c.nodes.n ≡ length c.args.rows.now = omega arith in
+    c.nodes.invariant ∙ ap (column (chain_classes (map row_of c.args.rows.now))) last

@@ -6,7 +6,7 @@ use Rattle.iso_model.specs.declared.access.Access.{Access}
 use Rattle.iso_model.specs.declared.access.Access.TheVariants.{Read, Write}
 use Rattle.iso_plan.proofs.Columns.{length-column, column-read, column-push, parent-at}
 use Rattle.iso_plan.specs.Locks.{holds_isolated, is_locking, is_that, locking_node}
-use Rattle.iso_plan.specs.Paths.{is_root, is_top}
+use Rattle.iso_plan.specs.Paths.{column, is_root, is_top}
 use Rattle.iso_plan.specs.RowView.{row_of}
 use Rattle.iso_plan.specs.Tables.{own_table, with_first}
 use Rattle.iso_plan.proofs.locks.own_tables.Goals as goal
@@ -41,3 +41,8 @@ nodes-preserved c =
     c.in_ok-table.ensures ∙ ap₂ (λ (t i : Bool). made t i c.is_that-locks.result) top isolated ∙ ap (made (is_top tree n) (holds_isolated tree n)) locking in
     ap (map accesses) c.in_ok-push.ensures.items ∙ map_push accesses v.items c.in_ok-table.table
     ∙ column-push (own_table tree k) (map accesses v.items) n (accesses c.in_ok-table.table) c.nodes.invariant this
+
+pub returns : goal.returns
+returns c =
+    let last : c.nodes.n ≡ length c.args.rows.now = omega arith in
+    c.nodes.invariant ∙ ap (column (own_table (map row_of c.args.rows.now) c.args.count)) last

@@ -2,12 +2,13 @@ use Rattle.std.proofs.Common.{◌≡◌, [], ◌++◌, ◌∷◌, ℕ, ◌<◌, 
 use Rattle.std.specs.List.{list_any}
 use Rattle.iso_model.specs.declared.script.Mode.{Mode}
 use Rattle.iso_model.specs.declared.script.Mode.TheVariants.{SameThread}
+use Rattle.std.proofs.lemmas.List.{length-map}
 use Rattle.iso_plan.proofs.Columns.{length-column, column-read, column-push, parent-at}
 use Rattle.iso_plan.proofs.KeyLemmas.{root-eq}
 use Rattle.iso_plan.proofs.ModeLemmas.{mode-root, mode-step}
 use Rattle.iso_plan.specs.Locks.{takes_write}
 use Rattle.iso_plan.specs.Modes.{mode, nearest_mode}
-use Rattle.iso_plan.specs.Paths.{is_root, path, parent}
+use Rattle.iso_plan.specs.Paths.{column, is_root, path, parent}
 use Rattle.iso_plan.specs.RowView.{row_of}
 use Rattle.iso_plan.proofs.modes.modes.Goals as goal
 
@@ -56,3 +57,11 @@ nodes-preserved c =
     ∙ ap₂ (λ (o : Option Mode) (t : Bool). cond (s.parallel && not (w (parent tree n))) (unwrap_or o (cond t s.classes_default_mode s.default_mode)) SameThread) marked top
     ∙ sym (mode-step tree s n (omega arith)) in
     c.in_ok-push-2.ensures.items ∙ column-push (mode tree s) v.items n c.mode_of.result c.nodes.invariant this
+
+pub returns : goal.returns
+returns c =
+    let rows = c.args.rows.now in
+    let tree = map row_of rows in
+    let some : 0 < length rows = rw (length-map rows row_of) at c.requires.tree.rooted in
+    let last : c.nodes.n ≡ length rows = omega arith in
+    c.nodes.invariant ∙ ap (column (mode tree c.args.settings)) last

@@ -1,10 +1,11 @@
 use Rattle.std.proofs.Common.{◌≡◌, [], ◌++◌, ◌∷◌, ℕ, ◌<◌, List, Option, None, length, map, get_or, ap, ap₂, sym, ◌∙◌, arith}
 use Rattle.std.specs.Option.{option_or}
 use Rattle.iso_model.specs.declared.script.Mode.{Mode}
+use Rattle.std.proofs.lemmas.List.{length-map}
 use Rattle.iso_plan.proofs.Columns.{length-column, column-read, column-push, parent-at, row-at}
 use Rattle.iso_plan.proofs.PathLemmas.{path-root, path-step}
 use Rattle.iso_plan.specs.Modes.{nearest_mode}
-use Rattle.iso_plan.specs.Paths.{path, parent, row_at}
+use Rattle.iso_plan.specs.Paths.{column, path, parent, row_at}
 use Rattle.iso_plan.specs.RowView.{row_of}
 use Rattle.iso_plan.specs.Tree as T
 use Rattle.iso_plan.proofs.modes.nearest_modes.Goals as goal
@@ -39,3 +40,11 @@ nodes-preserved c =
     let own : (get_or rows n c.index-rows-n-in-nodes.result).mode ≡ (row_at tree n).mode = sym (ap (λ (r : T.Row). r.mode) (row-at rows n c.index-rows-n-in-nodes.result (omega arith))) in
     let this : c.or.result ≡ f n = c.or.ensures ∙ ap₂ option_or own above ∙ sym (ap (nearest_mode tree) (path-step tree c.requires.below n (omega arith))) in
     c.in_ok-push-2.ensures.items ∙ column-push f v.items n c.or.result c.nodes.invariant this
+
+pub returns : goal.returns
+returns c =
+    let rows = c.args.rows.now in
+    let tree = map row_of rows in
+    let some : 0 < length rows = rw (length-map rows row_of) at c.requires.rooted in
+    let last : c.nodes.n ≡ length rows = omega arith in
+    c.nodes.invariant ∙ ap (column (λ n. nearest_mode tree (path tree n))) last

@@ -60,3 +60,11 @@ nodes-preserved c =
     ] in
     let this : c.if-takes_write.push ≡ f n = joined ∙ ap₂ (λ (a b : Bool). a || b) own above ∙ sym (ap (list_any (takes_write tree)) (path-step tree c.requires.tree.below n (omega arith))) in
     c.in_ok-push-2.ensures.items ∙ column-push f v.items n c.if-takes_write.push c.nodes.invariant this
+
+pub returns : goal.returns
+returns c =
+    let rows = c.args.rows.now in
+    let tree = map row_of rows in
+    let some : 0 < length rows = rw (length-map rows row_of) at c.requires.tree.rooted in
+    let last : c.nodes.n ≡ length rows = omega arith in
+    c.nodes.invariant ∙ ap (column (λ n. list_any (takes_write tree) (path tree n))) last

@@ -1,9 +1,9 @@
 use Rattle.std.proofs.Common.{◌≡◌, [], ◌++◌, ◌∷◌, ℕ, ◌<◌, ◌+◌, List, Option, Some, None, Bool, cond, length, map, get_or, ap, ap₂, sym, ◌∙◌, arith}
-use Rattle.std.proofs.lemmas.List.{length_push}
+use Rattle.std.proofs.lemmas.List.{length-map, length_push}
 use Rattle.std.specs.Option.{option_or}
 use Rattle.iso_plan.proofs.Columns.{column-read, column-push, parent-at}
 use Rattle.iso_plan.proofs.PathLemmas.{path-root, path-step}
-use Rattle.iso_plan.specs.Paths.{outermost, path, parent}
+use Rattle.iso_plan.specs.Paths.{column, outermost, path, parent}
 use Rattle.iso_plan.specs.RowView.{row_of}
 use Rattle.iso_plan.proofs.outermost.outermost.Goals as goal
 
@@ -40,3 +40,11 @@ nodes-preserved c =
           let this : c.or.result ≡ found n = c.or.ensures ∙ ap₂ option_or above own ∙ sym (ap (outermost test) (path-step tree c.requires.tree.below n (omega arith))) in
           c.in_ok-push-2.ensures.items ∙ column-push found v.items n c.or.result inv this;
     }
+
+pub returns : goal.returns
+returns c =
+    let rows = c.args.rows.now in
+    let tree = map row_of rows in
+    let some : 0 < length rows = rw (length-map rows row_of) at c.requires.tree.rooted in
+    let last : c.nodes.n ≡ length rows = omega arith in
+    λ test e. c.nodes.invariant.found_are test e ∙ ap (column (λ n. outermost test (path tree n))) last

@@ -1,5 +1,5 @@
-use Rattle.std.proofs.Common.{◌≡◌, ◌+◌, ℕ, List, length, map, drop, vec_len, arith, ap, ◌∙◌}
-use Rattle.std.proofs.lemmas.List.{length-append, length-map}
+use Rattle.std.proofs.Common.{◌≡◌, ◌+◌, ℕ, List, length, map, drop, vec_len, arith, ap, sym, ◌∙◌}
+use Rattle.std.proofs.lemmas.List.{drop_all, append-nil, length-append, length-map}
 use Rattle.std.proofs.lemmas.Result.{err_from_is_err_and}
 use Rattle.iso_model.specs.ScriptView.{class_of, script_of}
 use Rattle.iso_plan.proofs.Growth.{drop_next, grown-next, counted, full-more}
@@ -34,3 +34,6 @@ returns-in_err-add_team-clause-full c =
     let p = err_from_is_err_and c.from_residual-in_err-add_team.result c.from_residual-in_err-add_team.ensures.1 in
     let n : length old.items + (length more + length rest) ≡ length (tree (map script_of ss)) = simp (length-append, length-map) at (ap length (rw next at c.scripts.invariant.grown)) in
     rw (p.1, p.2) (full-more _ _ c.in_err-add_team.field-0.0 (omega (arith, old.ok.0)) c.in_err-add_team.ensures.full)
+
+pub returns-clause-tree : goal.returns-clause-tree
+returns-clause-tree c = sym (append-nil (map row_of c.scripts.rows.items)) ∙ rw (drop_all c.scripts.script-index c.args.scripts.now (omega arith)) at c.scripts.invariant.grown
