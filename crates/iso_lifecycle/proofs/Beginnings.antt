@@ -1,5 +1,5 @@
 -- Where a body begins, and where its steps lead.
-use Rattle.std.proofs.Common.{◌≡◌, ℕ, suc, List, [], ◌∷◌, length, reverse, Option, Some, false, sym, ap, ◌∙◌, arith, subst, true≢false}
+use Rattle.std.proofs.Common.{◌≡◌, ℕ, suc, ◌<◌, ◌≤◌, ◌-◌, List, [], ◌∷◌, length, reverse, Option, Some, false, sym, ap, ◌∙◌, arith, subst, true≢false}
 use Rattle.iso_model.proofs.BodyKeys.{body-step-alike}
 use Rattle.iso_model.specs.Bodies.{Going, Stage, body_step, during, ended, fresh_account, going, is_ended, stage_from, test_stage}
 use Rattle.iso_model.specs.BodyAgreement.{AlikeGoing}
@@ -25,6 +25,13 @@ use Rattle.iso_lifecycle.proofs.JobLemmas.{outside-all, outside-more}
 -- the last of the classes, outermost first, is the innermost
 pub last-class : (os : List ClassHead) (d : ℕ) → suc d ≡ length os → reverse os ≡ head_at os d ∷ outside os d
 last-class os d e = sym (outside-all os) ∙ ap (outside os) (sym e) ∙ outside-more os d (omega (arith, e))
+
+-- a class stands in a chain of at least one
+pub some-class : (n m : ℕ) → n ≡ suc m → 1 ≤ n
+some-class n m e = omega arith
+
+pub last-within : (n m : ℕ) → n ≡ suc m → n - 1 < n
+last-within n m e = omega arith
 
 pub opening-begins : (s : Subject) (c : ClassHead) (cs : List ClassHead) (n : ℕ) (acts : Acts) (names : List Binding) → classes_of s ≡ c ∷ cs → n ≡ length (c ∷ cs) → acts ≡ c.before_all
     → names ≡ opening_names c (opening_of (enclosing s)).frames

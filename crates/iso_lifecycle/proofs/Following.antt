@@ -23,17 +23,8 @@ due : (j : Job) (js : List Job) (a : Account) → is_due j a.endings ≡ true
     stage_at (stage_from js) p.pieces p.here (length env.names) (beside_job j a) js ≡ stage_from (j ∷ js) a
 due j js a now = ap (λ (b : Bool). stage_if b (stage_from js) j js a) (sym now)
 
-entered : (j : Job) (js : List Job) (a : Account) (p : Point) (n : ℕ) (b : Beside) → is_due j a.endings ≡ true
+-- a job that is due, once its block was entered
+pub entered : (j : Job) (js : List Job) (a : Account) (p : Point) (n : ℕ) (b : Beside) → is_due j a.endings ≡ true
     → p ≡ first_point j.acts (job_environment j a) → n ≡ length (job_environment j a).names → b ≡ beside_job j a
     → stage_at (stage_from js) p.pieces p.here n b js ≡ stage_from (j ∷ js) a
 entered j js a p n b now is count beside = (λ i. stage_at (stage_from js) (is i).pieces (is i).here (count i) (beside i) js) ∙ due j js a now
-
-pub begun : (j : Job) (js : List Job) (a : Account) (p : Point) (n : ℕ) (b : Beside) → is_due j a.endings ≡ true
-    → p ≡ first_point j.acts (job_environment j a) → n ≡ length (job_environment j a).names → b ≡ beside_job j a → is_done p.pieces ≡ false
-    → during p n b js ≡ stage_from (j ∷ js) a
-begun j js a p n b now is count beside some = goes-on (stage_from js) p.pieces p.here n b js some ∙ entered j js a p n b now is count beside
-
-pub passed : (j : Job) (js : List Job) (a : Account) (p : Point) (n : ℕ) (b : Beside) → is_due j a.endings ≡ true
-    → p ≡ first_point j.acts (job_environment j a) → n ≡ length (job_environment j a).names → b ≡ beside_job j a → is_done p.pieces ≡ true
-    → stage_from js (account_after n p.here b) ≡ stage_from (j ∷ js) a
-passed j js a p n b now is count beside none = passes (stage_from js) p.pieces p.here n b js none ∙ entered j js a p n b now is count beside

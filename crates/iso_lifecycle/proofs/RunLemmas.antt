@@ -8,23 +8,17 @@ use Rattle.iso_interp.specs.Runs.{local_of, machine_of, names_before, pieces_of,
 use Rattle.iso_interp.specs.declared.run.BlockRun.{BlockRun}
 use Rattle.iso_interp.specs.declared.run.Progress.TheVariants.{More}
 use Rattle.iso_lifecycle.specs.BodyRuns.{account_in_run, settled_with, stage_of}
-use Rattle.iso_lifecycle.specs.Origins.{HasCome, done_whole}
-use Rattle.iso_lifecycle.specs.Subjects.{Subject}
 use Rattle.iso_lifecycle.specs.declared.body_run.BodyRun.{BodyRun}
-use Rattle.iso_lifecycle.specs.declared.kind.BodyKind.{BodyKind}
 use Rattle.iso_lifecycle.specs.Works.{HaveRights, account_in, beside_in, jobs_left, stage_with}
 use Rattle.iso_lifecycle.specs.declared.work.Rest.{Rest}
 use Rattle.iso_lifecycle.proofs.Following.{goes-on, passes}
+use Rattle.iso_lifecycle.specs.Origins.{HasCome, done_whole}
+use Rattle.iso_lifecycle.specs.Subjects.{Subject}
+use Rattle.iso_lifecycle.specs.declared.kind.BodyKind.{BodyKind}
 
--- a block that has ended is left, and the jobs after it are begun
-pub settled : (block : Option BlockRun) (run left : BlockRun) (rest after : Rest) (end : Stage) → block ≡ Some run → left ≡ run → is_done (pieces_of run) ≡ true
-    → account_in after ≡ account_after (names_before left) (local_of left) (beside_in rest) → jobs_left after ≡ jobs_left rest
-    → end ≡ stage_from (jobs_left after) (account_in after) → end ≡ settled_with block rest
-settled block run left rest after end is same none account jobs ends =
-    ends ∙ (λ i. stage_from (jobs i) (account i))
-    ∙ ap (λ (x : BlockRun). stage_from (jobs_left rest) (account_after (names_before x) (local_of x) (beside_in rest))) same
-    ∙ passes (stage_from (jobs_left rest)) (pieces_of run) (local_of run) (names_before run) (beside_in rest) (jobs_left rest) none
-    ∙ ap (λ (o : Option BlockRun). settled_with o rest) (sym is)
+-- a body whose block was settled
+pub settled : (block : Option BlockRun) (run entered : BlockRun) (rest : Rest) (end : Stage) → block ≡ Some run → entered ≡ run → end ≡ settled_with (Some entered) rest → end ≡ settled_with block rest
+settled block run entered rest end is same ends = ends ∙ ap (λ (x : BlockRun). settled_with (Some x) rest) same ∙ ap (λ (o : Option BlockRun). settled_with o rest) (sym is)
 
 more-left : (ps : List Piece) → progress_of ps ≡ More → is_done ps ≡ false
 more-left [] e = cc
@@ -50,9 +44,11 @@ block-goes_on new rest n more =
     ap (λ (s : Stage). going s n) (goes-on (stage_from (jobs_left rest)) (pieces_of new) (local_of new) (names_before new) (beside_in rest) (jobs_left rest) (more-left (pieces_of new) more))
 
 -- a block that does nothing has the body's rights
-pub idle-rights : (block : Option BlockRun) (idle : BlockRun) (rest after : Rest) → block ≡ Some idle → run_rights idle ≡ access_in rest.rights.now → after.rights ≡ rest.rights → HaveRights block after
-idle-rights block idle rest after is same kept =
-    subst (λ (o : Option BlockRun). HaveRights o after) (sym is) (λ k i. (same ∙ ap (λ r. access_in r.now) (sym kept)) i k)
+pub idle-rights : (block idle : BlockRun) (rest after : Rest) → block ≡ idle → run_rights idle ≡ access_in rest.rights.now → after.rights ≡ rest.rights → HaveRights (Some block) after
+idle-rights block idle rest after is same kept = λ k i. (ap run_rights is ∙ same ∙ ap (λ r. access_in r.now) (sym kept)) i k
+
+pub stopped-rights : (block : Option BlockRun) (idle : BlockRun) (rest : Rest) → block ≡ Some idle → run_rights idle ≡ access_in rest.rights.now → HaveRights block rest
+stopped-rights block idle rest is same = subst (λ (o : Option BlockRun). HaveRights o rest) (sym is) (λ k i. same i k)
 
 ended-with : (block : Option BlockRun) (rest : Rest) → is_ended (stage_with block rest) ≡ true → stage_with block rest ≡ ended (account_in rest)
 ended-with None rest ends = refl

@@ -1,13 +1,40 @@
 -- What follows from an unchanged chain.
-use Rattle.std.proofs.Common.{◌≡◌, ◌<◌, ◌+◌, List, ◌∷◌, length, ap, sym, ◌∙◌, arith, add-one}
+use Rattle.std.proofs.Common.{◌≡◌, ◌<◌, ◌+◌, List, ◌∷◌, length, Option, Some, None, true, ap, sym, ◌∙◌, subst, arith, add-one}
+use Rattle.std.specs.Prelude.{IfSome}
+use Rattle.iso_model.specs.Bodies.{account_after, stage_from}
+use Rattle.iso_model.specs.Rights.{access_in}
+use Rattle.iso_model.specs.Steps.{is_done}
+use Rattle.iso_interp.specs.Runs.{local_of, names_before, pieces_of, run_rights}
+use Rattle.iso_interp.specs.declared.run.BlockRun.{BlockRun}
+use Rattle.iso_lifecycle.specs.BodyRuns.{settled_with}
 use Rattle.iso_model.specs.SyntaxView.{block_of}
 use Rattle.iso_lifecycle.specs.Heads.{heads_in}
 use Rattle.iso_lifecycle.specs.JobPlaces.{jobs_from}
-use Rattle.iso_lifecycle.specs.Works.{SameChain, jobs_left}
+use Rattle.iso_lifecycle.specs.Works.{HaveRights, SameChain, account_in, begun_with, beside_in, jobs_left}
 use Rattle.iso_lifecycle.specs.declared.work.Rest.{Rest}
+use Rattle.iso_lifecycle.proofs.Following.{passes}
 
 pub same-jobs : {r s : Rest} → SameChain r s → s.next ≡ r.next → jobs_left s ≡ jobs_left r
 same-jobs {r} {s} chain next = λ i. jobs_from (heads_in (chain.classes i).now) (block_of (chain.test i).now) (next i)
 
 pub shorter : {A : Type 0} (x : A) (xs ys : List A) → xs ≡ x ∷ ys → length ys < length xs
 shorter x xs ys e = let h : length xs ≡ length ys + 1 = ap length e ∙ sym (add-one (length ys)) in omega arith
+
+-- a block that has ended is left, and the jobs after it are to be begun
+pub left-ended : (run : BlockRun) (rest after : Rest) → is_done (pieces_of run) ≡ true → SameChain rest after → after.next ≡ rest.next
+    → account_in after ≡ account_after (names_before run) (local_of run) (beside_in rest) → begun_with None after ≡ settled_with (Some run) rest
+left-ended run rest after none chain next account =
+    (λ i. stage_from (same-jobs chain next i) (account i))
+    ∙ passes (stage_from (jobs_left rest)) (pieces_of run) (local_of run) (names_before run) (beside_in rest) (jobs_left rest) none
+
+-- a block with the body's rights has them where the chain is the same
+pub rights-kept : (block : Option BlockRun) (run : BlockRun) (rest : Rest) → run_rights run ≡ access_in rest.rights.now → IfSome block (λ (left : BlockRun). left ≡ run) → HaveRights block rest
+rights-kept None run rest rights same = tt
+rights-kept (Some left) run rest rights same = λ k i. (ap run_rights same ∙ rights) i k
+
+pub rights-left : (block : Option BlockRun) (left run : BlockRun) (rest : Rest) → block ≡ Some left → run_rights run ≡ access_in rest.rights.now → IfSome block (λ (x : BlockRun). x ≡ run) → HaveRights (Some left) rest
+rights-left block left run rest is rights same = subst (λ (o : Option BlockRun). HaveRights o rest) is (rights-kept block run rest rights same)
+
+pub rights-before : (block : Option BlockRun) (rest after : Rest) → SameChain rest after → HaveRights block after → HaveRights block rest
+rights-before None rest after chain rights = tt
+rights-before (Some run) rest after chain rights = λ k i. ((λ j. rights k j) ∙ ap (λ r. access_in r.now k) chain.rights) i

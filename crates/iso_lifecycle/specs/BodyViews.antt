@@ -3,9 +3,11 @@ use Rattle.std.specs.Prelude.{◌≡◌, ℕ, List, true}
 use Rattle.iso_model.specs.Bodies.{Stage}
 use Rattle.iso_model.specs.Resources.{Resources}
 use Rattle.iso_model.specs.Rights.{Rights, is_readable}
-use Rattle.iso_lifecycle.specs.BodyRuns.{stage_of}
+use Rattle.iso_lifecycle.specs.BodyRuns.{rights_of, stage_of}
 use Rattle.iso_lifecycle.specs.OriginViews.{kind_of_origin, subject_of_origin}
+use Rattle.iso_lifecycle.specs.Origins.{HasCome, HasLeft, HasRights, outer_names}
 use Rattle.iso_lifecycle.specs.Subjects.{Subject, begun, reached, rights_of_subject}
+use Rattle.iso_lifecycle.specs.declared.body.Beginning.{Beginning}
 use Rattle.iso_lifecycle.specs.declared.body.Body.{Body}
 use Rattle.iso_lifecycle.specs.declared.kind.BodyKind.{BodyKind}
 use Rattle.iso_lifecycle.specs.declared.origin.Origin.{Origin}
@@ -19,11 +21,13 @@ kind_of_body b = kind_of_origin b.origin
 abbrev pub stage_of_body : Body → Stage
 stage_of_body b = stage_of b.run
 
--- a body of this node and kind, at its beginning
-pub record IsBegun (o : Origin) (b : Body) : Type 0 where
-  pub subject : subject_of b ≡ subject_of_origin o
-  pub kind : kind_of_body b ≡ kind_of_origin o
-  pub stage : stage_of_body b ≡ (begun (kind_of_origin o) (subject_of_origin o)).stage
+-- what a body of this origin begins with
+pub record IsBeginning (o : Origin) (b : Beginning) : Type 0 where
+  pub outer : b.outer ≡ outer_names (kind_of_origin o) (subject_of_origin o)
+  pub rights : HasRights (subject_of_origin o) (rights_of b.run)
+  pub stage : stage_of b.run ≡ (begun (kind_of_origin o) (subject_of_origin o)).stage
+  pub come : HasCome (kind_of_origin o) (subject_of_origin o) (stage_of b.run)
+  pub left : HasLeft (kind_of_origin o) (subject_of_origin o) (stage_of b.run) b.frame
 
 -- contents that are equal at the keys that rights let be looked at
 pub record EqualAt (r : Rights) (m n : Resources) : Type 0 where

@@ -42,8 +42,16 @@ pub struct Body<'a> {
     ghost left: { HasLeft (kind_of_origin origin) (subject_of_origin origin) (stage_of run) frame } by { HasLeft-prop (kind_of_origin origin) (subject_of_origin origin) (stage_of run) frame },
 }
 
+/// What a body begins with: its run, how many of its names are of the enclosing classes, and the frame that an empty `before_all` leaves.
+#[derive(Drop)]
+struct Beginning<'a> {
+    run: BodyRun<'a>,
+    outer: usize,
+    frame: Option<Frame>,
+}
+
 impl<'a> Body<'a> {
-    ghost use Rattle.iso_lifecycle.specs.BodyViews.{IsBegun, Stands, kind_of_body, stage_of_body, subject_of};
+    ghost use Rattle.iso_lifecycle.specs.BodyViews.{IsBeginning, Stands, kind_of_body, stage_of_body, subject_of};
 
     /// A body at its beginning, with the frames of the classes that its node stands in, outermost first, and for an `after_all`
     /// its own.
@@ -70,7 +78,26 @@ impl<'a> Body<'a> {
             node,
             kind,
         };
-        match kind {
+        let Beginning { run, outer, frame } = Body::beginning(alloc, &origin, frames)?;
+        Ok(Body {
+            alloc,
+            origin,
+            run,
+            outer,
+            frame,
+        })
+    }
+
+    /// What a body of its kind begins with.
+    fn beginning(
+        alloc: Global,
+        origin: &Origin<'a>,
+        frames: &[Frame],
+    ) -> Result<Beginning<'a>, AllocError>
+        requires { AreFrames origin.now frames.now }
+        ensures { IfOk result (IsBeginning origin.now) }
+    {
+        match origin.kind {
             BodyKind::BeforeAll => Body::opening(alloc, origin, frames),
             BodyKind::Test => Body::testing(alloc, origin, frames),
             BodyKind::AfterAll => Body::closing(alloc, origin, frames),
@@ -78,10 +105,14 @@ impl<'a> Body<'a> {
     }
 
     /// The `before_all` of a class.
-    fn opening(alloc: Global, origin: Origin<'a>, frames: &[Frame]) -> Result<Body<'a>, AllocError>
-        requires kind { kind_of_origin origin ≡ BodyKind.BeforeAll }
-        requires frames { AreFrames origin frames.now }
-        ensures { IfOk result (IsBegun origin.entry) }
+    fn opening(
+        alloc: Global,
+        origin: &Origin<'a>,
+        frames: &[Frame],
+    ) -> Result<Beginning<'a>, AllocError>
+        requires kind { kind_of_origin origin.now ≡ BodyKind.BeforeAll }
+        requires frames { AreFrames origin.now frames.now }
+        ensures { IfOk result (IsBeginning origin.now) }
     {
         are_of_classes(frames);
         paths_lead_up(origin.plan);
@@ -93,14 +124,18 @@ impl<'a> Body<'a> {
         add_variables(alloc, &mut names, &class.statics, Sort::Static)?;
         let words = BlockName::Class(classes.len() as u32, Lifecycle::BeforeAll);
         let run = BodyRun::of_block(alloc, &class.before_all, words, names, origin.rights())?;
-        Body::new(alloc, origin, run, outer)
+        Body::with_frame(alloc, origin, run, outer)
     }
 
     /// A whole test.
-    fn testing(alloc: Global, origin: Origin<'a>, frames: &[Frame]) -> Result<Body<'a>, AllocError>
-        requires kind { kind_of_origin origin ≡ BodyKind.Test }
-        requires frames { AreFrames origin frames.now }
-        ensures { IfOk result (IsBegun origin.entry) }
+    fn testing(
+        alloc: Global,
+        origin: &Origin<'a>,
+        frames: &[Frame],
+    ) -> Result<Beginning<'a>, AllocError>
+        requires kind { kind_of_origin origin.now ≡ BodyKind.Test }
+        requires frames { AreFrames origin.now frames.now }
+        ensures { IfOk result (IsBeginning origin.now) }
     {
         are_of_classes(frames);
         paths_lead_up(origin.plan);
@@ -111,14 +146,18 @@ impl<'a> Body<'a> {
         };
         let names = test_names(alloc, chain.classes, frames)?;
         let run = BodyRun::of_test(alloc, chain.classes, test, names, origin.rights())?;
-        Body::new(alloc, origin, run, 0)
+        Body::with_frame(alloc, origin, run, 0)
     }
 
     /// The `after_all` of a class.
-    fn closing(alloc: Global, origin: Origin<'a>, frames: &[Frame]) -> Result<Body<'a>, AllocError>
-        requires kind { kind_of_origin origin ≡ BodyKind.AfterAll }
-        requires frames { AreFrames origin frames.now }
-        ensures { IfOk result (IsBegun origin.entry) }
+    fn closing(
+        alloc: Global,
+        origin: &Origin<'a>,
+        frames: &[Frame],
+    ) -> Result<Beginning<'a>, AllocError>
+        requires kind { kind_of_origin origin.now ≡ BodyKind.AfterAll }
+        requires frames { AreFrames origin.now frames.now }
+        ensures { IfOk result (IsBeginning origin.now) }
     {
         are_of_classes(frames);
         paths_lead_up(origin.plan);
@@ -128,29 +167,29 @@ impl<'a> Body<'a> {
         let names = statics_of(alloc, frames)?;
         let words = BlockName::Class(classes.len() as u32, Lifecycle::AfterAll);
         let run = BodyRun::of_block(alloc, &class.after_all, words, names, origin.rights())?;
-        Body::new(alloc, origin, run, 0)
+        Body::with_frame(alloc, origin, run, 0)
     }
 
-    /// A body whose run is at its beginning, with so many names of the enclosing classes.
-    fn new(
+    /// What a body begins with whose run is at its beginning, with so many names of the enclosing classes.
+    fn with_frame(
         alloc: Global,
-        origin: Origin<'a>,
+        origin: &Origin<'a>,
         run: BodyRun<'a>,
         outer: usize,
-    ) -> Result<Body<'a>, AllocError>
-        requires outer { outer ≡ outer_names (kind_of_origin origin) (subject_of_origin origin) }
-        requires rights { HasRights (subject_of_origin origin) (rights_of run) }
-        requires begun { stage_of run ≡ (begun (kind_of_origin origin) (subject_of_origin origin)).stage }
-        ensures { IfOk result (IsBegun origin.entry) }
+    ) -> Result<Beginning<'a>, AllocError>
+        requires outer { outer ≡ outer_names (kind_of_origin origin.now) (subject_of_origin origin.now) }
+        requires rights { HasRights (subject_of_origin origin.now) (rights_of run) }
+        requires begun { stage_of run ≡ (begun (kind_of_origin origin.now) (subject_of_origin origin.now)).stage }
+        ensures { IfOk result (IsBeginning origin.now) }
     {
-        let frame = origin.frame(alloc, &run, outer)?;
-        Ok(Body {
-            alloc,
-            origin,
-            outer,
-            run,
-            frame,
-        })
+        match origin.frame(alloc, &run, outer) {
+            Ok(frame) => Ok(Beginning { run, outer, frame }),
+            Err(error) => {
+                // A call drops the run: its parts then stand in the proof of that call alone.
+                drop(run);
+                Err(error)
+            }
+        }
     }
 
     /// Does the first piece that is left, on what the body's last step left, and at first on what the openings before it left, at the

@@ -21,6 +21,7 @@ use iso_model::rights::Rights;
 use iso_model::touch::Touch;
 use iso_model::tree::Stmt;
 use std::alloc::{AllocError, Global};
+use std::mem;
 use std::sync::Arc;
 
 /// What an ended body leaves: the endings of the blocks that were done, in order, the lines that they printed, and its names.
@@ -66,8 +67,13 @@ impl<'a> BodyRun<'a> {
             lines: Vec::new(alloc),
             endings: Vec::new(alloc),
         };
-        let block = rest.follow()?;
-        Ok(BodyRun { rest, block })
+        match rest.follow() {
+            Ok(block) => Ok(BodyRun { rest, block }),
+            Err(error) => {
+                drop(rest);
+                Err(error)
+            }
+        }
     }
 
     /// A body of one block at its beginning, which sees all these names: a `before_all` or an `after_all`.
@@ -81,23 +87,26 @@ impl<'a> BodyRun<'a> {
         ensures stage { IfOk result (λ run. stage_of run ≡ stage_from (job words (block_of block.now) (length names.items) false ∷ []) (fresh_account names.items)) }
         ensures rights { IfOk result (λ run. rights_of run ≡ access_in rights.now) }
     {
-        let names = Names::new(names, 0, words);
-        let mut run = BodyRun {
-            rest: Rest {
-                alloc,
-                rights,
-                classes: &[],
-                test: block,
-                next: None,
-                names: Vec::new(alloc),
-                printed: 0,
-                lines: Vec::new(alloc),
-                endings: Vec::new(alloc),
-            },
-            block: Some(BlockRun::new(alloc, block, names, rights)),
+        let run = BlockRun::new(alloc, block, Names::new(names, 0, words), rights);
+        let mut rest = Rest {
+            alloc,
+            rights,
+            classes: &[],
+            test: block,
+            next: None,
+            names: Vec::new(alloc),
+            printed: 0,
+            lines: Vec::new(alloc),
+            endings: Vec::new(alloc),
         };
-        run.settle()?;
-        Ok(run)
+        match rest.settle(run) {
+            Ok(block) => Ok(BodyRun { rest, block }),
+            Err(error) => {
+                // A call drops the rest: its parts then stand in the proof of that call alone.
+                drop(rest);
+                Err(error)
+            }
+        }
     }
 
     /// Does the first piece that is left; where its block has then ended, the next begins that has something to do.
@@ -125,7 +134,8 @@ impl<'a> BodyRun<'a> {
         ensures stopped { is_ended (stage_of self.new) ≡ false }
         ensures rights { rights_of self.new ≡ rights_of self.old }
     {
-        self.block = Some(self.rest.idle());
+        let idle = self.rest.idle();
+        drop(self.block.replace(idle));
     }
 
     /// Its names, while no block is under way.
@@ -161,17 +171,13 @@ impl<'a> BodyRun<'a> {
         ensures stopped { OnErr result (is_ended (stage_of self.new) ≡ false) }
         ensures rights { rights_of self.new ≡ rights_of self.old }
     {
-        let Some(run) = &self.block else {
+        let Some(block) = &mut self.block else {
             return Ok(());
         };
-        if !run.is_ended() {
-            return Ok(());
-        }
-        let idle = self.rest.idle();
-        if let Some(run) = self.block.replace(idle) {
-            self.rest.leave(run)?;
-            self.block = self.rest.follow()?;
-        }
+        let run = mem::replace(block, self.rest.idle());
+        let next = self.rest.settle(run)?;
+        // A call drops the idle block: its parts then stand in the proof of that call alone.
+        drop(mem::replace(&mut self.block, next));
         Ok(())
     }
 }

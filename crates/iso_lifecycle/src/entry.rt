@@ -21,8 +21,16 @@ impl Entry {
         ensures { self.new ≡ entry_with what self.old }
     {
         let before = mem::replace(self, Entry::Empty);
-        // A call drops the empty entry: the variants then stand in the proof of that call alone.
         drop(mem::replace(self, before.with(what)));
+    }
+
+    /// Another entry in its place.
+    fn replaced(self, by: Entry) -> Entry
+        ensures { result ≡ by }
+    {
+        // A call drops the entry: the variants then stand in the proof of that call alone.
+        drop(self);
+        by
     }
 
     /// The entry with what a body of the node came to.
@@ -30,8 +38,8 @@ impl Entry {
         ensures { result ≡ entry_with what self }
     {
         match what {
-            What::Tested(outcome) => Entry::Tested(outcome),
-            What::Opened(opened) => Entry::Opened(opened),
+            What::Tested(outcome) => self.replaced(Entry::Tested(outcome)),
+            What::Opened(opened) => self.replaced(Entry::Opened(opened)),
             What::Closed(closed) => self.closed(closed),
         }
     }

@@ -1,5 +1,5 @@
 //! What a body has beside its block under way.
-ghost use Rattle.std.specs.Prelude.{◌≡◌, ◌<◌, ◌∷◌, ◌++◌, ◌^◌, length, true, Some, OnOk, IfOk};
+ghost use Rattle.std.specs.Prelude.{◌≡◌, ◌<◌, [], ◌∷◌, ◌++◌, ◌^◌, length, true, Some, OnOk, IfOk, IfSome};
 ghost use Rattle.iso_lifecycle.specs.JobPlaces.{IsPlaced, IsPlaced-prop};
 
 use crate::blocks::{names_of, part, statements};
@@ -40,10 +40,11 @@ impl<'a> Rest<'a> {
     ghost use Rattle.iso_model.specs.Steps.{first_point, is_done};
     ghost use Rattle.iso_interp.specs.Runs.{local_of, names_before, pieces_of, point_of_run, run_rights};
     ghost use Rattle.iso_model.specs.Rights.{access_in};
+    ghost use Rattle.iso_lifecycle.specs.BodyRuns.{settled_with};
     ghost use Rattle.iso_lifecycle.specs.Works.{HaveRights, SameChain, account_in, begun_with, beside_in, job_in, jobs_left, stage_with};
 
     /// Ends a block, of which nothing is left to do.
-    pub(crate) fn leave(&mut self, run: BlockRun<'a>) -> Result<(), AllocError>
+    fn leave(&mut self, run: BlockRun<'a>) -> Result<(), AllocError>
         requires { is_done (pieces_of run) ≡ true }
         ensures account { OnOk result (account_in self.new ≡ account_after (names_before run.entry) (local_of run.entry) (beside_in self.old)) }
         ensures chain { SameChain self.old self.new }
@@ -54,11 +55,27 @@ impl<'a> Rest<'a> {
             output,
             names,
         } = run.finish();
-        self.endings.push(ending)?;
-        add_lines(&mut self.lines, output)?;
+        // Each is put away before any want of memory is answered, so that nothing is left over on that way out.
+        let ended = add_ending(&mut self.endings, ending);
+        let printed = add_lines(&mut self.lines, output);
         self.printed = names.printed();
         put_before(&mut self.names, names.into_bindings())?;
-        Ok(())
+        printed?;
+        ended
+    }
+
+    /// Ends a block of which nothing is left to do, and answers any other.
+    fn leave_if_ended(&mut self, run: BlockRun<'a>) -> Result<Option<BlockRun<'a>>, AllocError>
+        ensures stage { IfOk result (λ block. begun_with block self.new ≡ settled_with (Some run.entry) self.old) }
+        ensures same { IfOk result (λ block. IfSome block (λ left. left ≡ run.entry)) }
+        ensures chain { SameChain self.old self.new }
+        ensures next { self.new.next ≡ self.old.next }
+    {
+        if !run.is_ended() {
+            return Ok(Some(run));
+        }
+        self.leave(run)?;
+        Ok(None)
     }
 
     /// The environment of a job's block, which takes the names that it sees.
@@ -130,11 +147,7 @@ impl<'a> Rest<'a> {
             return Ok(None);
         }
         let run = self.enter(job)?;
-        if !run.is_ended() {
-            return Ok(Some(run));
-        }
-        self.leave(run)?;
-        Ok(None)
+        self.leave_if_ended(run)
     }
 
     /// Begins the next block that has something to do, if there is one.
@@ -151,6 +164,27 @@ impl<'a> Rest<'a> {
         }
         Ok(None)
     }
+
+    /// Goes on with a block, or where nothing is left of it with the next that has something to do, if there is one.
+    pub(crate) fn settle(&mut self, run: BlockRun<'a>) -> Result<Option<BlockRun<'a>>, AllocError>
+        requires { run_rights run ≡ access_in self.old.rights.now }
+        ensures stage { IfOk result (λ block. stage_with block self.new ≡ settled_with (Some run.entry) self.old) }
+        ensures rights { IfOk result (λ block. HaveRights block self.old) }
+        ensures chain { SameChain self.old self.new }
+    {
+        match self.leave_if_ended(run)? {
+            Some(run) => Ok(Some(run)),
+            None => self.follow(),
+        }
+    }
+}
+
+/// Adds an ending.
+fn add_ending(endings: &mut Vec<Ending>, ending: Ending) -> Result<(), AllocError>
+    ensures { OnOk result (endings.new.items ≡ endings.old.items ++ ending ∷ []) }
+{
+    endings.push(ending)?;
+    Ok(())
 }
 
 /// Adds lines.

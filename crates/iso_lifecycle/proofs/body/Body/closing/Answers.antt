@@ -13,14 +13,36 @@ use Rattle.iso_lifecycle.specs.OriginViews.{subject_of_origin}
 use Rattle.iso_lifecycle.specs.Subjects.{IsOfClass, begun, classes_of, enclosing, framed, is_kind_of, subject}
 use Rattle.iso_lifecycle.specs.declared.kind.BodyKind.{BodyKind}
 use Rattle.iso_lifecycle.specs.declared.kind.BodyKind.TheVariants.{AfterAll}
-use Rattle.iso_lifecycle.proofs.Beginnings.{closing-begins, last-class}
+use Rattle.iso_lifecycle.proofs.Beginnings.{closing-begins, last-class, last-within, some-class}
 use Rattle.iso_lifecycle.proofs.Comings.{Grows, closes-class, in-class, node_kind}
 use Rattle.iso_lifecycle.proofs.Framing.{Leads, chain-short, frames-with-own}
 use Rattle.iso_lifecycle.proofs.body.Body.closing.Goals as goal
 
+pub overflow_sub-classes : goal.overflow_sub-classes
+overflow_sub-classes c =
+    let o = c.args.origin.now in
+    let s = subject_of_origin o in
+    let heads = c.chain.result.classes.now in
+    let class : IsOfClass s = closes-class (node_kind s) (subst (λ (k : BodyKind). is_kind_of k (node_kind s) ≡ true) c.requires.kind o.fits) in
+    let w = in-class s (c.chains_grow_down.ensures o.node o.inner) class in
+    let all : length heads ≡ length (classes_of s) =
+    sym (length-map heads (λ h. class_head_of (arc_value h))) ∙ sym (length-reverse (heads_in heads)) ∙ ap length c.chain.ensures.classes in
+    some-class (length heads) (length (classes_of (enclosing s))) (all ∙ ap length w.chain)
+
+pub head-class-requires : goal.head-class-requires
+head-class-requires c =
+    let o = c.args.origin.now in
+    let s = subject_of_origin o in
+    let heads = c.chain.result.classes.now in
+    let class : IsOfClass s = closes-class (node_kind s) (subst (λ (k : BodyKind). is_kind_of k (node_kind s) ≡ true) c.requires.kind o.fits) in
+    let w = in-class s (c.chains_grow_down.ensures o.node o.inner) class in
+    let all : length heads ≡ length (classes_of s) =
+    sym (length-map heads (λ h. class_head_of (arc_value h))) ∙ sym (length-reverse (heads_in heads)) ∙ ap length c.chain.ensures.classes in
+    last-within (length heads) (length (classes_of (enclosing s))) (all ∙ ap length w.chain)
+
 pub overflow_cast-words : goal.overflow_cast-words
 overflow_cast-words c =
-    let o = c.args.origin in
+    let o = c.args.origin.now in
     let s = subject_of_origin o in
     let os = heads_in c.chain.result.classes.now in
     let all : length c.chain.result.classes.now ≡ length (classes_of s) =
@@ -29,12 +51,12 @@ overflow_cast-words c =
     let less : length c.chain.result.classes.now < 4294967296 = omega (arith, all, short, o.small) in
     search (arith, less)
 
-pub new-requires-clause-rights : goal.new-requires-clause-rights
-new-requires-clause-rights c = λ k. ap (λ (r : Rights). r k) (c.in_ok-run.ensures.rights ∙ c.rights.ensures)
+pub with_frame-requires-clause-rights : goal.with_frame-requires-clause-rights
+with_frame-requires-clause-rights c = λ k. ap (λ (r : Rights). r k) (c.in_ok-run.ensures.rights ∙ c.rights.ensures)
 
-pub new-requires-clause-begun : goal.new-requires-clause-begun
-new-requires-clause-begun c =
-    let o = c.args.origin in
+pub with_frame-requires-clause-begun : goal.with_frame-requires-clause-begun
+with_frame-requires-clause-begun c =
+    let o = c.args.origin.now in
     let s = subject_of_origin o in
     let tree = tree_of s.plan in
     let grows : Grows s = c.chains_grow_down.ensures o.node o.inner in

@@ -17,14 +17,36 @@ use Rattle.iso_lifecycle.specs.Origins.{outer_names}
 use Rattle.iso_lifecycle.specs.Subjects.{IsOfClass, begun, classes_of, enclosing, framed, is_kind_of, subject}
 use Rattle.iso_lifecycle.specs.declared.kind.BodyKind.{BodyKind}
 use Rattle.iso_lifecycle.specs.declared.kind.BodyKind.TheVariants.{BeforeAll}
-use Rattle.iso_lifecycle.proofs.Beginnings.{opening-begins, last-class}
+use Rattle.iso_lifecycle.proofs.Beginnings.{last-class, last-within, opening-begins, some-class}
 use Rattle.iso_lifecycle.proofs.Comings.{Grows, in-class, node_kind}
 use Rattle.iso_lifecycle.proofs.Framing.{Leads, chain-short, frames-along}
 use Rattle.iso_lifecycle.proofs.body.Body.opening.Goals as goal
 
+pub overflow_sub-classes : goal.overflow_sub-classes
+overflow_sub-classes c =
+    let o = c.args.origin.now in
+    let s = subject_of_origin o in
+    let heads = c.chain.result.classes.now in
+    let class : IsOfClass s = subst (λ (k : BodyKind). is_kind_of k (node_kind s) ≡ true) c.requires.kind o.fits in
+    let w = in-class s (c.chains_grow_down.ensures o.node o.inner) class in
+    let all : length heads ≡ length (classes_of s) =
+    sym (length-map heads (λ h. class_head_of (arc_value h))) ∙ sym (length-reverse (heads_in heads)) ∙ ap length c.chain.ensures.classes in
+    some-class (length heads) (length (classes_of (enclosing s))) (all ∙ ap length w.chain)
+
+pub head-class-requires : goal.head-class-requires
+head-class-requires c =
+    let o = c.args.origin.now in
+    let s = subject_of_origin o in
+    let heads = c.chain.result.classes.now in
+    let class : IsOfClass s = subst (λ (k : BodyKind). is_kind_of k (node_kind s) ≡ true) c.requires.kind o.fits in
+    let w = in-class s (c.chains_grow_down.ensures o.node o.inner) class in
+    let all : length heads ≡ length (classes_of s) =
+    sym (length-map heads (λ h. class_head_of (arc_value h))) ∙ sym (length-reverse (heads_in heads)) ∙ ap length c.chain.ensures.classes in
+    last-within (length heads) (length (classes_of (enclosing s))) (all ∙ ap length w.chain)
+
 pub overflow_cast-words : goal.overflow_cast-words
 overflow_cast-words c =
-    let o = c.args.origin in
+    let o = c.args.origin.now in
     let s = subject_of_origin o in
     let os = heads_in c.chain.result.classes.now in
     let all : length c.chain.result.classes.now ≡ length (classes_of s) =
@@ -33,12 +55,12 @@ overflow_cast-words c =
     let less : length c.chain.result.classes.now < 4294967296 = omega (arith, all, short, o.small) in
     search (arith, less)
 
-pub new-requires-clause-rights : goal.new-requires-clause-rights
-new-requires-clause-rights c = λ k. ap (λ (r : Rights). r k) (c.in_ok-run.ensures.rights ∙ c.rights.ensures)
+pub with_frame-requires-clause-rights : goal.with_frame-requires-clause-rights
+with_frame-requires-clause-rights c = λ k. ap (λ (r : Rights). r k) (c.in_ok-run.ensures.rights ∙ c.rights.ensures)
 
-pub new-requires-clause-outer : goal.new-requires-clause-outer
-new-requires-clause-outer c =
-    let o = c.args.origin in
+pub with_frame-requires-clause-outer : goal.with_frame-requires-clause-outer
+with_frame-requires-clause-outer c =
+    let o = c.args.origin.now in
     let s = subject_of_origin o in
     let tree = tree_of s.plan in
     let leads : Leads tree = record { root = c.paths_lead_up.ensures.root; step = c.paths_lead_up.ensures.step; grows = c.chains_grow_down.ensures } in
@@ -47,9 +69,9 @@ new-requires-clause-outer c =
     let count : c.len-outer.result ≡ length c.in_ok-names.names.items = omega (arith, c.in_ok-names.names.ok.0) in
     count ∙ ap length (c.in_ok-names.ensures ∙ ap statics_of frames) ∙ ap (λ (k : BodyKind). outer_names k s) (sym c.requires.kind)
 
-pub new-requires-clause-begun : goal.new-requires-clause-begun
-new-requires-clause-begun c =
-    let o = c.args.origin in
+pub with_frame-requires-clause-begun : goal.with_frame-requires-clause-begun
+with_frame-requires-clause-begun c =
+    let o = c.args.origin.now in
     let s = subject_of_origin o in
     let tree = tree_of s.plan in
     let grows : Grows s = c.chains_grow_down.ensures o.node o.inner in

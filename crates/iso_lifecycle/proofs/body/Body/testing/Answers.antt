@@ -23,7 +23,7 @@ use Rattle.iso_lifecycle.proofs.body.Body.testing.Goals as goal
 
 pub test_names-requires : goal.test_names-requires
 test_names-requires c =
-    let o = c.args.origin in
+    let o = c.args.origin.now in
     let s = subject_of_origin o in
     let tree = tree_of s.plan in
     let grows : Grows s = c.chains_grow_down.ensures o.node o.inner in
@@ -38,7 +38,7 @@ test_names-requires c =
 
 pub of_test-requires : goal.of_test-requires
 of_test-requires c =
-    let o = c.args.origin in
+    let o = c.args.origin.now in
     let s = subject_of_origin o in
     let os = heads_in c.chain-chain.result.classes.now in
     let all : length c.chain-chain.result.classes.now ≡ length (classes_of s) =
@@ -46,12 +46,12 @@ of_test-requires c =
     let short = chain-short (tree_of s.plan) s.node in
     omega (arith, all, short, o.small)
 
-pub new-requires-clause-rights : goal.new-requires-clause-rights
-new-requires-clause-rights c = λ k. ap (λ (r : Rights). r k) (c.in_ok-run.ensures.rights ∙ c.rights.ensures)
+pub with_frame-requires-clause-rights : goal.with_frame-requires-clause-rights
+with_frame-requires-clause-rights c = λ k. ap (λ (r : Rights). r k) (c.in_ok-run.ensures.rights ∙ c.rights.ensures)
 
-pub new-requires-clause-begun : goal.new-requires-clause-begun
-new-requires-clause-begun c =
-    let o = c.args.origin in
+pub with_frame-requires-clause-begun : goal.with_frame-requires-clause-begun
+with_frame-requires-clause-begun c =
+    let o = c.args.origin.now in
     let s = subject_of_origin o in
     let tree = tree_of s.plan in
     let grows : Grows s = c.chains_grow_down.ensures o.node o.inner in

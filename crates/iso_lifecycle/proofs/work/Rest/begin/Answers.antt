@@ -1,22 +1,22 @@
 use Rattle.std.proofs.Common.{◌≡◌, ℕ, List, ◌∷◌, Option, Some, length, ap, sym, ◌∙◌, subst}
 use Rattle.std.proofs.lemmas.List.{length-map}
+use Rattle.std.proofs.lemmas.Result.{IfOk-weaker}
 use Rattle.std.specs.Arc.{arc_value}
 use Rattle.std.specs.declared.alloc.Global.{Global}
 use Rattle.std.specs.declared.sync.Arc.{Arc}
-use Rattle.iso_model.specs.Bodies.{during, stage_from}
-use Rattle.iso_model.specs.Rights.{Rights}
+use Rattle.iso_model.specs.Bodies.{stage_at, stage_from}
 use Rattle.iso_model.specs.ScriptView.{class_head_of}
 use Rattle.iso_model.specs.Syntax.{Acts}
 use Rattle.iso_model.specs.SyntaxView.{block_of}
 use Rattle.iso_model.specs.declared.heads.ClassHead.{ClassHead}
-use Rattle.iso_interp.specs.Runs.{names_before, point_of_run}
+use Rattle.iso_interp.specs.Runs.{local_of, names_before, pieces_of, point_of_run}
 use Rattle.iso_lifecycle.specs.Heads.{heads_in}
 use Rattle.iso_lifecycle.specs.JobPlaces.{IsPlaced, job_after, job_at, jobs_from}
 use Rattle.iso_lifecycle.specs.Works.{account_in, beside_in, jobs_left}
 use Rattle.iso_lifecycle.specs.declared.job.Job.{Job}
-use Rattle.iso_lifecycle.proofs.Following.{left-out, begun, passed}
+use Rattle.iso_lifecycle.proofs.Following.{left-out, entered}
 use Rattle.iso_lifecycle.proofs.JobLemmas.{jobs-after}
-use Rattle.iso_lifecycle.proofs.WorkLemmas.{same-jobs}
+use Rattle.iso_lifecycle.proofs.WorkLemmas.{rights-kept, same-jobs}
 use Rattle.iso_lifecycle.proofs.work.Rest.begin.Goals as goal
 
 -- the jobs that were left are this one and those after it
@@ -59,46 +59,6 @@ returns-in_err-run-clause-jobs c =
     let kept : jobs_left c.enter.new.self ≡ js = same-jobs c.in_err-run.ensures.chain c.in_err-run.ensures.next in
     jobs ∙ ap (λ xs. job ∷ xs) (sym kept)
 
-pub returns-then-not-is_ended-clause-begun : goal.returns-then-not-is_ended-clause-begun
-returns-then-not-is_ended-clause-begun c =
-    let old = c.args.self.now in
-    let body = block_of old.test.now in
-    let job = job_at (heads_in old.classes.now) body c.args.job in
-    let js = jobs_from (heads_in old.classes.now) body c.after-self.result in
-    let jobs : jobs_left old ≡ job ∷ js = first-job old.classes.now body old.next c.after-self.result c.args.job old.placed c.requires c.after-self.ensures.next in
-    let a = account_in old in
-    let p = point_of_run c.in_ok-run.run' in
-    let n = names_before c.in_ok-run.run' in
-    let b = beside_in c.enter.new.self in
-    let due = sym c.is_due.ensures ∙ c.if-not-is_due.false in
-    let kept : jobs_left c.enter.new.self ≡ js = same-jobs c.in_ok-run.ensures.chain c.in_ok-run.ensures.next in
-    ap (during p n b) kept
-    ∙ begun job js a p n b due c.in_ok-run.ensures.point c.in_ok-run.ensures.names c.in_ok-run.ensures.beside (sym c.is_ended.ensures ∙ c.if-not-is_ended.true)
-    ∙ ap (λ xs. stage_from xs a) (sym jobs)
-
-pub returns-then-not-is_ended-clause-rights : goal.returns-then-not-is_ended-clause-rights
-returns-then-not-is_ended-clause-rights c = λ k. ap (λ (r : Rights). r k) c.in_ok-run.ensures.rights
-
-pub returns-then-not-is_ended-clause-jobs : goal.returns-then-not-is_ended-clause-jobs
-returns-then-not-is_ended-clause-jobs c =
-    let old = c.args.self.now in
-    let body = block_of old.test.now in
-    let job = job_at (heads_in old.classes.now) body c.args.job in
-    let js = jobs_from (heads_in old.classes.now) body c.after-self.result in
-    let jobs : jobs_left old ≡ job ∷ js = first-job old.classes.now body old.next c.after-self.result c.args.job old.placed c.requires c.after-self.ensures.next in
-    let kept : jobs_left c.enter.new.self ≡ js = same-jobs c.in_ok-run.ensures.chain c.in_ok-run.ensures.next in
-    jobs ∙ ap (λ xs. job ∷ xs) (sym kept)
-
-pub returns-in_err-leave-clause-jobs : goal.returns-in_err-leave-clause-jobs
-returns-in_err-leave-clause-jobs c =
-    let old = c.args.self.now in
-    let body = block_of old.test.now in
-    let job = job_at (heads_in old.classes.now) body c.args.job in
-    let js = jobs_from (heads_in old.classes.now) body c.after-self.result in
-    let jobs : jobs_left old ≡ job ∷ js = first-job old.classes.now body old.next c.after-self.result c.args.job old.placed c.requires c.after-self.ensures.next in
-    let kept : jobs_left c.enter.new.self ≡ js = same-jobs c.in_ok-run.ensures.chain c.in_ok-run.ensures.next in
-    jobs ∙ ap (λ xs. job ∷ xs) (sym (same-jobs c.in_err-leave.ensures.chain c.in_err-leave.ensures.next ∙ kept))
-
 pub returns-clause-begun : goal.returns-clause-begun
 returns-clause-begun c =
     let old = c.args.self.now in
@@ -107,15 +67,17 @@ returns-clause-begun c =
     let js = jobs_from (heads_in old.classes.now) body c.after-self.result in
     let jobs : jobs_left old ≡ job ∷ js = first-job old.classes.now body old.next c.after-self.result c.args.job old.placed c.requires c.after-self.ensures.next in
     let a = account_in old in
-    let p = point_of_run c.in_ok-run.run' in
-    let n = names_before c.in_ok-run.run' in
+    let run = c.in_ok-run.run' in
     let b = beside_in c.enter.new.self in
     let due = sym c.is_due.ensures ∙ c.if-not-is_due.false in
     let kept : jobs_left c.enter.new.self ≡ js = same-jobs c.in_ok-run.ensures.chain c.in_ok-run.ensures.next in
-    ap (λ xs. stage_from xs (account_in c.leave.new.self)) (same-jobs c.in_ok-leave.ensures.chain c.in_ok-leave.ensures.next ∙ kept)
-    ∙ ap (stage_from js) c.in_ok-leave.ensures.account
-    ∙ passed job js a p n b due c.in_ok-run.ensures.point c.in_ok-run.ensures.names c.in_ok-run.ensures.beside (sym c.is_ended.ensures ∙ c.if-not-is_ended.false)
-    ∙ ap (λ xs. stage_from xs a) (sym jobs)
+    let whole = ap (λ xs. stage_at (stage_from xs) (pieces_of run) (local_of run) (names_before run) b xs) kept
+    ∙ entered job js a (point_of_run run) (names_before run) b due c.in_ok-run.ensures.point c.in_ok-run.ensures.names c.in_ok-run.ensures.beside
+    ∙ ap (λ xs. stage_from xs a) (sym jobs) in
+    IfOk-weaker c.leave_if_ended.result _ _ (λ block is. is ∙ whole) c.leave_if_ended.ensures.stage
+
+pub returns-clause-rights : goal.returns-clause-rights
+returns-clause-rights c = IfOk-weaker c.leave_if_ended.result _ _ (λ block same. rights-kept block c.in_ok-run.run' c.args.self.now c.in_ok-run.ensures.rights same) c.leave_if_ended.ensures.same
 
 pub returns-clause-jobs : goal.returns-clause-jobs
 returns-clause-jobs c =
@@ -125,4 +87,4 @@ returns-clause-jobs c =
     let js = jobs_from (heads_in old.classes.now) body c.after-self.result in
     let jobs : jobs_left old ≡ job ∷ js = first-job old.classes.now body old.next c.after-self.result c.args.job old.placed c.requires c.after-self.ensures.next in
     let kept : jobs_left c.enter.new.self ≡ js = same-jobs c.in_ok-run.ensures.chain c.in_ok-run.ensures.next in
-    jobs ∙ ap (λ xs. job ∷ xs) (sym (same-jobs c.in_ok-leave.ensures.chain c.in_ok-leave.ensures.next ∙ kept))
+    jobs ∙ ap (λ xs. job ∷ xs) (sym (same-jobs c.leave_if_ended.ensures.chain c.leave_if_ended.ensures.next ∙ kept))
