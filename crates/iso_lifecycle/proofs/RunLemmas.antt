@@ -1,6 +1,6 @@
 -- A body's step is that of its block.
 use Rattle.std.proofs.Common.{◌≡◌, List, [], ◌∷◌, Option, Some, None, true, false, refl, sym, ap, ◌∙◌, subst, true≢false}
-use Rattle.iso_model.specs.Bodies.{Stage, account_after, account_of, ended, is_ended, body_step, going, going_at, stage_at, stage_from}
+use Rattle.iso_model.specs.Bodies.{Stage, account_of, ended, is_ended, body_step, going, going_at, stage_at, stage_from}
 use Rattle.iso_model.specs.Resources.{Resources}
 use Rattle.iso_model.specs.Rights.{Rights, access_in}
 use Rattle.iso_model.specs.Steps.{Machine, Piece, is_done, step}
@@ -11,7 +11,7 @@ use Rattle.iso_lifecycle.specs.BodyRuns.{account_in_run, settled_with, stage_of}
 use Rattle.iso_lifecycle.specs.declared.body_run.BodyRun.{BodyRun}
 use Rattle.iso_lifecycle.specs.Works.{HaveRights, account_in, beside_in, jobs_left, stage_with}
 use Rattle.iso_lifecycle.specs.declared.work.Rest.{Rest}
-use Rattle.iso_lifecycle.proofs.Following.{goes-on, passes}
+use Rattle.iso_lifecycle.proofs.Following.{goes-on}
 use Rattle.iso_lifecycle.specs.Origins.{HasCome, done_whole}
 use Rattle.iso_lifecycle.specs.Subjects.{Subject}
 use Rattle.iso_lifecycle.specs.declared.kind.BodyKind.{BodyKind}
