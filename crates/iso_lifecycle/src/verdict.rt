@@ -33,10 +33,19 @@ fn with_first(ending: Ending, rest: Verdict) -> Verdict
 {
     match ending {
         Ending::Well => rest,
-        Ending::Fail(note) => Verdict::Fail(note),
-        Ending::Fault(kind, note) => Verdict::Fault(kind, note),
+        Ending::Fail(note) => replaced(rest, Verdict::Fail(note)),
+        Ending::Fault(kind, note) => replaced(rest, Verdict::Fault(kind, note)),
         Ending::Assumed(note) => or_skipped(rest, note),
     }
+}
+
+/// Another verdict in place of one.
+fn replaced(rest: Verdict, by: Verdict) -> Verdict
+    ensures { result ≡ by }
+{
+    // A call drops the verdict: the variants then stand in the proof of that call alone.
+    drop(rest);
+    by
 }
 
 /// A fail or fault, or else Skipped by this note.
