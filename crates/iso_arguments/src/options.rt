@@ -27,8 +27,8 @@ static REPLAY_END: &str = "Example:
 
 /// The whole command line. The words begin with the subcommand's name.
 pub(crate) fn command_line<'a>(alloc: Global) -> Result<Command<'a>, AllocError> {
-    let command = with_subcommand(first_page(alloc)?, run(alloc))?;
-    let command = with_subcommand(command, plan(alloc))?;
+    let command = with_subcommand(first_page(alloc), run(alloc));
+    let command = with_subcommand(command, plan(alloc));
     with_subcommand(command, replay(alloc))
 }
 
@@ -43,70 +43,49 @@ fn first_page<'a>(alloc: Global) -> Result<Command<'a>, AllocError> {
         .bin_name("jtap")
 }
 
-/// A command with one more subcommand, if that could be made.
+/// A command with one more subcommand, if both could be made.
 fn with_subcommand<'a>(
-    command: Command<'a>,
+    command: Result<Command<'a>, AllocError>,
     subcommand: Result<Command<'a>, AllocError>,
 ) -> Result<Command<'a>, AllocError> {
-    match subcommand {
-        Ok(subcommand) => command.subcommand(subcommand),
-        Err(error) => {
-            drop(command);
-            Err(error)
-        }
-    }
+    command?.subcommand(subcommand?)
 }
 
 /// The subcommand that runs scripts.
 fn run<'a>(alloc: Global) -> Result<Command<'a>, AllocError> {
-    let options = vec![in alloc;
-        serial(alloc),
-        settings(alloc),
-        world(alloc),
-        processors(alloc),
-        scripts(alloc),
-    ]?;
     let about = "Run scripts, and write their report in TAP 14 to standard output";
-    subcommand(alloc, "run", about, RUN_END, options)
+    let command = subcommand(alloc, "run", about, RUN_END);
+    with_inputs(alloc, command.arg(serial(alloc)))
 }
 
 /// The subcommand that prints the plan.
 fn plan<'a>(alloc: Global) -> Result<Command<'a>, AllocError> {
-    let options = vec![in alloc;
-        settings(alloc),
-        world(alloc),
-        processors(alloc),
-        scripts(alloc),
-    ]?;
     let about = "Print how the scripts would run: workers, modes and locks of each node";
-    subcommand(alloc, "plan", about, PLAN_END, options)
+    with_inputs(alloc, Ok(subcommand(alloc, "plan", about, PLAN_END)))
 }
 
 /// The subcommand that replays a schedule.
 fn replay<'a>(alloc: Global) -> Result<Command<'a>, AllocError> {
-    let options = vec![in alloc;
-        schedule(alloc),
-        settings(alloc),
-        world(alloc),
-        processors(alloc),
-        scripts(alloc),
-    ]?;
     let about = "Replay a recorded schedule, and write the report as `run` does";
-    subcommand(alloc, "replay", about, REPLAY_END, options)
+    let command = subcommand(alloc, "replay", about, REPLAY_END);
+    with_inputs(alloc, command.arg(schedule(alloc)))
 }
 
-/// A subcommand with its options.
-fn subcommand<'a>(
+/// A subcommand without options.
+fn subcommand<'a>(alloc: Global, name: &'a str, about: &'a str, end: &'a str) -> Command<'a> {
+    Command::new(alloc, name).about(about).after_help(end)
+}
+
+/// A command with the options for what it reads, if it could be made.
+fn with_inputs<'a>(
     alloc: Global,
-    name: &'a str,
-    about: &'a str,
-    end: &'a str,
-    options: Vec<Arg<'a>>,
+    command: Result<Command<'a>, AllocError>,
 ) -> Result<Command<'a>, AllocError> {
-    Command::new(alloc, name)
-        .about(about)
-        .after_help(end)
-        .args(options)
+    command?
+        .arg(settings(alloc))?
+        .arg(world(alloc))?
+        .arg(processors(alloc))?
+        .arg(scripts(alloc))
 }
 
 fn serial<'a>(alloc: Global) -> Arg<'a> {
