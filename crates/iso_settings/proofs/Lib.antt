@@ -1,4 +1,5 @@
 pub mod ExampleLemmas
 pub mod LeafLemmas
 pub mod NumeralLemmas
+pub mod SettingsLemmas
 pub mod WorldLemmas
