@@ -3,11 +3,6 @@ use Rattle.std.proofs.lemmas.Result.{err_from_is_err_and}
 use Rattle.iso_settings.proofs.SettingsLemmas.{fault_next, past}
 use Rattle.iso_settings.proofs.settings.settings_of.Goals as goal
 
-pub returns-in_err-flag-clause-exact : goal.returns-in_err-flag-clause-exact
-returns-in_err-flag-clause-exact c =
-    let p = err_from_is_err_and c.from_residual.result c.from_residual.ensures.1 in
-    rw (p.1, p.2) (fault_next _ _ _ refl c.in_err-flag.ensures)
-
 pub returns-in_err-mode-clause-exact : goal.returns-in_err-mode-clause-exact
 returns-in_err-mode-clause-exact c =
     let p = err_from_is_err_and c.from_residual-in_err-mode.result c.from_residual-in_err-mode.ensures.1 in
@@ -32,8 +27,3 @@ pub returns-in_err-parallelism-clause-exact : goal.returns-in_err-parallelism-cl
 returns-in_err-parallelism-clause-exact c =
     let p = err_from_is_err_and c.from_residual-in_err-parallelism.result c.from_residual-in_err-parallelism.ensures.1 in
     rw (p.1, p.2) (fault_next _ _ _ (past _ _ (past _ _ (past _ _ (past _ _ (past _ _ refl c.in_ok-flag.ensures) c.in_ok-mode.ensures) c.in_ok-mode-2.ensures) c.in_ok-strategy.ensures) c.in_ok-count.ensures.exact) c.in_err-parallelism.ensures.exact)
-
-pub returns-in_err-lifecycle-clause-exact : goal.returns-in_err-lifecycle-clause-exact
-returns-in_err-lifecycle-clause-exact c =
-    let p = err_from_is_err_and c.from_residual-in_err-lifecycle.result c.from_residual-in_err-lifecycle.ensures.1 in
-    rw (p.1, p.2) (fault_next _ _ _ (past _ _ (past _ _ (past _ _ (past _ _ (past _ _ (past _ _ refl c.in_ok-flag.ensures) c.in_ok-mode.ensures) c.in_ok-mode-2.ensures) c.in_ok-strategy.ensures) c.in_ok-count.ensures.exact) c.in_ok-parallelism.ensures.exact) c.in_err-lifecycle.ensures)
