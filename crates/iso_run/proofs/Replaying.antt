@@ -1,31 +1,29 @@
 -- Why a replay ends early, by what its parts answer, and how far a replay went that no event stopped.
-use Rattle.std.proofs.Common.{◌≡◌, ℕ, List, Bool, Err, Ok, map, refl, subst}
+use Rattle.std.proofs.Common.{◌≡◌, ℕ, List, Bool, Err, Ok, refl, subst, ap, ◌∙◌}
 use Rattle.iso_core.specs.Cores.{CoreView, is_complete}
 use Rattle.iso_core.specs.EventRuns.{EndedBy, Ran}
 use Rattle.iso_core.specs.declared.core_fault.CoreFault.{CoreFault}
 use Rattle.iso_core.specs.declared.core_fault.CoreFault.TheVariants as C
-use Rattle.iso_inputs.specs.Suites.{IsSuite, Suite, suite_of}
+use Rattle.iso_inputs.specs.Suites.{suite_of}
 use Rattle.iso_inputs.specs.declared.inputs.Inputs.{Inputs}
 use Rattle.iso_inputs.specs.declared.inputs.Suite.{Suite as ReadSuite}
-use Rattle.iso_model.specs.ScriptView.{script_of}
-use Rattle.iso_plan.specs.RowView.{tree_of}
-use Rattle.iso_plan.specs.Tree.{tree}
+use Rattle.iso_lifecycle.specs.ResultViews.{ResultsView}
 use Rattle.iso_run.specs.Replays.{IsAccepted, NotReplayed, Replay, events_fault, schedule_fault}
+use Rattle.iso_run.specs.Runs.{IsRead}
 use Rattle.iso_schedule.specs.Schedules.{AreRead, IfAnswered}
 use Rattle.iso_schedule.specs.declared.event.Event.{Event}
 use Rattle.iso_schedule.specs.declared.fault.ScheduleError.{ScheduleError}
 use Rattle.iso_schedule.specs.declared.fault.ScheduleError.TheVariants as S
 use Rattle.iso_tap.specs.Sinks.{Account}
 
-pub unread : (inputs : Inputs) (schedule : List ℕ) (a : Account) (suite : Suite) (error : ScheduleError) → IsSuite inputs suite → IfAnswered (AreRead schedule) (Err error)
+pub unread : (inputs : Inputs) (schedule : List ℕ) (a : Account) (suite : ReadSuite) (error : ScheduleError) → IsRead inputs suite → IfAnswered (AreRead schedule) (Err error)
     → NotReplayed inputs schedule a a (schedule_fault error)
-unread inputs schedule a suite (S.Fault fault) is wrong = (record { suite = suite; is_suite = is; wrong = wrong }, refl)
+unread inputs schedule a suite (S.Fault fault) is wrong = (record { suite = suite_of suite; is_suite = is.is_suite; wrong = wrong }, refl)
 unread inputs schedule a suite S.OutOfMemory is wrong = refl
 
-abbrev pub replay-of : (inputs : Inputs) (schedule : List ℕ) (suite : ReadSuite) (events : List Event) → IsSuite inputs (suite_of suite) → tree_of suite.plan ≡ tree (map script_of suite.scripts.items)
-    → suite.plan.settings ≡ suite.settings → AreRead schedule (Ok events) → Replay inputs schedule
-replay-of inputs schedule suite events is planned by read =
-    record { suite = suite_of suite; is_suite = is; plan = suite.plan; planned = planned; planned_by = by; events = events; read = read }
+abbrev pub replay-of : (inputs : Inputs) (schedule : List ℕ) (suite : ReadSuite) (events : List Event) → IsRead inputs suite → AreRead schedule (Ok events) → Replay inputs schedule
+replay-of inputs schedule suite events is read =
+    record { suite = suite_of suite; is_suite = is.is_suite; plan = suite.plan; planned = is.planned; planned_by = is.planned_by; events = events; read = read }
 
 module _ (inputs : Inputs) (schedule : List ℕ) (r : Replay inputs schedule) where
   pub stopped : (a : Account) (index : ℕ) (fault : CoreFault) → EndedBy fault r.plan r.suite.start r.suite.settings.worker_count r.events index
@@ -35,3 +33,9 @@ module _ (inputs : Inputs) (schedule : List ℕ) (r : Replay inputs schedule) wh
 
   pub ended : (c : CoreView) (whole : Bool) → Ran r.plan r.suite.start r.suite.settings.worker_count r.events c → is_complete c ≡ whole → IsAccepted inputs schedule whole
   ended c whole ran ends = record { replay = r; accepted = ran.accepted; ends = subst (λ (d : CoreView). is_complete d ≡ whole) ran.core ends }
+
+  pub results-plan : (c : CoreView) (v : ResultsView) → Ran r.plan r.suite.start r.suite.settings.worker_count r.events c → v.plan ≡ c.plan → v.plan ≡ r.plan
+  results-plan c v ran same = same ∙ ap (λ (d : CoreView). d.plan) ran.core
+
+  pub results-start : (c : CoreView) (v : ResultsView) → Ran r.plan r.suite.start r.suite.settings.worker_count r.events c → v.start ≡ c.world → v.start ≡ r.suite.start
+  results-start c v ran same = same ∙ ap (λ (d : CoreView). d.world) ran.core

@@ -1,5 +1,5 @@
 -- How a command ends, and what it asked of its output.
-use Rattle.std.specs.Prelude.{◌≡◌, ℕ, suc, zero, ◌⊎◌, List, Bool, false, cond}
+use Rattle.std.specs.Prelude.{◌≡◌, ℕ, suc, zero, ◌⊎◌, List, Bool, false, cond, Result, Ok, Err}
 use Rattle.iso_inputs.specs.Suites.{texts}
 use Rattle.iso_inputs.specs.declared.inputs.Inputs.{Inputs}
 use Rattle.iso_run.specs.Runs.{Reported, Untouched, status}
@@ -40,6 +40,20 @@ NotAnswered (Run fault name) old new = NotReported fault old new
 -- the fault comes before anything is asked of the output
 abbrev pub IsEarly : CommandFault → Type 0
 IsEarly fault = (output : Account) → NotAnswered fault output output
+
+-- what the fault of a run leaves of an output, this fault of a command leaves of it
+abbrev pub IsOf : RunFault → CommandFault → Type 0
+IsOf of fault = (old new : Account) → NotReported of old new → NotAnswered fault old new
+
+-- a fault was answered, and it is that of the run
+abbrev pub Refuses : RunFault → Result ℕ CommandFault → Type 0
+Refuses of (Ok status) = ⊥
+Refuses of (Err fault) = IsOf of fault
+
+-- this status was answered once the output had passed on what it held, or the output failed
+abbrev pub Flushed : ℕ → Account → Account → Result ℕ CommandFault → Type 0
+Flushed status old new (Ok answer) = (answer ≡ status) × Untouched old new
+Flushed status old new (Err fault) = (fault ≡ Unwritten) × HasFailed old.failures new.failures
 
 -- The report of these bytes was written, whole, and the status is 0 where every top-level point is ok, and else 1.
 pub record RanOn (scripts : List (List ℕ)) (settings world : List ℕ) (processors : ℕ) (old new : Account) (answer : ℕ) : Type 0 where

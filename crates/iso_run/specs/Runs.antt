@@ -1,15 +1,18 @@
 -- What a run answers and what its sink took.
-use Rattle.std.specs.Prelude.{◌≡◌, ℕ, ◌<◌, List, Bool, length, take}
-use Rattle.iso_inputs.specs.Suites.{Suite, HasFault, IsSuite}
+use Rattle.std.specs.Prelude.{◌≡◌, ℕ, ◌<◌, List, Bool, length, map, take}
+use Rattle.iso_inputs.specs.Suites.{Suite, HasFault, IsSuite, suite_of}
 use Rattle.iso_inputs.specs.declared.fault.InputError.{InputError}
 use Rattle.iso_inputs.specs.declared.fault.InputError.TheVariants.{Fault, OutOfMemory}
 use Rattle.iso_inputs.specs.declared.fault.InputFault.TheVariants as F
 use Rattle.iso_inputs.specs.declared.inputs.Inputs.{Inputs}
+use Rattle.iso_inputs.specs.declared.inputs.Suite.{Suite as ReadSuite}
 use Rattle.iso_run.specs.declared.fault.RunFault.{RunFault}
 use Rattle.iso_run.specs.declared.fault.RunFault.TheVariants.{Settings, World, Script, Plan, Schedule, Refused as IsRefused, Unfinished, Memory, Write}
 use Rattle.iso_lifecycle.specs.Subjects.{outcome_alone, started}
 use Rattle.iso_model.specs.declared.outcome.Outcome.{Outcome}
-use Rattle.iso_plan.specs.Tree.{tree}
+use Rattle.iso_model.specs.ScriptView.{script_of}
+use Rattle.iso_plan.specs.RowView.{tree_of}
+use Rattle.iso_plan.specs.Tree.{Row, tree}
 use Rattle.iso_tap.specs.Reports.{all_ok, report}
 use Rattle.iso_tap.specs.Sinks.{Account, HasFailed, Took, Wrote}
 
@@ -48,6 +51,17 @@ suite_report suite = report (tree suite.scripts) (suite_outcome suite)
 abbrev pub suite_ok : Suite → Bool
 suite_ok suite = all_ok (tree suite.scripts) (suite_outcome suite)
 
+-- The inputs are the suite that was read, with the plan of its scripts under its settings.
+pub record IsRead (inputs : Inputs) (suite : ReadSuite) : Type 0 where
+  pub is_suite : IsSuite inputs (suite_of suite)
+  pub planned : tree_of suite.plan ≡ tree (map script_of suite.scripts.items)
+  pub planned_by : suite.plan.settings ≡ suite.settings
+
+-- The report of these outcomes was written, whole, and this tells whether every top-level point is ok.
+pub record ReportedOf (rows : List Row) (outcome : ℕ → Outcome) (old new : Account) (ok : Bool) : Type 0 where
+  pub wrote : Wrote old new (report rows outcome)
+  pub tells : ok ≡ all_ok rows outcome
+
 -- The report of the suite that the inputs are was written, whole, and this tells whether every top-level point is ok.
 pub record Reported (inputs : Inputs) (old new : Account) (ok : Bool) : Type 0 where
   pub suite : Suite
@@ -60,6 +74,12 @@ pub record Broken (text : List ℕ) (old new : Account) (written : ℕ) : Type 0
   pub took : Took old new (take written text)
   pub within : written < length text
   pub failed : HasFailed old.failures new.failures
+
+-- The fault is that the sink failed while a text was written.
+pub record IsBroken (text : List ℕ) (old new : Account) (fault : RunFault) : Type 0 where
+  pub written : ℕ
+  pub is : fault ≡ Write written
+  pub broken : Broken text old new written
 
 -- The sink failed while the report of the suite that the inputs are was written.
 pub record CutShort (inputs : Inputs) (old new : Account) (written : ℕ) : Type 0 where

@@ -1,15 +1,16 @@
 //! The program, over a reader and two sinks.
-ghost use Rattle.std.specs.Prelude.{◌≡◌, ◌≤◌, ◌+◌, [], ◌∷◌, IfSome, IfOk, MatchResult, map, take};
+ghost use Rattle.std.specs.Prelude.{◌≡◌, ◌≤◌, ◌+◌, [], ◌∷◌, IfSome, IfOk, MatchResult, cond, map, take};
 ghost use Rattle.iso_arguments.specs.Requests.{AsksForSomeProcessors, IsCount, IsPlainRun};
 ghost use Rattle.iso_model.specs.declared.limits.TheConstants.{FILE_BYTES};
-ghost use Rattle.iso_run.specs.Commands.{Answered, Ended, NotAnswered, RanOn};
+ghost use Rattle.iso_run.specs.Commands.{Answered, Ended, Flushed, IsOf, NotAnswered, RanOn, Refuses};
+ghost use Rattle.iso_run.specs.Runs.{Untouched};
 
 use crate::command_fault::CommandFault;
 use crate::fault::RunFault;
 use crate::files::{InputBytes, lent, read_file, read_files};
 use crate::plan::show_plan;
 use crate::replay::run_schedule;
-use crate::run::run_serial;
+use crate::run::{Summary, run_serial};
 use iso_arguments::request::{InputFiles, Request, WordsFault, read_words};
 use iso_inputs::inputs::Inputs;
 use iso_tap::sink::Sink;
@@ -135,24 +136,9 @@ fn run<'a, W: Sink>(
         (λ f. NotAnswered f (W.account output.old) (W.account output.new)) }
 {
     let scripts = lent(alloc, &bytes.scripts)?;
-    let inputs = Inputs {
-        scripts: &scripts,
-        settings: &bytes.settings,
-        world: &bytes.world,
-        processors: files.processors,
-    };
-    match run_serial(alloc, inputs, output) {
-        Ok(summary) => {
-            if output.flush().is_err() {
-                return Err(CommandFault::Unwritten);
-            }
-            Ok(if summary.all_ok { ALL_OK } else { NOT_OK })
-        }
-        Err(fault) => {
-            let name = script_name(&fault, files);
-            Err(CommandFault::Run(fault, name))
-        }
-    }
+    let inputs = inputs_of(bytes, &scripts, files.processors);
+    let ran = run_serial(alloc, inputs, output);
+    answer_run(ran, files, output)
 }
 
 /// Replays a schedule of a suite, and writes its report.
@@ -170,24 +156,9 @@ fn replay<'a, W: Sink>(
         (λ f. NotAnswered f (W.account output.old) (W.account output.new)) }
 {
     let scripts = lent(alloc, &bytes.scripts)?;
-    let inputs = Inputs {
-        scripts: &scripts,
-        settings: &bytes.settings,
-        world: &bytes.world,
-        processors: files.processors,
-    };
-    match run_schedule(alloc, inputs, schedule, output) {
-        Ok(summary) => {
-            if output.flush().is_err() {
-                return Err(CommandFault::Unwritten);
-            }
-            Ok(if summary.all_ok { ALL_OK } else { NOT_OK })
-        }
-        Err(fault) => {
-            let name = script_name(&fault, files);
-            Err(CommandFault::Run(fault, name))
-        }
-    }
+    let inputs = inputs_of(bytes, &scripts, files.processors);
+    let ran = run_schedule(alloc, inputs, schedule, output);
+    answer_run(ran, files, output)
 }
 
 /// Prints a plan.
@@ -203,24 +174,60 @@ fn plan<'a, W: Sink>(
         (λ f. NotAnswered f (W.account output.old) (W.account output.new)) }
 {
     let scripts = lent(alloc, &bytes.scripts)?;
-    let inputs = Inputs {
-        scripts: &scripts,
+    let inputs = inputs_of(bytes, &scripts, files.processors);
+    match show_plan(alloc, inputs, output) {
+        Ok(()) => flush(ALL_OK, output),
+        Err(fault) => Err(named(fault, files)),
+    }
+}
+
+/// The inputs that these bytes are, whose scripts are lent.
+fn inputs_of<'b>(bytes: &'b InputBytes, scripts: &'b [&'b [u8]], processors: u32) -> Inputs<'b>
+    ensures scripts { result.scripts.now ≡ scripts.now }
+    ensures settings { result.settings.now ≡ bytes.now.settings.items }
+    ensures world { result.world.now ≡ bytes.now.world.items }
+    ensures processors { result.processors ≡ processors }
+{
+    Inputs {
+        scripts,
         settings: &bytes.settings,
         world: &bytes.world,
-        processors: files.processors,
-    };
-    match show_plan(alloc, inputs, output) {
-        Ok(()) => {
-            if output.flush().is_err() {
-                return Err(CommandFault::Unwritten);
-            }
-            Ok(ALL_OK)
-        }
-        Err(fault) => {
-            let name = script_name(&fault, files);
-            Err(CommandFault::Run(fault, name))
-        }
+        processors,
     }
+}
+
+/// Answers the status of a run whose report was written, or why it has none.
+fn answer_run<'a, W: Sink>(
+    ran: Result<Summary, RunFault>,
+    files: &InputFiles<'a>,
+    output: &mut W,
+) -> Result<u8, CommandFault<'a>>
+    ensures { MatchResult ran
+        (λ s. Flushed (cond s.all_ok 0 1) (W.account output.old) (W.account output.new) result)
+        (λ fault. Refuses fault result × Untouched (W.account output.old) (W.account output.new)) }
+{
+    match ran {
+        Ok(summary) => flush(if summary.all_ok { ALL_OK } else { NOT_OK }, output),
+        Err(fault) => Err(named(fault, files)),
+    }
+}
+
+/// Has the output pass on what it holds, and answers this status.
+fn flush<W: Sink>(status: u8, output: &mut W) -> Result<u8, CommandFault<'static>>
+    ensures { Flushed status (W.account output.old) (W.account output.new) result }
+{
+    if output.flush().is_err() {
+        return Err(CommandFault::Unwritten);
+    }
+    Ok(status)
+}
+
+/// A fault of a run, with the name of the script that it is of.
+fn named<'a>(fault: RunFault, files: &InputFiles<'a>) -> CommandFault<'a>
+    ensures { IsOf fault result }
+{
+    let name = script_name(&fault, files);
+    CommandFault::Run(fault, name)
 }
 
 /// The name of the script that a fault is of: `stdin` where no script is named.

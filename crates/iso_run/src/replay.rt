@@ -1,14 +1,16 @@
 //! Replays of recorded schedules, from their inputs to the report.
-ghost use Rattle.std.specs.Prelude.{◌≤◌, MatchResult};
+ghost use Rattle.std.specs.Prelude.{◌≤◌, List, MatchResult, Ok, ℕ};
+ghost use Rattle.iso_inputs.specs.declared.inputs.Inputs.{Inputs};
 ghost use Rattle.iso_run.specs.Replays.{NotReplayed, Replayed};
+ghost use Rattle.iso_run.specs.Runs.{IsRead};
+ghost use Rattle.iso_schedule.specs.Schedules.{AreRead};
 
 use crate::fault::RunFault;
-use crate::run::Summary;
+use crate::run::{Summary, write_results};
 use iso_core::run_events::run_events;
-use iso_inputs::inputs::{Inputs, read_inputs};
+use iso_inputs::inputs::{Inputs, Suite, read_inputs};
+use iso_schedule::event::Event;
 use iso_schedule::reader::read_schedule;
-use iso_tap::ok::all_ok;
-use iso_tap::report::write_report;
 use iso_tap::sink::Sink;
 use std::alloc::Global;
 
@@ -30,18 +32,40 @@ pub fn run_schedule<W: Sink>(
         (NotReplayed inputs.entry schedule.now (W.account sink.old) (W.account sink.new)) }
 {
     let suite = read_inputs(alloc, inputs)?;
+    replay_on(alloc, &suite, schedule, sink)
+}
+
+/// Replays a schedule of a suite.
+fn replay_on<W: Sink>(
+    alloc: Global,
+    suite: &Suite,
+    schedule: &[u8],
+    sink: &mut W,
+) -> Result<Summary, RunFault>
+    ensures { (inputs : Inputs) → IsRead inputs suite.now → MatchResult result
+        (λ s. Replayed inputs schedule.now (W.account sink.old) (W.account sink.new) s.all_ok)
+        (NotReplayed inputs schedule.now (W.account sink.old) (W.account sink.new)) }
+{
     let events = read_schedule(alloc, schedule)?;
+    replay_events(alloc, suite, &events, sink)
+}
+
+/// Replays the events of a schedule.
+fn replay_events<W: Sink>(
+    alloc: Global,
+    suite: &Suite,
+    events: &[Event],
+    sink: &mut W,
+) -> Result<Summary, RunFault>
+    ensures { (inputs : Inputs) (schedule : List ℕ) → IsRead inputs suite.now → AreRead schedule (Ok events.now) → MatchResult result
+        (λ s. Replayed inputs schedule (W.account sink.old) (W.account sink.new) s.all_ok)
+        (NotReplayed inputs schedule (W.account sink.old) (W.account sink.new)) }
+{
     let workers = suite.settings.workers();
-    let core = run_events(alloc, &suite.plan, &suite.world, workers, &events)?;
+    let core = run_events(alloc, &suite.plan, &suite.world, workers, events)?;
     if !core.is_complete() {
         Err(RunFault::Unfinished)
     } else {
-        let results = core.results();
-        match write_report(&suite.plan, results, sink) {
-            Ok(()) => Ok(Summary {
-                all_ok: all_ok(&suite.plan, results),
-            }),
-            Err(fault) => Err(RunFault::Write(fault.written)),
-        }
+        write_results(&suite.plan, core.results(), sink)
     }
 }
