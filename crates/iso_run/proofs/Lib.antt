@@ -1,4 +1,5 @@
 mod Answering
+mod Ending
 mod Reading
 mod Replaying
 mod Reporting
