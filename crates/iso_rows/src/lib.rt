@@ -1,12 +1,16 @@
-//! Worked examples, run through the program's `command`.
+//! Tests of schedules, bodies, locks and sinks, and worked examples, run through the program's `command`.
 #![tactic(auto)]
 
+#[cfg(test)]
+mod bodies;
 #[cfg(test)]
 mod expect;
 #[cfg(test)]
 mod folder;
 #[cfg(test)]
 mod lifecycle;
+#[cfg(test)]
+mod locks;
 #[cfg(test)]
 mod program;
 #[cfg(test)]
@@ -24,8 +28,16 @@ mod rights;
 #[cfg(test)]
 mod row;
 #[cfg(test)]
+mod schedules;
+#[cfg(test)]
 mod scripts;
+#[cfg(test)]
+mod sinks;
 #[cfg(test)]
 mod statements;
 #[cfg(test)]
+mod suites;
+#[cfg(test)]
 mod teams;
+#[cfg(test)]
+mod told;

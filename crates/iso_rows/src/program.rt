@@ -5,6 +5,7 @@ use crate::expect::{expect, expect_no_other};
 use crate::folder::{answers, new_folder_of, put, remove, run, words_of};
 use crate::ran::{Answer, Ran, run_words};
 use crate::refusal::{Refusal, first_other_refusal};
+use crate::suites::{CART_AND_DESK, CART_AND_DESK_PLAN, TWO_WORKERS};
 use iso_run::command::command;
 use iso_tap::memory::MemorySink;
 use iso_tap::sink::{Sink, SinkFailed};
@@ -190,29 +191,6 @@ fn scripts_run_under_settings_and_a_world(rt: HostRuntime) -> Result<(), Fail> {
     assert!(rt; desk_is_reported_last(&rt, folder.as_str())?);
     remove(&rt, folder.as_str())
 }
-
-/// Two classes of a team: one that reads a key which a test in it writes, and one that holds an isolated class.
-const CART_AND_DESK: &str = "team shop
-concurrent read \"K\" class Cart { concurrent test a { } write \"K\" test b { } }
-class Desk { test c { } isolated class Till { test d { } } }
-";
-
-const TWO_WORKERS: &str = "[junit.jupiter.execution.parallel]
-enabled = true
-mode.default = \"concurrent\"
-config.strategy = \"fixed\"
-config.fixed.parallelism = 2
-";
-
-const CART_AND_DESK_PLAN: &str = "workers 2
-1 class concurrent [r:iso:global,w:K] shop.Cart
-2 test same_thread [] shop.Cart.a
-3 test same_thread [] shop.Cart.b
-4 class concurrent [w:iso:global] shop.Desk
-5 test same_thread [] shop.Desk.c
-6 class same_thread [] shop.Desk.Till
-7 test same_thread [] shop.Desk.Till.d
-";
 
 static PLAN_FILES: [(&str, &str); 2] = [("script", CART_AND_DESK), ("settings", TWO_WORKERS)];
 
@@ -426,20 +404,23 @@ impl Sink for UnflushedSink {
     }
 }
 
-#[test]
-fn failed_flush_is_a_failed_write(rt: HostRuntime) {
+/// Whether the program tells of a failed flush after it wrote the report.
+fn tells_failed_flush(rt: &HostRuntime) -> bool {
     let mut input: &[u8] = CART.as_bytes();
     let mut output = UnflushedSink {
         sink: MemorySink::new(rt.alloc()),
         failures: 0,
     };
     let mut errors = MemorySink::new(rt.alloc());
-    let status = command(&rt, &[], &mut input, &mut output, &mut errors);
-    assert!(rt;
-        status == 3
-            && errors.bytes() == "jtap: write failed\n".as_bytes()
-            && output.sink.bytes() == CART_REPORT.as_bytes()
-    );
+    let status = command(rt, &[], &mut input, &mut output, &mut errors);
+    status == 3
+        && errors.bytes() == "jtap: write failed\n".as_bytes()
+        && output.sink.bytes() == CART_REPORT.as_bytes()
+}
+
+#[test]
+fn failed_flush_is_a_failed_write(rt: HostRuntime) {
+    assert!(rt; tells_failed_flush(&rt));
 }
 
 /// Whether a script on the input ends with this status, and no more of it is read than one byte past the limit.

@@ -1,13 +1,14 @@
 //! Schedules of the three teams' example that are picked at random, on 1 to 8 workers.
-ghost use Rattle.std.specs.Prelude.{◌≤◌};
-
+use crate::suites::{Check, check_inputs};
 use crate::teams::{OPS, ORDERS, SETTINGS, SHOP, WORLD};
 use iso_core::core_fault::CoreFault;
 use iso_core::machine::Core;
 use iso_core::run_events::{EventsFault, run_events};
-use iso_inputs::inputs::{Inputs, Suite, read_inputs};
+use iso_inputs::inputs::Inputs;
+use iso_plan::plan::Plan;
 use iso_run::run::run_serial;
 use iso_schedule::event::Event;
+use iso_settings::world::World;
 use iso_tap::memory::MemorySink;
 use iso_tap::report::write_report;
 use std::alloc::{AllocError, Global};
@@ -63,62 +64,71 @@ fn schedule(
     Ok(events)
 }
 
-/// Such a schedule of a suite on so many workers.
+/// Such a schedule of a plan on so many workers.
 fn schedule_of(
     alloc: Global,
-    suite: &Suite,
+    plan: &Plan,
+    world: &World,
     workers: u32,
     numbers: Numbers,
 ) -> Result<Vec<Event>, AllocError> {
-    let mut core = Core::new(alloc, &suite.plan, &suite.world, workers)?;
+    let mut core = Core::new(alloc, plan, world, workers)?;
     schedule(alloc, &mut core, numbers)
 }
 
 /// Whether a schedule is whole and gives this report.
 fn gives_report(
     alloc: Global,
-    suite: &Suite,
+    plan: &Plan,
+    world: &World,
     workers: u32,
     events: &[Event],
     report: &[u8],
 ) -> Result<bool, EventsFault> {
-    let core = run_events(alloc, &suite.plan, &suite.world, workers, events)?;
+    let core = run_events(alloc, plan, world, workers, events)?;
     let mut sink = MemorySink::new(alloc);
     Ok(
         core.is_complete()
-            && write_report(&suite.plan, core.results(), &mut sink).is_ok()
+            && write_report(plan, core.results(), &mut sink).is_ok()
             && sink.bytes() == report,
     )
 }
 
 /// Whether the schedule that is picked from a seed gives this report.
-fn seed_gives_report(alloc: Global, suite: &Suite, seed: u64, report: &[u8]) -> Result<bool, Fail> {
+fn seed_gives_report(
+    alloc: Global,
+    plan: &Plan,
+    world: &World,
+    seed: u64,
+    report: &[u8],
+) -> Result<bool, Fail> {
     let workers = (1 + seed % 8) as u32;
     let numbers = Numbers {
         state: 0x9E37_79B9_7F4A_7C15 ^ seed,
     };
-    let events = schedule_of(alloc, suite, workers, numbers)?;
-    Ok(gives_report(alloc, suite, workers, &events, report)?)
+    let events = schedule_of(alloc, plan, world, workers, numbers)?;
+    Ok(gives_report(alloc, plan, world, workers, &events, report)?)
 }
 
-/// Tries 200 schedules.
-fn try_seeds(rt: &impl Abort, alloc: Global, suite: &Suite, report: &[u8]) -> Result<(), Fail> {
-    for seed in 0..200u64 {
-        assert!(rt;
-            seed_gives_report(alloc, suite, seed, report)?,
-            "at seed {seed}"
-        );
-    }
-    Ok(())
-}
+/// 200 schedules give this report.
+#[derive(Clone, Copy)]
+struct GiveReport<'a>(&'a [u8]);
 
-/// The suite of inputs that are right.
-fn suite_of(rt: &impl Abort, alloc: Global, inputs: Inputs<'_>) -> Suite
-    requires { 1 ≤ inputs.processors }
-{
-    match read_inputs(alloc, inputs) {
-        Ok(suite) => suite,
-        Err(_) => panic!(rt; "the scripts weren't planned"),
+impl<'a> Check for GiveReport<'a> {
+    fn check<R: Abort>(
+        &self,
+        rt: &R,
+        alloc: Global,
+        plan: &Plan,
+        world: &World,
+    ) -> Result<(), Fail> {
+        for seed in 0..200u64 {
+            assert!(rt;
+                seed_gives_report(alloc, plan, world, seed, self.0)?,
+                "at seed {seed}"
+            );
+        }
+        Ok(())
     }
 }
 
@@ -133,6 +143,5 @@ fn schedules_at_random_give_the_report_of_the_serial_run(rt: HostRuntime) -> Res
     };
     let mut serial = MemorySink::new(rt.alloc());
     assert!(rt; run_serial(rt.alloc(), inputs, &mut serial).is_ok());
-    let suite = suite_of(&rt, rt.alloc(), inputs);
-    try_seeds(&rt, rt.alloc(), &suite, serial.bytes())
+    check_inputs(&rt, rt.alloc(), inputs, &GiveReport(serial.bytes()))
 }

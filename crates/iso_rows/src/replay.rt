@@ -3,22 +3,9 @@ use crate::expect::{expect, expect_no_other};
 use crate::folder::{answers, new_folder_of, put, put_all, remove, run};
 use crate::ran::{Answer, Ran};
 use crate::refusal::{Refusal, first_other_refusal};
+use crate::suites::{TWO_FILES, TWO_WORKERS};
 use std::alloc::AllocError;
 use std::test::Fail;
-
-const SETTINGS: &str = "[junit.jupiter.execution.parallel]
-enabled = true
-mode.default = \"concurrent\"
-config.strategy = \"fixed\"
-config.fixed.parallelism = 2
-";
-
-/// Four tests on two files.
-const SCRIPT: &str = "team shop
-class A { read \"file:a\" test r1 { print file(\"a\"); print \"x\"; } read \"file:a\" test r2 { print file(\"a\"); }
-write \"file:a\" test w1 { write_file \"a\", \"n\"; assert_equal \"n\", file(\"a\"); }
-write \"file:b\" test w2 { write_file \"b\", \"m\"; print file(\"b\"); } }
-";
 
 const REPORT: &str = "TAP version 14
 1..1
@@ -54,9 +41,9 @@ enter 1 4\nenter 0 5\nstep 1\nstep 0\nstep 1\nstep 0\nleave 1\nleave 0\nshut 0 1
 
 /// What the words below name besides the schedule.
 static FILES: [(&str, &str); 6] = [
-    ("settings", SETTINGS),
+    ("settings", TWO_WORKERS),
     ("world", "files.a = \"s\"\n"),
-    ("script", SCRIPT),
+    ("script", TWO_FILES),
     ("shop", "team shop\n"),
     ("bad", "team shop\nclass C { }\n"),
     ("wrong", "junit.jupiter.execution.parallel.enabled = 1\n"),
@@ -208,16 +195,25 @@ static WHOLES: [(&str, &str, u8); 3] = [
     ),
 ];
 
-/// Whether the replay writes the report of a run, and ends with its status.
-fn is_replayed(rt: &HostRuntime, folder: &str, serial: &Ran) -> Result<bool, AllocError> {
+/// Whether a run ended with this status, and the replay ends so and writes its report.
+fn is_replayed(
+    rt: &HostRuntime,
+    folder: &str,
+    serial: &Ran,
+    status: u8,
+) -> Result<bool, AllocError> {
     let ran = run(rt, folder, REPLAY, "")?;
-    Ok(ran.status == serial.status && ran.output.bytes() == serial.output.bytes())
+    Ok(
+        serial.status == status
+            && ran.status == status
+            && ran.output.bytes() == serial.output.bytes(),
+    )
 }
 
 /// Whether the serial run ends with this status, and the replay as it does.
 fn both_end(rt: &HostRuntime, folder: &str, status: u8) -> Result<bool, AllocError> {
     let serial = run(rt, folder, "run --serial --settings @settings @script", "")?;
-    Ok(serial.status == status && is_replayed(rt, folder, &serial)?)
+    is_replayed(rt, folder, &serial, status)
 }
 
 /// The same with this script and this schedule.

@@ -1,0 +1,12 @@
+use Rattle.std.proofs.Common.{sym, ◌∙◌}
+use Rattle.iso_store.proofs.HistoryLemmas.{earlier_same, earlier_equal}
+use Rattle.iso_parts_tests.proofs.store.a_goes_back_twice.Goals as goal
+
+pub undo_to-requires : goal.undo_to-requires
+undo_to-requires g c = c.in_ok-make-2.ensures c.mark-inner.result (earlier_same (sym c.mark-inner.ensures))
+
+pub undo_to-requires-2 : goal.undo_to-requires-2
+undo_to-requires-2 g c =
+    let outer = c.mark-outer.result in
+    let before = c.in_ok-make.ensures outer (earlier_same (sym c.mark-outer.ensures)) in
+    c.in_ok-make-3.ensures outer (earlier_equal before (c.undo_to.ensures ∙ c.mark-inner.ensures))

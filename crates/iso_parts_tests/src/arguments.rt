@@ -1,0 +1,183 @@
+//! What words ask for, and what is said of words that ask for nothing.
+use crate::shared::check_text;
+use iso_arguments::request::{InputFiles, Request, WordsFault, read_words, words_of};
+use std::alloc::{AllocError, Global};
+use std::env::{Env, FillError};
+use std::process::Abort;
+
+/// A line of words as a list.
+fn words_in(alloc: Global, line: &str) -> Result<Vec<String>, AllocError> {
+    let mut words = Vec::new(alloc);
+    for word in line.split_ascii_whitespace() {
+        words.push(String::from_str(alloc, word)?)?;
+    }
+    Ok(words)
+}
+
+/// A request for these files, in words.
+fn files_text(alloc: Global, request: &str, files: &InputFiles<'_>) -> Result<String, AllocError> {
+    let settings = files.settings.unwrap_or("none");
+    let world = files.world.unwrap_or("none");
+    let processors = files.processors;
+    let mut text = format!(in alloc;
+        "{request}: settings {settings}, world {world}, processors {processors}"
+    )?;
+    for script in &files.scripts {
+        text.push_str(", script ")?;
+        text.push_str(script)?;
+    }
+    Ok(text)
+}
+
+/// A request in words.
+fn request_text(alloc: Global, request: &Request<'_>) -> Result<String, AllocError> {
+    match request {
+        Request::Run { serial, files } => {
+            files_text(alloc, if *serial { "serial run" } else { "run" }, files)
+        }
+        Request::Plan(files) => files_text(alloc, "plan", files),
+        Request::Replay { schedule, files } => {
+            let replay = format!(in alloc; "replay of {schedule}")?;
+            files_text(alloc, replay.as_str(), files)
+        }
+        Request::Show(text) => format!(in alloc; "shown:\n{text}"),
+    }
+}
+
+/// What a line of words asks for, or what is said of it, in words.
+fn asked(alloc: Global, line: &str) -> Result<String, AllocError> {
+    let words = words_in(alloc, line)?;
+    match read_words(alloc, &words) {
+        Ok(request) => request_text(alloc, &request),
+        Err(WordsFault::Refused(text)) => format!(in alloc; "refused:\n{text}"),
+        Err(WordsFault::OutOfMemory) => Err(AllocError),
+    }
+}
+
+/// A line of words asks for this.
+fn check_asked(rt: &impl Abort, alloc: Global, line: &str, want: &str) -> Result<(), AllocError> {
+    let found = asked(alloc, line)?;
+    check_text(rt, line, found.as_str(), want);
+    Ok(())
+}
+
+#[test]
+fn no_word_is_a_run_of_standard_input(rt: HostRuntime) -> Result<(), AllocError> {
+    let want = "run: settings none, world none, processors 1";
+    check_asked(&rt, rt.alloc(), "", want)
+}
+
+#[test]
+fn run_takes_its_options_in_any_order(rt: HostRuntime) -> Result<(), AllocError> {
+    let line = "run a.jtap --world w.toml --processors 1024 --serial --settings s.toml";
+    let want = "serial run: settings s.toml, world w.toml, processors 1024, script a.jtap";
+    check_asked(&rt, rt.alloc(), line, want)
+}
+
+#[test]
+fn plan_takes_scripts_in_order(rt: HostRuntime) -> Result<(), AllocError> {
+    let line = "plan --processors=2 a.jtap b.jtap c.jtap";
+    let want =
+        "plan: settings none, world none, processors 2, script a.jtap, script b.jtap, script c.jtap";
+    check_asked(&rt, rt.alloc(), line, want)
+}
+
+#[test]
+fn replay_takes_a_schedule_and_the_inputs_of_a_run(rt: HostRuntime) -> Result<(), AllocError> {
+    let line = "replay --world w.toml a.jtap --schedule steps --processors 8 --settings s.toml";
+    let want = "replay of steps: settings s.toml, world w.toml, processors 8, script a.jtap";
+    check_asked(&rt, rt.alloc(), line, want)
+}
+
+/// Lines of words that ask for nothing.
+static REFUSED: [&str; 14] = [
+    "plan --serial",
+    "run --processors 0",
+    "run --processors 1025",
+    "run --processors many",
+    "run --processors",
+    "run --setings s.toml",
+    "run --schedule steps",
+    "replay a.jtap",
+    "replay --schedule",
+    "replay --schedule steps --serial",
+    "replay --schedule steps --schedule steps",
+    "replay --schedule steps --processors 0",
+    "walk",
+    "a.jtap",
+];
+
+/// Whether words are refused, with lines that say what is wrong.
+fn is_error(text: &str) -> bool {
+    text.starts_with("refused:\nerror: ") && text.ends_with('\n')
+}
+
+#[test]
+fn other_words_are_refused(rt: HostRuntime) -> Result<(), AllocError> {
+    for line in &REFUSED {
+        let found = asked(rt.alloc(), line)?;
+        assert!(rt; is_error(found.as_str()), "of {line}: {found}");
+    }
+    Ok(())
+}
+
+/// Lines of words that ask for a text.
+static SHOWN: [&str; 5] = [
+    "--help",
+    "run --help",
+    "plan --help",
+    "replay --help",
+    "--version",
+];
+
+/// Whether a text is shown, in 80 columns at most.
+fn is_narrow_page(text: &str) -> bool {
+    text.starts_with("shown:\n") && text.lines().all(|row| row.len() <= 80)
+}
+
+#[test]
+fn help_and_version_are_shown_in_80_columns(rt: HostRuntime) -> Result<(), AllocError> {
+    for line in &SHOWN {
+        let found = asked(rt.alloc(), line)?;
+        assert!(rt; is_narrow_page(found.as_str()), "of {line}: {found}");
+    }
+    Ok(())
+}
+
+/// An environment whose second word isn't UTF-8.
+#[derive(Clone, Copy)]
+struct BrokenWord;
+
+impl Env for BrokenWord {
+    fn arg(&self, i: usize, buf: &mut [u8]) -> Result<usize, FillError> {
+        let word: &[u8] = match i {
+            0 => b"jtap",
+            1 => b"run",
+            2 => b"\xFF",
+            _ => return Err(FillError::NotPresent),
+        };
+        if buf.len() < word.len() {
+            return Err(FillError::TooLong);
+        }
+        buf[..word.len()].copy_from_slice(word);
+        Ok(word.len())
+    }
+
+    fn var(&self, _name: &str, _buf: &mut [u8]) -> Result<usize, FillError> {
+        Err(FillError::NotPresent)
+    }
+
+    fn var_at(&self, _i: usize, _buf: &mut [u8]) -> Result<usize, FillError> {
+        Err(FillError::NotPresent)
+    }
+}
+
+#[test]
+fn word_that_is_not_utf_8_is_wrong(rt: HostRuntime) {
+    match words_of(&(BrokenWord, rt.alloc())) {
+        Err(WordsFault::Refused(text)) => {
+            assert!(rt; text.starts_with("error: a word isn't UTF-8\n"));
+        }
+        _ => panic!(rt; "it is taken"),
+    }
+}

@@ -1,0 +1,5 @@
+//! Plans, read through their calls.
+mod limits;
+mod locks;
+mod scripts;
+mod shown;

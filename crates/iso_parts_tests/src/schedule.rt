@@ -1,0 +1,4 @@
+//! Schedules: whole texts, limits and changed bytes. Each rule of a line is a worked example of `iso_schedule`.
+mod changes;
+mod limits;
+mod schedules;

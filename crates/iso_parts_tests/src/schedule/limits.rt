@@ -1,0 +1,68 @@
+//! The longest schedules.
+use crate::schedule::schedules::check_refusal;
+use crate::shared::made;
+use iso_schedule::fault::ScheduleError;
+use iso_schedule::reader::read_schedule;
+use std::alloc::{AllocError, Global};
+use std::process::Abort;
+
+/// The most bytes of a schedule.
+const MOST: usize = 1_048_576;
+
+/// Bytes as long as a schedule may be have so many events.
+fn check_count(
+    rt: &impl Abort,
+    alloc: Global,
+    bytes: &[u8],
+    count: usize,
+) -> Result<(), ScheduleError> {
+    assert_eq!(rt; bytes.len(), MOST);
+    assert_eq!(rt; read_schedule(alloc, bytes)?.len(), count);
+    Ok(())
+}
+
+/// A schedule of a piece of 8 bytes, as long as one may be, has so many events.
+fn check_events(
+    rt: &impl Abort,
+    alloc: Global,
+    piece: &str,
+    count: usize,
+) -> Result<(), ScheduleError> {
+    let text = made(alloc, &[(piece, MOST / 8)])?;
+    check_count(rt, alloc, text.as_bytes(), count)
+}
+
+/// The greatest number of events, and the greatest number of lines.
+#[test]
+fn schedules_of_a_mebibyte_are_read(rt: HostRuntime) -> Result<(), ScheduleError> {
+    check_events(&rt, rt.alloc(), "step 10\n", MOST / 8)?;
+    check_events(&rt, rt.alloc(), "\n\n\n\n\n\n\n\n", 0)
+}
+
+/// A piece again and again, and then this, is refused so.
+fn check_longer(
+    rt: &impl Abort,
+    alloc: Global,
+    filling: (&str, usize),
+    last: &str,
+    want: &str,
+) -> Result<(), AllocError> {
+    let text = made(alloc, &[filling, (last, 1)])?;
+    check_refusal(rt, alloc, text.as_bytes(), want)
+}
+
+/// The limit comes before all else, and a wrong last line has its number.
+#[test]
+fn longer_schedules_are_refused(rt: HostRuntime) -> Result<(), AllocError> {
+    let alloc = rt.alloc();
+    let lines = ("\n", MOST - 1);
+    check_longer(
+        &rt,
+        alloc,
+        ("step 10\n", MOST / 8),
+        "\n",
+        "TooLong at line 1",
+    )?;
+    check_longer(&rt, alloc, lines, "x", "BadLine at line 1048576")?;
+    check_longer(&rt, alloc, lines, "xx", "TooLong at line 1")
+}

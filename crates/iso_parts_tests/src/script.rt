@@ -1,0 +1,7 @@
+//! The lexer and the script reader.
+mod bodies;
+mod classes;
+mod made;
+mod manual;
+mod scripts;
+mod tokens;

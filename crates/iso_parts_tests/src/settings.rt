@@ -1,0 +1,7 @@
+//! Settings and worlds.
+mod changes;
+mod depth;
+mod fault;
+mod limits;
+mod values;
+mod world;

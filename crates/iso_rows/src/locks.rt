@@ -1,0 +1,3 @@
+//! Trays and vaults, with memory at hand.
+mod tray;
+mod vault;

@@ -1,0 +1,4 @@
+//! Schedules on the core.
+mod refused;
+mod runs;
+mod stopped;

@@ -1,0 +1,6 @@
+//! What writes to sinks.
+mod escape;
+mod failing;
+mod output;
+mod plan;
+mod report;

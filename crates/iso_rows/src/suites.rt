@@ -1,0 +1,124 @@
+//! Suites that the tests run on.
+ghost use Rattle.std.specs.Prelude.{◌≤◌};
+
+use iso_inputs::inputs::{Inputs, read_inputs};
+use iso_plan::plan::Plan;
+use iso_settings::world::World;
+use std::alloc::{AllocError, Global};
+use std::process::Abort;
+use std::test::Fail;
+
+/// The texts of the settings and of the world that a script is run under.
+#[derive(Clone, Copy)]
+pub(crate) struct Surroundings {
+    settings: &'static str,
+    world: &'static str,
+}
+
+/// One thread, and no starting value.
+pub(crate) const SERIAL: Surroundings = Surroundings {
+    settings: "",
+    world: "",
+};
+
+/// Two workers, and nodes that are concurrent unless they are marked otherwise.
+pub(crate) const TWO_WORKERS: &str = "[junit.jupiter.execution.parallel]
+enabled = true
+mode.default = \"concurrent\"
+config.strategy = \"fixed\"
+config.fixed.parallelism = 2
+";
+
+/// Two workers, a file and a property.
+pub(crate) const CONCURRENT: Surroundings = Surroundings {
+    settings: TWO_WORKERS,
+    world: "files.a = \"s\"\nproperties.a = \"1\"\n",
+};
+
+/// Two classes: one that reads a key which a test in it writes, and one that holds an isolated class.
+pub(crate) const CART_AND_DESK: &str = "team shop
+concurrent read \"K\" class Cart { concurrent test a { } write \"K\" test b { } }
+class Desk { test c { } isolated class Till { test d { } } }
+";
+
+/// Its plan under two workers, as it is printed.
+pub(crate) const CART_AND_DESK_PLAN: &str = "workers 2
+1 class concurrent [r:iso:global,w:K] shop.Cart
+2 test same_thread [] shop.Cart.a
+3 test same_thread [] shop.Cart.b
+4 class concurrent [w:iso:global] shop.Desk
+5 test same_thread [] shop.Desk.c
+6 class same_thread [] shop.Desk.Till
+7 test same_thread [] shop.Desk.Till.d
+";
+
+/// Four concurrent tests on two files.
+pub(crate) const TWO_FILES: &str = "team shop
+class A { read \"file:a\" test r1 { print file(\"a\"); print \"x\"; } read \"file:a\" test r2 { print file(\"a\"); }
+write \"file:a\" test w1 { write_file \"a\", \"n\"; assert_equal \"n\", file(\"a\"); }
+write \"file:b\" test w2 { write_file \"b\", \"m\"; print file(\"b\"); } }
+";
+
+impl Surroundings {
+    /// These scripts under them.
+    pub(crate) fn inputs<'a>(self, scripts: &'a [&'a [u8]]) -> Inputs<'a>
+        ensures { 1 ≤ result.processors }
+    {
+        Inputs {
+            scripts,
+            settings: self.settings.as_bytes(),
+            world: self.world.as_bytes(),
+            processors: 1,
+        }
+    }
+}
+
+/// What is asserted of a suite.
+pub(crate) trait Check {
+    /// Asserts it of the suite's plan and world.
+    fn check<R: Abort>(
+        &self,
+        rt: &R,
+        alloc: Global,
+        plan: &Plan,
+        world: &World,
+    ) -> Result<(), Fail>;
+}
+
+/// Checks the suite of inputs that are right.
+pub(crate) fn check_inputs<R: Abort, C: Check>(
+    rt: &R,
+    alloc: Global,
+    inputs: Inputs<'_>,
+    check: &C,
+) -> Result<(), Fail>
+    requires { 1 ≤ inputs.processors }
+{
+    match read_inputs(alloc, inputs) {
+        Ok(suite) => check.check(rt, alloc, &suite.plan, &suite.world),
+        Err(_) => Err(Fail::new("the scripts weren't planned")),
+    }
+}
+
+/// Checks the suite of a script.
+pub(crate) fn check_script<R: Abort, C: Check>(
+    rt: &R,
+    alloc: Global,
+    script: &str,
+    surroundings: Surroundings,
+    check: &C,
+) -> Result<(), Fail> {
+    let scripts = [script.as_bytes()];
+    check_inputs(rt, alloc, surroundings.inputs(&scripts), check)
+}
+
+/// A class of 4,094 tests, as many as there may be.
+pub(crate) fn widest_script(alloc: Global) -> Result<String, AllocError> {
+    let mut script = String::from_str(alloc, "team shop\nclass C {\n")?;
+    for node in 2..4_096u32 {
+        let test = format!(in alloc; "test t{node} {{ }}\n")?;
+        script.push_str(test.as_str())?;
+    }
+    script.push_str("}\n")?;
+    Ok(script)
+}

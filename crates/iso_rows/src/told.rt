@@ -1,0 +1,67 @@
+//! What nodes came to, in words.
+use iso_lifecycle::view::{View, ViewVerdict};
+use iso_model::outcome::Note;
+use iso_model::text::Text;
+use std::alloc::{AllocError, Global};
+use std::process::Abort;
+
+/// How a result ended, in words.
+pub(crate) fn ending(alloc: Global, verdict: ViewVerdict<'_>) -> Result<String, AllocError> {
+    match verdict {
+        ViewVerdict::Pass => String::from_str(alloc, "pass"),
+        ViewVerdict::Fail(note) => noted(alloc, "fail", note),
+        ViewVerdict::Fault(_, note) => noted(alloc, "fault", note),
+        ViewVerdict::Skipped(note) => noted(alloc, "skipped", note),
+        ViewVerdict::Blocked(note) => noted(alloc, "blocked", note),
+    }
+}
+
+/// A word, with what a note says and where.
+fn noted(alloc: Global, word: &str, note: &Note) -> Result<String, AllocError> {
+    let place = note.place.text(alloc)?;
+    format!(in alloc; "{word}: {} at {}", note.message.as_str(), place.as_str())
+}
+
+/// Adds lines to a text.
+fn push_lines(told: &mut String, lines: &[Text]) -> Result<(), AllocError> {
+    for line in lines {
+        told.push_str(" | ")?;
+        told.push_str(line.as_str())?;
+    }
+    Ok(())
+}
+
+/// Adds all lines of a result to a text.
+fn push_output(told: &mut String, view: View<'_>) -> Result<(), AllocError> {
+    push_lines(told, view.lines)?;
+    push_lines(told, view.more)
+}
+
+/// A result in words, with its lines.
+fn told(alloc: Global, view: View<'_>) -> Result<String, AllocError> {
+    let mut told = ending(alloc, view.verdict)?;
+    push_output(&mut told, view)?;
+    Ok(told)
+}
+
+/// What a node has come to in words: `none`, where it has no result.
+fn told_if(alloc: Global, view: Option<View<'_>>) -> Result<String, AllocError> {
+    match view {
+        None => String::from_str(alloc, "none"),
+        Some(view) => told(alloc, view),
+    }
+}
+
+/// Asserts what a node has come to after what is named.
+pub(crate) fn expect_told(
+    rt: &impl Abort,
+    alloc: Global,
+    node: u32,
+    view: Option<View<'_>>,
+    want: &str,
+    name: &str,
+) -> Result<(), AllocError> {
+    let told = told_if(alloc, view)?;
+    assert_eq!(rt; told.as_str(), want, "node {node} after {name}");
+    Ok(())
+}

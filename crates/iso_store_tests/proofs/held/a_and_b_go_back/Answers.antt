@@ -1,8 +1,0 @@
-use Rattle.std.proofs.Common.{sym}
-use Rattle.iso_store.proofs.HistoryLemmas.{earlier_same}
-use Rattle.iso_store_tests.proofs.held.a_and_b_go_back.Goals as goal
-
-pub undo_to-requires : goal.undo_to-requires
-undo_to-requires g c =
-    let mark = c.mark-mark.result in
-    c.in_ok-make-2.ensures mark (c.in_ok-make.ensures mark (earlier_same (sym c.mark-mark.ensures)))

@@ -1,5 +1,0 @@
-use Rattle.iso_store.proofs.HistoryLemmas.{earlier_longer}
-use Rattle.iso_store_tests.proofs.held.make.Goals as goal
-
-pub returns : goal.returns
-returns c = λ mark e. earlier_longer e c.in_ok-apply.ensures.ok

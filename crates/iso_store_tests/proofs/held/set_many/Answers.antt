@@ -1,4 +1,0 @@
-use Rattle.iso_store_tests.proofs.held.set_many.Goals as goal
-
-pub loop-n-preserved : goal.loop-n-preserved
-loop-n-preserved c = λ mark e. c.in_ok-make.ensures mark (c.loop-n.invariant mark e)

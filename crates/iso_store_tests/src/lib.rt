@@ -1,5 +1,0 @@
-//! Tests of values with undo.
-#![tactic(auto)]
-
-#[cfg(test)]
-mod held;
