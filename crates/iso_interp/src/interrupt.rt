@@ -19,14 +19,3 @@ impl From<AllocError> for Interrupt {
         Interrupt::OutOfMemory
     }
 }
-
-impl From<Fault> for Interrupt {
-    ghost use Rattle.std.specs.Prelude.{◌≡◌};
-    ghost use Rattle.iso_interp.specs.declared.interrupt.Interrupt.TheVariants as Interrupts;
-
-    ghost from_gives = { λ fault interrupt. interrupt ≡ Interrupts.Fault fault };
-
-    fn from(fault: Fault) -> Interrupt {
-        Interrupt::Fault(fault)
-    }
-}
