@@ -1,5 +1,7 @@
 -- How a command ends, and what it asked of its output.
-use Rattle.std.specs.Prelude.{◌≡◌, ℕ, suc, zero, ◌⊎◌, List, Bool, false, cond, Result, Ok, Err}
+use Rattle.std.specs.Prelude.{◌≡◌, ⊤, ℕ, suc, zero, ◌⊎◌, List, Bool, false, cond, Result, Ok, Err}
+use Rattle.iso_arguments.specs.declared.request.WordsFault.{WordsFault}
+use Rattle.iso_arguments.specs.declared.request.WordsFault.TheVariants as W
 use Rattle.iso_inputs.specs.Suites.{texts}
 use Rattle.iso_inputs.specs.declared.inputs.Inputs.{Inputs}
 use Rattle.iso_run.specs.Runs.{Reported, Untouched, status}
@@ -40,6 +42,37 @@ NotAnswered (Run fault name) old new = NotReported fault old new
 -- the fault comes before anything is asked of the output
 abbrev pub IsEarly : CommandFault → Type 0
 IsEarly fault = (output : Account) → NotAnswered fault output output
+
+-- the fault is want of memory
+abbrev pub IsMemory : CommandFault → Type 0
+IsMemory (Words text) = ⊥
+IsMemory (Unreadable name) = ⊥
+IsMemory (TooLarge name) = ⊥
+IsMemory Unwritten = ⊥
+IsMemory (Run (F.Settings fault) name) = ⊥
+IsMemory (Run (F.World fault) name) = ⊥
+IsMemory (Run (F.Script index fault) name) = ⊥
+IsMemory (Run (F.Plan fault) name) = ⊥
+IsMemory (Run (F.Schedule fault) name) = ⊥
+IsMemory (Run (F.Refused index why) name) = ⊥
+IsMemory (Run F.Unfinished name) = ⊥
+IsMemory (Run F.Memory name) = ⊤
+IsMemory (Run (F.Write written) name) = ⊥
+
+-- the fault is want of memory, before anything is asked of the output
+pub record IsWanting (fault : CommandFault) : Type 0 where
+  pub memory : IsMemory fault
+  pub early : IsEarly fault
+
+-- the fault says what is wrong with words, or that memory was wanted
+abbrev pub Says : WordsFault → CommandFault → Type 0
+Says (W.Refused text) fault = fault ≡ Words text
+Says W.OutOfMemory fault = IsMemory fault
+
+-- the fault is that of these words, before anything is asked of the output
+pub record IsOfWords (words : WordsFault) (fault : CommandFault) : Type 0 where
+  pub says : Says words fault
+  pub early : IsEarly fault
 
 -- what the fault of a run leaves of an output, this fault of a command leaves of it
 abbrev pub IsOf : RunFault → CommandFault → Type 0

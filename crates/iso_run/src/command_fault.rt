@@ -1,6 +1,6 @@
 //! Why a command ends with status 2 or 3.
 ghost use Rattle.std.specs.Prelude.{◌≡◌};
-ghost use Rattle.iso_run.specs.Commands.{IsEarly, command_status};
+ghost use Rattle.iso_run.specs.Commands.{IsOfWords, IsWanting, command_status};
 
 use crate::fault::{FAILED, FaultLine, REFUSED, RunFault, WRITE_FAILED};
 use iso_arguments::request::WordsFault;
@@ -51,7 +51,7 @@ impl fmt::Display for CommandFault<'_> {
 }
 
 impl From<WordsFault> for CommandFault<'_> {
-    ghost from_gives = { λ _ fault. IsEarly fault };
+    ghost from_gives = { λ words fault. IsOfWords words fault };
 
     fn from(fault: WordsFault) -> Self {
         match fault {
@@ -62,7 +62,7 @@ impl From<WordsFault> for CommandFault<'_> {
 }
 
 impl From<AllocError> for CommandFault<'_> {
-    ghost from_gives = { λ _ fault. IsEarly fault };
+    ghost from_gives = { λ _ fault. IsWanting fault };
 
     fn from(_error: AllocError) -> Self {
         CommandFault::Run(RunFault::Memory, "")
@@ -70,7 +70,7 @@ impl From<AllocError> for CommandFault<'_> {
 }
 
 impl<T: Drop> From<AllocFailed<T>> for CommandFault<'_> {
-    ghost from_gives = { λ _ fault. IsEarly fault };
+    ghost from_gives = { λ _ fault. IsWanting fault };
 
     fn from(_error: AllocFailed<T>) -> Self {
         CommandFault::Run(RunFault::Memory, "")
