@@ -1,4 +1,4 @@
-//! Tests of schedules, bodies, locks and sinks, and worked examples, run through the program's `command`.
+//! Worked examples through the program's `command`, and tests of bodies, locks, schedules and sinks over whole suites.
 #![tactic(auto)]
 
 #[cfg(test)]
