@@ -3,13 +3,13 @@ use Rattle.std.proofs.Common.{◌≡◌, ◌≢◌, ◌<◌, length, arith, List
 use Rattle.std.proofs.lemmas.List.Elements.{filter_map-append}
 use Rattle.std.specs.List.{filter_map}
 use Rattle.std.specs.Option.{option_to_list}
-use Rattle.iso_lexer.specs.Piece.{Piece, tail}
+use Rattle.iso_script_lexer.specs.Piece.{Piece, tail}
 use Rattle.iso_model.specs.Syntax.{Acts}
 use Rattle.iso_model.specs.declared.place.Lifecycle.{Lifecycle}
 use Rattle.iso_model.specs.declared.place.Lifecycle.TheVariants.{BeforeAll, AfterAll, BeforeEach, AfterEach}
-use Rattle.iso_statements.specs.Statements.{IsBlock}
-use Rattle.iso_statements.proofs.Shorter.{block_shorter}
-use Rattle.iso_statements.proofs.Unique.{one_block}
+use Rattle.iso_script_statements.specs.Statements.{IsBlock}
+use Rattle.iso_script_statements.proofs.Shorter.{block_shorter}
+use Rattle.iso_script_statements.proofs.Unique.{one_block}
 use Rattle.iso_heads.specs.Blocks.{block_word, block_next, Written, IsWritten, a_block, same_kind, body_in, Blocks, with_block, IsBlocks}
 use Rattle.iso_heads.specs.Readings.{AreRead}
 use Rattle.iso_heads.proofs.Readings.{meant_word, goes_on, one_reading, gives_more}

@@ -1,12 +1,12 @@
 -- Display texts by their rules.
 use Rattle.std.proofs.Common.{◌≡◌, ℕ, List, Option, None, Some, refl, ap, subst, sym}
-use Rattle.iso_lexer.specs.Piece.{Piece, tail}
-use Rattle.iso_lexer.specs.Tokens.{front}
-use Rattle.iso_lexer.specs.declared.token.Token.{Token}
-use Rattle.iso_lexer.specs.declared.token.Token.TheVariants as T
-use Rattle.iso_statements.specs.Pieces.{text_next}
-use Rattle.iso_statements.specs.Statements.{IsDisplay, a_display}
-use Rattle.iso_statements.proofs.Unique as U
+use Rattle.iso_script_lexer.specs.Piece.{Piece, tail}
+use Rattle.iso_script_lexer.specs.Tokens.{front}
+use Rattle.iso_script_lexer.specs.declared.token.Token.{Token}
+use Rattle.iso_script_lexer.specs.declared.token.Token.TheVariants as T
+use Rattle.iso_script_statements.specs.Pieces.{text_next}
+use Rattle.iso_script_statements.specs.Statements.{IsDisplay, a_display}
+use Rattle.iso_script_statements.proofs.Unique as U
 use Rattle.iso_heads.specs.Displays.{IsDisplayed, none_displayed, displayed}
 
 some_text : {t : List ℕ} {ps qs : List Piece} → text_next ps ≡ None → IsDisplay t ps qs → ⊥

@@ -3,7 +3,7 @@ use Rattle.std.proofs.Common.{◌≡◌, ◌≢◌, ℕ, List, [], ◌∷◌, �
 use Rattle.std.proofs.lemmas.List.Elements.{filter_map-append}
 use Rattle.std.specs.List.{filter_map}
 use Rattle.std.specs.Option.{option_to_list}
-use Rattle.iso_lexer.specs.Piece.{Piece, text_at, tail}
+use Rattle.iso_script_lexer.specs.Piece.{Piece, text_at, tail}
 use Rattle.iso_model.specs.declared.heads.Mark.{Mark}
 use Rattle.iso_model.specs.declared.script.Mode.{Mode as ExecutionMode}
 use Rattle.iso_heads.specs.Marks.{mark_word, mark_next, key_fault, IsKeyText, a_key, Marking, runs, isolates, declares, IsMarked, a_mode, an_isolation, a_declaration, IsMarking, a_mark, Marks, mode_in, isolation_in, key_in, isolation, ComeTo, IsMarks, Adds}

@@ -3,8 +3,8 @@ use Rattle.std.proofs.Common.{◌≡◌, ◌≢◌, ℕ, List, [], ◌∷◌, �
 use Rattle.std.proofs.lemmas.List.Elements.{filter_map-append}
 use Rattle.std.specs.List.{filter_map, cons_option}
 use Rattle.std.specs.Option.{option_to_list}
-use Rattle.iso_lexer.specs.Piece.{Piece, name_at, number_at, text_at, word_at, symbol_at, bad_at, tail}
-use Rattle.iso_lexer.specs.declared.word.Word.{Word}
+use Rattle.iso_script_lexer.specs.Piece.{Piece, name_at, number_at, text_at, word_at, symbol_at, bad_at, tail}
+use Rattle.iso_script_lexer.specs.declared.word.Word.{Word}
 use Rattle.iso_heads.specs.Readings.{AreRead, meant_next}
 
 -- a word that is next and means this stands in front

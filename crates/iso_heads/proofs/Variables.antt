@@ -5,20 +5,20 @@ use Rattle.std.proofs.lemmas.Option.{some_pair_parts}
 use Rattle.std.specs.List.{IsDistinct, AllByRecursion, filter_map}
 use Rattle.std.specs.Option.{option_to_list}
 use Rattle.std.specs.Str.{bytes_eq}
-use Rattle.iso_lexer.specs.Piece.{Piece, name_at, word_at, symbol_at, tail}
-use Rattle.iso_lexer.specs.Tokens.{after}
-use Rattle.iso_lexer.specs.declared.symbol.Symbol.TheVariants.{Equals, Semicolon}
-use Rattle.iso_lexer.proofs.Afters.{after-Some, after-symbol_at}
+use Rattle.iso_script_lexer.specs.Piece.{Piece, name_at, word_at, symbol_at, tail}
+use Rattle.iso_script_lexer.specs.Tokens.{after}
+use Rattle.iso_script_lexer.specs.declared.symbol.Symbol.TheVariants.{Equals, Semicolon}
+use Rattle.iso_script_lexer.proofs.Afters.{after-Some, after-symbol_at}
 use Rattle.iso_model.specs.declared.data.Data.{Data}
 use Rattle.iso_model.specs.declared.heads.Variable.{Variable}
-use Rattle.iso_statements.specs.Expressions.{IsLiteral}
+use Rattle.iso_script_statements.specs.Expressions.{IsLiteral}
 use Rattle.std.specs.Borrow.{Bor}
 use Rattle.std.specs.BTreeSet.{BTreeSet}
-use Rattle.iso_statements.specs.Names.{Knows, is_among}
-use Rattle.iso_statements.specs.Pieces.{name_next}
-use Rattle.iso_statements.proofs.Shorter.{literal_shorter}
-use Rattle.iso_statements.proofs.Taken.{name_is}
-use Rattle.iso_statements.proofs.Unique.{one_literal}
+use Rattle.iso_script_statements.specs.Names.{Knows, is_among}
+use Rattle.iso_script_statements.specs.Pieces.{name_next}
+use Rattle.iso_script_statements.proofs.Shorter.{literal_shorter}
+use Rattle.iso_script_statements.proofs.Taken.{name_is}
+use Rattle.iso_script_statements.proofs.Unique.{one_literal}
 use Rattle.iso_heads.specs.Readings.{AreRead}
 use Rattle.iso_heads.specs.Variables.{variable_word, variable_next, Declared, IsDeclared, a_variable, Variables, static_in, field_in, name_in, names_of, IsVariables, IsNew}
 use Rattle.iso_heads.specs.declared.variable.VariableWord.{VariableWord}

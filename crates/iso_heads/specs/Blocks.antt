@@ -2,16 +2,16 @@
 use Rattle.std.specs.Prelude.{ℕ, List, ◌∷◌, ◌≡◌, Bool, true, false, Option, Some, None, if◌then◌else◌}
 use Rattle.std.specs.List.{filter_map}
 use Rattle.std.specs.Option.{option_to_list}
-use Rattle.iso_lexer.specs.Piece.{Piece, word_at}
-use Rattle.iso_lexer.specs.declared.word.Word.{Word}
-use Rattle.iso_lexer.specs.declared.word.Word.TheVariants as W
+use Rattle.iso_script_lexer.specs.Piece.{Piece, word_at}
+use Rattle.iso_script_lexer.specs.declared.word.Word.{Word}
+use Rattle.iso_script_lexer.specs.declared.word.Word.TheVariants as W
 use Rattle.iso_model.specs.Syntax.{Acts}
 use Rattle.iso_model.specs.declared.place.Lifecycle.{Lifecycle}
 use Rattle.iso_model.specs.declared.place.Lifecycle.TheVariants.{BeforeAll, AfterAll, BeforeEach, AfterEach}
 use Rattle.iso_model.specs.declared.tree.Stmt.{Stmt}
 use Rattle.std.specs.Prelude.{Vec}
 use Rattle.std.specs.Global.{Global}
-use Rattle.iso_statements.specs.Statements.{IsBlock, body_of}
+use Rattle.iso_script_statements.specs.Statements.{IsBlock, body_of}
 use Rattle.iso_heads.specs.Readings.{AreRead, meant_next}
 use Rattle.iso_heads.specs.declared.block.Blocks as D
 

@@ -3,17 +3,17 @@ use Rattle.std.specs.Prelude.{ℕ, List, [], ◌∷◌, ◌++◌, ◌≡◌, Boo
 use Rattle.std.specs.List.{filter_map}
 use Rattle.std.specs.Str.{bytes_eq}
 use Rattle.std.specs.Option.{option_to_list}
-use Rattle.iso_lexer.specs.Piece.{Piece, word_at, text_at}
-use Rattle.iso_lexer.specs.declared.word.Word.{Word}
-use Rattle.iso_lexer.specs.declared.word.Word.TheVariants as W
+use Rattle.iso_script_lexer.specs.Piece.{Piece, word_at, text_at}
+use Rattle.iso_script_lexer.specs.declared.word.Word.{Word}
+use Rattle.iso_script_lexer.specs.declared.word.Word.TheVariants as W
 use Rattle.iso_model.specs.Keys.{global_key}
 use Rattle.iso_model.specs.declared.access.Access.TheVariants.{Read, Write}
 use Rattle.iso_model.specs.declared.heads.Mark.{Mark}
 use Rattle.iso_model.specs.declared.limits.TheConstants.{KEY_BYTES}
 use Rattle.iso_model.specs.declared.script.Mode.{Mode as ExecutionMode}
 use Rattle.iso_model.specs.declared.script.Mode.TheVariants.{SameThread, Concurrent}
-use Rattle.iso_statements.specs.declared.fault.ScriptFaultKind.{ScriptFaultKind}
-use Rattle.iso_statements.specs.declared.fault.ScriptFaultKind.TheVariants.{Expected, TooLong, GlobalKey}
+use Rattle.iso_script_statements.specs.declared.fault.ScriptFaultKind.{ScriptFaultKind}
+use Rattle.iso_script_statements.specs.declared.fault.ScriptFaultKind.TheVariants.{Expected, TooLong, GlobalKey}
 use Rattle.iso_heads.specs.Readings.{AreRead, meant_next}
 use Rattle.iso_heads.specs.declared.mark.Marks as D
 use Rattle.iso_heads.specs.declared.mark.MarkWord.{MarkWord}

@@ -1,7 +1,7 @@
 -- What is read item after item, and what the word that is next means.
 use Rattle.std.specs.Prelude.{List, [], ◌∷◌, ◌≡◌, Option, None}
-use Rattle.iso_lexer.specs.Piece.{Piece, word_at}
-use Rattle.iso_lexer.specs.declared.word.Word.{Word}
+use Rattle.iso_script_lexer.specs.Piece.{Piece, word_at}
+use Rattle.iso_script_lexer.specs.declared.word.Word.{Word}
 
 -- these items are read one after another
 abbrev pub AreRead : {W : Type 0} → (W → List Piece → List Piece → Type 0) → List W → List Piece → List Piece → Type 0

@@ -6,14 +6,14 @@ use Rattle.std.specs.Cmp.Lexicographic.{slice_cmp}
 use Rattle.std.specs.List.{IsDistinct, AllByRecursion, filter_map}
 use Rattle.std.specs.Ordering.{nat_cmp}
 use Rattle.std.specs.Str.{bytes_eq}
-use Rattle.iso_lexer.specs.Piece.{Piece, name_at, word_at, symbol_at}
-use Rattle.iso_lexer.specs.declared.symbol.Symbol.TheVariants.{Equals, Semicolon}
-use Rattle.iso_lexer.specs.declared.word.Word.{Word}
-use Rattle.iso_lexer.specs.declared.word.Word.TheVariants as W
+use Rattle.iso_script_lexer.specs.Piece.{Piece, name_at, word_at, symbol_at}
+use Rattle.iso_script_lexer.specs.declared.symbol.Symbol.TheVariants.{Equals, Semicolon}
+use Rattle.iso_script_lexer.specs.declared.word.Word.{Word}
+use Rattle.iso_script_lexer.specs.declared.word.Word.TheVariants as W
 use Rattle.iso_model.specs.declared.data.Data.{Data}
 use Rattle.iso_model.specs.declared.heads.Variable.{Variable}
-use Rattle.iso_statements.specs.Expressions.{IsLiteral}
-use Rattle.iso_statements.specs.Names.{is_among}
+use Rattle.iso_script_statements.specs.Expressions.{IsLiteral}
+use Rattle.iso_script_statements.specs.Names.{is_among}
 use Rattle.iso_heads.specs.Readings.{AreRead, meant_next}
 use Rattle.iso_heads.specs.declared.variable.Variables as D
 use Rattle.iso_heads.specs.declared.variable.VariableWord.{VariableWord}

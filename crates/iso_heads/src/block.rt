@@ -1,15 +1,15 @@
 //! Lifecycle blocks.
 ghost use Rattle.std.specs.Prelude.{◌≡◌, is_some};
 ghost use Rattle.iso_heads.specs.Blocks.{IsBlocks, block_next, block_word, blocks_of, with_block};
-ghost use Rattle.iso_statements.specs.Parsing.{Parses};
-ghost use Rattle.iso_statements.specs.Statements.{body_of};
+ghost use Rattle.iso_script_statements.specs.Parsing.{Parses};
+ghost use Rattle.iso_script_statements.specs.Statements.{body_of};
 
-use iso_lexer::token::Token;
-use iso_lexer::word::Word;
 use iso_model::place::Lifecycle;
 use iso_model::tree::Stmt;
-use iso_statements::fault::{ScriptError, ScriptFaultKind};
-use iso_statements::parser::Parser;
+use iso_script_lexer::token::Token;
+use iso_script_lexer::word::Word;
+use iso_script_statements::fault::{ScriptError, ScriptFaultKind};
+use iso_script_statements::parser::Parser;
 
 /// The lifecycle blocks of a class. One that is not written is none, and differs from an empty one.
 #[derive(Drop)]

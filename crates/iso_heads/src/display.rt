@@ -1,12 +1,12 @@
 //! Display texts.
 ghost use Rattle.std.specs.Prelude.{ℕ, List, Option};
 ghost use Rattle.iso_heads.specs.Displays.{IsDisplayed};
-ghost use Rattle.iso_statements.specs.Parsing.{Parses};
+ghost use Rattle.iso_script_statements.specs.Parsing.{Parses};
 
-use iso_lexer::token::Token;
 use iso_model::text::Text;
-use iso_statements::fault::ScriptError;
-use iso_statements::parser::Parser;
+use iso_script_lexer::token::Token;
+use iso_script_statements::fault::ScriptError;
+use iso_script_statements::parser::Parser;
 
 /// The display text that comes next, if one does. One that may not be shown is `BadDisplay` at its quote.
 pub fn read_display(parser: &mut Parser<'_>) -> Result<Option<Text>, ScriptError>

@@ -4,7 +4,7 @@ ghost use Rattle.iso_heads.specs.Blocks.{Blocks, IsBlocks};
 ghost use Rattle.iso_heads.specs.Displays.{IsDisplayed};
 ghost use Rattle.iso_heads.specs.Marks.{IsMarks, Marks};
 ghost use Rattle.iso_heads.specs.Variables.{IsVariables, Variables};
-ghost use Rattle.iso_lexer.specs.Piece.{Piece};
+ghost use Rattle.iso_script_lexer.specs.Piece.{Piece};
 
 /// Pieces are the marks of one class or test at most, and what follows them.
 pub fn marks_are_unique()

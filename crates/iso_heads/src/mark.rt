@@ -2,20 +2,20 @@
 ghost use Rattle.std.specs.Prelude.{◌≡◌, ℕ, List, MatchResult, Some};
 ghost use Rattle.iso_heads.specs.Marks as S;
 ghost use Rattle.iso_heads.specs.Marks.{Adds, IsKeyText, IsMarking, IsMarks, Marking, key_fault, mark_next, mark_word, marks_of};
-ghost use Rattle.iso_lexer.specs.Piece.{Piece};
-ghost use Rattle.iso_statements.specs.Faults.{IsMemory};
-ghost use Rattle.iso_statements.specs.Parsing.{Parses};
+ghost use Rattle.iso_script_lexer.specs.Piece.{Piece};
+ghost use Rattle.iso_script_statements.specs.Faults.{IsMemory};
+ghost use Rattle.iso_script_statements.specs.Parsing.{Parses};
 
-use iso_lexer::token::Token;
-use iso_lexer::word::Word;
 use iso_model::access::Access;
 use iso_model::heads::Mark;
 use iso_model::key::Key;
 use iso_model::limits::KEY_BYTES;
 use iso_model::script::Mode;
 use iso_model::text::Text;
-use iso_statements::fault::{ScriptError, ScriptFaultKind};
-use iso_statements::parser::Parser;
+use iso_script_lexer::token::Token;
+use iso_script_lexer::word::Word;
+use iso_script_statements::fault::{ScriptError, ScriptFaultKind};
+use iso_script_statements::parser::Parser;
 
 /// The marks of a class or test.
 #[derive(Drop)]

@@ -1,21 +1,21 @@
 //! Statics and fields.
 ghost use Rattle.std.specs.Prelude.{◌≡◌, ◌++◌, ◌∷◌, [], ℕ, List, IfErr, IfOk, Some, false};
 ghost use Rattle.iso_heads.specs.Variables.{IsDeclared, IsNew, IsVariables, KnowAll, is_in_any, names_of, variable_next, variable_word, variables_of};
-ghost use Rattle.iso_lexer.specs.Piece.{Piece};
+ghost use Rattle.iso_script_lexer.specs.Piece.{Piece};
 ghost use Rattle.iso_model.specs.declared.heads.Variable as V;
-ghost use Rattle.iso_statements.specs.Faults.{IsMemory};
-ghost use Rattle.iso_statements.specs.Names.{Knows, is_among};
-ghost use Rattle.iso_statements.specs.Parsing.{Parses};
-ghost use Rattle.iso_statements.specs.Pieces.{name_next};
+ghost use Rattle.iso_script_statements.specs.Faults.{IsMemory};
+ghost use Rattle.iso_script_statements.specs.Names.{Knows, is_among};
+ghost use Rattle.iso_script_statements.specs.Parsing.{Parses};
+ghost use Rattle.iso_script_statements.specs.Pieces.{name_next};
 
-use iso_lexer::symbol::Symbol;
-use iso_lexer::token::Token;
-use iso_lexer::word::Word;
 use iso_model::heads::Variable;
 use iso_model::text::Text;
-use iso_statements::fault::{ScriptError, ScriptFaultKind};
-use iso_statements::names::claim;
-use iso_statements::parser::Parser;
+use iso_script_lexer::symbol::Symbol;
+use iso_script_lexer::token::Token;
+use iso_script_lexer::word::Word;
+use iso_script_statements::fault::{ScriptError, ScriptFaultKind};
+use iso_script_statements::names::claim;
+use iso_script_statements::parser::Parser;
 use std::collections::BTreeSet;
 
 /// The statics and fields of a class.

@@ -2,7 +2,7 @@
 ghost use Rattle.std.specs.Prelude.{◌≡◌, ◌++◌, ◌∷◌, ℕ, List, [], IfOk, OnOk, map, not};
 ghost use Rattle.iso_model.specs.ScriptView.{class_of, script_of};
 ghost use Rattle.iso_plan.specs.Faults.{has_double, team_names, top_names};
-ghost use Rattle.iso_statements.specs.Names.{Knows, is_among};
+ghost use Rattle.iso_script_statements.specs.Names.{Knows, is_among};
 
 use crate::tree::in_team;
 use iso_model::script::{Class, Script};

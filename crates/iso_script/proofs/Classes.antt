@@ -1,18 +1,18 @@
 -- Tests and classes by their rules, with what stands where as equations.
 use Rattle.std.proofs.Common.{◌≡◌, ℕ, suc, List, ◌∷◌, ◌++◌, Bool, true, false, not, ◌&&◌, Option, Some, None, is_some, refl, ap, subst, sym, ◌∙◌}
 use Rattle.std.proofs.lemmas.Option.{some_pair_parts}
-use Rattle.iso_lexer.specs.Piece.{Piece, name_at, word_at, symbol_at, tail}
-use Rattle.iso_lexer.specs.Tokens.{after, after_word}
-use Rattle.iso_lexer.specs.declared.symbol.Symbol.TheVariants.{OpenBrace}
-use Rattle.iso_lexer.specs.declared.word.Word.{Word}
-use Rattle.iso_lexer.specs.declared.word.Word.TheVariants as W
-use Rattle.iso_lexer.proofs.Afters.{after-Some, after-symbol_at, after_word-Some, after_word-word_at}
+use Rattle.iso_script_lexer.specs.Piece.{Piece, name_at, word_at, symbol_at, tail}
+use Rattle.iso_script_lexer.specs.Tokens.{after, after_word}
+use Rattle.iso_script_lexer.specs.declared.symbol.Symbol.TheVariants.{OpenBrace}
+use Rattle.iso_script_lexer.specs.declared.word.Word.{Word}
+use Rattle.iso_script_lexer.specs.declared.word.Word.TheVariants as W
+use Rattle.iso_script_lexer.proofs.Afters.{after-Some, after-symbol_at, after_word-Some, after_word-word_at}
 use Rattle.iso_model.specs.Scripts.{Test, Class, class, Member, class_member, test_member, Members}
 use Rattle.iso_model.specs.Syntax.{Acts}
-use Rattle.iso_statements.specs.Names.{is_among}
-use Rattle.iso_statements.specs.Pieces.{name_next}
-use Rattle.iso_statements.specs.Statements.{IsBlock}
-use Rattle.iso_statements.proofs.Taken.{name_is}
+use Rattle.iso_script_statements.specs.Names.{is_among}
+use Rattle.iso_script_statements.specs.Pieces.{name_next}
+use Rattle.iso_script_statements.specs.Statements.{IsBlock}
+use Rattle.iso_script_statements.proofs.Taken.{name_is}
 use Rattle.iso_heads.specs.Blocks.{Blocks, IsBlocks}
 use Rattle.iso_heads.specs.Displays.{IsDisplayed}
 use Rattle.iso_heads.specs.Marks.{Marks, IsMarks}

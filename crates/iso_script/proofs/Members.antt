@@ -3,10 +3,10 @@ use Rattle.std.proofs.Common.{◌≡◌, ◌≢◌, ℕ, List, [], ◌∷◌, �
 use Rattle.std.proofs.lemmas.List.{map-append}
 use Rattle.std.specs.List.{IsDistinct}
 use Rattle.std.specs.Str.{bytes_eq}
-use Rattle.iso_lexer.specs.Piece.{Piece, name_at, number_at, text_at, word_at, symbol_at, bad_at}
-use Rattle.iso_lexer.specs.Tokens.{after}
-use Rattle.iso_lexer.specs.declared.symbol.Symbol.TheVariants.{CloseBrace}
-use Rattle.iso_lexer.proofs.Afters.{after-Some, after-symbol_at}
+use Rattle.iso_script_lexer.specs.Piece.{Piece, name_at, number_at, text_at, word_at, symbol_at, bad_at}
+use Rattle.iso_script_lexer.specs.Tokens.{after}
+use Rattle.iso_script_lexer.specs.declared.symbol.Symbol.TheVariants.{CloseBrace}
+use Rattle.iso_script_lexer.proofs.Afters.{after-Some, after-symbol_at}
 use Rattle.iso_model.specs.Scripts.{Member, Members, no_members, member}
 use Rattle.iso_model.specs.ScriptView.{members_of}
 use Rattle.iso_heads.specs.Readings.{AreRead}

@@ -1,19 +1,19 @@
 -- Scripts in the midst of their classes.
 use Rattle.std.proofs.Common.{◌≡◌, ◌≢◌, ℕ, List, [], ◌∷◌, Some, None, Result, Ok, Err, MatchResult, refl, ap, subst, sym, ◌∙◌}
 use Rattle.std.proofs.lemmas.Option.{some_pair_parts}
-use Rattle.iso_lexer.proofs.Afters.{after_word-word_at}
+use Rattle.iso_script_lexer.proofs.Afters.{after_word-word_at}
 use Rattle.iso_model.specs.ScriptView.{script_of}
 use Rattle.iso_model.specs.declared.script.Script as D
-use Rattle.iso_statements.specs.Faults.{IsMemory}
-use Rattle.iso_statements.specs.declared.fault.ScriptError.{ScriptError}
-use Rattle.iso_lexer.specs.Piece.{Piece, name_at}
-use Rattle.iso_lexer.specs.Tokens.{after_word}
-use Rattle.iso_lexer.specs.declared.word.Word.TheVariants as W
+use Rattle.iso_script_statements.specs.Faults.{IsMemory}
+use Rattle.iso_script_statements.specs.declared.fault.ScriptError.{ScriptError}
+use Rattle.iso_script_lexer.specs.Piece.{Piece, name_at}
+use Rattle.iso_script_lexer.specs.Tokens.{after_word}
+use Rattle.iso_script_lexer.specs.declared.word.Word.TheVariants as W
 use Rattle.iso_model.specs.Scripts.{Class, Script}
 use Rattle.iso_heads.specs.Readings.{AreRead}
 use Rattle.iso_heads.proofs.Readings.{goes_on}
-use Rattle.iso_statements.specs.Pieces.{name_next}
-use Rattle.iso_statements.proofs.Taken.{named}
+use Rattle.iso_script_statements.specs.Pieces.{name_next}
+use Rattle.iso_script_statements.proofs.Taken.{named}
 use Rattle.iso_script.specs.Grammar.{IsTopClass, IsScript, a_script}
 use Rattle.iso_script.proofs.Unique.{left, one_script, one_top_class, some_class}
 

@@ -1,6 +1,6 @@
 -- What is read takes a piece at least.
 use Rattle.std.proofs.Common.{ℕ, ◌<◌, ◌≤◌, List, [], ◌∷◌, Option, length, arith, ap}
-use Rattle.iso_lexer.specs.Piece.{Piece}
+use Rattle.iso_script_lexer.specs.Piece.{Piece}
 use Rattle.iso_model.specs.Scripts.{Test, Class, Member, Members}
 use Rattle.iso_heads.specs.Blocks.{Blocks, IsBlocks, IsWritten}
 use Rattle.iso_heads.specs.Displays.{IsDisplayed, none_displayed, displayed}
@@ -10,8 +10,8 @@ use Rattle.iso_heads.specs.Variables.{Variables, IsVariables, IsDeclared}
 use Rattle.iso_heads.proofs.Blocks.{written_shorter}
 use Rattle.iso_heads.proofs.Marks.{marking_shorter}
 use Rattle.iso_heads.proofs.Variables.{declared_shorter}
-use Rattle.iso_statements.specs.Statements.{a_display}
-use Rattle.iso_statements.proofs.Shorter.{block_shorter}
+use Rattle.iso_script_statements.specs.Statements.{a_display}
+use Rattle.iso_script_statements.proofs.Shorter.{block_shorter}
 use Rattle.iso_script.specs.Grammar.{IsTest, a_test, IsMember, as_test, as_class, IsClass, a_class, has_members, IsMembers, closed, and_then}
 
 -- items take no piece or more

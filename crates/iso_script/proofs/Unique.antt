@@ -1,10 +1,10 @@
 -- Pieces are one script at most: each rule has one clause.
 use Rattle.std.proofs.Common.{◌≡◌, ◌≢◌, ℕ, List, [], ◌∷◌, ◌++◌, Option, Some, None, refl, ap, subst, sym, ◌∙◌}
-use Rattle.iso_lexer.specs.Lexical.{PiecesAreUnique}
-use Rattle.iso_lexer.specs.Piece.{Piece, name_at, word_at, symbol_at}
-use Rattle.iso_lexer.specs.declared.symbol.Symbol.{Symbol}
-use Rattle.iso_lexer.specs.declared.word.Word.{Word}
-use Rattle.iso_lexer.specs.declared.word.Word.TheVariants as W
+use Rattle.iso_script_lexer.specs.Lexical.{PiecesAreUnique}
+use Rattle.iso_script_lexer.specs.Piece.{Piece, name_at, word_at, symbol_at}
+use Rattle.iso_script_lexer.specs.declared.symbol.Symbol.{Symbol}
+use Rattle.iso_script_lexer.specs.declared.word.Word.{Word}
+use Rattle.iso_script_lexer.specs.declared.word.Word.TheVariants as W
 use Rattle.iso_model.specs.Scripts.{Test, Class, class, Member, class_member, test_member, Members, Script}
 use Rattle.iso_heads.specs.Blocks.{IsBlocks}
 use Rattle.iso_heads.specs.Marks.{Marks, Marking, IsMarking}
@@ -16,8 +16,8 @@ use Rattle.iso_heads.proofs.Displays.{one_display}
 use Rattle.iso_heads.proofs.Marks.{one_marks}
 use Rattle.iso_heads.proofs.Readings as R
 use Rattle.iso_heads.proofs.Variables.{one_variables}
-use Rattle.iso_statements.specs.Statements.{IsBlock}
-use Rattle.iso_statements.proofs.Unique.{one_block}
+use Rattle.iso_script_statements.specs.Statements.{IsBlock}
+use Rattle.iso_script_statements.proofs.Unique.{one_block}
 use Rattle.iso_script.specs.Grammar.{test, title, IsTest, a_test, IsMember, as_test, as_class, IsClass, a_class, HasMembers, has_members, IsMembers, closed, and_then, IsTopClass, IsScript, a_script, Reads}
 
 -- a member begins with a word

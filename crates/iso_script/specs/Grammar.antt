@@ -5,10 +5,10 @@ use Rattle.std.specs.Global.{Global}
 use Rattle.std.specs.Prelude.{ℕ, suc, ◌≤◌, List, [], ◌∷◌, ◌++◌, ◌≡◌, ◌≢◌, Option, Some, None, Vec, false, length, map}
 use Rattle.std.specs.List.{IsDistinct}
 use Rattle.std.specs.Str.{bytes_eq}
-use Rattle.iso_lexer.specs.Lexical.{HasPieces}
-use Rattle.iso_lexer.specs.Piece.{Piece, name_at, word_at, symbol_at}
-use Rattle.iso_lexer.specs.declared.symbol.Symbol.TheVariants.{OpenBrace, CloseBrace}
-use Rattle.iso_lexer.specs.declared.word.Word.TheVariants as W
+use Rattle.iso_script_lexer.specs.Lexical.{HasPieces}
+use Rattle.iso_script_lexer.specs.Piece.{Piece, name_at, word_at, symbol_at}
+use Rattle.iso_script_lexer.specs.declared.symbol.Symbol.TheVariants.{OpenBrace, CloseBrace}
+use Rattle.iso_script_lexer.specs.declared.word.Word.TheVariants as W
 use Rattle.iso_model.specs.Chains.{ClassHead}
 use Rattle.iso_model.specs.ScriptView.{member_of, members_of}
 use Rattle.iso_model.specs.Scripts.{Test, ClassTitle, Class, class, Member, class_member, test_member, Members, no_members, member, Script}
@@ -17,8 +17,8 @@ use Rattle.iso_model.specs.declared.heads.Mark.{Mark}
 use Rattle.iso_model.specs.declared.limits.TheConstants.{FILE_BYTES, CLASS_DEPTH}
 use Rattle.iso_model.specs.declared.place.Lifecycle.TheVariants.{BeforeAll, AfterAll, BeforeEach, AfterEach}
 use Rattle.iso_model.specs.declared.script.Member as M
-use Rattle.iso_statements.specs.Names.{is_among}
-use Rattle.iso_statements.specs.Statements.{IsBlock}
+use Rattle.iso_script_statements.specs.Names.{is_among}
+use Rattle.iso_script_statements.specs.Statements.{IsBlock}
 use Rattle.iso_heads.specs.Blocks.{Blocks, IsBlocks}
 use Rattle.iso_heads.specs.Displays.{IsDisplayed}
 use Rattle.iso_heads.specs.Marks.{Marks, IsMarks}

@@ -2,12 +2,12 @@
 ghost use Rattle.std.specs.Prelude.{◌≡◌, ℕ, suc, List, [], ◌∷◌, ◌++◌, IfOk, MatchResult, Some, None, is_some, not, ◌&&◌};
 ghost use Rattle.iso_heads.specs.Marks.{marks_of};
 ghost use Rattle.iso_heads.specs.Variables.{KnowAll};
-ghost use Rattle.iso_lexer.specs.Tokens.{after_word};
-ghost use Rattle.iso_lexer.specs.declared.word.Word.TheVariants as W;
+ghost use Rattle.iso_script_lexer.specs.Tokens.{after_word};
+ghost use Rattle.iso_script_lexer.specs.declared.word.Word.TheVariants as W;
 ghost use Rattle.iso_model.specs.ScriptView.{class_of, member_of};
 ghost use Rattle.iso_script.specs.Grammar.{HasMembers, IsClass, IsNewMember, IsTopClass, members_in, name_of};
-ghost use Rattle.iso_statements.specs.Names.{Knows};
-ghost use Rattle.iso_statements.specs.Parsing.{Parses};
+ghost use Rattle.iso_script_statements.specs.Names.{Knows};
+ghost use Rattle.iso_script_statements.specs.Parsing.{Parses};
 
 use crate::head::class_head;
 use crate::test::read_test;
@@ -15,13 +15,13 @@ use iso_heads::block::read_blocks;
 use iso_heads::display::read_display;
 use iso_heads::mark::{Marks, read_marks};
 use iso_heads::variable::{Variables, read_variables};
-use iso_lexer::symbol::Symbol;
-use iso_lexer::word::Word;
 use iso_model::limits::CLASS_DEPTH;
 use iso_model::script::{Class, Member};
 use iso_model::text::Text;
-use iso_statements::fault::{ScriptError, ScriptFaultKind};
-use iso_statements::parser::Parser;
+use iso_script_lexer::symbol::Symbol;
+use iso_script_lexer::word::Word;
+use iso_script_statements::fault::{ScriptError, ScriptFaultKind};
+use iso_script_statements::parser::Parser;
 use std::collections::BTreeSet;
 use std::sync::Arc;
 

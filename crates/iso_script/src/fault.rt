@@ -1,3 +1,3 @@
 //! The faults of scripts.
 
-pub use iso_statements::fault::{ScriptError, ScriptFault, ScriptFaultKind};
+pub use iso_script_statements::fault::{ScriptError, ScriptFault, ScriptFaultKind};

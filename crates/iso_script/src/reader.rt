@@ -4,17 +4,17 @@ ghost use Rattle.iso_heads.specs.Readings.{AreRead};
 ghost use Rattle.iso_model.specs.Scripts as S;
 ghost use Rattle.iso_model.specs.ScriptView.{class_of, script_of};
 ghost use Rattle.iso_model.specs.declared.limits.TheConstants.{FILE_BYTES};
-ghost use Rattle.iso_statements.specs.Faults.{IsMemory};
+ghost use Rattle.iso_script_statements.specs.Faults.{IsMemory};
 ghost use Rattle.iso_script.specs.Grammar.{IsScript, IsTopClass, Reads};
 
 use crate::class::read_top_class;
-use iso_lexer::token::Place;
-use iso_lexer::word::Word;
 use iso_model::limits::FILE_BYTES;
 use iso_model::script::{Class, Script};
 use iso_model::text::Text;
-use iso_statements::fault::{ScriptError, ScriptFaultKind};
-use iso_statements::parser::Parser;
+use iso_script_lexer::token::Place;
+use iso_script_lexer::word::Word;
+use iso_script_statements::fault::{ScriptError, ScriptFaultKind};
+use iso_script_statements::parser::Parser;
 use std::alloc::Global;
 
 /// Reads a script of at most 1,048,576 bytes: the name of a team, and its top-level classes in order. The tree

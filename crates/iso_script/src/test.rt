@@ -3,15 +3,15 @@ ghost use Rattle.std.specs.Prelude.{◌≡◌};
 ghost use Rattle.iso_heads.specs.Marks.{marks_of};
 ghost use Rattle.iso_model.specs.ScriptView.{test_of};
 ghost use Rattle.iso_script.specs.Grammar.{IsTest};
-ghost use Rattle.iso_statements.specs.Parsing.{Parses};
+ghost use Rattle.iso_script_statements.specs.Parsing.{Parses};
 
 use iso_heads::display::read_display;
 use iso_heads::mark::Marks;
 use iso_model::heads::TestHead;
 use iso_model::script::Test;
 use iso_model::text::Text;
-use iso_statements::fault::ScriptError;
-use iso_statements::parser::Parser;
+use iso_script_statements::fault::ScriptError;
+use iso_script_statements::parser::Parser;
 use std::sync::Arc;
 
 /// A test of these marks, after its name.

@@ -20,7 +20,7 @@ use iso_model::resource_key::ResourceKey;
 use iso_model::rights::Rights;
 use iso_model::text::Text;
 use iso_model::tree::Stmt;
-use iso_statements::parser::Parser;
+use iso_script_statements::parser::Parser;
 use std::alloc::{AllocError, Global};
 use std::process::Abort;
 use std::test::Fail;

@@ -1,11 +1,11 @@
 //! Places, faults and tokens, as the description of the script language gives them.
 use crate::shared::{check_text, made};
-use iso_lexer::lexer::Lexer;
-use iso_lexer::symbol::Symbol;
-use iso_lexer::text::QuotedText;
-use iso_lexer::token::TokenFault::{BadByte, BadToken, NumberTooBig, OpenText, TooLong};
-use iso_lexer::token::{Place, Token, TokenFault};
-use iso_lexer::word::Word;
+use iso_script_lexer::lexer::Lexer;
+use iso_script_lexer::symbol::Symbol;
+use iso_script_lexer::text::QuotedText;
+use iso_script_lexer::token::TokenFault::{BadByte, BadToken, NumberTooBig, OpenText, TooLong};
+use iso_script_lexer::token::{Place, Token, TokenFault};
+use iso_script_lexer::word::Word;
 use std::alloc::{AllocError, Global};
 use std::fmt;
 

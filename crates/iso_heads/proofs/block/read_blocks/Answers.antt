@@ -1,7 +1,7 @@
 use Rattle.std.proofs.Common.{◌++◌, ◌∷◌, [], sym, arith, subst}
 use Rattle.std.proofs.lemmas.Result.{err_from_is_err_and}
 use Rattle.iso_heads.specs.Blocks.{IsWritten}
-use Rattle.iso_statements.specs.Statements.{IsBlock}
+use Rattle.iso_script_statements.specs.Statements.{IsBlock}
 use Rattle.iso_heads.proofs.Readings.{read_push}
 use Rattle.iso_heads.proofs.Blocks.{comes_to_more, is_written, next_block, no_second, written_shorter}
 use Rattle.iso_heads.proofs.block.read_blocks.Goals as goal

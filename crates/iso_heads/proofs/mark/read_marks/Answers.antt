@@ -1,6 +1,6 @@
 use Rattle.std.proofs.Common.{◌++◌, ◌∷◌, [], sym, arith}
 use Rattle.std.proofs.lemmas.Result.{err_from_is_err_and}
-use Rattle.iso_statements.specs.Faults.{IsMemory}
+use Rattle.iso_script_statements.specs.Faults.{IsMemory}
 use Rattle.iso_heads.specs.Marks.{IsMarking}
 use Rattle.iso_heads.proofs.Readings.{read_push}
 use Rattle.iso_heads.proofs.Marks.{comes_to_more, marking_shorter, marks_refused}

@@ -1,7 +1,7 @@
 use Rattle.std.proofs.Common.{◌∙◌, ap}
 use Rattle.std.proofs.lemmas.Result.{err_from_is_err_and}
 use Rattle.iso_heads.proofs.Variables.{declared_parts, is_declared, literal_next, no_equals, no_semicolon}
-use Rattle.iso_statements.specs.Pieces.{name_next}
+use Rattle.iso_script_statements.specs.Pieces.{name_next}
 use Rattle.iso_heads.proofs.variable.read_variable.Goals as goal
 
 pub returns-in_err-name-clause-only : goal.returns-in_err-name-clause-only

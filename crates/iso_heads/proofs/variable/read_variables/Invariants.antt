@@ -2,7 +2,7 @@ use Rattle.std.proofs.Common.{◌≡◌, ℕ, List, false, length, map}
 use Rattle.std.specs.List.{AllByRecursion}
 use Rattle.iso_heads.specs.Readings.{AreRead}
 use Rattle.iso_heads.specs.Variables.{Declared, IsDeclared, KnowAll, name_in, variables_of}
-use Rattle.iso_statements.specs.Names.{Knows, is_among}
+use Rattle.iso_script_statements.specs.Names.{Knows, is_among}
 use Rattle.iso_heads.proofs.Variables.{ComeTo}
 use Rattle.iso_heads.proofs.variable.read_variables.Given as goal
 

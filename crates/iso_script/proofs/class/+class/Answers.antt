@@ -1,17 +1,17 @@
 use Rattle.std.proofs.Common.{◌++◌, map, refl, Some, sym, ap, ◌∙◌, arith, rules}
 use Rattle.std.proofs.lemmas.List.{map_push, length-map}
 use Rattle.std.proofs.lemmas.Result.{err_from_is_err_and}
-use Rattle.iso_lexer.specs.Tokens.{after}
-use Rattle.iso_lexer.specs.declared.symbol.Symbol.TheVariants.{CloseBrace}
-use Rattle.iso_lexer.proofs.Afters.{after-symbol_at}
+use Rattle.iso_script_lexer.specs.Tokens.{after}
+use Rattle.iso_script_lexer.specs.declared.symbol.Symbol.TheVariants.{CloseBrace}
+use Rattle.iso_script_lexer.proofs.Afters.{after-symbol_at}
 use Rattle.iso_model.specs.ScriptView.{member_of}
 use Rattle.iso_heads.specs.Variables.{names_of, variables_of}
 use Rattle.iso_heads.proofs.Distinct.{IsDistinct-none, IsDistinct-push}
 use Rattle.iso_heads.proofs.Readings.{read_push}
-use Rattle.iso_statements.specs.Names.{is_among}
-use Rattle.iso_statements.specs.Pieces.{name_next}
-use Rattle.iso_statements.proofs.Small.{none_is, none_left, some_left}
-use Rattle.iso_statements.proofs.Taken.{stands_in_front}
+use Rattle.iso_script_statements.specs.Names.{is_among}
+use Rattle.iso_script_statements.specs.Pieces.{name_next}
+use Rattle.iso_script_statements.proofs.Small.{none_is, none_left, some_left}
+use Rattle.iso_script_statements.proofs.Taken.{stands_in_front}
 use Rattle.iso_script.specs.Grammar.{IsMember, has_members}
 use Rattle.iso_script.proofs.Classes.{display_next, may_test, no_test, is_class, not_opened, opened, blocks_next, members_next, marks_next, is_test, test_name, test_next, test_left, is_nested, class_name, class_next, class_left, not_next, word_left, name_is_new}
 use Rattle.iso_script.proofs.Members.{names_of-members_of, members_of-some, all_read, next_member, empty_refused}

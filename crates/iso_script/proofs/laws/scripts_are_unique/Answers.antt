@@ -1,4 +1,4 @@
-use Rattle.iso_lexer.proofs.Pieces.{one_list}
+use Rattle.iso_script_lexer.proofs.Pieces.{one_list}
 use Rattle.iso_script.proofs.Unique.{one_reading}
 use Rattle.iso_script.proofs.laws.scripts_are_unique.Goals as goal
 

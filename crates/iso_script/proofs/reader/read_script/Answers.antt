@@ -1,5 +1,5 @@
 use Rattle.std.proofs.Common.{subst}
-use Rattle.iso_lexer.proofs.Pieces.{one_list}
+use Rattle.iso_script_lexer.proofs.Pieces.{one_list}
 use Rattle.iso_script.specs.Grammar.{IsScript}
 use Rattle.iso_script.proofs.Scripts.{answers_only}
 use Rattle.iso_script.proofs.reader.read_script.Goals as goal

@@ -1,7 +1,0 @@
-//! Laws of the lexical grammar, each a function whose contract it is.
-ghost use Rattle.iso_lexer.specs.Lexical.{PiecesAreUnique};
-
-/// Bytes have one list of pieces at most.
-pub fn pieces_are_unique()
-    ensures { PiecesAreUnique }
-{}

@@ -1,0 +1,133 @@
+-- The lexer's view of bytes: the pieces that are read from them, by functions.
+use Rattle.std.specs.Prelude.{ℕ, zero, suc, ◌+◌, ◌-◌, List, [], ◌∷◌, Bool, true, false, nat_eq, nat_le, ◌&&◌, Option, Some, None, if◌then◌else◌, length, take, drop, option_map}
+use Rattle.std.specs.List.{prefix_len}
+use Rattle.iso_script_lexer.specs.Piece.{Piece, name_at, number_at, text_at, word_at, symbol_at, bad_at}
+use Rattle.iso_script_lexer.specs.Spelling.{is_blank, is_printable, in_comment, is_letter, is_digit, in_name, is_escaped, word_of}
+use Rattle.iso_script_lexer.specs.Lexical.{decimal_value}
+use Rattle.iso_script_lexer.specs.Text.{decoded}
+use Rattle.iso_script_lexer.specs.declared.word.Word as W
+use Rattle.iso_script_lexer.specs.declared.symbol.Symbol as S
+use Rattle.iso_script_lexer.specs.declared.symbol.Symbol.TheVariants.{OpenBrace, CloseBrace, OpenParen, CloseParen, Semicolon, Comma, Equals, Plus, Minus, Star, PlusPlus, EqualsEquals, NotEquals, Less}
+
+abbrev pub begins : ℕ → List ℕ → Bool
+begins c [] = false
+begins c (b ∷ bs) = nat_eq b c
+
+abbrev pub begins_in : (ℕ → Bool) → List ℕ → Bool
+begins_in p [] = false
+begins_in p (b ∷ bs) = p b
+
+-- the line and the bytes after a gap; in a comment, those after its end
+unfoldable pub after_gap : (comment : Bool) → ℕ → List ℕ → ℕ × List ℕ
+after_gap comment row [] = (row, [])
+after_gap false row (b ∷ bs) =
+    if nat_eq b 10 then after_gap false (row + 1) bs
+    else if is_blank b then after_gap false row bs
+    else if nat_eq b 47 && begins 47 bs then after_gap true row bs
+    else (row, b ∷ bs)
+after_gap true row (b ∷ bs) =
+    if nat_eq b 10 then after_gap false (row + 1) bs
+    else if in_comment b then after_gap true row bs
+    else (row, b ∷ bs)
+
+abbrev pub one_more : Option ℕ → Option ℕ
+one_more n = option_map (λ k. k + 1) n
+
+-- one byte more of a text in which so many more fit
+abbrev pub counted : ℕ → (ℕ → Option ℕ) → Option ℕ
+counted room next = if nat_eq room 0 then None else one_more (next (room - 1))
+
+-- how many bytes stand before the closing quote of a text, in which so many decoded bytes fit
+unfoldable pub quoted_length : (escaped : Bool) → (room : ℕ) → List ℕ → Option ℕ
+quoted_length escaped room [] = None
+quoted_length false room (b ∷ bs) =
+    if nat_eq b 34 then Some 0
+    else if nat_eq b 92 then one_more (quoted_length true room bs)
+    else if is_printable b then counted room (λ r. quoted_length false r bs)
+    else None
+quoted_length true room (b ∷ bs) = if is_escaped b then counted room (λ r. quoted_length false r bs) else None
+
+-- the symbol of one byte
+abbrev pub single_symbol : ℕ → Option S.Symbol
+single_symbol b =
+    if nat_eq b 123 then Some OpenBrace
+    else if nat_eq b 125 then Some CloseBrace
+    else if nat_eq b 40 then Some OpenParen
+    else if nat_eq b 41 then Some CloseParen
+    else if nat_eq b 59 then Some Semicolon
+    else if nat_eq b 44 then Some Comma
+    else if nat_eq b 61 then Some Equals
+    else if nat_eq b 43 then Some Plus
+    else if nat_eq b 45 then Some Minus
+    else if nat_eq b 42 then Some Star
+    else if nat_eq b 60 then Some Less
+    else None
+
+-- the symbol of two bytes
+abbrev pub double_symbol : ℕ → List ℕ → Option S.Symbol
+double_symbol b bs =
+    if nat_eq b 43 && begins 43 bs then Some PlusPlus
+    else if nat_eq b 61 && begins 61 bs then Some EqualsEquals
+    else if nat_eq b 33 && begins 61 bs then Some NotEquals
+    else None
+
+-- the symbol at the front and what follows it: two bytes before one
+abbrev pub longest_symbol : Option S.Symbol → Option S.Symbol → List ℕ → Option (S.Symbol × List ℕ)
+longest_symbol (Some s) one bs = Some (s, drop 1 bs)
+longest_symbol None (Some s) bs = Some (s, bs)
+longest_symbol None None bs = None
+
+unfoldable pub symbol_front : List ℕ → Option (S.Symbol × List ℕ)
+symbol_front [] = None
+symbol_front (b ∷ bs) = longest_symbol (double_symbol b bs) (single_symbol b) bs
+
+-- what is read at the front of bytes: a piece and what follows it; what is no token is followed by nothing
+abbrev pub Front : Type 0
+Front = Option (Piece × List ℕ)
+
+abbrev pub no_token : ℕ → Front
+no_token row = Some (bad_at row, [])
+
+abbrev pub symbol_piece : ℕ → Option (S.Symbol × List ℕ) → Front
+symbol_piece row (Some f) = Some (symbol_at row f.0, f.1)
+symbol_piece row None = no_token row
+
+abbrev pub name_or_word : ℕ → List ℕ → Option W.Word → Piece
+name_or_word row n (Some w) = word_at row w
+name_or_word row n None = name_at row n
+
+abbrev pub name_piece : ℕ → ℕ → List ℕ → Front
+name_piece row n bs =
+    if nat_le n 64 then Some (name_or_word row (take n bs) (word_of (take n bs)), drop n bs) else no_token row
+
+abbrev pub number_piece : ℕ → ℕ → List ℕ → Front
+number_piece row n bs =
+    if begins_in in_name (drop n bs) then no_token row
+    else if nat_le (decimal_value (take n bs)) 9223372036854775808 then Some (number_at row (decimal_value (take n bs)), drop n bs)
+    else no_token row
+
+abbrev pub text_piece : ℕ → Option ℕ → List ℕ → Front
+text_piece row (Some n) bs = Some (text_at row (decoded false (take n bs)), drop (n + 1) bs)
+text_piece row None bs = no_token row
+
+-- the piece at the front and what follows it; none at the end
+unfoldable pub front_of : ℕ → List ℕ → Front
+front_of row [] = None
+front_of row (b ∷ bs) =
+    if is_letter b then name_piece row (prefix_len in_name (b ∷ bs)) (b ∷ bs)
+    else if is_digit b then number_piece row (prefix_len is_digit (b ∷ bs)) (b ∷ bs)
+    else if nat_eq b 34 then text_piece row (quoted_length false 4096 bs) bs
+    else symbol_piece row (symbol_front (b ∷ bs))
+
+abbrev pub then_pieces : Front → (List ℕ → List Piece) → List Piece
+then_pieces None more = []
+then_pieces (Some f) more = f.0 ∷ more f.1
+
+-- the pieces from a line on, at most n
+unfoldable pub pieces : ℕ → ℕ × List ℕ → List Piece
+pieces zero at = []
+pieces (suc n) at = then_pieces (front_of at.0 at.1) (λ rest. pieces n (after_gap false at.0 rest))
+
+-- the pieces of bytes that begin on a line
+unfoldable pub pieces_of : ℕ → List ℕ → List Piece
+pieces_of row bs = pieces (suc (length bs)) (after_gap false row bs)

@@ -1,0 +1,114 @@
+ghost use Rattle.std.specs.Prelude.{◌≡◌, ◌≤◌, List, Some, None, false, length, if◌then◌else◌};
+ghost use Rattle.iso_script_lexer.specs.Lexical.{HasPieces};
+ghost use Rattle.iso_script_lexer.specs.Piece.{Piece};
+ghost use Rattle.iso_script_lexer.specs.Scan.{pieces_of};
+ghost use Rattle.iso_script_lexer.specs.Piece.{tail};
+ghost use Rattle.iso_script_lexer.specs.Tokens.{IsToken, front, after, after_word};
+
+use crate::cursor::Cursor;
+use crate::gap::skip_gap;
+use crate::scan::scan;
+use crate::symbol::Symbol;
+use crate::token::{Place, Token};
+use crate::word::Word;
+use iso_model::limits::FILE_BYTES;
+use std::marker::Model;
+
+/// The tokens of a script, from the one that is next on.
+#[derive(Drop)]
+pub struct Lexer<'a> {
+    token: Token<'a>,
+    place: Place,
+    next: Cursor<'a>,
+}
+
+impl<'a> Model for Lexer<'a> {
+    ghost use Rattle.std.specs.Prelude.{List};
+    ghost use Rattle.iso_script_lexer.specs.Piece.{Piece};
+    ghost use Rattle.iso_script_lexer.specs.Scan.{pieces_of};
+    ghost use Rattle.iso_script_lexer.specs.Tokens.{front, IsToken};
+
+    ghost Value = { List Piece };
+
+    ghost view = { λ l. front l.place.line l.token (pieces_of l.next.place.line l.next.rest.now) };
+
+    ghost invariant = { λ l. IsToken l.token };
+}
+
+impl<'a> Lexer<'a> {
+    /// At the first token of a script.
+    pub fn new(bytes: &'a [u8]) -> Lexer<'a>
+        requires { length bytes.now ≤ FILE_BYTES }
+        ensures { HasPieces 1 bytes.now result }
+    {
+        Lexer::read(Cursor::new(bytes))
+    }
+
+    /// At the token that comes next.
+    fn read(cursor: Cursor<'a>) -> Lexer<'a>
+        ensures { result ≡ pieces_of cursor.entry.place.line cursor.entry.rest.now }
+    {
+        let start = skip_gap(cursor);
+        match scan(start.rest) {
+            Ok((token, rest)) => Lexer {
+                token,
+                place: start.place,
+                next: start.further(rest),
+            },
+            Err(misspelling) => {
+                let place = start.place_after(misspelling.offset);
+                Lexer {
+                    token: Token::Bad(misspelling.fault),
+                    place,
+                    next: Cursor { place, rest: &[] },
+                }
+            }
+        }
+    }
+
+    /// What is next, and its place. The place of `End` is the one after the last byte of the script.
+    /// The place of `Bad` is that of the fault, which may lie inside the bytes that are no token.
+    pub fn peek(&self) -> (Token<'a>, Place)
+        ensures next { self.now ≡ front result.1.line result.0 (tail self.now) }
+        ensures token { IsToken result.0 }
+    {
+        (self.token, self.place)
+    }
+
+    /// Goes on to the next token. At `End` it stays there, and after `Bad` comes `End`.
+    pub fn advance(&mut self)
+        ensures { self.new ≡ tail self.old }
+    {
+        if !matches!(self.token, Token::End) {
+            *self = Lexer::read(self.next);
+        }
+    }
+
+    /// Goes past a symbol where it is next, and answers whether it was.
+    pub fn takes(&mut self, symbol: Symbol) -> bool
+        ensures found { after symbol self.old ≡ (if result then Some self.new else None) }
+        ensures kept { result ≡ false → self.new ≡ self.old }
+    {
+        match self.token {
+            Token::Symbol(next) if next.is(symbol) => {
+                self.advance();
+                true
+            }
+            _ => false,
+        }
+    }
+
+    /// Goes past a reserved word where it is next, and answers whether it was.
+    pub fn takes_word(&mut self, word: Word) -> bool
+        ensures found { after_word word self.old ≡ (if result then Some self.new else None) }
+        ensures kept { result ≡ false → self.new ≡ self.old }
+    {
+        match self.token {
+            Token::Word(next) if next.is(word) => {
+                self.advance();
+                true
+            }
+            _ => false,
+        }
+    }
+}

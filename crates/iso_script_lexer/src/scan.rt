@@ -1,0 +1,228 @@
+//! The token at the front of bytes.
+ghost use Rattle.std.specs.Prelude.{◌≡◌, ℕ, ◌+◌, ◌≤◌, ◌^◌, ◌-◌, length, min, option_map, false, true, IfSome, IfOk, IfErr};
+ghost use Rattle.std.specs.List.{prefix_len};
+ghost use Rattle.std.specs.Result.{result_ok};
+ghost use Rattle.iso_script_lexer.specs.Spelling.{is_letter, is_digit, in_name};
+ghost use Rattle.iso_script_lexer.specs.Lexical.{AllDigits, decimal_value};
+ghost use Rattle.iso_script_lexer.specs.Scan.{begins_in, quoted_length, single_symbol, symbol_front, name_piece, number_piece, text_piece, front_of};
+ghost use Rattle.iso_script_lexer.specs.Tokens.{IsToken};
+ghost use Rattle.iso_script_lexer.specs.Scanned.{seen, IsWithin};
+
+use crate::symbol::Symbol;
+use crate::text::QuotedText;
+use crate::token::{Token, TokenFault};
+use crate::word::Word;
+use iso_model::limits::{NAME_BYTES, TEXT_BYTES};
+
+/// The most bytes of a name.
+const NAME_LIMIT: usize = NAME_BYTES as usize;
+
+/// The most bytes of a decoded text.
+const TEXT_LIMIT: usize = TEXT_BYTES as usize;
+
+/// The greatest number, which may stand after a minus.
+const NUMBER_LIMIT: u64 = 9_223_372_036_854_775_808;
+
+/// What makes bytes no token, and how many bytes from their first it lies.
+#[derive(Clone, Copy)]
+pub(crate) struct Misspelling {
+    pub fault: TokenFault,
+    pub offset: usize,
+}
+
+fn fault_at(fault: TokenFault, offset: usize) -> Misspelling
+    ensures { result ≡ record { fault = fault; offset = offset } }
+{
+    Misspelling { fault, offset }
+}
+
+/// Whether a name may begin so.
+fn is_letter(byte: u8) -> bool
+    ensures { result ≡ is_letter byte }
+{
+    matches!(byte, b'a'..=b'z' | b'A'..=b'Z')
+}
+
+/// Whether a name may go on so.
+fn is_name_byte(byte: u8) -> bool
+    ensures { result ≡ in_name byte }
+{
+    is_letter(byte) || matches!(byte, b'0'..=b'9' | b'_')
+}
+
+/// How many bytes a name at the front has.
+fn name_length(bytes: &[u8]) -> usize
+    ensures { result ≡ prefix_len in_name bytes.now }
+{
+    bytes.iter().take_while(|byte| is_name_byte(**byte)).count()
+}
+
+/// How many digits stand at the front.
+fn digits_length(bytes: &[u8]) -> usize
+    ensures { result ≡ prefix_len is_digit bytes.now }
+{
+    bytes
+        .iter()
+        .take_while(|byte| matches!(**byte, b'0'..=b'9'))
+        .count()
+}
+
+/// The name or reserved word at the front, and what follows it.
+fn scan_name(bytes: &[u8]) -> Result<(Token<'_>, &[u8]), Misspelling>
+    requires { begins_in is_letter bytes.now ≡ true }
+    ensures value { (row : ℕ) →
+        name_piece row (prefix_len in_name bytes.now) bytes.now ≡ seen row result }
+    ensures within { IsWithin (length bytes.now) result }
+    ensures token { IfOk result (λ f. IsToken f.0) }
+{
+    let (name, rest) = bytes.split_at(name_length(bytes));
+    if name.len() > NAME_LIMIT {
+        return Err(fault_at(TokenFault::TooLong, NAME_LIMIT));
+    }
+    let Ok(name) = std::str::from_utf8(name) else {
+        unreachable!()
+    };
+    let token = match Word::from_name(name) {
+        Some(word) => Token::Word(word),
+        None => Token::Name(name),
+    };
+    Ok((token, rest))
+}
+
+/// The value of digits; 2^64 - 1 where it is as large or larger.
+fn saturated_value(digits: &[u8]) -> u64
+    requires { AllDigits digits.now }
+    ensures { result ≡ min (2 ^ 64 - 1) (decimal_value digits.now) }
+{
+    let mut value = 0u64;
+    for digit in digits {
+        value = value
+            .saturating_mul(10)
+            .saturating_add(u64::from(*digit - b'0'));
+    }
+    value
+}
+
+/// The number at the front, and what follows it.
+fn scan_number(bytes: &[u8]) -> Result<(Token<'_>, &[u8]), Misspelling>
+    ensures value { (row : ℕ) →
+        number_piece row (prefix_len is_digit bytes.now) bytes.now ≡ seen row result }
+    ensures within { IsWithin (length bytes.now) result }
+    ensures token { IfOk result (λ f. IsToken f.0) }
+{
+    let (digits, rest) = bytes.split_at(digits_length(bytes));
+    if let [byte, ..] = rest
+        && is_name_byte(*byte)
+    {
+        return Err(fault_at(TokenFault::BadToken, 0));
+    }
+    let value = saturated_value(digits);
+    if value > NUMBER_LIMIT {
+        return Err(fault_at(TokenFault::NumberTooBig, 0));
+    }
+    Ok((Token::Number(value), rest))
+}
+
+/// How many bytes stand before the closing quote of a text, where these follow its opening quote.
+/// The offset of a fault counts from the opening quote.
+#[tactic(auto, unfolding(crate::specs::Scan::quoted_length))]
+fn quoted_length(bytes: &[u8]) -> Result<usize, Misspelling>
+    ensures value { quoted_length false 4096 bytes.now ≡ result_ok result }
+    ensures within { IfErr result (λ e. e.offset ≤ length bytes.now + 1) }
+{
+    let mut rest = bytes;
+    let mut room = TEXT_LIMIT;
+    'text: loop {
+        let length = bytes.len() - rest.len();
+        let offset = length + 1;
+        let after = match rest {
+            [b'"', ..] => return Ok(length),
+            [b'\\', b'"' | b'\\', after @ ..] => after,
+            [] | [b'\n', ..] | [b'\\'] | [b'\\', b'\n', ..] => return Err(fault_at(
+                TokenFault::OpenText,
+                0,
+            )),
+            [b'\\', ..] => return Err(fault_at(TokenFault::BadToken, offset)),
+            [b' '..=b'~', after @ ..] => after,
+            _ => return Err(fault_at(TokenFault::BadByte, offset)),
+        };
+        if room == 0 {
+            return Err(fault_at(TokenFault::TooLong, offset));
+        }
+        room -= 1;
+        rest = after;
+    }
+}
+
+/// The text after its opening quote, and what follows its closing quote.
+fn scan_text(bytes: &[u8]) -> Result<(Token<'_>, &[u8]), Misspelling>
+    ensures value { (row : ℕ) →
+        text_piece row (quoted_length false 4096 bytes.now) bytes.now ≡ seen row result }
+    ensures within { IsWithin (length bytes.now + 1) result }
+    ensures token { IfOk result (λ f. IsToken f.0) }
+{
+    let length = quoted_length(bytes)?;
+    let (raw, _) = bytes.split_at(length);
+    let (_, rest) = bytes.split_at(length + 1);
+    Ok((Token::Text(QuotedText { raw }), rest))
+}
+
+/// The symbol that is written as one byte.
+fn single_symbol(byte: u8) -> Option<Symbol>
+    ensures { result ≡ single_symbol byte }
+{
+    match byte {
+        b'{' => Some(Symbol::OpenBrace),
+        b'}' => Some(Symbol::CloseBrace),
+        b'(' => Some(Symbol::OpenParen),
+        b')' => Some(Symbol::CloseParen),
+        b';' => Some(Symbol::Semicolon),
+        b',' => Some(Symbol::Comma),
+        b'=' => Some(Symbol::Equals),
+        b'+' => Some(Symbol::Plus),
+        b'-' => Some(Symbol::Minus),
+        b'*' => Some(Symbol::Star),
+        b'<' => Some(Symbol::Less),
+        _ => None,
+    }
+}
+
+/// The longest symbol at the front, and what follows it.
+#[tactic(auto, unfolding(crate::specs::Scan::symbol_front))]
+fn symbol_at(bytes: &[u8]) -> Option<(Symbol, &[u8])>
+    ensures value { symbol_front bytes.now ≡ option_map (λ f. (f.0, f.1.now)) result }
+    ensures shorter { IfSome result (λ f. length f.1.now ≤ length bytes.now) }
+{
+    match bytes {
+        [b'+', b'+', rest @ ..] => Some((Symbol::PlusPlus, rest)),
+        [b'=', b'=', rest @ ..] => Some((Symbol::EqualsEquals, rest)),
+        [b'!', b'=', rest @ ..] => Some((Symbol::NotEquals, rest)),
+        [byte, rest @ ..] => {
+            let symbol = single_symbol(*byte)?;
+            Some((symbol, rest))
+        }
+        [] => None,
+    }
+}
+
+/// The token at the front, which is no blank, line feed or comment, and what follows it.
+#[tactic(auto, unfolding(crate::specs::Scan::front_of))]
+pub(crate) fn scan(bytes: &[u8]) -> Result<(Token<'_>, &[u8]), Misspelling>
+    ensures value { (row : ℕ) → front_of row bytes.now ≡ seen row result }
+    ensures within { IsWithin (length bytes.now) result }
+    ensures token { IfOk result (λ f. IsToken f.0) }
+{
+    let [byte, rest @ ..] = bytes else {
+        return Ok((Token::End, bytes));
+    };
+    match byte {
+        b'a'..=b'z' | b'A'..=b'Z' => scan_name(bytes),
+        b'0'..=b'9' => scan_number(bytes),
+        b'"' => scan_text(rest),
+        _ => match symbol_at(bytes) {
+            Some((symbol, rest)) => Ok((Token::Symbol(symbol), rest)),
+            None if matches!(byte, b' '..=b'~') => Err(fault_at(TokenFault::BadToken, 0)),
+            None => Err(fault_at(TokenFault::BadByte, 0)),
+        },
+    }
+}

@@ -1,0 +1,49 @@
+//! Names that have to be new.
+ghost use Rattle.std.specs.Prelude.{◌≡◌, ℕ, List, [], ◌∷◌, ◌++◌, IfErr, IfOk, None, Some, false, not, true};
+ghost use Rattle.iso_script_lexer.specs.Piece.{Piece};
+ghost use Rattle.iso_script_statements.specs.Faults.{IsFaultOf, IsMemory, IsMemoryOr, IsUnexpected};
+ghost use Rattle.iso_script_statements.specs.Names.{Knows, is_among};
+ghost use Rattle.iso_script_statements.specs.Pieces.{name_next};
+
+use crate::fault::{ScriptError, ScriptFaultKind};
+use crate::parser::Parser;
+use iso_script_lexer::token::Token;
+use std::alloc::AllocError;
+use std::collections::BTreeSet;
+
+/// Adds a name to those seen, and answers whether it is new.
+pub fn claim<'a>(seen: &mut BTreeSet<&'a str>, name: &'a str) -> Result<bool, AllocError>
+    ensures { (names : List (List ℕ)) → Knows seen.old names
+        → IfOk result (λ fresh. (fresh ≡ not (is_among names name.now)) × Knows seen.new (names ++ name.now ∷ [])) }
+{
+    Ok(seen.insert(name)?)
+}
+
+impl<'a> Parser<'a> {
+    /// A name that is none of those seen, and is added to them. Where it is one of them, the fault has this kind.
+    pub fn new_name(
+        &mut self,
+        seen: &mut BTreeSet<&'a str>,
+        kind: ScriptFaultKind,
+    ) -> Result<&'a str, ScriptError>
+        ensures found { IfOk result (λ n. name_next self.old.lexer ≡ Some (n.now, self.new.lexer)) }
+        ensures fresh { (names : List (List ℕ)) → Knows seen.old names
+            → IfOk result (λ n. (is_among names n.now ≡ false) × Knows seen.new (names ++ n.now ∷ [])) }
+        ensures only { (names : List (List ℕ)) → Knows seen.old names
+            → (n : List ℕ) (rest : List Piece) → name_next self.old.lexer ≡ Some (n, rest)
+            → is_among names n ≡ false → IfErr result IsMemory }
+        ensures taken { (names : List (List ℕ)) → Knows seen.old names
+            → (n : List ℕ) (rest : List Piece) → name_next self.old.lexer ≡ Some (n, rest)
+            → is_among names n ≡ true → IfErr result (IsMemoryOr kind) }
+        ensures unexpected { name_next self.old.lexer ≡ None → IfErr result (IsFaultOf (IsUnexpected self.old.lexer)) }
+    {
+        let Token::Name(name) = self.lexer.peek().0 else {
+            return Err(self.unexpected());
+        };
+        if !claim(seen, name)? {
+            return Err(self.fault_here(kind));
+        }
+        self.lexer.advance();
+        Ok(name)
+    }
+}

@@ -1,0 +1,169 @@
+ghost use Rattle.std.specs.Prelude.{ℕ, suc, ◌≡◌, ◌≢◌, ◌≤◌, ◌↔◌, List, [], Some, None, IsTrue, MatchResult, IfErr, is_some, length, option_map};
+ghost use Rattle.iso_script_lexer.specs.Lexical.{HasPieces};
+ghost use Rattle.iso_script_lexer.specs.Piece.{Piece, tail};
+ghost use Rattle.iso_script_lexer.specs.Tokens.{after, after_word, text_of};
+ghost use Rattle.iso_model.specs.declared.limits.TheConstants.{FILE_BYTES};
+ghost use Rattle.iso_script_statements.specs.Faults.{IsFaultOf, IsUnexpected, IsUnopened};
+ghost use Rattle.iso_script_statements.specs.Pieces.{name_ahead, name_next, row_in, text_next};
+
+use crate::fault::{ScriptError, ScriptFaultKind};
+use iso_script_lexer::lexer::Lexer;
+use iso_script_lexer::symbol::Symbol;
+use iso_script_lexer::text::QuotedText;
+use iso_script_lexer::token::Token;
+use iso_script_lexer::word::Word;
+use std::alloc::Global;
+
+/// A script that is being read, at the token that is next.
+#[derive(Drop)]
+pub struct Parser<'a> {
+    pub alloc: Global,
+    pub lexer: Lexer<'a>,
+}
+
+impl<'a> Parser<'a> {
+    /// At the first token of a script.
+    pub fn new(alloc: Global, bytes: &'a [u8]) -> Parser<'a>
+        requires { length bytes.now ≤ FILE_BYTES }
+        ensures { HasPieces 1 bytes.now result.lexer }
+    {
+        Parser {
+            alloc,
+            lexer: Lexer::new(bytes),
+        }
+    }
+
+    /// The fault at the token that is next, where the grammar does not allow it. What is no token has a kind
+    /// of its own, and so has 2^63, which only the minus of a literal may precede.
+    pub fn unexpected(&self) -> ScriptError
+        ensures { IsFaultOf (IsUnexpected self.now.lexer) result }
+    {
+        let (token, place) = self.lexer.peek();
+        let kind = match token {
+            Token::Bad(fault) => ScriptFaultKind::from(fault),
+            Token::Number(number) if i64::try_from(number).is_err() =>
+                ScriptFaultKind::NumberTooBig,
+            Token::End => ScriptFaultKind::EndOfInput,
+            _ => ScriptFaultKind::Expected,
+        };
+        ScriptError::fault(kind, place)
+    }
+
+    /// A fault of what was read before, placed at the token that is next.
+    pub fn fault_here(&self, kind: ScriptFaultKind) -> ScriptError
+        ensures { IsFaultOf (λ k. k ≡ kind) result }
+    {
+        ScriptError::fault(kind, self.lexer.peek().1)
+    }
+
+    /// Goes past a symbol, which has to be next.
+    pub fn expect(&mut self, symbol: Symbol) -> Result<(), ScriptError>
+        ensures { MatchResult result
+            (λ _. after symbol self.old.lexer ≡ Some self.new.lexer)
+            (λ e. (after symbol self.old.lexer ≡ None) × IsFaultOf (IsUnexpected self.old.lexer) e) }
+    {
+        if self.lexer.takes(symbol) {
+            Ok(())
+        } else {
+            Err(self.unexpected())
+        }
+    }
+
+    /// Goes past a reserved word, which has to be next.
+    pub fn expect_word(&mut self, word: Word) -> Result<(), ScriptError>
+        ensures { MatchResult result
+            (λ _. after_word word self.old.lexer ≡ Some self.new.lexer)
+            (λ e. (after_word word self.old.lexer ≡ None) × IsFaultOf (IsUnexpected self.old.lexer) e) }
+    {
+        if self.lexer.takes_word(word) {
+            Ok(())
+        } else {
+            Err(self.unexpected())
+        }
+    }
+
+    /// Goes past a name, which has to be next.
+    pub fn name(&mut self) -> Result<&'a str, ScriptError>
+        ensures { MatchResult result
+            (λ n. name_next self.old.lexer ≡ Some (n.now, self.new.lexer))
+            (λ e. (name_next self.old.lexer ≡ None) × IsFaultOf (IsUnexpected self.old.lexer) e) }
+    {
+        match self.lexer.peek().0 {
+            Token::Name(name) => {
+                self.lexer.advance();
+                Ok(name)
+            }
+            _ => Err(self.unexpected()),
+        }
+    }
+
+    /// The name that is next.
+    pub fn name_ahead(&self) -> Option<&'a str>
+        ensures { name_ahead self.now.lexer ≡ option_map (λ n. n.now) result }
+    {
+        match self.lexer.peek().0 {
+            Token::Name(name) => Some(name),
+            _ => None,
+        }
+    }
+
+    /// Goes past a text, which has to be next.
+    pub fn text(&mut self) -> Result<QuotedText<'a>, ScriptError>
+        ensures { MatchResult result
+            (λ t. text_next self.old.lexer ≡ Some (text_of t, self.new.lexer))
+            (λ e. (text_next self.old.lexer ≡ None) × IsFaultOf (IsUnexpected self.old.lexer) e) }
+    {
+        match self.lexer.peek().0 {
+            Token::Text(text) => {
+                self.lexer.advance();
+                Ok(text)
+            }
+            _ => Err(self.unexpected()),
+        }
+    }
+
+    /// Goes past an opening symbol, which has to be next, where so many may be opened. Answers how many more may be.
+    pub fn open(&mut self, symbol: Symbol, left: u32) -> Result<u32, ScriptError>
+        ensures opened { MatchResult result
+            (λ more. (left ≡ suc more) × (after symbol self.old.lexer ≡ Some self.new.lexer))
+            (λ e. (more : ℕ) → left ≡ suc more → after symbol self.old.lexer ≡ None) }
+        ensures fault { IfErr result (IsFaultOf (IsUnopened symbol self.old.lexer)) }
+    {
+        if !self.is_at(symbol) {
+            return Err(self.unexpected());
+        }
+        let Some(more) = left.checked_sub(1) else {
+            return Err(self.fault_here(ScriptFaultKind::TooDeep));
+        };
+        self.lexer.advance();
+        Ok(more)
+    }
+
+    /// Whether this symbol is next.
+    pub fn is_at(&self, symbol: Symbol) -> bool
+        ensures { result ≡ is_some (after symbol self.now.lexer) }
+    {
+        matches!(self.lexer.peek().0, Token::Symbol(next) if next.is(symbol))
+    }
+
+    /// Whether this reserved word is next.
+    pub fn is_at_word(&self, word: Word) -> bool
+        ensures { result ≡ is_some (after_word word self.now.lexer) }
+    {
+        matches!(self.lexer.peek().0, Token::Word(next) if next.is(word))
+    }
+
+    /// Whether nothing is next.
+    pub fn is_at_end(&self) -> bool
+        ensures { IsTrue result ↔ (self.now.lexer ≡ []) }
+    {
+        matches!(self.lexer.peek().0, Token::End)
+    }
+
+    /// The row of the token that is next, in a block whose opening brace has this many lines above its own.
+    pub fn row_in(&self, above: u32) -> u32
+        ensures { self.now.lexer ≢ [] → result ≡ row_in above self.now.lexer }
+    {
+        self.lexer.peek().1.line.saturating_sub(above)
+    }
+}

@@ -1,0 +1,209 @@
+//! Statements without bodies.
+ghost use Rattle.std.specs.Prelude.{◌≡◌, List, ℕ, MatchResult};
+ghost use Rattle.iso_model.specs.Syntax.{Term, plain};
+ghost use Rattle.iso_model.specs.SyntaxView.{form_of, term_of};
+ghost use Rattle.iso_script_statements.specs.Faults.{IsMemory};
+ghost use Rattle.iso_script_statements.specs.Parsing.{Parses};
+ghost use Rattle.iso_script_statements.specs.Statements.{IsBinding, IsDisplay, IsSimple, binding_of, is_display, simple_next, simple_of, with_one, with_two};
+ghost use Rattle.iso_script_statements.specs.declared.simple.Simple.TheVariants.{Assume, Fail, Let, One, Two};
+
+use crate::fault::{ScriptError, ScriptFaultKind};
+use crate::parser::Parser;
+use iso_model::limits::DISPLAY_BYTES;
+use iso_model::text::Text;
+use iso_model::tree::{Expr, Form};
+use iso_script_lexer::symbol::Symbol;
+use iso_script_lexer::token::Token;
+use iso_script_lexer::word::Word;
+use std::alloc::Global;
+
+/// A statement of one expression.
+#[derive(Clone, Copy)]
+pub enum OneOperand {
+    Print,
+    Assert,
+    ClearProp,
+    SetLocale,
+    DeleteFile,
+}
+
+impl OneOperand {
+    /// The statement of this expression.
+    fn form(self, value: Expr) -> Form
+        ensures { form_of result ≡ plain (with_one self (term_of value)) }
+    {
+        match self {
+            OneOperand::Print => Form::Print(value),
+            OneOperand::Assert => Form::Assert(value),
+            OneOperand::ClearProp => Form::ClearProp(value),
+            OneOperand::SetLocale => Form::SetLocale(value),
+            OneOperand::DeleteFile => Form::DeleteFile(value),
+        }
+    }
+}
+
+/// A statement of two expressions.
+#[derive(Clone, Copy)]
+pub enum TwoOperands {
+    AssertEqual,
+    SetProp,
+    WriteFile,
+    AppendFile,
+}
+
+impl TwoOperands {
+    /// The statement of these expressions.
+    fn form(self, first: Expr, second: Expr) -> Form
+        ensures { form_of result ≡ plain (with_two self (term_of first) (term_of second)) }
+    {
+        match self {
+            TwoOperands::AssertEqual => Form::AssertEqual(first, second),
+            TwoOperands::SetProp => Form::SetProp(first, second),
+            TwoOperands::WriteFile => Form::WriteFile(first, second),
+            TwoOperands::AppendFile => Form::AppendFile(first, second),
+        }
+    }
+}
+
+/// A statement that begins with a word of its own and has no body.
+#[derive(Clone, Copy)]
+pub enum Simple {
+    One(OneOperand),
+    Two(TwoOperands),
+    Let,
+    Assume,
+    Fail,
+}
+
+/// The simple statement that a reserved word begins.
+fn simple_of(word: Word) -> Option<Simple>
+    ensures { result ≡ simple_of word }
+{
+    match word {
+        Word::Let => Some(Simple::Let),
+        Word::Print => Some(Simple::One(OneOperand::Print)),
+        Word::Assert => Some(Simple::One(OneOperand::Assert)),
+        Word::AssertEqual => Some(Simple::Two(TwoOperands::AssertEqual)),
+        Word::Assume => Some(Simple::Assume),
+        Word::Fail => Some(Simple::Fail),
+        Word::SetProp => Some(Simple::Two(TwoOperands::SetProp)),
+        Word::ClearProp => Some(Simple::One(OneOperand::ClearProp)),
+        Word::SetLocale => Some(Simple::One(OneOperand::SetLocale)),
+        Word::WriteFile => Some(Simple::Two(TwoOperands::WriteFile)),
+        Word::AppendFile => Some(Simple::Two(TwoOperands::AppendFile)),
+        Word::DeleteFile => Some(Simple::One(OneOperand::DeleteFile)),
+        _ => None,
+    }
+}
+
+/// Whether a text may be a display text or a reason: it has 1 to 200 bytes, and neither the first nor the last
+/// is a space.
+fn is_display(text: &[u8]) -> bool
+    ensures { result ≡ is_display text.now }
+{
+    let [first, ..] = text else {
+        return false;
+    };
+    text.len() <= DISPLAY_BYTES as usize && *first != b' ' && text[text.len() - 1] != b' '
+}
+
+/// An expression with its name.
+fn named(alloc: Global, name: &str, value: Expr) -> Result<(Text, Expr), ScriptError>
+    ensures { MatchResult result (λ b. binding_of b ≡ (name.now, term_of value)) IsMemory }
+{
+    Ok((Text::copied(alloc, name)?, value))
+}
+
+impl Parser<'_> {
+    /// The simple statement whose word is next.
+    pub(crate) fn simple(&self) -> Option<Simple>
+        ensures { result ≡ simple_next self.now.lexer }
+    {
+        match self.lexer.peek().0 {
+            Token::Word(word) => simple_of(word),
+            _ => None,
+        }
+    }
+
+    /// What follows the word of a simple statement.
+    pub(crate) fn simple_form(&mut self, simple: Simple) -> Result<Form, ScriptError>
+        ensures { Parses form_of (IsSimple simple) result self.old.lexer self.new.lexer }
+    {
+        match simple {
+            Simple::One(operand) => self.of_one(operand),
+            Simple::Two(operands) => self.of_two(operands),
+            Simple::Let => self.definition(),
+            Simple::Assume => self.assumption(),
+            Simple::Fail => self.failure(),
+        }
+    }
+
+    /// The expression of a statement of one.
+    fn of_one(&mut self, operand: OneOperand) -> Result<Form, ScriptError>
+        ensures { Parses form_of (IsSimple (One operand)) result self.old.lexer self.new.lexer }
+    {
+        let value = self.expression_before(Symbol::Semicolon)?;
+        Ok(operand.form(value))
+    }
+
+    /// The expressions of a statement of two.
+    fn of_two(&mut self, operands: TwoOperands) -> Result<Form, ScriptError>
+        ensures { Parses form_of (IsSimple (Two operands)) result self.old.lexer self.new.lexer }
+    {
+        let first = self.expression_before(Symbol::Comma)?;
+        let second = self.expression_before(Symbol::Semicolon)?;
+        Ok(operands.form(first, second))
+    }
+
+    /// What follows `let`.
+    fn definition(&mut self) -> Result<Form, ScriptError>
+        ensures { Parses form_of (IsSimple Let) result self.old.lexer self.new.lexer }
+    {
+        let (name, value) = self.binding()?;
+        Ok(Form::Let(name, value))
+    }
+
+    /// What follows `assume`.
+    fn assumption(&mut self) -> Result<Form, ScriptError>
+        ensures { Parses form_of (IsSimple Assume) result self.old.lexer self.new.lexer }
+    {
+        let condition = self.expression_before(Symbol::Comma)?;
+        let reason = self.display()?;
+        self.expect(Symbol::Semicolon)?;
+        Ok(Form::Assume(condition, reason))
+    }
+
+    /// What follows `fail`.
+    fn failure(&mut self) -> Result<Form, ScriptError>
+        ensures { Parses form_of (IsSimple Fail) result self.old.lexer self.new.lexer }
+    {
+        let message = self.text()?;
+        self.expect(Symbol::Semicolon)?;
+        Ok(Form::Fail(Text::new(message.decode(self.alloc)?)))
+    }
+
+    /// A name, and the expression that it gets.
+    pub(crate) fn binding(&mut self) -> Result<(Text, Expr), ScriptError>
+        ensures { Parses binding_of IsBinding result self.old.lexer self.new.lexer }
+    {
+        let name = self.name()?;
+        self.expect(Symbol::Equals)?;
+        let value = self.expression_before(Symbol::Semicolon)?;
+        named(self.alloc, name, value)
+    }
+
+    /// A display text or a reason.
+    pub fn display(&mut self) -> Result<Text, ScriptError>
+        ensures { Parses (λ (t : List ℕ). t) IsDisplay result self.old.lexer self.new.lexer }
+    {
+        let Token::Text(quoted) = self.lexer.peek().0 else {
+            return Err(self.unexpected());
+        };
+        let text = Text::new(quoted.decode(self.alloc)?);
+        if !is_display(text.as_str().as_bytes()) {
+            return Err(self.fault_here(ScriptFaultKind::BadDisplay));
+        }
+        self.lexer.advance();
+        Ok(text)
+    }
+}

@@ -1,0 +1,102 @@
+//! Statements and bodies.
+ghost use Rattle.std.specs.Prelude.{◌∷◌, ℕ};
+ghost use Rattle.iso_script_lexer.specs.Piece.{word_at};
+ghost use Rattle.iso_script_lexer.specs.declared.word.Word.TheVariants as W;
+ghost use Rattle.iso_model.specs.SyntaxView.{form_of, stmt_of};
+ghost use Rattle.iso_script_statements.specs.Parsing.{Parses};
+ghost use Rattle.iso_script_statements.specs.Statements.{IsBlock, IsBody, IsElse, IsStatement, IsStatements, body_of};
+
+use crate::fault::ScriptError;
+use crate::parser::Parser;
+use iso_model::limits::{BODY_DEPTH, PARENTHESES};
+use iso_model::tree::{Form, Stmt};
+use iso_script_lexer::symbol::Symbol;
+use iso_script_lexer::word::Word;
+
+impl Parser<'_> {
+    /// A block: a body, with rows that count from 1 on the line of its opening brace.
+    pub fn block(&mut self) -> Result<Vec<Stmt>, ScriptError>
+        ensures { Parses body_of IsBlock result self.old.lexer self.new.lexer }
+    {
+        let above = self.lexer.peek().1.line.saturating_sub(1);
+        self.body(BODY_DEPTH, above)
+    }
+
+    /// A body of a block whose opening brace has this many lines above its own, the outermost of so many that may be
+    /// opened.
+    #[cycle(body)]
+    pub fn body(&mut self, bodies: u32, above: u32) -> Result<Vec<Stmt>, ScriptError>
+        ensures { Parses body_of (IsBody bodies above) result self.old.lexer self.new.lexer }
+    {
+        let more = self.open(Symbol::OpenBrace, bodies)?;
+        self.statements(more, above)
+    }
+
+    /// Statements, and the brace that closes them.
+    #[cycle(body)]
+    fn statements(&mut self, bodies: u32, above: u32) -> Result<Vec<Stmt>, ScriptError>
+        ensures { Parses body_of (IsStatements bodies above) result self.old.lexer self.new.lexer }
+    {
+        let mut statements = Vec::new(self.alloc);
+        'statements: while !self.lexer.takes(Symbol::CloseBrace) {
+            let row = self.row_in(above);
+            let form = self.form(bodies, above)?;
+            statements.push(Stmt { row, form })?;
+        }
+        Ok(statements)
+    }
+
+    /// What a statement does.
+    #[cycle(body)]
+    fn form(&mut self, bodies: u32, above: u32) -> Result<Form, ScriptError>
+        ensures { Parses form_of (IsStatement bodies above) result self.old.lexer self.new.lexer }
+    {
+        if let Some(simple) = self.simple() {
+            self.lexer.advance();
+            return self.simple_form(simple);
+        }
+        if self.lexer.takes_word(Word::If) {
+            return self.choice(bodies, above);
+        }
+        if self.lexer.takes_word(Word::Repeat) {
+            return self.repetition(bodies, above);
+        }
+        let (name, value) = self.binding()?;
+        Ok(Form::Assign(name, value))
+    }
+
+    /// What follows `if`.
+    #[cycle(body)]
+    fn choice(&mut self, bodies: u32, above: u32) -> Result<Form, ScriptError>
+        ensures { (r : ℕ) → Parses form_of (λ a ps qs. IsStatement bodies above a (word_at r W.If ∷ ps) qs)
+            result self.old.lexer self.new.lexer }
+    {
+        let condition = self.expression(PARENTHESES)?;
+        let first = self.body(bodies, above)?;
+        let second = self.otherwise(bodies, above)?;
+        Ok(Form::If(condition, first, second))
+    }
+
+    /// The body of an `else`, or none.
+    #[cycle(body)]
+    fn otherwise(&mut self, bodies: u32, above: u32) -> Result<Vec<Stmt>, ScriptError>
+        ensures { Parses body_of (IsElse bodies above) result self.old.lexer self.new.lexer }
+    {
+        if self.lexer.takes_word(Word::Else) {
+            self.body(bodies, above)
+        } else {
+            Ok(Vec::new(self.alloc))
+        }
+    }
+
+    /// What follows `repeat`.
+    #[cycle(body)]
+    fn repetition(&mut self, bodies: u32, above: u32) -> Result<Form, ScriptError>
+        ensures { (r : ℕ) → Parses form_of (λ a ps qs. IsStatement bodies above a (word_at r W.Repeat ∷ ps) qs)
+            result self.old.lexer self.new.lexer }
+    {
+        let count = self.expression(PARENTHESES)?;
+        let body = self.body(bodies, above)?;
+        Ok(Form::Repeat(count, body))
+    }
+}

@@ -1,5 +1,0 @@
-use Rattle.iso_statements.proofs.Unique.{one_block}
-use Rattle.iso_statements.proofs.laws.blocks_are_unique.Goals as goal
-
-pub returns : goal.returns
-returns c = λ a b ps qs rs h k. one_block h k

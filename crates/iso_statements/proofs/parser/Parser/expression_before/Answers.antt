@@ -1,5 +1,0 @@
-use Rattle.iso_statements.proofs.Expressions.{followed_is_before}
-use Rattle.iso_statements.proofs.parser.Parser.expression_before.Goals as goal
-
-pub returns : goal.returns
-returns c = followed_is_before _ _ _ _ _ _ c.in_ok-expression.ensures c.followed.ensures

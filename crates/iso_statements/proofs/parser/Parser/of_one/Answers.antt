@@ -1,5 +1,0 @@
-use Rattle.iso_statements.specs.Statements.{of_one}
-use Rattle.iso_statements.proofs.parser.Parser.of_one.Goals as goal
-
-pub returns : goal.returns
-returns c = rw c.form.ensures (of_one c.in_ok-value.ensures)
