@@ -1,10 +1,11 @@
 -- A function with one place changed, and numbers below a bound.
-use Rattle.std.proofs.Common.{◌≡◌, ℕ, zero, suc, ◌<◌, Bool, true, false, cond, Option, Some, None, ◌⊎◌, inl, inr, refl, sym, ap, subst, ◌∙◌, arith}
+use Rattle.std.proofs.Common.{◌≡◌, ℕ, zero, suc, ◌<◌, ◌≤◌, Bool, true, false, cond, Option, Some, None, ◌⊎◌, inl, inr, refl, sym, ap, subst, ◌∙◌, arith}
 use Rattle.std.proofs.lemmas.Bool.{eqb-true, eq-eqb}
 use Rattle.std.proofs.lemmas.Bool.Decides.{eqb_tells}
 use Rattle.std.proofs.Math.Dec.{eqb}
 use Rattle.std.specs.Option.{option_or}
 use Rattle.iso_isolation.specs.States.{put}
+use Rattle.iso_isolation.specs.Histories.{highest_below}
 use Rattle.iso_isolation.specs.Refusals.{lowest_below}
 
 pub equal_or_not : (m n : ℕ) → (m ≡ n) ⊎ (m ≡ n → ⊥)
@@ -69,3 +70,42 @@ some_below (suc n) test m e = elim (some_by (lowest_below n test) (cond (test n)
   | inl lower ↦ some_below n test m lower
   | inr here ↦ let p = passes (test n) n m here in ap test (sym p.1) ∙ p.0
 ]
+
+-- the highest number that passes a test passes it, and no other that does is higher
+pub record Highest (n : ℕ) (test : ℕ → Bool) (m : ℕ) : Type 0 where
+  pub passes : test m ≡ true
+  pub last : (i : ℕ) → i < n → test i ≡ true → i ≤ m
+
+highest_here : (n m : ℕ) (test : ℕ → Bool) → test n ≡ true → n ≡ m → Highest (suc n) test m
+highest_here n m test t e = record { passes = ap test (sym e) ∙ t; last = λ i lt p. omega arith }
+
+highest_there : (n m : ℕ) (test : ℕ → Bool) → test n ≡ false → Highest n test m → Highest (suc n) test m
+highest_there n m test f h = record {
+  passes = h.passes;
+  last = λ i lt p. elim (equal_or_not i n) [
+    | inl e ↦ let t : test n ≡ true = ap test (sym e) ∙ p in absurd cc
+    | inr ne ↦ h.last i (omega arith) p
+  ];
+}
+
+pub highest : (n : ℕ) (test : ℕ → Bool) (m : ℕ) → highest_below n test ≡ Some m → Highest n test m
+highest zero test m e = absurd cc
+highest (suc n) test m e = by (test n) refl (λ lower. highest n test m lower) e
+  where
+    by : (b : Bool) → test n ≡ b → (highest_below n test ≡ Some m → Highest n test m) → cond b (Some n) (highest_below n test) ≡ Some m
+        → Highest (suc n) test m
+    by true t lower e = highest_here n m test t cc
+    by false f lower e = highest_there n m test f (lower e)
+
+-- where no number below n is the highest that passes a test, each fails it
+pub none_highest : (n : ℕ) (test : ℕ → Bool) → highest_below n test ≡ None → (m : ℕ) → m < n → test m ≡ false
+none_highest zero test e m lt = absurd (omega arith)
+none_highest (suc n) test e m lt = by (test n) refl (λ lower less. none_highest n test lower m less) e
+  where
+    by : (b : Bool) → test n ≡ b → (highest_below n test ≡ None → m < n → test m ≡ false) → cond b (Some n) (highest_below n test) ≡ None
+        → test m ≡ false
+    by true t lower e = absurd cc
+    by false f lower e = elim (equal_or_not m n) [
+      | inl here ↦ ap test here ∙ f
+      | inr ne ↦ lower e (omega arith)
+    ]

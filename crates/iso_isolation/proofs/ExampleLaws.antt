@@ -141,7 +141,7 @@ meet m n s = one_writes (equal_keys (row_at m).lock (row_at n).lock) (row_at m).
       | inr w ↦ inr (first_of_two (row_at n).is_writer (is_key (row_at n).lock s.key) w)
     ])
 
-it_is : (e : Bool) → cond e true false ≡ true → e ≡ true
+pub it_is : (e : Bool) → cond e true false ≡ true → e ≡ true
 it_is true h = refl
 it_is false h = absurd cc
 

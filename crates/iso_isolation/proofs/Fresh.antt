@@ -6,7 +6,7 @@ use Rattle.iso_isolation.specs.States as S
 use Rattle.iso_isolation.specs.States.{Status, Nodes, State, put, is_waiting, is_closing, body_in, with_body, first}
 use Rattle.iso_isolation.specs.Events.{Event, Enter, Step, Leave, Shut, where_some, open_or_barred, stands_in, frames_of, frames_left, ended_well, entering, stepping, shutting, opening_left, barring, finishing, leaving, after}
 use Rattle.iso_isolation.specs.Runs.{is_accepted, is_run, after_all_of, with_steps, steps_needed, full}
-use Rattle.iso_isolation.specs.Histories.{Values, IsHistory, has_no_step}
+use Rattle.iso_isolation.specs.Histories.{IsHistory, has_no_step, is_being_written, standing_value}
 use Rattle.iso_isolation.proofs.Changes.{on_put}
 use Rattle.iso_isolation.proofs.Bodies.{alike_then}
 use Rattle.iso_isolation.proofs.Accepted.{enter_told, step_told, leave_told, shut_told}
@@ -16,7 +16,7 @@ use Rattle.iso_isolation.proofs.Invariant.{source, Kept}
 use Rattle.iso_isolation.proofs.Steps.{alone_there}
 use Rattle.iso_isolation.proofs.Enters as Enters
 use Rattle.iso_isolation.proofs.Shuts as Shuts
-use Rattle.iso_isolation.proofs.Keys.{FreshBut, values}
+use Rattle.iso_isolation.proofs.Keys.{FreshBut, home, value}
 use Rattle.iso_isolation.proofs.Runs.{keeps_event, keeps_run, nothing_inside, run_parts}
 use Rattle.iso_isolation.proofs.Barred.{keeps_first}
 
@@ -168,8 +168,18 @@ module _ {H K V B F R : Type 0} (l : Language H K V B F R) (x : Suite H K V) (pl
     fresh_first : FreshBut l x 0 (first l x).nodes
     fresh_first m c nz = on_put (λ (j : ℕ) (v : Status B F R). Begins x.start j v c) 0 (S.Open []) (λ n. S.Waiting) m (λ e. absurd cc) (λ ne e. absurd cc)
 
-    pub history_values : (h : List Event) → IsHistory l x workers h → Values l x (after_all_of l x (first l x) (full l x (first l x) h))
-    history_values h is =
-        let begun = keeps_first l x plan laws in
-        values l x plan laws (after_all_of l x (first l x) (full l x (first l x) h)) (keeps_run l x plan laws workers (full l x (first l x) h) (first l x) begun is.run)
-        (fresh_full h (first l x) is.no_step begun fresh_first is.run)
+    module _ (h : List Event) (is : IsHistory l x workers h) where
+      abbrev reached : State K V B F R
+      reached = after_all_of l x (first l x) (full l x (first l x) h)
+
+      kept_there : Kept l x reached.nodes
+      kept_there = keeps_run l x plan laws workers (full l x (first l x) h) (first l x) (keeps_first l x plan laws) is.run
+
+      fresh_there : FreshBut l x 0 reached.nodes
+      fresh_there = fresh_full h (first l x) is.no_step (keeps_first l x plan laws) fresh_first is.run
+
+      pub history_value : (k : K) → reached.nodes.flat k ≡ standing_value l x reached k
+      history_value k = value l x plan laws reached.nodes kept_there fresh_there k
+
+      pub history_home : (k : K) → is_being_written l x reached k ≡ false → reached.nodes.flat k ≡ x.start k
+      history_home k none = home l x plan laws reached.nodes kept_there fresh_there k none

@@ -1,10 +1,11 @@
 -- Runs of lists put together, and histories in full.
-use Rattle.std.proofs.Common.{◌≡◌, ℕ, List, [], ◌∷◌, ◌++◌, Bool, true, false, ◌&&◌, refl, sym, ap, ◌∙◌, append_assoc}
+use Rattle.std.proofs.Common.{◌≡◌, ℕ, zero, suc, List, [], ◌∷◌, ◌++◌, replicate, Bool, true, false, ◌&&◌, refl, sym, ap, ◌∙◌, append_assoc}
 use Rattle.iso_isolation.specs.Languages.{Language}
 use Rattle.iso_isolation.specs.Suites.{Suite}
 use Rattle.iso_isolation.specs.States.{State}
-use Rattle.iso_isolation.specs.Events.{Event, after}
-use Rattle.iso_isolation.specs.Runs.{is_accepted, is_run, after_all_of, with_steps, full}
+use Rattle.iso_isolation.specs.Events.{Event, Enter, Step, Leave, Shut, after}
+use Rattle.iso_isolation.specs.Runs.{is_accepted, is_run, after_all_of, with_steps, steps_needed, full, history_of}
+use Rattle.iso_isolation.specs.Histories.{has_no_step}
 
 module _ {H K V B F R : Type 0} (l : Language H K V B F R) (x : Suite H K V) where
   pub after_append : (es fs : List Event) (s : State K V B F R) → after_all_of l x s (es ++ fs) ≡ after_all_of l x (after_all_of l x s es) fs
@@ -38,3 +39,21 @@ module _ {H K V B F R : Type 0} (l : Language H K V B F R) (x : Suite H K V) whe
   pub run_on : (workers : ℕ) (es fs : List Event) (s : State K V B F R) → is_run l x workers s es ≡ true → is_run l x workers (after_all_of l x s es) fs ≡ true
       → is_run l x workers s (es ++ fs) ≡ true
   run_on workers es fs s e f = run_append workers es fs s ∙ both _ _ e f
+
+steps_are_no_history : (i w : ℕ) (es : List Event) → history_of (replicate i (Step w) ++ es) ≡ history_of es
+steps_are_no_history zero w es = refl
+steps_are_no_history (suc i) w es = steps_are_no_history i w es
+
+module _ {H K V B F R : Type 0} (l : Language H K V B F R) (x : Suite H K V) where
+  -- a history in full is that history, but for its Steps
+  pub full_history : (h : List Event) (s : State K V B F R) → has_no_step h ≡ true → history_of (full l x s h) ≡ h
+  full_history [] s clean = refl
+  full_history (Enter w n ∷ h) s clean = ap (λ (g : List Event). Enter w n ∷ g) (full_history h (after_all_of l x s (Enter w n ∷ [])) clean)
+  full_history (Step w ∷ h) s clean = absurd cc
+  full_history (Shut w n ∷ h) s clean = ap (λ (g : List Event). Shut w n ∷ g) (full_history h (after_all_of l x s (Shut w n ∷ [])) clean)
+  full_history (Leave w ∷ h) s clean =
+      let steps = replicate (steps_needed l x s w) (Step w) in
+      let rest = full l x (after_all_of l x s (with_steps l x s (Leave w))) h in
+      ap history_of (append_assoc steps (Leave w ∷ []) rest)
+      ∙ steps_are_no_history (steps_needed l x s w) w (Leave w ∷ rest)
+      ∙ ap (λ (g : List Event). Leave w ∷ g) (full_history h (after_all_of l x s (with_steps l x s (Leave w))) clean)

@@ -1,12 +1,12 @@
 -- Runs and states of the worked examples.
-use Rattle.std.specs.Prelude.{ℕ, Bool, true, false, cond, eqb, leb, ◌||◌, List, [], ◌∷◌, ◌++◌, Option, Some, None}
+use Rattle.std.specs.Prelude.{ℕ, Bool, true, false, cond, eqb, leb, ◌&&◌, ◌||◌, List, [], ◌∷◌, ◌++◌, Option, Some, None}
 use Rattle.iso_isolation.specs.Suites.{Suite, chain}
 use Rattle.iso_isolation.specs.Alone.{run_alone}
 use Rattle.iso_isolation.specs.States as S
 use Rattle.iso_isolation.specs.States.{Status, State, first}
 use Rattle.iso_isolation.specs.Events.{Event, Enter, Step, Leave, Shut}
 use Rattle.iso_isolation.specs.Refusals.{Refused, refusal}
-use Rattle.iso_isolation.specs.Histories.{state_of}
+use Rattle.iso_isolation.specs.Histories.{is_being_written, last_opened, standing_value, state_of}
 use Rattle.iso_isolation.specs.Runs.{is_run, after_all_of, result_of, is_complete}
 use Rattle.iso_isolation.specs.Examples.{Head, Counter, counter, counting, at, test_head, class_head, numbers, shop}
 
@@ -77,12 +77,37 @@ history = Enter 0 1 ∷ Enter 1 4 ∷ Leave 1 ∷ Leave 0 ∷ Enter 0 2 ∷ Ente
 abbrev pub in_full : List Event
 in_full = Enter 0 1 ∷ Enter 1 4 ∷ Step 1 ∷ Leave 1 ∷ Step 0 ∷ Leave 0 ∷ Enter 0 2 ∷ Enter 1 5 ∷ Step 1 ∷ Step 1 ∷ Leave 1 ∷ Step 0 ∷ Step 0 ∷ Leave 0 ∷ []
 
--- a history that ends within tests 2 and 5, and the value of a key after it
+-- class 1 from its Enter to its last Leave as a history, and the same in full
+abbrev pub closed_history : List Event
+closed_history = Enter 0 1 ∷ Leave 0 ∷ Enter 0 2 ∷ Leave 0 ∷ Enter 0 3 ∷ Leave 0 ∷ Shut 0 1 ∷ Leave 0 ∷ []
+
+abbrev pub closed_in_full : List Event
+closed_in_full = Enter 0 1 ∷ Step 0 ∷ Leave 0 ∷ Enter 0 2 ∷ Step 0 ∷ Step 0 ∷ Leave 0 ∷ Enter 0 3 ∷ Step 0 ∷ Leave 0 ∷ Shut 0 1 ∷ Step 0 ∷ Leave 0 ∷ []
+
+-- another run with the same Enters and Leaves: the steps stand elsewhere
+abbrev pub late_steps : List Event
+late_steps = Enter 0 1 ∷ Enter 1 4 ∷ Step 0 ∷ Step 1 ∷ Leave 1 ∷ Leave 0 ∷ Enter 0 2 ∷ Enter 1 5 ∷ Step 0 ∷ Step 1 ∷ Step 0 ∷ Step 1 ∷ Leave 1 ∷ Leave 0 ∷ []
+
+-- class 1, opened by worker 1
+abbrev pub opened_by_1 : List Event
+opened_by_1 = Enter 1 1 ∷ Step 1 ∷ Leave 1 ∷ []
+
+-- a history that ends within tests 2 and 5, and the value of a key after it; where it stands by the last opening, the class of
+-- that opening, and whether the key is being written
 abbrev pub entered_both : List Event
 entered_both = Enter 0 1 ∷ Enter 1 4 ∷ Leave 1 ∷ Leave 0 ∷ Enter 0 2 ∷ Enter 1 5 ∷ []
 
 abbrev pub value_after_history : List Event → ℕ → Option ℕ
 value_after_history h k = (state_of counting shop h).nodes.flat k
+
+abbrev pub standing_after : List Event → ℕ → Option ℕ
+standing_after h k = standing_value counting shop (state_of counting shop h) k
+
+abbrev pub last_opened_after : List Event → ℕ → Option ℕ
+last_opened_after h k = last_opened counting shop (state_of counting shop h) k
+
+abbrev pub is_written_after : List Event → ℕ → Bool
+is_written_after h k = is_being_written counting shop (state_of counting shop h) k
 
 -- A suite for refusals alone: node 1 stands in the root, node 6 in node 3, and all others in node 1. What conflicts is told by
 -- numbers: every node conflicts with each that has number 4 or more.
@@ -149,3 +174,21 @@ why_where same statuses owner e = refusal counting (crowd same false) 2 (crowd_a
 -- the same after a stop
 abbrev pub why_stopped : List CrowdStatus → ℕ → Event → Option Refused
 why_stopped statuses owner e = refusal counting (crowd (λ n. true) true) 2 (crowd_at statuses owner true) e
+
+-- why an event is refused in the first state, on two workers, where all nodes are SAME_THREAD and classes
+abbrev pub why_first : Event → Option Refused
+why_first e = refusal counting (crowd (λ n. true) false) 2 (first counting (crowd (λ n. true) false)) e
+
+-- A suite of one class and one test alone, whose chain is that of test 3 of the shop. Key 1 has no value.
+abbrev pub kiosk : Suite Head ℕ ℕ
+kiosk = record {
+  nodes = 3;
+  parent = λ n. cond (eqb n 2) 1 0;
+  path = λ n. cond (eqb n 2) (2 ∷ 1 ∷ []) (cond (eqb n 1) (1 ∷ []) []);
+  head = λ n. cond (eqb n 1) (class_head 2 true true) (test_head 2 false false 1);
+  is_same_thread = λ n. true;
+  takes = λ n k. eqb n 1 && eqb k 2;
+  takes_write = λ n k. eqb n 1 && eqb k 2;
+  conflict = λ m n. eqb m 1 && eqb n 1;
+  start = λ k. cond (eqb k 2) (Some 7) None;
+}

@@ -1,10 +1,11 @@
 -- Histories: what a run is by its Enters, Leaves and Shuts alone. For running workers, whose steps stand in no list.
-use Rattle.std.specs.Prelude.{◌≡◌, ℕ, ◌<◌, Bool, true, false, List, [], ◌∷◌, ◌++◌, is_some}
+use Rattle.std.specs.Prelude.{◌≡◌, ℕ, zero, suc, ◌<◌, Bool, true, false, cond, ◌&&◌, List, [], ◌∷◌, ◌++◌, Option, Some, None, is_some}
 use Rattle.iso_isolation.specs.Languages.{Content, Language}
-use Rattle.iso_isolation.specs.Suites.{Suite, On, chain}
+use Rattle.iso_isolation.specs.Suites.{Suite, chain, may_write}
 use Rattle.iso_isolation.specs.Alone.{opening}
-use Rattle.iso_isolation.specs.States.{Status, State, is_held, frames_in, first}
-use Rattle.iso_isolation.specs.Events.{Event, Enter, Step, Leave, Shut}
+use Rattle.iso_isolation.specs.States.{State, is_held, frames_in, first}
+use Rattle.iso_isolation.specs.Events.{Event, Enter, Step, Leave, Shut, where_some}
+use Rattle.iso_isolation.specs.Refusals.{any_below}
 use Rattle.iso_isolation.specs.Runs.{is_run, after_all_of, with_steps, full, history_of}
 
 -- Bodies end: those that a run has, which are ready, come nearer to their end by each step.
@@ -23,11 +24,10 @@ has_no_step (Step w ∷ es) = false
 has_no_step (Leave w ∷ es) = has_no_step es
 has_no_step (Shut w n ∷ es) = has_no_step es
 
--- of the unfinished classes at or under a node whose `before_all` was left, the innermost
-pub record Innermost {H K V B F R : Type 0} (x : Suite H K V) (status : ℕ → Status B F R) (w c : ℕ) : Type 0 where
-  pub under : On x w c
-  pub left : is_some (frames_in (status c)) ≡ true
-  pub last : (d : ℕ) → On x w d → is_some (frames_in (status d)) ≡ true → On x d c
+-- the highest of the numbers below n that passes a test
+abbrev pub highest_below : ℕ → (ℕ → Bool) → Option ℕ
+highest_below zero test = None
+highest_below (suc n) test = cond (test n) (Some n) (highest_below n test)
 
 module _ {H K V B F R : Type 0} (l : Language H K V B F R) (x : Suite H K V) where
   -- the state that a history in full gives
@@ -44,14 +44,18 @@ module _ {H K V B F R : Type 0} (l : Language H K V B F R) (x : Suite H K V) whe
     pub history : IsHistory workers (h ++ e ∷ [])
     pub state : state_of (h ++ e ∷ []) ≡ after_all_of l x (state_of h) (with_steps l x (state_of h) e)
 
-  -- Where the values of a key are in a state: at its start, unless an unfinished node holds it for READ_WRITE; and then as the
-  -- opening of the innermost unfinished class at or under that writer left it, or at its start where there is none.
-  pub record Values (s : State K V B F R) : Type 0 where
-    pub home : (k : K) → ((w : ℕ) → is_held (s.nodes.status w) ≡ true → x.takes_write w k ≡ false) → s.nodes.flat k ≡ x.start k
-    pub writer : (w c : ℕ) (k : K) → is_held (s.nodes.status w) ≡ true → x.takes_write w k ≡ true → Innermost x s.nodes.status w c
-        → s.nodes.flat k ≡ (opening l (chain x c) x.start).content k
-    pub writer_alone : (w : ℕ) (k : K) → is_held (s.nodes.status w) ≡ true → x.takes_write w k ≡ true
-        → ((c : ℕ) → On x w c → is_some (frames_in (s.nodes.status c)) ≡ false) → s.nodes.flat k ≡ x.start k
+  -- Of the unfinished classes whose `before_all` was left and which may change a key, the innermost. They stand in one another,
+  -- so it has the highest number.
+  abbrev pub last_opened : State K V B F R → K → Option ℕ
+  last_opened s k = highest_below x.nodes (λ c. is_some (frames_in (s.nodes.status c)) && may_write l x c k)
+
+  -- where a key stands between bodies: as the opening of that class left it, or at its start where there is none
+  abbrev pub standing_value : State K V B F R → Content K V
+  standing_value s k = where_some (last_opened s k) (x.start k) (λ c. (opening l (chain x c) x.start).content k)
+
+  -- whether an unfinished node takes a key for READ_WRITE
+  abbrev pub is_being_written : State K V B F R → K → Bool
+  is_being_written s k = any_below x.nodes (λ n. is_held (s.nodes.status n) && x.takes_write n k)
 
   -- two runs with the same Enters, Leaves and Shuts in the same order, wherever their Steps stand
   pub record SameHistory (workers : ℕ) (es fs : List Event) : Type 0 where

@@ -84,9 +84,13 @@ module _ {H K V B F R : Type 0} (l : Language H K V B F R) (x : Suite H K V) (wo
   is_unfinished_sibling n m =
       not (is_root m) && eqb (x.parent m) (x.parent n) && x.is_same_thread m && not (is_finished (s.nodes.status m))
 
+  -- whether an earlier SAME_THREAD sibling of n isn't finished
+  abbrev pub has_unfinished_sibling : ℕ → Bool
+  has_unfinished_sibling n = any_below n (is_unfinished_sibling n)
+
   -- n is SAME_THREAD and an earlier SAME_THREAD sibling isn't finished
   abbrev pub earlier_sibling : ℕ → Option Refused
-  earlier_sibling n = refuse (x.is_same_thread n && any_below n (is_unfinished_sibling n)) EarlierSibling
+  earlier_sibling n = refuse (x.is_same_thread n && has_unfinished_sibling n) EarlierSibling
 
   -- m is the lowest entered, unfinished node that conflicts with n
   abbrev pub lock_held : ℕ → Option Refused
@@ -120,9 +124,13 @@ module _ {H K V B F R : Type 0} (l : Language H K V B F R) (x : Suite H K V) (wo
   abbrev pub is_unfinished_child : ℕ → ℕ → Bool
   is_unfinished_child n m = not (is_root m) && eqb (x.parent m) n && not (is_finished (s.nodes.status m))
 
+  -- whether a child of n isn't finished
+  abbrev pub has_unfinished_child : ℕ → Bool
+  has_unfinished_child n = any_below x.nodes (is_unfinished_child n)
+
   -- n is open and a child isn't finished
   abbrev pub children_left : ℕ → Option Refused
-  children_left n = refuse (is_open (s.nodes.status n) && any_below x.nodes (is_unfinished_child n)) ChildrenLeft
+  children_left n = refuse (is_open (s.nodes.status n) && has_unfinished_child n) ChildrenLeft
 
   -- the kinds that each event tests, in this order
   abbrev pub kinds : Event → List (Option Refused)

@@ -4,7 +4,9 @@ ghost use Rattle.std.specs.Prelude.{◌≡◌, [], ◌∷◌, ◌++◌, eqb, fal
 ghost use Rattle.iso_isolation.specs.Alone.{run_alone};
 ghost use Rattle.iso_isolation.specs.Events.{Enter, Step, Leave, Shut};
 ghost use Rattle.iso_isolation.specs.Examples.{class_head, counting, numbers, shop, test_head};
-ghost use Rattle.iso_isolation.specs.ExampleRuns.{barred, barred_class, barred_to_its_end, begun_shop, both_left, by_itself, came_to, closed_first, closing, entered_both, finished, history, in_full, is_run_of_shop, is_whole, live, node_of_worker, opened, opened_both, over, readers, refused_after, side_by_side, value_after, value_after_history, waiting, whole, why, why_stopped, why_test, why_where};
+ghost use Rattle.iso_isolation.specs.ExampleRuns.{barred, barred_class, barred_to_its_end, begun_shop, both_left, by_itself, came_to, closed_first, closed_history, closed_in_full, closing, entered_both, finished, history, in_full, is_run_of_shop, is_whole, is_written_after, kiosk, last_opened_after, late_steps, live, node_of_worker, opened, opened_both, opened_by_1, over, readers, refused_after, side_by_side, standing_after, value_after, value_after_history, waiting, whole, why, why_first, why_stopped, why_test, why_where};
+ghost use Rattle.iso_isolation.specs.Histories.{IsHistory, SameHistory};
+ghost use Rattle.iso_isolation.specs.Isolation.{AgreeOn, Gives};
 ghost use Rattle.iso_isolation.specs.Refusals as Why;
 ghost use Rattle.iso_isolation.specs.Runs.{full, history_of};
 
@@ -80,8 +82,27 @@ pub fn history_in_full_has_the_steps_before_each_leave()
     ensures full { full counting shop begun_shop history ≡ in_full }
     ensures accepted { is_run_of_shop in_full ≡ true }
     ensures history { history_of in_full ≡ history }
+    ensures closed { full counting shop begun_shop closed_history ≡ closed_in_full }
+    ensures closed_accepted { is_run_of_shop closed_in_full ≡ true }
     ensures left_by_the_class { value_after_history entered_both 2 ≡ Some 8 }
     ensures at_its_start { value_after_history entered_both 1 ≡ Some 5 }
+    ensures class { last_opened_after entered_both 2 ≡ Some 1 }
+    ensures no_class { last_opened_after entered_both 1 ≡ None }
+    ensures finished_class { last_opened_after closed_history 2 ≡ None }
+    ensures standing { standing_after entered_both 2 ≡ Some 8 }
+    ensures standing_at_start { standing_after entered_both 1 ≡ Some 5 }
+    ensures gathered { is_written_after entered_both 2 ≡ true }
+    ensures own { is_written_after entered_both 1 ≡ true }
+    ensures unwritten { is_written_after closed_history 2 ≡ false }
+{}
+
+/// Worker 0 owns the root, so it enters the top-level classes that are SAME_THREAD; and the worker that entered a class owns it, so it
+/// enters the class's SAME_THREAD children.
+pub fn owner_enters_same_thread_children()
+    ensures top_level { why_first (Enter 0 1) ≡ None }
+    ensures of_root { why_first (Enter 1 1) ≡ Some Why.NotOwner }
+    ensures child { refused_after opened_by_1 (Enter 1 2) ≡ None }
+    ensures of_class { refused_after opened_by_1 (Enter 0 2) ≡ Some Why.NotOwner }
 {}
 
 /// Of the kinds that apply to an Enter the first is answered. Node 3 is entered by worker 1, in a class that worker 0 owns.
@@ -155,4 +176,13 @@ pub fn kinds_of_refusal_have_their_limits()
     ensures barred_holder { why (opened ∷ opened ∷ finished ∷ waiting ∷ barred_class ∷ []) 1 (Enter 1 3) ≡ Some (Why.LockHeld 4) }
     ensures closing_holder { why (opened ∷ opened ∷ finished ∷ waiting ∷ closing ∷ []) 1 (Enter 1 3) ≡ Some (Why.LockHeld 4) }
     ensures closing_parent { why (opened ∷ closing ∷ finished ∷ waiting ∷ []) 1 (Enter 1 3) ≡ Some Why.ParentClosed }
+{}
+
+/// What the laws ask of runs is met: a result that a run gives, two suites that agree on a chain though they differ at a key that it
+/// has no right to, a history, and two runs with one history.
+pub fn runs_give_what_the_laws_ask()
+    ensures given { Gives counting shop 5 (Some (None ∷ Some 5 ∷ Some 6 ∷ [])) }
+    ensures agree { AgreeOn counting shop kiosk 3 2 }
+    ensures history { IsHistory counting shop 3 closed_history }
+    ensures same_history { SameHistory counting shop 3 in_full late_steps }
 {}

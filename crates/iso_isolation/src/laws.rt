@@ -1,13 +1,13 @@
 //! Laws of runs, over any language of bodies and any suite. Each function does nothing: its contract is the law, and is proved.
-ghost use Rattle.std.specs.Prelude.{◌≡◌, ◌++◌, ◌∷◌, [], ℕ, List, Some, true};
+ghost use Rattle.std.specs.Prelude.{◌≡◌, ◌++◌, ◌∷◌, [], ℕ, List, Some, false, true};
 ghost use Rattle.iso_isolation.specs.Events.{Event, Leave, stop};
 ghost use Rattle.iso_isolation.specs.Examples.{counting, shop};
-ghost use Rattle.iso_isolation.specs.Histories.{EndLaws, GoesOn, IsHistory, SameHistory, Values, has_no_step, state_of};
+ghost use Rattle.iso_isolation.specs.Histories.{EndLaws, GoesOn, IsHistory, SameHistory, has_no_step, is_being_written, standing_value, state_of};
 ghost use Rattle.iso_isolation.specs.Isolation.{Isolated, Unaffected};
 ghost use Rattle.iso_isolation.specs.Languages.{BodyLaws, Language};
 ghost use Rattle.iso_isolation.specs.Refusals.{refusal};
 ghost use Rattle.iso_isolation.specs.Refusals as Why;
-ghost use Rattle.iso_isolation.specs.Runs.{after_all_of, is_accepted, result_of};
+ghost use Rattle.iso_isolation.specs.Runs.{after_all_of, full, history_of, is_accepted, result_of};
 ghost use Rattle.iso_isolation.specs.States.{State, first};
 ghost use Rattle.iso_isolation.specs.Suites.{Suite, SuiteLaws};
 
@@ -41,11 +41,22 @@ pub fn history_goes_on<H, K, V, B, F, R>()
         → refusal l x workers (state_of l x h) (Leave w) ≡ Some Why.BodyNotEnded → GoesOn l x workers h (Leave w) }
 {}
 
-/// After a history in full each key stands at its start, unless an unfinished node holds it for READ_WRITE; and then as the
-/// innermost unfinished class at or under that writer whose `before_all` was left has left it, or at its start where there is none.
+/// A history in full is the history with Steps put in: without them it is the history again.
+pub fn history_in_full_has_only_steps_more<H, K, V, B, F, R>()
+    ensures { (l : Language H K V B F R) (x : Suite H K V) (s : State K V B F R) (h : List Event)
+        → has_no_step h ≡ true → history_of (full l x s h) ≡ h }
+{}
+
+/// After a history in full each key stands as the innermost class left it whose `before_all` was left, that isn't finished and
+/// that may change the key, or at its start where there is none; so a key that no unfinished node takes for READ_WRITE stands at
+/// its start.
 pub fn keys_stand_where_histories_tell<H, K, V, B, F, R>()
-    ensures { (l : Language H K V B F R) (x : Suite H K V) → BodyLaws l → SuiteLaws l x
-        → (workers : ℕ) (h : List Event) → IsHistory l x workers h → Values l x (state_of l x h) }
+    ensures value { (l : Language H K V B F R) (x : Suite H K V) → BodyLaws l → SuiteLaws l x
+        → (workers : ℕ) (h : List Event) (k : K) → IsHistory l x workers h
+        → (state_of l x h).nodes.flat k ≡ standing_value l x (state_of l x h) k }
+    ensures home { (l : Language H K V B F R) (x : Suite H K V) → BodyLaws l → SuiteLaws l x
+        → (workers : ℕ) (h : List Event) (k : K) → IsHistory l x workers h
+        → is_being_written l x (state_of l x h) k ≡ false → (state_of l x h).nodes.flat k ≡ x.start k }
 {}
 
 /// Two runs with the same Enters, Leaves and Shuts in the same order give every node the same result, wherever their Steps stand.
