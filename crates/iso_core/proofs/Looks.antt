@@ -1,7 +1,6 @@
 -- What a standing tells of every state that looks so.
 use Rattle.std.proofs.Common.{◌≡◌, ℕ, suc, ◌+◌, ◌-◌, ◌<◌, List, [], ◌∷◌, ◌++◌, length, Option, Some, None, Bool, true, false, ◌&&◌, not, eqb, leb, is_some, option_map, ap, sym, ◌∙◌, arith, refl}
 use Rattle.std.proofs.lemmas.Bool.{lt-leb}
-use Rattle.std.proofs.lemmas.List.{length-map}
 use Rattle.std.specs.List.{list_any}
 use Rattle.std.specs.Option.{option_or}
 use Rattle.iso_core.proofs.Below.{any-alike, any-cut, children-any, lowest-alike}
@@ -22,11 +21,11 @@ use Rattle.iso_plan.specs.Locks.{conflict}
 use Rattle.iso_plan.specs.Modes.{mode}
 use Rattle.iso_plan.specs.Paths.{children, parent}
 use Rattle.iso_plan.specs.Planned.{Planned}
-use Rattle.iso_plan.specs.RowView.{row_of, tree_of}
+use Rattle.iso_plan.specs.RowView.{tree_of}
 use Rattle.iso_plan.specs.Tree.{Row}
 
 pub nodes-are : (p : Planned) → length (tree_of p) ≡ length p.rows
-nodes-are p = length-map p.rows row_of
+nodes-are p = refl
 
 -- what a phase tells of its status
 module _ {B F R : Type 0} where

@@ -1,7 +1,7 @@
 -- Results in a state that a run leads to: the end of a body under way may be put, what it leaves are the results after the Leave, and
 -- finished nodes alone have results.
 use Rattle.std.proofs.Common.{◌≡◌, ℕ, ◌<◌, List, length, Some, None, Bool, true, false, ◌||◌, ◌&&◌, not, cond, is_some, inl, inr, refl, sym, ap, ap₂, subst, ◌∙◌, arith}
-use Rattle.std.proofs.lemmas.List.{get_or-set_same, length-map}
+use Rattle.std.proofs.lemmas.List.{get_or-set_same}
 use Rattle.iso_core.proofs.Inside.{not-inside}
 use Rattle.iso_core.proofs.LanguageLaws.{scripts-laws}
 use Rattle.iso_core.proofs.Leaving.{head-test}
@@ -34,7 +34,7 @@ use Rattle.iso_model.specs.declared.outcome.Outcome.{Outcome}
 use Rattle.iso_model.specs.declared.resource.Resource.{Resource}
 use Rattle.iso_plan.proofs.PathLemmas.{along, path-root, path-step}
 use Rattle.iso_plan.specs.Paths.{IsTree, is_test, parent, path, row_at}
-use Rattle.iso_plan.specs.RowView.{row_of, tree_of}
+use Rattle.iso_plan.specs.RowView.{tree_of}
 use Rattle.iso_plan.specs.Tree.{Row}
 
 -- what a status with a body under way tells
@@ -110,7 +110,7 @@ module _ (r : ResultsView) (t : IsTree (tree_of r.plan)) (s : CoreState) (reache
   keeps = kept r.plan r.start t s reached
 
   count : length tree ≡ length r.plan.rows
-  count = length-map r.plan.rows row_of
+  count = refl
 
   nonzero : (n : ℕ) → 0 < n → n ≡ 0 → ⊥
   nonzero n pos e = absurd (omega arith)

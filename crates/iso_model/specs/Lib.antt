@@ -23,6 +23,7 @@ pub mod ScriptView
 pub mod Statements
 pub mod Steps
 pub mod Syntax
+pub mod SyntaxCodes
 pub mod SyntaxView
 pub mod Tests
 pub mod Texts

@@ -68,12 +68,14 @@ replicate-column x zero = refl
 replicate-column x (suc n) = ap (λ m. replicate m x) (sym (add-one n)) ∙ sym (replicate_more n x) ∙ ap (λ xs. xs ++ x ∷ []) (replicate-column x n)
 
 -- a node has its value in a column of all nodes
-pub within-column : {A : Type 0} (rows : List Row) (f : ℕ → A) (xs : List A) (n : ℕ) → xs ≡ column f (length (map row_of rows)) → n < length rows → n < length xs
-within-column rows f xs n e h =
-    let count : length xs ≡ length rows = ap length e ∙ length-column f (length (map row_of rows)) ∙ length-map rows row_of in
+pub within-column : {A : Type 0} (f : ℕ → A) (xs : List A) (n m : ℕ) → xs ≡ column f n → m < n → m < length xs
+within-column f xs n m e h =
+    let count : length xs ≡ n = ap length e ∙ length-column f n in
     omega arith
 
-pub in-column : {A : Type 0} (rows : List Row) (f : ℕ → A) (xs : List A) (n : ℕ) (d : A) → xs ≡ column f (length (map row_of rows)) → n < length rows → get_or xs n d ≡ f n
-in-column rows f xs n d e h =
-    let listed : n < length (map row_of rows) = rw (length-map rows row_of) h in
-    column-read f xs (length (map row_of rows)) n d e listed
+-- and in a list of what stands for the values of one
+pub within-views : {A B : Type 0} (g : B → A) (f : ℕ → A) (xs : List B) (n m : ℕ) → map g xs ≡ column f n → m < n → m < length xs
+within-views g f xs n m e h = rw (length-map xs g) at (within-column f (map g xs) n m e h)
+
+pub view-read : {A B : Type 0} (g : B → A) (f : ℕ → A) (xs : List B) (n m : ℕ) (d : B) (none : A) → map g xs ≡ column f n → m < n → g (get_or xs m d) ≡ f m
+view-read g f xs n m d none e h = sym (get_or-map g xs m d none (within-views g f xs n m e h)) ∙ column-read f (map g xs) n m none e h

@@ -8,5 +8,6 @@ pub mod LawLemmas
 pub mod LockLemmas
 pub mod ModeLemmas
 pub mod PathLemmas
+pub mod Sharing
 pub mod TopLemmas
 pub mod TreeLemmas

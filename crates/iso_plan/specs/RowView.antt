@@ -1,5 +1,5 @@
 -- What the rows of a plan stand for.
-use Rattle.std.specs.Prelude.{List, map}
+use Rattle.std.specs.Prelude.{List}
 use Rattle.std.specs.Arc.{arc_value}
 use Rattle.iso_model.specs.ScriptView.{class_head_of, test_head_of}
 use Rattle.iso_model.specs.Scripts.{ClassTitle}
@@ -22,7 +22,7 @@ row_of r = record { parent = r.parent; kind = kind_of r.kind; name = r.name; tit
 
 -- the tree of a plan
 abbrev pub tree_of : Planned → List T.Row
-tree_of p = map row_of p.rows
+tree_of p = p.rows
 
 -- what is written before a class's members
 abbrev pub title_of : ScriptClass → ClassTitle

@@ -57,11 +57,9 @@ pub struct Plan {
 
 impl Model for Plan {
     ghost use Rattle.std.specs.Prelude.{map};
-    ghost use Rattle.iso_model.specs.contracts.tree.Form as form;
-    ghost use Rattle.iso_model.specs.contracts.tree.Stmt as stmt;
-    ghost use Rattle.iso_model.specs.contracts.tree.Expr as expr;
     ghost use Rattle.iso_model.specs.ChainView.{innermost_first};
     ghost use Rattle.iso_model.specs.Rights.{access_in};
+    ghost use Rattle.iso_model.specs.SyntaxCodes.{acts_code};
     ghost use Rattle.std.specs.Coded.{codes};
     ghost use Rattle.iso_plan.specs.IsPlan.{IsPlan};
     ghost use Rattle.iso_plan.specs.Planned.{Planned};
@@ -69,9 +67,9 @@ impl Model for Plan {
 
     ghost Value = { Planned };
 
-    ghost coded = { Prim.hlevel (codes, form.the_row.coded, stmt.the_row.coded, expr.the_row.coded) };
+    ghost coded = { Prim.hlevel (codes, acts_code) };
 
-    ghost view = { λ p. record { rows = p.rows.items; settings = p.settings } };
+    ghost view = { λ p. record { rows = map row_of p.rows.items; settings = p.settings } };
 
     ghost invariant = { λ p. IsPlan (map row_of p.rows.items) p.settings (map (λ c. c.items) p.children.items)
         (map (λ c. innermost_first c.items) p.chains.items) (map access_in p.rights.items) p.keys.items

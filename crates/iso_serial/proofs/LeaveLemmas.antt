@@ -1,6 +1,6 @@
 -- A node is taken back: what it may change stands as it stood when it was lent, and what it takes comes home at its start.
 use Rattle.std.proofs.Common.{◌≡◌, ◌≢◌, ℕ, ◌<◌, List, length, Option, Some, None, Bool, true, false, cond, is_some, option_map, inl, inr, refl, sym, ap, ap₂, ◌∙◌, arith}
-use Rattle.std.proofs.lemmas.List.{get_or_past, length-map}
+use Rattle.std.proofs.lemmas.List.{get_or_past}
 use Rattle.std.specs.Option.{option_or}
 use Rattle.iso_locks.specs.Moves.{is_written}
 use Rattle.iso_locks.specs.Onward.{earlier-self}
@@ -14,7 +14,7 @@ use Rattle.iso_plan.specs.Locks.{locks}
 use Rattle.iso_plan.specs.NodeChains.{node_rights}
 use Rattle.iso_plan.specs.Paths.{IsTree, parent}
 use Rattle.iso_plan.specs.Planned.{Planned}
-use Rattle.iso_plan.specs.RowView.{row_of, tree_of}
+use Rattle.iso_plan.specs.RowView.{tree_of}
 use Rattle.iso_plan.specs.Tree.{Row}
 use Rattle.iso_settings.specs.Worlds.{Start, starting_value_in}
 use Rattle.iso_store.specs.Histories.{History}
@@ -47,7 +47,7 @@ module _ (plan : Planned) (world : Start) (t : IsTree (tree_of plan)) (u v w : T
   home = giving_back n back
 
   inside : n < length tr
-  inside = let count : length tr ≡ length plan.rows = length-map plan.rows row_of in omega arith
+  inside = within
 
   mark-slot : (i : ℕ) → slot (marked v n).values i ≡ cond (may_write tr n i) (slot v.values i) None
   mark-slot i =

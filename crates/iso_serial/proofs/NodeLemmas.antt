@@ -1,6 +1,6 @@
 -- A node from the moment it is lent to the moment it was taken back, and the first moment of a run.
 use Rattle.std.proofs.Common.{◌≡◌, ℕ, zero, suc, ◌<◌, List, [], length, map, reverse, replicate, get_or, Option, Some, None, Bool, true, false, cond, is_some, option_map, Result, Ok, Err, OnOk, IsOk, MatchResult, inl, inr, refl, sym, ap, ap₂, ◌∙◌, subst, arith}
-use Rattle.std.proofs.lemmas.List.{length-map, length-replicate}
+use Rattle.std.proofs.lemmas.List.{length-replicate}
 use Rattle.iso_lifecycle.specs.ResultViews.{AreComplete, AreOpen, ResultsView, has_result, no_results}
 use Rattle.iso_lifecycle.specs.Subjects.{opening_of, own_frame, started, subject}
 use Rattle.iso_locks.proofs.LawLemmas.{own-mark}
@@ -16,7 +16,7 @@ use Rattle.iso_plan.specs.KeyTable.{keys}
 use Rattle.iso_plan.specs.NodeChains.{heads_on}
 use Rattle.iso_plan.specs.Paths.{IsTree, children, is_on, is_test, is_under, parent, path, row_at}
 use Rattle.iso_plan.specs.Planned.{Planned}
-use Rattle.iso_plan.specs.RowView.{row_of, tree_of}
+use Rattle.iso_plan.specs.RowView.{tree_of}
 use Rattle.iso_plan.specs.Tree.{Row}
 use Rattle.iso_settings.specs.Worlds.{Start, starting_value_in}
 use Rattle.iso_store.specs.Histories.{History}
@@ -178,7 +178,6 @@ module _ (plan : Planned) (world : Start) where
   -- at the beginning nothing is lent, and nothing has a result
   pub first-stands : (s : Standing) → IsTree tr → s.vault ≡ whole_vault plan world → s.tray ≡ empty_tray plan world → s.frames.items ≡ [] → s.results ≡ no_results plan world → Stands plan world 0 s
   first-stands s t ve te fe re =
-      let count : length tr ≡ length plan.rows = length-map plan.rows row_of in
       let rooted = t.rooted in
       record {
         entered = record {

@@ -1,7 +1,7 @@
 -- The results while nodes are under way, as bodies' ends are put.
 use Rattle.std.proofs.Common.{◌≡◌, ◌≢◌, ℕ, zero, suc, ◌<◌, List, [], ◌∷◌, length, get_or, set, Bool, true, false, ◌||◌, ◌&&◌, not, ◌⊎◌, inl, inr, refl, sym, ap, ap₂, ◌∙◌, subst, arith}
 use Rattle.std.proofs.lemmas.Bool.{cases_eq, cases_lt}
-use Rattle.std.proofs.lemmas.List.{get_or-set_other, get_or-set_same, get_or_past, length-map, length-set}
+use Rattle.std.proofs.lemmas.List.{get_or-set_other, get_or-set_same, get_or_past, length-set}
 use Rattle.iso_lifecycle.specs.ResultViews.{AreComplete, AreOpen, ResultsView, has_result, is_barred, is_barring, is_ended, is_opened, is_some_barring, with_done_of}
 use Rattle.iso_lifecycle.specs.Subjects.{own_frame, subject}
 use Rattle.iso_lifecycle.specs.declared.kind.BodyKind.TheVariants.{BeforeAll, Test, AfterAll}
@@ -10,7 +10,7 @@ use Rattle.iso_plan.proofs.ChildLemmas.{listed}
 use Rattle.iso_plan.proofs.PathLemmas.{IsBelow, along, eq_not, path-root, path-step, under-le, under-self, under-step}
 use Rattle.iso_plan.specs.Paths.{IsTree, children, is_test, is_under, parent, path, row_at}
 use Rattle.iso_plan.specs.Planned.{Planned}
-use Rattle.iso_plan.specs.RowView.{row_of, tree_of}
+use Rattle.iso_plan.specs.RowView.{tree_of}
 use Rattle.iso_plan.specs.Tree.{Row}
 use Rattle.iso_settings.specs.Worlds.{Start}
 use Rattle.iso_serial.specs.Standing.{IsUnderWay}
@@ -197,8 +197,7 @@ module _ (plan : Planned) (world : Start) (v : ResultsView) (t : IsTree (tree_of
 
   pub inside-all : (n : ℕ) → Inside n → (m : ℕ) → 0 < m → m < length v.plan.rows → parent tr m ≡ n → has_result v m ≡ true
   inside-all n all m mp mw same =
-      let count : length tr ≡ length v.plan.rows = length-map v.plan.rows row_of in
-      let l = listed tr m mp (omega arith) in
+      let l = listed tr m mp mw in
       let w = subst (λ (j : ℕ). l.place < length (children tr j)) same l.within in
       let at : get_or (children tr n) l.place 0 ≡ m = ap (λ (j : ℕ). get_or (children tr j) l.place 0) (sym same) ∙ l.is in
       ap (has_result v) (sym at) ∙ all l.place w

@@ -1,6 +1,6 @@
 -- From one stage of a node to the next: its bodies' ends are put, and frames come and go.
 use Rattle.std.proofs.Common.{◌≡◌, ℕ, ◌+◌, ◌-◌, ◌<◌, List, [], ◌∷◌, ◌++◌, length, map, reverse, take, set, slice_index_or, Option, Some, None, Bool, true, false, ◌||◌, ◌&&◌, not, Result, Ok, Err, OnOk, refl, sym, ap, ap₂, ◌∙◌, subst, arith}
-use Rattle.std.proofs.lemmas.List.{length-append, length-map, map-append, reverse-append}
+use Rattle.std.proofs.lemmas.List.{length-append, map-append, reverse-append}
 use Rattle.iso_lifecycle.specs.BodyViews.{EqualAt}
 use Rattle.iso_lifecycle.specs.ResultViews.{AreOpen, CanPut, ResultsView, has_result, is_barred, is_ended, with_done_of}
 use Rattle.iso_lifecycle.specs.Subjects.{Subject, begun, begun_closing, begun_opening, begun_testing, classes_of, enclosing, opening_of, rights_of_subject, started, subject}
@@ -15,7 +15,7 @@ use Rattle.iso_plan.proofs.PathLemmas.{chain-step, path-step, under-self}
 use Rattle.iso_plan.specs.NodeChains.{chain_classes, chain_test, class_heads}
 use Rattle.iso_plan.specs.Paths.{IsTree, children, is_test, parent, path, row_at}
 use Rattle.iso_plan.specs.Planned.{Planned}
-use Rattle.iso_plan.specs.RowView.{row_of, tree_of}
+use Rattle.iso_plan.specs.RowView.{tree_of}
 use Rattle.iso_plan.specs.Tree as T
 use Rattle.iso_plan.specs.Tree.{root, class_node, test_node, Row}
 use Rattle.iso_settings.specs.Worlds.{Start}
@@ -82,7 +82,7 @@ module _ (plan : Planned) (world : Start) where
   within-at v n e h = subst (λ (pl : Planned). n < length pl.rows) (sym e) h
 
   pub inside-tree : (n : ℕ) → n < length plan.rows → n < length tr
-  inside-tree n h = let count : length tr ≡ length plan.rows = length-map plan.rows row_of in omega arith
+  inside-tree n h = h
 
   -- the bodies begin where the tray stands
   pub test-begins : (n : ℕ) (u : TrayView) → IsTree tr → 0 < n → n < length plan.rows → is_test (row_at tr n).kind ≡ true → HoldsAlong plan world n u → IsAsOpened plan world (parent tr n) u

@@ -1,7 +1,7 @@
 -- A tray as nodes are lent to it and taken back.
 use Rattle.std.proofs.Common.{◌≡◌, ◌≢◌, ℕ, zero, suc, ◌<◌, ◌≤◌, List, length, set, Option, Some, None, Bool, true, false, ◌&&◌, cond, is_some, option_map, ◌⊎◌, inl, inr, refl, sym, ap, ap₂, ◌∙◌, subst, arith}
 use Rattle.std.proofs.lemmas.Bool.{cases_eq, cases_lt}
-use Rattle.std.proofs.lemmas.List.{get_or-set_other, get_or-set_same, get_or_past, length-map, length-set}
+use Rattle.std.proofs.lemmas.List.{get_or-set_other, get_or-set_same, get_or_past, length-set}
 use Rattle.std.specs.Option.{option_or}
 use Rattle.iso_lifecycle.specs.BodyViews.{EqualAt}
 use Rattle.iso_lifecycle.specs.Subjects.{opening_of, rights_of_subject, subject}
@@ -23,7 +23,7 @@ use Rattle.iso_plan.specs.Locks.{conflict, locks, taken}
 use Rattle.iso_plan.specs.NodeChains.{node_rights}
 use Rattle.iso_plan.specs.Paths.{IsTree, column, is_test, is_under, parent, row_at}
 use Rattle.iso_plan.specs.Planned.{Planned}
-use Rattle.iso_plan.specs.RowView.{row_of, tree_of}
+use Rattle.iso_plan.specs.RowView.{tree_of}
 use Rattle.iso_plan.specs.Tree.{Row}
 use Rattle.iso_settings.specs.Worlds.{Start, starting_value_in}
 use Rattle.iso_store.specs.Histories.{History}
@@ -255,7 +255,7 @@ module _ (plan : Planned) (world : Start) (t : IsTree (tree_of plan)) where
 
   module _ (u w : TrayView) (n : ℕ) (pos : 0 < n) (within : n < length plan.rows) (h : HoldsAlong plan world (parent tr n) u) (v : IsAsOpened plan world (parent tr n) u) (l : IsLentTo n u w) where
     inside : n < length tr
-    inside = let count : length tr ≡ length plan.rows = length-map plan.rows row_of in omega arith
+    inside = within
 
     lent-start : (i : ℕ) → is_written (locks tr n) i ≡ true → value_in w.values i ≡ Some (start (key_at tr i))
     lent-start i e =

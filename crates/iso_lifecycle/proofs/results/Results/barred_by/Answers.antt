@@ -1,8 +1,7 @@
-use Rattle.std.proofs.Common.{◌≡◌, ◌<◌, Some, ℕ, length, ap, arith, subst, sym, ◌∙◌}
-use Rattle.std.proofs.lemmas.List.{length-map}
+use Rattle.std.proofs.Common.{◌≡◌, ◌<◌, Some, ℕ, length, ap, subst, sym, ◌∙◌}
 use Rattle.iso_plan.specs.Paths.{IsTree, parent_of}
 use Rattle.iso_plan.specs.Planned.{Planned}
-use Rattle.iso_plan.specs.RowView.{row_of, tree_of}
+use Rattle.iso_plan.specs.RowView.{tree_of}
 use Rattle.iso_lifecycle.proofs.Barring.{HasParent, found-bars, found-outcome, goes-up, parent-some, root-bars-none}
 use Rattle.iso_lifecycle.specs.ResultViews.{ResultsView}
 use Rattle.iso_lifecycle.proofs.results.Results.barred_by.Goals as goal
@@ -24,7 +23,7 @@ returns-in-Some-barring-clause-outcome c =
     let e : c.self.inside.plan.now ≡ v.plan = ap (λ (u : ResultsView). u.plan) c.self.view_is in
     let tree : IsTree (tree_of v.plan) = subst (λ (q : Planned). IsTree (tree_of q)) e c.nodes_are_a_tree.ensures in
     let up = has_parent c.self.inside.plan.now v c.up.at c.in-Some.class e c.in-Some.ensures in
-    let within : c.args.node < length (tree_of v.plan) = omega (arith, c.requires, length-map v.plan.rows row_of) in
+    let within : c.args.node < length (tree_of v.plan) = c.requires in
     found-outcome v tree c.args.node c.up.at c.in-Some.class c.in-Some-barring.opened.now c.up.invariant up c.in-Some-barring.ensures.opening (sym c.in-Some-barring.ensures.barring) within
 
 pub up-preserved : goal.up-preserved

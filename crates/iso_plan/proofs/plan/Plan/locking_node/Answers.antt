@@ -1,5 +1,5 @@
-use Rattle.std.proofs.Common.{◌≡◌, ◌<◌, map, length, ap, ◌∙◌, arith}
-use Rattle.iso_plan.proofs.Columns.{in-column, within-column}
+use Rattle.std.proofs.Common.{◌<◌, map, length, ap, ◌∙◌, arith}
+use Rattle.iso_plan.proofs.Columns.{column-read, within-column}
 use Rattle.iso_plan.specs.Locks.{locking_node}
 use Rattle.iso_plan.specs.Planned.{Planned}
 use Rattle.iso_plan.specs.RowView.{row_of, tree_of}
@@ -8,17 +8,15 @@ use Rattle.iso_plan.proofs.plan.Plan.locking_node.Goals as goal
 pub index-requires : goal.index-requires
 index-requires c =
     let v = c.self.inside.locking in
-    let rows = c.self.inside.rows.items in
-    let same : rows ≡ c.args.self.now.rows = ap (λ (p : Planned). p.rows) c.self.view_is in
-    let here : c.args.node < length rows = rw same c.requires in
-    let inside = within-column rows (locking_node (map row_of rows)) v.items c.args.node c.self.invariant.lockers_are here in
+    let tree = map row_of c.self.inside.rows.items in
+    let here : c.args.node < length tree = rw (ap tree_of c.self.view_is) c.requires in
+    let inside = within-column (locking_node tree) v.items (length tree) c.args.node c.self.invariant.lockers_are here in
     omega (arith, v.ok.0)
 
 pub returns : goal.returns
 returns c =
     let v = c.self.inside.locking in
-    let rows = c.self.inside.rows.items in
-    let same : rows ≡ c.args.self.now.rows = ap (λ (p : Planned). p.rows) c.self.view_is in
-    let here : c.args.node < length rows = rw same c.requires in
-    c.index.ensures ∙ in-column rows (locking_node (map row_of rows)) v.items c.args.node c.index.result.now c.self.invariant.lockers_are here
+    let tree = map row_of c.self.inside.rows.items in
+    let here : c.args.node < length tree = rw (ap tree_of c.self.view_is) c.requires in
+    c.index.ensures ∙ column-read (locking_node tree) v.items (length tree) c.args.node c.index.result.now c.self.invariant.lockers_are here
     ∙ ap (λ (p : Planned). locking_node (tree_of p) c.args.node) c.self.view_is

@@ -5,7 +5,7 @@ use Rattle.iso_lifecycle.specs.ResultViews.{has_result, outcome_in, outcome_of_v
 use Rattle.iso_locks.specs.Vaults.{busy}
 use Rattle.iso_plan.specs.Paths.{children, parent}
 use Rattle.iso_plan.specs.Planned.{Planned}
-use Rattle.iso_plan.specs.RowView.{row_of, tree_of}
+use Rattle.iso_plan.specs.RowView.{tree_of}
 use Rattle.iso_settings.specs.Worlds.{Start}
 use Rattle.iso_serial.proofs.NodeLemmas.{child-at, done-by, entry, further-on, further-still, left-further, left-stands, lends, may-lend, may-take, may-undo, ok-by, on-ok-is, on-one, waits-by}
 use Rattle.iso_serial.specs.Standing.{GoesFurther, Stands, StandsAtEnd}
@@ -18,7 +18,6 @@ children-get-requires t c =
     let plan : Planned = c.args.self.now.plan.now in
     let child = child-at plan c.args.self.now.world.now c.args.class c.children.child-index c.children-child-items.result.now c.children-child-items.ensures c.children-test.true in
     let w = child.within in
-    let count : length (tree_of plan) ≡ length plan.rows = length-map plan.rows row_of in
     let rows : length c.children.standing.results.plan.rows ≡ length plan.rows = ap (λ (p : Planned). length p.rows) c.children.invariant.stands.results.plan_is in
     omega arith
 
@@ -29,7 +28,6 @@ children-node-requires t c =
     let child = child-at plan world c.args.class c.children.child-index c.children-child-items.result.now c.children-child-items.ensures c.children-test.true in
     let n = get_or c.children-child-items.result.now c.children.child-index 0 in
     let w = child.within in
-    let count : length (tree_of plan) ≡ length plan.rows = length-map plan.rows row_of in
     let within : n < length plan.rows = omega arith in
     let below : parent (tree_of plan) n < n = c.requires.entered.tree.below n child.positive in
     let less : c.args.class < n = subst (λ (j : ℕ). j < n) child.parent_is below in

@@ -1,9 +1,8 @@
 use Rattle.std.proofs.Common.{◌≡◌, ◌<◌, ◌+◌, false, length, get_or, sym, ap, ◌∙◌, arith}
-use Rattle.std.proofs.lemmas.List.{length-map}
 use Rattle.std.proofs.lemmas.Result.{err_from_is_err_and}
 use Rattle.iso_lifecycle.specs.ResultViews.{outcome_in}
 use Rattle.iso_plan.specs.Paths.{children, is_test, row_at}
-use Rattle.iso_plan.specs.RowView.{row_of, tree_of}
+use Rattle.iso_plan.specs.RowView.{tree_of}
 use Rattle.iso_tap.specs.ReportBlocks.{point}
 use Rattle.iso_tap.specs.ReportLines.{subtest_line}
 use Rattle.iso_tap.specs.Reports.{is_ok, level, numbered, reported}
@@ -18,7 +17,7 @@ level-reported-requires g t c κs known =
     let all = c.children-children.ensures in
     let here : c.children.i < length (children tree c.args.node) = rw (sym all) c.children-test.true in
     let is : IsChild tree c.args.node child = rw all (child-at tree c.args.node c.children.i 0 c.nodes_are_a_tree.ensures here) in
-    let within : child < length c.args.plan.now.rows = rw (sym (length-map c.args.plan.now.rows row_of)) is.2 in
+    let within : child < length c.args.plan.now.rows = is.2 in
     let after = is.1 in
     let measure = c.decreases in
     let indent = c.requires.indent in
@@ -44,7 +43,7 @@ reported-returns-in_err-subtest g t c =
     let tree = tree_of plan in
     let outcome = outcome_in c.args.results.now in
     let n = c.args.node in
-    let within : n < length tree = rw (length-map plan.rows row_of) c.requires.within in
+    let within : n < length tree = c.requires.within in
     let last = point c.args.indent c.args.number (is_ok tree outcome n) (row_at tree n).title (outcome n) in
     prints_as (prints_stopped last _ c.from_residual.ensures.0 c.in_err-subtest.ensures) _
     (sym (text-down tree outcome c.nodes_are_a_tree.ensures c.args.indent c.args.number n c.requires.above within))
@@ -55,7 +54,7 @@ reported-returns g t c =
     let tree = tree_of plan in
     let outcome = outcome_in c.args.results.now in
     let n = c.args.node in
-    let within : n < length tree = rw (length-map plan.rows row_of) c.requires.within in
+    let within : n < length tree = c.requires.within in
     let last = prints_as c.point.ensures _ (point-same c.args.indent c.args.number c.is_ok-ok.ensures c.title.ensures c.outcome.ensures) in
     prints_as (prints_then _ c.in_ok-subtest.ensures last) _
     (sym (text-down tree outcome c.nodes_are_a_tree.ensures c.args.indent c.args.number n c.requires.above within))

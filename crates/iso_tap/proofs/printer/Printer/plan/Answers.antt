@@ -1,7 +1,5 @@
 use Rattle.std.proofs.Common.{◌++◌, List, ℕ, codes, ap}
-use Rattle.std.proofs.lemmas.List.{length-map}
 use Rattle.std.specs.Fmt.{decimal}
-use Rattle.iso_plan.specs.RowView.{row_of}
 use Rattle.iso_tap.proofs.PrinterLemmas.{prints_as, prints_then}
 use Rattle.iso_tap.proofs.printer.Printer.plan.Goals as goal
 
@@ -9,4 +7,4 @@ pub returns : goal.returns
 returns g c =
     let header : List ℕ = codes "workers " ++ decimal c.args.workers ++ codes "\n" in
     let first = prints_as c.in_ok-pieces.ensures header (ap (λ (n : ℕ). codes "workers " ++ decimal n ++ codes "\n") c.from.ensures) in
-    rw (length-map c.args.plan.now.rows row_of) (prints_then c.nodes.result first c.nodes.ensures)
+    prints_then c.nodes.result first c.nodes.ensures
