@@ -4,11 +4,11 @@
 top=$(cd "$(dirname "${BASH_SOURCE[0]}")/.." && pwd -P)
 built=$top/.build
 
-# The digest of all sources: every file of crates/ but what rt keeps in out/, and crates.txt. A changed, new, renamed
-# or deleted file changes it.
+# The digest of all sources: every file of crates/ but what rt keeps in out/ and each crate's README.md, and crates.txt. A
+# changed, new, renamed or deleted file changes it.
 sources_digest() (
     cd "$top" || exit
-    { find crates -type d -name out -prune -o -type f -print0 && printf 'crates.txt\0'; } \
+    { find crates -type d -name out -prune -o -type f ! -path 'crates/*/README.md' -print0 && printf 'crates.txt\0'; } \
         | LC_ALL=C sort -z | xargs -0 sha256sum | sha256sum | cut -d ' ' -f 1
 )
 
