@@ -13,15 +13,15 @@ use Rattle.iso_script_statements.specs.Names.{is_among}
 use Rattle.iso_script_statements.specs.Pieces.{name_next}
 use Rattle.iso_script_statements.specs.Statements.{IsBlock}
 use Rattle.iso_script_statements.proofs.Taken.{name_is}
-use Rattle.iso_heads.specs.Blocks.{Blocks, IsBlocks}
-use Rattle.iso_heads.specs.Displays.{IsDisplayed}
-use Rattle.iso_heads.specs.Marks.{Marks, IsMarks}
-use Rattle.iso_heads.specs.Variables.{Variables, IsVariables}
-use Rattle.iso_heads.specs.Variables as V
-use Rattle.iso_heads.proofs.Blocks.{one_blocks}
-use Rattle.iso_heads.proofs.Displays.{one_display}
-use Rattle.iso_heads.proofs.Marks.{one_marks}
-use Rattle.iso_heads.proofs.Variables.{one_variables}
+use Rattle.iso_script.specs.Blocks.{Blocks, IsBlocks}
+use Rattle.iso_script.specs.Displays.{IsDisplayed}
+use Rattle.iso_script.specs.Marks.{Marks, IsMarks}
+use Rattle.iso_script.specs.Variables.{Variables, IsVariables}
+use Rattle.iso_script.specs.Variables as V
+use Rattle.iso_script.proofs.Blocks.{one_blocks}
+use Rattle.iso_script.proofs.Displays.{one_display}
+use Rattle.iso_script.proofs.Marks.{one_marks}
+use Rattle.iso_script.proofs.Variables.{one_variables}
 use Rattle.iso_script.specs.Grammar.{title, name_of, IsTest, a_test, IsMember, as_test, as_class, IsClass, a_class, HasMembers}
 use Rattle.iso_script.proofs.Unique.{same_symbol, not_one_word, told_test, told_class}
 

@@ -1,7 +1,13 @@
+pub mod Blocks
 pub mod Classes
+pub mod Displays
+pub mod Distinct
+pub mod Marks
 pub mod Members
+pub mod Readings
 pub mod Scopes
 pub mod Scripts
 pub mod Shorter
 pub mod Unique
+pub mod Variables
 pub mod Views

@@ -9,9 +9,9 @@ use Rattle.iso_script_lexer.specs.declared.symbol.Symbol.TheVariants.{CloseBrace
 use Rattle.iso_script_lexer.proofs.Afters.{after-Some, after-symbol_at}
 use Rattle.iso_model.specs.Scripts.{Member, Members, no_members, member}
 use Rattle.iso_model.specs.ScriptView.{members_of}
-use Rattle.iso_heads.specs.Readings.{AreRead}
-use Rattle.iso_heads.proofs.Distinct.{is_among-before}
-use Rattle.iso_heads.proofs.Readings.{goes_on}
+use Rattle.iso_script.specs.Readings.{AreRead}
+use Rattle.iso_script.proofs.Distinct.{is_among-before}
+use Rattle.iso_script.proofs.Readings.{goes_on}
 use Rattle.iso_script.specs.Grammar.{name_of, names_of, IsMember, HasMembers, has_members, IsMembers, closed, and_then, IsNewMember}
 use Rattle.iso_script.proofs.Unique.{no_member, one_member}
 

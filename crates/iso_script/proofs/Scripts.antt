@@ -10,8 +10,8 @@ use Rattle.iso_script_lexer.specs.Piece.{Piece, name_at}
 use Rattle.iso_script_lexer.specs.Tokens.{after_word}
 use Rattle.iso_script_lexer.specs.declared.word.Word.TheVariants as W
 use Rattle.iso_model.specs.Scripts.{Class, Script}
-use Rattle.iso_heads.specs.Readings.{AreRead}
-use Rattle.iso_heads.proofs.Readings.{goes_on}
+use Rattle.iso_script.specs.Readings.{AreRead}
+use Rattle.iso_script.proofs.Readings.{goes_on}
 use Rattle.iso_script_statements.specs.Pieces.{name_next}
 use Rattle.iso_script_statements.proofs.Taken.{named}
 use Rattle.iso_script.specs.Grammar.{IsTopClass, IsScript, a_script}

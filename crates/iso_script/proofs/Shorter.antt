@@ -2,14 +2,14 @@
 use Rattle.std.proofs.Common.{ℕ, ◌<◌, ◌≤◌, List, [], ◌∷◌, Option, length, arith, ap}
 use Rattle.iso_script_lexer.specs.Piece.{Piece}
 use Rattle.iso_model.specs.Scripts.{Test, Class, Member, Members}
-use Rattle.iso_heads.specs.Blocks.{Blocks, IsBlocks, IsWritten}
-use Rattle.iso_heads.specs.Displays.{IsDisplayed, none_displayed, displayed}
-use Rattle.iso_heads.specs.Marks.{Marks, IsMarks, IsMarking}
-use Rattle.iso_heads.specs.Readings.{AreRead}
-use Rattle.iso_heads.specs.Variables.{Variables, IsVariables, IsDeclared}
-use Rattle.iso_heads.proofs.Blocks.{written_shorter}
-use Rattle.iso_heads.proofs.Marks.{marking_shorter}
-use Rattle.iso_heads.proofs.Variables.{declared_shorter}
+use Rattle.iso_script.specs.Blocks.{Blocks, IsBlocks, IsWritten}
+use Rattle.iso_script.specs.Displays.{IsDisplayed, none_displayed, displayed}
+use Rattle.iso_script.specs.Marks.{Marks, IsMarks, IsMarking}
+use Rattle.iso_script.specs.Readings.{AreRead}
+use Rattle.iso_script.specs.Variables.{Variables, IsVariables, IsDeclared}
+use Rattle.iso_script.proofs.Blocks.{written_shorter}
+use Rattle.iso_script.proofs.Marks.{marking_shorter}
+use Rattle.iso_script.proofs.Variables.{declared_shorter}
 use Rattle.iso_script_statements.specs.Statements.{a_display}
 use Rattle.iso_script_statements.proofs.Shorter.{block_shorter}
 use Rattle.iso_script.specs.Grammar.{IsTest, a_test, IsMember, as_test, as_class, IsClass, a_class, has_members, IsMembers, closed, and_then}

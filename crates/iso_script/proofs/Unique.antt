@@ -6,16 +6,16 @@ use Rattle.iso_script_lexer.specs.declared.symbol.Symbol.{Symbol}
 use Rattle.iso_script_lexer.specs.declared.word.Word.{Word}
 use Rattle.iso_script_lexer.specs.declared.word.Word.TheVariants as W
 use Rattle.iso_model.specs.Scripts.{Test, Class, class, Member, class_member, test_member, Members, Script}
-use Rattle.iso_heads.specs.Blocks.{IsBlocks}
-use Rattle.iso_heads.specs.Marks.{Marks, Marking, IsMarking}
-use Rattle.iso_heads.specs.Readings.{AreRead}
-use Rattle.iso_heads.specs.Variables.{Variables, IsVariables}
-use Rattle.iso_heads.specs.Variables as V
-use Rattle.iso_heads.proofs.Blocks.{one_blocks}
-use Rattle.iso_heads.proofs.Displays.{one_display}
-use Rattle.iso_heads.proofs.Marks.{one_marks}
-use Rattle.iso_heads.proofs.Readings as R
-use Rattle.iso_heads.proofs.Variables.{one_variables}
+use Rattle.iso_script.specs.Blocks.{IsBlocks}
+use Rattle.iso_script.specs.Marks.{Marks, Marking, IsMarking}
+use Rattle.iso_script.specs.Readings.{AreRead}
+use Rattle.iso_script.specs.Variables.{Variables, IsVariables}
+use Rattle.iso_script.specs.Variables as V
+use Rattle.iso_script.proofs.Blocks.{one_blocks}
+use Rattle.iso_script.proofs.Displays.{one_display}
+use Rattle.iso_script.proofs.Marks.{one_marks}
+use Rattle.iso_script.proofs.Readings as R
+use Rattle.iso_script.proofs.Variables.{one_variables}
 use Rattle.iso_script_statements.specs.Statements.{IsBlock}
 use Rattle.iso_script_statements.proofs.Unique.{one_block}
 use Rattle.iso_script.specs.Grammar.{test, title, IsTest, a_test, IsMember, as_test, as_class, IsClass, a_class, HasMembers, has_members, IsMembers, closed, and_then, IsTopClass, IsScript, a_script, Reads}

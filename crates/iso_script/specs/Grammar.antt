@@ -19,12 +19,12 @@ use Rattle.iso_model.specs.declared.place.Lifecycle.TheVariants.{BeforeAll, Afte
 use Rattle.iso_model.specs.declared.script.Member as M
 use Rattle.iso_script_statements.specs.Names.{is_among}
 use Rattle.iso_script_statements.specs.Statements.{IsBlock}
-use Rattle.iso_heads.specs.Blocks.{Blocks, IsBlocks}
-use Rattle.iso_heads.specs.Displays.{IsDisplayed}
-use Rattle.iso_heads.specs.Marks.{Marks, IsMarks}
-use Rattle.iso_heads.specs.Readings.{AreRead}
-use Rattle.iso_heads.specs.Variables.{Variables, IsVariables}
-use Rattle.iso_heads.specs.Variables as V
+use Rattle.iso_script.specs.Blocks.{Blocks, IsBlocks}
+use Rattle.iso_script.specs.Displays.{IsDisplayed}
+use Rattle.iso_script.specs.Marks.{Marks, IsMarks}
+use Rattle.iso_script.specs.Readings.{AreRead}
+use Rattle.iso_script.specs.Variables.{Variables, IsVariables}
+use Rattle.iso_script.specs.Variables as V
 
 -- a test, from its marks, its name, its display text and its body
 abbrev pub test : Marks → List ℕ → Option (List ℕ) → Acts → Test

@@ -1,1 +1,6 @@
+pub mod Blocks
+pub mod Displays
 pub mod Grammar
+pub mod Marks
+pub mod Readings
+pub mod Variables

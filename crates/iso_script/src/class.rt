@@ -1,7 +1,7 @@
 //! Classes and their members.
 ghost use Rattle.std.specs.Prelude.{◌≡◌, ℕ, suc, List, [], ◌∷◌, ◌++◌, IfOk, MatchResult, Some, None, is_some, not, ◌&&◌};
-ghost use Rattle.iso_heads.specs.Marks.{marks_of};
-ghost use Rattle.iso_heads.specs.Variables.{KnowAll};
+ghost use Rattle.iso_script.specs.Marks.{marks_of};
+ghost use Rattle.iso_script.specs.Variables.{KnowAll};
 ghost use Rattle.iso_script_lexer.specs.Tokens.{after_word};
 ghost use Rattle.iso_script_lexer.specs.declared.word.Word.TheVariants as W;
 ghost use Rattle.iso_model.specs.ScriptView.{class_of, member_of};
@@ -9,12 +9,12 @@ ghost use Rattle.iso_script.specs.Grammar.{HasMembers, IsClass, IsNewMember, IsT
 ghost use Rattle.iso_script_statements.specs.Names.{Knows};
 ghost use Rattle.iso_script_statements.specs.Parsing.{Parses};
 
+use crate::block::read_blocks;
+use crate::display::read_display;
 use crate::head::class_head;
+use crate::mark::{Marks, read_marks};
 use crate::test::read_test;
-use iso_heads::block::read_blocks;
-use iso_heads::display::read_display;
-use iso_heads::mark::{Marks, read_marks};
-use iso_heads::variable::{Variables, read_variables};
+use crate::variable::{Variables, read_variables};
 use iso_model::limits::CLASS_DEPTH;
 use iso_model::script::{Class, Member};
 use iso_model::text::Text;

@@ -1,12 +1,12 @@
 //! What classes give to their tests.
 ghost use Rattle.std.specs.Prelude.{◌≡◌};
-ghost use Rattle.iso_heads.specs.Blocks.{blocks_of};
-ghost use Rattle.iso_heads.specs.Blocks as B;
+ghost use Rattle.iso_script.specs.Blocks.{blocks_of};
+ghost use Rattle.iso_script.specs.Blocks as B;
 ghost use Rattle.iso_model.specs.ScriptView.{class_head_of};
 ghost use Rattle.iso_script.specs.Grammar.{class_head, statements_in};
 ghost use Rattle.iso_script_statements.specs.Statements.{body_of};
 
-use iso_heads::block::Blocks;
+use crate::block::Blocks;
 use iso_model::heads::{ClassHead, Mark, Variable};
 use iso_model::tree::Stmt;
 use std::alloc::Global;

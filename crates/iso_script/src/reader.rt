@@ -1,6 +1,6 @@
 //! Whole scripts.
 ghost use Rattle.std.specs.Prelude.{◌≡◌, ◌<◌, List, [], IfOk, MatchResult, Err, length, map};
-ghost use Rattle.iso_heads.specs.Readings.{AreRead};
+ghost use Rattle.iso_script.specs.Readings.{AreRead};
 ghost use Rattle.iso_model.specs.Scripts as S;
 ghost use Rattle.iso_model.specs.ScriptView.{class_of, script_of};
 ghost use Rattle.iso_model.specs.declared.limits.TheConstants.{FILE_BYTES};
@@ -11,7 +11,7 @@ use crate::class::read_top_class;
 use iso_model::limits::FILE_BYTES;
 use iso_model::script::{Class, Script};
 use iso_model::text::Text;
-use iso_script_lexer::token::Place;
+use iso_script_lexer::token::Position;
 use iso_script_lexer::word::Word;
 use iso_script_statements::fault::{ScriptError, ScriptFaultKind};
 use iso_script_statements::parser::Parser;
@@ -33,7 +33,7 @@ pub fn read_script(alloc: Global, bytes: &[u8]) -> Result<Script, ScriptError>
         → result ≡ Err (ScriptError.Fault (record { kind = ScriptFaultKind.TooLong; line = 1; column = 1 })) }
 {
     if bytes.len() > FILE_BYTES as usize {
-        let start = Place { line: 1, column: 1 };
+        let start = Position { line: 1, column: 1 };
         return Err(ScriptError::fault(ScriptFaultKind::TooLong, start));
     }
     let mut parser = Parser::new(alloc, bytes);

@@ -1,12 +1,12 @@
 //! Tests.
 ghost use Rattle.std.specs.Prelude.{◌≡◌};
-ghost use Rattle.iso_heads.specs.Marks.{marks_of};
+ghost use Rattle.iso_script.specs.Marks.{marks_of};
 ghost use Rattle.iso_model.specs.ScriptView.{test_of};
 ghost use Rattle.iso_script.specs.Grammar.{IsTest};
 ghost use Rattle.iso_script_statements.specs.Parsing.{Parses};
 
-use iso_heads::display::read_display;
-use iso_heads::mark::Marks;
+use crate::display::read_display;
+use crate::mark::Marks;
 use iso_model::heads::TestHead;
 use iso_model::script::Test;
 use iso_model::text::Text;

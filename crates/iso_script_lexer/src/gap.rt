@@ -7,8 +7,8 @@ use crate::cursor::Cursor;
 /// What follows the blanks, line feeds and comments that come next.
 #[tactic(auto, unfolding(crate::specs::Scan::after_gap))]
 pub(crate) fn skip_gap(start: Cursor<'_>) -> Cursor<'_>
-    ensures { (result.place.line, result.rest.now)
-        ≡ after_gap false start.entry.place.line start.entry.rest.now }
+    ensures { (result.position.line, result.rest.now)
+        ≡ after_gap false start.entry.position.line start.entry.rest.now }
 {
     let mut cursor = start;
     'gap: loop {

@@ -9,7 +9,7 @@ use crate::cursor::Cursor;
 use crate::gap::skip_gap;
 use crate::scan::scan;
 use crate::symbol::Symbol;
-use crate::token::{Place, Token};
+use crate::token::{Position, Token};
 use crate::word::Word;
 use iso_model::limits::FILE_BYTES;
 use std::marker::Model;
@@ -18,7 +18,7 @@ use std::marker::Model;
 #[derive(Drop)]
 pub struct Lexer<'a> {
     token: Token<'a>,
-    place: Place,
+    position: Position,
     next: Cursor<'a>,
 }
 
@@ -30,7 +30,7 @@ impl<'a> Model for Lexer<'a> {
 
     ghost Value = { List Piece };
 
-    ghost view = { λ l. front l.place.line l.token (pieces_of l.next.place.line l.next.rest.now) };
+    ghost view = { λ l. front l.position.line l.token (pieces_of l.next.position.line l.next.rest.now) };
 
     ghost invariant = { λ l. IsToken l.token };
 }
@@ -46,33 +46,36 @@ impl<'a> Lexer<'a> {
 
     /// At the token that comes next.
     fn read(cursor: Cursor<'a>) -> Lexer<'a>
-        ensures { result ≡ pieces_of cursor.entry.place.line cursor.entry.rest.now }
+        ensures { result ≡ pieces_of cursor.entry.position.line cursor.entry.rest.now }
     {
         let start = skip_gap(cursor);
         match scan(start.rest) {
             Ok((token, rest)) => Lexer {
                 token,
-                place: start.place,
+                position: start.position,
                 next: start.further(rest),
             },
             Err(misspelling) => {
-                let place = start.place_after(misspelling.offset);
+                let position = start.position_after(misspelling.offset);
                 Lexer {
                     token: Token::Bad(misspelling.fault),
-                    place,
-                    next: Cursor { place, rest: &[] },
+                    position,
+                    next: Cursor {
+                        position,
+                        rest: &[],
+                    },
                 }
             }
         }
     }
 
-    /// What is next, and its place. The place of `End` is the one after the last byte of the script.
-    /// The place of `Bad` is that of the fault, which may lie inside the bytes that are no token.
-    pub fn peek(&self) -> (Token<'a>, Place)
+    /// What is next, and its position. The position of `End` is the one after the last byte of the script.
+    /// The position of `Bad` is that of the fault, which may lie inside the bytes that are no token.
+    pub fn peek(&self) -> (Token<'a>, Position)
         ensures next { self.now ≡ front result.1.line result.0 (tail self.now) }
         ensures token { IsToken result.0 }
     {
-        (self.token, self.place)
+        (self.token, self.position)
     }
 
     /// Goes on to the next token. At `End` it stays there, and after `Bad` comes `End`.

@@ -1,4 +1,4 @@
-//! The lexer of the script language: bytes to tokens, each with its place.
+//! The lexer of the script language: bytes to tokens, each with its position.
 #![tactic(auto)]
 
 mod cursor;

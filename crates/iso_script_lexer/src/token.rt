@@ -2,9 +2,9 @@ use crate::symbol::Symbol;
 use crate::text::QuotedText;
 use crate::word::Word;
 
-/// A place in a script: line and column count from 1, and a column counts bytes.
+/// A position in a script: line and column count from 1, and a column counts bytes.
 #[derive(Clone, Copy, PartialEq, Eq)]
-pub struct Place {
+pub struct Position {
     pub line: u32,
     pub column: u32,
 }

@@ -1,4 +1,4 @@
-use iso_script_lexer::token::{Place, TokenFault};
+use iso_script_lexer::token::{Position, TokenFault};
 use std::alloc::{AllocError, AllocFailed};
 use std::fmt;
 use thiserror::Error;
@@ -89,15 +89,15 @@ pub enum ScriptError {
 impl ScriptError {
     ghost use Rattle.std.specs.Prelude.{◌≡◌};
 
-    /// A fault at this place.
-    pub fn fault(kind: ScriptFaultKind, place: Place) -> ScriptError
+    /// A fault at this position.
+    pub fn fault(kind: ScriptFaultKind, position: Position) -> ScriptError
         ensures { result
-            ≡ ScriptError.Fault (record { kind = kind; line = place.line; column = place.column }) }
+            ≡ ScriptError.Fault (record { kind = kind; line = position.line; column = position.column }) }
     {
         ScriptError::Fault(ScriptFault {
             kind,
-            line: place.line,
-            column: place.column,
+            line: position.line,
+            column: position.column,
         })
     }
 }

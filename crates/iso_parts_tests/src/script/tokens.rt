@@ -1,10 +1,10 @@
-//! Places, faults and tokens, as the description of the script language gives them.
+//! Positions, faults and tokens, as the description of the script language gives them.
 use crate::shared::{check_text, made};
 use iso_script_lexer::lexer::Lexer;
 use iso_script_lexer::symbol::Symbol;
 use iso_script_lexer::text::QuotedText;
 use iso_script_lexer::token::TokenFault::{BadByte, BadToken, NumberTooBig, OpenText, TooLong};
-use iso_script_lexer::token::{Place, Token, TokenFault};
+use iso_script_lexer::token::{Position, Token, TokenFault};
 use iso_script_lexer::word::Word;
 use std::alloc::{AllocError, Global};
 use std::fmt;
@@ -16,9 +16,9 @@ fn first_fault(bytes: &[u8]) -> Option<(TokenFault, u32, u32)> {
     }
     let mut lexer = Lexer::new(bytes);
     for _ in 0..=bytes.len() {
-        let (token, place) = lexer.peek();
+        let (token, position) = lexer.peek();
         match token {
-            Token::Bad(fault) => return Some((fault, place.line, place.column)),
+            Token::Bad(fault) => return Some((fault, position.line, position.column)),
             Token::End => return None,
             _ => lexer.advance(),
         }
@@ -91,46 +91,46 @@ fn spelled(word: Word) -> &'static str {
     }
 }
 
-/// A place and two words, of which the first ends in a space where the second is not empty.
-fn worded(alloc: Global, place: Place, kind: &str, word: &str) -> Result<String, AllocError> {
-    let Place { line, column } = place;
+/// A position and two words, of which the first ends in a space where the second is not empty.
+fn worded(alloc: Global, position: Position, kind: &str, word: &str) -> Result<String, AllocError> {
+    let Position { line, column } = position;
     format!(in alloc; "{line}:{column} {kind}{word}")
 }
 
-/// A place and a number.
-fn numbered(alloc: Global, place: Place, number: u64) -> Result<String, AllocError> {
-    let Place { line, column } = place;
+/// A position and a number.
+fn numbered(alloc: Global, position: Position, number: u64) -> Result<String, AllocError> {
+    let Position { line, column } = position;
     format!(in alloc; "{line}:{column} number {number}")
 }
 
-/// A place and a text, with its length.
-fn quoted(alloc: Global, place: Place, text: QuotedText<'_>) -> Result<String, AllocError> {
-    let Place { line, column } = place;
+/// A position and a text, with its length.
+fn quoted(alloc: Global, position: Position, text: QuotedText<'_>) -> Result<String, AllocError> {
+    let Position { line, column } = position;
     let meant = text.decode(alloc)?;
     let length = meant.len();
     format!(in alloc; "{line}:{column} text {length} {meant}")
 }
 
-/// A place and what is called like one of its variants.
+/// A position and what is called like one of its variants.
 fn called(
     alloc: Global,
-    place: Place,
+    position: Position,
     variant: impl fmt::Debug + Drop,
 ) -> Result<String, AllocError> {
-    let Place { line, column } = place;
+    let Position { line, column } = position;
     format!(in alloc; "{line}:{column} {variant:?}")
 }
 
 /// A token with its line and column, in words.
-fn described(alloc: Global, token: Token<'_>, place: Place) -> Result<String, AllocError> {
+fn described(alloc: Global, token: Token<'_>, position: Position) -> Result<String, AllocError> {
     match token {
-        Token::Name(name) => worded(alloc, place, "name ", name),
-        Token::Number(number) => numbered(alloc, place, number),
-        Token::Text(text) => quoted(alloc, place, text),
-        Token::Word(word) => worded(alloc, place, "word ", spelled(word)),
-        Token::Symbol(symbol) => called(alloc, place, symbol),
-        Token::End => worded(alloc, place, "end", ""),
-        Token::Bad(fault) => called(alloc, place, fault),
+        Token::Name(name) => worded(alloc, position, "name ", name),
+        Token::Number(number) => numbered(alloc, position, number),
+        Token::Text(text) => quoted(alloc, position, text),
+        Token::Word(word) => worded(alloc, position, "word ", spelled(word)),
+        Token::Symbol(symbol) => called(alloc, position, symbol),
+        Token::End => worded(alloc, position, "end", ""),
+        Token::Bad(fault) => called(alloc, position, fault),
     }
 }
 
@@ -141,8 +141,8 @@ fn add_tokens(alloc: Global, bytes: &[u8], all: &mut String) -> Result<(), Alloc
     }
     let mut lexer = Lexer::new(bytes);
     for _ in 0..=bytes.len() {
-        let (token, place) = lexer.peek();
-        all.push_str(described(alloc, token, place)?.as_str())?;
+        let (token, position) = lexer.peek();
+        all.push_str(described(alloc, token, position)?.as_str())?;
         if matches!(token, Token::End) {
             break;
         }

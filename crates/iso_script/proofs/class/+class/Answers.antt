@@ -5,9 +5,9 @@ use Rattle.iso_script_lexer.specs.Tokens.{after}
 use Rattle.iso_script_lexer.specs.declared.symbol.Symbol.TheVariants.{CloseBrace}
 use Rattle.iso_script_lexer.proofs.Afters.{after-symbol_at}
 use Rattle.iso_model.specs.ScriptView.{member_of}
-use Rattle.iso_heads.specs.Variables.{names_of, variables_of}
-use Rattle.iso_heads.proofs.Distinct.{IsDistinct-none, IsDistinct-push}
-use Rattle.iso_heads.proofs.Readings.{read_push}
+use Rattle.iso_script.specs.Variables.{names_of, variables_of}
+use Rattle.iso_script.proofs.Distinct.{IsDistinct-none, IsDistinct-push}
+use Rattle.iso_script.proofs.Readings.{read_push}
 use Rattle.iso_script_statements.specs.Names.{is_among}
 use Rattle.iso_script_statements.specs.Pieces.{name_next}
 use Rattle.iso_script_statements.proofs.Small.{none_is, none_left, some_left}

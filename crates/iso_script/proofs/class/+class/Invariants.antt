@@ -1,8 +1,8 @@
 use Rattle.std.proofs.Common.{◌≡◌, ℕ, ◌+◌, ◌*◌, List, length, map}
 use Rattle.std.specs.List.{IsDistinct}
 use Rattle.std.specs.Str.{bytes_eq}
-use Rattle.iso_heads.specs.Readings.{AreRead}
-use Rattle.iso_heads.specs.Variables.{KnowAll}
+use Rattle.iso_script.specs.Readings.{AreRead}
+use Rattle.iso_script.specs.Variables.{KnowAll}
 use Rattle.iso_model.specs.ScriptView.{member_of}
 use Rattle.iso_script_statements.specs.Names.{Knows}
 use Rattle.iso_script.specs.Grammar.{IsMember, name_of}

@@ -1,7 +1,7 @@
 use Rattle.std.proofs.Common.{[]}
 use Rattle.std.proofs.lemmas.Result.{err_from_is_err_and}
 use Rattle.iso_model.specs.ScriptView.{class_of}
-use Rattle.iso_heads.specs.Marks.{marks_of}
+use Rattle.iso_script.specs.Marks.{marks_of}
 use Rattle.iso_script_statements.proofs.Answers.{parses_from}
 use Rattle.iso_script.specs.Grammar.{IsClass, IsTopClass}
 use Rattle.iso_script.proofs.Classes.{marks_next, not_next, not_named, top_next, top_inner, is_nested}

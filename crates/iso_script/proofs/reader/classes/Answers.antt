@@ -2,7 +2,7 @@ use Rattle.std.proofs.Common.{arith}
 use Rattle.std.proofs.lemmas.Bool.{false≢true}
 use Rattle.std.proofs.lemmas.List.{map_push}
 use Rattle.std.proofs.lemmas.Result.{err_from_is_err_and}
-use Rattle.iso_heads.proofs.Readings.{read_push}
+use Rattle.iso_script.proofs.Readings.{read_push}
 use Rattle.iso_script.specs.Grammar.{IsTopClass}
 use Rattle.iso_script.proofs.Scripts.{next_class}
 use Rattle.iso_script.proofs.Shorter.{member_shorter}

@@ -1,5 +1,5 @@
 use Rattle.std.proofs.Common.{length, map}
-use Rattle.iso_heads.specs.Readings.{AreRead}
+use Rattle.iso_script.specs.Readings.{AreRead}
 use Rattle.iso_model.specs.ScriptView.{class_of}
 use Rattle.iso_script.specs.Grammar.{IsTopClass}
 use Rattle.iso_script.proofs.reader.classes.Given as goal

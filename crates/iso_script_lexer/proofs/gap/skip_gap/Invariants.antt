@@ -3,7 +3,7 @@ use Rattle.iso_script_lexer.specs.Scan.{after_gap}
 use Rattle.iso_script_lexer.proofs.gap.skip_gap.Given as goal
 
 abbrev pub invariant-gap : goal.invariant-gap
-invariant-gap l = after_gap false l.cursor.place.line l.cursor.rest.now ≡ after_gap false l.fn.start.place.line l.fn.start.rest.now
+invariant-gap l = after_gap false l.cursor.position.line l.cursor.rest.now ≡ after_gap false l.fn.start.position.line l.fn.start.rest.now
 
 abbrev pub decreases-gap : goal.decreases-gap
 decreases-gap l = length l.cursor.rest.now

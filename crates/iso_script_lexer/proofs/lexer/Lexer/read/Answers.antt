@@ -6,7 +6,7 @@ use Rattle.iso_script_lexer.proofs.lexer.Lexer.read.Goals as goal
 
 pub returns-in-Ok : goal.returns-in-Ok
 returns-in-Ok c =
-    let line : ℕ = c.skip_gap-start.result.place.line in
+    let line : ℕ = c.skip_gap-start.result.position.line in
     sym (pieces_of-step _ _ _ _ c.skip_gap-start.ensures
     ∙ ap (λ f. then_pieces f (pieces_of line)) (c.in-Ok.ensures.value line)
     ∙ then_pieces-shown line c.in-Ok.token c.in-Ok.rest.now
@@ -15,7 +15,7 @@ returns-in-Ok c =
 
 pub returns-in-Err : goal.returns-in-Err
 returns-in-Err c =
-    let line : ℕ = c.skip_gap-start.result.place.line in
+    let line : ℕ = c.skip_gap-start.result.position.line in
     sym (pieces_of-step _ _ _ _ c.skip_gap-start.ensures
     ∙ ap (λ f. then_pieces f (pieces_of line)) (c.in-Err.ensures.value line)
-    ∙ ap (λ n. then_pieces (no_token n) (pieces_of n)) (sym c.place_after-place.ensures.line))
+    ∙ ap (λ n. then_pieces (no_token n) (pieces_of n)) (sym c.position_after-position.ensures.line))

@@ -1,5 +1,0 @@
-use Rattle.iso_heads.proofs.Blocks.{one_blocks}
-use Rattle.iso_heads.proofs.laws.blocks_are_unique.Goals as goal
-
-pub returns : goal.returns
-returns c = one_blocks

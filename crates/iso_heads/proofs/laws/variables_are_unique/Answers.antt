@@ -1,5 +1,0 @@
-use Rattle.iso_heads.proofs.Variables.{one_variables}
-use Rattle.iso_heads.proofs.laws.variables_are_unique.Goals as goal
-
-pub returns : goal.returns
-returns c = one_variables

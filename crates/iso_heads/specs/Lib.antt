@@ -1,5 +1,0 @@
-pub mod Blocks
-pub mod Displays
-pub mod Marks
-pub mod Readings
-pub mod Variables

@@ -1,0 +1,131 @@
+//! Marks.
+ghost use Rattle.std.specs.Prelude.{◌≡◌, ℕ, List, MatchResult, Some};
+ghost use Rattle.iso_script.specs.Marks as S;
+ghost use Rattle.iso_script.specs.Marks.{Adds, IsKeyText, IsMarking, IsMarks, Marking, key_fault, mark_next, mark_word, marks_of};
+ghost use Rattle.iso_script_lexer.specs.Piece.{Piece};
+ghost use Rattle.iso_script_statements.specs.Faults.{IsMemory};
+ghost use Rattle.iso_script_statements.specs.Parsing.{Parses};
+
+use iso_model::access::Access;
+use iso_model::heads::Mark;
+use iso_model::key::Key;
+use iso_model::limits::KEY_BYTES;
+use iso_model::script::Mode;
+use iso_model::text::Text;
+use iso_script_lexer::token::Token;
+use iso_script_lexer::word::Word;
+use iso_script_statements::fault::{ScriptError, ScriptFaultKind};
+use iso_script_statements::parser::Parser;
+
+/// The marks of a class or test.
+#[derive(Drop)]
+pub(crate) struct Marks {
+    pub mode: Option<Mode>,
+    pub isolated: bool,
+    /// The keys that are declared, as they are written.
+    pub keys: Vec<Mark>,
+}
+
+/// What a mark is, by its word.
+#[derive(Clone, Copy)]
+pub(crate) enum MarkWord {
+    Mode(Mode),
+    Isolated,
+    Access(Access),
+}
+
+/// What a word marks.
+fn mark_word(word: Word) -> Option<MarkWord>
+    ensures { result ≡ mark_word word }
+{
+    match word {
+        Word::SameThread => Some(MarkWord::Mode(Mode::SameThread)),
+        Word::Concurrent => Some(MarkWord::Mode(Mode::Concurrent)),
+        Word::Isolated => Some(MarkWord::Isolated),
+        Word::Read => Some(MarkWord::Access(Access::Read)),
+        Word::Write => Some(MarkWord::Access(Access::Write)),
+        _ => None,
+    }
+}
+
+/// What the word that is next marks.
+fn mark_next(parser: &Parser<'_>) -> Option<MarkWord>
+    ensures { result ≡ mark_next parser.now.lexer }
+{
+    match parser.lexer.peek().0 {
+        Token::Word(word) => mark_word(word),
+        _ => None,
+    }
+}
+
+/// The marks that come next. A second mode, and a second `isolated`, is `DoubleMember` at its word.
+pub(crate) fn read_marks(parser: &mut Parser<'_>) -> Result<Marks, ScriptError>
+    ensures { Parses marks_of IsMarks result parser.old.lexer parser.new.lexer }
+{
+    let mut marks = Marks {
+        mode: None,
+        isolated: false,
+        keys: Vec::new(parser.alloc),
+    };
+    'marks: while let Some(word) = mark_next(parser) {
+        add_mark(parser, word, &mut marks)?;
+    }
+    Ok(marks)
+}
+
+/// Adds the mark that is next, which begins with this word.
+fn add_mark(parser: &mut Parser<'_>, word: MarkWord, marks: &mut Marks) -> Result<(), ScriptError>
+    requires { mark_next parser.old.lexer ≡ Some word }
+    ensures { MatchResult result
+        (λ _. (x : Marking) × IsMarking x parser.old.lexer parser.new.lexer × Adds x (marks_of marks.old) (marks_of marks.new))
+        (λ e. (x : Marking) (rest : List Piece) (more : S.Marks) → IsMarking x parser.old.lexer rest
+        → Adds x (marks_of marks.old) more → IsMemory e) }
+{
+    match word {
+        MarkWord::Mode(mode) if marks.mode.is_none() => {
+            parser.lexer.advance();
+            marks.mode = Some(mode);
+        }
+        MarkWord::Isolated if !marks.isolated => {
+            parser.lexer.advance();
+            marks.isolated = true;
+        }
+        MarkWord::Access(access) => {
+            parser.lexer.advance();
+            let key = key(parser)?;
+            marks.keys.push(Mark { access, key })?;
+        }
+        _ => return Err(parser.fault_here(ScriptFaultKind::DoubleMember)),
+    }
+    Ok(())
+}
+
+/// The key of a mark. One that may not be declared is a fault at its quote.
+fn key(parser: &mut Parser<'_>) -> Result<Key, ScriptError>
+    ensures { Parses (λ (k : List ℕ). k) IsKeyText result parser.old.lexer parser.new.lexer }
+{
+    let Token::Text(text) = parser.lexer.peek().0 else {
+        return Err(parser.unexpected());
+    };
+    let key = Key::new(Text::new(text.decode(parser.alloc)?));
+    if let Some(kind) = key_fault(key.as_str()) {
+        return Err(parser.fault_here(kind));
+    }
+    parser.lexer.advance();
+    Ok(key)
+}
+
+/// Why a key may not be declared: it is empty, above 255 bytes, or that of the global lock.
+fn key_fault(key: &str) -> Option<ScriptFaultKind>
+    ensures { result ≡ key_fault key.now }
+{
+    if key.is_empty() {
+        Some(ScriptFaultKind::Expected)
+    } else if key.len() > KEY_BYTES as usize {
+        Some(ScriptFaultKind::TooLong)
+    } else if key == "iso:global" {
+        Some(ScriptFaultKind::GlobalKey)
+    } else {
+        None
+    }
+}
