@@ -63,9 +63,12 @@ barred = Enter 2 8 ∷ Step 2 ∷ Leave 2 ∷ []
 abbrev pub barred_to_its_end : List Event
 barred_to_its_end = barred ++ Shut 2 8 ∷ Step 2 ∷ Leave 2 ∷ []
 
--- all nodes to their end
+-- all nodes to their end: class 8 and what stands in it come last
+abbrev pub all_but_8 : List Event
+all_but_8 = closed_first ++ Leave 0 ∷ Shut 1 4 ∷ Step 1 ∷ Leave 1 ∷ []
+
 abbrev pub whole : List Event
-whole = closed_first ++ Leave 0 ∷ Shut 1 4 ∷ Step 1 ∷ Leave 1 ∷ [] ++ barred_to_its_end
+whole = all_but_8 ++ barred_to_its_end
 
 abbrev pub is_whole : List Event → Bool
 is_whole es = is_complete shop (shop_after es)
@@ -92,10 +95,13 @@ late_steps = Enter 0 1 ∷ Enter 1 4 ∷ Step 0 ∷ Step 1 ∷ Leave 1 ∷ Leave
 abbrev pub opened_by_1 : List Event
 opened_by_1 = Enter 1 1 ∷ Step 1 ∷ Leave 1 ∷ []
 
--- a history that ends within tests 2 and 5, and the value of a key after it; where it stands by the last opening, the class of
--- that opening, and whether the key is being written
+-- a history that ends within tests 2 and 5, and one that ends within test 6; the value of a key after a history, where it stands
+-- by the last opening, the class of that opening, and whether the key is being written
 abbrev pub entered_both : List Event
 entered_both = Enter 0 1 ∷ Enter 1 4 ∷ Leave 1 ∷ Leave 0 ∷ Enter 0 2 ∷ Enter 1 5 ∷ []
+
+abbrev pub entered_reader : List Event
+entered_reader = Enter 1 4 ∷ Leave 1 ∷ Enter 1 6 ∷ []
 
 abbrev pub value_after_history : List Event → ℕ → Option ℕ
 value_after_history h k = (state_of counting shop h).nodes.flat k

@@ -1,10 +1,10 @@
 //! Worked examples of the definitions, as public laws that the checker computes.
 
 ghost use Rattle.std.specs.Prelude.{◌≡◌, [], ◌∷◌, ◌++◌, eqb, false, true, Some, None};
-ghost use Rattle.iso_isolation.specs.Alone.{run_alone};
+ghost use Rattle.iso_isolation.specs.Alone.{restricted, run_alone};
 ghost use Rattle.iso_isolation.specs.Events.{Enter, Step, Leave, Shut};
 ghost use Rattle.iso_isolation.specs.Examples.{class_head, counting, numbers, shop, test_head};
-ghost use Rattle.iso_isolation.specs.ExampleRuns.{barred, barred_class, barred_to_its_end, begun_shop, both_left, by_itself, came_to, closed_first, closed_history, closed_in_full, closing, entered_both, finished, history, in_full, is_run_of_shop, is_whole, is_written_after, kiosk, last_opened_after, late_steps, live, node_of_worker, opened, opened_both, opened_by_1, over, readers, refused_after, side_by_side, standing_after, value_after, value_after_history, waiting, whole, why, why_first, why_stopped, why_test, why_where};
+ghost use Rattle.iso_isolation.specs.ExampleRuns.{all_but_8, barred, barred_class, barred_to_its_end, begun_shop, both_left, by_itself, came_to, closed_first, closed_history, closed_in_full, closing, entered_both, entered_reader, finished, history, in_full, is_run_of_shop, is_whole, is_written_after, kiosk, last_opened_after, late_steps, live, node_of_worker, opened, opened_both, opened_by_1, over, readers, refused_after, side_by_side, standing_after, value_after, value_after_history, waiting, whole, why, why_first, why_stopped, why_test, why_where};
 ghost use Rattle.iso_isolation.specs.Histories.{IsHistory, SameHistory};
 ghost use Rattle.iso_isolation.specs.Isolation.{AgreeOn, Gives};
 ghost use Rattle.iso_isolation.specs.Refusals as Why;
@@ -22,6 +22,8 @@ pub fn chains_run_alone()
     ensures reader { by_itself 6 ≡ Some (None ∷ Some 5 ∷ []) }
     ensures failed { by_itself 8 ≡ Some (None ∷ None ∷ []) }
     ensures blocked { by_itself 10 ≡ None }
+    ensures own_key { restricted (eqb 2) numbers 2 ≡ Some 7 }
+    ensures other_key { restricted (eqb 2) numbers 1 ≡ None }
 {}
 
 /// Bodies of two workers, one step of the one after one of the other: each result is that of the chain alone, a test's values
@@ -59,6 +61,8 @@ pub fn run_is_whole_when_all_nodes_have_finished()
     ensures accepted { is_run_of_shop whole ≡ true }
     ensures whole { is_whole whole ≡ true }
     ensures unfinished { is_whole closed_first ≡ false }
+    ensures closing { is_whole (all_but_8 ++ barred ++ Shut 2 8 ∷ Step 2 ∷ []) ≡ false }
+    ensures barred { is_whole (all_but_8 ++ barred) ≡ false }
     ensures one { value_after whole 1 ≡ Some 5 }
     ensures two { value_after whole 2 ≡ Some 7 }
 {}
@@ -94,6 +98,7 @@ pub fn history_in_full_has_the_steps_before_each_leave()
     ensures gathered { is_written_after entered_both 2 ≡ true }
     ensures own { is_written_after entered_both 1 ≡ true }
     ensures unwritten { is_written_after closed_history 2 ≡ false }
+    ensures read { is_written_after entered_reader 1 ≡ false }
 {}
 
 /// Worker 0 owns the root, so it enters the top-level classes that are SAME_THREAD; and the worker that entered a class owns it, so it
@@ -171,6 +176,15 @@ pub fn kinds_of_refusal_have_their_limits()
     ensures concurrent { why_where (λ n. eqb n 2) (opened ∷ opened ∷ waiting ∷ waiting ∷ []) 0 (Enter 1 3) ≡ None }
     ensures concurrent_sibling { why_where (λ n. eqb n 3) (opened ∷ opened ∷ waiting ∷ waiting ∷ []) 1 (Enter 1 3) ≡ None }
     ensures sibling_under_way { why (opened ∷ opened ∷ live ∷ waiting ∷ []) 1 (Enter 1 3) ≡ Some Why.EarlierSibling }
+    ensures open_sibling { why (opened ∷ opened ∷ opened ∷ waiting ∷ []) 1 (Enter 1 3) ≡ Some Why.EarlierSibling }
+    ensures barred_sibling { why (opened ∷ opened ∷ barred_class ∷ waiting ∷ []) 1 (Enter 1 3) ≡ Some Why.EarlierSibling }
+    ensures closing_sibling { why (opened ∷ opened ∷ closing ∷ waiting ∷ []) 1 (Enter 1 3) ≡ Some Why.EarlierSibling }
+    ensures entered_twice { why (opened ∷ opened ∷ finished ∷ live ∷ []) 1 (Enter 1 3) ≡ Some Why.AlreadyEntered }
+    ensures open_twice { why (opened ∷ opened ∷ finished ∷ opened ∷ []) 1 (Enter 1 3) ≡ Some Why.AlreadyEntered }
+    ensures barred_twice { why (opened ∷ opened ∷ finished ∷ barred_class ∷ []) 1 (Enter 1 3) ≡ Some Why.AlreadyEntered }
+    ensures closing_twice { why (opened ∷ opened ∷ finished ∷ closing ∷ []) 1 (Enter 1 3) ≡ Some Why.AlreadyEntered }
+    ensures barred_child { why (opened ∷ opened ∷ barred_class ∷ []) 1 (Shut 1 1) ≡ Some Why.ChildrenLeft }
+    ensures closing_child { why (opened ∷ opened ∷ closing ∷ []) 1 (Shut 1 1) ≡ Some Why.ChildrenLeft }
     ensures lowest_holder { why (opened ∷ opened ∷ finished ∷ waiting ∷ finished ∷ live ∷ waiting ∷ live ∷ []) 1 (Enter 1 3) ≡ Some (Why.LockHeld 5) }
     ensures open_holder { why (opened ∷ opened ∷ finished ∷ waiting ∷ opened ∷ []) 1 (Enter 1 3) ≡ Some (Why.LockHeld 4) }
     ensures barred_holder { why (opened ∷ opened ∷ finished ∷ waiting ∷ barred_class ∷ []) 1 (Enter 1 3) ≡ Some (Why.LockHeld 4) }
