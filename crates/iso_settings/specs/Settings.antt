@@ -89,7 +89,8 @@ setting rule all key = only_value key (values_at key all) >>= read rule key
 
 -- The number of workers: one where parallel execution is off. The dynamic strategy gives the processors times the
 -- factor, at most 64, the fixed one its parallelism.
-abbrev pub workers : (is_parallel : Bool) → (chosen : Strategy) → (factor : ℕ) → (parallelism : Option ℕ) → (processors : ℕ) → Reading ℕ
+abbrev pub workers : (is_parallel : Bool) → (chosen : Strategy) → (factor : ℕ) → (parallelism : Option ℕ)
+    → (processors : ℕ) → Reading ℕ
 workers false chosen factor parallelism processors = Ok 1
 workers true Dynamic factor parallelism processors = Ok (min (processors * factor) 64)
 workers true Fixed factor (Some n) processors = Ok n
