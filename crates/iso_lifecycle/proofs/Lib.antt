@@ -4,6 +4,7 @@ pub mod Combined
 pub mod Comings
 pub mod ExampleResults
 pub mod Following
+pub mod FramesUp
 pub mod Framing
 pub mod Getting
 pub mod JobLemmas

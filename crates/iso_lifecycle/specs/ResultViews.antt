@@ -95,6 +95,11 @@ abbrev pub AreOpen : ResultsView → List ℕ → Type 0
 AreOpen v [] = Unit {0}
 AreOpen v (n ∷ ns) = ((is_opened v n ≡ true) × (is_well (own_frame (subject v.plan v.start n)).ending ≡ true)) × AreOpen v ns
 
+-- the `before_all`s of all these classes were put
+abbrev pub AreOpened : ResultsView → List ℕ → Type 0
+AreOpened v [] = Unit {0}
+AreOpened v (n ∷ ns) = (is_opened v n ≡ true) × AreOpened v ns
+
 -- the end of a body may be put: it is of this plan and start, it wasn't put before, an `after_all` comes after its `before_all`, and the
 -- `before_all`s of all enclosing classes were put and ended well
 pub record CanPut (d : DoneView) (v : ResultsView) : Type 0 where

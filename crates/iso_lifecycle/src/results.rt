@@ -1,10 +1,12 @@
 //! The results of a run.
-ghost use Rattle.std.specs.Prelude.{◌≡◌, ◌<◌, [], ℕ, IfOk, IfSome, cond, is_some, None, Some, false, length, option_copied, replicate, slice_set, true};
+ghost use Rattle.std.specs.Prelude.{◌≡◌, ◌<◌, ◌≤◌, [], ℕ, IfOk, IfSome, OnErr, OnOk, cond, is_some, None, Some, false, length, map, option_copied, replicate, reverse, slice_set, true, vec_capacity};
 ghost use Rattle.std.specs.Option.{option_map};
 ghost use Rattle.iso_model.specs.Verdicts.{barred_verdict};
 ghost use Rattle.iso_lifecycle.specs.Ends.{IsOpening};
 ghost use Rattle.iso_lifecycle.specs.declared.entry.Entry.TheVariants.{Empty};
-ghost use Rattle.iso_lifecycle.specs.ResultViews.{CanPut, is_barred, is_barring, is_opened, no_results, outcome_in, outcome_of_view, result_in, with_done};
+ghost use Rattle.iso_plan.specs.Paths.{path};
+ghost use Rattle.iso_plan.specs.RowView.{tree_of};
+ghost use Rattle.iso_lifecycle.specs.ResultViews.{AreOpened, CanPut, is_barred, is_barring, is_opened, no_results, outcome_in, outcome_of_view, result_in, with_done};
 ghost use Rattle.iso_lifecycle.specs.Subjects.{subject};
 
 use crate::done::{Done, Opened};
@@ -152,5 +154,43 @@ impl<'a> Results<'a> {
         ensures { option_copied result ≡ cond (is_opened self.now node) (Some (subject self.now.plan self.now.start node)) None }
     {
         Some(&self.opened(node)?.frame)
+    }
+
+    /// Shares the frames of a class and of those that it stands in into a list that has room for them, outermost first; of the root there
+    /// are none. It takes the memory of `Frame::share` alone, and after want of memory the list is empty again.
+    pub fn share_frames(&self, node: u32, frames: &mut Vec<Frame>) -> Result<(), AllocError>
+        requires node { node < length self.now.plan.rows }
+        requires opened { AreOpened self.now (path (tree_of self.now.plan) node) }
+        requires empty { frames.old.items ≡ [] }
+        requires room { length (path (tree_of self.now.plan) node) ≤ vec_capacity frames.old }
+        ensures frames { OnOk result (frames.new.items ≡ map (subject self.now.plan self.now.start) (reverse (path (tree_of self.now.plan) node))) }
+        ensures none { OnErr result (frames.new.items ≡ []) }
+        ensures capacity { vec_capacity frames.new ≡ vec_capacity frames.old }
+    {
+        let shared = self.share_upwards(node, frames);
+        match shared {
+            Ok(()) => frames.reverse(),
+            Err(_) => frames.clear(),
+        }
+        shared
+    }
+
+    /// Shares the frames of a class and of those that it stands in, innermost first.
+    fn share_upwards(&self, node: u32, frames: &mut Vec<Frame>) -> Result<(), AllocError>
+        requires node { node < length self.now.plan.rows }
+        requires opened { AreOpened self.now (path (tree_of self.now.plan) node) }
+        requires empty { frames.old.items ≡ [] }
+        requires room { length (path (tree_of self.now.plan) node) ≤ vec_capacity frames.old }
+        ensures frames { OnOk result (frames.new.items ≡ map (subject self.now.plan self.now.start) (path (tree_of self.now.plan) node)) }
+        ensures capacity { vec_capacity frames.new ≡ vec_capacity frames.old }
+    {
+        nodes_are_a_tree(self.plan);
+        let mut at = node;
+        'up: while let Some(class) = self.plan.parent(at) {
+            let frame = self.frame(at).unwrap().share()?;
+            frames.push_reserved(frame);
+            at = class;
+        }
+        Ok(())
     }
 }
