@@ -10,4 +10,5 @@ pub mod Getting
 pub mod JobLemmas
 pub mod Putting
 pub mod RunLemmas
+pub mod Sharing
 pub mod WorkLemmas
