@@ -47,7 +47,7 @@ is_unclosed d taken m (number_at r n ∷ ps) qs h = λ e. cc
 is_unclosed d taken m (text_at r t ∷ ps) qs h = λ e. cc
 is_unclosed d taken m (word_at r w ∷ ps) qs h = λ e. cc
 is_unclosed d taken m (symbol_at r s ∷ ps) qs h = absurd (no_member h)
-is_unclosed d taken m (bad_at r ∷ ps) qs h = λ e. cc
+is_unclosed d taken m (bad_at r fault ∷ ps) qs h = λ e. cc
 
 -- all members up to the brace, one after another
 pub all_read : (d : ℕ) (taken : List (List ℕ)) (ms : List Member) (first here rest : List Piece) → AreRead (IsMember d taken) ms first here → after CloseBrace here ≡ Some rest → IsMembers d taken (members_of ms) first rest

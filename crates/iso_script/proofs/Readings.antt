@@ -14,7 +14,7 @@ meant_word meaning x (name_at r n ∷ ps) h = cc
 meant_word meaning x (number_at r n ∷ ps) h = cc
 meant_word meaning x (text_at r n ∷ ps) h = cc
 meant_word meaning x (symbol_at r n ∷ ps) h = cc
-meant_word meaning x (bad_at r ∷ ps) h = cc
+meant_word meaning x (bad_at r fault ∷ ps) h = cc
 meant_word meaning x [] h = cc
 
 -- one item more

@@ -1,5 +1,6 @@
 pub mod Blocks
 pub mod Displays
+pub mod Faults
 pub mod Grammar
 pub mod Marks
 pub mod Readings

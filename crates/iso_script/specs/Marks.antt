@@ -54,11 +54,13 @@ pub data Marking : Type 0 where
 pub data IsMarked : MarkWord → Marking → List Piece → List Piece → Type 0 where
   a_mode : {m : ExecutionMode} {ps : List Piece} → IsMarked (Mode m) (runs m) ps ps
   an_isolation : {ps : List Piece} → IsMarked Isolated isolates ps ps
-  a_declaration : {a : _} {k : List ℕ} {ps qs : List Piece} → IsKeyText k ps qs → IsMarked (Access a) (declares (record { access = a; key = k })) ps qs
+  a_declaration : {a : _} {k : List ℕ} {ps qs : List Piece} → IsKeyText k ps qs
+      → IsMarked (Access a) (declares (record { access = a; key = k })) ps qs
 
 -- a mark: its word, and what follows it
 pub data IsMarking : Marking → List Piece → List Piece → Type 0 where
-  a_mark : {r : ℕ} {w : Word} {meant : MarkWord} {x : Marking} {ps qs : List Piece} → mark_word w ≡ Some meant → IsMarked meant x ps qs → IsMarking x (word_at r w ∷ ps) qs
+  a_mark : {r : ℕ} {w : Word} {meant : MarkWord} {x : Marking} {ps qs : List Piece} → mark_word w ≡ Some meant
+      → IsMarked meant x ps qs → IsMarking x (word_at r w ∷ ps) qs
 
 -- what a class or test has of its marks
 pub record Marks : Type 0 where

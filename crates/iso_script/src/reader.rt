@@ -1,10 +1,11 @@
 //! Whole scripts.
-ghost use Rattle.std.specs.Prelude.{◌≡◌, ◌<◌, List, [], IfOk, MatchResult, Err, length, map};
+ghost use Rattle.std.specs.Prelude.{◌≡◌, ◌<◌, List, [], IfErr, IfOk, MatchResult, Err, length, map};
 ghost use Rattle.iso_script.specs.Readings.{AreRead};
 ghost use Rattle.iso_model.specs.Scripts as S;
 ghost use Rattle.iso_model.specs.ScriptView.{class_of, script_of};
 ghost use Rattle.iso_model.specs.declared.limits.TheConstants.{FILE_BYTES};
 ghost use Rattle.iso_script_statements.specs.Faults.{IsMemory};
+ghost use Rattle.iso_script.specs.Faults.{HasScriptFault, IsOfBeginning, UnlessMemory, too_long};
 ghost use Rattle.iso_script.specs.Grammar.{IsScript, IsTopClass, Reads};
 
 use crate::class::read_top_class;
@@ -29,8 +30,9 @@ pub fn read_script(alloc: Global, bytes: &[u8]) -> Result<Script, ScriptError>
     ensures found { IfOk result (λ s. Reads bytes.now (script_of s)) }
     // The script of the bytes is read, unless memory runs out.
     ensures only { (s : S.Script) → Reads bytes.now s → MatchResult result (λ v. script_of v ≡ s) IsMemory }
-    ensures too_long { FILE_BYTES < length bytes.now
-        → result ≡ Err (ScriptError.Fault (record { kind = ScriptFaultKind.TooLong; line = 1; column = 1 })) }
+    ensures too_long { FILE_BYTES < length bytes.now → result ≡ Err (ScriptError.Fault too_long) }
+    // A fault is that of the bytes.
+    ensures fault { IfErr result (UnlessMemory (HasScriptFault bytes.now)) }
 {
     if bytes.len() > FILE_BYTES as usize {
         let start = Position { line: 1, column: 1 };
@@ -42,9 +44,10 @@ pub fn read_script(alloc: Global, bytes: &[u8]) -> Result<Script, ScriptError>
 
 /// A script, up to the end.
 fn script(parser: &mut Parser<'_>) -> Result<Script, ScriptError>
-    ensures { MatchResult result
+    ensures read { MatchResult result
         (λ s. IsScript (script_of s) parser.old.lexer)
         (λ e. (s : S.Script) → IsScript s parser.old.lexer → IsMemory e) }
+    ensures begins { IfErr result (UnlessMemory (λ fault. IsOfBeginning parser.old.lexer fault.kind)) }
 {
     parser.expect_word(Word::Team)?;
     let name = parser.name()?;

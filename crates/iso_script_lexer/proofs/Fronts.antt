@@ -5,13 +5,15 @@ use Rattle.std.specs.List.{prefix_len}
 use Rattle.iso_script_lexer.specs.Piece.{Piece, bad_at}
 use Rattle.iso_script_lexer.specs.Spelling.{is_letter, is_digit, in_name, is_blank}
 use Rattle.iso_script_lexer.specs.Lexical.{Spells}
+use Rattle.iso_script_lexer.specs.Misspellings.{token_fault}
+use Rattle.iso_script_lexer.specs.declared.token.TokenFault.{TokenFault}
 use Rattle.iso_script_lexer.specs.Scan.{Front, after_gap, name_piece, number_piece, text_piece, symbol_piece, symbol_front, double_symbol, single_symbol, longest_symbol, quoted_length, front_of}
 
--- what `front_of` answers: a token that is spelled, or that there is none
+-- what `front_of` answers: a token that is spelled, or why there is none
 pub data Fronts : ℕ → List ℕ → Front → Type 0 where
   at_end : {r : ℕ} → Fronts r [] None
   a_token : {r : ℕ} {cs rest : List ℕ} {p : Piece} → Spells r cs p rest → Fronts r cs (Some (p, rest))
-  no_front : {r b : ℕ} {bs : List ℕ} → Fronts r (b ∷ bs) (Some (bad_at r, []))
+  no_front : {r b : ℕ} {bs : List ℕ} {fault : TokenFault} → fault ≡ token_fault (b ∷ bs) → Fronts r (b ∷ bs) (Some (bad_at r fault, []))
 
 -- a byte that begins no gap
 pub record BeginsNoGap (b : ℕ) : Type 0 where
@@ -33,7 +35,7 @@ pub front_of-letter : (r b : ℕ) (bs : List ℕ) → is_letter b ≡ true → f
 unfolding front_of
 front_of-letter r b bs h = rw h refl
 
-digit-no_letter : (b : ℕ) → is_digit b ≡ true → is_letter b ≡ false
+pub digit-no_letter : (b : ℕ) → is_digit b ≡ true → is_letter b ≡ false
 digit-no_letter b h = grind (arith, nat_tests)
 
 pub front_of-digit : (r b : ℕ) (bs : List ℕ) → is_digit b ≡ true → front_of r (b ∷ bs) ≡ number_piece r (prefix_len is_digit (b ∷ bs)) (b ∷ bs)
@@ -44,6 +46,6 @@ pub front_of-quote : (r : ℕ) (bs : List ℕ) → front_of r (34 ∷ bs) ≡ te
 unfolding front_of
 front_of-quote r bs = refl
 
-pub front_of-other : (r b : ℕ) (bs : List ℕ) → is_letter b ≡ false → is_digit b ≡ false → nat_eq b 34 ≡ false → front_of r (b ∷ bs) ≡ symbol_piece r (longest_symbol (double_symbol b bs) (single_symbol b) bs)
+pub front_of-other : (r b : ℕ) (bs : List ℕ) → is_letter b ≡ false → is_digit b ≡ false → nat_eq b 34 ≡ false → front_of r (b ∷ bs) ≡ symbol_piece r b (longest_symbol (double_symbol b bs) (single_symbol b) bs)
 unfolding front_of symbol_front
 front_of-other r b bs l d q = rw (l, d, q) refl

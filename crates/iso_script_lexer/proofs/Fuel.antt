@@ -2,9 +2,9 @@
 use Rattle.std.proofs.Common.{◌≡◌, ℕ, zero, suc, ◌+◌, ◌<◌, ◌≤◌, List, [], ◌∷◌, length, take, drop, Bool, true, false, cond, Option, Some, None, refl, ap, ◌∙◌, sym, arith, nat_eq, ◌&&◌, length-drop, nat_le}
 use Rattle.std.specs.List.{prefix_len}
 use Rattle.iso_script_lexer.specs.Piece.{Piece}
-use Rattle.iso_script_lexer.specs.Spelling.{is_letter, is_digit, in_name, is_blank, in_comment}
+use Rattle.iso_script_lexer.specs.Spelling.{is_letter, is_digit, in_name, is_blank, in_comment, begins, begins_in}
 use Rattle.iso_script_lexer.specs.Lexical.{decimal_value}
-use Rattle.iso_script_lexer.specs.Scan.{Front, after_gap, begins, begins_in, double_symbol, single_symbol, longest_symbol, symbol_front, symbol_piece, name_piece, number_piece, text_piece, quoted_length, front_of, then_pieces, pieces, pieces_of}
+use Rattle.iso_script_lexer.specs.Scan.{Front, after_gap, double_symbol, single_symbol, longest_symbol, symbol_front, symbol_piece, name_piece, number_piece, text_piece, quoted_length, front_of, then_pieces, pieces, pieces_of}
 use Rattle.iso_script_lexer.specs.Piece.{tail}
 use Rattle.iso_script_lexer.specs.Tokens.{front}
 use Rattle.iso_script_lexer.specs.Scanned.{shown}
@@ -57,10 +57,10 @@ text_shorter : (row : ℕ) (o : Option ℕ) (bs : List ℕ) → Shorter (suc (le
 text_shorter row None bs = omega arith
 text_shorter row (Some n) bs = omega (arith, length-drop (n + 1) bs)
 
-symbol_shorter : (row : ℕ) (d s : Option S.Symbol) (bs : List ℕ) → Shorter (suc (length bs)) (symbol_piece row (longest_symbol d s bs))
-symbol_shorter row (Some d) s bs = omega (arith, length-drop 1 bs)
-symbol_shorter row None (Some s) bs = omega arith
-symbol_shorter row None None bs = omega arith
+symbol_shorter : (row b : ℕ) (d s : Option S.Symbol) (bs : List ℕ) → Shorter (suc (length bs)) (symbol_piece row b (longest_symbol d s bs))
+symbol_shorter row b (Some d) s bs = omega (arith, length-drop 1 bs)
+symbol_shorter row b None (Some s) bs = omega arith
+symbol_shorter row b None None bs = omega arith
 
 pub front_shorter : (row : ℕ) (bs : List ℕ) → Shorter (length bs) (front_of row bs)
 unfolding front_of symbol_front
@@ -68,14 +68,14 @@ front_shorter row [] = tt
 front_shorter row (b ∷ bs) =
     letter (is_letter b) refl
   where
-    other : Shorter (suc (length bs)) (cond (nat_eq b 34) (text_piece row (quoted_length false 4096 bs) bs) (symbol_piece row (symbol_front (b ∷ bs))))
-    other = either (Shorter (suc (length bs))) (nat_eq b 34) _ _ (text_shorter row (quoted_length false 4096 bs) bs) (symbol_shorter row (double_symbol b bs) (single_symbol b) bs)
+    other : Shorter (suc (length bs)) (cond (nat_eq b 34) (text_piece row (quoted_length false 4096 bs) bs) (symbol_piece row b (symbol_front (b ∷ bs))))
+    other = either (Shorter (suc (length bs))) (nat_eq b 34) _ _ (text_shorter row (quoted_length false 4096 bs) bs) (symbol_shorter row b (double_symbol b bs) (single_symbol b) bs)
 
-    digit : (t : Bool) → is_digit b ≡ t → Shorter (suc (length bs)) (cond t (number_piece row (prefix_len is_digit (b ∷ bs)) (b ∷ bs)) (cond (nat_eq b 34) (text_piece row (quoted_length false 4096 bs) bs) (symbol_piece row (symbol_front (b ∷ bs)))))
+    digit : (t : Bool) → is_digit b ≡ t → Shorter (suc (length bs)) (cond t (number_piece row (prefix_len is_digit (b ∷ bs)) (b ∷ bs)) (cond (nat_eq b 34) (text_piece row (quoted_length false 4096 bs) bs) (symbol_piece row b (symbol_front (b ∷ bs)))))
     digit true e = number_shorter row b bs e
     digit false e = other
 
-    letter : (t : Bool) → is_letter b ≡ t → Shorter (suc (length bs)) (cond t (name_piece row (prefix_len in_name (b ∷ bs)) (b ∷ bs)) (cond (is_digit b) (number_piece row (prefix_len is_digit (b ∷ bs)) (b ∷ bs)) (cond (nat_eq b 34) (text_piece row (quoted_length false 4096 bs) bs) (symbol_piece row (symbol_front (b ∷ bs))))))
+    letter : (t : Bool) → is_letter b ≡ t → Shorter (suc (length bs)) (cond t (name_piece row (prefix_len in_name (b ∷ bs)) (b ∷ bs)) (cond (is_digit b) (number_piece row (prefix_len is_digit (b ∷ bs)) (b ∷ bs)) (cond (nat_eq b 34) (text_piece row (quoted_length false 4096 bs) bs) (symbol_piece row b (symbol_front (b ∷ bs))))))
     letter true e = name_shorter row b bs e
     letter false e = digit (is_digit b) refl
 

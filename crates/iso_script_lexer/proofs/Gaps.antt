@@ -2,8 +2,8 @@
 use Rattle.std.proofs.Common.{◌≡◌, ℕ, ◌+◌, List, [], ◌∷◌, ◌++◌, true, false, nat_eq, ◌&&◌, refl, ap, subst, ◌∙◌, sym, arith}
 use Rattle.std.proofs.lemmas.Bool.Decides.{nat_tests}
 use Rattle.std.specs.List.{AllByRecursion}
-use Rattle.iso_script_lexer.specs.Spelling.{is_blank, in_comment}
-use Rattle.iso_script_lexer.specs.Scan.{begins, after_gap}
+use Rattle.iso_script_lexer.specs.Spelling.{is_blank, in_comment, begins}
+use Rattle.iso_script_lexer.specs.Scan.{after_gap}
 use Rattle.iso_script_lexer.specs.Lexical.{EndsLine, IsGap, no_gap, a_blank, a_line, a_comment}
 use Rattle.iso_script_lexer.proofs.Decisions.{by_test, equal, both}
 

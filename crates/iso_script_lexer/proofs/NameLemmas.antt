@@ -4,9 +4,9 @@ use Rattle.std.proofs.lemmas.Bool.Decides.{nat_tests}
 use Rattle.std.proofs.lemmas.List.{take-append-drop, length-take}
 use Rattle.std.proofs.Math.Seq.{take-append_seam, drop-append_seam}
 use Rattle.std.specs.List.{prefix_len, AllByRecursion}
-use Rattle.iso_script_lexer.specs.Spelling.{is_letter, in_name, spelling, word_of}
+use Rattle.iso_script_lexer.specs.Spelling.{is_letter, in_name, spelling, word_of, begins_in}
 use Rattle.iso_script_lexer.specs.Lexical.{EndsName, IsIdentifier, Spells, spells_name, spells_word}
-use Rattle.iso_script_lexer.specs.Scan.{begins_in, name_or_word, name_piece, front_of}
+use Rattle.iso_script_lexer.specs.Scan.{name_or_word, name_piece, front_of}
 use Rattle.iso_script_lexer.specs.declared.word.Word.{Word}
 use Rattle.iso_script_lexer.proofs.Decisions.{by_test}
 use Rattle.iso_script_lexer.proofs.Fuel.{letter-in_name}
@@ -56,7 +56,7 @@ name_front r b bs h =
     by_test (Fronts r (b ∷ bs)) (nat_le k 64) _ _
     (λ e. let short : k ≤ 64 = grind (arith, nat_tests) in
     a_token (name_spelled r b bs (word_of (take k (b ∷ bs))) h (omega (arith, length-take k (b ∷ bs), short)) refl))
-    (λ e. no_front)
+    (λ e. no_front (rw h refl))
 
 pub begins-identifier : (bs : List ℕ) → begins_in is_letter bs ≡ true → IsIdentifier (take (prefix_len in_name bs) bs)
 begins-identifier [] h = cc

@@ -1,14 +1,17 @@
 -- The pieces that the lexer reads are those that the bytes have, and bytes have no others.
-use Rattle.std.proofs.Common.{◌≡◌, ◌≢◌, ℕ, zero, suc, ◌<◌, ◌≤◌, List, [], ◌∷◌, ◌++◌, length, true, false, nat_eq, nat_le, Some, None, refl, ap, sym, subst, ◌∙◌, arith, length-append}
+use Rattle.std.proofs.Common.{◌≡◌, ◌≢◌, ℕ, zero, suc, ◌<◌, ◌≤◌, List, [], ◌∷◌, ◌++◌, length, Bool, true, false, cond, nat_eq, nat_le, Some, None, refl, ap, sym, subst, ◌∙◌, arith, length-append}
 use Rattle.std.proofs.lemmas.Bool.Decides.{nat_tests}
 use Rattle.std.proofs.lemmas.Option.{some_pair_parts}
 use Rattle.std.specs.List.{AllByRecursion}
 use Rattle.iso_script_lexer.specs.Piece.{Piece, name_at, number_at, text_at, word_at, symbol_at, bad_at}
-use Rattle.iso_script_lexer.specs.Spelling.{is_letter, is_digit, is_printable, in_comment, spelling}
+use Rattle.iso_script_lexer.specs.Spelling.{begins, is_blank, is_letter, is_digit, is_printable, in_comment, spelling}
+use Rattle.iso_script_lexer.specs.Misspellings.{begins_comment, token_fault, fault_of}
 use Rattle.iso_script_lexer.specs.Text.{written}
+use Rattle.iso_script_lexer.specs.declared.token.TokenFault.{TokenFault}
+use Rattle.iso_script_lexer.specs.declared.token.TokenFault.TheVariants.{BadByte, BadToken}
 use Rattle.iso_script_lexer.specs.Lexical.{decimal_value, EndsLine, IsIdentifier, IsGap, no_gap, a_blank, a_line, a_comment, Spells, spells_name, spells_word, spells_number, spells_text, spells_symbol, IsNoToken, HasPieces, ends, goes_on, breaks_off}
 use Rattle.iso_script_lexer.specs.Scan.{Front, no_token, after_gap, name_or_word, text_piece, symbol_front, quoted_length, front_of, then_pieces, pieces, pieces_of}
-use Rattle.iso_script_lexer.proofs.Decisions.{by_test, equal}
+use Rattle.iso_script_lexer.proofs.Decisions.{by_test, equal, both}
 use Rattle.iso_script_lexer.proofs.Fuel.{after_gap_shorter, Shorter, front_shorter, pieces_of-step}
 use Rattle.iso_script_lexer.proofs.Gaps.{InComment, Stops, Skip, skips, breaks, skipped, gap_passed}
 use Rattle.iso_script_lexer.proofs.Fronts.{Fronts, at_end, a_token, no_front, stays, letter-BeginsNoGap, digit-BeginsNoGap, front_of-other}
@@ -71,19 +74,19 @@ front_of-Fronts r (b ∷ bs) =
     by_test (Fronts r (b ∷ bs)) (is_digit b) _ _ (number_front r b bs) (λ d.
     by_test (Fronts r (b ∷ bs)) (nat_eq b 34) _ _
     (λ q. subst (λ b. Fronts r (b ∷ bs) (text_piece r (quoted_length false 4096 bs) bs)) (sym (equal b 34 q)) (text_front r bs))
-    (λ q. symbol_front-Fronts r b bs)))
+    (λ q. symbol_front-Fronts r b bs l d q)))
 
 -- no token is bad
-spelled-good : {r q : ℕ} {cs rest : List ℕ} {p : Piece} → Spells r cs p rest → p ≢ bad_at q
+spelled-good : {r q : ℕ} {cs rest : List ℕ} {p : Piece} {fault : TokenFault} → Spells r cs p rest → p ≢ bad_at q fault
 spelled-good (spells_name is name end) e = cc
 spelled-good (spells_word is end) e = cc
 spelled-good (spells_number digits is numeral end small) e = cc
 spelled-good (spells_text is text) e = cc
 spelled-good (spells_symbol is longest) e = cc
 
-nothing_spelled : (r : ℕ) (cs : List ℕ) → front_of r cs ≡ no_token r → (p : Piece) (rest : List ℕ) → Spells r cs p rest → ⊥
-nothing_spelled r cs bad p rest s =
-    spelled-good {q = r} s (some_pair_parts p (bad_at r) rest [] (sym (spelled-IsRead s).token ∙ bad)).0
+nothing_spelled : (r : ℕ) (cs : List ℕ) (fault : TokenFault) → front_of r cs ≡ no_token r fault → (p : Piece) (rest : List ℕ) → Spells r cs p rest → ⊥
+nothing_spelled r cs fault bad p rest s =
+    spelled-good {q = r} s (some_pair_parts p (bad_at r fault) rest [] (sym (spelled-IsRead s).token ∙ bad)).0
 
 -- a gap that leaves as many bytes is empty
 gap-le : {r q : ℕ} {bs cs : List ℕ} → IsGap r bs q cs → length cs ≤ length bs
@@ -99,13 +102,13 @@ gap_stays (a_line e g) h = absurd (omega (arith, gap-le g))
 gap_stays (a_comment text rest e s is all end g) h = absurd (omega (arith, gap-le g, ap length is, length-append text rest))
 
 -- where a gap has ended and no token is read, there is none
-ended-IsNoToken : (q b : ℕ) (bs : List ℕ) → after_gap false q (b ∷ bs) ≡ (q, b ∷ bs) → front_of q (b ∷ bs) ≡ no_token q → IsNoToken q (b ∷ bs)
-ended-IsNoToken q b bs ended bad = record {
+ended-IsNoToken : (q b : ℕ) (bs : List ℕ) (fault : TokenFault) → after_gap false q (b ∷ bs) ≡ (q, b ∷ bs) → front_of q (b ∷ bs) ≡ no_token q fault → IsNoToken q (b ∷ bs)
+ended-IsNoToken q b bs fault ended bad = record {
   some_byte = λ e. cc;
   no_gap_begins = λ last cs g.
       let e : length (b ∷ bs) ≡ length (after_gap false last cs).1 = ap (λ (x : ℕ × List ℕ). length x.1) (sym ended ∙ gap_passed g) in
       (gap_stays g (omega (arith, e, after_gap_shorter false last cs))).1;
-  no_token_begins = nothing_spelled q (b ∷ bs) bad;
+  no_token_begins = nothing_spelled q (b ∷ bs) fault bad;
 }
 
 -- a comment that is broken off is none
@@ -123,28 +126,29 @@ broken_gap q a b last stop text more bs ds e s is all out (a_blank blank g) = ab
 broken_gap q a b last stop text more bs ds e s is all out (a_line line g) = absurd (omega arith)
 broken_gap q a b last stop text more bs ds e s is all out (a_comment text' rest e' s' is' all' end g) = absurd (two_ways text text' more rest stop (sym is ∙ is') all all' out end)
 
-slashes_bad : (q : ℕ) (bs : List ℕ) → front_of q (47 ∷ bs) ≡ no_token q
+slashes_bad : (q : ℕ) (bs : List ℕ) → front_of q (47 ∷ bs) ≡ no_token q BadToken
 slashes_bad q bs = front_of-other q 47 bs refl refl refl
 
 broken-IsNoToken : (q stop : ℕ) (text more : List ℕ) → InComment text → Stops stop → IsNoToken q (47 ∷ 47 ∷ (text ++ (stop ∷ more)))
 broken-IsNoToken q stop text more all out = record {
   some_byte = λ e. cc;
   no_gap_begins = λ last cs g. broken_gap q 47 47 last stop text more (text ++ (stop ∷ more)) cs refl refl refl all out g;
-  no_token_begins = nothing_spelled q _ (slashes_bad q _);
+  no_token_begins = nothing_spelled q _ BadToken (slashes_bad q _);
 }
 
 -- a byte that is not allowed begins no token
 differs : (b c : ℕ) → in_comment b ≡ false → is_printable c ≡ true → nat_eq b c ≡ false
 differs b c h k = grind (arith, nat_tests)
 
-stop_bad : (q b : ℕ) (bs : List ℕ) → Stops b → front_of q (b ∷ bs) ≡ no_token q
+stop_bad : (q b : ℕ) (bs : List ℕ) → Stops b → front_of q (b ∷ bs) ≡ no_token q BadByte
 stop_bad q b bs h =
     let out = h.outside in
     let l : is_letter b ≡ false = grind (arith, nat_tests) in
     let d : is_digit b ≡ false = grind (arith, nat_tests) in
+    let hidden : is_printable b ≡ false = grind (arith, nat_tests) in
     let n : (c : ℕ) → is_printable c ≡ true → nat_eq b c ≡ false = λ c k. differs b c out k in
     front_of-other q b bs l d (n 34 refl)
-    ∙ rw (n 43 refl, n 61 refl, n 33 refl, n 123 refl, n 125 refl, n 40 refl, n 41 refl, n 59 refl, n 44 refl, n 45 refl, n 42 refl, n 60 refl) refl
+    ∙ rw (n 43 refl, n 61 refl, n 33 refl, n 123 refl, n 125 refl, n 40 refl, n 41 refl, n 59 refl, n 44 refl, n 45 refl, n 42 refl, n 60 refl, hidden) refl
 
 pieces_of-nil : (q : ℕ) → pieces_of q [] ≡ []
 unfolding pieces_of pieces after_gap front_of
@@ -159,8 +163,26 @@ unfolding front_of
 front_of-nil q = refl
 
 -- the pieces where no token is
-then_pieces-no_token : (q : ℕ) → then_pieces (no_token q) (pieces_of q) ≡ bad_at q ∷ []
-then_pieces-no_token q = ap (λ ps. bad_at q ∷ ps) (pieces_of-nil q)
+then_pieces-no_token : (q : ℕ) (fault : TokenFault) → then_pieces (no_token q fault) (pieces_of q) ≡ bad_at q fault ∷ []
+then_pieces-no_token q fault = ap (λ ps. bad_at q fault ∷ ps) (pieces_of-nil q)
+
+-- where a gap has ended no comment begins
+comment_passes : (q b : ℕ) (bs : List ℕ) → begins_comment (b ∷ bs) ≡ true → after_gap false q (b ∷ bs) ≡ after_gap true q bs
+unfolding after_gap
+comment_passes q b bs h =
+    let is : b ≡ 47 = equal b 47 (both (nat_eq b 47) (begins 47 bs) h).0 in
+    let line : nat_eq b 10 ≡ false = grind (arith, nat_tests) in
+    let blank : is_blank b ≡ false = grind (arith, nat_tests) in
+    rw (line, blank, h) refl
+
+no_comment : (q b : ℕ) (bs : List ℕ) → after_gap false q (b ∷ bs) ≡ (q, b ∷ bs) → fault_of (b ∷ bs) ≡ token_fault (b ∷ bs)
+no_comment q b bs ended = go (begins_comment (b ∷ bs)) refl
+  where
+    go : (t : Bool) → begins_comment (b ∷ bs) ≡ t → cond t BadByte (token_fault (b ∷ bs)) ≡ token_fault (b ∷ bs)
+    go false e = refl
+    go true e =
+        let l : length (b ∷ bs) ≡ length (after_gap true q bs).1 = ap (λ (x : ℕ × List ℕ). length x.1) (sym ended ∙ comment_passes q b bs e) in
+        absurd (omega (arith, l, after_gap_shorter true q bs))
 
 -- one piece read, and those after it
 one_HasPieces : (r q : ℕ) (bs cs : List ℕ) (f : Front) → front_of q cs ≡ f → (q, cs) ≡ after_gap false r bs → Fronts q cs f → Skip r bs q cs →
@@ -171,11 +193,15 @@ one_HasPieces r q bs cs f is at (a_token {rest = rest} s) (skips g) more =
     let shorter : length rest < length cs = subst (Shorter (length cs)) is (front_shorter q cs) in
     goes_on g s (more rest (omega (arith, gap-le g)))
 one_HasPieces r q bs cs f is at (a_token s) (breaks {stop = stop} text rest g all out e) more =
-    absurd (nothing_spelled q cs (ap (front_of q) e ∙ stop_bad q stop rest out) _ _ s)
-one_HasPieces r q bs cs f is at (no_front {b = b} {bs = ds}) (skips g) more =
-    subst (HasPieces r bs) (sym (then_pieces-no_token q)) (breaks_off g (ended-IsNoToken q b ds (sym (gap_passed g) ∙ sym at) is))
-one_HasPieces r q bs cs f is at no_front (breaks {stop = stop} text rest g all out e) more =
-    subst (HasPieces r bs) (sym (then_pieces-no_token q)) (breaks_off g (broken-IsNoToken q stop text rest all out))
+    absurd (nothing_spelled q cs BadByte (ap (front_of q) e ∙ stop_bad q stop rest out) _ _ s)
+one_HasPieces r q bs cs f is at (no_front {b = b} {bs = ds} {fault = fault} same) (skips g) more =
+    let ended : after_gap false q (b ∷ ds) ≡ (q, b ∷ ds) = sym (gap_passed g) ∙ sym at in
+    subst (HasPieces r bs) (sym (then_pieces-no_token q fault ∙ ap (λ f. bad_at q f ∷ []) (same ∙ sym (no_comment q b ds ended))))
+    (breaks_off g (ended-IsNoToken q b ds fault ended is))
+one_HasPieces r q bs cs f is at (no_front same) (breaks {stop = stop} text rest g all out e) more =
+    subst (HasPieces r bs)
+    (sym (ap (λ f. then_pieces f (pieces_of q)) (sym is ∙ ap (front_of q) e ∙ stop_bad q stop rest out) ∙ then_pieces-no_token q BadByte))
+    (breaks_off g (broken-IsNoToken q stop text rest all out))
 
 -- what is read are the pieces
 enough-HasPieces : (n r : ℕ) (bs : List ℕ) → length bs < n → HasPieces r bs (pieces_of r bs)
@@ -190,22 +216,25 @@ pub pieces_of-HasPieces : (r : ℕ) (bs : List ℕ) → HasPieces r bs (pieces_o
 pieces_of-HasPieces r bs = enough-HasPieces (suc (length bs)) r bs (omega arith)
 
 -- bytes have no other pieces
-none_read : (q : ℕ) (cs : List ℕ) (f : Front) → IsNoToken q cs → Fronts q cs f → then_pieces f (pieces_of q) ≡ bad_at q ∷ []
-none_read q cs f none at_end = absurd (none.some_byte refl)
-none_read q cs f none (a_token s) = absurd (none.no_token_begins _ _ s)
-none_read q cs f none no_front = then_pieces-no_token q
+none_read : (q : ℕ) (cs : List ℕ) (f : Front) → IsNoToken q cs → after_gap false q cs ≡ (q, cs) → Fronts q cs f → then_pieces f (pieces_of q) ≡ bad_at q (fault_of cs) ∷ []
+none_read q cs f none ended at_end = absurd (none.some_byte refl)
+none_read q cs f none ended (a_token s) = absurd (none.no_token_begins _ _ s)
+none_read q cs f none ended (no_front {b = b} {bs = bs} {fault = fault} same) =
+    then_pieces-no_token q fault ∙ ap (λ f. bad_at q f ∷ []) (same ∙ sym (no_comment q b bs ended))
 
-broken_off : (q last : ℕ) (cs ds : List ℕ) → IsNoToken q cs → Skip q cs last ds → then_pieces (front_of last ds) (pieces_of last) ≡ bad_at q ∷ []
-broken_off q last cs ds none (skips g) =
+broken_off : (q last : ℕ) (cs ds : List ℕ) → IsNoToken q cs → after_gap false q cs ≡ (last, ds) → Skip q cs last ds
+    → then_pieces (front_of last ds) (pieces_of last) ≡ bad_at q (fault_of cs) ∷ []
+broken_off q last cs ds none passed (skips g) =
     let same = none.no_gap_begins last ds g in
     let row = gap_stays g (let e = ap length same in omega arith) in
-    subst (λ l. then_pieces (front_of l ds) (pieces_of l) ≡ bad_at q ∷ []) (sym row.0)
-    (subst (λ es. then_pieces (front_of q es) (pieces_of q) ≡ bad_at q ∷ []) (sym same) (none_read q cs (front_of q cs) none (front_of-Fronts q cs)))
-broken_off q last cs ds none (breaks {stop = stop} text more g all out e) =
+    let ended : after_gap false q cs ≡ (q, cs) = passed ∙ ap (λ l. (l, ds)) row.0 ∙ ap (λ es. (q, es)) same in
+    subst (λ l. then_pieces (front_of l ds) (pieces_of l) ≡ bad_at q (fault_of cs) ∷ []) (sym row.0)
+    (subst (λ es. then_pieces (front_of q es) (pieces_of q) ≡ bad_at q (fault_of cs) ∷ []) (sym same) (none_read q cs (front_of q cs) none ended (front_of-Fronts q cs)))
+broken_off q last cs ds none passed (breaks {stop = stop} text more g all out e) =
     let same = none.no_gap_begins last _ g in
     let row = gap_stays g (let e = ap length same in omega arith) in
     ap (λ f. then_pieces f (pieces_of last)) (ap (front_of last) e ∙ stop_bad last stop more out)
-    ∙ then_pieces-no_token last ∙ ap (λ l. bad_at l ∷ []) row.0
+    ∙ then_pieces-no_token last BadByte ∙ ap (λ l. bad_at l BadByte ∷ []) row.0 ∙ ap (λ es. bad_at q (fault_of es) ∷ []) same
 
 pub HasPieces-pieces_of : {r : ℕ} {bs : List ℕ} {ps : List Piece} → HasPieces r bs ps → pieces_of r bs ≡ ps
 HasPieces-pieces_of {r = r} {bs = bs} (ends {q = q} g) =
@@ -217,7 +246,7 @@ HasPieces-pieces_of {r = r} {bs = bs} (goes_on {q = q} {cs = cs} {p = p} g s mor
     ∙ ap (λ ps. p ∷ ps) (HasPieces-pieces_of more)
 HasPieces-pieces_of {r = r} {bs = bs} (breaks_off {q = q} {cs = cs} g none) =
     let at : ℕ × List ℕ = after_gap false q cs in
-    pieces_of-step r at.0 bs at.1 (sym (gap_passed g)) ∙ broken_off q at.0 cs at.1 none (skipped q cs)
+    pieces_of-step r at.0 bs at.1 (sym (gap_passed g)) ∙ broken_off q at.0 cs at.1 none refl (skipped q cs)
 
 pub one_list : {r : ℕ} {bs : List ℕ} {ps qs : List Piece} → HasPieces r bs ps → HasPieces r bs qs → ps ≡ qs
 one_list a b = sym (HasPieces-pieces_of a) ∙ HasPieces-pieces_of b

@@ -1,9 +1,9 @@
 -- Symbols: `front_of` reads what is spelled.
 use Rattle.std.proofs.Common.{◌≡◌, ℕ, ◌≤◌, List, [], ◌∷◌, ◌++◌, length, drop, Bool, true, false, nat_eq, ◌&&◌, Option, Some, None, refl, ap, sym, ◌∙◌, arith}
 use Rattle.iso_script_lexer.specs.Piece.{symbol_at}
-use Rattle.iso_script_lexer.specs.Spelling.{marks}
+use Rattle.iso_script_lexer.specs.Spelling.{marks, begins, is_letter, is_digit}
 use Rattle.iso_script_lexer.specs.Lexical.{spells_symbol}
-use Rattle.iso_script_lexer.specs.Scan.{begins, double_symbol, single_symbol, longest_symbol, symbol_front, symbol_piece, front_of, after_gap}
+use Rattle.iso_script_lexer.specs.Scan.{double_symbol, single_symbol, longest_symbol, symbol_front, symbol_piece, front_of, after_gap}
 use Rattle.iso_script_lexer.specs.declared.symbol.Symbol.{Symbol}
 use Rattle.iso_script_lexer.specs.declared.symbol.Symbol.TheVariants.{OpenBrace, Equals, Plus, PlusPlus, EqualsEquals, NotEquals}
 use Rattle.iso_script_lexer.proofs.Decisions.{by_test, equal, both}
@@ -94,11 +94,12 @@ double_symbol-WritesTwo b bs =
     by_test (WritesTwo b bs) (nat_eq b 61 && begins 61 bs) _ _ (λ e. (two_marks b 61 61 bs e, refl)) (λ n1.
     by_test (WritesTwo b bs) (nat_eq b 33 && begins 61 bs) _ _ (λ e. (two_marks b 33 61 bs e, refl)) (λ n2. tt)))
 
-pub symbol_front-Fronts : (r b : ℕ) (bs : List ℕ) → Fronts r (b ∷ bs) (symbol_piece r (longest_symbol (double_symbol b bs) (single_symbol b) bs))
-symbol_front-Fronts r b bs = go (double_symbol b bs) (single_symbol b) refl (double_symbol-WritesTwo b bs) (single_symbol-Writes b)
+pub symbol_front-Fronts : (r b : ℕ) (bs : List ℕ) → is_letter b ≡ false → is_digit b ≡ false → nat_eq b 34 ≡ false
+    → Fronts r (b ∷ bs) (symbol_piece r b (longest_symbol (double_symbol b bs) (single_symbol b) bs))
+symbol_front-Fronts r b bs l d q = go (double_symbol b bs) (single_symbol b) refl (double_symbol-WritesTwo b bs) (single_symbol-Writes b)
   where
-    go : (two one : Option Symbol) → double_symbol b bs ≡ two → WritesTwo b bs two → Writes b one → Fronts r (b ∷ bs) (symbol_piece r (longest_symbol two one bs))
+    go : (two one : Option Symbol) → double_symbol b bs ≡ two → WritesTwo b bs two → Writes b one → Fronts r (b ∷ bs) (symbol_piece r b (longest_symbol two one bs))
     go (Some s) one is two writes = a_token (spells_symbol two.0 (λ t more e. omega (arith, marks-short t, two.1)))
     go None (Some s) none two writes =
         a_token (spells_symbol (ap (λ m. m ++ bs) (sym writes)) (λ t more e. let n : length (marks s) ≡ 1 = ap length writes in omega (arith, single-longest b bs none t more e)))
-    go None None none two writes = no_front
+    go None None none two writes = no_front (rw (l, d, q) refl)

@@ -149,7 +149,7 @@ pub text_front : (r : ℕ) (bs : List ℕ) → Fronts r (34 ∷ bs) (text_piece 
 text_front r bs = go (quoted_length false 4096 bs) refl
   where
     go : (o : Option ℕ) → quoted_length false 4096 bs ≡ o → Fronts r (34 ∷ bs) (text_piece r o bs)
-    go None e = no_front
+    go None e = no_front refl
     go (Some n) e =
         let t = quoted false 4096 n bs e in
         a_token (spells_text

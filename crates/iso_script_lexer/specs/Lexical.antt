@@ -3,6 +3,7 @@ use Rattle.std.specs.Prelude.{ℕ, ◌+◌, ◌-◌, ◌*◌, ◌^◌, ◌≤◌
 use Rattle.std.specs.List.{AllByRecursion}
 use Rattle.iso_model.specs.declared.limits.TheConstants.{NAME_BYTES}
 use Rattle.iso_script_lexer.specs.Piece.{Piece, name_at, number_at, text_at, word_at, symbol_at, bad_at}
+use Rattle.iso_script_lexer.specs.Misspellings.{fault_of}
 use Rattle.iso_script_lexer.specs.Spelling.{marks, spelling, line_feed, quote, slash, is_blank, in_comment, is_letter, is_digit, in_name}
 use Rattle.iso_script_lexer.specs.Text.{written, IsText}
 use Rattle.iso_script_lexer.specs.declared.symbol.Symbol.{Symbol}
@@ -66,7 +67,8 @@ pub data Spells : (row : ℕ) → List ℕ → Piece → List ℕ → Type 0 whe
   spells_number : {r : ℕ} {bs rest : List ℕ} (digits : List ℕ) → bs ≡ digits ++ rest → IsNumeral digits → EndsName rest
       → decimal_value digits ≤ 2 ^ 63 → Spells r bs (number_at r (decimal_value digits)) rest
   -- a text, written between two quotes
-  spells_text : {r : ℕ} {bs rest t : List ℕ} → bs ≡ quote ∷ (written t ++ (quote ∷ rest)) → IsText t → Spells r bs (text_at r t) rest
+  spells_text : {r : ℕ} {bs rest t : List ℕ} → bs ≡ quote ∷ (written t ++ (quote ∷ rest)) → IsText t
+      → Spells r bs (text_at r t) rest
   -- a symbol, where no symbol that is there is longer
   spells_symbol : {r : ℕ} {bs rest : List ℕ} {s : Symbol} → bs ≡ marks s ++ rest
       → ((t : Symbol) (more : List ℕ) → bs ≡ marks t ++ more → length (marks t) ≤ length (marks s))
@@ -78,7 +80,7 @@ pub record IsNoToken (row : ℕ) (bs : List ℕ) : Type 0 where
   pub no_gap_begins : (last : ℕ) (cs : List ℕ) → IsGap row bs last cs → cs ≡ bs
   pub no_token_begins : (p : Piece) (rest : List ℕ) → Spells row bs p rest → ⊥
 
--- The bytes from a line on are these pieces, with gaps between them. What is no token is the last piece.
+-- The bytes from a line on are these pieces, with gaps between them. What is no token is the last piece, with its fault.
 pub data HasPieces : (row : ℕ) → List ℕ → List Piece → Type 0 where
   -- a gap, up to the end
   ends : {r q : ℕ} {bs : List ℕ} → IsGap r bs q [] → HasPieces r bs []
@@ -86,7 +88,7 @@ pub data HasPieces : (row : ℕ) → List ℕ → List Piece → Type 0 where
   goes_on : {r q : ℕ} {bs cs ds : List ℕ} {p : Piece} {ps : List Piece}
       → IsGap r bs q cs → Spells q cs p ds → HasPieces q ds ps → HasPieces r bs (p ∷ ps)
   -- a gap, and what is no token
-  breaks_off : {r q : ℕ} {bs cs : List ℕ} → IsGap r bs q cs → IsNoToken q cs → HasPieces r bs (bad_at q ∷ [])
+  breaks_off : {r q : ℕ} {bs cs : List ℕ} → IsGap r bs q cs → IsNoToken q cs → HasPieces r bs (bad_at q (fault_of cs) ∷ [])
 
 -- bytes have one list of pieces at most
 abbrev pub PiecesAreUnique : Type 0

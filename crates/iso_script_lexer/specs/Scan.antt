@@ -2,20 +2,15 @@
 use Rattle.std.specs.Prelude.{ℕ, zero, suc, ◌+◌, ◌-◌, List, [], ◌∷◌, Bool, true, false, nat_eq, nat_le, ◌&&◌, Option, Some, None, if◌then◌else◌, length, take, drop, option_map}
 use Rattle.std.specs.List.{prefix_len}
 use Rattle.iso_script_lexer.specs.Piece.{Piece, name_at, number_at, text_at, word_at, symbol_at, bad_at}
-use Rattle.iso_script_lexer.specs.Spelling.{is_blank, is_printable, in_comment, is_letter, is_digit, in_name, is_escaped, word_of}
+use Rattle.iso_script_lexer.specs.Spelling.{begins, begins_in, is_blank, is_printable, in_comment, is_letter, is_digit, in_name, is_escaped, word_of}
 use Rattle.iso_script_lexer.specs.Lexical.{decimal_value}
+use Rattle.iso_script_lexer.specs.Misspellings.{text_fault}
 use Rattle.iso_script_lexer.specs.Text.{decoded}
+use Rattle.iso_script_lexer.specs.declared.token.TokenFault.{TokenFault}
+use Rattle.iso_script_lexer.specs.declared.token.TokenFault.TheVariants as F
 use Rattle.iso_script_lexer.specs.declared.word.Word as W
 use Rattle.iso_script_lexer.specs.declared.symbol.Symbol as S
 use Rattle.iso_script_lexer.specs.declared.symbol.Symbol.TheVariants.{OpenBrace, CloseBrace, OpenParen, CloseParen, Semicolon, Comma, Equals, Plus, Minus, Star, PlusPlus, EqualsEquals, NotEquals, Less}
-
-abbrev pub begins : ℕ → List ℕ → Bool
-begins c [] = false
-begins c (b ∷ bs) = nat_eq b c
-
-abbrev pub begins_in : (ℕ → Bool) → List ℕ → Bool
-begins_in p [] = false
-begins_in p (b ∷ bs) = p b
 
 -- the line and the bytes after a gap; in a comment, those after its end
 unfoldable pub after_gap : (comment : Bool) → ℕ → List ℕ → ℕ × List ℕ
@@ -85,12 +80,13 @@ symbol_front (b ∷ bs) = longest_symbol (double_symbol b bs) (single_symbol b) 
 abbrev pub Front : Type 0
 Front = Option (Piece × List ℕ)
 
-abbrev pub no_token : ℕ → Front
-no_token row = Some (bad_at row, [])
+abbrev pub no_token : ℕ → TokenFault → Front
+no_token row fault = Some (bad_at row fault, [])
 
-abbrev pub symbol_piece : ℕ → Option (S.Symbol × List ℕ) → Front
-symbol_piece row (Some f) = Some (symbol_at row f.0, f.1)
-symbol_piece row None = no_token row
+-- a symbol, or what a byte is that begins none
+abbrev pub symbol_piece : ℕ → ℕ → Option (S.Symbol × List ℕ) → Front
+symbol_piece row b (Some f) = Some (symbol_at row f.0, f.1)
+symbol_piece row b None = no_token row (if is_printable b then F.BadToken else F.BadByte)
 
 abbrev pub name_or_word : ℕ → List ℕ → Option W.Word → Piece
 name_or_word row n (Some w) = word_at row w
@@ -98,17 +94,17 @@ name_or_word row n None = name_at row n
 
 abbrev pub name_piece : ℕ → ℕ → List ℕ → Front
 name_piece row n bs =
-    if nat_le n 64 then Some (name_or_word row (take n bs) (word_of (take n bs)), drop n bs) else no_token row
+    if nat_le n 64 then Some (name_or_word row (take n bs) (word_of (take n bs)), drop n bs) else no_token row F.TooLong
 
 abbrev pub number_piece : ℕ → ℕ → List ℕ → Front
 number_piece row n bs =
-    if begins_in in_name (drop n bs) then no_token row
+    if begins_in in_name (drop n bs) then no_token row F.BadToken
     else if nat_le (decimal_value (take n bs)) 9223372036854775808 then Some (number_at row (decimal_value (take n bs)), drop n bs)
-    else no_token row
+    else no_token row F.NumberTooBig
 
 abbrev pub text_piece : ℕ → Option ℕ → List ℕ → Front
 text_piece row (Some n) bs = Some (text_at row (decoded false (take n bs)), drop (n + 1) bs)
-text_piece row None bs = no_token row
+text_piece row None bs = no_token row (text_fault false 4096 bs)
 
 -- the piece at the front and what follows it; none at the end
 unfoldable pub front_of : ℕ → List ℕ → Front
@@ -117,7 +113,7 @@ front_of row (b ∷ bs) =
     if is_letter b then name_piece row (prefix_len in_name (b ∷ bs)) (b ∷ bs)
     else if is_digit b then number_piece row (prefix_len is_digit (b ∷ bs)) (b ∷ bs)
     else if nat_eq b 34 then text_piece row (quoted_length false 4096 bs) bs
-    else symbol_piece row (symbol_front (b ∷ bs))
+    else symbol_piece row b (symbol_front (b ∷ bs))
 
 abbrev pub then_pieces : Front → (List ℕ → List Piece) → List Piece
 then_pieces None more = []

@@ -16,12 +16,12 @@ shown row (Text t) rest = Some (text_at row (text_of t), rest)
 shown row (Word w) rest = Some (word_at row w, rest)
 shown row (Symbol s) rest = Some (symbol_at row s, rest)
 shown row End rest = None
-shown row (Bad fault) rest = Some (bad_at row, rest)
+shown row (Bad fault) rest = Some (bad_at row fault, rest)
 
 -- what a scan of the front has seen on a line
 abbrev pub seen : ℕ → Result (Token × Bor (List ℕ)) Misspelling → Front
 seen row (Ok f) = shown row f.0 f.1.now
-seen row (Err e) = no_token row
+seen row (Err e) = no_token row e.fault
 
 -- what a scan of so many bytes has left, or the offset of its fault, lies within them
 abbrev pub IsWithin : ℕ → Result (Token × Bor (List ℕ)) Misspelling → Type 0

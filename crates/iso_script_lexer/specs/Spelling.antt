@@ -1,5 +1,5 @@
 -- How symbols and reserved words are written, and which bytes stand where. A byte is its ASCII code.
-use Rattle.std.specs.Prelude.{ℕ, List, [], ◌∷◌, Bool, Option, nat_eq, nat_le, ◌&&◌, ◌||◌, codes}
+use Rattle.std.specs.Prelude.{ℕ, List, [], ◌∷◌, Bool, false, Option, nat_eq, nat_le, ◌&&◌, ◌||◌, codes}
 use Rattle.std.specs.List.{find}
 use Rattle.std.specs.Str.{bytes_eq}
 use Rattle.iso_script_lexer.specs.declared.symbol.Symbol.{Symbol}
@@ -82,7 +82,10 @@ spelling Disabled = codes "disabled"
 
 -- the reserved words
 abbrev pub all_words : List Word
-all_words = Team ∷ Class ∷ Test ∷ SameThread ∷ Concurrent ∷ Isolated ∷ Read ∷ Write ∷ Static ∷ Field ∷ BeforeAll ∷ AfterAll ∷ BeforeEach ∷ AfterEach ∷ Let ∷ Print ∷ Assert ∷ AssertEqual ∷ Assume ∷ Fail ∷ If ∷ Else ∷ Repeat ∷ SetProp ∷ ClearProp ∷ SetLocale ∷ WriteFile ∷ AppendFile ∷ DeleteFile ∷ True ∷ False ∷ Text ∷ Len ∷ Prop ∷ HasProp ∷ Locale ∷ File ∷ HasFile ∷ Children ∷ Disabled ∷ []
+all_words = Team ∷ Class ∷ Test ∷ SameThread ∷ Concurrent ∷ Isolated ∷ Read ∷ Write ∷ Static ∷ Field ∷ BeforeAll ∷
+    AfterAll ∷ BeforeEach ∷ AfterEach ∷ Let ∷ Print ∷ Assert ∷ AssertEqual ∷ Assume ∷ Fail ∷ If ∷ Else ∷ Repeat ∷
+    SetProp ∷ ClearProp ∷ SetLocale ∷ WriteFile ∷ AppendFile ∷ DeleteFile ∷ True ∷ False ∷ Text ∷ Len ∷ Prop ∷ HasProp ∷
+    Locale ∷ File ∷ HasFile ∷ Children ∷ Disabled ∷ []
 
 -- the reserved word that is written so
 unfoldable pub word_of : List ℕ → Option Word
@@ -176,6 +179,15 @@ is_digit b = nat_le 48 b && nat_le b 57
 -- a letter, a digit or an underscore
 abbrev pub in_name : ℕ → Bool
 in_name b = is_letter b || (is_digit b || nat_eq b 95)
+
+-- whether this byte is next, and whether one of these is
+abbrev pub begins : ℕ → List ℕ → Bool
+begins c [] = false
+begins c (b ∷ bs) = nat_eq b c
+
+abbrev pub begins_in : (ℕ → Bool) → List ℕ → Bool
+begins_in test [] = false
+begins_in test (b ∷ bs) = test b
 
 -- a quote and a backslash, which are escaped in a text
 abbrev pub is_escaped : ℕ → Bool

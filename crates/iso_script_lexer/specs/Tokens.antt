@@ -28,7 +28,7 @@ front row (Text t) ps = text_at row (text_of t) ∷ ps
 front row (Word w) ps = word_at row w ∷ ps
 front row (Symbol s) ps = symbol_at row s ∷ ps
 front row End ps = []
-front row (Bad fault) ps = bad_at row ∷ ps
+front row (Bad fault) ps = bad_at row fault ∷ ps
 
 -- what follows a symbol, where it is next
 abbrev pub after : S.Symbol → List Piece → Option (List Piece)

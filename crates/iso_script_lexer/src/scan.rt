@@ -2,9 +2,10 @@
 ghost use Rattle.std.specs.Prelude.{◌≡◌, ℕ, ◌+◌, ◌≤◌, ◌^◌, ◌-◌, length, min, option_map, false, true, IfSome, IfOk, IfErr};
 ghost use Rattle.std.specs.List.{prefix_len};
 ghost use Rattle.std.specs.Result.{result_ok};
-ghost use Rattle.iso_script_lexer.specs.Spelling.{is_letter, is_digit, in_name};
+ghost use Rattle.iso_script_lexer.specs.Spelling.{begins_in, is_letter, is_digit, in_name};
 ghost use Rattle.iso_script_lexer.specs.Lexical.{AllDigits, decimal_value};
-ghost use Rattle.iso_script_lexer.specs.Scan.{begins_in, quoted_length, single_symbol, symbol_front, name_piece, number_piece, text_piece, front_of};
+ghost use Rattle.iso_script_lexer.specs.Misspellings.{text_fault};
+ghost use Rattle.iso_script_lexer.specs.Scan.{quoted_length, single_symbol, symbol_front, name_piece, number_piece, text_piece, front_of};
 ghost use Rattle.iso_script_lexer.specs.Tokens.{IsToken};
 ghost use Rattle.iso_script_lexer.specs.Scanned.{seen, IsWithin};
 
@@ -125,9 +126,10 @@ fn scan_number(bytes: &[u8]) -> Result<(Token<'_>, &[u8]), Misspelling>
 
 /// How many bytes stand before the closing quote of a text, where these follow its opening quote.
 /// The offset of a fault counts from the opening quote.
-#[tactic(auto, unfolding(crate::specs::Scan::quoted_length))]
+#[tactic(auto, unfolding(crate::specs::Scan::quoted_length, crate::specs::Misspellings::text_fault))]
 fn quoted_length(bytes: &[u8]) -> Result<usize, Misspelling>
     ensures value { quoted_length false 4096 bytes.now ≡ result_ok result }
+    ensures fault { IfErr result (λ e. e.fault ≡ text_fault false 4096 bytes.now) }
     ensures within { IfErr result (λ e. e.offset ≤ length bytes.now + 1) }
 {
     let mut rest = bytes;

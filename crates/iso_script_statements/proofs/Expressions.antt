@@ -54,7 +54,7 @@ function_first f (name_at r n ∷ ps) h = cc
 function_first f (number_at r n ∷ ps) h = cc
 function_first f (text_at r t ∷ ps) h = cc
 function_first f (symbol_at r s ∷ ps) h = cc
-function_first f (bad_at r ∷ ps) h = cc
+function_first f (bad_at r fault ∷ ps) h = cc
 
 pub is_call : (d : ℕ) (f : Function) (e : Term) (old mid rest : List Piece) → function_next old ≡ Some f → mid ≡ tail old → IsEnclosed d e mid rest → IsOperand d (call f e) old rest
 is_call d f e old mid rest next ahead h =
@@ -108,7 +108,7 @@ is_name d n (number_at r m ∷ ps) new next ahead = cc
 is_name d n (text_at r t ∷ ps) new next ahead = cc
 is_name d n (word_at r w ∷ ps) new next ahead = cc
 is_name d n (symbol_at r s ∷ ps) new next ahead = cc
-is_name d n (bad_at r ∷ ps) new next ahead = cc
+is_name d n (bad_at r fault ∷ ps) new next ahead = cc
 
 -- what is no parenthesis, function, locale or name is a literal
 pub literal_only : (d : ℕ) (e : Term) (old rest : List Piece) → after OpenParen old ≡ None → function_next old ≡ None → after_word W.Locale old ≡ None → name_ahead old ≡ None → IsOperand d e old rest → (x : Data) × IsLiteral x old rest
@@ -199,7 +199,7 @@ infix_first s i (name_at r n ∷ ps) h = cc
 infix_first s i (number_at r n ∷ ps) h = cc
 infix_first s i (text_at r t ∷ ps) h = cc
 infix_first s i (word_at r w ∷ ps) h = cc
-infix_first s i (bad_at r ∷ ps) h = cc
+infix_first s i (bad_at r fault ∷ ps) h = cc
 
 pub is_chain : (d : ℕ) (s : Symbol) (op : Operator) (e : Term) (es : Terms) (old mid rest : List Piece) → infix_next mid ≡ Some (s, Chain op) → IsOperand d e old mid → IsChained d s 31 es mid rest → IsExpression d (chain op e es) old rest
 is_chain d s op e es old mid rest next h k =

@@ -31,7 +31,7 @@ simple_first k (name_at r n ∷ ps) h = cc
 simple_first k (number_at r n ∷ ps) h = cc
 simple_first k (text_at r t ∷ ps) h = cc
 simple_first k (symbol_at r s ∷ ps) h = cc
-simple_first k (bad_at r ∷ ps) h = cc
+simple_first k (bad_at r fault ∷ ps) h = cc
 
 pub is_simple : (d above : ℕ) (k : Simple) (a : Act) (old mid rest : List Piece) → simple_next old ≡ Some k → mid ≡ tail old → IsSimple k a mid rest → IsStatement d above a old rest
 is_simple d above k a old mid rest next ahead h =
@@ -111,7 +111,7 @@ text_first t (name_at r n ∷ ps) rest h = cc
 text_first t (number_at r n ∷ ps) rest h = cc
 text_first t (word_at r w ∷ ps) rest h = cc
 text_first t (symbol_at r s ∷ ps) rest h = cc
-text_first t (bad_at r ∷ ps) rest h = cc
+text_first t (bad_at r fault ∷ ps) rest h = cc
 
 pub is_fail : (t : List ℕ) (old mid rest : List Piece) → text_next old ≡ Some (t, mid) → after Semicolon mid ≡ Some rest → IsSimple Fail (plain (fail t)) old rest
 is_fail t old mid rest next taken =

@@ -23,7 +23,7 @@ name_is n (number_at r m ∷ ps) rest h = cc
 name_is n (text_at r t ∷ ps) rest h = cc
 name_is n (word_at r w ∷ ps) rest h = cc
 name_is n (symbol_at r s ∷ ps) rest h = cc
-name_is n (bad_at r ∷ ps) rest h = cc
+name_is n (bad_at r fault ∷ ps) rest h = cc
 name_is n [] rest h = cc
 
 -- a word and a name that were taken stood in front

@@ -25,7 +25,8 @@ use Rattle.iso_script_statements.specs.declared.expression.Infix.TheVariants.{Ch
 -- A literal. A number is at most 2^63 - 1, and after a minus at most 2^63.
 pub data IsLiteral : Data → List Piece → List Piece → Type 0 where
   a_number : {r n : ℕ} {ps : List Piece} → n < 2 ^ 63 → IsLiteral (Whole (pos n)) (number_at r n ∷ ps) ps
-  a_negative : {q r n : ℕ} {ps : List Piece} → n ≤ 2 ^ 63 → IsLiteral (Whole (neg_ℤ (pos n))) (symbol_at q Minus ∷ number_at r n ∷ ps) ps
+  a_negative : {q r n : ℕ} {ps : List Piece} → n ≤ 2 ^ 63
+      → IsLiteral (Whole (neg_ℤ (pos n))) (symbol_at q Minus ∷ number_at r n ∷ ps) ps
   a_text : {r : ℕ} {t : List ℕ} {ps : List Piece} → IsLiteral (Text t) (text_at r t ∷ ps) ps
   a_true : {r : ℕ} {ps : List Piece} → IsLiteral (Flag true) (word_at r W.True ∷ ps) ps
   a_false : {r : ℕ} {ps : List Piece} → IsLiteral (Flag false) (word_at r W.False ∷ ps) ps
@@ -70,7 +71,8 @@ mutual
   pub data IsOperand : (d : ℕ) → Term → List Piece → List Piece → Type 0 where
     a_literal : {d : ℕ} {x : Data} {ps qs : List Piece} → IsLiteral x ps qs → IsOperand d (literal x) ps qs
     a_name : {d r : ℕ} {n : List ℕ} {ps : List Piece} → IsOperand d (name n) (name_at r n ∷ ps) ps
-    in_parentheses : {d r : ℕ} {e : Term} {ps qs : List Piece} → IsEnclosed d e (symbol_at r OpenParen ∷ ps) qs → IsOperand d e (symbol_at r OpenParen ∷ ps) qs
+    in_parentheses : {d r : ℕ} {e : Term} {ps qs : List Piece} → IsEnclosed d e (symbol_at r OpenParen ∷ ps) qs
+        → IsOperand d e (symbol_at r OpenParen ∷ ps) qs
     a_call : {d r : ℕ} {w : Word} {f : Function} {e : Term} {ps qs : List Piece}
         → function_of w ≡ Some f → IsEnclosed d e ps qs → IsOperand d (call f e) (word_at r w ∷ ps) qs
     the_locale : {d r : ℕ} {e : Term} {ps qs : List Piece} → IsLocale d e ps qs → IsOperand d e (word_at r W.Locale ∷ ps) qs
@@ -92,7 +94,8 @@ mutual
   pub data IsExpression : (d : ℕ) → Term → List Piece → List Piece → Type 0 where
     an_operand : {d : ℕ} {e : Term} {ps qs : List Piece} → IsOperand d e ps qs → infix_next qs ≡ None → IsExpression d e ps qs
     a_chain : {d r : ℕ} {s : Symbol} {op : Operator} {e : Term} {es : Terms} {ps qs rs : List Piece}
-        → infix_of s ≡ Some (Chain op) → IsOperand d e ps (symbol_at r s ∷ qs) → IsChained d s (OPERANDS - 1) es (symbol_at r s ∷ qs) rs
+        → infix_of s ≡ Some (Chain op) → IsOperand d e ps (symbol_at r s ∷ qs)
+        → IsChained d s (OPERANDS - 1) es (symbol_at r s ∷ qs) rs
         → IsExpression d (chain op e es) ps rs
     a_comparison : {d r : ℕ} {s : Symbol} {c : Comparison} {e f : Term} {ps qs rs : List Piece}
         → infix_of s ≡ Some (Compare c) → IsOperand d e ps (symbol_at r s ∷ qs) → IsOperand d f qs rs → infix_next rs ≡ None
@@ -100,7 +103,8 @@ mutual
 
 -- an expression of a statement, and the symbol that follows it
 pub data IsBefore : Symbol → Term → List Piece → List Piece → Type 0 where
-  before : {q : ℕ} {s : Symbol} {e : Term} {ps qs : List Piece} → IsExpression PARENTHESES e ps (symbol_at q s ∷ qs) → IsBefore s e ps qs
+  before : {q : ℕ} {s : Symbol} {e : Term} {ps qs : List Piece} → IsExpression PARENTHESES e ps (symbol_at q s ∷ qs)
+      → IsBefore s e ps qs
 
 -- what several expressions stand for
 abbrev pub terms_in : Vec Expr Global → Terms

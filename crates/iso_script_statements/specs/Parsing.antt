@@ -9,5 +9,6 @@ abbrev pub IsUnread : {A : Type 0} → (A → List Piece → List Piece → Type
 IsUnread {A} Is ps e = (x : A) (rest : List Piece) → Is x ps rest → IsMemory e
 
 -- What is answered is read of the pieces, up to those that are left; and what can be read is answered, unless memory runs out.
-abbrev pub Parses : {X A : Type 0} → (X → A) → (A → List Piece → List Piece → Type 0) → Result X ScriptError → List Piece → List Piece → Type 0
+abbrev pub Parses : {X A : Type 0} → (X → A) → (A → List Piece → List Piece → Type 0) → Result X ScriptError
+    → List Piece → List Piece → Type 0
 Parses view Is result old new = MatchResult result (λ x. Is (view x) old new) (IsUnread Is old)

@@ -24,7 +24,7 @@ line_of (number_at r n) = r
 line_of (text_at r t) = r
 line_of (word_at r w) = r
 line_of (symbol_at r s) = r
-line_of (bad_at r) = r
+line_of (bad_at r fault) = r
 
 -- The row of the piece that is next, in a block whose opening brace has this many lines above its own: rows count from 1
 -- on the line of the brace.

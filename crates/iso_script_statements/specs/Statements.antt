@@ -74,7 +74,8 @@ pub data IsBinding : List ℕ × Term → List Piece → List Piece → Type 0 w
 
 -- what follows the word of a simple statement
 pub data IsSimple : Simple → Act → List Piece → List Piece → Type 0 where
-  of_one : {o : OneOperand} {e : Term} {ps qs : List Piece} → IsBefore Semicolon e ps qs → IsSimple (One o) (plain (with_one o e)) ps qs
+  of_one : {o : OneOperand} {e : Term} {ps qs : List Piece} → IsBefore Semicolon e ps qs
+      → IsSimple (One o) (plain (with_one o e)) ps qs
   of_two : {o : TwoOperands} {e f : Term} {ps qs rs : List Piece}
       → IsBefore Comma e ps qs → IsBefore Semicolon f qs rs → IsSimple (Two o) (plain (with_two o e f)) ps rs
   a_let : {b : List ℕ × Term} {ps qs : List Piece} → IsBinding b ps qs → IsSimple Let (plain (let_name b.0 b.1)) ps qs
@@ -89,28 +90,34 @@ mutual
     an_assignment : {d above r : ℕ} {n : List ℕ} {b : List ℕ × Term} {ps qs : List Piece}
         → IsBinding b (name_at r n ∷ ps) qs → IsStatement d above (plain (assign b.0 b.1)) (name_at r n ∷ ps) qs
     an_if : {d above r : ℕ} {e : Term} {a b : Acts} {ps qs rs ts : List Piece}
-        → IsExpression PARENTHESES e ps qs → IsBody d above a qs rs → IsElse d above b rs ts → IsStatement d above (choice e a b) (word_at r W.If ∷ ps) ts
+        → IsExpression PARENTHESES e ps qs → IsBody d above a qs rs → IsElse d above b rs ts
+        → IsStatement d above (choice e a b) (word_at r W.If ∷ ps) ts
     a_repeat : {d above r : ℕ} {e : Term} {a : Acts} {ps qs rs : List Piece}
-        → IsExpression PARENTHESES e ps qs → IsBody d above a qs rs → IsStatement d above (repeat e a) (word_at r W.Repeat ∷ ps) rs
+        → IsExpression PARENTHESES e ps qs → IsBody d above a qs rs
+        → IsStatement d above (repeat e a) (word_at r W.Repeat ∷ ps) rs
 
   -- the body of an `else`, and an empty one where there is none
   pub data IsElse : (d above : ℕ) → Acts → List Piece → List Piece → Type 0 where
     no_else : {d above : ℕ} {ps : List Piece} → after_word W.Else ps ≡ None → IsElse d above no_acts ps ps
-    an_else : {d above r : ℕ} {b : Acts} {ps qs : List Piece} → IsBody d above b ps qs → IsElse d above b (word_at r W.Else ∷ ps) qs
+    an_else : {d above r : ℕ} {b : Acts} {ps qs : List Piece} → IsBody d above b ps qs
+        → IsElse d above b (word_at r W.Else ∷ ps) qs
 
   -- statements, each with the row of its first token, and the brace that closes them
   pub data IsStatements : (d above : ℕ) → Acts → List Piece → List Piece → Type 0 where
     closed : {d above r : ℕ} {ps : List Piece} → IsStatements d above no_acts (symbol_at r CloseBrace ∷ ps) ps
     and_then : {d above : ℕ} {a : Act} {body : Acts} {ps qs rs : List Piece}
-        → IsStatement d above a ps qs → IsStatements d above body qs rs → IsStatements d above (act (row_in above ps) a body) ps rs
+        → IsStatement d above a ps qs → IsStatements d above body qs rs
+        → IsStatements d above (act (row_in above ps) a body) ps rs
 
   -- a body
   pub data IsBody : (d above : ℕ) → Acts → List Piece → List Piece → Type 0 where
-    a_body : {d above r : ℕ} {body : Acts} {ps qs : List Piece} → IsStatements d above body ps qs → IsBody (suc d) above body (symbol_at r OpenBrace ∷ ps) qs
+    a_body : {d above r : ℕ} {body : Acts} {ps qs : List Piece} → IsStatements d above body ps qs
+        → IsBody (suc d) above body (symbol_at r OpenBrace ∷ ps) qs
 
 -- a block: the body of a test, or of a lifecycle block
 pub data IsBlock : Acts → List Piece → List Piece → Type 0 where
-  a_block : {r : ℕ} {body : Acts} {ps qs : List Piece} → IsBody BODY_DEPTH (r - 1) body (symbol_at r OpenBrace ∷ ps) qs → IsBlock body (symbol_at r OpenBrace ∷ ps) qs
+  a_block : {r : ℕ} {body : Acts} {ps qs : List Piece}
+      → IsBody BODY_DEPTH (r - 1) body (symbol_at r OpenBrace ∷ ps) qs → IsBlock body (symbol_at r OpenBrace ∷ ps) qs
 
 -- what the statements of a body stand for
 abbrev pub body_of : Vec Stmt Global → Acts

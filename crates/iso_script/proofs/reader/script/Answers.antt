@@ -1,21 +1,29 @@
 use Rattle.std.proofs.lemmas.Result.{err_from_is_err_and}
-use Rattle.iso_script.proofs.Scripts.{is_script, script_classes, script_name, script_word}
+use Rattle.iso_script.proofs.Scripts.{is_script, of_name, of_rest, of_word, script_classes, script_name, script_word}
 use Rattle.iso_script.proofs.reader.script.Goals as goal
 
 pub returns-in_err-expect_word : goal.returns-in_err-expect_word
 returns-in_err-expect_word c =
     let p = err_from_is_err_and c.from_residual.result c.from_residual.ensures.1 in
-    rw p.1 (λ s h. absurd (script_word s _ c.in_err-expect_word.ensures.0 h))
+    let none = c.in_err-expect_word.ensures in
+    rw (p.1, p.2) record { read = λ s h. absurd (script_word s _ none.0 h); begins = of_word _ _ none.0 none.1 }
 
 pub returns-in_err-name : goal.returns-in_err-name
 returns-in_err-name c =
     let p = err_from_is_err_and c.from_residual-in_err-name.result c.from_residual-in_err-name.ensures.1 in
-    rw p.1 (λ s h. absurd (script_name s _ _ c.in_ok-expect_word.ensures c.in_err-name.ensures.0 h))
+    let word = c.in_ok-expect_word.ensures in
+    let none = c.in_err-name.ensures in
+    rw (p.1, p.2) record { read = λ s h. absurd (script_name s _ _ word none.0 h); begins = of_name _ _ _ word none.0 none.1 }
 
 pub returns-in_err-classes : goal.returns-in_err-classes
 returns-in_err-classes c =
     let p = err_from_is_err_and c.from_residual-in_err-classes.result c.from_residual-in_err-classes.ensures.1 in
-    rw (p.1, p.2) (λ s h. let k = script_classes _ _ _ _ c.in_ok-expect_word.ensures c.in_ok-name.ensures h in c.in_err-classes.ensures k.0 k.1)
+    let word = c.in_ok-expect_word.ensures in
+    let name = c.in_ok-name.ensures in
+    rw (p.1, p.2) record {
+      read = λ s h. let k = script_classes _ _ _ _ word name h in c.in_err-classes.ensures k.0 k.1;
+      begins = of_rest _ _ _ word name;
+    }
 
 pub returns : goal.returns
-returns c = rw c.in_ok-copied.ensures (is_script _ _ _ _ _ c.in_ok-expect_word.ensures c.in_ok-name.ensures c.in_ok-classes.ensures)
+returns c = rw c.in_ok-copied.ensures record { read = is_script _ _ _ _ _ c.in_ok-expect_word.ensures c.in_ok-name.ensures c.in_ok-classes.ensures; begins = tt }

@@ -18,4 +18,4 @@ returns-in-Err c =
     let line : ℕ = c.skip_gap-start.result.position.line in
     sym (pieces_of-step _ _ _ _ c.skip_gap-start.ensures
     ∙ ap (λ f. then_pieces f (pieces_of line)) (c.in-Err.ensures.value line)
-    ∙ ap (λ n. then_pieces (no_token n) (pieces_of n)) (sym c.position_after-position.ensures.line))
+    ∙ ap (λ n. then_pieces (no_token n c.in-Err.misspelling.fault) (pieces_of n)) (sym c.position_after-position.ensures.line))
