@@ -4,6 +4,7 @@ pub mod BodyRuns
 pub mod ChainLemmas
 pub mod ChainRights
 pub mod ChainRuns
+pub mod Claims
 pub mod Counting
 pub mod Effects
 pub mod Ends

@@ -13,6 +13,7 @@ pub mod Jobs
 pub mod Keys
 pub mod Memory
 pub mod Names
+pub mod NameSets
 pub mod Openings
 pub mod Properties
 pub mod ResourceKeys

@@ -6,6 +6,7 @@ pub mod body_examples;
 pub mod body_laws;
 pub mod chain;
 pub mod data;
+pub mod distinct;
 pub mod examples;
 pub mod fault;
 pub mod heads;

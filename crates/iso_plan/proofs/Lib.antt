@@ -1,5 +1,7 @@
 pub mod ChildLemmas
 pub mod Columns
+pub mod ConflictLemmas
+pub mod DepthLemmas
 pub mod FaultLemmas
 pub mod FullLemmas
 pub mod Growth

@@ -4,7 +4,7 @@ use Rattle.iso_model.specs.Scripts.{Class, class, Script}
 use Rattle.iso_model.specs.declared.limits.TheConstants.{SCRIPTS, NODES, KEYS}
 use Rattle.iso_plan.specs.KeyTable.{keys}
 use Rattle.iso_plan.specs.Tree.{in_team, tree}
-use Rattle.iso_script_statements.specs.Names.{is_among}
+use Rattle.iso_model.specs.NameSets.{is_among}
 use Rattle.iso_plan.specs.declared.fault.PlanFault.{PlanFault}
 use Rattle.iso_plan.specs.declared.fault.PlanFault.TheVariants.{DoubleClass, TooManyNodes, TooManyKeys, TooManyScripts}
 use Rattle.iso_plan.specs.declared.fault.PlanError.{PlanError}

@@ -1,4 +1,5 @@
 pub mod Children
+pub mod Conflicts
 pub mod Covers
 pub mod Examples
 pub mod Faults

@@ -1,9 +1,9 @@
 -- The class chain of a node: the heads of the classes on its path, and a test's own head.
-use Rattle.std.specs.Prelude.{ℕ, List, [], ◌∷◌, ◌++◌, Option, Some, None}
+use Rattle.std.specs.Prelude.{ℕ, List, [], ◌∷◌, ◌++◌, Option, Some, None, length, max}
 use Rattle.iso_model.specs.Chains.{ClassHead, TestHead, class_rights, test_rights}
 use Rattle.iso_model.specs.Rights.{Rights}
 use Rattle.iso_plan.specs.Tree.{Kind, root, class_node, test_node, Row}
-use Rattle.iso_plan.specs.Paths.{row_at, path}
+use Rattle.iso_plan.specs.Paths.{column, row_at, path}
 
 -- a class's own head
 abbrev pub class_heads : Kind → List ClassHead
@@ -25,6 +25,15 @@ heads_on tree (n ∷ ns) = class_heads (row_at tree n).kind ++ heads_on tree ns
 -- the class heads of a node's chain, innermost first
 abbrev pub chain_classes : List Row → ℕ → List ClassHead
 chain_classes tree n = heads_on tree (path tree n)
+
+-- the largest of some numbers
+abbrev pub largest : List ℕ → ℕ
+largest [] = 0
+largest (n ∷ ns) = max n (largest ns)
+
+-- how many classes the longest class chain of a tree has: no body is given more frames
+abbrev pub depth : List Row → ℕ
+depth tree = largest (column (λ n. length (chain_classes tree n)) (length tree))
 
 -- the test head of a node's chain, if it is a test
 abbrev pub chain_test : List Row → ℕ → Option TestHead

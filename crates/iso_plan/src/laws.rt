@@ -1,12 +1,12 @@
 //! Laws of every plan: what the proofs of its runs rest on.
-ghost use Rattle.std.specs.Prelude.{◌≡◌, ◌<◌, ◌||◌, ◌++◌, ◌∷◌, [], ℕ, List, false, length, slice_index_or, true};
+ghost use Rattle.std.specs.Prelude.{◌≡◌, ◌<◌, ◌≤◌, ◌||◌, ◌++◌, ◌∷◌, [], ℕ, List, false, length, slice_index_or, true};
 ghost use Rattle.iso_model.specs.Rights.{is_readable, is_writable};
 ghost use Rattle.iso_model.specs.declared.script.Mode.TheVariants.{SameThread};
 ghost use Rattle.iso_plan.specs.Children.{IsChild, IsListed};
 ghost use Rattle.iso_plan.specs.Covers.{IsCovered};
 ghost use Rattle.iso_plan.specs.Locks.{conflict, is_locking, taken};
 ghost use Rattle.iso_plan.specs.Modes.{mode};
-ghost use Rattle.iso_plan.specs.NodeChains.{chain_classes, class_heads, node_rights};
+ghost use Rattle.iso_plan.specs.NodeChains.{chain_classes, class_heads, depth, node_rights};
 ghost use Rattle.iso_plan.specs.Paths.{IsTree, children, is_test, is_top, is_under, parent, path, row_at};
 ghost use Rattle.iso_plan.specs.RowView.{tree_of};
 
@@ -53,6 +53,13 @@ pub fn paths_lead_up(plan: &Plan)
 pub fn chains_grow_down(plan: &Plan)
     ensures { (n : ℕ) → 0 < n → chain_classes (tree_of plan.now) n
         ≡ class_heads (row_at (tree_of plan.now) n).kind ++ chain_classes (tree_of plan.now) (parent (tree_of plan.now) n) }
+{
+    plan.hold_a_tree();
+}
+
+/// A plan is as deep as its longest class chain: no node's has more classes.
+pub fn chains_are_within_the_depth(plan: &Plan)
+    ensures { (n : ℕ) → length (chain_classes (tree_of plan.now) n) ≤ depth (tree_of plan.now) }
 {
     plan.hold_a_tree();
 }

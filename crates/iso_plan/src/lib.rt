@@ -3,6 +3,7 @@
 
 mod chains;
 mod children;
+pub mod conflict;
 pub mod examples;
 pub mod fault;
 mod keys;

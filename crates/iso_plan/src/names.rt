@@ -1,10 +1,10 @@
 //! The names of top-level classes, which have to differ.
-ghost use Rattle.std.specs.Prelude.{◌≡◌, ◌++◌, ◌∷◌, ℕ, List, [], IfOk, OnOk, map, not};
+ghost use Rattle.std.specs.Prelude.{◌≡◌, ◌++◌, [], IfOk, OnOk, map};
 ghost use Rattle.iso_model.specs.ScriptView.{class_of, script_of};
 ghost use Rattle.iso_plan.specs.Faults.{has_double, team_names, top_names};
-ghost use Rattle.iso_script_statements.specs.Names.{Knows, is_among};
 
 use crate::tree::in_team;
+use iso_model::distinct::claim;
 use iso_model::script::{Class, Script};
 use iso_model::text::Text;
 use std::alloc::{AllocError, Global};
@@ -55,12 +55,4 @@ fn has_double(alloc: Global, names: &[Text]) -> Result<bool, AllocError>
         }
     }
     Ok(false)
-}
-
-/// Adds a name to those seen, and answers whether it is new.
-fn claim<'a>(seen: &mut BTreeSet<&'a str>, name: &'a str) -> Result<bool, AllocError>
-    ensures { (names : List (List ℕ)) → Knows seen.old names
-        → IfOk result (λ fresh. (fresh ≡ not (is_among names name.now)) × Knows seen.new (names ++ name.now ∷ [])) }
-{
-    Ok(seen.insert(name)?)
 }

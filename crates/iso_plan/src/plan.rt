@@ -10,7 +10,7 @@ ghost use Rattle.iso_plan.specs.Faults.{IsCrowded, IsRefusal, plan_fault};
 ghost use Rattle.iso_plan.specs.KeyTable.{keys};
 ghost use Rattle.iso_plan.specs.Locks.{locking_node, locks};
 ghost use Rattle.iso_plan.specs.Modes.{mode};
-ghost use Rattle.iso_plan.specs.NodeChains.{chain_classes, chain_test, node_rights};
+ghost use Rattle.iso_plan.specs.NodeChains.{chain_classes, chain_test, depth, node_rights};
 ghost use Rattle.iso_plan.specs.Paths.{IsTree, children, column, is_test, parent_of, row_at};
 ghost use Rattle.iso_plan.specs.RowView.{row_of, tree_of};
 ghost use Rattle.iso_plan.specs.Tree.{tree};
@@ -293,6 +293,17 @@ impl Plan {
             classes: &self.chains[node as usize],
             test,
         }
+    }
+
+    /// How many classes its longest class chain has: no body is given more frames. Takes no memory.
+    pub fn depth(&self) -> usize
+        ensures { result ≡ depth (tree_of self.now) }
+    {
+        let mut depth = 0;
+        'nodes: for chain in &self.chains {
+            depth = depth.max(chain.len());
+        }
+        depth
     }
 
     /// The execution mode of a node (JUnit 5 User Guide, parallel execution): its own mark, else that of the nearest

@@ -9,7 +9,7 @@ use Rattle.iso_script_lexer.specs.declared.word.Word.TheVariants as W
 use Rattle.iso_script_lexer.proofs.Afters.{after-Some, after-symbol_at, after_word-Some, after_word-word_at}
 use Rattle.iso_model.specs.Scripts.{Test, Class, class, Member, class_member, test_member, Members}
 use Rattle.iso_model.specs.Syntax.{Acts}
-use Rattle.iso_script_statements.specs.Names.{is_among}
+use Rattle.iso_model.specs.NameSets.{is_among}
 use Rattle.iso_script_statements.specs.Pieces.{name_next}
 use Rattle.iso_script_statements.specs.Statements.{IsBlock}
 use Rattle.iso_script_statements.proofs.Taken.{name_is}

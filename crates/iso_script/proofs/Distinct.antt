@@ -2,7 +2,7 @@
 use Rattle.std.proofs.Common.{◌≡◌, ℕ, List, [], ◌∷◌, ◌++◌, Bool, true, false, ◌||◌, refl}
 use Rattle.std.specs.List.{IsDistinct, AllByRecursion}
 use Rattle.std.specs.Str.{bytes_eq}
-use Rattle.iso_script_statements.specs.Names.{is_among}
+use Rattle.iso_model.specs.NameSets.{is_among}
 
 -- a fact of each of a list is one of the element in its midst
 pub all_at : (P : List ℕ → Type 0) (xs ys : List (List ℕ)) (n : List ℕ) → AllByRecursion P (xs ++ n ∷ ys) → P n

@@ -9,7 +9,7 @@ use Rattle.std.specs.Cmp.Lexicographic.{slice_cmp}
 use Rattle.std.specs.List.{list_any}
 use Rattle.std.specs.Ordering.{nat_cmp, is_eq}
 use Rattle.std.specs.Str.{bytes_eq}
-use Rattle.iso_script_statements.specs.Names.{Knows, is_among}
+use Rattle.iso_model.specs.NameSets.{Knows, is_among}
 use Rattle.iso_script.specs.Variables.{KnowAll, is_in_any}
 
 or_first : (a b c : Bool) → (a || (b || c)) ≡ (b || (a || c))

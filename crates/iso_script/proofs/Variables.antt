@@ -14,7 +14,7 @@ use Rattle.iso_model.specs.declared.heads.Variable.{Variable}
 use Rattle.iso_script_statements.specs.Expressions.{IsLiteral}
 use Rattle.std.specs.Borrow.{Bor}
 use Rattle.std.specs.BTreeSet.{BTreeSet}
-use Rattle.iso_script_statements.specs.Names.{Knows, is_among}
+use Rattle.iso_model.specs.NameSets.{Knows, is_among}
 use Rattle.iso_script_statements.specs.Pieces.{name_next}
 use Rattle.iso_script_statements.proofs.Shorter.{literal_shorter}
 use Rattle.iso_script_statements.proofs.Taken.{name_is}

@@ -17,7 +17,7 @@ use Rattle.iso_model.specs.declared.heads.Mark.{Mark}
 use Rattle.iso_model.specs.declared.limits.TheConstants.{FILE_BYTES, CLASS_DEPTH}
 use Rattle.iso_model.specs.declared.place.Lifecycle.TheVariants.{BeforeAll, AfterAll, BeforeEach, AfterEach}
 use Rattle.iso_model.specs.declared.script.Member as M
-use Rattle.iso_script_statements.specs.Names.{is_among}
+use Rattle.iso_model.specs.NameSets.{is_among}
 use Rattle.iso_script_statements.specs.Statements.{IsBlock}
 use Rattle.iso_script.specs.Blocks.{Blocks, IsBlocks}
 use Rattle.iso_script.specs.Displays.{IsDisplayed}

@@ -13,7 +13,7 @@ use Rattle.iso_script_lexer.specs.declared.word.Word.TheVariants as W
 use Rattle.iso_model.specs.declared.data.Data.{Data}
 use Rattle.iso_model.specs.declared.heads.Variable.{Variable}
 use Rattle.iso_script_statements.specs.Expressions.{IsLiteral}
-use Rattle.iso_script_statements.specs.Names.{is_among}
+use Rattle.iso_model.specs.NameSets.{is_among}
 use Rattle.iso_script.specs.Readings.{AreRead, meant_next}
 use Rattle.iso_script.specs.declared.variable.Variables as D
 use Rattle.iso_script.specs.declared.variable.VariableWord.{VariableWord}

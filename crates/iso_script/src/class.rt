@@ -6,7 +6,7 @@ ghost use Rattle.iso_script_lexer.specs.Tokens.{after_word};
 ghost use Rattle.iso_script_lexer.specs.declared.word.Word.TheVariants as W;
 ghost use Rattle.iso_model.specs.ScriptView.{class_of, member_of};
 ghost use Rattle.iso_script.specs.Grammar.{HasMembers, IsClass, IsNewMember, IsTopClass, members_in, name_of};
-ghost use Rattle.iso_script_statements.specs.Names.{Knows};
+ghost use Rattle.iso_model.specs.NameSets.{Knows};
 ghost use Rattle.iso_script_statements.specs.Parsing.{Parses};
 
 use crate::block::read_blocks;

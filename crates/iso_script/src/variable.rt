@@ -4,17 +4,17 @@ ghost use Rattle.iso_script.specs.Variables.{IsDeclared, IsNew, IsVariables, Kno
 ghost use Rattle.iso_script_lexer.specs.Piece.{Piece};
 ghost use Rattle.iso_model.specs.declared.heads.Variable as V;
 ghost use Rattle.iso_script_statements.specs.Faults.{IsMemory};
-ghost use Rattle.iso_script_statements.specs.Names.{Knows, is_among};
+ghost use Rattle.iso_model.specs.NameSets.{Knows, is_among};
 ghost use Rattle.iso_script_statements.specs.Parsing.{Parses};
 ghost use Rattle.iso_script_statements.specs.Pieces.{name_next};
 
+use iso_model::distinct::claim;
 use iso_model::heads::Variable;
 use iso_model::text::Text;
 use iso_script_lexer::symbol::Symbol;
 use iso_script_lexer::token::Token;
 use iso_script_lexer::word::Word;
 use iso_script_statements::fault::{ScriptError, ScriptFaultKind};
-use iso_script_statements::names::claim;
 use iso_script_statements::parser::Parser;
 use std::collections::BTreeSet;
 

@@ -1,6 +1,5 @@
 pub mod Small
 pub mod Taken
-pub mod Claims
 pub mod Answers
 pub mod Repetitions
 pub mod Shorter

@@ -1,7 +1,6 @@
 pub mod FaultNames
 pub mod Faults
 pub mod Parsing
-pub mod Names
 pub mod Pieces
 pub mod Expressions
 pub mod Statements

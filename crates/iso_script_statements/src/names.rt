@@ -2,22 +2,14 @@
 ghost use Rattle.std.specs.Prelude.{◌≡◌, ℕ, List, [], ◌∷◌, ◌++◌, IfErr, IfOk, None, Some, false, not, true};
 ghost use Rattle.iso_script_lexer.specs.Piece.{Piece};
 ghost use Rattle.iso_script_statements.specs.Faults.{IsFaultOf, IsMemory, IsMemoryOr, IsUnexpected};
-ghost use Rattle.iso_script_statements.specs.Names.{Knows, is_among};
+ghost use Rattle.iso_model.specs.NameSets.{Knows, is_among};
 ghost use Rattle.iso_script_statements.specs.Pieces.{name_next};
 
 use crate::fault::{ScriptError, ScriptFaultKind};
 use crate::parser::Parser;
+use iso_model::distinct::claim;
 use iso_script_lexer::token::Token;
-use std::alloc::AllocError;
 use std::collections::BTreeSet;
-
-/// Adds a name to those seen, and answers whether it is new.
-pub fn claim<'a>(seen: &mut BTreeSet<&'a str>, name: &'a str) -> Result<bool, AllocError>
-    ensures { (names : List (List ℕ)) → Knows seen.old names
-        → IfOk result (λ fresh. (fresh ≡ not (is_among names name.now)) × Knows seen.new (names ++ name.now ∷ [])) }
-{
-    Ok(seen.insert(name)?)
-}
 
 impl<'a> Parser<'a> {
     /// A name that is none of those seen, and is added to them. Where it is one of them, the fault has this kind.

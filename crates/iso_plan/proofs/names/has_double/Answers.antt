@@ -2,7 +2,7 @@ use Rattle.std.proofs.Common.{◌≡◌, ◌+◌, [], ◌∷◌, ◌++◌, ℕ, 
 use Rattle.std.proofs.lemmas.List.{drop_all, take_more}
 use Rattle.iso_plan.proofs.Growth.{drop_next}
 use Rattle.iso_plan.specs.Faults.{has_double}
-use Rattle.iso_script_statements.specs.Names.{Knows, is_among}
+use Rattle.iso_model.specs.NameSets.{Knows, is_among}
 use Rattle.iso_plan.proofs.names.has_double.Goals as goal
 
 -- a new name is none of those before it

@@ -1,6 +1,6 @@
 use Rattle.std.proofs.Common.{◌≡◌, [], drop, take}
 use Rattle.iso_plan.specs.Faults.{has_double}
-use Rattle.iso_script_statements.specs.Names.{Knows}
+use Rattle.iso_model.specs.NameSets.{Knows}
 use Rattle.iso_plan.proofs.names.has_double.Given as goal
 
 abbrev pub invariant-names : goal.invariant-names

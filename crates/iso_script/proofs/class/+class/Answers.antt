@@ -8,7 +8,7 @@ use Rattle.iso_model.specs.ScriptView.{member_of}
 use Rattle.iso_script.specs.Variables.{names_of, variables_of}
 use Rattle.iso_script.proofs.Distinct.{IsDistinct-none, IsDistinct-push}
 use Rattle.iso_script.proofs.Readings.{read_push}
-use Rattle.iso_script_statements.specs.Names.{is_among}
+use Rattle.iso_model.specs.NameSets.{is_among}
 use Rattle.iso_script_statements.specs.Pieces.{name_next}
 use Rattle.iso_script_statements.proofs.Small.{none_is, none_left, some_left}
 use Rattle.iso_script_statements.proofs.Taken.{stands_in_front}

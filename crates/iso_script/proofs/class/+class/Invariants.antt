@@ -4,7 +4,7 @@ use Rattle.std.specs.Str.{bytes_eq}
 use Rattle.iso_script.specs.Readings.{AreRead}
 use Rattle.iso_script.specs.Variables.{KnowAll}
 use Rattle.iso_model.specs.ScriptView.{member_of}
-use Rattle.iso_script_statements.specs.Names.{Knows}
+use Rattle.iso_model.specs.NameSets.{Knows}
 use Rattle.iso_script.specs.Grammar.{IsMember, name_of}
 use Rattle.iso_script.proofs.class.+class.Given as goal
 

@@ -1,6 +1,6 @@
 use Rattle.std.proofs.Common.{◌∙◌, ap, sym, Some}
 use Rattle.iso_script_statements.specs.Pieces.{name_next}
-use Rattle.iso_script_statements.proofs.Claims.{not_true}
+use Rattle.iso_model.proofs.Claims.{not_true}
 use Rattle.iso_script.proofs.variable.free_name.Goals as goal
 
 pub returns-clause-found : goal.returns-clause-found

@@ -2,7 +2,7 @@ use Rattle.std.proofs.Common.{◌≡◌, ℕ, List, false, length, map}
 use Rattle.std.specs.List.{AllByRecursion}
 use Rattle.iso_script.specs.Readings.{AreRead}
 use Rattle.iso_script.specs.Variables.{Declared, IsDeclared, KnowAll, name_in, variables_of}
-use Rattle.iso_script_statements.specs.Names.{Knows, is_among}
+use Rattle.iso_model.specs.NameSets.{Knows, is_among}
 use Rattle.iso_script.proofs.Variables.{ComeTo}
 use Rattle.iso_script.proofs.variable.read_variables.Given as goal
 

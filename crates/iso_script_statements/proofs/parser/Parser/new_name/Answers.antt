@@ -1,5 +1,5 @@
 use Rattle.std.proofs.Common.{◌∙◌, sym}
-use Rattle.iso_script_statements.proofs.Claims.{not_true}
+use Rattle.iso_model.proofs.Claims.{not_true}
 use Rattle.iso_script_statements.proofs.parser.Parser.new_name.Goals as goal
 
 pub returns-clause-fresh : goal.returns-clause-fresh

@@ -1,7 +1,7 @@
 use Rattle.std.proofs.Common.{◌∙◌, ap, not}
 use Rattle.std.proofs.lemmas.Map.Text.{is_eq-slice_cmp}
-use Rattle.iso_script_statements.proofs.Claims.{is_among-push, instead}
-use Rattle.iso_plan.proofs.names.claim.Goals as goal
+use Rattle.iso_model.proofs.Claims.{is_among-push, instead}
+use Rattle.iso_model.proofs.distinct.claim.Goals as goal
 
 pub returns : goal.returns
 returns c = λ names knows.

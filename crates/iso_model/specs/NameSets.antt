@@ -1,4 +1,4 @@
--- The names that a set has.
+-- Names seen so far, as a set keeps them.
 use Rattle.std.specs.Prelude.{ℕ, List, Bool, ◌≡◌}
 use Rattle.std.specs.Borrow.{Bor}
 use Rattle.std.specs.BTreeSet.{BTreeSet, contains_by}

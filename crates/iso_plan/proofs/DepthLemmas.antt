@@ -1,0 +1,72 @@
+-- How deep a tree is: as deep as its longest class chain.
+use Prim.Native.Nat.max as M
+use Rattle.std.proofs.Common.{◌≡◌, ℕ, zero, suc, ◌<◌, ◌≤◌, List, [], ◌∷◌, ◌++◌, length, map, get_or, max, ap, ap₂, sym, ◌∙◌, inl, inr, refl, arith}
+use Rattle.std.proofs.lemmas.Bool.{cases_lt}
+use Rattle.std.proofs.lemmas.List.{get_or_past, length-map, length-reverse, map-append}
+use Rattle.std.proofs.lemmas.List.Recursion.{max_bounds}
+use Rattle.std.specs.declared.alloc.Global.{Global}
+use Rattle.std.specs.declared.sync.Arc.{Arc}
+use Rattle.std.specs.declared.vec.Vec.{Vec}
+use Rattle.std.specs.Arc.{arc_value}
+use Rattle.iso_model.specs.Chains as C
+use Rattle.iso_model.specs.ChainView.{innermost_first}
+use Rattle.iso_model.specs.ScriptView.{class_head_of}
+use Rattle.iso_model.specs.declared.heads.ClassHead.{ClassHead}
+use Rattle.iso_plan.proofs.Columns.{column-read, length-column}
+use Rattle.iso_plan.proofs.PathLemmas.{chain-step, path-root}
+use Rattle.iso_plan.specs.NodeChains.{chain_classes, class_heads, depth, heads_on, largest}
+use Rattle.iso_plan.specs.Paths.{IsTree, column, parent, row_at}
+use Rattle.iso_plan.specs.Tree.{Row, root_row}
+
+root-chain : (tree : List Row) → chain_classes tree 0 ≡ []
+root-chain tree = ap (heads_on tree) (path-root tree)
+
+-- what is no node of the tree stands for a root
+past-chain : (tree : List Row) → IsTree tree → (n : ℕ) → length tree ≤ n → chain_classes tree n ≡ []
+past-chain tree t n past =
+    let rooted = t.rooted in
+    let pos : 0 < n = omega arith in
+    let row : row_at tree n ≡ root_row = get_or_past tree n root_row past in
+    let above : parent tree n ≡ 0 = ap (λ (r : Row). r.parent) row in
+    chain-step tree t.below n pos ∙ rw (ap (λ (r : Row). class_heads r.kind) row, above) (root-chain tree)
+
+within : (tree : List Row) (n : ℕ) → n < length tree → length (chain_classes tree n) ≤ depth tree
+within tree n h =
+    let each : ℕ → ℕ = λ m. length (chain_classes tree m) in
+    let all = column each (length tree) in
+    let inside : n < length all = rw (length-column each (length tree)) h in
+    let own : get_or all n 0 ≡ each n = column-read each all (length tree) n 0 refl h in
+    rw own at (max_bounds largest (λ m. m) refl (λ m ms. refl) all n 0 inside)
+
+pub chain-within : (tree : List Row) → IsTree tree → (n : ℕ) → length (chain_classes tree n) ≤ depth tree
+chain-within tree t n = elim (cases_lt n (length tree)) [
+  | inl inside ↦ within tree n inside
+  | inr past ↦ rw (past-chain tree t n past) (omega arith)
+]
+
+-- how many classes chains have
+abbrev pub counts : List (Vec (Arc ClassHead Global) Global) → List ℕ
+counts chains = map (λ c. length c.items) chains
+
+abbrev heads : Vec (Arc ClassHead Global) Global → List C.ClassHead
+heads c = innermost_first c.items
+
+counts-heads : (chains : List (Vec (Arc ClassHead Global) Global)) → counts chains ≡ map (λ hs. length hs) (map heads chains)
+counts-heads [] = refl
+counts-heads (c ∷ cs) =
+    let of : Arc ClassHead Global → C.ClassHead = λ h. class_head_of (arc_value h) in
+    let own : length (heads c) ≡ length c.items = length-reverse (map of c.items) ∙ length-map c.items of in
+    ap₂ (λ n ns. n ∷ ns) (sym own) (counts-heads cs)
+
+map-column : {A B : Type 0} (g : A → B) (f : ℕ → A) (n : ℕ) → map g (column f n) ≡ column (λ m. g (f m)) n
+map-column g f zero = refl
+map-column g f (suc n) = map-append g (column f n) (f n ∷ []) ∙ ap (λ xs. xs ++ g (f n) ∷ []) (map-column g f n)
+
+-- the largest count of the chains of all nodes is the depth
+pub depth-is : (tree : List Row) (chains : List (Vec (Arc ClassHead Global) Global)) → map heads chains ≡ column (chain_classes tree) (length tree) → largest (counts chains) ≡ depth tree
+depth-is tree chains e =
+    ap largest (counts-heads chains ∙ ap (map (λ hs. length hs)) e ∙ map-column (λ hs. length hs) (chain_classes tree) (length tree))
+
+pub max-none : (n : ℕ) → max n 0 ≡ n
+max-none zero = M.zero 0
+max-none (suc n) = M.suc-zero n
