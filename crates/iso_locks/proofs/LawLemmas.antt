@@ -1,5 +1,5 @@
 -- Marks that a tray can go back to, and further changes.
-use Rattle.std.proofs.Common.{◌≡◌, ℕ, ◌<◌, ◌≤◌, [], ◌∷◌, length, Option, Some, None, Bool, true, false, cond, set, option_map, ap, sym, ◌∙◌, arith, refl, inl, inr, subst, Result, Ok, Err, OnOk, OnErr}
+use Rattle.std.proofs.Common.{◌≡◌, ℕ, ◌<◌, ◌≤◌, [], ◌∷◌, length, Option, Some, None, Bool, true, false, cond, set, is_some, option_map, ap, sym, ◌∙◌, arith, refl, inl, inr, subst, Result, Ok, Err, OnOk, OnErr}
 use Rattle.std.proofs.lemmas.Bool.{cases_eq, cases_lt}
 use Rattle.std.proofs.lemmas.List.{get_or_past, get_or-set_same, get_or-set_other, length-set}
 use Rattle.iso_model.specs.declared.resource.Change.{Change}
@@ -86,11 +86,20 @@ pub on-apply : {A B : Type 0} (r : Result A B) (t : TrayView) (next : Slots) (i 
 on-apply (Ok x) t next i change within ok err = record {
   plan = refl;
   world = refl;
+  flat = refl;
   lent = refl;
   there = λ p q. has-still (tree_of t.plan) t.values next i change within ok q p;
   values = subst (λ (vs : Slots). GoesOn t (record t { values = vs })) (sym ok) (on-change t i change);
   frames = refl;
 }
 on-apply (Err e) t next i change within ok err = subst (λ (vs : Slots). IsOnward t (record t { values = vs })) (sym err) (onward-still t)
+
+there-by : (o p : Option History) → (o ≡ None → p ≡ None) → ((h : History) → o ≡ Some h → is_some p ≡ true) → is_some p ≡ is_some o
+there-by None p none some = ap is_some (none refl)
+there-by (Some h) p none some = some h refl
+
+-- after further changes the same values are there
+pub on-there : (t u : TrayView) → GoesOn t u → (i : ℕ) → is_some (slot u.values i) ≡ is_some (slot t.values i)
+on-there t u on i = there-by (slot t.values i) (slot u.values i) (on.only i) (λ h e. ap is_some (on.later i h e).there)
 
 pub ruleset laws = (own-mark, other-mark, on-still, on-further, on-change)

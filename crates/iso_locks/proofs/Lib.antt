@@ -1,8 +1,12 @@
 pub mod ConflictLemmas
+pub mod FindLemmas
 pub mod FlatLemmas
+pub mod KeyLemmas
 pub mod LawLemmas
 pub mod MoveLemmas
 pub mod NumberLemmas
+pub mod OwnerLemmas
+pub mod StillLemmas
 pub mod TouchLemmas
 pub mod UndoLemmas
 pub mod VaultLemmas

@@ -1,5 +1,5 @@
 -- A vault stays as it should be when nodes are lent and taken back.
-use Rattle.std.proofs.Common.{◌≡◌, ◌≢◌, ℕ, ◌<◌, ◌≤◌, List, [], ◌∷◌, length, map, Option, Some, None, Bool, true, false, ◌||◌, ◌&&◌, ◌==◌, not, cond, set, is_some, option_map, ◌⊎◌, ap, ap₂, sym, subst, ◌∙◌, arith, refl, inl, inr}
+use Rattle.std.proofs.Common.{◌≡◌, ◌≢◌, ℕ, ◌<◌, ◌≤◌, List, [], ◌∷◌, length, map, Option, Some, None, Bool, true, false, ◌||◌, ◌&&◌, not, cond, set, is_some, option_map, ◌⊎◌, ap, ap₂, sym, subst, ◌∙◌, arith, refl, inl, inr}
 use Rattle.std.specs.Option.{option_or}
 use Rattle.std.proofs.lemmas.Bool.{cases_eq, cases_lt}
 use Rattle.std.proofs.lemmas.List.{get_or_past, get_or-map, get_or-set_same, get_or-set_other, length-map, length-set}
@@ -14,48 +14,13 @@ use Rattle.iso_plan.specs.RowView.{tree_of}
 use Rattle.iso_plan.specs.declared.lock.Lock.{Lock}
 use Rattle.iso_settings.specs.Worlds.{Start, starting_value_in}
 use Rattle.iso_store.specs.Histories.{History}
-use Rattle.iso_locks.specs.Conflicts.{conflicts, excludes, shares}
-use Rattle.iso_locks.specs.Moves.{is_written, moved_away, moved_here, writes_key}
+use Rattle.iso_locks.specs.Moves.{is_written, moved_away, moved_here}
 use Rattle.iso_locks.specs.Slots.{Slots, slot}
 use Rattle.iso_locks.specs.Trays.{TrayView, is_lent, key_at}
 use Rattle.iso_locks.specs.Vaults.{CanTakeBack, IsLentTo, IsVault, VaultView, busy, is_home, is_in_the_way, receiving, value_in}
-use Rattle.iso_locks.proofs.ConflictLemmas.{conflicts-is, lowest-none}
-
-or-true : (a b : Bool) → b ≡ true → (a || b) ≡ true
-or-true true b e = refl
-or-true false b e = e
-
-or_by : (a b : Bool) → (a || b) ≡ true → (a ≡ true) ⊎ (b ≡ true)
-or_by true b e = inl refl
-or_by false b e = inr e
-
-and_by : (a b : Bool) → (a && b) ≡ true → (a ≡ true) × (b ≡ true)
-and_by true b e = (refl, e)
-and_by false b e = absurd (cc)
-
--- two locks for READ_WRITE on one key exclude each other
-excluded : (l m : Lock) (i : ℕ) → writes_key l i ≡ true → writes_key m i ≡ true → excludes l m ≡ true
-excluded l m i a b =
-    let x = and_by (l.key == i) (is_write l) a in
-    let y = and_by (m.key == i) (is_write m) b in
-    let keys_are : m.key ≡ l.key = eq_from m.key i y.0 ∙ sym (eq_from l.key i x.0) in
-    let same : (l.key == m.key) ≡ true = ap (λ j. l.key == j) keys_are ∙ eq_same l.key in
-    ap₂ (λ (p q : Bool). p && (q || is_write m)) same x.1
-
-shared : (l : Lock) (ms : List Lock) (i : ℕ) → writes_key l i ≡ true → is_written ms i ≡ true → shares l ms ≡ true
-shared l [] i a b = absurd (cc)
-shared l (m ∷ ms) i a b = elim (or_by (writes_key m i) (is_written ms i) b) [
-  | inl here ↦ ap (λ (p : Bool). p || shares l ms) (excluded l m i a here)
-  | inr later ↦ or-true (excludes l m) (shares l ms) (shared l ms i a later)
-]
-
--- two nodes that take one key for READ_WRITE conflict
-both-write : (ls ms : List Lock) (i : ℕ) → is_written ls i ≡ true → is_written ms i ≡ true → conflicts ls ms ≡ true
-both-write [] ms i a b = absurd (cc)
-both-write (l ∷ ls) ms i a b = elim (or_by (writes_key l i) (is_written ls i) a) [
-  | inl here ↦ ap (λ (p : Bool). p || conflicts ls ms) (shared l ms i here b)
-  | inr later ↦ or-true (shares l ms) (conflicts ls ms) (both-write ls ms i later b)
-]
+use Rattle.iso_locks.proofs.ConflictLemmas.{lowest-none}
+use Rattle.iso_locks.proofs.KeyLemmas.{written-conflict, written-within}
+use Rattle.iso_locks.proofs.OwnerLemmas.{away-slot, here-slot, lent-other, lent-within, still-lent}
 
 -- in a vault that isn't busy, what a node takes for READ_WRITE is home
 pub home-for : (v : VaultView) (values : Slots) (n i : ℕ) → IsVault v.plan v.world v.lent values → busy v n ≡ None → is_written (locks (tree_of v.plan) n) i ≡ true → i < length values → (slot values i ≡ None → ⊥)
@@ -63,14 +28,23 @@ home-for v values n i kept free w within none =
     let tree = tree_of v.plan in
     let away = kept.away i within none in
     let fits = kept.lent_fits in
-    let lent_within : away.node < length v.plan.rows = elim (cases_lt away.node (length v.lent)) [
-      | inl less ↦ omega arith
-      | inr past ↦ absurd (let no : false ≡ true = sym (get_or_past v.lent away.node false past) ∙ away.lent in cc)
-    ] in
-    let clash : conflict tree away.node n ≡ true = sym (conflicts-is tree away.node n) ∙ both-write (locks tree away.node) (locks tree n) i away.writes w in
+    let less : away.node < length v.lent = lent-within v.lent away.node away.lent in
+    let lent_within : away.node < length v.plan.rows = omega arith in
+    let clash : conflict tree away.node n ≡ true = written-conflict tree away.node n i away.writes w in
     let in_way : is_in_the_way v n away.node ≡ true = ap₂ (λ (p q : Bool). p && q) away.lent clash in
     let not_in_way : is_in_the_way v n away.node ≡ false = lowest-none (is_in_the_way v n) (length v.plan.rows) away.node free lent_within in
     cc
+
+some-of : (o : Option History) → (o ≡ None → ⊥) → is_some o ≡ true
+some-of None some = absurd (some refl)
+some-of (Some h) some = refl
+
+-- so all that the node takes for READ_WRITE is home
+pub home-all : (v : VaultView) (values : Slots) (n : ℕ) → IsVault v.plan v.world v.lent values → busy v n ≡ None → (i : ℕ) → is_written (locks (tree_of v.plan) n) i ≡ true → is_some (slot values i) ≡ true
+home-all v values n kept free i w =
+    let less = written-within (tree_of v.plan) n i w in
+    let fits = kept.values_fit in
+    some-of (slot values i) (home-for v values n i kept free w (omega arith))
 
 moved_by : (b : Bool) (o p : Option History) (h : History) → cond b None o ≡ Some h → o ≡ Some h
 moved_by true o p h e = absurd (cc)
@@ -87,15 +61,6 @@ pub away-at : (ls : List Lock) (there : Slots) (i : ℕ) (h : History) → slot 
 away-at ls there i h e = elim (cases_lt i (length there)) [
   | inl within ↦ moved_by (is_written ls i) (slot there i) None h (sym (column_slot (λ j. cond (is_written ls j) None (slot there j)) (length there) i within) ∙ e)
   | inr past ↦ absurd (let none : None ≡ Some h = sym (past_slot (λ j. cond (is_written ls j) None (slot there j)) (length there) i past) ∙ e in cc)
-]
-
-is_lent-set : (given : List Bool) (n m : ℕ) (b : Bool) → m ≢ n → is_lent (set given n b) m ≡ is_lent given m
-is_lent-set given n m b other = get_or-set_other given n m b false other
-
-still_lent : (given : List Bool) (n m : ℕ) → n < length given → is_lent given m ≡ true → is_lent (set given n true) m ≡ true
-still_lent given n m within e = elim (cases_eq m n) [
-  | inl same ↦ ap (is_lent (set given n true)) same ∙ get_or-set_same given n true false within
-  | inr other ↦ is_lent-set given n m true other ∙ e
 ]
 
 away_by : (b : Bool) (o : Option History) → cond b None o ≡ None → (b ≡ true) ⊎ (o ≡ None)
@@ -117,7 +82,7 @@ lent-vault plan world given values n node kept =
           let here : i < length values = omega arith in
           elim (away_by (is_written ls i) (slot values i) (sym (column_slot (λ j. cond (is_written ls j) None (slot values j)) (length values) i here) ∙ e)) [
             | inl w ↦ record { node = n; lent = get_or-set_same given n true false within; writes = w }
-            | inr none ↦ let old = kept.away i here none in record { node = old.node; lent = still_lent given n old.node within old.lent; writes = old.writes }
+            | inr none ↦ let old = kept.away i here none in record { node = old.node; lent = still-lent given n old.node within old.lent; writes = old.writes }
           ];
     }
 
@@ -164,16 +129,20 @@ some_if (Some h) some = (h, refl)
 
 -- what a tray holds when a node was lent to it
 pub lent-to : (t : TrayView) (given home : List Bool) (values : Slots) (n : ℕ) → IsVault t.plan t.world given values → busy (record { plan = t.plan; world = t.world; lent = given; home = home }) n ≡ None
-    → length t.values ≡ length (keys (tree_of t.plan)) → IsLentTo n t (receiving n values t)
-lent-to t given home values n kept free count =
+    → length t.values ≡ length (keys (tree_of t.plan)) → is_lent (set t.lent n true) n ≡ true
+    → (t.flat ≡ false → (i : ℕ) → is_written (locks (tree_of t.plan) n) i ≡ true → slot t.values i ≡ None) → IsLentTo n t (receiving n values t)
+lent-to t given home values n kept free count holds fresh =
     let ls = locks (tree_of t.plan) n in
     let f : ℕ → Option History = λ i. cond (is_written ls i) (option_or (slot values i) (slot t.values i)) (slot t.values i) in
     let fits = kept.values_fit in
     record {
       plan = refl;
       world = refl;
+      flat = refl;
       lent = refl;
+      holds = holds;
       fits = length-column f (length t.values);
+      fresh = fresh;
       written = λ i h w.
           let inside : i < length t.values = omega arith in
           let stored : i < length values = omega arith in
@@ -233,7 +202,7 @@ back-vault plan world given values there n kept starts =
           let other : old.node ≢ n = λ same.
           let clash : true ≡ false = sym old.writes ∙ ap (λ m. is_written (locks tree m) i) same ∙ parts.0 in
           cc in
-          record { node = old.node; lent = is_lent-set given n old.node false other ∙ old.lent; writes = old.writes };
+          record { node = old.node; lent = lent-other given n old.node false other ∙ old.lent; writes = old.writes };
     }
 
 pub some-back : (there : Slots) (i : ℕ) (s : Resource) → value_in there i ≡ Some s → is_some (slot there i) ≡ true
@@ -248,5 +217,6 @@ taken-as-lent n v t u on node plan world lent =
       plan = plan;
       world = world;
       lent = lent;
+      holds = on.holds;
       at_start = λ i h w. on.written i (subst (λ (p : Planned). i < length (keys (tree_of p))) same h) (ap (λ (p : Planned). is_written (locks (tree_of p) n) i) (sym same) ∙ w);
     }

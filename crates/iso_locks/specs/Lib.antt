@@ -1,8 +1,10 @@
+pub mod Clashes
 pub mod Conflicts
 pub mod Examples
 pub mod Flats
 pub mod Moves
 pub mod Onward
+pub mod Owners
 pub mod Slots
 pub mod Trays
 pub mod Vaults

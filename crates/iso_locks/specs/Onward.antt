@@ -26,12 +26,13 @@ pub on-further : (t u v : TrayView) → GoesOn t u → GoesOn u v → GoesOn t v
 on-further t u v a b = record { fits = b.fits ∙ a.fits; only = λ i e. b.only i (a.only i e); later = λ i h e. later-further u.values v.values i h (a.later i h e) (b.later i) }
 
 pub onward-still : (t : TrayView) → IsOnward t t
-onward-still t = record { plan = refl; world = refl; lent = refl; there = refl; values = on-still t; frames = refl }
+onward-still t = record { plan = refl; world = refl; flat = refl; lent = refl; there = refl; values = on-still t; frames = refl }
 
 pub onward-further : (t u v : TrayView) → IsOnward t u → IsOnward u v → IsOnward t v
 onward-further t u v a b = record {
   plan = b.plan ∙ a.plan;
   world = b.world ∙ a.world;
+  flat = b.flat ∙ a.flat;
   lent = b.lent ∙ a.lent;
   there = b.there ∙ a.there;
   values = on-further t u v a.values b.values;

@@ -5,7 +5,6 @@ use Rattle.std.specs.Coded.{Coded, code_by, coded×, coded_list, coded_option, c
 use Rattle.iso_model.specs.Resources.{Resources}
 use Rattle.iso_model.specs.Rights.{access_in, is_writable}
 use Rattle.iso_model.specs.declared.access.Access.{Access}
-use Rattle.iso_model.specs.declared.limits.TheConstants.{CLASS_DEPTH}
 use Rattle.iso_model.specs.declared.access.Access.TheVariants.{Read, Write}
 use Rattle.iso_model.specs.declared.resource.Resource.{Resource}
 use Rattle.iso_plan.specs.KeyTable.{keys}
@@ -23,29 +22,31 @@ use Rattle.iso_lifecycle.specs.Subjects.{Subject, subject_code}
 use Rattle.iso_locks.specs.Slots.{Slots, HasLater, slot}
 use Rattle.iso_locks.specs.declared.starting.Starting.{Starting}
 
--- what a tray was made for, the nodes that are lent to it, by their numbers, the values that were moved into it, by the numbers of their keys, and the frames handed to it, in that order
+-- what a tray was made for, whether as a flat map, the nodes that are lent to it, by their numbers, the values that were moved into it, by the numbers of their keys, and the frames handed to it, in that order
 pub record TrayView : Type 0 where
   pub plan : Planned
   pub world : Start
+  pub flat : Bool
   pub lent : List Bool
   pub values : Slots
   pub frames : List Subject
 
 -- a tray is stored as its parts
 abbrev Parts : Type 0
-Parts = Planned × (Start × (List Bool × (Slots × List Subject)))
+Parts = Planned × (Start × (Bool × (List Bool × (Slots × List Subject))))
 
 abbrev parts : TrayView → Parts
-parts t = (t.plan, (t.world, (t.lent, (t.values, t.frames))))
+parts t = (t.plan, (t.world, (t.flat, (t.lent, (t.values, t.frames)))))
 
 abbrev with_parts : Parts → TrayView
-with_parts p = record { plan = p.0; world = p.1.0; lent = p.1.1.0; values = p.1.1.1.0; frames = p.1.1.1.1 }
+with_parts p =
+    record { plan = p.0; world = p.1.0; flat = p.1.1.0; lent = p.1.1.1.0; values = p.1.1.1.1.0; frames = p.1.1.1.1.1 }
 
 abbrev held_code : Coded (Slots × List Subject)
 held_code = coded× (coded_list (coded_option history_code)) (coded_list subject_code)
 
 abbrev parts_code : Coded Parts
-parts_code = coded× plan.the_row.coded (coded× start_code (coded× (coded_list coded_bool) held_code))
+parts_code = coded× plan.the_row.coded (coded× start_code (coded× coded_bool (coded× (coded_list coded_bool) held_code)))
 
 abbrev pub tray_code : Coded TrayView
 tray_code = code_by Parts parts_code parts with_parts (λ _. refl)
@@ -55,6 +56,7 @@ abbrev pub empty_tray : Planned → Start → TrayView
 empty_tray plan world = record {
   plan = plan;
   world = world;
+  flat = false;
   lent = replicate (length plan.rows) false;
   values = replicate (length (keys (tree_of plan))) None;
   frames = [];
@@ -176,6 +178,7 @@ pub record GoesOn (old new : TrayView) : Type 0 where
 pub record IsOnward (old new : TrayView) : Type 0 where
   pub plan : new.plan ≡ old.plan
   pub world : new.world ≡ old.world
+  pub flat : new.flat ≡ old.flat
   pub lent : new.lent ≡ old.lent
   pub there : has_value new ≡ has_value old
   pub values : GoesOn old new
@@ -189,10 +192,3 @@ with_change change i t =
 -- a tray gone back to a mark: the values that were kept stand as they stood then, all others stay
 abbrev pub undone : MarkView → TrayView → TrayView
 undone mark t = record t { values = restored mark.values t.values }
-
--- what holds of the lists that a tray keeps, with room for so many frames
-pub record IsTray (plan : Planned) (world : Start) (lent : List Bool) (values : Slots) (starts : List Starting) (room : ℕ) : Type 0 where
-  pub lent_fits : length lent ≡ length plan.rows
-  pub values_fit : length values ≡ length (keys (tree_of plan))
-  pub starts_are : starts ≡ map (start_at world) (keys (tree_of plan))
-  pub has_room : CLASS_DEPTH ≤ room

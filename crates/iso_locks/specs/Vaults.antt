@@ -12,7 +12,9 @@ use Rattle.iso_plan.specs.Tree.{Row}
 use Rattle.iso_plan.specs.contracts.plan.Plan as plan
 use Rattle.iso_settings.specs.Worlds.{Start, start_code, starting_value_in}
 use Rattle.iso_store.specs.Histories.{History}
+use Rattle.iso_locks.specs.Clashes.{clash}
 use Rattle.iso_locks.specs.Moves.{is_written, moved_away, moved_here}
+use Rattle.iso_locks.specs.Owners.{IsOwned}
 use Rattle.iso_locks.specs.Slots.{Slots, slot}
 use Rattle.iso_locks.specs.Trays.{TrayView, is_lent, key_at}
 
@@ -61,13 +63,14 @@ lowest test (suc n) = option_or (lowest test n) (cond (test n) (Some n) None)
 abbrev pub busy : VaultView → ℕ → Option ℕ
 busy v n = lowest (is_in_the_way v n) (length v.plan.rows)
 
--- a node may be lent to a tray of the same plan and starting values: it is lent neither from the vault nor to the tray
+-- a node may be lent to a tray of the same plan and starting values: it is lent neither from the vault nor to the tray, and where no node that is lent from the vault is in its way, it clashes with none that is lent to the tray
 pub record CanLend (n : ℕ) (v : VaultView) (t : TrayView) : Type 0 where
   pub node : n < length v.plan.rows
   pub plan : t.plan ≡ v.plan
   pub world : t.world ≡ v.world
   pub free : is_lent v.lent n ≡ false
   pub apart : is_lent t.lent n ≡ false
+  pub beside : busy v n ≡ None → (m : ℕ) → is_lent t.lent m ≡ true → clash (tree_of t.plan) m n ≡ false
 
 -- the vault when a node was lent: what it takes for READ_WRITE is no longer home
 abbrev pub lending : ℕ → VaultView → VaultView
@@ -87,22 +90,26 @@ value_in slots i = option_map (λ (h : History). h.now) (slot slots i)
 abbrev pub StandsAtStart : TrayView → ℕ → Type 0
 StandsAtStart t i = value_in t.values i ≡ Some (starting_value_in t.world (key_at (tree_of t.plan) i))
 
--- a node was lent to a tray: what it takes for READ_WRITE stands there at its start, and no other value moved
+-- a node was lent to a tray: what it takes for READ_WRITE, which wasn't there, stands there at its start, and no other value moved
 pub record IsLentTo (n : ℕ) (old new : TrayView) : Type 0 where
   pub plan : new.plan ≡ old.plan
   pub world : new.world ≡ old.world
+  pub flat : new.flat ≡ old.flat
   pub lent : new.lent ≡ slice_set old.lent n true
+  pub holds : is_lent new.lent n ≡ true
   pub fits : length new.values ≡ length old.values
+  pub fresh : old.flat ≡ false → (i : ℕ) → is_written (locks (tree_of old.plan) n) i ≡ true → slot old.values i ≡ None
   pub written : (i : ℕ) → i < length (keys (tree_of old.plan)) → is_written (locks (tree_of old.plan) n) i ≡ true → StandsAtStart new i
   pub others : (i : ℕ) → is_written (locks (tree_of old.plan) n) i ≡ false → slot new.values i ≡ slot old.values i
   pub frames : new.frames ≡ old.frames
 
--- a tray can give a node back: it is of the same plan and starting values, and holds all that the node takes for READ_WRITE, each at its start
+-- a tray can give a node back that is lent to it: it is of the same plan and starting values, and holds all that the node takes for READ_WRITE, each at its start
 pub record CanTakeBack (n : ℕ) (v : VaultView) (t : TrayView) : Type 0 where
   pub node : n < length v.plan.rows
   pub plan : t.plan ≡ v.plan
   pub world : t.world ≡ v.world
   pub lent : is_lent v.lent n ≡ true
+  pub holds : is_lent t.lent n ≡ true
   pub at_start : (i : ℕ) → i < length (keys (tree_of v.plan)) → is_written (locks (tree_of v.plan) n) i ≡ true → StandsAtStart t i
 
 -- the tray when a node was taken back from it: what the node takes for READ_WRITE is gone, all else stays
@@ -113,15 +120,9 @@ giving_back n t = record t { lent = slice_set t.lent n false; values = moved_awa
 abbrev pub receiving : ℕ → Slots → TrayView → TrayView
 receiving n home t = record t { lent = slice_set t.lent n true; values = moved_here (locks (tree_of t.plan) n) home t.values }
 
--- a value that isn't home was lent to a node that takes it for READ_WRITE
-pub record IsAway (tree : List Row) (given : List Bool) (i : ℕ) : Type 0 where
-  pub node : ℕ
-  pub lent : is_lent given node ≡ true
-  pub writes : is_written (locks tree node) i ≡ true
-
 -- what holds of the lists that a vault keeps: each value that is home stands at its start, and each other one was lent to a node that takes it for READ_WRITE
 pub record IsVault (planned : Planned) (start : Start) (given : List Bool) (values : Slots) : Type 0 where
   pub lent_fits : length given ≡ length planned.rows
   pub values_fit : length values ≡ length (keys (tree_of planned))
   pub at_start : (i : ℕ) (h : History) → slot values i ≡ Some h → h.now ≡ starting_value_in start (key_at (tree_of planned) i)
-  pub away : (i : ℕ) → i < length values → slot values i ≡ None → IsAway (tree_of planned) given i
+  pub away : (i : ℕ) → i < length values → slot values i ≡ None → IsOwned (tree_of planned) given i

@@ -1,11 +1,14 @@
 //! One worker's values.
-ghost use Rattle.std.specs.Prelude.{◌≡◌, ◌<◌, ◌++◌, ◌∷◌, [], None, IfOk, cond, length, map, option_copied};
+ghost use Rattle.std.specs.Prelude.{◌≡◌, ◌<◌, ◌++◌, ◌∷◌, [], ℕ, None, IfOk, cond, false, is_some, length, map, option_copied, replicate, true};
+ghost use Rattle.iso_locks.specs.Clashes.{clash};
+ghost use Rattle.iso_locks.specs.Owners.{AreOwned};
+ghost use Rattle.iso_locks.specs.Slots.{slot};
 ghost use Rattle.iso_locks.specs.Flats.{IsFlat, flat};
 ghost use Rattle.iso_lifecycle.specs.Subjects.{started};
 ghost use Rattle.iso_locks.specs.Trays.{CanUndo, empty_tray, is_lent, kept_at, marked, undone};
 ghost use Rattle.iso_model.specs.Rights.{access_in, is_writable};
 ghost use Rattle.iso_model.specs.declared.limits.TheConstants.{CLASS_DEPTH};
-ghost use Rattle.iso_locks.specs.Moves.{moved_away, moved_here};
+ghost use Rattle.iso_locks.specs.Moves.{is_written, moved_away, moved_here};
 ghost use Rattle.iso_locks.specs.Vaults.{giving_back, receiving};
 ghost use Rattle.iso_plan.specs.KeyTable.{keys};
 ghost use Rattle.iso_plan.specs.Locks.{locks};
@@ -41,6 +44,8 @@ use std::marker::Model;
 pub struct Tray<'a> {
     plan: &'a Plan,
     world: &'a World,
+    /// Whether it is the flat map of a run, which has every value though no node is lent to it.
+    flat: bool,
     lent: Vec<bool>,
     values: Slots,
     /// The keys with their starting values, by key number.
@@ -52,15 +57,16 @@ impl<'a> Model for Tray<'a> {
     ghost use Rattle.std.specs.Prelude.{◌≡◌, length, vec_capacity};
     ghost use Rattle.iso_plan.specs.KeyTable.{keys};
     ghost use Rattle.iso_plan.specs.RowView.{tree_of};
-    ghost use Rattle.iso_locks.specs.Trays.{IsTray, TrayView, tray_code};
+    ghost use Rattle.iso_locks.specs.Owners.{IsTray};
+    ghost use Rattle.iso_locks.specs.Trays.{TrayView, tray_code};
 
     ghost Value = { TrayView };
 
     ghost coded = { tray_code };
 
-    ghost view = { λ t. record { plan = t.plan.now; world = t.world.now; lent = t.lent.items; values = t.values; frames = t.frames.items } };
+    ghost view = { λ t. record { plan = t.plan.now; world = t.world.now; flat = t.flat; lent = t.lent.items; values = t.values; frames = t.frames.items } };
 
-    ghost invariant = { λ t. IsTray t.plan.now t.world.now t.lent.items t.values t.starts.items (vec_capacity t.frames) };
+    ghost invariant = { λ t. IsTray t.plan.now t.world.now t.flat t.lent.items t.values t.starts.items (vec_capacity t.frames) };
 }
 
 impl<'a> Tray<'a> {
@@ -74,6 +80,7 @@ impl<'a> Tray<'a> {
         Ok(Tray {
             plan,
             world,
+            flat: false,
             lent: vec![in alloc; false; nodes]?,
             values: Slots::empty(alloc, count)?,
             starts: starts_of(alloc, plan, world)?,
@@ -81,15 +88,20 @@ impl<'a> Tray<'a> {
         })
     }
 
-    /// A tray for a plan and a world that has every value, each at its start: the flat map of a run. No node is lent to it.
+    /// A tray for a plan and a world that has every value, each at its start: the flat map of a run. No node is lent to it, and no
+    /// frame is handed to it.
     pub fn flat(alloc: Global, plan: &'a Plan, world: &'a World) -> Result<Tray<'a>, AllocError>
         ensures plan { IfOk result (λ t. t.plan ≡ plan.now) }
         ensures world { IfOk result (λ t. t.world ≡ world.now) }
+        ensures flat { IfOk result (λ t. t.flat ≡ true) }
+        ensures lent { IfOk result (λ t. t.lent ≡ replicate (length plan.now.rows) false) }
+        ensures frames { IfOk result (λ t. t.frames ≡ []) }
         ensures every_value { IfOk result IsFlat }
         ensures start { IfOk result (λ t. flat t ≡ started world.now) }
     {
         let mut tray = Tray::new(alloc, plan, world)?;
         tray.values = values(alloc, plan, world)?;
+        tray.flat = true;
         Ok(tray)
     }
 
@@ -105,6 +117,14 @@ impl<'a> Tray<'a> {
         ensures { result.now ≡ self.now.world }
     {
         self.world
+    }
+
+    /// Whether it was made as a flat map. Such a tray has values that no node which is lent to it takes, so that no vault's values
+    /// need to be there.
+    pub fn is_flat(&self) -> bool
+        ensures { result ≡ self.now.flat }
+    {
+        self.flat
     }
 
     /// Whether a node was lent to it and not taken back from it.
@@ -156,11 +176,23 @@ impl<'a> Tray<'a> {
         self.values.undo_all(mark.into_values());
     }
 
-    /// Holds a node from now on, with the values that its locks for READ_WRITE are on, where they are home.
+    /// What a tray keeps of its values and the nodes that are lent to it.
+    pub(crate) fn keep_owners(&self)
+        ensures owned { AreOwned (tree_of self.now.plan) self.now.flat self.now.lent self.now.values }
+        ensures lent { length self.now.lent ≡ length self.now.plan.rows }
+    {
+        let _lent = &self.lent;
+    }
+
+    /// Holds a node from now on, with the values that its locks for READ_WRITE are on.
     pub(crate) fn receive(&mut self, node: u32, taken: &[Lock], home: &mut Slots)
         requires node { node < length self.old.plan.rows }
         requires home { length home.old ≡ length (keys (tree_of self.old.plan)) }
         requires taken { taken.now ≡ locks (tree_of self.old.plan) node }
+        requires there { (i : ℕ) → is_written (locks (tree_of self.old.plan) node) i ≡ true → is_some (slot home.old i) ≡ true }
+        requires beside { (m : ℕ) → is_lent self.old.lent m ≡ true → clash (tree_of self.old.plan) m node ≡ false }
+        ensures holds { is_lent self.new.lent node ≡ true }
+        ensures fresh { self.old.flat ≡ false → (i : ℕ) → is_written (locks (tree_of self.old.plan) node) i ≡ true → slot self.old.values i ≡ None }
         ensures fits { length self.old.values ≡ length (keys (tree_of self.old.plan)) }
         ensures tray { self.new ≡ receiving node home.old self.old }
         ensures home { home.new ≡ moved_away (locks (tree_of self.old.plan) node) home.old }
@@ -175,6 +207,7 @@ impl<'a> Tray<'a> {
         requires node { node < length self.old.plan.rows }
         requires home { length home.old ≡ length (keys (tree_of self.old.plan)) }
         requires taken { taken.now ≡ locks (tree_of self.old.plan) node }
+        requires holds { is_lent self.old.lent node ≡ true }
         ensures fits { length self.old.values ≡ length (keys (tree_of self.old.plan)) }
         ensures tray { self.new ≡ giving_back node self.old }
         ensures home { home.new ≡ moved_here (locks (tree_of self.old.plan) node) self.old.values home.old }

@@ -2,6 +2,7 @@
 use Rattle.std.proofs.Common.{◌≡◌, ◌≢◌, ℕ, ◌<◌, List, length, Option, Some, None, Bool, true, false, cond, is_some, option_map, inl, inr, refl, sym, ap, ap₂, ◌∙◌, arith}
 use Rattle.std.proofs.lemmas.List.{get_or_past}
 use Rattle.std.specs.Option.{option_or}
+use Rattle.iso_locks.proofs.OwnerLemmas.{column-slot, cond-none}
 use Rattle.iso_locks.specs.Moves.{is_written}
 use Rattle.iso_locks.specs.Onward.{earlier-self}
 use Rattle.iso_locks.specs.Slots.{HasLater, slot}
@@ -18,9 +19,9 @@ use Rattle.iso_plan.specs.RowView.{tree_of}
 use Rattle.iso_plan.specs.Tree.{Row}
 use Rattle.iso_settings.specs.Worlds.{Start, starting_value_in}
 use Rattle.iso_store.specs.Histories.{History}
-use Rattle.iso_serial.proofs.KeyLemmas.{number-of-key, written-within}
+use Rattle.iso_locks.proofs.KeyLemmas.{number-of-key, written-within}
 use Rattle.iso_serial.proofs.ResultLemmas.{above-parent, true-or-false}
-use Rattle.iso_serial.proofs.TrayLemmas.{column-slot, cond-none, held-of, held-some, held-start, held-same, lent-less, no-clash, number, or-some, or-some-cases, some-or-none, start-absent, start-taken, write-covered}
+use Rattle.iso_serial.proofs.TrayLemmas.{held-of, held-some, held-start, held-same, lent-less, no-clash, number, or-some, or-some-cases, some-or-none, start-absent, start-taken, write-covered}
 use Rattle.iso_serial.specs.Standing.{HoldsAlong, IsAsOpened, IsAsOpenedApart, IsLentAlong, IsWrittenOn, held}
 
 or-none : (o : Option History) → option_or None o ≡ o
@@ -127,6 +128,7 @@ module _ (plan : Planned) (world : Start) (t : IsTree (tree_of plan)) (u v w : T
         plan = hw.plan_is ∙ sym a.plan_is;
         world = hw.world_is ∙ sym a.world_is;
         lent = a.lent.along n ∙ under-self tr t.below n pos;
+        holds = hw.lent.along n ∙ under-self tr t.below n pos;
         at_start = λ i less e.
             at-start i (ap (λ (pl : Planned). is_written (locks (tree_of pl) n) i) (sym a.plan_is) ∙ e)
             ∙ ap₂ (λ (x : Start) (pl : Planned). Some (starting_value_in x (key_at (tree_of pl) i))) (sym hw.world_is) (sym hw.plan_is);

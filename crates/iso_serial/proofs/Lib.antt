@@ -1,5 +1,4 @@
 pub mod BodyLemmas
-pub mod KeyLemmas
 pub mod LeaveLemmas
 pub mod NodeLemmas
 pub mod OpeningLemmas

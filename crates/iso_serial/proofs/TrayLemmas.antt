@@ -1,5 +1,5 @@
 -- A tray as nodes are lent to it and taken back.
-use Rattle.std.proofs.Common.{◌≡◌, ◌≢◌, ℕ, zero, suc, ◌<◌, ◌≤◌, List, length, set, Option, Some, None, Bool, true, false, ◌&&◌, cond, is_some, option_map, ◌⊎◌, inl, inr, refl, sym, ap, ap₂, ◌∙◌, subst, arith}
+use Rattle.std.proofs.Common.{◌≡◌, ◌≢◌, ℕ, zero, suc, ◌<◌, ◌≤◌, List, length, set, Option, Some, None, Bool, true, false, ◌||◌, ◌&&◌, ◌==◌, not, cond, is_some, option_map, ◌⊎◌, inl, inr, refl, sym, ap, ap₂, ◌∙◌, subst, arith}
 use Rattle.std.proofs.lemmas.Bool.{cases_eq, cases_lt}
 use Rattle.std.proofs.lemmas.List.{get_or-set_other, get_or-set_same, get_or_past, length-set}
 use Rattle.std.specs.Option.{option_or}
@@ -7,6 +7,7 @@ use Rattle.iso_lifecycle.specs.BodyViews.{EqualAt}
 use Rattle.iso_lifecycle.specs.Subjects.{opening_of, rights_of_subject, subject}
 use Rattle.iso_lifecycle.specs.declared.kind.BodyKind.TheVariants.{BeforeAll, Test, AfterAll}
 use Rattle.iso_locks.proofs.NumberLemmas.{number-spells, number-within}
+use Rattle.iso_locks.specs.Clashes.{clash, lockers_conflict}
 use Rattle.iso_locks.specs.Moves.{is_written}
 use Rattle.iso_locks.specs.Slots.{slot}
 use Rattle.iso_locks.specs.Trays.{IsOnward, TrayView, content, has_at, has_value, is_lent, is_open, key_at, number_of, resources, seen, seen_at}
@@ -15,19 +16,18 @@ use Rattle.iso_model.specs.Resources.{Resources}
 use Rattle.iso_model.specs.Rights.{is_readable, is_writable}
 use Rattle.iso_model.specs.Touch.{HasKeys, kind_of_value}
 use Rattle.iso_model.specs.declared.resource.Resource.{Resource}
-use Rattle.iso_plan.proofs.Columns.{column-read, length-column}
 use Rattle.iso_plan.proofs.LawLemmas.{conflict-apart, covered, root-unreadable}
-use Rattle.iso_plan.proofs.PathLemmas.{under-le, under-self, under-step}
+use Rattle.iso_plan.proofs.PathLemmas.{IsBelow, along, eq_from, eq_same, path-root, path-step, under-le, under-self, under-step}
 use Rattle.iso_plan.specs.KeyTable.{keys}
-use Rattle.iso_plan.specs.Locks.{conflict, locks, taken}
+use Rattle.iso_plan.specs.Locks.{conflict, declares, locking_node, locks, taken}
 use Rattle.iso_plan.specs.NodeChains.{node_rights}
-use Rattle.iso_plan.specs.Paths.{IsTree, column, is_test, is_under, parent, row_at}
+use Rattle.iso_plan.specs.Paths.{IsTree, is_on, is_test, is_under, outermost, parent, row_at}
 use Rattle.iso_plan.specs.Planned.{Planned}
 use Rattle.iso_plan.specs.RowView.{tree_of}
 use Rattle.iso_plan.specs.Tree.{Row}
 use Rattle.iso_settings.specs.Worlds.{Start, starting_value_in}
 use Rattle.iso_store.specs.Histories.{History}
-use Rattle.iso_serial.proofs.KeyLemmas.{has-number, open-of, or-true, readable-of, written-conflict, written-is, written-within}
+use Rattle.iso_locks.proofs.KeyLemmas.{has-number, open-of, or-true, readable-of, written-conflict, written-is, written-within}
 use Rattle.iso_serial.proofs.OpeningLemmas.{IsOpened, opened-apart, opened-whole, opening-kind, opening-start}
 use Rattle.iso_serial.proofs.ResultLemmas.{above-parent, not-above, root-or-not, true-or-false}
 use Rattle.iso_serial.specs.Standing.{AreLentAlong, HoldsAlong, IsAsOpened, IsAsOpenedApart, IsDone, IsLentAlong, IsWrittenOn, held}
@@ -56,10 +56,6 @@ seen-start : (b : Bool) (s : Resource) → is_some (seen None b s) ≡ true → 
 seen-start true s e = refl
 seen-start false s e = absurd (cc)
 
-pub cond-none : (b : Bool) → cond b None None ≡ (let none : Option History = None in none)
-cond-none true = refl
-cond-none false = refl
-
 pub or-some : (o p : Option History) → is_some p ≡ true → is_some (option_or o p) ≡ true
 or-some (Some h) p e = refl
 or-some None p e = e
@@ -69,12 +65,6 @@ or-some-cases true (Some h) p e = inl refl
 or-some-cases true None p e = inr e
 or-some-cases false o p e = inr e
 
-pub column-slot : (f : ℕ → Option History) (n i : ℕ) → (n ≤ i → f i ≡ None) → slot (column f n) i ≡ f i
-column-slot f n i past = elim (cases_lt i n) [
-  | inl less ↦ column-read f (column f n) n i None refl less
-  | inr more ↦ let count = length-column f n in get_or_past (column f n) i None (omega arith) ∙ sym (past more)
-]
-
 lowest-no : (test : ℕ → Bool) (n : ℕ) → ((m : ℕ) → m < n → test m ≡ false) → lowest test n ≡ None
 lowest-no test zero h = refl
 lowest-no test (suc n) h = rw (lowest-no test n (λ m less. h m (omega arith)), h n (omega arith)) refl
@@ -82,6 +72,18 @@ lowest-no test (suc n) h = rw (lowest-no test n (λ m less. h m (omega arith)), 
 both : (a b : Bool) → (a && b) ≡ true → (a ≡ true) × (b ≡ true)
 both true b e = (refl, e)
 both false b e = absurd (cc)
+
+-- the locking node of a node is that of all that stands in it
+locking-down : (tree : List Row) → IsBelow tree → (m a : ℕ) → locking_node tree m ≡ Some a → (n : ℕ) → is_under tree m n ≡ true → locking_node tree n ≡ Some a
+locking-down tree b m a own =
+    along tree b (λ n. is_under tree m n ≡ true → locking_node tree n ≡ Some a)
+    (λ u. let wrong : false ≡ true = sym (ap (λ (ns : List ℕ). is_on ns m) (path-root tree)) ∙ u in absurd (cc))
+    (λ n pos ih u. elim (true-or-false (n == m)) [
+      | inl same ↦ ap (locking_node tree) (eq_from n m same) ∙ own
+      | inr other ↦
+          let up : is_under tree m (parent tree n) ≡ true = sym (ap (λ (x : Bool). x || is_under tree m (parent tree n)) other) ∙ sym (under-step tree b m n pos) ∙ u in
+          ap (outermost (declares tree)) (path-step tree b n pos) ∙ ap (λ (o : Option ℕ). option_or o (cond (declares tree n) (Some n) None)) (ih up)
+    ])
 
 module _ (plan : Planned) (world : Start) (t : IsTree (tree_of plan)) where
   abbrev tr : List Row
@@ -153,6 +155,21 @@ module _ (plan : Planned) (world : Start) (t : IsTree (tree_of plan)) where
 
   pub no-clash : (n i : ℕ) → 0 < n → IsWrittenOn tr (parent tr n) i → is_written (locks tr n) i ≡ true → ⊥
   no-clash n i pos on w = no-conflict on.node n pos on.above (written-conflict tr on.node n i on.writes w)
+
+  lockers-same : (m n : ℕ) (o : Option ℕ) → locking_node tr m ≡ o → is_under tr m n ≡ true → lockers_conflict tr o (locking_node tr n) ≡ false
+  lockers-same m n None e u = refl
+  lockers-same m n (Some a) e u =
+      ap (lockers_conflict tr (Some a)) (locking-down tr t.below m a e n u) ∙ ap (λ (b : Bool). not b && conflict tr a a) (eq_same a)
+
+  -- nor does it clash with it: both have one locking node
+  no-clash-above : (m n : ℕ) → 0 < n → is_under tr m (parent tr n) ≡ true → clash tr m n ≡ false
+  no-clash-above m n pos above =
+      let under : is_under tr m n ≡ true = under-step tr t.below m n pos ∙ or-true _ (is_under tr m (parent tr n)) above in
+      let apart : conflict tr m n ≡ false = elim (true-or-false (conflict tr m n)) [
+        | inl c ↦ absurd (no-conflict m n pos above c)
+        | inr out ↦ out
+      ] in
+      ap₂ (λ (p q : Bool). p || q) apart (lockers-same m n (locking_node tr m) refl under)
 
   -- what stands at its start in the opening of a node's parent: a key that no node of its path has, and a key that the node takes
   pub start-absent : (u : TrayView) (p : ℕ) (k : List ℕ) (i : ℕ) → p < length tr → is_test (row_at tr p).kind ≡ false → HoldsAlong plan world p u → number_of tr k ≡ Some i → slot u.values i ≡ None → left p k ≡ Some (start k)
@@ -245,6 +262,7 @@ module _ (plan : Planned) (world : Start) (t : IsTree (tree_of plan)) where
         world = h.world_is ∙ sym a.world_is;
         free = a.lent.along n ∙ not-above tr t.below n pos;
         apart = h.lent.along n ∙ not-above tr t.below n pos;
+        beside = λ unused m l. subst (λ (pl : Planned). clash (tree_of pl) m n ≡ false) (sym h.plan_is) (no-clash-above m n pos (sym (h.lent.along m) ∙ l));
       }
 
   pub vault-lent : (v : VaultView) (n : ℕ) → 0 < n → n < length plan.rows → IsLentAlong plan world (parent tr n) v → IsLentAlong plan world n (lending n v)

@@ -1,11 +1,16 @@
-use Rattle.std.proofs.Common.{◌≡◌, ℕ, List, length, false, sym, ◌∙◌, subst}
+use Rattle.std.proofs.Common.{◌≡◌, ℕ, List, length, set, true, false, ap, sym, ◌∙◌, subst}
 use Rattle.std.proofs.lemmas.List.{length-set}
 use Rattle.iso_plan.specs.KeyTable.{keys}
 use Rattle.iso_plan.specs.Locks.{locks}
 use Rattle.iso_plan.specs.RowView.{tree_of}
 use Rattle.iso_plan.specs.declared.lock.Lock.{Lock}
-use Rattle.iso_locks.specs.Moves.{AreWithin}
+use Rattle.iso_plan.specs.Tree.{Row}
+use Rattle.iso_locks.specs.Moves.{AreWithin, moved_away}
+use Rattle.iso_locks.specs.Owners.{AreOwned}
+use Rattle.iso_locks.specs.Slots.{Slots}
+use Rattle.iso_locks.specs.Trays.{TrayView, is_lent}
 use Rattle.iso_locks.proofs.MoveLemmas.{there-count, locks-within}
+use Rattle.iso_locks.proofs.OwnerLemmas.{lent-within, owned-less}
 use Rattle.iso_locks.proofs.tray.Tray.give_back.Goals as goal
 
 pub move_values-requires-clause-within : goal.move_values-requires-clause-within
@@ -21,4 +26,14 @@ invariant_of-self c = record {
   values_fit = there-count c.args.taken.now c.self.inside.values c.move_values.new.there c.move_values.ensures.there ∙ c.self.invariant.values_fit;
   starts_are = c.self.invariant.starts_are;
   has_room = c.self.invariant.has_room;
+  are_owned =
+      let tree = tree_of c.self.inside.plan.now in
+      let n = c.args.node in
+      let same : tree_of c.args.self.now.plan ≡ tree = ap (λ (t : TrayView). tree_of t.plan) (sym c.self.view_is) in
+      let lent = c.self.inside.lent.items in
+      let holds : is_lent lent n ≡ true = ap (λ (t : TrayView). is_lent t.lent n) c.self.view_is ∙ c.requires.holds in
+      let moved : c.move_values.new.there ≡ moved_away (locks tree n) c.self.inside.values =
+      c.move_values.ensures.there ∙ ap (λ (ls : List Lock). moved_away ls c.self.inside.values) (c.requires.taken ∙ ap (λ (tr : List Row). locks tr n) same) in
+      let Own : Slots → Type 0 = λ vs. AreOwned tree c.self.inside.flat (set lent n false) vs in
+      subst Own (sym moved) (owned-less tree c.self.inside.flat lent c.self.inside.values n (lent-within lent n holds) holds c.self.invariant.are_owned);
 }

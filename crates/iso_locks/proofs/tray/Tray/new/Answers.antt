@@ -1,10 +1,12 @@
-use Rattle.std.proofs.Common.{◌≡◌, List, Bool, false, Option, None, length, replicate, rules, ap, ap₂, ◌∙◌}
+use Rattle.std.proofs.Common.{◌≡◌, List, Bool, false, Option, None, length, replicate, rules, ap, ap₂, sym, subst, ◌∙◌}
 use Rattle.std.proofs.lemmas.List.{length-replicate}
 use Rattle.iso_plan.specs.KeyTable.{keys}
 use Rattle.iso_plan.specs.RowView.{tree_of}
 use Rattle.iso_store.specs.Histories.{History}
 use Rattle.iso_lifecycle.specs.Subjects.{Subject}
-use Rattle.iso_locks.specs.Slots.{Slots}
+use Rattle.iso_locks.proofs.OwnerLemmas.{none-there, owned-none}
+use Rattle.iso_locks.specs.Owners.{AreOwned}
+use Rattle.iso_locks.specs.Slots.{Slots, slot}
 use Rattle.iso_locks.specs.Trays.{TrayView}
 use Rattle.iso_locks.proofs.tray.Tray.new.Goals as goal
 
@@ -18,6 +20,11 @@ invariant_of-result c =
       values_fit = ap length c.in_ok-empty.ensures ∙ length-replicate c.key_count-count.result none ∙ c.key_count-count.ensures;
       starts_are = c.in_ok-starts_of.ensures;
       has_room = c.in_ok-with_capacity.ensures.capacity;
+      are_owned =
+          let Own : List Bool → Type 0 = λ l. AreOwned (tree_of plan) false l c.in_ok-empty.field-0 in
+          subst Own (sym lent)
+          (owned-none (tree_of plan) false (length plan.rows) c.in_ok-empty.field-0
+          (λ f i. ap (λ (s : Slots). slot s i) c.in_ok-empty.ensures ∙ none-there c.key_count-count.result i));
     }
 
 pub returns : goal.returns
@@ -26,6 +33,6 @@ returns c =
     let none : Option History = None in
     let lent : c.in_ok-vec.field-0.items ≡ replicate (length plan.rows) false = c.in_ok-vec.ensures.items_if_clones_equal (λ y h. search rules) ∙ ap (λ n. replicate n false) c.len-nodes.ensures in
     let values : c.in_ok-empty.field-0 ≡ replicate (length (keys (tree_of plan))) none = c.in_ok-empty.ensures ∙ ap (λ n. replicate n none) c.key_count-count.ensures in
-    let with_parts : List Bool → Slots → List Subject → TrayView = λ l v f. record { plan = plan; world = c.args.world.now; lent = l; values = v; frames = f } in
+    let with_parts : List Bool → Slots → List Subject → TrayView = λ l v f. record { plan = plan; world = c.args.world.now; flat = false; lent = l; values = v; frames = f } in
     ap₂ (λ (l : List Bool) (v : Slots). with_parts l v c.in_ok-with_capacity.field-0.items) lent values
     ∙ ap (with_parts (replicate (length plan.rows) false) (replicate (length (keys (tree_of plan))) none)) c.in_ok-with_capacity.ensures.items

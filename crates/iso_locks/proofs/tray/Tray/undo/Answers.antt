@@ -1,8 +1,11 @@
-use Rattle.std.proofs.Common.{◌≡◌, length, ap, ◌∙◌}
+use Rattle.std.proofs.Common.{◌≡◌, length, ap, sym, subst, ◌∙◌}
 use Rattle.std.specs.Option.{option_or}
 use Rattle.iso_plan.proofs.Columns.{length-column}
-use Rattle.iso_locks.specs.Slots.{Slots, slot}
-use Rattle.iso_locks.specs.Trays.{restored}
+use Rattle.iso_plan.specs.RowView.{tree_of}
+use Rattle.iso_locks.proofs.OwnerLemmas.{owned-still, restored-there}
+use Rattle.iso_locks.specs.Owners.{AreOwned}
+use Rattle.iso_locks.specs.Slots.{HasLater, Slots, slot}
+use Rattle.iso_locks.specs.Trays.{TrayView, restored}
 use Rattle.iso_locks.proofs.tray.Tray.undo.Goals as goal
 
 column-count : (marks values next : Slots) → next ≡ restored marks values → length next ≡ length values
@@ -14,4 +17,16 @@ invariant_of-self c = record {
   values_fit = column-count c.into_values.result.items c.self.inside.values c.undo_all.new.self c.undo_all.ensures ∙ c.self.invariant.values_fit;
   starts_are = c.self.invariant.starts_are;
   has_room = c.self.invariant.has_room;
+  are_owned =
+      let tree = tree_of c.self.inside.plan.now in
+      let marks = c.into_values.result.items in
+      let values = c.self.inside.values in
+      let same : restored marks values ≡ c.undo_all.new.self = sym c.undo_all.ensures in
+      let Same : Slots → Type 0 = λ vs. AreOwned tree c.self.inside.flat c.self.inside.lent.items vs in
+      subst Same same
+      (owned-still tree c.self.inside.flat c.self.inside.lent.items values (restored marks values)
+      (restored-there marks values
+      (ap length c.into_values.ensures ∙ c.requires.fits ∙ ap (λ (t : TrayView). length t.values) (sym c.self.view_is))
+      (λ i h e. subst (λ (t : TrayView). HasLater t.values i h) (sym c.self.view_is) (c.requires.later i h (ap (λ (ms : Slots). slot ms i) (sym c.into_values.ensures) ∙ e))))
+      c.self.invariant.are_owned);
 }

@@ -9,8 +9,9 @@ use Rattle.iso_settings.specs.Worlds.{Start}
 use Rattle.iso_locks.specs.Slots.{Slots}
 use Rattle.iso_locks.specs.Trays.{IsOnward, TrayView, content, has_at, has_value, number_below, number_of, start_at}
 use Rattle.iso_locks.specs.declared.starting.Starting.{Starting}
-use Rattle.iso_locks.proofs.LawLemmas.{on-apply}
+use Rattle.iso_locks.proofs.LawLemmas.{on-apply, on-there}
 use Rattle.iso_locks.proofs.NumberLemmas.{number-within, spelled}
+use Rattle.iso_locks.proofs.OwnerLemmas.{owned-still}
 use Rattle.iso_locks.proofs.TouchLemmas.{changes, nothing-there, number-is}
 use Rattle.iso_locks.proofs.tray.TrayTouch.change.Goals as goal
 
@@ -54,5 +55,23 @@ returns-in-Some-clause-goes_on c =
     let i = c.in-Some.number in
     let at = numbered tree c.self.inside.world.now c.self.inside.starts.items c.deref.result.now k (Some i) c.self.invariant.starts_are c.deref.ensures.value c.in-Some.ensures in
     let within = below tree k i c.self.inside.values at c.self.invariant.values_fit in
-    let t : TrayView = record { plan = c.self.inside.plan.now; world = c.self.inside.world.now; lent = c.self.inside.lent.items; values = c.self.inside.values; frames = c.self.inside.frames.items } in
+    let t : TrayView = record { plan = c.self.inside.plan.now; world = c.self.inside.world.now; flat = c.self.inside.flat; lent = c.self.inside.lent.items; values = c.self.inside.values; frames = c.self.inside.frames.items } in
     subst (λ (u : TrayView). IsOnward u (record t { values = c.apply.new.self })) c.self.view_is (on-apply c.apply.result t c.apply.new.self i c.args.change within c.apply.ensures.ok c.apply.ensures.err)
+
+pub invariant_of-self : goal.invariant_of-self
+invariant_of-self c =
+    let tree = tree_of c.self.inside.plan.now in
+    let k = spelling c.args.key in
+    let i = c.in-Some.number in
+    let at = numbered tree c.self.inside.world.now c.self.inside.starts.items c.deref.result.now k (Some i) c.self.invariant.starts_are c.deref.ensures.value c.in-Some.ensures in
+    let within = below tree k i c.self.inside.values at c.self.invariant.values_fit in
+    let t : TrayView = record { plan = c.self.inside.plan.now; world = c.self.inside.world.now; flat = c.self.inside.flat; lent = c.self.inside.lent.items; values = c.self.inside.values; frames = c.self.inside.frames.items } in
+    let u : TrayView = record t { values = c.apply.new.self } in
+    let on : IsOnward t u = on-apply c.apply.result t c.apply.new.self i c.args.change within c.apply.ensures.ok c.apply.ensures.err in
+    record {
+      lent_fits = c.self.invariant.lent_fits;
+      values_fit = on.values.fits ∙ c.self.invariant.values_fit;
+      starts_are = c.self.invariant.starts_are;
+      has_room = c.self.invariant.has_room;
+      are_owned = owned-still tree t.flat t.lent t.values u.values (on-there t u on.values) c.self.invariant.are_owned;
+    }

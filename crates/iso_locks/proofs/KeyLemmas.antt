@@ -133,7 +133,7 @@ read-only None r w = absurd (cc)
 read-only (Some Read) r w = refl
 read-only (Some Write) r w = absurd (cc)
 
-any-has : (lent : List Bool) (test : ℕ → Bool) (n m : ℕ) → m < n → is_lent lent m ≡ true → test m ≡ true → any_lent lent test n ≡ true
+pub any-has : (lent : List Bool) (test : ℕ → Bool) (n m : ℕ) → m < n → is_lent lent m ≡ true → test m ≡ true → any_lent lent test n ≡ true
 any-has lent test zero m h l t = absurd (omega arith)
 any-has lent test (suc n) m h l t = elim (cases_eq m n) [
   | inl same ↦ or-left (is_lent lent n && test n) (any_lent lent test n) (ap₂ (λ (p q : Bool). p && q) (ap (is_lent lent) (sym same) ∙ l) (ap test (sym same) ∙ t))

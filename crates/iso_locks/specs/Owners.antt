@@ -1,0 +1,34 @@
+-- Which nodes own the values that a tray holds.
+use Rattle.std.specs.Prelude.{◌≡◌, ◌≢◌, ◌≤◌, ℕ, List, length, map, Bool, true, false, is_some}
+use Rattle.iso_locks.specs.Clashes.{clash}
+use Rattle.iso_locks.specs.Moves.{is_written}
+use Rattle.iso_locks.specs.Slots.{Slots, slot}
+use Rattle.iso_locks.specs.Trays.{is_lent, start_at}
+use Rattle.iso_locks.specs.declared.starting.Starting.{Starting}
+use Rattle.iso_model.specs.declared.limits.TheConstants.{CLASS_DEPTH}
+use Rattle.iso_plan.specs.KeyTable.{keys}
+use Rattle.iso_plan.specs.Locks.{locks}
+use Rattle.iso_plan.specs.Planned.{Planned}
+use Rattle.iso_plan.specs.RowView.{tree_of}
+use Rattle.iso_plan.specs.Tree.{Row}
+use Rattle.iso_settings.specs.Worlds.{Start}
+
+-- a node that is lent takes the key with a number for READ_WRITE, and so owns its value
+pub record IsOwned (tree : List Row) (given : List Bool) (i : ℕ) : Type 0 where
+  pub node : ℕ
+  pub lent : is_lent given node ≡ true
+  pub writes : is_written (locks tree node) i ≡ true
+
+-- What a tray keeps of its values and the nodes that are lent to it: each value is owned, but in a flat map; what a node takes for READ_WRITE is there; and no two nodes clash.
+pub record AreOwned (tree : List Row) (flat : Bool) (lent : List Bool) (values : Slots) : Type 0 where
+  pub owned : flat ≡ false → (i : ℕ) → is_some (slot values i) ≡ true → IsOwned tree lent i
+  pub there : (n i : ℕ) → is_lent lent n ≡ true → is_written (locks tree n) i ≡ true → is_some (slot values i) ≡ true
+  pub apart : (m n : ℕ) → m ≢ n → is_lent lent m ≡ true → is_lent lent n ≡ true → clash tree m n ≡ false
+
+-- what holds of the lists that a tray keeps, with room for so many frames
+pub record IsTray (plan : Planned) (world : Start) (flat : Bool) (lent : List Bool) (values : Slots) (starts : List Starting) (room : ℕ) : Type 0 where
+  pub lent_fits : length lent ≡ length plan.rows
+  pub values_fit : length values ≡ length (keys (tree_of plan))
+  pub starts_are : starts ≡ map (start_at world) (keys (tree_of plan))
+  pub has_room : CLASS_DEPTH ≤ room
+  pub are_owned : AreOwned (tree_of plan) flat lent values
