@@ -3,7 +3,7 @@ use Rattle.std.specs.Prelude.{◌≡◌, ◌≢◌, ◌≤◌, ℕ, List, length
 use Rattle.iso_locks.specs.Clashes.{clash}
 use Rattle.iso_locks.specs.Moves.{is_written}
 use Rattle.iso_locks.specs.Slots.{Slots, slot}
-use Rattle.iso_locks.specs.Trays.{is_lent, start_at}
+use Rattle.iso_locks.specs.Trays.{TrayView, is_lent, start_at}
 use Rattle.iso_locks.specs.declared.starting.Starting.{Starting}
 use Rattle.iso_model.specs.declared.limits.TheConstants.{CLASS_DEPTH}
 use Rattle.iso_plan.specs.KeyTable.{keys}
@@ -24,6 +24,11 @@ pub record AreOwned (tree : List Row) (flat : Bool) (lent : List Bool) (values :
   pub owned : flat ≡ false → (i : ℕ) → is_some (slot values i) ≡ true → IsOwned tree lent i
   pub there : (n i : ℕ) → is_lent lent n ≡ true → is_written (locks tree n) i ≡ true → is_some (slot values i) ≡ true
   pub apart : (m n : ℕ) → m ≢ n → is_lent lent m ≡ true → is_lent lent n ≡ true → clash tree m n ≡ false
+
+-- a node may be lent to a tray beside those that are: it isn't lent to it, and clashes with none of them
+pub record CanHold (n : ℕ) (t : TrayView) : Type 0 where
+  pub apart : is_lent t.lent n ≡ false
+  pub beside : (m : ℕ) → is_lent t.lent m ≡ true → clash (tree_of t.plan) m n ≡ false
 
 -- what holds of the lists that a tray keeps, with room for so many frames
 pub record IsTray (plan : Planned) (world : Start) (flat : Bool) (lent : List Bool) (values : Slots) (starts : List Starting) (room : ℕ) : Type 0 where

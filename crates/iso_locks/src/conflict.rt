@@ -1,5 +1,6 @@
 //! Locks that exclude each other.
 ghost use Rattle.std.specs.Prelude.{◌≡◌, ◌<◌, ◌||◌, length};
+ghost use Rattle.iso_locks.specs.Clashes.{clash};
 ghost use Rattle.iso_locks.specs.Conflicts.{conflicts, excludes, shares};
 ghost use Rattle.iso_plan.specs.Locks.{conflict};
 ghost use Rattle.iso_plan.specs.RowView.{tree_of};
@@ -15,6 +16,20 @@ pub fn nodes_conflict(plan: &Plan, node: u32, other: u32) -> bool
     ensures { result ≡ conflict (tree_of plan.now) node other }
 {
     conflicts(plan.locks(node), plan.locks(other))
+}
+
+/// Whether two nodes of a plan clash, so that no tray holds both: they conflict, or their locking nodes do, where these differ. Takes
+/// no memory.
+pub fn nodes_clash(plan: &Plan, node: u32, other: u32) -> bool
+    requires node { node < length plan.now.rows }
+    requires other { other < length plan.now.rows }
+    ensures { result ≡ clash (tree_of plan.now) node other }
+{
+    nodes_conflict(plan, node, other)
+        || match (plan.locking_node(node), plan.locking_node(other)) {
+            (Some(a), Some(b)) => a != b && nodes_conflict(plan, a, b),
+            _ => false,
+        }
 }
 
 /// Whether two nodes with these locks conflict: they take one key, and one of them takes it for READ_WRITE.

@@ -1,7 +1,7 @@
 //! One worker's values.
 ghost use Rattle.std.specs.Prelude.{◌≡◌, ◌<◌, ◌++◌, ◌∷◌, [], ℕ, None, IfOk, cond, false, is_some, length, map, option_copied, replicate, true};
 ghost use Rattle.iso_locks.specs.Clashes.{clash};
-ghost use Rattle.iso_locks.specs.Owners.{AreOwned};
+ghost use Rattle.iso_locks.specs.Owners.{AreOwned, CanHold};
 ghost use Rattle.iso_locks.specs.Slots.{slot};
 ghost use Rattle.iso_locks.specs.Flats.{IsFlat, flat};
 ghost use Rattle.iso_lifecycle.specs.Subjects.{started};
@@ -15,6 +15,7 @@ ghost use Rattle.iso_plan.specs.Locks.{locks};
 ghost use Rattle.iso_plan.specs.Paths.{column};
 ghost use Rattle.iso_plan.specs.RowView.{tree_of};
 
+use crate::conflict::nodes_clash;
 use crate::mark::Mark;
 use crate::moves::move_values;
 use crate::slots::Slots;
@@ -133,6 +134,23 @@ impl<'a> Tray<'a> {
         ensures { result ≡ is_lent self.now.lent node }
     {
         self.lent[node as usize]
+    }
+
+    /// Whether a node may be lent to it beside those that are: it isn't lent to it, and clashes with none of them. Takes no memory.
+    pub fn can_hold(&self, node: u32) -> bool
+        requires { node < length self.now.plan.rows }
+        ensures holds { result ≡ true → CanHold node self.now }
+        ensures refuses { CanHold node self.now → result ≡ true }
+    {
+        if self.is_lent(node) {
+            return false;
+        }
+        'nodes: for other in 0..self.plan.len() {
+            if self.is_lent(other) && nodes_clash(self.plan, other, node) {
+                return false;
+            }
+        }
+        true
     }
 
     /// The frames that were handed to it since the last clearing, in that order.

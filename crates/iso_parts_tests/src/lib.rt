@@ -6,6 +6,8 @@ mod arguments;
 #[cfg(test)]
 mod interp;
 #[cfg(test)]
+mod locks;
+#[cfg(test)]
 mod model;
 #[cfg(test)]
 mod plan;

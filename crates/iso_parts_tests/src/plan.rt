@@ -1,5 +1,5 @@
 //! Plans, read through their calls.
 mod limits;
 mod locks;
-mod scripts;
+pub(crate) mod scripts;
 mod shown;

@@ -1,4 +1,4 @@
-//! Worked examples through the program's `command`, and tests of bodies, locks, schedules and sinks over whole suites.
+//! Worked examples through the program's `command`, and tests of bodies, schedules and sinks over whole suites.
 #![tactic(auto)]
 
 #[cfg(test)]
@@ -9,8 +9,6 @@ mod expect;
 mod folder;
 #[cfg(test)]
 mod lifecycle;
-#[cfg(test)]
-mod locks;
 #[cfg(test)]
 mod program;
 #[cfg(test)]

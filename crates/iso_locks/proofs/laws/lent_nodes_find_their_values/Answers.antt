@@ -1,7 +1,6 @@
 use Rattle.std.proofs.Common.{◌≡◌, List, length, sym, subst, ◌∙◌}
-use Rattle.std.proofs.lemmas.List.{length-map}
 use Rattle.iso_plan.specs.Planned.{Planned}
-use Rattle.iso_plan.specs.RowView.{row_of, tree_of}
+use Rattle.iso_plan.specs.RowView.{tree_of}
 use Rattle.iso_plan.specs.Paths.{IsTree}
 use Rattle.iso_locks.proofs.FindLemmas.{finds-start, finds-value}
 use Rattle.iso_locks.proofs.OwnerLemmas.{lent-within}
@@ -13,7 +12,7 @@ returns-clause-read c =
     let t : TrayView = c.args.tray.now in
     let own = c.keep_owners.ensures in
     let is_tree = subst (λ (p : Planned). IsTree (tree_of p)) c.plan.ensures c.nodes_are_a_tree.ensures in
-    let count : length t.lent ≡ length (tree_of t.plan) = own.lent ∙ sym (length-map t.plan.rows row_of) in
+    let count : length t.lent ≡ length (tree_of t.plan) = own.lent in
     λ flat n k l h. finds-start t is_tree.below count own.owned flat n k (lent-within t.lent n l) l h
 
 pub returns-clause-written : goal.returns-clause-written

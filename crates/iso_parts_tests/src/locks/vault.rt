@@ -1,19 +1,14 @@
 //! The vault of a plan, with memory at hand.
 ghost use Rattle.std.specs.Prelude.{◌≡◌, ◌<◌, length};
 
-use crate::suites::{CART_AND_DESK, Check, SERIAL, check_script};
+use crate::locks::suite::{CART_AND_DESK, READERS_AND_WRITERS, Suite, suite};
 use iso_locks::laws::lent_nodes_may_be_taken_back;
 use iso_locks::tray::Tray;
 use iso_locks::vault::{Busy, Vault};
 use iso_plan::plan::Plan;
-use iso_settings::world::World;
-use std::alloc::Global;
+use std::alloc::{AllocError, Global};
 use std::process::Abort;
 use std::test::Fail;
-
-const READERS_AND_WRITERS: &str = "team shop
-class A { read \"file:a\" test r1 { } read \"file:a\" test r2 { } write \"file:a\" test w1 { } write \"file:b\" test w2 { } }
-";
 
 /// What comes of lending a second node beside a first.
 #[derive(Debug, Clone, Copy, PartialEq, Eq)]
@@ -127,7 +122,7 @@ fn lend_second(
     ensures world { vault.new.world ≡ vault.old.world }
 {
     lent_nodes_may_be_taken_back();
-    assert!(rt; !vault.is_lent(node) && !tray.is_lent(node));
+    assert!(rt; !vault.is_lent(node) && tray.can_hold(node));
     match vault.lend(node, tray) {
         Ok(()) => {
             let both = away(vault, plan);
@@ -163,7 +158,7 @@ fn lend_both(
 {
     lent_nodes_may_be_taken_back();
     assert!(rt; first < plan.len() && second < plan.len());
-    assert!(rt; !vault.is_lent(first) && !here.is_lent(first));
+    assert!(rt; !vault.is_lent(first) && here.can_hold(first));
     let Ok(()) = vault.lend(first, here) else {
         panic!(rt; "nothing is lent beside the first");
     };
@@ -175,28 +170,44 @@ fn lend_both(
     beside
 }
 
-impl Check for Row {
-    fn check<R: Abort>(
-        &self,
-        rt: &R,
-        alloc: Global,
-        plan: &Plan,
-        world: &World,
-    ) -> Result<(), Fail> {
-        let mut vault = Vault::new(alloc, plan, world)?;
-        let mut here = Tray::new(alloc, plan, world)?;
-        let mut there = Tray::new(alloc, plan, world)?;
-        let (first, second) = (self.first, self.second);
-        let beside = lend_both(rt, plan, &mut vault, &mut here, &mut there, first, second);
-        assert_eq!(rt; beside, self.want, "{second} beside {first}");
-        Ok(())
-    }
+/// Lends the two nodes of a row to two trays.
+fn check_row(rt: &impl Abort, alloc: Global, suite: &Suite, row: &Row) -> Result<(), Fail> {
+    let mut vault = Vault::new(alloc, &suite.plan, &suite.world)?;
+    let mut here = Tray::new(alloc, &suite.plan, &suite.world)?;
+    let mut there = Tray::new(alloc, &suite.plan, &suite.world)?;
+    let (first, second) = (row.first, row.second);
+    let beside = lend_both(rt, &suite.plan, &mut vault, &mut here, &mut there, first, second);
+    assert_eq!(rt; beside, row.want, "{second} beside {first}");
+    Ok(())
 }
 
 #[test]
 fn conflicting_nodes_wait_and_readers_share(rt: HostRuntime) -> Result<(), Fail> {
+    let alloc = rt.alloc();
     for row in &ROWS {
-        check_script(&rt, rt.alloc(), row.script, SERIAL, row)?;
+        check_row(&rt, alloc, &suite(alloc, row.script)?, row)?;
     }
+    Ok(())
+}
+
+/// A script with as many keys as there may be: each but the global one is written by a test of its own.
+fn most_keys(alloc: Global) -> Result<String, AllocError> {
+    let mut text = String::from_str(alloc, "team shop\nclass Large {\n")?;
+    for number in 0..255u32 {
+        text.push_str(format!(in alloc; "write \"k{number}\" test t{number} {{ }}\n")?.as_str())?;
+    }
+    text.push_str("}\n")?;
+    Ok(text)
+}
+
+/// The value of each of the most keys is home in a new vault.
+#[test]
+fn every_value_is_home_in_a_new_vault(rt: HostRuntime) -> Result<(), Fail> {
+    let alloc = rt.alloc();
+    let suite = suite(alloc, most_keys(alloc)?.as_str())?;
+    assert_eq!(rt; suite.plan.key_count(), 256);
+    let vault = Vault::new(alloc, &suite.plan, &suite.world)?;
+    let _tray = Tray::new(alloc, &suite.plan, &suite.world)?;
+    assert_eq!(rt; away(&vault, &suite.plan), 0);
     Ok(())
 }

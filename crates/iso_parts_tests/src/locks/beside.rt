@@ -1,0 +1,83 @@
+//! Nodes that are lent beside one another, to one tray and to several.
+ghost use Rattle.std.specs.Prelude.{◌≡◌};
+ghost use Rattle.iso_locks.specs.Owners.{CanHold};
+ghost use Rattle.iso_locks.specs.Vaults.{CanTakeBack, IsLentTo, lending};
+
+use crate::locks::suite::{CART_AND_DESK, READERS_AND_WRITERS, suite};
+use iso_locks::laws::{lent_nodes_may_be_taken_back, other_nodes_may_still_be_taken_back};
+use iso_locks::tray::Tray;
+use iso_locks::vault::{Busy, Vault};
+use std::process::Abort;
+use std::test::Fail;
+
+/// Lends a node that no node is in the way of, to a tray that can hold it.
+fn lend(rt: &impl Abort, vault: &mut Vault<'_>, tray: &mut Tray<'_>, node: u32)
+    requires plan { tray.old.plan ≡ vault.old.plan }
+    requires world { tray.old.world ≡ vault.old.world }
+    ensures vault { vault.new ≡ lending node vault.old }
+    ensures tray { IsLentTo node tray.old tray.new }
+    ensures held { CanHold node tray.old }
+    ensures back { CanTakeBack node vault.new tray.new }
+{
+    lent_nodes_may_be_taken_back();
+    assert!(rt; node < tray.plan().len());
+    assert!(rt; !vault.is_lent(node) && tray.can_hold(node));
+    let Ok(()) = vault.lend(node, tray) else {
+        panic!(rt; "a node is in the way of {node}");
+    };
+    assert!(rt; vault.is_lent(node));
+}
+
+/// The node that is in the way of another one.
+fn in_the_way(rt: &impl Abort, vault: &mut Vault<'_>, tray: &mut Tray<'_>, node: u32) -> u32
+    requires plan { tray.old.plan ≡ vault.old.plan }
+    requires world { tray.old.world ≡ vault.old.world }
+    ensures vault { vault.new ≡ vault.old }
+    ensures tray { tray.new ≡ tray.old }
+{
+    assert!(rt; node < tray.plan().len());
+    assert!(rt; !vault.is_lent(node) && tray.can_hold(node));
+    let Err(Busy { node: other }) = vault.lend(node, tray) else {
+        panic!(rt; "no node is in the way of {node}");
+    };
+    other
+}
+
+/// A class and a test of it are lent to one tray. An isolated class waits for the class, and is lent after both came home.
+#[test]
+fn isolated_class_is_lent_after_two_nodes_came_home(rt: HostRuntime) -> Result<(), Fail> {
+    other_nodes_may_still_be_taken_back();
+    let alloc = rt.alloc();
+    let suite = suite(alloc, CART_AND_DESK)?;
+    let mut vault = Vault::new(alloc, &suite.plan, &suite.world)?;
+    let mut cart = Tray::new(alloc, &suite.plan, &suite.world)?;
+    let mut desk = Tray::new(alloc, &suite.plan, &suite.world)?;
+    lend(&rt, &mut vault, &mut cart, 1);
+    lend(&rt, &mut vault, &mut cart, 2);
+    assert_eq!(rt; in_the_way(&rt, &mut vault, &mut desk, 4), 1);
+    vault.take_back(2, &mut cart);
+    vault.take_back(1, &mut cart);
+    lend(&rt, &mut vault, &mut desk, 4);
+    Ok(())
+}
+
+/// Two readers have a file in two trays. A writer of it waits in a third, and a writer of another file takes that file's value away.
+#[test]
+fn writer_waits_for_readers_and_takes_its_value_away(rt: HostRuntime) -> Result<(), Fail> {
+    let alloc = rt.alloc();
+    let suite = suite(alloc, READERS_AND_WRITERS)?;
+    let mut vault = Vault::new(alloc, &suite.plan, &suite.world)?;
+    let mut first = Tray::new(alloc, &suite.plan, &suite.world)?;
+    let mut second = Tray::new(alloc, &suite.plan, &suite.world)?;
+    let mut third = Tray::new(alloc, &suite.plan, &suite.world)?;
+    assert_eq!(rt; suite.plan.key_count(), 3);
+    lend(&rt, &mut vault, &mut first, 2);
+    lend(&rt, &mut vault, &mut second, 3);
+    assert_eq!(rt; in_the_way(&rt, &mut vault, &mut third, 4), 2);
+    assert!(rt; vault.home(1) && vault.home(2));
+    lend(&rt, &mut vault, &mut third, 5);
+    assert!(rt; vault.home(1) && !vault.home(2));
+    vault.take_back(5, &mut third);
+    assert!(rt; vault.home(1) && vault.home(2));
+    Ok(())
+}
