@@ -6,6 +6,7 @@ pub mod LawLemmas
 pub mod MoveLemmas
 pub mod NumberLemmas
 pub mod OwnerLemmas
+pub mod Sharing
 pub mod StillLemmas
 pub mod TouchLemmas
 pub mod UndoLemmas
