@@ -6,6 +6,7 @@ ghost use Rattle.iso_plan.specs.Locks.{conflict};
 ghost use Rattle.iso_plan.specs.RowView.{tree_of};
 
 use iso_model::access::Access;
+use iso_plan::laws::nodes_are_a_tree;
 use iso_plan::lock::Lock;
 use iso_plan::plan::Plan;
 
@@ -25,6 +26,7 @@ pub fn nodes_clash(plan: &Plan, node: u32, other: u32) -> bool
     requires other { other < length plan.now.rows }
     ensures { result ≡ clash (tree_of plan.now) node other }
 {
+    nodes_are_a_tree(plan);
     nodes_conflict(plan, node, other)
         || match (plan.locking_node(node), plan.locking_node(other)) {
             (Some(a), Some(b)) => a != b && nodes_conflict(plan, a, b),

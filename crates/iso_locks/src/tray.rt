@@ -1,5 +1,5 @@
 //! One worker's values.
-ghost use Rattle.std.specs.Prelude.{◌≡◌, ◌<◌, ◌++◌, ◌∷◌, [], ℕ, None, IfOk, cond, false, is_some, length, map, option_copied, replicate, true};
+ghost use Rattle.std.specs.Prelude.{◌≡◌, ◌<◌, ◌&&◌, ◌++◌, ◌∷◌, [], ℕ, None, IfOk, cond, false, is_some, length, map, option_copied, replicate, true};
 ghost use Rattle.iso_locks.specs.Clashes.{clash};
 ghost use Rattle.iso_locks.specs.Owners.{AreOwned, CanHold};
 ghost use Rattle.iso_locks.specs.Slots.{slot};
@@ -146,11 +146,20 @@ impl<'a> Tray<'a> {
             return false;
         }
         'nodes: for other in 0..self.plan.len() {
-            if self.is_lent(other) && nodes_clash(self.plan, other, node) {
+            if self.keeps_out(other, node) {
                 return false;
             }
         }
         true
+    }
+
+    /// Whether a node is lent to it that another one clashes with.
+    fn keeps_out(&self, lent: u32, node: u32) -> bool
+        requires lent { lent < length self.now.plan.rows }
+        requires node { node < length self.now.plan.rows }
+        ensures { result ≡ (is_lent self.now.lent lent && clash (tree_of self.now.plan) lent node) }
+    {
+        self.is_lent(lent) && nodes_clash(self.plan, lent, node)
     }
 
     /// The frames that were handed to it since the last clearing, in that order.

@@ -5,4 +5,4 @@ use Rattle.iso_locks.specs.Trays.{is_lent}
 use Rattle.iso_locks.proofs.tray.Tray.can_hold.Given as goal
 
 abbrev pub invariant-nodes : goal.invariant-nodes
-invariant-nodes l = (m : ℕ) → m < l.other → is_lent l.self.now.lent m ≡ true → clash (tree_of l.self.now.plan) m l.node ≡ false
+invariant-nodes l = (m : ℕ) → m < l.other → is_lent l.self.lent m ≡ true → clash (tree_of l.self.plan) m l.node ≡ false
