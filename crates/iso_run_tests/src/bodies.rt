@@ -276,6 +276,27 @@ fn largest_test_passes(rt: HostRuntime) -> Result<(), Fail> {
     check_script(&rt, rt.alloc(), classes.as_str(), SERIAL, &Passes(9))
 }
 
+/// A class of one test that takes as many keys as there may be, and changes the last of them.
+fn most_keys(alloc: Global) -> Result<String, AllocError> {
+    let mut class = String::from_str(alloc, "team shop\n")?;
+    for number in 0..254u32 {
+        push_line(&mut class, format!(in alloc; "write \"k{number}\"\n")?)?;
+    }
+    push_line(
+        &mut class,
+        format!(in alloc;
+            "write \"file:z\" class C {{ test t {{ write_file \"z\", \"m\"; assert_equal \"m\", file(\"z\"); }} }}"
+        )?,
+    )?;
+    Ok(class)
+}
+
+#[test]
+fn last_of_the_most_keys_is_changed(rt: HostRuntime) -> Result<(), Fail> {
+    let class = most_keys(rt.alloc())?;
+    check_script(&rt, rt.alloc(), class.as_str(), SERIAL, &Passes(2))
+}
+
 /// A result for each node of the largest plan.
 #[test]
 fn largest_plan_has_its_results(rt: HostRuntime) -> Result<(), Fail> {

@@ -176,7 +176,15 @@ fn check_row(rt: &impl Abort, alloc: Global, suite: &Suite, row: &Row) -> Result
     let mut here = Tray::new(alloc, &suite.plan, &suite.world)?;
     let mut there = Tray::new(alloc, &suite.plan, &suite.world)?;
     let (first, second) = (row.first, row.second);
-    let beside = lend_both(rt, &suite.plan, &mut vault, &mut here, &mut there, first, second);
+    let beside = lend_both(
+        rt,
+        &suite.plan,
+        &mut vault,
+        &mut here,
+        &mut there,
+        first,
+        second,
+    );
     assert_eq!(rt; beside, row.want, "{second} beside {first}");
     Ok(())
 }

@@ -31,7 +31,9 @@ returns-clause-holds c e =
       apart = sym c.is_lent.ensures ∙ c.if-is_lent.false;
       beside = λ m l.
           let count : length t.lent ≡ length t.plan.rows = ap (λ (u : TrayView). length u.lent) (sym c.self.view_is) ∙ c.self.invariant.lent_fits ∙ ap (λ (u : TrayView). length u.plan.rows) c.self.view_is in
+          let rows : length c.self.inside.plan.now.rows ≡ length t.plan.rows = ap (λ (u : TrayView). length u.plan.rows) c.self.view_is in
+          let total = c.len-other-end.ensures in
           let less = lent-within t.lent m l in
           let end = c.nodes-test.false in
-          c.nodes.invariant m (omega (arith, c.len-other-end.ensures)) l;
+          c.nodes.invariant m (omega arith) l;
     }
