@@ -143,7 +143,7 @@ fn prefixes_and_changed_bytes_have_an_answer(rt: HostRuntime) -> Result<(), Allo
 const TEAM: &str = "team shop\n";
 
 /// What can't begin a script, after a team, with its fault.
-static FAULTS: [Faulty<'static>; 45] = [
+static FAULTS: [Faulty<'static>; 48] = [
     // the grammar
     ("test t { }", Expected, 2, 1),
     ("isolated test t { }", Expected, 2, 10),
@@ -158,6 +158,14 @@ static FAULTS: [Faulty<'static>; 45] = [
         40,
     ),
     ("class C { read \"k\" }", Expected, 2, 20),
+    ("same_thread read \"k\" static", Expected, 2, 22),
+    ("class C { write \"\" test", Expected, 2, 17),
+    (
+        "class C { class D { test t { } } after_all { }",
+        Expected,
+        2,
+        34,
+    ),
     ("class C { test t { } before_all { } }", Expected, 2, 22),
     (
         "class C { before_all { } test t { } before_all",
@@ -278,8 +286,47 @@ class F { static x = 4; test x { } }
 }
 
 /// The largest that is read, and the smallest that is refused.
-static LIMITS: [Row<'static>; 14] = [
+static LIMITS: [Row<'static>; 15] = [
     (&[("class C { ", 8), ("test t { } ", 1), ("} ", 8)], None),
+    (
+        &[
+            (
+                "class C { static a = 1; field b = 1; before_all { } after_each { } ",
+                1,
+            ),
+            (
+                "class C { static c = 1; field d = 1; before_all { } after_each { } ",
+                1,
+            ),
+            (
+                "class C { static e = 1; field f = 1; before_all { } after_each { } ",
+                1,
+            ),
+            (
+                "class C { static g = 1; field h = 1; before_all { } after_each { } ",
+                1,
+            ),
+            (
+                "class C { static i = 1; field j = 1; before_all { } after_each { } ",
+                1,
+            ),
+            (
+                "class C { static k = 1; field l = 1; before_all { } after_each { } ",
+                1,
+            ),
+            (
+                "class C { static m = 1; field n = 1; before_all { } after_each { } ",
+                1,
+            ),
+            (
+                "class C { static o = 1; field p = 1; before_all { } after_each { } ",
+                1,
+            ),
+            ("test t { } ", 1),
+            ("} ", 8),
+        ],
+        None,
+    ),
     (&[("class C { ", 9)], Some((TooDeep, 2, 81))),
     (
         &[("class C { ", 8), ("isolated class", 1)],

@@ -259,8 +259,8 @@ fn faults_have_their_kind_and_place(rt: HostRuntime) -> Result<(), AllocError> {
     check_texts(&rt, rt.alloc(), "", &FAULTS, "")
 }
 
-/// Names, texts and scripts of the largest size, and of one byte more.
-static LIMITS: [Row<'static>; 6] = [
+/// Names, texts and scripts of the largest size, and of one byte more. One script has a longest name and text wherever one may stand.
+static LIMITS: [Row<'static>; 7] = [
     (
         &[("team shop\nclass ", 1), ("n", 64)],
         Some((EndOfInput, 2, 71)),
@@ -284,6 +284,38 @@ static LIMITS: [Row<'static>; 6] = [
             ("\"; } } // end", 1),
         ],
         Some((TooLong, 2, 4123)),
+    ),
+    (
+        &[
+            ("team ", 1),
+            ("t", 64),
+            (" class ", 1),
+            ("c", 64),
+            (" { static ", 1),
+            ("s", 64),
+            (" = \"", 1),
+            ("a", 4096),
+            ("\"; field ", 1),
+            ("f", 64),
+            (" = 1; before_all { ", 1),
+            ("s", 64),
+            (" = \"", 1),
+            ("a", 4096),
+            ("\"; } class ", 1),
+            ("d", 64),
+            (" { test ", 1),
+            ("u", 64),
+            (" { let ", 1),
+            ("v", 64),
+            (" = ", 1),
+            ("s", 64),
+            ("; print ", 1),
+            ("v", 64),
+            ("; fail \"", 1),
+            ("a", 4096),
+            ("\"; } } }", 1),
+        ],
+        None,
     ),
     (&[("\0", 1_048_576)], Some((BadByte, 1, 1))),
     (&[("\0", 1_048_577)], Some((TooLong, 1, 1))),

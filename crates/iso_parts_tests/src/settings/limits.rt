@@ -11,7 +11,7 @@ type Row<'a> = (&'a [(&'a str, usize)], &'a [(&'a str, usize)]);
 
 /// Texts have 4,096 bytes at most, and so have joined keys, without `files` and `properties` in front. A key that
 /// two tables join is as long as both and the dot. Of one key WrongValue comes first.
-static LIMITS: [Row<'static>; 10] = [
+static LIMITS: [Row<'static>; 12] = [
     (&[("locale = \"", 1), ("a", 4096), ("\"", 1)], &[]),
     (
         &[("locale = \"", 1), ("a", 4097), ("\"", 1)],
@@ -34,6 +34,14 @@ static LIMITS: [Row<'static>; 10] = [
     (
         &[("[files]\n", 1), ("a", 4097), (" = 1", 1)],
         &[("WrongValue files.", 1), ("a", 4097)],
+    ),
+    (
+        &[("[files]\n", 1), ("a", 1_048_560), (" = 1", 1)],
+        &[("WrongValue files.", 1), ("a", 1_048_560)],
+    ),
+    (
+        &[("locale = \"", 1), ("a", 1_048_560), ("\"", 1)],
+        &[("OutOfRange locale", 1)],
     ),
     (
         &[
