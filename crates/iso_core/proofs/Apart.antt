@@ -1,11 +1,10 @@
 -- Of two entered nodes that may change one key, the one that was entered or ends last stands under the other.
 use Rattle.std.proofs.Common.{◌≡◌, ℕ, ◌<◌, ◌≤◌, Some, true, false, inl, inr, sym, ap, ◌∙◌, subst, arith}
-use Rattle.iso_core.proofs.LanguageLaws.{scripts-laws}
-use Rattle.iso_core.proofs.SuiteLaws.{chain-rights, suite-laws}
+use Rattle.iso_suites.proofs.LanguageLaws.{scripts-laws}
+use Rattle.iso_suites.proofs.SuiteLaws.{chain-rights, suite-laws}
 use Rattle.iso_core.specs.FlatMaps.{BothWrite, FlatView, IsFlatOf, IsInnermost}
-use Rattle.iso_core.specs.ScriptLanguage.{scripts}
-use Rattle.iso_core.specs.Standings.{CoreState}
-use Rattle.iso_core.specs.SuiteStates.{IsReached, suite_at}
+use Rattle.iso_suites.specs.ScriptLanguage.{scripts}
+use Rattle.iso_suites.specs.SuiteStates.{RunState, IsReached, suite_at}
 use Rattle.iso_isolation.proofs.Barred.{keeps_first}
 use Rattle.iso_isolation.proofs.Changes.{put_elsewhere, put_here}
 use Rattle.iso_isolation.proofs.Invariant.{Kept}
@@ -31,10 +30,10 @@ module _ (plan : Planned) (t : IsTree (tree_of plan)) (world : Start) where
   laws = suite-laws (tree_of plan) t plan.settings (started world)
 
   -- what a state keeps that a run leads to
-  kept-in : (s : CoreState) → IsReached plan world s → Kept scripts (suite_at plan world) s.nodes
+  kept-in : (s : RunState) → IsReached plan world s → Kept scripts (suite_at plan world) s.nodes
   kept-in s r =
       let x = suite_at plan world in
-      subst (λ (q : CoreState). Kept scripts (suite_at plan world) q.nodes) r.state
+      subst (λ (q : RunState). Kept scripts (suite_at plan world) q.nodes) r.state
       (keeps_run scripts x laws scripts-laws r.workers r.events (first scripts x) (keeps_first scripts x laws scripts-laws) r.run)
 
   lower : (st : ℕ → Status Stage Frame Outcome) → Locked (suite_at plan world) st → (m n : ℕ) → (m ≡ n → ⊥) → is_held (st m) ≡ true → is_held (st n) ≡ true → is_open (st n) ≡ false
@@ -53,7 +52,7 @@ module _ (plan : Planned) (t : IsTree (tree_of plan)) (world : Start) where
             absurd (cc)
       ]
 
-  module _ (v : FlatView) (same : v.tray.plan ≡ plan) (s : CoreState) (of : IsFlatOf v s.nodes) where
+  module _ (v : FlatView) (same : v.tray.plan ≡ plan) (s : RunState) (of : IsFlatOf v s.nodes) where
     with-plan : (m n : ℕ) → BothWrite (tree_of v.tray.plan) m n → BothWrite (tree_of plan) m n
     with-plan m n both = subst (λ (p : Planned). BothWrite (tree_of p) m n) same both
 

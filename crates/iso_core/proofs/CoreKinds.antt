@@ -1,7 +1,7 @@
 -- Which body a node is entered with.
 use Rattle.std.proofs.Common.{◌≡◌, ℕ, ◌<◌, true, false, length, refl, arith}
-use Rattle.iso_core.proofs.Looks.{nodes-are}
-use Rattle.iso_core.proofs.PlanChains.{is_written, written}
+use Rattle.iso_standing.proofs.Looks.{nodes-are}
+use Rattle.iso_suites.proofs.PlanChains.{is_written, written}
 use Rattle.iso_lifecycle.specs.Subjects.{is_kind_of}
 use Rattle.iso_lifecycle.specs.declared.kind.BodyKind.TheVariants as K
 use Rattle.iso_plan.specs.Paths.{IsTree, is_test, row_at}

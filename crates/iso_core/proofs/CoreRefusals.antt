@@ -2,15 +2,16 @@
 use Rattle.std.proofs.Common.{◌≡◌, ℕ, ◌<◌, List, Option, Some, None, Bool, true, false, ◌&&◌, ◌||◌, not, leb, length, is_some, inl, inr, refl, sym, ap, ◌∙◌, subst, arith}
 use Rattle.std.proofs.lemmas.Bool.Decides.{leb_tells}
 use Rattle.iso_core.proofs.CoreRuns.{accepted, idle, unstopped}
-use Rattle.iso_core.proofs.Looks.{nodes-are}
-use Rattle.iso_core.proofs.SuiteLaws.{positive}
+use Rattle.iso_standing.proofs.Looks.{nodes-are}
+use Rattle.iso_suites.proofs.SuiteLaws.{positive}
 use Rattle.iso_core.specs.Cores.{CoreView, IsCore, refusal_in, state_in, suite_in}
 use Rattle.iso_core.specs.FlatMaps.{FlatView}
-use Rattle.iso_core.specs.ScriptLanguage.{is_of_test, scripts}
-use Rattle.iso_core.specs.Standings as Standings
-use Rattle.iso_core.specs.Standings.{CoreState, EndsAs, Fits, HasBody, LooksLike, Standing, has_body_at, node_of, phase_at, workers_in}
-use Rattle.iso_core.specs.PlanSuites.{suite_of}
-use Rattle.iso_core.specs.UnderWay.{HasUnderWay, IsUnderWay, body_at}
+use Rattle.iso_suites.specs.ScriptLanguage.{is_of_test, scripts}
+use Rattle.iso_standing.specs.Standings as Standings
+use Rattle.iso_suites.specs.SuiteStates.{RunState}
+use Rattle.iso_standing.specs.Standings.{EndsAs, Fits, TellsEnd, HasBody, LooksLike, Standing, has_body_at, node_of, phase_at, workers_in}
+use Rattle.iso_suites.specs.PlanSuites.{suite_of}
+use Rattle.iso_standing.specs.UnderWay.{HasUnderWay, IsUnderWay, body_at}
 use Rattle.iso_isolation.proofs.Accepted.{in_plan, none_applies, nonzero_from, not_refused}
 use Rattle.iso_isolation.specs.Events as E
 use Rattle.iso_isolation.specs.Events.{where_some}
@@ -25,9 +26,9 @@ use Rattle.iso_model.specs.Bodies.{Stage, is_ended}
 use Rattle.iso_plan.specs.Paths.{parent}
 use Rattle.iso_plan.specs.Planned.{Planned}
 use Rattle.iso_plan.specs.RowView.{tree_of}
-use Rattle.iso_schedule.specs.EventView.{event_of}
-use Rattle.iso_schedule.specs.declared.event.Event.{Event}
-use Rattle.iso_schedule.specs.declared.event.Event.TheVariants as Code
+use Rattle.iso_standing.specs.CodeEvents.{event_of, worker_of}
+use Rattle.iso_standing.specs.declared.event.Event.{Event}
+use Rattle.iso_standing.specs.declared.event.Event.TheVariants as Code
 
 -- what an Enter tells that isn't refused
 pub record EnterTold (c : CoreView) (w n : ℕ) : Type 0 where
@@ -72,7 +73,7 @@ un-not-false true e = absurd cc
 un-not-false false e = refl
 
 module _ (c : CoreView) (v : Standing) (flat : FlatView) (bodies : List (Option Body)) (r : ResultsView) (is : IsCore c v flat bodies r) where
-  abbrev state : CoreState
+  abbrev state : RunState
   state = state_in c
 
   -- whether the body of a worker has ended
@@ -100,8 +101,14 @@ module _ (c : CoreView) (v : Standing) (flat : FlatView) (bodies : List (Option 
         let same : b ≡ stage_of_body u.body = let s = u.is.stage in cc in
         ap is_ended same ∙ sym (ended-is w n e)
 
-    pub ends-as : (w : ℕ) → EndsAs v state w (ended_at w)
+    ends-as : (w : ℕ) → EndsAs v state w (ended_at w)
     ends-as w start b e = ends-by w b (state.busy w) refl e
+
+    pub tells-end : (e : Event) → TellsEnd v state e (ended_at (worker_of e))
+    tells-end (Code.Enter w n) = tt
+    tells-end (Code.Step w) = ends-as w
+    tells-end (Code.Leave w) = ends-as w
+    tells-end (Code.Shut w n) = tt
 
     -- its standing refuses what the state machine refuses
     pub refusal-is : (e : Event) → Standings.refusal_in v (started c.world) state (event_of e) ≡ refusal_in c e

@@ -1,9 +1,9 @@
 -- When all nodes of a core are finished.
 use Rattle.std.proofs.Common.{◌≡◌, ℕ, ◌<◌, Option, Some, None, Bool, true, false, ◌&&◌, not, is_some, length, refl, ap, ◌∙◌, arith}
 use Rattle.std.proofs.lemmas.Bool.{ne_eqb}
-use Rattle.iso_core.proofs.Looks.{nodes-are}
+use Rattle.iso_standing.proofs.Looks.{nodes-are}
 use Rattle.iso_core.specs.Cores.{CoreView, is_complete, state_in, suite_in}
-use Rattle.iso_core.specs.ResultStates.{AreResultsOf}
+use Rattle.iso_standing.specs.ResultStates.{AreResultsOf}
 use Rattle.iso_isolation.proofs.Changes.{none_below}
 use Rattle.iso_isolation.specs.Refusals.{is_root, lowest_below}
 use Rattle.iso_isolation.specs.States.{is_finished}

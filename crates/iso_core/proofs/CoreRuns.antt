@@ -1,71 +1,23 @@
 -- The state of a core: how it goes on by an event, and what refuses it.
-use Rattle.std.proofs.Common.{◌≡◌, ℕ, ◌<◌, ◌≤◌, List, [], ◌∷◌, ◌++◌, Option, Some, None, Bool, true, false, ◌&&◌, leb, is_none, refl, sym, ap, ◌∙◌, subst, arith}
-use Rattle.iso_core.specs.Cores.{CoreView, events_of, refusal_in, state_in, stopped_if, suite_in, with_event}
-use Rattle.iso_core.specs.ScriptLanguage.{Head, scripts}
-use Rattle.iso_core.specs.Standings.{CoreState, Standing, workers_in}
-use Rattle.iso_core.specs.SuiteStates.{IsReached}
-use Rattle.iso_isolation.proofs.Accepted.{in_plan, none_applies, not_refused}
-use Rattle.iso_isolation.proofs.Changes.{put_elsewhere}
+use Rattle.std.proofs.Common.{◌≡◌, ℕ, ◌≤◌, List, [], ◌∷◌, Option, Some, None, Bool, true, false, ◌&&◌, is_none, refl, sym, ap, ◌∙◌, subst}
+use Rattle.iso_core.specs.Cores.{CoreView, refusal_in, state_in, suite_in, with_event}
+use Rattle.iso_standing.proofs.EventLists.{map-append}
+use Rattle.iso_suites.proofs.StateRuns.{as-is, idle-run, stopped-run}
+use Rattle.iso_suites.specs.ScriptLanguage.{scripts}
+use Rattle.iso_standing.specs.Standings.{Standing, workers_in}
+use Rattle.iso_suites.specs.SuiteStates.{RunState, IsReached, stopped_if}
 use Rattle.iso_isolation.proofs.Lists.{after_append, run_on}
 use Rattle.iso_isolation.specs.Events as E
 use Rattle.iso_isolation.specs.Events.{after}
 use Rattle.iso_isolation.specs.Refusals as Why
 use Rattle.iso_isolation.specs.Refusals.{Refused, first_of, kinds, refuse}
 use Rattle.iso_isolation.specs.Runs.{after_all_of, is_accepted, is_run}
-use Rattle.iso_isolation.specs.States.{first, put}
-use Rattle.iso_isolation.specs.Suites.{Suite}
-use Rattle.iso_model.specs.declared.resource.Resource.{Resource}
+use Rattle.iso_isolation.specs.States.{first}
 use Rattle.iso_plan.specs.Planned.{Planned}
-use Rattle.iso_schedule.specs.EventView.{event_of}
-use Rattle.iso_schedule.specs.declared.event.Event.{Event}
-use Rattle.iso_schedule.specs.declared.event.Event.TheVariants as Code
+use Rattle.iso_standing.specs.CodeEvents.{event_of, events_of}
+use Rattle.iso_standing.specs.declared.event.Event.{Event}
+use Rattle.iso_standing.specs.declared.event.Event.TheVariants as Code
 use Rattle.iso_settings.specs.Worlds.{Start}
-
-map-append : (es fs : List Event) → events_of (es ++ fs) ≡ events_of es ++ events_of fs
-map-append [] fs = refl
-map-append (e ∷ es) fs = ap (λ (gs : List E.Event). event_of e ∷ gs) (map-append es fs)
-
-both-true : (a b : Bool) → (a && b) ≡ true → (a ≡ true) × (b ≡ true)
-both-true true b e = (refl, e)
-both-true false b e = absurd cc
-
-module _ (x : Suite Head (List ℕ) Resource) where
-  -- no event stops a run
-  pub stopped-after : (s : CoreState) (e : E.Event) → (after scripts x s e).stopped ≡ s.stopped
-  stopped-after s (E.Enter w n) = refl
-  stopped-after s (E.Step w) = refl
-  stopped-after s (E.Leave w) = refl
-  stopped-after s (E.Shut w n) = refl
-
-  stopped-run : (es : List E.Event) (s : CoreState) → (after_all_of scripts x s es).stopped ≡ s.stopped
-  stopped-run [] s = refl
-  stopped-run (e ∷ es) s = stopped-run es (after scripts x s e) ∙ stopped-after s e
-
-  module _ (workers : ℕ) where
-    -- no worker past their number has a body
-    abbrev pub Idle : CoreState → Type 0
-    Idle s = (u : ℕ) → workers ≤ u → s.busy u ≡ None
-
-    worker-below : (s : CoreState) (w : ℕ) → Why.no_worker scripts x workers s w ≡ None → w < workers
-    worker-below s w e = in_plan workers w (not_refused (leb workers w) Why.NoWorker e)
-
-    idle-put : (s : CoreState) (w : ℕ) (o : Option ℕ) → Idle s → w < workers → (u : ℕ) → workers ≤ u → put w o s.busy u ≡ None
-    idle-put s w o idle h u past = put_elsewhere u w o s.busy (λ e. absurd (omega arith)) ∙ idle u past
-
-    idle-after : (s : CoreState) (e : E.Event) → Idle s → is_accepted scripts x workers s e ≡ true → Idle (after scripts x s e)
-    idle-after s (E.Enter w n) idle ok = idle-put s w (Some n) idle (worker-below s w (none_applies (kinds scripts x workers s (E.Enter w n)) ok).1.0)
-    idle-after s (E.Step w) idle ok = idle
-    idle-after s (E.Leave w) idle ok = idle-put s w None idle (worker-below s w (none_applies (kinds scripts x workers s (E.Leave w)) ok).1.0)
-    idle-after s (E.Shut w n) idle ok = idle-put s w (Some n) idle (worker-below s w (none_applies (kinds scripts x workers s (E.Shut w n)) ok).1.0)
-
-    idle-run : (es : List E.Event) (s : CoreState) → Idle s → is_run scripts x workers s es ≡ true → Idle (after_all_of scripts x s es)
-    idle-run [] s idle run = idle
-    idle-run (e ∷ es) s idle run =
-        let parts = both-true (is_accepted scripts x workers s e) (is_run scripts x workers (after scripts x s e) es) run in
-        idle-run es (after scripts x s e) (idle-after s e idle parts.0) parts.1
-
-as-is : (b : Bool) (s : CoreState) → s.stopped ≡ b → stopped_if b s ≡ s
-as-is b s e = ap (λ (t : Bool). stopped_if t s) (sym e)
 
 abbrev tail-of : List (Option Refused) → List (Option Refused)
 tail-of [] = []
@@ -80,7 +32,7 @@ abbrev pub core_of : Planned → Start → Standing → List Event → CoreView
 core_of plan world v es = record { plan = plan; world = world; workers = workers_in v; events = es; stopped = v.stopped }
 
 -- the state after the events that it accepted, were it not stopped
-abbrev pub run_state : CoreView → CoreState
+abbrev pub run_state : CoreView → RunState
 run_state c = after_all_of scripts (suite_in c) (first scripts (suite_in c)) (events_of c.events)
 
 -- the events that it accepted are a run
@@ -94,7 +46,7 @@ pub run-reached : (c : CoreView) → IsRun c → IsReached c.plan c.world (run_s
 run-reached c run = record { workers = c.workers; events = events_of c.events; run = run; state = refl }
 
 pub reached : (c : CoreView) → IsRun c → c.stopped ≡ false → IsReached c.plan c.world (state_in c)
-reached c run h = subst (λ (s : CoreState). IsReached c.plan c.world s) (sym (going-on c h)) (run-reached c run)
+reached c run h = subst (λ (s : RunState). IsReached c.plan c.world s) (sym (going-on c h)) (run-reached c run)
 
 module _ (c : CoreView) where
   pub idle : IsRun c → (u : ℕ) → c.workers ≤ u → (state_in c).busy u ≡ None
@@ -123,15 +75,15 @@ module _ (c : CoreView) where
       going-on (with_event c e) h
       ∙ ap (after_all_of scripts (suite_in c) (first scripts (suite_in c))) (map-append c.events (e ∷ []))
       ∙ after_append scripts (suite_in c) (events_of c.events) (event_of e ∷ []) (first scripts (suite_in c))
-      ∙ ap (λ (s : CoreState). after scripts (suite_in c) s (event_of e)) (sym (going-on c h))
+      ∙ ap (λ (s : RunState). after scripts (suite_in c) s (event_of e)) (sym (going-on c h))
 
   pub goes-on : (e : Event) → IsRun c → refusal_in c e ≡ None → IsRun (with_event c e)
   goes-on e run h =
       let x = suite_in c in
       let last : is_run scripts x c.workers (run_state c) (event_of e ∷ []) ≡ true =
-      subst (λ (s : CoreState). (is_accepted scripts x c.workers s (event_of e) && true) ≡ true) (going-on c (unstopped e h)) (ap (λ (b : Bool). b && true) (accepted e h)) in
+      subst (λ (s : RunState). (is_accepted scripts x c.workers s (event_of e) && true) ≡ true) (going-on c (unstopped e h)) (ap (λ (b : Bool). b && true) (accepted e h)) in
       ap (is_run scripts x c.workers (first scripts x)) (map-append c.events (e ∷ []))
       ∙ run_on scripts x c.workers (events_of c.events) (event_of e ∷ []) (first scripts x) run last
 
   pub reached-next : (e : Event) → IsRun c → refusal_in c e ≡ None → IsReached c.plan c.world (after scripts (suite_in c) (state_in c) (event_of e))
-  reached-next e run h = subst (λ (s : CoreState). IsReached c.plan c.world s) (next e (unstopped e h)) (reached (with_event c e) (goes-on e run h) (unstopped e h))
+  reached-next e run h = subst (λ (s : RunState). IsReached c.plan c.world s) (next e (unstopped e h)) (reached (with_event c e) (goes-on e run h) (unstopped e h))

@@ -1,20 +1,20 @@
 -- What a core stands in after an event that nothing refuses, and after it was stopped.
 use Rattle.std.proofs.Common.{◌≡◌, ℕ, ◌<◌, List, [], ◌∷◌, ◌++◌, Option, Some, None, Bool, true, false, length, replicate, is_some, refl, sym, ap, ◌∙◌, subst, arith}
 use Rattle.std.proofs.lemmas.List.{length-replicate}
-use Rattle.iso_core.proofs.CoreRefusals.{BodyTold, enter-told, shut-told}
-use Rattle.iso_core.proofs.CoreRuns.{core_of, goes-on, going-on, next, stopped-after, unstopped}
+use Rattle.iso_core.proofs.CoreRefusals.{BodyTold}
+use Rattle.iso_suites.proofs.StateRuns.{stopped-after}
+use Rattle.iso_core.proofs.CoreRuns.{core_of, goes-on, going-on, next, unstopped}
 use Rattle.iso_core.proofs.CoreValues.{left-nodes, looks-step, stepped-nodes}
-use Rattle.iso_core.proofs.Looks.{body-is}
-use Rattle.iso_core.specs.CodeEvents.{worker_of}
+use Rattle.iso_standing.proofs.Looks.{body-is}
 use Rattle.iso_core.specs.Cores.{CoreView, IsCore, refusal_in, state_in, suite_in, with_event}
 use Rattle.iso_core.specs.FlatMaps.{FlatView, IsFlatOf, OfSameMap}
-use Rattle.iso_core.specs.Phases.{bare, phase_of}
-use Rattle.iso_core.specs.PlanSuites.{suite_of}
-use Rattle.iso_core.specs.ResultStates.{AreResultsOf}
-use Rattle.iso_core.specs.ScriptLanguage.{Head, scripts}
-use Rattle.iso_core.specs.Standings.{CoreState, EndsWellAs, HasBody, LooksLike, OfSame, Standing, after_in, first_in, node_of, nodes_in, phase_at, workers_in}
-use Rattle.iso_core.specs.SuiteStates.{CoreNodes, suite_at}
-use Rattle.iso_core.specs.UnderWay.{AreBodiesOf}
+use Rattle.iso_standing.specs.Phases.{bare, phase_of}
+use Rattle.iso_suites.specs.PlanSuites.{suite_of}
+use Rattle.iso_standing.specs.ResultStates.{AreResultsOf}
+use Rattle.iso_suites.specs.ScriptLanguage.{Head, scripts}
+use Rattle.iso_standing.specs.Standings.{HasBody, LooksLike, OfSame, Standing, after_in, first_in, node_of, nodes_in, phase_at, workers_in}
+use Rattle.iso_suites.specs.SuiteStates.{RunNodes, RunState, suite_at}
+use Rattle.iso_standing.specs.UnderWay.{AreBodiesOf}
 use Rattle.iso_isolation.specs.Events as E
 use Rattle.iso_isolation.specs.Events.{after, leaving, stop, where_some}
 use Rattle.iso_isolation.specs.States.{body_in, first}
@@ -29,9 +29,9 @@ use Rattle.iso_model.specs.declared.resource.Resource.{Resource}
 use Rattle.iso_plan.specs.Paths.{IsTree}
 use Rattle.iso_plan.specs.Planned.{Planned}
 use Rattle.iso_plan.specs.RowView.{tree_of}
-use Rattle.iso_schedule.specs.EventView.{event_of}
-use Rattle.iso_schedule.specs.declared.event.Event.{Event}
-use Rattle.iso_schedule.specs.declared.event.Event.TheVariants as Code
+use Rattle.iso_standing.specs.CodeEvents.{event_of}
+use Rattle.iso_standing.specs.declared.event.Event.{Event}
+use Rattle.iso_standing.specs.declared.event.Event.TheVariants as Code
 use Rattle.iso_settings.specs.Worlds.{Start}
 
 abbrev seen : CoreView → ℕ → List Event → Bool → CoreView
@@ -39,7 +39,7 @@ seen c workers items stopped = record { plan = c.plan; world = c.world; workers 
 
 module _ (c : CoreView) (v : Standing) (flat : FlatView) (bodies : List (Option Body)) (r : ResultsView) (is : IsCore c v flat bodies r) where
   -- its parts stand as after an event
-  pub record StandsAfter (s : CoreState) (u : Standing) (map : FlatView) (now : List (Option Body)) (results : ResultsView) : Type 0 where
+  pub record StandsAfter (s : RunState) (u : Standing) (map : FlatView) (now : List (Option Body)) (results : ResultsView) : Type 0 where
     pub standing : OfSame v u
     pub stands : LooksLike u s
     pub of_map : OfSameMap flat map
@@ -58,15 +58,15 @@ module _ (c : CoreView) (v : Standing) (flat : FlatView) (bodies : List (Option 
           run = goes-on c e is.run h;
           standing_plan = a.standing.plan ∙ is.standing_plan;
           workers = a.standing.workers ∙ is.workers;
-          stands = subst (λ (s : CoreState). LooksLike u s) state a.stands;
+          stands = subst (λ (s : RunState). LooksLike u s) state a.stands;
           flat_plan = a.of_map.plan ∙ is.flat_plan;
           flat_world = a.of_map.world ∙ is.flat_world;
-          flat_is = λ on. subst (λ (s : CoreState). IsFlatOf map s.nodes) state a.values;
+          flat_is = λ on. subst (λ (s : RunState). IsFlatOf map s.nodes) state a.values;
           bodies_fit = a.fit ∙ is.bodies_fit;
-          bodies_are = λ on. subst (λ (s : CoreState). AreBodiesOf c.plan c.world now s) state a.under_way;
+          bodies_are = λ on. subst (λ (s : RunState). AreBodiesOf c.plan c.world now s) state a.under_way;
           results_plan = a.plan ∙ is.results_plan;
           results_world = a.start ∙ is.results_world;
-          results_are = subst (λ (s : CoreState). AreResultsOf results s.nodes) state a.are;
+          results_are = subst (λ (s : RunState). AreResultsOf results s.nodes) state a.are;
         }
 
     -- what contracts see of it then
@@ -82,7 +82,7 @@ module _ (c : CoreView) (v : Standing) (flat : FlatView) (bodies : List (Option 
     core-as e items h a all = subst (λ (d : CoreView). IsCore d u map now results) (sym (view-next e items a all)) (core-next e h a)
 
     -- once it is stopped, its flat map and its bodies don't matter
-    pub core-stopped : OfSame v u → ((s : CoreState) → LooksLike v s → LooksLike u (stop s)) → OfSameMap flat map → length now ≡ length bodies → IsCore (record c { stopped = true }) u map now r
+    pub core-stopped : OfSame v u → ((s : RunState) → LooksLike v s → LooksLike u (stop s)) → OfSameMap flat map → length now ≡ length bodies → IsCore (record c { stopped = true }) u map now r
     core-stopped same stands of_map fit = record {
       run = is.run;
       standing_plan = same.plan ∙ is.standing_plan;
@@ -98,13 +98,13 @@ module _ (c : CoreView) (v : Standing) (flat : FlatView) (bodies : List (Option 
       results_are = is.results_are;
     }
 
-    pub view-stopped : (items : List Event) → OfSame v u → ((s : CoreState) → LooksLike v s → LooksLike u (stop s)) → items ≡ c.events → core_of c.plan c.world u items ≡ record c { stopped = true }
+    pub view-stopped : (items : List Event) → OfSame v u → ((s : RunState) → LooksLike v s → LooksLike u (stop s)) → items ≡ c.events → core_of c.plan c.world u items ≡ record c { stopped = true }
     view-stopped items same stands all =
         ap (λ (m : ℕ). seen c m items u.stopped) (same.workers ∙ is.workers)
         ∙ ap (λ (es : List Event). seen c c.workers es u.stopped) all
         ∙ ap (λ (b : Bool). seen c c.workers c.events b) (sym (stands (state_in c) is.stands).stopped)
 
-    pub stopped-as : (items : List Event) → OfSame v u → ((s : CoreState) → LooksLike v s → LooksLike u (stop s)) → items ≡ c.events → OfSameMap flat map → length now ≡ length bodies
+    pub stopped-as : (items : List Event) → OfSame v u → ((s : RunState) → LooksLike v s → LooksLike u (stop s)) → items ≡ c.events → OfSameMap flat map → length now ≡ length bodies
         → IsCore (core_of c.plan c.world u items) u map now r
     stopped-as items same stands all of_map fit = subst (λ (d : CoreView). IsCore d u map now r) (sym (view-stopped items same stands all)) (core-stopped same stands of_map fit)
 
@@ -115,24 +115,21 @@ module _ (c : CoreView) (v : Standing) (flat : FlatView) (bodies : List (Option 
   pub suites-are : suite_at flat.tray.plan flat.tray.world ≡ suite_in c
   suites-are = ap (λ (p : Planned). suite_at p flat.tray.world) is.flat_plan ∙ ap (suite_at c.plan) is.flat_world
 
-  -- how a standing takes an event whose worker has no body that could end well
-  abbrev pub Taken : Standing → Event → Bool → Type 0
-  Taken u e well = (start : Resources) (s : CoreState) → LooksLike v s → EndsWellAs v s (worker_of e) well → LooksLike u (after_in v start s (event_of e))
-
-  free-ends : (w : ℕ) → (state_in c).busy w ≡ None → (well : Bool) → EndsWellAs v (state_in c) w well
-  free-ends w free well start n b busy begun class = absurd cc
+  -- how a standing takes an Enter or a Shut
+  abbrev pub Taken : Standing → E.Event → Type 0
+  Taken u e = (start : Resources) (s : RunState) → LooksLike v s → LooksLike u (after_in v start s e)
 
   module _ (w n : ℕ) (u : Standing) (now : List (Option Body)) where
     -- after an Enter
-    pub entered : (map : FlatView) → refusal_in c (Code.Enter w n) ≡ None → OfSame v u → Taken u (Code.Enter w n) true
-        → OfSameMap flat map → ((s : CoreNodes) → IsFlatOf flat s → IsFlatOf map (E.entering scripts (suite_at flat.tray.plan flat.tray.world) n s))
+    pub entered : (map : FlatView) → refusal_in c (Code.Enter w n) ≡ None → OfSame v u → Taken u (E.Enter w n)
+        → OfSameMap flat map → ((s : RunNodes) → IsFlatOf flat s → IsFlatOf map (E.entering scripts (suite_at flat.tray.plan flat.tray.world) n s))
         → length now ≡ length bodies → AreBodiesOf c.plan c.world now (after scripts (suite_in c) (state_in c) (E.Enter w n))
         → AreResultsOf r (E.entering scripts (suite_in c) n (state_in c).nodes)
         → StandsAfter (after scripts (suite_in c) (state_in c) (E.Enter w n)) u map now r
     entered map h same taken of_map values fit under are =
         record {
           standing = same;
-          stands = looks-next u (E.Enter w n) (taken (started c.world) (state_in c) is.stands (free-ends w (enter-told c v flat bodies r is w n h).free true));
+          stands = looks-next u (E.Enter w n) (taken (started c.world) (state_in c) is.stands);
           of_map = of_map;
           values = subst (λ (x : Suite Head (List ℕ) Resource). IsFlatOf map (E.entering scripts x n (state_in c).nodes)) suites-are
               (values (state_in c).nodes (is.flat_is (unstopped c (Code.Enter w n) h)));
@@ -144,7 +141,7 @@ module _ (c : CoreView) (v : Standing) (flat : FlatView) (bodies : List (Option 
         }
 
     -- after a Shut
-    pub shut : refusal_in c (Code.Shut w n) ≡ None → OfSame v u → Taken u (Code.Shut w n) true
+    pub shut : refusal_in c (Code.Shut w n) ≡ None → OfSame v u → Taken u (E.Shut w n)
         → IsFlatOf flat (E.shutting scripts (suite_in c) n (state_in c).nodes)
         → length now ≡ length bodies → AreBodiesOf c.plan c.world now (after scripts (suite_in c) (state_in c) (E.Shut w n))
         → AreResultsOf r (E.shutting scripts (suite_in c) n (state_in c).nodes)
@@ -152,7 +149,7 @@ module _ (c : CoreView) (v : Standing) (flat : FlatView) (bodies : List (Option 
     shut h same taken values fit under are =
         record {
           standing = same;
-          stands = looks-next u (E.Shut w n) (taken (started c.world) (state_in c) is.stands (free-ends w (shut-told c v flat bodies r is w n h).free true));
+          stands = looks-next u (E.Shut w n) (taken (started c.world) (state_in c) is.stands);
           of_map = record { plan = refl; world = refl };
           values = values;
           fit = fit;
@@ -165,7 +162,7 @@ module _ (c : CoreView) (v : Standing) (flat : FlatView) (bodies : List (Option 
   -- after a Step
   pub stepped : (w : ℕ) (t : BodyTold c bodies w false) (map : FlatView) (now : List (Option Body)) → IsTree (tree_of c.plan) → refusal_in c (Code.Step w) ≡ None
       → OfSameMap flat map
-      → ((s : CoreNodes) → IsFlatOf flat s → IsFlatOf map (E.stepping scripts (suite_at flat.tray.plan flat.tray.world) (subject_of t.under.body).node s (stage_of_body t.under.body)))
+      → ((s : RunNodes) → IsFlatOf flat s → IsFlatOf map (E.stepping scripts (suite_at flat.tray.plan flat.tray.world) (subject_of t.under.body).node s (stage_of_body t.under.body)))
       → length now ≡ length bodies → AreBodiesOf c.plan c.world now (after scripts (suite_in c) (state_in c) (E.Step w))
       → AreResultsOf r (E.stepping scripts (suite_in c) t.node (state_in c).nodes (stage_of_body t.under.body))
       → StandsAfter (after scripts (suite_in c) (state_in c) (E.Step w)) v map now r
@@ -179,14 +176,14 @@ module _ (c : CoreView) (v : Standing) (flat : FlatView) (bodies : List (Option 
         standing = record { plan = refl; workers = refl };
         stands = looks-step c.plan c.world v s w t.node b t.busy t.under.is.stage is.stands;
         of_map = of_map;
-        values = subst (λ (k : CoreNodes). IsFlatOf map k) (sym nodes)
+        values = subst (λ (k : RunNodes). IsFlatOf map k) (sym nodes)
             (subst (λ (n : ℕ). IsFlatOf map (E.stepping scripts (suite_in c) n s.nodes b)) at
             (subst (λ (x : Suite Head (List ℕ) Resource). IsFlatOf map (E.stepping scripts x (subject_of t.under.body).node s.nodes b)) suites-are (values s.nodes (is.flat_is on))));
         fit = fit;
         under_way = under;
         plan = refl;
         start = refl;
-        are = subst (λ (k : CoreNodes). AreResultsOf r k) (sym nodes) are;
+        are = subst (λ (k : RunNodes). AreResultsOf r k) (sym nodes) are;
       }
 
   -- after a Leave
@@ -203,12 +200,12 @@ module _ (c : CoreView) (v : Standing) (flat : FlatView) (bodies : List (Option 
         standing = same;
         stands = looks-next u (E.Leave w) looks;
         of_map = of_map;
-        values = subst (λ (k : CoreNodes). IsFlatOf map k) (sym nodes) values;
+        values = subst (λ (k : RunNodes). IsFlatOf map k) (sym nodes) values;
         fit = fit;
         under_way = under;
         plan = plan;
         start = start;
-        are = subst (λ (k : CoreNodes). AreResultsOf results k) (sym nodes) are;
+        are = subst (λ (k : RunNodes). AreResultsOf results k) (sym nodes) are;
       }
 
   -- the standing has the body of a Leave
@@ -243,12 +240,12 @@ core-begins plan world workers v flat bodies r of_plan count stands map_plan map
       run = refl;
       standing_plan = of_plan;
       workers = refl;
-      stands = subst (λ (t : CoreState). LooksLike v t) (sym state) like;
+      stands = subst (λ (t : RunState). LooksLike v t) (sym state) like;
       flat_plan = map_plan;
       flat_world = map_world;
-      flat_is = λ on. subst (λ (t : CoreState). IsFlatOf flat t.nodes) (sym state) values;
+      flat_is = λ on. subst (λ (t : RunState). IsFlatOf flat t.nodes) (sym state) values;
       bodies_fit = ap (λ (bs : List (Option Body)). length bs) none ∙ length-replicate workers None ∙ sym count;
-      bodies_are = λ on. subst (λ (t : CoreState). AreBodiesOf plan world bodies t) (sym state) (subst (λ (bs : List (Option Body)). AreBodiesOf plan world bs s) (sym none) under);
+      bodies_are = λ on. subst (λ (t : RunState). AreBodiesOf plan world bodies t) (sym state) (subst (λ (bs : List (Option Body)). AreBodiesOf plan world bs s) (sym none) under);
       results_plan = ap (λ (q : ResultsView). q.plan) empty;
       results_world = ap (λ (q : ResultsView). q.start) empty;
       results_are = subst (λ (q : ResultsView). AreResultsOf q s.nodes) (sym empty) are;

@@ -1,13 +1,13 @@
 -- How the flat map, the standing and the bodies of a core follow a Step, a Leave and a Shut.
 use Rattle.std.proofs.Common.{◌≡◌, ℕ, List, Option, Some, Bool, true, false, cond, ◌&&◌, refl, sym, ap, ◌∙◌, subst}
-use Rattle.iso_core.proofs.SuiteLaws.{chain-rights}
+use Rattle.iso_suites.proofs.SuiteLaws.{chain-rights}
 use Rattle.iso_core.specs.FlatMaps.{FlatView, IsFlatOf}
-use Rattle.iso_core.specs.Phases.{phase_of}
-use Rattle.iso_core.specs.PlanSuites.{head_of}
-use Rattle.iso_core.specs.ScriptLanguage.{Head, chain_rights, is_of_test, scripts}
-use Rattle.iso_core.specs.Standings.{CoreState, LooksLike, Standing}
-use Rattle.iso_core.specs.SuiteStates.{CoreNodes, suite_at}
-use Rattle.iso_core.specs.UnderWay.{is_after_all}
+use Rattle.iso_standing.specs.Phases.{phase_of}
+use Rattle.iso_suites.specs.PlanSuites.{head_of}
+use Rattle.iso_suites.specs.ScriptLanguage.{Head, chain_rights, is_of_test, scripts}
+use Rattle.iso_standing.specs.Standings.{LooksLike, Standing}
+use Rattle.iso_suites.specs.SuiteStates.{RunNodes, RunState, suite_at}
+use Rattle.iso_standing.specs.UnderWay.{is_after_all}
 use Rattle.iso_isolation.proofs.Changes.{unmoved}
 use Rattle.iso_isolation.proofs.Statuses.{body_unseen, rest_held}
 use Rattle.iso_isolation.specs.Events as E
@@ -34,7 +34,7 @@ abbrev NodeStatus : Type 0
 NodeStatus = Status Stage Frame Outcome
 
 -- what changes neither a value nor which nodes are entered, leaves the flat map
-pub still-flat : (v : FlatView) (s t : CoreNodes) → t.flat ≡ s.flat → t.saved ≡ s.saved → ((n : ℕ) → is_held (t.status n) ≡ is_held (s.status n)) → IsFlatOf v s → IsFlatOf v t
+pub still-flat : (v : FlatView) (s t : RunNodes) → t.flat ≡ s.flat → t.saved ≡ s.saved → ((n : ℕ) → is_held (t.status n) ≡ is_held (s.status n)) → IsFlatOf v s → IsFlatOf v t
 still-flat v s t values saved held is = record {
   now = λ k. is.now k ∙ sym (ap (λ (m : Resources). m k) values);
   marked = λ n h. let old = is.marked n h in (old.0, held n ∙ old.1);
@@ -67,11 +67,11 @@ module _ (plan : Planned) (world : Start) where
   x = suite_at plan world
 
   -- a Shut changes no value
-  pub flat-shut : (v : FlatView) (n : ℕ) (s : CoreNodes) → is_at_rest (s.status n) ≡ true → IsFlatOf v s → IsFlatOf v (shutting scripts x n s)
+  pub flat-shut : (v : FlatView) (n : ℕ) (s : RunNodes) → is_at_rest (s.status n) ≡ true → IsFlatOf v s → IsFlatOf v (shutting scripts x n s)
   flat-shut v n s rests is = still-flat v s (shutting scripts x n s) refl refl (λ m. unmoved is_held n _ s.status (sym (rest_held (s.status n) rests)) m) is
 
   -- the Leave of a last body lets the values stand as the node saved them
-  pub flat-last : (v : FlatView) (n : ℕ) (s : CoreNodes) (kind : BodyKind) (b : Stage) → (kind ≡ K.BeforeAll → ⊥) → is_kind_of kind (row_at (tree_of plan) n).kind ≡ true
+  pub flat-last : (v : FlatView) (n : ℕ) (s : RunNodes) (kind : BodyKind) (b : Stage) → (kind ≡ K.BeforeAll → ⊥) → is_kind_of kind (row_at (tree_of plan) n).kind ≡ true
       → ((r : Outcome) → IsFlatOf v (finishing scripts x n r s)) → (st : NodeStatus) → body_in st ≡ Some b → is_after_all kind ≡ is_closing st → IsFlatOf v (leaving scripts x n s st)
   flat-last v n s kind b last fits values Waiting e same = absurd cc
   flat-last v n s kind b last fits values (Begun a) e same =
@@ -97,7 +97,7 @@ module _ (plan : Planned) (world : Start) where
   finished-held false st r = refl
 
   -- the Leave of a `before_all` changes no value
-  module _ (v : FlatView) (n : ℕ) (s : CoreNodes) (b : Stage) (is : IsFlatOf v s) where
+  module _ (v : FlatView) (n : ℕ) (s : RunNodes) (b : Stage) (is : IsFlatOf v s) where
     flat-opened : is_held (s.status n) ≡ true → IsFlatOf v (opening_left scripts x n b s)
     flat-opened held =
         still-flat v s (opening_left scripts x n b s) refl refl (λ m. unmoved is_held n _ s.status (open-held (ended_well scripts x n b s) (frames_left scripts x n b s) ∙ sym held) m) is
@@ -109,7 +109,7 @@ module _ (plan : Planned) (world : Start) where
         let fs = frames_left scripts x n b s in
         still-flat v o (barring scripts x n fs o) refl refl (λ m. finished-held (stands_in scripts x m n) (o.status m) (scripts.blocked fs)) (flat-opened held)
 
-  pub flat-first : (v : FlatView) (n : ℕ) (s : CoreNodes) (b : Stage) → is_kind_of K.BeforeAll (row_at (tree_of plan) n).kind ≡ true → IsFlatOf v s → is_held (s.status n) ≡ true
+  pub flat-first : (v : FlatView) (n : ℕ) (s : RunNodes) (b : Stage) → is_kind_of K.BeforeAll (row_at (tree_of plan) n).kind ≡ true → IsFlatOf v s → is_held (s.status n) ≡ true
       → (st : NodeStatus) → body_in st ≡ Some b → false ≡ is_closing st → IsFlatOf v (leaving scripts x n s st)
   flat-first v n s b fits is held Waiting e same = absurd cc
   flat-first v n s b fits is held (Begun a) e same =
@@ -122,19 +122,19 @@ module _ (plan : Planned) (world : Start) where
   flat-first v n s b fits is held (Finished r) e same = absurd cc
 
   -- what a Step and a Leave come to at a worker's node
-  pub stepped-nodes : (s : CoreState) (w n : ℕ) (b : Stage) → s.busy w ≡ Some n → body_in (s.nodes.status n) ≡ Some b → (after scripts x s (E.Step w)).nodes ≡ E.stepping scripts x n s.nodes b
+  pub stepped-nodes : (s : RunState) (w n : ℕ) (b : Stage) → s.busy w ≡ Some n → body_in (s.nodes.status n) ≡ Some b → (after scripts x s (E.Step w)).nodes ≡ E.stepping scripts x n s.nodes b
   stepped-nodes s w n b busy here =
       ap (λ (o : Option ℕ). where_some o s.nodes (λ m. where_some (body_in (s.nodes.status m)) s.nodes (E.stepping scripts x m s.nodes))) busy
       ∙ ap (λ (o : Option Stage). where_some o s.nodes (E.stepping scripts x n s.nodes)) here
 
-  pub left-nodes : (s : CoreState) (w n : ℕ) → s.busy w ≡ Some n → (after scripts x s (E.Leave w)).nodes ≡ leaving scripts x n s.nodes (s.nodes.status n)
+  pub left-nodes : (s : RunState) (w n : ℕ) → s.busy w ≡ Some n → (after scripts x s (E.Leave w)).nodes ≡ leaving scripts x n s.nodes (s.nodes.status n)
   left-nodes s w n busy = ap (λ (o : Option ℕ). where_some o s.nodes (λ m. leaving scripts x m s.nodes (s.nodes.status m))) busy
 
   -- a Step changes no phase
-  pub looks-step : (v : Standing) (s : CoreState) (w n : ℕ) (b : Stage) → s.busy w ≡ Some n → body_in (s.nodes.status n) ≡ Some b → LooksLike v s → LooksLike v (after scripts x s (E.Step w))
+  pub looks-step : (v : Standing) (s : RunState) (w n : ℕ) (b : Stage) → s.busy w ≡ Some n → body_in (s.nodes.status n) ≡ Some b → LooksLike v s → LooksLike v (after scripts x s (E.Step w))
   looks-step v s w n b busy here like = record {
     phases = λ m h.
-        ap (λ (t : CoreNodes). phase_of (t.status m)) (stepped-nodes s w n b busy here)
+        ap (λ (t : RunNodes). phase_of (t.status m)) (stepped-nodes s w n b busy here)
         ∙ unmoved phase_of n _ s.nodes.status (body_unseen phase_of (λ d e. refl) (λ fs d e. refl) (s.nodes.status n) _) m
         ∙ like.phases m h;
     owners = like.owners;

@@ -4,10 +4,10 @@ use Rattle.std.proofs.lemmas.Bool.{cases_eq, cases_lt}
 use Rattle.std.proofs.lemmas.List.{get_or_past, get_or-replicate, get_or-set_other, get_or-set_same, length-replicate, length-set}
 use Rattle.std.specs.Option.{option_or}
 use Rattle.iso_core.proofs.FlatValues.{content-flat, kept-from, kept-value, kinds-undone, restored-at, value-there, within-of}
-use Rattle.iso_core.proofs.SuiteLaws.{chain-rights}
+use Rattle.iso_suites.proofs.SuiteLaws.{chain-rights}
 use Rattle.iso_core.specs.FlatMaps.{AreOfKinds, ComesBefore, FlatView, IsFlatMap, IsFlatOf, IsInnermost, MapGoesOn, WasMade, kept_values, mark_at}
-use Rattle.iso_core.specs.ScriptLanguage.{chain_rights, scripts}
-use Rattle.iso_core.specs.SuiteStates.{CoreNodes, suite_at}
+use Rattle.iso_suites.specs.ScriptLanguage.{chain_rights, scripts}
+use Rattle.iso_suites.specs.SuiteStates.{RunNodes, suite_at}
 use Rattle.iso_isolation.proofs.Changes.{put_elsewhere, put_here, unmoved}
 use Rattle.iso_isolation.specs.Alone.{restricted}
 use Rattle.iso_isolation.specs.Events as E
@@ -210,7 +210,7 @@ module _ (v : FlatView) (is : IsFlatMap v) (node : ℕ) (within : node < length 
     nested = nested-more inner;
   }
 
-  module _ (t : IsTree tree) (s : CoreNodes) (of : IsFlatOf v s) where
+  module _ (t : IsTree tree) (s : RunNodes) (of : IsFlatOf v s) where
     abbrev begins : NodeStatus
     begins = Begun (scripts.begin (chain (suite_at v.tray.plan v.tray.world) node) (E.frames_of (s.status ((suite_at v.tray.plan v.tray.world).parent node))))
 
@@ -298,7 +298,7 @@ module _ (v : FlatView) (is : IsFlatMap v) (node : ℕ) (mark : MarkView) (at : 
     nested = λ p n l m below e f. is.nested p n l m below (left-mark p l e).1 (left-mark n m f).1;
   }
 
-  module _ (t : IsTree now_tree) (s : CoreNodes) (of : IsFlatOf v s) (r : Outcome) where
+  module _ (t : IsTree now_tree) (s : RunNodes) (of : IsFlatOf v s) (r : Outcome) where
     -- what was saved is what the flat map had at the Enter
     saved-then : (k : List ℕ) → is_writable (node_rights (tree_of made.then.plan) node k) ≡ true → flat made.then k ≡ s.saved node k
     saved-then k w =
@@ -360,7 +360,7 @@ module _ (v u : FlatView) (t : IsTree (tree_of v.tray.plan)) (whole : IsFlat v.t
       ∙ ap (λ (w : Start). option_or (content v.tray k) (started w k)) on.tray.world
       ∙ sym (body-step-untouched rights k locked (going b (flat v.tray)))
 
-  module _ (s : CoreNodes) (of : IsFlatOf v s) where
+  module _ (s : RunNodes) (of : IsFlatOf v s) where
     abbrev chain_here : Rights
     chain_here = chain_rights (chain (suite_at v.tray.plan v.tray.world) n)
 

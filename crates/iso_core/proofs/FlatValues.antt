@@ -5,8 +5,8 @@ use Rattle.std.proofs.lemmas.List.{get_or_past}
 use Rattle.std.proofs.lemmas.Slice.Eq.{bytes_eq-Decides}
 use Rattle.std.specs.List.{list_any, starts_with}
 use Rattle.std.specs.Option.{option_or}
-use Rattle.iso_core.proofs.LanguageLaws.{readable-of}
-use Rattle.iso_core.proofs.SuiteLaws.{chain-rights, suite-laws}
+use Rattle.iso_suites.proofs.LanguageLaws.{readable-of}
+use Rattle.iso_suites.proofs.SuiteLaws.{chain-rights, suite-laws}
 use Rattle.iso_core.specs.FlatMaps.{AreOfKinds, kept_values, value_in}
 use Rattle.iso_lifecycle.specs.Subjects.{started}
 use Rattle.iso_locks.proofs.FlatLemmas.{back, flat-undone}

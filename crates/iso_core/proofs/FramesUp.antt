@@ -1,7 +1,7 @@
 -- The frames on the way up from a node to the root, innermost first.
 use Rattle.std.proofs.Common.{◌≡◌, ℕ, zero, suc, ◌<◌, List, [], ◌∷◌, ◌++◌, length, map, reverse, Option, Some, None, Bool, true, false, cond, is_some, option_copied, Bor, append_assoc, append-nil, refl, subst, ap, sym, ◌∙◌, arith}
 use Rattle.std.proofs.lemmas.List.{map-append, reverse-append}
-use Rattle.iso_core.specs.UnderWay.{AreOpened}
+use Rattle.iso_standing.specs.UnderWay.{AreOpened}
 use Rattle.iso_lifecycle.proofs.Barring.{HasParent}
 use Rattle.iso_lifecycle.specs.ResultViews.{ResultsView, is_opened}
 use Rattle.iso_lifecycle.specs.Subjects.{Subject, subject}

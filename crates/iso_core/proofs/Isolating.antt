@@ -1,12 +1,13 @@
 -- What the finished nodes of a core came to is theirs alone: the isolation theorem at the events that it has accepted.
 use Rattle.std.proofs.Common.{◌≡◌, ℕ, zero, suc, ◌<◌, List, [], ◌∷◌, Some, None, true, sym, ap, ◌∙◌, arith}
-use Rattle.iso_core.proofs.AloneRuns.{class-alone, test-alone}
-use Rattle.iso_core.proofs.LanguageLaws.{scripts-laws}
-use Rattle.iso_core.proofs.PlanChains.{class-chain, test-chain, written}
-use Rattle.iso_core.proofs.PlanOpenings.{laws}
-use Rattle.iso_core.specs.Cores.{CoreView, events_of, outcome_in, suite_in}
+use Rattle.iso_suites.proofs.AloneRuns.{class-alone, test-alone}
+use Rattle.iso_suites.proofs.LanguageLaws.{scripts-laws}
+use Rattle.iso_suites.proofs.PlanChains.{class-chain, test-chain, written}
+use Rattle.iso_suites.proofs.PlanOpenings.{laws}
+use Rattle.iso_standing.specs.CodeEvents.{events_of}
+use Rattle.iso_core.specs.Cores.{CoreView, outcome_in, suite_in}
 use Rattle.iso_core.specs.Isolation.{AreUnaffected, IsClass, IsIsolated, IsTest}
-use Rattle.iso_core.specs.ScriptLanguage.{Head, scripts}
+use Rattle.iso_suites.specs.ScriptLanguage.{Head, scripts}
 use Rattle.iso_isolation.proofs.Rights.{isolation}
 use Rattle.iso_isolation.specs.Alone.{run_alone}
 use Rattle.iso_isolation.specs.Isolation.{Gives}

@@ -1,16 +1,14 @@
 -- What contracts see of the core of a run, and the state that it stands in.
-use Rattle.std.specs.Prelude.{◌≡◌, ℕ, List, [], ◌∷◌, ◌++◌, Option, Some, None, Bool, true, false, length, map, refl}
+use Rattle.std.specs.Prelude.{◌≡◌, ℕ, List, [], ◌∷◌, ◌++◌, Option, Some, None, Bool, true, false, length, refl}
 use Rattle.std.specs.Coded.{Coded, code_by, coded×, coded_list, coded_bool, coded_ℕ}
-use Rattle.iso_core.specs.CodeEvents.{refused_of}
 use Rattle.iso_core.specs.FlatMaps.{FlatView, IsFlatOf}
-use Rattle.iso_core.specs.ResultStates.{AreResultsOf}
-use Rattle.iso_core.specs.ScriptLanguage.{Head, scripts}
-use Rattle.iso_core.specs.Standings.{CoreState, LooksLike, Standing, workers_in}
-use Rattle.iso_core.specs.SuiteStates.{suite_at}
-use Rattle.iso_core.specs.UnderWay.{AreBodiesOf}
+use Rattle.iso_standing.specs.ResultStates.{AreResultsOf}
+use Rattle.iso_suites.specs.ScriptLanguage.{Head, scripts}
+use Rattle.iso_standing.specs.Standings.{LooksLike, Standing, workers_in}
+use Rattle.iso_suites.specs.SuiteStates.{stopped_if, suite_at, RunState}
+use Rattle.iso_standing.specs.UnderWay.{AreBodiesOf}
 use Rattle.iso_core.specs.declared.core_fault.CoreFault.{CoreFault}
 use Rattle.iso_core.specs.declared.core_fault.CoreFault.TheVariants as F
-use Rattle.iso_isolation.specs.Events as E
 use Rattle.iso_isolation.specs.Refusals as Why
 use Rattle.iso_isolation.specs.Refusals.{refusal}
 use Rattle.iso_isolation.specs.Runs as Runs
@@ -23,10 +21,10 @@ use Rattle.iso_model.specs.declared.outcome.Outcome.{Outcome}
 use Rattle.iso_model.specs.declared.resource.Resource.{Resource}
 use Rattle.iso_plan.specs.Planned.{Planned}
 use Rattle.iso_plan.specs.contracts.plan.Plan as plan
-use Rattle.iso_schedule.specs.EventView.{event_of}
-use Rattle.iso_schedule.specs.contracts.event.Event as event
-use Rattle.iso_schedule.specs.declared.event.Event.{Event}
-use Rattle.iso_schedule.specs.declared.event.Event.TheVariants as Code
+use Rattle.iso_standing.specs.CodeEvents.{event_of, events_of, refused_of}
+use Rattle.iso_standing.specs.contracts.event.Event as event
+use Rattle.iso_standing.specs.declared.event.Event.{Event}
+use Rattle.iso_standing.specs.declared.event.Event.TheVariants as Code
 use Rattle.iso_settings.specs.Worlds.{Start, start_code}
 
 -- the plan and the world that it was made for, the number of workers, the events that it accepted, and whether it was stopped
@@ -56,16 +54,8 @@ new_core plan world workers = record { plan = plan; world = world; workers = wor
 abbrev pub suite_in : CoreView → Suite Head (List ℕ) Resource
 suite_in c = suite_at c.plan c.world
 
--- the events that it accepted
-abbrev pub events_of : List Event → List E.Event
-events_of es = map event_of es
-
--- a state, stopped or not
-abbrev pub stopped_if : Bool → CoreState → CoreState
-stopped_if stopped s = record { nodes = s.nodes; owner = s.owner; busy = s.busy; stopped = stopped }
-
 -- the state that it stands in: the one after the events that it accepted
-abbrev pub state_in : CoreView → CoreState
+abbrev pub state_in : CoreView → RunState
 state_in c = stopped_if c.stopped (after_all_of scripts (suite_in c) (first scripts (suite_in c)) (events_of c.events))
 
 -- why it refuses an event, if it does

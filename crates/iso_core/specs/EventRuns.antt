@@ -1,8 +1,8 @@
 -- What a list of events comes to that a new core takes in turn.
-use Rattle.std.specs.Prelude.{◌≡◌, ℕ, ◌<◌, List, Option, Some, true, take, slice_index_or, length}
-use Rattle.iso_core.specs.CodeEvents.{refused_of}
-use Rattle.iso_core.specs.Cores.{CoreView, events_of, new_core, refusal_in, suite_in}
-use Rattle.iso_core.specs.ScriptLanguage.{scripts}
+use Rattle.std.specs.Prelude.{◌≡◌, ℕ, ◌<◌, List, Option, Some, None, true, take, slice_index_or, length}
+use Rattle.iso_standing.specs.CodeEvents.{events_of, refused_of}
+use Rattle.iso_core.specs.Cores.{CoreView, new_core, refusal_in, suite_in}
+use Rattle.iso_suites.specs.ScriptLanguage.{scripts}
 use Rattle.iso_core.specs.declared.core_fault.CoreFault.{CoreFault}
 use Rattle.iso_core.specs.declared.core_fault.CoreFault.TheVariants as F
 use Rattle.iso_core.specs.declared.run_events.EventsFault.{EventsFault}
@@ -10,8 +10,8 @@ use Rattle.iso_isolation.specs.Refusals.{Refused}
 use Rattle.iso_isolation.specs.Runs.{is_run}
 use Rattle.iso_isolation.specs.States.{first}
 use Rattle.iso_plan.specs.Planned.{Planned}
-use Rattle.iso_schedule.specs.declared.event.Event.{Event}
-use Rattle.iso_schedule.specs.declared.event.Event.TheVariants.{Step}
+use Rattle.iso_standing.specs.declared.event.Event.{Event}
+use Rattle.iso_standing.specs.declared.event.Event.TheVariants.{Step}
 use Rattle.iso_settings.specs.Worlds.{Start}
 
 -- a new core that has taken these events
@@ -38,10 +38,12 @@ pub record RefusedAt (plan : Planned) (world : Start) (workers : ℕ) (es : List
   pub earlier : AreAccepted plan world workers (take i es)
   pub refused : refusal_in (core_after plan world workers (take i es)) (event_at es i) ≡ why
 
--- memory was wanted for the event after the first so many, all of which were accepted; where there are none, perhaps for a new core
+-- Memory was wanted for the event after the first so many: those were accepted, and nothing refuses it in the state after them. Where
+-- there are none, memory may have been wanted for a new core.
 pub record WantedAt (plan : Planned) (world : Start) (workers : ℕ) (es : List Event) (i : ℕ) : Type 0 where
   pub within : (i ≡ 0 → ⊥) → i < length es
   pub earlier : AreAccepted plan world workers (take i es)
+  pub allowed : (i ≡ 0 → ⊥) → refusal_in (core_after plan world workers (take i es)) (event_at es i) ≡ None
 
 -- where a list of events ended early: an event was refused, or memory was wanted for it
 abbrev pub EndedBy : CoreFault → Planned → Start → ℕ → List Event → ℕ → Type 0

@@ -1,7 +1,7 @@
 -- The flat map of a run, with what each entered node saved, and the states that it is of.
 use Rattle.std.specs.Prelude.{◌≡◌, ℕ, ◌<◌, List, Option, Some, None, true, length, is_some, option_map, slice_index_or, refl}
 use Rattle.std.specs.Coded.{Coded, code_by, coded×, coded_list, coded_option}
-use Rattle.iso_core.specs.SuiteStates.{CoreNodes}
+use Rattle.iso_suites.specs.SuiteStates.{RunNodes}
 use Rattle.iso_isolation.specs.States.{is_held}
 use Rattle.iso_locks.specs.Flats.{IsFlat, flat}
 use Rattle.iso_locks.specs.Slots.{Slots, slot}
@@ -82,7 +82,7 @@ pub record MapGoesOn (v u : FlatView) : Type 0 where
   pub marks : u.marks ≡ v.marks
 
 -- the flat map of a state, with the values that its entered nodes saved
-pub record IsFlatOf (v : FlatView) (s : CoreNodes) : Type 0 where
+pub record IsFlatOf (v : FlatView) (s : RunNodes) : Type 0 where
   pub now : (k : List ℕ) → flat v.tray k ≡ s.flat k
   pub marked : (n : ℕ) → is_some (mark_at v.marks n) ≡ true → (0 < n) × (is_held (s.status n) ≡ true)
   pub held : (n : ℕ) → 0 < n → is_held (s.status n) ≡ true → is_some (mark_at v.marks n) ≡ true

@@ -1,14 +1,4 @@
-pub mod CodeEvents
 pub mod Cores
 pub mod EventRuns
-pub mod ExampleRuns
 pub mod FlatMaps
 pub mod Isolation
-pub mod Phases
-pub mod PlanSuites
-pub mod Refusing
-pub mod ResultStates
-pub mod ScriptLanguage
-pub mod Standings
-pub mod SuiteStates
-pub mod UnderWay

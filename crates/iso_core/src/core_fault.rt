@@ -1,5 +1,5 @@
 //! Why the core of a run doesn't take an event.
-use crate::refused::Refused;
+use iso_standing::refused::Refused;
 use std::alloc::AllocError;
 use thiserror::Error;
 

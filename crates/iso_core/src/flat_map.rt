@@ -1,8 +1,8 @@
 //! The flat map of a run: all resources, and what each entered node saved of them.
 ghost use Rattle.std.specs.Prelude.{◌≡◌, ◌<◌, ℕ, None, IfOk, OnErr, OnOk, false, is_some, length, replicate, true};
 ghost use Rattle.iso_core.specs.FlatMaps.{IsFlatOf, IsInnermost, OfSameMap, mark_at};
-ghost use Rattle.iso_core.specs.ScriptLanguage.{scripts};
-ghost use Rattle.iso_core.specs.SuiteStates.{CoreNodes, suite_at};
+ghost use Rattle.iso_suites.specs.ScriptLanguage.{scripts};
+ghost use Rattle.iso_suites.specs.SuiteStates.{RunNodes, suite_at};
 ghost use Rattle.iso_isolation.specs.Events as E;
 ghost use Rattle.iso_isolation.specs.States.{first};
 ghost use Rattle.iso_lifecycle.specs.BodyViews.{Stands, kind_of_body, stage_of_body, subject_of};
@@ -76,7 +76,7 @@ impl<'a> FlatMap<'a> {
         requires within { node < length self.old.tray.plan.rows }
         requires innermost { IsInnermost self.old node }
         ensures same { OfSameMap self.old self.new }
-        ensures state { OnOk result ((s : CoreNodes) → IsFlatOf self.old s → IsFlatOf self.new (E.entering scripts (suite_at self.old.tray.plan self.old.tray.world) node s)) }
+        ensures state { OnOk result ((s : RunNodes) → IsFlatOf self.old s → IsFlatOf self.new (E.entering scripts (suite_at self.old.tray.plan self.old.tray.world) node s)) }
         ensures unchanged { OnErr result (self.new ≡ self.old) }
     {
         nodes_are_a_tree(self.tray.plan());
@@ -94,7 +94,7 @@ impl<'a> FlatMap<'a> {
         ensures subject { subject_of body.new ≡ subject_of body.old }
         ensures kind { kind_of_body body.new ≡ kind_of_body body.old }
         ensures stage { OnOk result (stage_of_body body.new ≡ (body_step (rights_of_subject (subject_of body.old)) (going (stage_of_body body.old) (flat self.old.tray))).stage) }
-        ensures state { OnOk result ((s : CoreNodes) → IsFlatOf self.old s
+        ensures state { OnOk result ((s : RunNodes) → IsFlatOf self.old s
             → IsFlatOf self.new (E.stepping scripts (suite_at self.old.tray.plan self.old.tray.world) (subject_of body.old).node s (stage_of_body body.old))) }
     {
         nodes_are_a_tree(self.tray.plan());
@@ -107,7 +107,7 @@ impl<'a> FlatMap<'a> {
         requires marked { is_some (mark_at self.old.marks node) ≡ true }
         requires innermost { IsInnermost self.old node }
         ensures same { OfSameMap self.old self.new }
-        ensures state { (s : CoreNodes) (r : Outcome) → IsFlatOf self.old s → IsFlatOf self.new (E.finishing scripts (suite_at self.old.tray.plan self.old.tray.world) node r s) }
+        ensures state { (s : RunNodes) (r : Outcome) → IsFlatOf self.old s → IsFlatOf self.new (E.finishing scripts (suite_at self.old.tray.plan self.old.tray.world) node r s) }
     {
         nodes_are_a_tree(self.tray.plan());
         if let Some(mark) = self.marks[node as usize].take() {

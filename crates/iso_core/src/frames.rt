@@ -1,6 +1,6 @@
 //! The frames of classes that were opened.
 ghost use Rattle.std.specs.Prelude.{◌≡◌, ◌<◌, IfOk, length, map, reverse};
-ghost use Rattle.iso_core.specs.UnderWay.{AreOpened};
+ghost use Rattle.iso_standing.specs.UnderWay.{AreOpened};
 ghost use Rattle.iso_lifecycle.specs.Subjects.{subject};
 ghost use Rattle.iso_plan.specs.Paths.{path};
 ghost use Rattle.iso_plan.specs.RowView.{tree_of};

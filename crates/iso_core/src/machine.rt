@@ -2,13 +2,13 @@
 ghost use Rattle.std.specs.Prelude.{◌≡◌, ◌<◌, ℕ, IfOk, IfSome, MatchResult, None, OnErr, OnOk, Some, false, is_some, length, replicate, set, true};
 ghost use Rattle.std.specs.Option.{option_map};
 ghost use Rattle.std.specs.Vec.{vec_capacity, vec_len};
-ghost use Rattle.iso_core.specs.CodeEvents.{refused_of, worker_of};
+ghost use Rattle.iso_standing.specs.CodeEvents.{refused_of, worker_of};
 ghost use Rattle.iso_core.specs.Cores.{Accepted, NotAccepted, is_complete, new_core, outcome_in, refusal_in, state_in, suite_in, with_event};
 ghost use Rattle.iso_core.specs.FlatMaps.{IsFlatOf, IsInnermost, OfSameMap, mark_at};
 ghost use Rattle.iso_core.specs.Isolation.{AreUnaffected, IsIsolated};
-ghost use Rattle.iso_core.specs.ScriptLanguage.{scripts};
-ghost use Rattle.iso_core.specs.SuiteStates.{CoreNodes, suite_at};
-ghost use Rattle.iso_core.specs.UnderWay.{IsUnderWay, body_at, is_after_all};
+ghost use Rattle.iso_suites.specs.ScriptLanguage.{scripts};
+ghost use Rattle.iso_suites.specs.SuiteStates.{RunNodes, suite_at};
+ghost use Rattle.iso_standing.specs.UnderWay.{IsUnderWay, body_at, is_after_all};
 ghost use Rattle.iso_isolation.specs.Events as E;
 ghost use Rattle.iso_isolation.specs.Events.{where_some};
 ghost use Rattle.iso_isolation.specs.States.{body_in, is_at_rest, is_closing, is_open};
@@ -19,23 +19,23 @@ ghost use Rattle.iso_model.specs.Bodies.{Stage, is_ended};
 ghost use Rattle.iso_plan.specs.Paths.{is_test, parent, row_at};
 ghost use Rattle.iso_plan.specs.RowView.{tree_of};
 
+use crate::beside::entered_nodes_are_apart;
 use crate::core_fault::CoreFault;
 use crate::flat_map::FlatMap;
-use crate::following::{
-    bodies_follow_events, bodies_stand_as_alone, entered_nodes_are_apart, results_follow_leaves,
-    results_follow_nodes,
-};
 use crate::frames::frames_on_path;
-use crate::refused::Refused;
-use crate::standing::Standing;
 use iso_lifecycle::body::Body;
 use iso_lifecycle::kind::BodyKind;
 use iso_lifecycle::results::Results;
 use iso_lifecycle::view::View;
 use iso_plan::laws::{nodes_are_a_tree, parents_come_first};
 use iso_plan::plan::Plan;
-use iso_schedule::event::Event;
 use iso_settings::world::World;
+use iso_standing::event::Event;
+use iso_standing::following::{
+    bodies_follow_events, bodies_stand_as_alone, results_follow_leaves, results_follow_nodes,
+};
+use iso_standing::refused::Refused;
+use iso_standing::standing::Standing;
 use std::alloc::{AllocError, Global};
 use std::marker::Model;
 use std::snapshot::Snapshot;
@@ -59,7 +59,7 @@ pub struct Core<'a> {
 
 impl<'a> Model for Core<'a> {
     ghost use Rattle.iso_core.specs.Cores.{CoreView, IsCore, core_code};
-    ghost use Rattle.iso_core.specs.Standings.{workers_in};
+    ghost use Rattle.iso_standing.specs.Standings.{workers_in};
 
     ghost Value = { CoreView };
 
@@ -105,7 +105,7 @@ fn leave_values(flat: &mut FlatMap<'_>, node: u32, kind: BodyKind)
     requires marked { is_some (mark_at flat.old.marks node) ≡ true }
     requires innermost { IsInnermost flat.old node }
     ensures same { OfSameMap flat.old flat.new }
-    ensures state { (s : CoreNodes) (b : Stage) → IsFlatOf flat.old s → body_in (s.status node) ≡ Some b → is_after_all kind ≡ is_closing (s.status node)
+    ensures state { (s : RunNodes) (b : Stage) → IsFlatOf flat.old s → body_in (s.status node) ≡ Some b → is_after_all kind ≡ is_closing (s.status node)
         → IsFlatOf flat.new (E.leaving scripts (suite_at flat.old.tray.plan flat.old.tray.world) node s (s.status node)) }
 {
     match kind {
@@ -148,7 +148,7 @@ fn enter_values(
     ensures events { events.new.items ≡ events.old.items }
     ensures room { OnOk result (vec_len events.new < vec_capacity events.new) }
     ensures same { OfSameMap flat.old flat.new }
-    ensures state { OnOk result ((s : CoreNodes) → IsFlatOf flat.old s → IsFlatOf flat.new (E.entering scripts (suite_at flat.old.tray.plan flat.old.tray.world) node s)) }
+    ensures state { OnOk result ((s : RunNodes) → IsFlatOf flat.old s → IsFlatOf flat.new (E.entering scripts (suite_at flat.old.tray.plan flat.old.tray.world) node s)) }
     ensures unchanged { OnErr result (flat.new ≡ flat.old) }
 {
     events.reserve(1)?;
@@ -229,9 +229,8 @@ impl<'a> Core<'a> {
         bodies_follow_events(self.plan);
         enter_values(self.alloc, &mut self.events, &mut self.flat, node)?;
         give_body(&mut self.bodies, worker, body);
-        let event = Event::Enter { worker, node };
-        self.standing.take(event, true);
-        self.events.push_reserved(event);
+        self.standing.enter(worker, node);
+        self.events.push_reserved(Event::Enter { worker, node });
         Ok(())
     }
 
@@ -279,10 +278,9 @@ impl<'a> Core<'a> {
         let kind = done.kind();
         self.results.put(done);
         leave_values(&mut self.flat, node, kind);
-        let event = Event::Leave { worker };
         let well = !self.results.bars(node);
-        self.standing.take(event, well);
-        self.events.push_reserved(event);
+        self.standing.leave(worker, well);
+        self.events.push_reserved(Event::Leave { worker });
         Ok(())
     }
 
@@ -297,9 +295,8 @@ impl<'a> Core<'a> {
         bodies_follow_events(self.plan);
         self.events.reserve(1)?;
         give_body(&mut self.bodies, worker, body);
-        let event = Event::Shut { worker, node };
-        self.standing.take(event, true);
-        self.events.push_reserved(event);
+        self.standing.shut(worker, node);
+        self.events.push_reserved(Event::Shut { worker, node });
         Ok(())
     }
 

@@ -5,8 +5,8 @@ ghost use Rattle.iso_core.specs.EventRuns.{Ran, StoppedAt};
 use crate::core_fault::CoreFault;
 use crate::machine::Core;
 use iso_plan::plan::Plan;
-use iso_schedule::event::Event;
 use iso_settings::world::World;
+use iso_standing::event::Event;
 use std::alloc::Global;
 
 /// Which event of a list the core didn't take, counted from 0, and why. Want of memory for a new core is of event 0.

@@ -11,7 +11,7 @@ use Rattle.iso_lifecycle.specs.ResultViews.{ResultsView}
 use Rattle.iso_run.specs.Replays.{IsAccepted, NotReplayed, Replay, events_fault, schedule_fault}
 use Rattle.iso_run.specs.Runs.{IsRead}
 use Rattle.iso_schedule.specs.Schedules.{AreRead, IfAnswered}
-use Rattle.iso_schedule.specs.declared.event.Event.{Event}
+use Rattle.iso_standing.specs.declared.event.Event.{Event}
 use Rattle.iso_schedule.specs.declared.fault.ScheduleError.{ScheduleError}
 use Rattle.iso_schedule.specs.declared.fault.ScheduleError.TheVariants as S
 use Rattle.iso_tap.specs.Sinks.{Account}

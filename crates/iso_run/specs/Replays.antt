@@ -1,10 +1,10 @@
 -- What a replay of a recorded schedule answers and what its sink took.
 use Rattle.std.specs.Prelude.{◌≡◌, ℕ, List, Bool, true, false, Some, Ok, Err}
-use Rattle.iso_core.specs.CodeEvents.{refused_of}
+use Rattle.iso_standing.specs.CodeEvents.{refused_of}
 use Rattle.iso_core.specs.Cores.{is_complete}
 use Rattle.iso_core.specs.EventRuns.{AreAccepted, RefusedAt, core_after}
 use Rattle.iso_core.specs.declared.core_fault.CoreFault.TheVariants as C
-use Rattle.iso_core.specs.declared.refused.Refused.{Refused as Why}
+use Rattle.iso_standing.specs.declared.refused.Refused.{Refused as Why}
 use Rattle.iso_core.specs.declared.run_events.EventsFault.{EventsFault}
 use Rattle.iso_inputs.specs.Suites.{Suite, HasFault, IsSuite}
 use Rattle.iso_inputs.specs.declared.fault.InputFault.TheVariants as F
@@ -16,7 +16,7 @@ use Rattle.iso_run.specs.Runs.{CutShort, Reported, Untouched}
 use Rattle.iso_run.specs.declared.fault.RunFault.{RunFault}
 use Rattle.iso_run.specs.declared.fault.RunFault.TheVariants.{Settings, World, Script, Plan, Schedule, Refused, Unfinished, Memory, Write}
 use Rattle.iso_schedule.specs.Schedules.{AreRead}
-use Rattle.iso_schedule.specs.declared.event.Event.{Event}
+use Rattle.iso_standing.specs.declared.event.Event.{Event}
 use Rattle.iso_schedule.specs.declared.fault.ScheduleError.{ScheduleError}
 use Rattle.iso_schedule.specs.declared.fault.ScheduleError.TheVariants as S
 use Rattle.iso_schedule.specs.declared.fault.ScheduleFault.{ScheduleFault}

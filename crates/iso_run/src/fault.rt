@@ -4,13 +4,13 @@ ghost use Rattle.iso_run.specs.Replays.{events_fault, schedule_fault};
 ghost use Rattle.iso_run.specs.Runs.{run_fault, status};
 
 use iso_core::core_fault::CoreFault;
-use iso_core::refused::Refused;
 use iso_core::run_events::EventsFault;
 use iso_inputs::fault::{InputError, InputFault};
 use iso_plan::fault::PlanFault;
 use iso_schedule::fault::{ScheduleError, ScheduleFault};
 use iso_script::fault::ScriptFault;
 use iso_settings::fault::SettingsFault;
+use iso_standing::refused::Refused;
 use std::fmt;
 
 /// The exit status of refused input.

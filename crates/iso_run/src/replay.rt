@@ -9,8 +9,8 @@ use crate::fault::RunFault;
 use crate::run::{Summary, write_results};
 use iso_core::run_events::run_events;
 use iso_inputs::inputs::{Inputs, Suite, read_inputs};
-use iso_schedule::event::Event;
 use iso_schedule::reader::read_schedule;
+use iso_standing::event::Event;
 use iso_tap::sink::Sink;
 use std::alloc::Global;
 

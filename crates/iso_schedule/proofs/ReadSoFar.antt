@@ -3,7 +3,7 @@ use Rattle.std.proofs.Common.{◌≡◌, ◌+◌, ℕ, List, [], ◌∷◌, ◌+
 use Rattle.std.specs.Str.Lines.{lines}
 use Rattle.iso_schedule.specs.Lines.{IsEvent, IsWrong}
 use Rattle.iso_schedule.specs.Schedules.{HaveEvents, empty_line, event_line, HaveFault, this_line, after_empty_line, after_event_line}
-use Rattle.iso_schedule.specs.declared.event.Event.{Event}
+use Rattle.iso_standing.specs.declared.event.Event.{Event}
 use Rattle.iso_schedule.specs.declared.fault.ScheduleFault.{ScheduleFault}
 use Rattle.iso_schedule.specs.declared.fault.ScheduleFaultKind.{ScheduleFaultKind}
 

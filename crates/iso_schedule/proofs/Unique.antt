@@ -2,7 +2,7 @@
 use Rattle.std.proofs.Common.{◌≡◌, ◌+◌, ◌∷◌, [], ℕ, List, Some, None, Ok, Err, ap, subst, refl, arith}
 use Rattle.iso_schedule.specs.Lines.{Written, Writes, IsShort, IsEvent, is_event, IsWrong, no_event, too_big, event}
 use Rattle.iso_schedule.specs.Schedules.{HaveEvents, no_line, empty_line, event_line, HaveFault, this_line, after_empty_line, after_event_line, Reading, AreRead, too_long, as_events, as_fault}
-use Rattle.iso_schedule.specs.declared.event.Event.{Event}
+use Rattle.iso_standing.specs.declared.event.Event.{Event}
 use Rattle.iso_schedule.specs.declared.fault.ScheduleFault.{ScheduleFault}
 use Rattle.iso_schedule.specs.declared.fault.ScheduleFaultKind.{ScheduleFaultKind}
 use Rattle.iso_schedule.proofs.WrittenLines.{scanned-written}

@@ -1,4 +1,3 @@
-pub mod EventView
 pub mod Examples
 pub mod Faults
 pub mod Lines

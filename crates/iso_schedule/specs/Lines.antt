@@ -3,8 +3,8 @@ use Rattle.std.specs.Prelude.{ℕ, ◌≤◌, List, [], ◌++◌, ◌≡◌, ◌
 use Rattle.std.specs.List.{AllByRecursion}
 use Rattle.std.specs.Str.{all_ascii_digits}
 use Rattle.std.specs.Str.Parse.{digits_value}
-use Rattle.iso_schedule.specs.declared.event.Event.{Event}
-use Rattle.iso_schedule.specs.declared.event.Event.TheVariants.{Enter, Step, Leave, Shut}
+use Rattle.iso_standing.specs.declared.event.Event.{Event}
+use Rattle.iso_standing.specs.declared.event.Event.TheVariants.{Enter, Step, Leave, Shut}
 use Rattle.iso_schedule.specs.declared.fault.ScheduleFaultKind.{ScheduleFaultKind}
 use Rattle.iso_schedule.specs.declared.fault.ScheduleFaultKind.TheVariants.{BadLine, NumberTooBig}
 

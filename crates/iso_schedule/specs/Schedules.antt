@@ -4,7 +4,7 @@ use Rattle.std.specs.Prelude.{ℕ, ◌+◌, ◌<◌, ◌≤◌, List, [], ◌∷
 use Rattle.std.specs.Str.Lines.{lines}
 use Rattle.iso_model.specs.declared.limits.TheConstants.{FILE_BYTES}
 use Rattle.iso_schedule.specs.Lines.{IsEvent, IsWrong}
-use Rattle.iso_schedule.specs.declared.event.Event.{Event}
+use Rattle.iso_standing.specs.declared.event.Event.{Event}
 use Rattle.iso_schedule.specs.declared.fault.ScheduleError.{ScheduleError}
 use Rattle.iso_schedule.specs.declared.fault.ScheduleError.TheVariants.{Fault, OutOfMemory}
 use Rattle.iso_schedule.specs.declared.fault.ScheduleFault.{ScheduleFault}

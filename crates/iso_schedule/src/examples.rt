@@ -2,7 +2,7 @@
 
 ghost use Rattle.std.specs.Prelude.{[], ◌∷◌};
 ghost use Rattle.iso_schedule.specs.Examples.{HasBadLine, HasBigNumber, IsSchedule};
-ghost use Rattle.iso_schedule.specs.declared.event.Event.TheVariants.{Enter, Leave, Shut, Step};
+ghost use Rattle.iso_standing.specs.declared.event.Event.TheVariants.{Enter, Leave, Shut, Step};
 
 /// A line has the word of an event, the worker, and then the node where one is named. No line, no event.
 pub fn lines_write_events()

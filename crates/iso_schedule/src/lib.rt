@@ -1,7 +1,6 @@
 //! Recorded schedules: the events of several workers, and the reader of their lines.
 #![tactic(auto)]
 
-pub mod event;
 pub mod examples;
 pub mod fault;
 pub mod laws;

@@ -5,10 +5,10 @@ ghost use Rattle.iso_schedule.specs.Scan.{after_gap, in_word, is_space, last_num
 ghost use Rattle.iso_schedule.specs.Lines.{IsEvent, IsWrong};
 ghost use Rattle.iso_schedule.specs.Parts.{numeral_in, written};
 
-use crate::event::Event;
 use crate::fault::ScheduleFaultKind;
 use crate::numeral::Numeral;
 use crate::written::Written;
+use iso_standing::event::Event;
 
 fn is_space(byte: u8) -> bool
     ensures { result ≡ is_space byte }

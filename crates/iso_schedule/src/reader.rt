@@ -2,11 +2,11 @@
 ghost use Rattle.std.specs.Prelude.{◌≡◌};
 ghost use Rattle.iso_schedule.specs.Schedules.{AreRead, IfAnswered, Reading};
 
-use crate::event::Event;
 use crate::fault::{ScheduleError, ScheduleFault, ScheduleFaultKind};
 use crate::line::read_event;
 use crate::lines::split_line;
 use iso_model::limits::FILE_BYTES;
+use iso_standing::event::Event;
 use std::alloc::Global;
 
 /// Reads a schedule of at most 1,048,576 bytes: the events of its lines, in their order. The list takes memory from

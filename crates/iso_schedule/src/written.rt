@@ -2,8 +2,8 @@ ghost use Rattle.std.specs.Prelude.{◌≡◌, MatchOption};
 ghost use Rattle.iso_schedule.specs.Lines.{IsShort, event};
 ghost use Rattle.iso_schedule.specs.Parts.{written};
 
-use crate::event::Event;
 use crate::numeral::Numeral;
+use iso_standing::event::Event;
 
 /// An event as a line writes it.
 #[derive(Clone, Copy)]

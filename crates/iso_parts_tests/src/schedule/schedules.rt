@@ -1,8 +1,8 @@
 //! What schedules are read as.
 use crate::shared::check_text;
-use iso_schedule::event::Event;
 use iso_schedule::fault::ScheduleError;
 use iso_schedule::reader::read_schedule;
+use iso_standing::event::Event;
 use std::alloc::{AllocError, Global};
 use std::process::Abort;
 use std::test::Fail;

@@ -1,10 +1,10 @@
 //! A stopped run.
 use crate::suites::{CONCURRENT, Check, TWO_FILES, check_script};
-use iso_core::refused::Refused;
-use iso_core::standing::Standing;
 use iso_plan::plan::Plan;
-use iso_schedule::event::Event;
 use iso_settings::world::World;
+use iso_standing::event::Event;
+use iso_standing::refused::Refused;
+use iso_standing::standing::Standing;
 use std::alloc::Global;
 use std::process::Abort;
 use std::test::Fail;

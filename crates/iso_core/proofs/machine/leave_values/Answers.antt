@@ -1,6 +1,6 @@
 use Rattle.std.proofs.Common.{◌≡◌, true, sym, ap, ◌∙◌, subst}
 use Rattle.iso_core.proofs.CoreValues.{flat-first, flat-last}
-use Rattle.iso_core.specs.UnderWay.{is_after_all}
+use Rattle.iso_standing.specs.UnderWay.{is_after_all}
 use Rattle.iso_isolation.proofs.Statuses.{body_held}
 use Rattle.iso_lifecycle.specs.Subjects.{is_kind_of}
 use Rattle.iso_lifecycle.specs.declared.kind.BodyKind.{BodyKind}

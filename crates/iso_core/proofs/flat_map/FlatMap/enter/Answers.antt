@@ -1,8 +1,8 @@
 use Rattle.std.proofs.Common.{◌≡◌, ℕ, ◌<◌, Some, length, set, sym, ap, ◌∙◌, subst}
 use Rattle.iso_core.proofs.FlatStates.{map-entered, state-entered}
 use Rattle.iso_core.specs.FlatMaps.{FlatView, IsFlatMap, IsFlatOf, IsInnermost}
-use Rattle.iso_core.specs.ScriptLanguage.{scripts}
-use Rattle.iso_core.specs.SuiteStates.{suite_at}
+use Rattle.iso_suites.specs.ScriptLanguage.{scripts}
+use Rattle.iso_suites.specs.SuiteStates.{suite_at}
 use Rattle.iso_isolation.specs.Events as E
 use Rattle.iso_locks.specs.Trays.{MarkView}
 use Rattle.iso_plan.specs.Paths.{IsTree}

@@ -2,8 +2,8 @@ use Rattle.std.proofs.Common.{◌≡◌, ℕ, ◌<◌, Option, Some, None, get_o
 use Rattle.std.proofs.lemmas.List.{get_or_default}
 use Rattle.iso_core.proofs.FlatStates.{map-left, state-left}
 use Rattle.iso_core.specs.FlatMaps.{FlatView, IsFlatMap, IsFlatOf, IsInnermost, mark_at}
-use Rattle.iso_core.specs.ScriptLanguage.{scripts}
-use Rattle.iso_core.specs.SuiteStates.{suite_at}
+use Rattle.iso_suites.specs.ScriptLanguage.{scripts}
+use Rattle.iso_suites.specs.SuiteStates.{suite_at}
 use Rattle.iso_isolation.specs.Events as E
 use Rattle.iso_locks.specs.Trays.{MarkView, TrayView}
 use Rattle.iso_plan.specs.Paths.{IsTree}

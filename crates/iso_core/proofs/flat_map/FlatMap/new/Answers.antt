@@ -2,8 +2,8 @@ use Rattle.std.proofs.Common.{List, Option, length, sym, ap, ◌∙◌, subst}
 use Rattle.iso_core.proofs.FlatStates.{map-first, state-first}
 use Rattle.iso_core.proofs.FlatValues.{kinds-start}
 use Rattle.iso_core.specs.FlatMaps.{IsFlatMap, IsFlatOf}
-use Rattle.iso_core.specs.ScriptLanguage.{scripts}
-use Rattle.iso_core.specs.SuiteStates.{suite_at}
+use Rattle.iso_suites.specs.ScriptLanguage.{scripts}
+use Rattle.iso_suites.specs.SuiteStates.{suite_at}
 use Rattle.iso_isolation.specs.States.{first}
 use Rattle.iso_lifecycle.specs.Subjects.{started}
 use Rattle.iso_locks.specs.Trays.{MarkView}

@@ -1,7 +1,7 @@
 use Rattle.std.proofs.Common.{sym, ap, ◌∙◌}
 use Rattle.iso_core.proofs.CoreRuns.{core_of}
 use Rattle.iso_core.specs.Cores.{CoreView, is_complete, state_in}
-use Rattle.iso_core.specs.PlanSuites.{suite_of}
+use Rattle.iso_suites.specs.PlanSuites.{suite_of}
 use Rattle.iso_isolation.specs.Runs as Runs
 use Rattle.iso_lifecycle.specs.Subjects.{started}
 use Rattle.iso_plan.specs.Planned.{Planned}

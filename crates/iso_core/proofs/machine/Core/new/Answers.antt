@@ -4,7 +4,7 @@ use Rattle.iso_core.proofs.CoreSteps.{core-begins}
 use Rattle.iso_core.specs.Cores.{IsCore, new_core}
 use Rattle.iso_lifecycle.specs.ResultViews.{no_results}
 use Rattle.iso_lifecycle.specs.Subjects.{started}
-use Rattle.iso_schedule.specs.declared.event.Event.{Event}
+use Rattle.iso_standing.specs.declared.event.Event.{Event}
 use Rattle.iso_settings.specs.Worlds.{Start}
 use Rattle.iso_core.proofs.machine.Core.new.Goals as goal
 

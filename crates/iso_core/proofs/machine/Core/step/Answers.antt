@@ -1,55 +1,53 @@
 use Rattle.std.proofs.Common.{◌≡◌, ◌<◌, List, [], ◌∷◌, ◌++◌, Some, None, true, false, length, set, refl, ap, sym, ◌∙◌, arith}
 use Rattle.std.proofs.lemmas.List.{get_or_default, length-set}
-use Rattle.iso_core.proofs.CoreRefusals.{step-told, told_of}
-use Rattle.iso_core.proofs.CoreRuns.{core_of, reached, unstopped}
+use Rattle.iso_core.proofs.CoreBodies.{step-found, step-there, told}
+use Rattle.iso_core.proofs.CoreRuns.{core_of}
 use Rattle.iso_core.proofs.CoreSteps.{core-as, stands-on, stepped, stopped-as, subject-at, view-stopped}
 use Rattle.iso_core.proofs.CoreValues.{same-step}
 use Rattle.iso_core.specs.Cores.{CoreView, refusal_in, state_in, suite_in}
-use Rattle.iso_core.specs.ScriptLanguage.{scripts}
-use Rattle.iso_core.specs.UnderWay.{body_at}
+use Rattle.iso_suites.specs.ScriptLanguage.{scripts}
+use Rattle.iso_standing.specs.UnderWay.{body_at}
 use Rattle.iso_isolation.specs.Suites.{chain}
 use Rattle.iso_lifecycle.specs.BodyViews.{stage_of_body, subject_of}
 use Rattle.iso_lifecycle.specs.Subjects.{Subject, rights_of_subject}
 use Rattle.iso_locks.specs.Flats.{flat}
 use Rattle.iso_model.specs.Bodies.{body_step, going}
-use Rattle.iso_schedule.specs.declared.event.Event.{Event}
-use Rattle.iso_schedule.specs.declared.event.Event.TheVariants as Code
+use Rattle.iso_standing.specs.declared.event.Event.{Event}
+use Rattle.iso_standing.specs.declared.event.Event.TheVariants as Code
 use Rattle.iso_core.proofs.machine.Core.step.Goals as goal
 
 pub unreachable-requires : goal.unreachable-requires
 unreachable-requires c =
     let i = c.self.inside in
     let w = c.args.worker in
+    let is = c.self.invariant in
     let old : CoreView = core_of i.plan.now i.world.now i.standing i.events.items in
     let h : refusal_in old (Code.Step w) ≡ None = ap (λ (v : CoreView). refusal_in v (Code.Step w)) c.self.view_is ∙ c.requires in
-    let t = step-told old i.standing i.flat i.bodies.items i.results c.self.invariant w h in
-    let less : w < length i.bodies.items = let fit = c.self.invariant.bodies_fit in let below = t.worker in omega arith in
-    let gone : body_at i.bodies.items w ≡ None = get_or_default i.bodies.items w None c.index_mut.result.now less ∙ sym c.index_mut.ensures.value ∙ c.in_default-index_mut.is in
-    let there = t.under.there in
-    cc
+    absurd (step-there old i.standing i.flat i.bodies.items i.results is w h (λ less.
+    get_or_default i.bodies.items w None c.index_mut.result.now less ∙ sym c.index_mut.ensures.value ∙ c.in_default-index_mut.is))
 
 pub step-requires-clause-under_way : goal.step-requires-clause-under_way
 step-requires-clause-under_way c =
     let i = c.self.inside in
     let w = c.args.worker in
+    let is = c.self.invariant in
     let old : CoreView = core_of i.plan.now i.world.now i.standing i.events.items in
     let h : refusal_in old (Code.Step w) ≡ None = ap (λ (v : CoreView). refusal_in v (Code.Step w)) c.self.view_is ∙ c.requires in
-    let t = step-told old i.standing i.flat i.bodies.items i.results c.self.invariant w h in
-    let less : w < length i.bodies.items = let fit = c.self.invariant.bodies_fit in let below = t.worker in omega arith in
-    let at : body_at i.bodies.items w ≡ Some c.in-Some.body = get_or_default i.bodies.items w None c.index_mut.result.now less ∙ sym c.index_mut.ensures.value ∙ c.in-Some.is in
-    (told_of old i.standing i.flat i.bodies.items i.results c.self.invariant w false t c.in-Some.body at).ended
+    let f = step-found old i.standing i.flat i.bodies.items i.results is w h c.bodies_stand_as_alone.ensures.inside c.in-Some.body (λ less.
+    get_or_default i.bodies.items w None c.index_mut.result.now less ∙ sym c.index_mut.ensures.value ∙ c.in-Some.is) in
+    (told old i.standing i.flat i.bodies.items i.results is w c.in-Some.body false f).ended
 
 pub step-requires-clause-of_map : goal.step-requires-clause-of_map
 step-requires-clause-of_map c =
     let i = c.self.inside in
     let w = c.args.worker in
+    let is = c.self.invariant in
     let old : CoreView = core_of i.plan.now i.world.now i.standing i.events.items in
     let h : refusal_in old (Code.Step w) ≡ None = ap (λ (v : CoreView). refusal_in v (Code.Step w)) c.self.view_is ∙ c.requires in
-    let t = step-told old i.standing i.flat i.bodies.items i.results c.self.invariant w h in
-    let less : w < length i.bodies.items = let fit = c.self.invariant.bodies_fit in let below = t.worker in omega arith in
-    let at : body_at i.bodies.items w ≡ Some c.in-Some.body = get_or_default i.bodies.items w None c.index_mut.result.now less ∙ sym c.index_mut.ensures.value ∙ c.in-Some.is in
-    let u = told_of old i.standing i.flat i.bodies.items i.results c.self.invariant w false t c.in-Some.body at in
-    subject-at i.plan.now i.flat.tray.plan i.world.now i.flat.tray.world u.node (subject_of c.in-Some.body) u.under.is.subject c.self.invariant.flat_plan c.self.invariant.flat_world
+    let f = step-found old i.standing i.flat i.bodies.items i.results is w h c.bodies_stand_as_alone.ensures.inside c.in-Some.body (λ less.
+    get_or_default i.bodies.items w None c.index_mut.result.now less ∙ sym c.index_mut.ensures.value ∙ c.in-Some.is) in
+    let t = told old i.standing i.flat i.bodies.items i.results is w c.in-Some.body false f in
+    subject-at i.plan.now i.flat.tray.plan i.world.now i.flat.tray.world t.node (subject_of c.in-Some.body) t.under.is.subject is.flat_plan is.flat_world
 
 pub step-requires-clause-stands : goal.step-requires-clause-stands
 step-requires-clause-stands c =
@@ -58,12 +56,11 @@ step-requires-clause-stands c =
     let is = c.self.invariant in
     let old : CoreView = core_of i.plan.now i.world.now i.standing i.events.items in
     let h : refusal_in old (Code.Step w) ≡ None = ap (λ (v : CoreView). refusal_in v (Code.Step w)) c.self.view_is ∙ c.requires in
-    let on = unstopped old (Code.Step w) h in
-    let t = step-told old i.standing i.flat i.bodies.items i.results is w h in
-    let less : w < length i.bodies.items = let fit = is.bodies_fit in let below = t.worker in omega arith in
-    let at : body_at i.bodies.items w ≡ Some c.in-Some.body = get_or_default i.bodies.items w None c.index_mut.result.now less ∙ sym c.index_mut.ensures.value ∙ c.in-Some.is in
-    stands-on c.in-Some.body (state_in old).nodes.flat (flat i.flat.tray) (is.flat_is on).now
-    (c.bodies_stand_as_alone.ensures.stands i.world.now i.bodies.items (state_in old) w t.node c.in-Some.body (reached old is.run on) (is.bodies_are on) less t.busy at)
+    let f = step-found old i.standing i.flat i.bodies.items i.results is w h c.bodies_stand_as_alone.ensures.inside c.in-Some.body (λ less.
+    get_or_default i.bodies.items w None c.index_mut.result.now less ∙ sym c.index_mut.ensures.value ∙ c.in-Some.is) in
+    let t = told old i.standing i.flat i.bodies.items i.results is w c.in-Some.body false f in
+    stands-on c.in-Some.body (state_in old).nodes.flat (flat i.flat.tray) (is.flat_is f.on).now
+    (c.bodies_stand_as_alone.ensures.stands i.world.now i.bodies.items (state_in old) w t.node c.in-Some.body f.reached (is.bodies_are f.on) f.less t.busy f.at)
 
 pub invariant_of-self : goal.invariant_of-self
 invariant_of-self c =
@@ -105,18 +102,16 @@ invariant_of-self-2 c =
     let old : CoreView = core_of i.plan.now i.world.now i.standing i.events.items in
     let s = state_in old in
     let h : refusal_in old (Code.Step w) ≡ None = ap (λ (v : CoreView). refusal_in v (Code.Step w)) c.self.view_is ∙ c.requires in
-    let on = unstopped old (Code.Step w) h in
-    let t0 = step-told old i.standing i.flat i.bodies.items i.results is w h in
-    let less : w < length i.bodies.items = let fit = is.bodies_fit in let below = t0.worker in omega arith in
-    let at : body_at i.bodies.items w ≡ Some c.in-Some.body = get_or_default i.bodies.items w None c.index_mut.result.now less ∙ sym c.index_mut.ensures.value ∙ c.in-Some.is in
-    let t = told_of old i.standing i.flat i.bodies.items i.results is w false t0 c.in-Some.body at in
+    let f = step-found old i.standing i.flat i.bodies.items i.results is w h c.bodies_stand_as_alone.ensures.inside c.in-Some.body (λ less.
+    get_or_default i.bodies.items w None c.index_mut.result.now less ∙ sym c.index_mut.ensures.value ∙ c.in-Some.is) in
+    let t = told old i.standing i.flat i.bodies.items i.results is w c.in-Some.body false f in
     let b = stage_of_body c.in-Some.body in
     let now = set i.bodies.items w (Some c.step.new.body) in
     let stage : stage_of_body c.step.new.body ≡ (scripts.step (chain (suite_in old) t.node) b s.nodes.flat).body =
     c.in_default-step.ensures.stage
     ∙ ap (λ (j : Subject). (body_step (rights_of_subject j) (going b (flat i.flat.tray))).stage) t.under.is.subject
-    ∙ same-step i.plan.now i.world.now c.nodes_are_a_tree.ensures t.node b (flat i.flat.tray) s.nodes.flat (is.flat_is on).now in
-    let bodies = c.bodies_follow_events.ensures.step i.world.now i.bodies.items s w t.node c.in-Some.body c.step.new.body (is.bodies_are on) less t.busy at c.in_default-step.ensures.subject c.in_default-step.ensures.kind stage in
+    ∙ same-step i.plan.now i.world.now c.nodes_are_a_tree.ensures t.node b (flat i.flat.tray) s.nodes.flat (is.flat_is f.on).now in
+    let bodies = c.bodies_follow_events.ensures.step i.world.now i.bodies.items s w t.node c.in-Some.body c.step.new.body (is.bodies_are f.on) f.less t.busy f.at c.in_default-step.ensures.subject c.in_default-step.ensures.kind stage in
     let results = c.results_follow_nodes.ensures.step i.world.now i.results s.nodes t.node b is.results_are t.under.is.stage in
     core-as old i.standing i.flat i.bodies.items i.results is i.standing c.step.new.self now i.results (Code.Step w) c.push_reserved.new.self.items h
     (stepped old i.standing i.flat i.bodies.items i.results is w t c.step.new.self now c.nodes_are_a_tree.ensures h c.in_default-step.ensures.same c.in_default-step.ensures.state

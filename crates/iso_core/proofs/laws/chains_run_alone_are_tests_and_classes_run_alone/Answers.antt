@@ -1,5 +1,0 @@
-use Rattle.iso_core.proofs.AloneRuns.{test-alone, class-alone}
-use Rattle.iso_core.proofs.laws.chains_run_alone_are_tests_and_classes_run_alone.Goals as goal
-
-pub returns : goal.returns
-returns c = record { test = test-alone; class = class-alone }

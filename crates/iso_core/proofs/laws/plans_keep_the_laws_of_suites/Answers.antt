@@ -1,5 +1,0 @@
-use Rattle.iso_core.proofs.Headline.{launched-laws}
-use Rattle.iso_core.proofs.laws.plans_keep_the_laws_of_suites.Goals as goal
-
-pub returns : goal.returns
-returns c = launched-laws

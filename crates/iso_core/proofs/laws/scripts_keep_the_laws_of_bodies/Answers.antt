@@ -1,6 +1,0 @@
-use Rattle.iso_core.proofs.BodyEnds.{scripts-end}
-use Rattle.iso_core.proofs.LanguageLaws.{scripts-laws}
-use Rattle.iso_core.proofs.laws.scripts_keep_the_laws_of_bodies.Goals as goal
-
-pub returns : goal.returns
-returns c = record { bodies = scripts-laws; ends = scripts-end }

@@ -1,0 +1,10 @@
+pub mod Barring
+pub mod Below
+pub mod BodiesAlone
+pub mod BodiesFollow
+pub mod EventLists
+pub mod Inside
+pub mod Leaving
+pub mod Looks
+pub mod ResultLeaves
+pub mod ResultPuts

@@ -1,0 +1,6 @@
+pub mod CodeEvents
+pub mod Phases
+pub mod Refusing
+pub mod ResultStates
+pub mod Standings
+pub mod UnderWay

@@ -1,0 +1,4 @@
+pub mod ExampleRuns
+pub mod PlanSuites
+pub mod ScriptLanguage
+pub mod SuiteStates
