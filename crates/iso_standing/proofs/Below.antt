@@ -6,8 +6,8 @@ use Rattle.std.proofs.lemmas.Bool.{cases_eq, le-leb, lt-leb}
 use Rattle.std.proofs.lemmas.List.Elements.{All-append, All-cons, All-nil, All-weaker}
 use Rattle.std.proofs.lemmas.List.{drop_all}
 use Rattle.std.proofs.lemmas.List.Folds.{list_any-append}
-use Rattle.iso_locks.proofs.ConflictLemmas.{lowest-here, lowest-pass, lowest-stays}
-use Rattle.iso_locks.specs.Vaults.{lowest}
+use Rattle.iso_plan.proofs.ConflictLemmas.{lowest-here, lowest-pass, lowest-stays}
+use Rattle.iso_plan.specs.Conflicts.{lowest}
 use Rattle.iso_isolation.specs.Refusals.{any_below, is_root, lowest_below}
 use Rattle.iso_plan.proofs.PathLemmas.{eq_not}
 use Rattle.iso_plan.specs.Paths as Paths
