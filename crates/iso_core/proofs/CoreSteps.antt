@@ -258,4 +258,4 @@ subject-at plan p world q n s e pe qe =
 
 -- where resources are equal, a body stands on both
 pub stands-on : (b : Body) (m f : Resources) → ((k : List ℕ) → f k ≡ m k) → Stands b m → Stands b f
-stands-on b m f same t = record { steps = t.steps; stage = t.stage; resources = record { at = λ k r. same k ∙ t.resources.at k r } }
+stands-on b m f same t = record { steps = t.steps; stage = t.stage; resources = record { same = λ k r. same k ∙ t.resources.same k r } }

@@ -400,6 +400,6 @@ stands-flat b t n tree whole rights_are stands = record {
   steps = stands.steps;
   stage = stands.stage;
   resources = record {
-    at = λ k may. content-flat t k (value-there t n k tree whole (ap (λ (r : Rights). is_readable (r k)) (sym rights_are) ∙ may)) ∙ stands.resources.at k may;
+    same = λ k may. content-flat t k (value-there t n k tree whole (ap (λ (r : Rights). is_readable (r k)) (sym rights_are) ∙ may)) ∙ stands.resources.same k may;
   };
 }

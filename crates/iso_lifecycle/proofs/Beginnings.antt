@@ -1,6 +1,7 @@
 -- Where a body begins, and where its steps lead.
 use Rattle.std.proofs.Common.{◌≡◌, ℕ, suc, ◌<◌, ◌≤◌, ◌-◌, List, [], ◌∷◌, length, reverse, Option, Some, false, sym, ap, ◌∙◌, arith, subst, true≢false}
 use Rattle.iso_model.proofs.BodyKeys.{body-step-alike}
+use Rattle.iso_model.specs.Agreement.{EqualAt}
 use Rattle.iso_model.specs.Bodies.{Going, Stage, body_step, during, ended, fresh_account, going, is_ended, stage_from, test_stage}
 use Rattle.iso_model.specs.BodyAgreement.{AlikeGoing}
 use Rattle.iso_model.specs.Chains.{ClassHead, TestHead}
@@ -14,7 +15,6 @@ use Rattle.iso_model.specs.declared.place.BlockName.TheVariants.{Class}
 use Rattle.iso_model.specs.declared.place.Lifecycle.TheVariants as L
 use Rattle.iso_plan.specs.NodeChains.{chain_test}
 use Rattle.iso_plan.specs.RowView.{tree_of}
-use Rattle.iso_lifecycle.specs.BodyViews.{EqualAt}
 use Rattle.iso_lifecycle.specs.JobPlaces.{head_at, outside}
 use Rattle.iso_lifecycle.specs.Origins.{HasCome, HasLeft}
 use Rattle.iso_lifecycle.specs.Subjects.{Subject, begun, begun_closing, begun_opening, begun_testing, classes_of, enclosing, opening_of, reached, rights_of_subject}
@@ -60,7 +60,7 @@ pub steps-on : (kind : BodyKind) (s : Subject) (n : ℕ) (now next : Stage) (m k
     → going next k ≡ body_step (rights_of_subject s) (going now m) → AlikeGoing (rights_of_subject s) (going next k) (reached kind s (suc n))
 steps-on kind s n now next m k stage same stepped =
     let r = rights_of_subject s in
-    let alike : AlikeGoing r (going now m) (reached kind s n) = record { stage = stage; resources = record { same = same.at } } in
+    let alike : AlikeGoing r (going now m) (reached kind s n) = record { stage = stage; resources = same } in
     subst (λ (g : Going). AlikeGoing r g (reached kind s (suc n))) (sym stepped) (body-step-alike r (going now m) (reached kind s n) alike)
 
 -- a body that hasn't ended owes nothing

@@ -20,7 +20,7 @@ use Rattle.iso_plan.specs.NodeChains.{chain_test, class_heads, own_test, rights_
 use Rattle.iso_plan.specs.Paths.{row_at}
 use Rattle.iso_plan.specs.RowView.{tree_of}
 use Rattle.iso_plan.specs.Tree.{Kind, root, class_node, test_node}
-use Rattle.iso_lifecycle.specs.Ends.{outcome_of}
+use Rattle.iso_lifecycle.specs.Ends.{closing_ending, outcome_of}
 use Rattle.iso_lifecycle.specs.Origins.{HasCome, done_whole}
 use Rattle.iso_lifecycle.specs.Subjects.{IsOfClass, Subject, begun, begun_closing, begun_opening, begun_testing, chain_alone, classes_of, enclosing, first_frame, is_kind_of, opening_of, own_frame, reached, rights_of_subject, started}
 use Rattle.iso_lifecycle.specs.declared.kind.BodyKind.{BodyKind}
@@ -142,6 +142,14 @@ class-outcome s grows fits well =
     ∙ sym (class_from-restricted w.head cs m)
     ∙ ap (λ (b : Bool). cond b (class_outcome p.frames (after_all w.head cs p)) (barred o.frames)) well in
     whole ∙ sym (λ i. record { verdict = verdict ((own i).ending ∷ first_ending (ended i).endings ∷ []); output = (own i).lines ++ (ended i).lines })
+
+-- how its `after_all` ends
+pub closing-is : (s : Subject) → Grows s → IsOfClass s → (opening_of (enclosing s)).well ≡ true
+    → first_ending (done_whole AfterAll s).endings ≡ closing_ending (classes_of s) (opening_of s)
+closing-is s grows fits well =
+    let w = in-class s grows fits in
+    let there = opening-is s w well in
+    ap (λ (b : Body). first_ending b.endings) (closes s w well) ∙ sym (λ i. closing_ending (w.chain i) (there i))
 
 -- what an opened class's frame is
 pub own-is : (s : Subject) (w : InClass s) → (opening_of (enclosing s)).well ≡ true → own_frame s ≡ first_frame (opened_there s w).frames

@@ -11,4 +11,5 @@ pub mod JobLemmas
 pub mod Putting
 pub mod RunLemmas
 pub mod Sharing
+pub mod WholeBodies
 pub mod WorkLemmas

@@ -1,8 +1,8 @@
 -- What a body is for, and where it stands.
-use Rattle.std.specs.Prelude.{◌≡◌, ℕ, List, true}
+use Rattle.std.specs.Prelude.{◌≡◌, ℕ}
+use Rattle.iso_model.specs.Agreement.{EqualAt}
 use Rattle.iso_model.specs.Bodies.{Stage}
 use Rattle.iso_model.specs.Resources.{Resources}
-use Rattle.iso_model.specs.Rights.{Rights, is_readable}
 use Rattle.iso_lifecycle.specs.BodyRuns.{rights_of, stage_of}
 use Rattle.iso_lifecycle.specs.OriginViews.{kind_of_origin, subject_of_origin}
 use Rattle.iso_lifecycle.specs.Origins.{HasCome, HasLeft, HasRights, outer_names}
@@ -28,10 +28,6 @@ pub record IsBeginning (o : Origin) (b : Beginning) : Type 0 where
   pub stage : stage_of b.run ≡ (begun (kind_of_origin o) (subject_of_origin o)).stage
   pub come : HasCome (kind_of_origin o) (subject_of_origin o) (stage_of b.run)
   pub left : HasLeft (kind_of_origin o) (subject_of_origin o) (stage_of b.run) b.frame
-
--- contents that are equal at the keys that rights let be looked at
-pub record EqualAt (r : Rights) (m n : Resources) : Type 0 where
-  pub at : (k : List ℕ) → is_readable (r k) ≡ true → m k ≡ n k
 
 -- A body, and the resources at the keys of its rights, stand where so many steps of it alone have left them.
 pub record Stands (b : Body) (m : Resources) : Type 0 where

@@ -1,11 +1,16 @@
 -- What an ended body came to, and what the definitions say of that.
-use Rattle.std.specs.Prelude.{◌≡◌, ◌<◌, [], ◌∷◌, ◌++◌, length, true}
+use Rattle.std.specs.Prelude.{◌≡◌, ◌<◌, List, [], ◌∷◌, ◌++◌, length, true}
+use Rattle.iso_model.specs.Alone.{after_all}
+use Rattle.iso_model.specs.Chains.{ClassHead}
+use Rattle.iso_model.specs.Openings.{Opening}
 use Rattle.iso_model.specs.Statements.{is_well}
 use Rattle.iso_model.specs.Verdicts.{verdict}
+use Rattle.iso_model.specs.declared.outcome.Ending.{Ending}
+use Rattle.iso_model.specs.declared.outcome.Ending.TheVariants.{Well}
 use Rattle.iso_model.specs.declared.outcome.Outcome.{Outcome}
 use Rattle.iso_plan.specs.Paths.{row_at}
 use Rattle.iso_plan.specs.RowView.{tree_of}
-use Rattle.iso_lifecycle.specs.Subjects.{Subject, enclosing, is_kind_of, opening_of, outcome_alone, own_frame, started}
+use Rattle.iso_lifecycle.specs.Subjects.{Subject, classes_of, enclosing, is_kind_of, opening_of, outcome_alone, own_frame, started}
 use Rattle.iso_lifecycle.specs.declared.done.Closed as Closings
 use Rattle.iso_lifecycle.specs.declared.done.Opened as Openings
 use Rattle.iso_lifecycle.specs.declared.done.What.{What}
@@ -31,8 +36,14 @@ pub record IsOpening (s : Subject) (o : Openings.Opened) : Type 0 where
   pub frames : (opening_of s).frames ≡ own_frame s ∷ (opening_of (enclosing s)).frames
   pub well : (opening_of s).well ≡ is_well o.ending
 
--- a class's outcome is that of its `before_all` and this `after_all`
+-- how the `after_all` of the innermost class of a chain ends, on what the opening of the chain left, whatever its own `before_all` came to
+abbrev pub closing_ending : List ClassHead → Opening → Ending
+closing_ending [] o = Well
+closing_ending (c ∷ cs) o = (after_all c cs o).here.ending
+
+-- an `after_all` ended as it does in the class run alone, and the class's outcome is that of its `before_all` and this `after_all`
 pub record IsClosing (s : Subject) (c : Closings.Closed) : Type 0 where
+  pub ending_is : c.ending ≡ closing_ending (classes_of s) (opening_of s)
   pub outcome : outcome_of s ≡ record { verdict = verdict ((own_frame s).ending ∷ c.ending ∷ []); output = (own_frame s).lines ++ c.lines }
 
 -- the body came to what the definitions say

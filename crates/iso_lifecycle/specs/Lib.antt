@@ -11,4 +11,5 @@ pub mod Origins
 pub mod ResultExamples
 pub mod ResultViews
 pub mod Subjects
+pub mod WholeBodies
 pub mod Works

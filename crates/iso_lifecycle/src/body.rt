@@ -1,18 +1,18 @@
 //! The body of a node, one step at a time.
-ghost use Rattle.std.specs.Prelude.{◌≡◌, ◌<◌, IfOk, OnOk, length, map, true, false};
+ghost use Rattle.std.specs.Prelude.{◌≡◌, IfOk, OnErr, OnOk, true, false};
 ghost use Rattle.iso_model.specs.Bodies.{body_step, going, is_ended};
 ghost use Rattle.iso_model.specs.Touch.{HasKeys};
 ghost use Rattle.iso_lifecycle.specs.BodyRuns.{rights_of, stage_of};
 ghost use Rattle.iso_lifecycle.specs.OriginViews.{AreFrames, kind_of_origin, subject_of_origin};
 ghost use Rattle.iso_lifecycle.specs.Origins.{HasCome, HasCome-prop, HasLeft, HasLeft-prop, HasRights, HasRights-prop, outer_names};
-ghost use Rattle.iso_lifecycle.specs.Subjects.{begun, enclosing, framed, is_kind_of, opening_of, rights_of_subject, subject};
-ghost use Rattle.iso_plan.specs.Paths.{row_at};
-ghost use Rattle.iso_plan.specs.RowView.{tree_of};
+ghost use Rattle.iso_lifecycle.specs.Subjects.{begun, rights_of_subject, subject};
+ghost use Rattle.iso_lifecycle.specs.WholeBodies.{CanBegin, IsAfterBody};
 
 use crate::blocks::head;
 use crate::body_run::BodyRun;
 use crate::done::{Closed, Done, Opened, What};
 use crate::frame::{Frame, are_of_classes};
+use crate::gate::Gate;
 use crate::kind::BodyKind;
 use crate::names::{add_variables, statics_of, test_names};
 use crate::origin::Origin;
@@ -63,11 +63,7 @@ impl<'a> Body<'a> {
         frames: &[Frame],
         start: Snapshot<World>,
     ) -> Result<Body<'a>, AllocError>
-        requires node { 0 < node }
-        requires within { node < length plan.now.rows }
-        requires fits { is_kind_of kind (row_at (tree_of plan.now) node).kind ≡ true }
-        requires frames { frames.now ≡ map (subject plan.now start.value) (framed kind (subject plan.now start.value node)) }
-        requires well { (opening_of (enclosing (subject plan.now start.value node))).well ≡ true }
+        requires { CanBegin (subject plan.now start.value node) kind frames.now }
         ensures subject { IfOk result (λ b. subject_of b ≡ subject plan.now start.value node) }
         ensures kind { IfOk result (λ b. kind_of_body b ≡ kind) }
         ensures begun { IfOk result (λ b. stage_of_body b ≡ (begun kind (subject plan.now start.value node)).stage) }
@@ -202,6 +198,7 @@ impl<'a> Body<'a> {
         ensures step { OnOk result (going (stage_of_body self.new) (T.content touch.new)
             ≡ body_step (rights_of_subject (subject_of self.old)) (going (stage_of_body self.old) (T.content touch.old))) }
         ensures stands { OnOk result (Stands self.new (T.content touch.new)) }
+        ensures stopped { OnErr result (is_ended (stage_of_body self.new) ≡ false) }
         ensures keys { OnOk result (HasKeys (rights_of_subject (subject_of self.old)) (T.content touch.new) (T.writes touch.new)) }
         ensures subject { subject_of self.new ≡ subject_of self.old }
         ensures kind { kind_of_body self.new ≡ kind_of_body self.old }
@@ -221,6 +218,29 @@ impl<'a> Body<'a> {
                 Err(error)
             }
         }
+    }
+
+    /// Does all steps that are left, and answers what the body came to. After each step the worker meets the gate; whoever began the body
+    /// lets it meet the gate before the first.
+    pub fn run<T: Touch, G: Gate>(
+        self,
+        worker: u32,
+        gate: &G,
+        touch: &mut T,
+    ) -> Result<Done, AllocError>
+        requires keys { HasKeys (rights_of_subject (subject_of self)) (T.content touch.old) (T.writes touch.old) }
+        requires stands { Stands self (T.content touch.old) }
+        ensures subject { IfOk result (λ d. d.subject ≡ subject_of self.entry) }
+        ensures kind { IfOk result (λ d. d.kind ≡ kind_of_body self.entry) }
+        ensures goes_on { T.goes_on touch.old touch.new }
+        ensures values { OnOk result (IsAfterBody (subject_of self.entry) (kind_of_body self.entry) (T.content touch.old) (T.content touch.new)) }
+    {
+        let mut body = self;
+        'steps: while !body.is_ended() {
+            body.step(touch)?;
+            gate.at_body(worker, body.origin.node);
+        }
+        Ok(body.into_done())
     }
 
     /// Whether nothing is left to do.

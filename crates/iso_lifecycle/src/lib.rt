@@ -7,6 +7,7 @@ pub mod body_run;
 pub mod done;
 mod entry;
 pub mod frame;
+pub mod gate;
 mod job;
 pub mod kind;
 mod names;

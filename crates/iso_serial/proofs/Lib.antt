@@ -1,4 +1,3 @@
-pub mod BodyLemmas
 pub mod LeaveLemmas
 pub mod NodeLemmas
 pub mod OpeningLemmas

@@ -1,19 +1,20 @@
 -- From one stage of a node to the next: its bodies' ends are put, and frames come and go.
 use Rattle.std.proofs.Common.{◌≡◌, ℕ, ◌+◌, ◌-◌, ◌<◌, List, [], ◌∷◌, ◌++◌, length, map, reverse, take, set, slice_index_or, Option, Some, None, Bool, true, false, ◌||◌, ◌&&◌, not, Result, Ok, Err, OnOk, refl, sym, ap, ap₂, ◌∙◌, subst, arith}
 use Rattle.std.proofs.lemmas.List.{length-append, map-append, reverse-append}
-use Rattle.iso_lifecycle.specs.BodyViews.{EqualAt}
 use Rattle.iso_lifecycle.specs.ResultViews.{AreOpen, CanPut, ResultsView, has_result, is_barred, is_ended, with_done_of}
-use Rattle.iso_lifecycle.specs.Subjects.{Subject, begun, begun_closing, begun_opening, begun_testing, classes_of, enclosing, opening_of, rights_of_subject, started, subject}
+use Rattle.iso_lifecycle.specs.Subjects.{Subject, begun, begun_closing, begun_opening, begun_testing, classes_of, enclosing, is_kind_of, opening_of, rights_of_subject, started, subject}
+use Rattle.iso_lifecycle.specs.WholeBodies.{CanBegin, IsReadyFor}
 use Rattle.iso_lifecycle.specs.declared.kind.BodyKind.{BodyKind}
 use Rattle.iso_lifecycle.specs.declared.kind.BodyKind.TheVariants.{BeforeAll, Test, AfterAll}
-use Rattle.iso_locks.specs.Trays.{TrayView, content}
+use Rattle.iso_locks.specs.Trays.{TrayView, content, has_value}
+use Rattle.iso_model.specs.Agreement.{EqualAt}
 use Rattle.iso_model.specs.Chains.{ClassHead, TestHead}
 use Rattle.iso_model.specs.Openings.{Opening, opening}
 use Rattle.iso_model.specs.Resources.{Resources}
 use Rattle.iso_model.specs.Rights.{Rights}
 use Rattle.iso_plan.proofs.PathLemmas.{chain-step, path-step, under-self}
 use Rattle.iso_plan.specs.NodeChains.{chain_classes, chain_test, class_heads}
-use Rattle.iso_plan.specs.Paths.{IsTree, children, is_test, parent, path, row_at}
+use Rattle.iso_plan.specs.Paths.{IsTree, children, is_class_or_test, is_test, parent, path, row_at}
 use Rattle.iso_plan.specs.Planned.{Planned}
 use Rattle.iso_plan.specs.RowView.{tree_of}
 use Rattle.iso_plan.specs.Tree as T
@@ -21,8 +22,8 @@ use Rattle.iso_plan.specs.Tree.{root, class_node, test_node, Row}
 use Rattle.iso_settings.specs.Worlds.{Start}
 use Rattle.iso_serial.proofs.OpeningLemmas.{opened-by}
 use Rattle.iso_serial.proofs.ResultLemmas.{open-above, put-closed, put-opened, put-test, result-more, set-more, set-there, unopened}
-use Rattle.iso_serial.proofs.TrayLemmas.{closed-apart, onward-holds, opened-values, test-apart, tray-equal}
-use Rattle.iso_serial.specs.Standing.{AreDone, GoesFurther, HoldsAlong, IsAsOpened, IsDone, IsLentAlong, IsUnderWay, Stands, StandsAtEnd, StandsAtEntry}
+use Rattle.iso_serial.proofs.TrayLemmas.{closed-apart, onward-holds, opened-values, test-apart, tray-equal, tray-keys}
+use Rattle.iso_serial.specs.Standing.{AreDone, GoesFurther, HoldsAlong, IsAsOpened, IsLentAlong, IsTrayAfter, IsUnderWay, Stands, StandsAtEnd, StandsAtEntry}
 use Rattle.iso_serial.specs.declared.run.Standing.{Standing}
 
 pub on-both : {A E : Type 0} {P Q R : Type 0} (r : Result A E) → OnOk r P → OnOk r Q → (P → Q → R) → OnOk r R
@@ -59,7 +60,7 @@ no-heads (class_node isolated head) e = absurd (cc)
 no-heads (test_node head) e = refl
 
 equal-to : (r : Rights) (m x y : Resources) → EqualAt r m x → y ≡ x → EqualAt r m y
-equal-to r m x y e same = record { at = λ k readable. e.at k readable ∙ ap (λ (z : Resources). z k) (sym same) }
+equal-to r m x y e same = record { same = λ k readable. e.same k readable ∙ ap (λ (z : Resources). z k) (sym same) }
 
 or-first : (a b : Bool) → a ≡ true → (a || b) ≡ true
 or-first a b e = ap (λ (x : Bool). x || b) e
@@ -67,6 +68,17 @@ or-first a b e = ap (λ (x : Bool). x || b) e
 neither : (a b : Bool) → (a || b) ≡ false → (a ≡ false) × (b ≡ false)
 neither true b e = absurd (cc)
 neither false b e = (refl, e)
+
+-- which bodies a test and a class have
+test-fits : (kind : T.Kind) → is_test kind ≡ true → is_kind_of Test kind ≡ true
+test-fits root e = absurd (cc)
+test-fits (class_node isolated head) e = absurd (cc)
+test-fits (test_node head) e = refl
+
+class-fits : (kind : T.Kind) → is_test kind ≡ false → is_class_or_test kind ≡ true → (is_kind_of BeforeAll kind ≡ true) × (is_kind_of AfterAll kind ≡ true)
+class-fits root e c = absurd (cc)
+class-fits (class_node isolated head) e c = (refl, refl)
+class-fits (test_node head) e c = absurd (cc)
 
 module _ (plan : Planned) (world : Start) where
   abbrev tr : List Row
@@ -85,7 +97,7 @@ module _ (plan : Planned) (world : Start) where
   inside-tree n h = h
 
   -- the bodies begin where the tray stands
-  pub test-begins : (n : ℕ) (u : TrayView) → IsTree tr → 0 < n → n < length plan.rows → is_test (row_at tr n).kind ≡ true → HoldsAlong plan world n u → IsAsOpened plan world (parent tr n) u
+  test-begins : (n : ℕ) (u : TrayView) → IsTree tr → 0 < n → n < length plan.rows → is_test (row_at tr n).kind ≡ true → HoldsAlong plan world n u → IsAsOpened plan world (parent tr n) u
       → EqualAt (rights_of_subject (subject plan world n)) (content u) (begun Test (subject plan world n)).resources
   test-begins n u t pos within e h v =
       let s = subject plan world n in
@@ -93,19 +105,59 @@ module _ (plan : Planned) (world : Start) where
       equal-to (rights_of_subject s) (content u) (opening_of (subject plan world (parent tr n))).resources (begun Test s).resources (tray-equal plan world t u n (parent tr n) pos (inside-tree n within) h v)
       (testing-resources (chain_test tr n) (classes_of s) (opening_of s) ∙ ap (λ (hs : List ClassHead). (opening hs (started world)).resources) above)
 
-  pub opening-begins : (n : ℕ) (u : TrayView) → IsTree tr → 0 < n → n < length plan.rows → HoldsAlong plan world n u → IsAsOpened plan world (parent tr n) u
+  opening-begins : (n : ℕ) (u : TrayView) → IsTree tr → 0 < n → n < length plan.rows → HoldsAlong plan world n u → IsAsOpened plan world (parent tr n) u
       → EqualAt (rights_of_subject (subject plan world n)) (content u) (begun BeforeAll (subject plan world n)).resources
   opening-begins n u t pos within h v =
       let s = subject plan world n in
       equal-to (rights_of_subject s) (content u) (opening_of (enclosing s)).resources (begun BeforeAll s).resources (tray-equal plan world t u n (parent tr n) pos (inside-tree n within) h v)
       (opening-resources (classes_of s) (opening_of (enclosing s)))
 
-  pub closing-begins : (n : ℕ) (u : TrayView) → IsTree tr → 0 < n → n < length plan.rows → HoldsAlong plan world n u → IsAsOpened plan world n u
+  closing-begins : (n : ℕ) (u : TrayView) → IsTree tr → 0 < n → n < length plan.rows → HoldsAlong plan world n u → IsAsOpened plan world n u
       → EqualAt (rights_of_subject (subject plan world n)) (content u) (begun AfterAll (subject plan world n)).resources
   closing-begins n u t pos within h v =
       let s = subject plan world n in
       equal-to (rights_of_subject s) (content u) (opening_of s).resources (begun AfterAll s).resources (tray-equal plan world t u n n pos (inside-tree n within) h v)
       (closing-resources (classes_of s) (opening_of s))
+
+  -- and may begin
+  pub test-can : (n : ℕ) (s : Standing) → StandsAtEntry plan world n s → is_test (row_at tr n).kind ≡ true → CanBegin (subject plan world n) Test s.frames.items
+  test-can n s at e = record { inner = at.positive; within = at.within; fits = test-fits (row_at tr n).kind e; frames = at.frames; well = at.well }
+
+  pub opening-can : (n : ℕ) (s : Standing) → StandsAtEntry plan world n s → is_test (row_at tr n).kind ≡ false → CanBegin (subject plan world n) BeforeAll s.frames.items
+  opening-can n s at e = record {
+    inner = at.positive;
+    within = at.within;
+    fits = (class-fits (row_at tr n).kind e (at.tree.full n at.positive (inside-tree n at.within))).0;
+    frames = at.frames;
+    well = at.well;
+  }
+
+  pub closing-can : (n : ℕ) (s : Standing) → Stands plan world n s → 0 < n → is_test (row_at tr n).kind ≡ false → CanBegin (subject plan world n) AfterAll s.frames.items
+  closing-can n s at pos e = record {
+    inner = pos;
+    within = at.entered.within;
+    fits = (class-fits (row_at tr n).kind e (at.entered.tree.full n pos (inside-tree n at.entered.within))).1;
+    frames = at.frames;
+    well = at.entered.well;
+  }
+
+  pub test-ready : (n : ℕ) (s : Standing) → StandsAtEntry plan world n s → is_test (row_at tr n).kind ≡ true → IsReadyFor (subject plan world n) Test (content s.tray) (has_value s.tray)
+  test-ready n s at e = record {
+    keys = tray-keys plan world at.tree s.tray n (parent tr n) at.positive (inside-tree n at.within) at.tray at.values;
+    stands = test-begins n s.tray at.tree at.positive at.within e at.tray at.values;
+  }
+
+  pub opening-ready : (n : ℕ) (s : Standing) → StandsAtEntry plan world n s → IsReadyFor (subject plan world n) BeforeAll (content s.tray) (has_value s.tray)
+  opening-ready n s at = record {
+    keys = tray-keys plan world at.tree s.tray n (parent tr n) at.positive (inside-tree n at.within) at.tray at.values;
+    stands = opening-begins n s.tray at.tree at.positive at.within at.tray at.values;
+  }
+
+  pub closing-ready : (n : ℕ) (s : Standing) → Stands plan world n s → 0 < n → IsReadyFor (subject plan world n) AfterAll (content s.tray) (has_value s.tray)
+  closing-ready n s at pos = record {
+    keys = tray-keys plan world at.entered.tree s.tray n n pos (inside-tree n at.entered.within) at.tray at.values;
+    stands = closing-begins n s.tray at.entered.tree pos at.entered.within at.tray at.values;
+  }
 
   above-at : (n : ℕ) (v : ResultsView) → IsTree tr → IsUnderWay plan world (parent tr n) v → has_result v n ≡ false → AreOpen v (path (tree_of v.plan) (parent (tree_of v.plan) n))
   above-at n v t u w =
@@ -144,11 +196,11 @@ module _ (plan : Planned) (world : Start) where
   ended-grows : (n : ℕ) (v w : ResultsView) → w ≡ record v { ended = set v.ended n true } → (m : ℕ) → has_result v m ≡ true → has_result w m ≡ true
   ended-grows n v w e m h = ap (λ (x : ResultsView). has_result x m) e ∙ result-more v v.opened (set v.ended n true) (λ _ x. x) (set-more v.ended n) m h
 
-  pub ended-further : (n : ℕ) (old new : Standing) (k : BodyKind) → new.results ≡ record old.results { ended = set old.results.ended n true } → IsDone plan world k n old.tray new.tray → GoesFurther old new
+  pub ended-further : (n : ℕ) (old new : Standing) (k : BodyKind) → new.results ≡ record old.results { ended = set old.results.ended n true } → IsTrayAfter plan world k n old.tray new.tray → GoesFurther old new
   ended-further n old new k e d = record { tray = d.onward.values; results = ended-grows n old.results new.results e }
 
   pub test-end : (n : ℕ) (old new : Standing) → StandsAtEntry plan world n old → is_test (row_at tr n).kind ≡ true → new.vault ≡ old.vault → new.frames ≡ old.frames
-      → new.results ≡ with_done_of Test n old.results → IsDone plan world Test n old.tray new.tray → StandsAtEnd plan world n new
+      → new.results ≡ with_done_of Test n old.results → IsTrayAfter plan world Test n old.tray new.tray → StandsAtEnd plan world n new
   test-end n old new s test ve fe re d =
       let t = s.tree in
       let v = old.results in
@@ -174,7 +226,7 @@ module _ (plan : Planned) (world : Start) where
       ∙ map-append (subject plan world) (reverse (path tr (parent tr n))) (n ∷ [])
 
   pub opened-end : (n : ℕ) (old new : Standing) → StandsAtEntry plan world n old → is_test (row_at tr n).kind ≡ false → new.vault ≡ old.vault → new.frames.items ≡ old.frames.items ++ subject plan world n ∷ []
-      → new.results ≡ with_done_of BeforeAll n old.results → IsDone plan world BeforeAll n old.tray new.tray → Stands plan world n new
+      → new.results ≡ with_done_of BeforeAll n old.results → IsTrayAfter plan world BeforeAll n old.tray new.tray → Stands plan world n new
   opened-end n old new s class ve fe re d =
       let t = s.tree in
       let v = old.results in
@@ -191,7 +243,7 @@ module _ (plan : Planned) (world : Start) where
             (put-opened plan world v (tree-at v u.plan_is t) (parent tr n) n (parent-at v n u.plan_is) s.positive (within-at v n u.plan_is s.within) u s.waits);
       }
 
-  pub opened-further : (n : ℕ) (old new : Standing) → new.results ≡ with_done_of BeforeAll n old.results → IsDone plan world BeforeAll n old.tray new.tray → GoesFurther old new
+  pub opened-further : (n : ℕ) (old new : Standing) → new.results ≡ with_done_of BeforeAll n old.results → IsTrayAfter plan world BeforeAll n old.tray new.tray → GoesFurther old new
   opened-further n old new re d =
       let v = old.results in
       record {
@@ -201,7 +253,7 @@ module _ (plan : Planned) (world : Start) where
 
   pub closed-end : (n : ℕ) (old new : Standing) → Stands plan world n old → 0 < n → is_test (row_at tr n).kind ≡ false → AreDone plan n old.results → new.vault ≡ old.vault
       → new.frames.items ≡ map (subject plan world) (reverse (path tr (parent tr n)))
-      → new.results ≡ with_done_of AfterAll n old.results → IsDone plan world AfterAll n old.tray new.tray → StandsAtEnd plan world n new
+      → new.results ≡ with_done_of AfterAll n old.results → IsTrayAfter plan world AfterAll n old.tray new.tray → StandsAtEnd plan world n new
   closed-end n old new s pos class all ve fe re d =
       let e = s.entered in
       let t = e.tree in

@@ -3,7 +3,6 @@ use Rattle.std.proofs.Common.{◌≡◌, ◌≢◌, ℕ, zero, suc, ◌<◌, ◌
 use Rattle.std.proofs.lemmas.Bool.{cases_eq, cases_lt}
 use Rattle.std.proofs.lemmas.List.{get_or-set_other, get_or-set_same, get_or_past, length-set}
 use Rattle.std.specs.Option.{option_or}
-use Rattle.iso_lifecycle.specs.BodyViews.{EqualAt}
 use Rattle.iso_lifecycle.specs.Subjects.{opening_of, rights_of_subject, subject}
 use Rattle.iso_lifecycle.specs.declared.kind.BodyKind.TheVariants.{BeforeAll, Test, AfterAll}
 use Rattle.iso_locks.proofs.NumberLemmas.{number-spells, number-within}
@@ -12,6 +11,7 @@ use Rattle.iso_locks.specs.Moves.{is_written}
 use Rattle.iso_locks.specs.Slots.{slot}
 use Rattle.iso_locks.specs.Trays.{IsOnward, TrayView, content, has_at, has_value, is_lent, is_open, key_at, number_of, resources, seen, seen_at}
 use Rattle.iso_locks.specs.Vaults.{CanLend, IsLentTo, VaultView, busy, is_in_the_way, lending, lowest, regaining, value_in}
+use Rattle.iso_model.specs.Agreement.{EqualAt}
 use Rattle.iso_model.specs.Resources.{Resources}
 use Rattle.iso_model.specs.Rights.{is_readable, is_writable}
 use Rattle.iso_model.specs.Touch.{HasKeys, kind_of_value}
@@ -30,7 +30,7 @@ use Rattle.iso_store.specs.Histories.{History}
 use Rattle.iso_locks.proofs.KeyLemmas.{has-number, open-of, or-true, readable-of, written-conflict, written-is, written-within}
 use Rattle.iso_serial.proofs.OpeningLemmas.{IsOpened, opened-apart, opened-whole, opening-kind, opening-start}
 use Rattle.iso_serial.proofs.ResultLemmas.{above-parent, not-above, root-or-not, true-or-false}
-use Rattle.iso_serial.specs.Standing.{AreLentAlong, HoldsAlong, IsAsOpened, IsAsOpenedApart, IsDone, IsLentAlong, IsWrittenOn, held}
+use Rattle.iso_serial.specs.Standing.{AreLentAlong, HoldsAlong, IsAsOpened, IsAsOpenedApart, IsLentAlong, IsTrayAfter, IsWrittenOn, held}
 
 pub record IsHeld (o : Option History) : Type 0 where
   pub value : History
@@ -208,12 +208,12 @@ module _ (plan : Planned) (world : Start) (t : IsTree (tree_of plan)) where
   -- a body of n finds its keys, as the opening of p has left them
   pub tray-equal : (u : TrayView) (n p : ℕ) → 0 < n → n < length tr → HoldsAlong plan world n u → IsAsOpened plan world p u → EqualAt (rights_of_subject (subject plan world n)) (content u) (left p)
   tray-equal u n p pos within h v = record {
-    at = λ k r. ap (λ (m : Resources). m k) (content-is u n h) ∙ v k (covered-held u n k pos within h r);
+    same = λ k r. ap (λ (m : Resources). m k) (content-is u n h) ∙ v k (covered-held u n k pos within h r);
   }
 
   pub tray-keys : (u : TrayView) (n p : ℕ) → 0 < n → n < length tr → HoldsAlong plan world n u → IsAsOpened plan world p u → HasKeys (rights_of_subject (subject plan world n)) (content u) (has_value u)
   tray-keys u n p pos within h v = record {
-    looks = λ k r. ap (option_map kind_of_value) ((tray-equal u n p pos within h v).at k r) ∙ opening-kind plan world p k;
+    looks = λ k r. ap (option_map kind_of_value) ((tray-equal u n p pos within h v).same k r) ∙ opening-kind plan world p k;
     changes = λ k w.
         let c = covered tr t n k pos within (readable-of (node_rights tr n k) w) in
         let num = has-number tr c.taker k c.reads in
@@ -345,25 +345,25 @@ module _ (plan : Planned) (world : Start) (t : IsTree (tree_of plan)) where
   still-held u w n p k hu hw e = sym (ap (λ (m : Resources). m k) (content-is w n hw)) ∙ e ∙ ap (λ (m : Resources). m k) (content-is u n hu)
 
   -- after a `before_all` all stands as the class's opening leaves it
-  pub opened-values : (u w : TrayView) (n : ℕ) → HoldsAlong plan world n u → HoldsAlong plan world n w → IsOpened plan world n → IsAsOpened plan world (parent tr n) u → IsDone plan world BeforeAll n u w → IsAsOpened plan world n w
+  pub opened-values : (u w : TrayView) (n : ℕ) → HoldsAlong plan world n u → HoldsAlong plan world n w → IsOpened plan world n → IsAsOpened plan world (parent tr n) u → IsTrayAfter plan world BeforeAll n u w → IsAsOpened plan world n w
   opened-values u w n hu hw is v d k s = elim (true-or-false (is_readable (node_rights tr n k))) [
-    | inl r ↦ sym (ap (λ (m : Resources). m k) (content-is w n hw)) ∙ d.whole.at k r ∙ ap (λ (m : Resources). m k) (opened-whole plan world n is)
+    | inl r ↦ sym (ap (λ (m : Resources). m k) (content-is w n hw)) ∙ d.after.whole.same k r ∙ ap (λ (m : Resources). m k) (opened-whole plan world n is)
     | inr unread ↦
         let locked : is_writable (node_rights tr n k) ≡ false = elim (true-or-false (is_writable (node_rights tr n k))) [
           | inl may ↦ let wrong : false ≡ true = sym unread ∙ readable-of (node_rights tr n k) may in absurd (cc)
           | inr lock ↦ lock
         ] in
-        let same = still-held u w n n k hu hw (d.others k locked) in
+        let same = still-held u w n n k hu hw (d.after.others k locked) in
         same ∙ v k (ap is_some (sym same) ∙ s) ∙ sym (opened-apart plan world n k is locked)
   ]
 
   -- after a test, and after an `after_all`, so does each key that the node may not change
-  pub test-apart : (u w : TrayView) (n : ℕ) → HoldsAlong plan world n u → HoldsAlong plan world n w → IsAsOpened plan world (parent tr n) u → IsDone plan world Test n u w → IsAsOpenedApart plan world (parent tr n) n w
+  pub test-apart : (u w : TrayView) (n : ℕ) → HoldsAlong plan world n u → HoldsAlong plan world n w → IsAsOpened plan world (parent tr n) u → IsTrayAfter plan world Test n u w → IsAsOpenedApart plan world (parent tr n) n w
   test-apart u w n hu hw v d k locked s =
-      let same = still-held u w n n k hu hw (d.others k locked) in
+      let same = still-held u w n n k hu hw (d.after.others k locked) in
       same ∙ v k (ap is_some (sym same) ∙ s)
 
-  pub closed-apart : (u w : TrayView) (n : ℕ) → HoldsAlong plan world n u → HoldsAlong plan world n w → IsOpened plan world n → IsAsOpened plan world n u → IsDone plan world AfterAll n u w → IsAsOpenedApart plan world (parent tr n) n w
+  pub closed-apart : (u w : TrayView) (n : ℕ) → HoldsAlong plan world n u → HoldsAlong plan world n w → IsOpened plan world n → IsAsOpened plan world n u → IsTrayAfter plan world AfterAll n u w → IsAsOpenedApart plan world (parent tr n) n w
   closed-apart u w n hu hw is v d k locked s =
-      let same = still-held u w n n k hu hw (d.others k locked) in
+      let same = still-held u w n n k hu hw (d.after.others k locked) in
       same ∙ v k (ap is_some (sym same) ∙ s) ∙ opened-apart plan world n k is locked

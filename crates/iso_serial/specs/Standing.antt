@@ -1,14 +1,13 @@
 -- How the values stand, and which results there are, between two nodes of a run depth first.
 use Rattle.std.specs.Prelude.{◌≡◌, ℕ, ◌<◌, List, Bool, true, false, length, map, reverse, is_some, slice_index_or}
 use Rattle.iso_lifecycle.specs.ResultViews.{AreOpen, ResultsView, has_result, is_ended, is_opened}
-use Rattle.iso_lifecycle.specs.BodyViews.{EqualAt}
-use Rattle.iso_lifecycle.specs.Subjects.{begun, opening_of, rights_of_subject, subject}
+use Rattle.iso_lifecycle.specs.Subjects.{opening_of, rights_of_subject, subject}
+use Rattle.iso_lifecycle.specs.WholeBodies.{IsAfterBody}
 use Rattle.iso_locks.specs.Moves.{is_written}
 use Rattle.iso_locks.specs.Slots.{slot}
 use Rattle.iso_locks.specs.Trays.{GoesOn, IsOnward, TrayView, content, is_lent, resources}
 use Rattle.iso_locks.specs.Vaults.{VaultView}
 use Rattle.iso_lifecycle.specs.declared.kind.BodyKind.{BodyKind}
-use Rattle.iso_model.specs.Bodies.{body_finished}
 use Rattle.iso_model.specs.Resources.{Resources}
 use Rattle.iso_model.specs.Rights.{is_writable}
 use Rattle.iso_plan.specs.Locks.{locks}
@@ -114,11 +113,10 @@ pub record GoesFurther (old new : Standing) : Type 0 where
   pub tray : GoesOn old.tray new.tray
   pub results : (m : ℕ) → has_result old.results m ≡ true → has_result new.results m ≡ true
 
--- a body of a node was done over a tray, to its end: it changed no key that the node may not change, and left the others as the whole body does
-pub record IsDone (plan : Planned) (world : Start) (kind : BodyKind) (n : ℕ) (old new : TrayView) : Type 0 where
+-- a tray before and after a whole body of a node: its values alone were changed, and stand as the body leaves them
+pub record IsTrayAfter (plan : Planned) (world : Start) (kind : BodyKind) (n : ℕ) (old new : TrayView) : Type 0 where
   pub onward : IsOnward old new
-  pub others : (k : List ℕ) → is_writable (rights_of_subject (subject plan world n) k) ≡ false → content new k ≡ content old k
-  pub whole : EqualAt (rights_of_subject (subject plan world n)) (content new) (body_finished (rights_of_subject (subject plan world n)) (begun kind (subject plan world n))).resources
+  pub after : IsAfterBody (subject plan world n) kind (content old) (content new)
 
 -- all that stands directly in p has results
 abbrev pub AreDone : Planned → ℕ → ResultsView → Type 0

@@ -1,16 +1,16 @@
 //! A plan run on one thread.
-ghost use Rattle.std.specs.Prelude.{◌≡◌, ◌<◌, IfOk, OnOk, false, length, map, true};
-ghost use Rattle.iso_lifecycle.specs.BodyViews.{EqualAt};
+ghost use Rattle.std.specs.Prelude.{◌≡◌, ◌<◌, IfOk, OnOk, false, length, true};
 ghost use Rattle.iso_lifecycle.specs.ResultViews.{AreComplete, CanPut, has_result, with_done_of};
-ghost use Rattle.iso_lifecycle.specs.Subjects.{begun, enclosing, framed, is_kind_of, opening_of, rights_of_subject, subject};
+ghost use Rattle.iso_lifecycle.specs.Subjects.{subject};
+ghost use Rattle.iso_lifecycle.specs.WholeBodies.{CanBegin, IsReadyFor};
 ghost use Rattle.iso_locks.specs.Trays.{content, has_value};
-ghost use Rattle.iso_model.specs.Touch.{HasKeys};
 ghost use Rattle.iso_plan.specs.Paths.{is_test, parent, row_at};
 ghost use Rattle.iso_plan.specs.RowView.{tree_of};
-ghost use Rattle.iso_serial.specs.Standing.{AreDone, GoesFurther, IsDone, Stands, StandsAtEnd, StandsAtEntry};
+ghost use Rattle.iso_serial.specs.Standing.{AreDone, GoesFurther, IsTrayAfter, Stands, StandsAtEnd, StandsAtEntry};
 
-use crate::body::run_body;
+use iso_lifecycle::body::Body;
 use iso_lifecycle::frame::Frame;
+use iso_lifecycle::gate::OpenGate;
 use iso_lifecycle::kind::BodyKind;
 use iso_lifecycle::results::Results;
 use iso_locks::tray::Tray;
@@ -39,6 +39,9 @@ pub fn run<'a>(alloc: Global, plan: &'a Plan, world: &'a World) -> Result<Result
     serial.children(&mut standing, 0)?;
     Ok(standing.results)
 }
+
+/// The number of the one worker.
+const WORKER: u32 = 0;
 
 /// What is run.
 #[derive(Clone, Copy)]
@@ -155,30 +158,18 @@ impl<'a> Serial<'a> {
         node: u32,
         kind: BodyKind,
     ) -> Result<(), AllocError>
-        requires node { 0 < node }
-        requires within { node < length self.now.plan.now.rows }
-        requires fits { is_kind_of kind (row_at (tree_of self.now.plan.now) node).kind ≡ true }
-        requires frames { standing.old.frames.items ≡ map (subject self.now.plan.now self.now.world.now) (framed kind (subject self.now.plan.now self.now.world.now node)) }
-        requires well { (opening_of (enclosing (subject self.now.plan.now self.now.world.now node))).well ≡ true }
-        requires keys { HasKeys (rights_of_subject (subject self.now.plan.now self.now.world.now node)) (content standing.old.tray) (has_value standing.old.tray) }
-        requires stands { EqualAt (rights_of_subject (subject self.now.plan.now self.now.world.now node)) (content standing.old.tray)
-            (begun kind (subject self.now.plan.now self.now.world.now node)).resources }
+        requires begins { CanBegin (subject self.now.plan.now self.now.world.now node) kind standing.old.frames.items }
+        requires ready { IsReadyFor (subject self.now.plan.now self.now.world.now node) kind (content standing.old.tray) (has_value standing.old.tray) }
         requires put { CanPut (record { subject = subject self.now.plan.now self.now.world.now node; kind = kind }) standing.old.results }
         ensures vault { standing.new.vault ≡ standing.old.vault }
         ensures frames { standing.new.frames ≡ standing.old.frames }
         ensures results { OnOk result (standing.new.results ≡ with_done_of kind node standing.old.results) }
-        ensures values { OnOk result (IsDone self.now.plan.now self.now.world.now kind node standing.old.tray standing.new.tray) }
+        ensures values { OnOk result (IsTrayAfter self.now.plan.now self.now.world.now kind node standing.old.tray standing.new.tray) }
     {
         let frames = standing.frames.as_slice();
-        let done = run_body(
-            self.alloc,
-            self.plan,
-            self.world,
-            node,
-            kind,
-            frames,
-            &mut standing.tray,
-        )?;
+        let start = Snapshot::of(self.world);
+        let body = Body::begin(self.alloc, self.plan, node, kind, frames, start)?;
+        let done = body.run(WORKER, &OpenGate, &mut standing.tray)?;
         standing.results.put(done);
         Ok(())
     }

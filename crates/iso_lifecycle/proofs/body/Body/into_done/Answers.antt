@@ -8,7 +8,7 @@ use Rattle.iso_lifecycle.specs.Origins.{HasCome, HasLeft, done_whole}
 use Rattle.iso_lifecycle.specs.Subjects.{IsOfClass, is_kind_of, own_frame}
 use Rattle.iso_lifecycle.specs.declared.kind.BodyKind.{BodyKind}
 use Rattle.iso_lifecycle.specs.declared.kind.BodyKind.TheVariants.{AfterAll, BeforeAll, Test}
-use Rattle.iso_lifecycle.proofs.Comings.{Grows, class-outcome, closes-class, ending-is, frames-are, lines-are, node_kind, test-outcome, well-is}
+use Rattle.iso_lifecycle.proofs.Comings.{Grows, class-outcome, closes-class, closing-is, ending-is, frames-are, lines-are, node_kind, test-outcome, well-is}
 use Rattle.iso_lifecycle.proofs.body.Body.into_done.Goals as goal
 
 pub done-requires-clause-end : goal.done-requires-clause-end
@@ -53,6 +53,7 @@ done-requires-in-AfterAll-clause-end c =
     let come : a ≡ account_of (done_whole AfterAll s) = subst (λ (k : BodyKind). HasCome k s (ended a)) c.in-AfterAll.is (subst (λ (g : Stage). HasCome o.kind s g) c.finish-end.ensures b.come) in
     let ending = c.first_ending-in-AfterAll.ensures ∙ ap (λ (x : Account). first_ending x.endings) come in
     record {
+      ending_is = ending ∙ closing-is s grows class o.enclosed;
       outcome = class-outcome s grows class o.enclosed
           ∙ sym (λ i. record { verdict = verdict ((own_frame s).ending ∷ ending i ∷ []); output = (own_frame s).lines ++ (come i).lines });
     }

@@ -48,7 +48,7 @@ returns-then-not-is_ended-clause-stands g c =
     let same : rights_of b.run ≡ rights_of_subject s = λ i q. b.rights q i in
     let stepped : going next k ≡ body_step (rights_of_subject s) (going now m) = c.in_ok-step.ensures.step ∙ (λ i. body_step (same i) (going now m)) in
     let alike : AlikeGoing (rights_of_subject s) (going next k) (reached kind s (suc n)) = steps-on kind s n now next m k c.requires.stands.stage c.requires.stands.resources stepped in
-    record { steps = suc n; stage = alike.stage; resources = record { at = alike.resources.same } }
+    record { steps = suc n; stage = alike.stage; resources = alike.resources }
 
 pub frame-requires-clause-come : goal.frame-requires-clause-come
 frame-requires-clause-come g c =
@@ -110,4 +110,4 @@ returns-in-Ok-clause-stands g c =
     let same : rights_of b.run ≡ rights_of_subject s = λ i q. b.rights q i in
     let stepped : going next k ≡ body_step (rights_of_subject s) (going now m) = c.in_ok-step.ensures.step ∙ (λ i. body_step (same i) (going now m)) in
     let alike : AlikeGoing (rights_of_subject s) (going next k) (reached kind s (suc n)) = steps-on kind s n now next m k c.requires.stands.stage c.requires.stands.resources stepped in
-    record { steps = suc n; stage = alike.stage; resources = record { at = alike.resources.same } }
+    record { steps = suc n; stage = alike.stage; resources = alike.resources }

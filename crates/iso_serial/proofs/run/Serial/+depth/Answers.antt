@@ -1,6 +1,5 @@
 use Rattle.std.proofs.Common.{◌≡◌, ℕ, ◌<◌, List, None, length, get_or, true, is_some, not, ap, sym, ◌∙◌, subst, arith, inl, inr}
 use Rattle.std.proofs.lemmas.Bool.{cases_eq}
-use Rattle.std.proofs.lemmas.List.{length-map}
 use Rattle.iso_lifecycle.specs.ResultViews.{has_result, outcome_in, outcome_of_view}
 use Rattle.iso_locks.specs.Vaults.{busy}
 use Rattle.iso_plan.specs.Paths.{children, parent}

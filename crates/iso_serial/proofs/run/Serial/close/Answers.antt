@@ -3,23 +3,17 @@ use Rattle.iso_lifecycle.specs.Subjects.{subject}
 use Rattle.iso_lifecycle.specs.declared.kind.BodyKind.TheVariants.{AfterAll}
 use Rattle.iso_plan.specs.Planned.{Planned}
 use Rattle.iso_settings.specs.Worlds.{Start}
-use Rattle.iso_serial.proofs.StepLemmas.{can-put-closed, closed-end, closing-begins, ended-further, frames-path, inside-tree, took-last}
-use Rattle.iso_serial.proofs.TrayLemmas.{tray-keys}
+use Rattle.iso_serial.proofs.StepLemmas.{can-put-closed, closed-end, closing-can, closing-ready, ended-further, frames-path, took-last}
 use Rattle.iso_plan.specs.Paths.{parent, path}
 use Rattle.iso_plan.specs.RowView.{tree_of}
 use Rattle.iso_serial.specs.declared.run.Standing.{Standing}
 use Rattle.iso_serial.proofs.run.Serial.close.Goals as goal
 
-pub perform-requires-clause-keys : goal.perform-requires-clause-keys
-perform-requires-clause-keys c =
-    let s = c.requires.stands in
-    let plan = c.args.self.now.plan.now in
-    tray-keys plan c.args.self.now.world.now s.entered.tree c.args.standing.now.tray c.args.node c.args.node c.requires.positive (inside-tree plan c.args.self.now.world.now c.args.node s.entered.within) s.tray s.values
+pub perform-requires-clause-begins : goal.perform-requires-clause-begins
+perform-requires-clause-begins c = closing-can c.args.self.now.plan.now c.args.self.now.world.now c.args.node c.args.standing.now c.requires.stands c.requires.positive c.requires.class
 
-pub perform-requires-clause-stands : goal.perform-requires-clause-stands
-perform-requires-clause-stands c =
-    let s = c.requires.stands in
-    closing-begins c.args.self.now.plan.now c.args.self.now.world.now c.args.node c.args.standing.now.tray s.entered.tree c.requires.positive s.entered.within s.tray s.values
+pub perform-requires-clause-ready : goal.perform-requires-clause-ready
+perform-requires-clause-ready c = closing-ready c.args.self.now.plan.now c.args.self.now.world.now c.args.node c.args.standing.now c.requires.stands c.requires.positive
 
 pub perform-requires-clause-put : goal.perform-requires-clause-put
 perform-requires-clause-put c =
