@@ -3,6 +3,7 @@ pub mod Conflicts
 pub mod Covers
 pub mod Examples
 pub mod Faults
+pub mod Gathered
 pub mod IsPlan
 pub mod KeyTable
 pub mod Locks

@@ -6,6 +6,7 @@ mod children;
 pub mod conflict;
 pub mod examples;
 pub mod fault;
+mod gathered;
 mod keys;
 pub mod laws;
 pub mod lock;

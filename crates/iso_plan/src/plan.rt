@@ -1,33 +1,25 @@
 //! The plan of a run.
-ghost use Rattle.std.specs.Prelude.{◌≡◌, ◌<◌, ◌≤◌, ◌+◌, [], IfErr, IfOk, None, Some, length, map, slice_index_or};
+ghost use Rattle.std.specs.Prelude.{◌≡◌, ◌<◌, [], IfErr, IfOk, None, length, map, slice_index_or};
 ghost use Rattle.std.specs.List.{All};
 ghost use Rattle.std.specs.Option.{option_map};
 ghost use Rattle.iso_model.specs.ChainView.{innermost_first};
 ghost use Rattle.iso_model.specs.Rights.{access_in};
 ghost use Rattle.iso_model.specs.ScriptView.{script_of, test_head_of};
-ghost use Rattle.iso_model.specs.declared.limits.TheConstants.{KEYS, NODES};
-ghost use Rattle.iso_plan.specs.Faults.{IsCrowded, IsRefusal, plan_fault};
+ghost use Rattle.iso_plan.specs.Faults.{IsRefusal, plan_fault};
 ghost use Rattle.iso_plan.specs.KeyTable.{keys};
 ghost use Rattle.iso_plan.specs.Locks.{locking_node, locks};
 ghost use Rattle.iso_plan.specs.Modes.{mode};
 ghost use Rattle.iso_plan.specs.NodeChains.{chain_classes, chain_test, depth, node_rights};
-ghost use Rattle.iso_plan.specs.Paths.{IsTree, children, column, is_test, parent_of, row_at};
-ghost use Rattle.iso_plan.specs.RowView.{row_of, tree_of};
+ghost use Rattle.iso_plan.specs.Paths.{IsTree, children, is_test, parent_of, row_at};
+ghost use Rattle.iso_plan.specs.RowView.{tree_of};
 ghost use Rattle.iso_plan.specs.Tree.{tree};
 
-use crate::chains::chains;
-use crate::children::children;
 use crate::fault::{PlanError, PlanFault};
-use crate::keys::{copied, number_keys};
+use crate::gathered::{chain_all, gather};
 use crate::lock::Lock;
-use crate::locking::{isolated, locking_nodes};
-use crate::locks::locks;
-use crate::modes::modes;
 use crate::names::has_double_class;
-use crate::rights::rights;
 use crate::row::{Kind, Row};
 use crate::tree::tree;
-use indexmap::IndexSet;
 use iso_model::chain::Chain;
 use iso_model::heads::ClassHead;
 use iso_model::limits::SCRIPTS;
@@ -35,7 +27,7 @@ use iso_model::rights::Rights;
 use iso_model::script::{Mode, Script};
 use iso_model::text::Text;
 use iso_settings::settings::Settings;
-use std::alloc::{AllocError, Global};
+use std::alloc::Global;
 use std::marker::Model;
 use std::sync::Arc;
 
@@ -76,29 +68,6 @@ impl Model for Plan {
         p.locking.items (map (λ l. l.items) p.locks.items) p.modes.items };
 }
 
-/// The children of the nodes of a plan, their class chains, and the rights that these give.
-#[derive(Drop)]
-struct Chained {
-    children: Vec<Vec<u32>>,
-    chains: Vec<Vec<Arc<ClassHead>>>,
-    rights: Vec<Rights>,
-}
-
-/// What the nodes of a plan lock.
-#[derive(Drop)]
-struct Locked {
-    locking: Vec<Option<u32>>,
-    locks: Vec<Vec<Lock>>,
-}
-
-/// The keys of a plan by number, with what its nodes lock of them, and their modes.
-#[derive(Drop)]
-struct Gathered {
-    keys: Vec<Text>,
-    locked: Locked,
-    modes: Vec<Mode>,
-}
-
 /// The plan of scripts under settings.
 ///
 /// More than 64 scripts are `TooManyScripts`; two top-level classes of one team and name `DoubleClass`; more
@@ -130,101 +99,6 @@ pub fn build(alloc: Global, scripts: &[Script], settings: &Settings) -> Result<P
         locks: gathered.locked.locks,
         modes: gathered.modes,
     })
-}
-
-/// The children, chains and rights of nodes.
-fn chain_all(alloc: Global, rows: &[Row]) -> Result<Chained, AllocError>
-    requires tree { IsTree (map row_of rows.now) }
-    requires fits { length rows.now ≤ NODES }
-    ensures children { IfOk result (λ l. map (λ c. c.items) l.children.items ≡ column (children (map row_of rows.now)) (length rows.now)) }
-    ensures chains { IfOk result (λ l. map (λ c. innermost_first c.items) l.chains.items ≡ column (chain_classes (map row_of rows.now)) (length rows.now)) }
-    ensures rights { IfOk result (λ l. map access_in l.rights.items ≡ column (node_rights (map row_of rows.now)) (length rows.now)) }
-{
-    let children = children(alloc, rows)?;
-    let chains = chains(alloc, rows)?;
-    let rights = rights(alloc, rows, &chains)?;
-    Ok(Chained {
-        children,
-        chains,
-        rights,
-    })
-}
-
-/// The keys, locks and modes of nodes. More than 255 different declared keys are `TooManyKeys`.
-fn gather(alloc: Global, rows: &[Row], settings: Settings) -> Result<Gathered, PlanError>
-    requires tree { IsTree (map row_of rows.now) }
-    requires fits { length rows.now ≤ NODES }
-    ensures keys { IfOk result (λ l. l.keys.items ≡ keys (map row_of rows.now)) }
-    ensures few { IfOk result (λ l. length l.keys.items ≤ KEYS + 1) }
-    ensures locking { IfOk result (λ l. l.locked.locking.items ≡ column (locking_node (map row_of rows.now)) (length rows.now)) }
-    ensures locks { IfOk result (λ l. map (λ v. v.items) l.locked.locks.items ≡ column (locks (map row_of rows.now)) (length rows.now)) }
-    ensures modes { IfOk result (λ l. l.modes.items ≡ column (mode (map row_of rows.now) settings) (length rows.now)) }
-    ensures crowded { IfErr result (IsCrowded (length (keys (map row_of rows.now)))) }
-{
-    let mut table = IndexSet::new(alloc);
-    gather_in(alloc, rows, settings, &mut table)
-}
-
-/// What is gathered of nodes by a table in which their keys are numbered. More than 255 different declared keys are `TooManyKeys`.
-fn gather_in<'a>(
-    alloc: Global,
-    rows: &'a [Row],
-    settings: Settings,
-    table: &mut IndexSet<&'a str>,
-) -> Result<Gathered, PlanError>
-    requires tree { IsTree (map row_of rows.now) }
-    requires fits { length rows.now ≤ NODES }
-    requires empty { table.old.keys ≡ [] }
-    ensures keys { IfOk result (λ l. l.keys.items ≡ keys (map row_of rows.now)) }
-    ensures few { IfOk result (λ l. length l.keys.items ≤ KEYS + 1) }
-    ensures locking { IfOk result (λ l. l.locked.locking.items ≡ column (locking_node (map row_of rows.now)) (length rows.now)) }
-    ensures locks { IfOk result (λ l. map (λ v. v.items) l.locked.locks.items ≡ column (locks (map row_of rows.now)) (length rows.now)) }
-    ensures modes { IfOk result (λ l. l.modes.items ≡ column (mode (map row_of rows.now) settings) (length rows.now)) }
-    ensures crowded { IfErr result (IsCrowded (length (keys (map row_of rows.now)))) }
-{
-    number_keys(table, rows)?;
-    Ok(gather_by(alloc, rows, settings, table)?)
-}
-
-/// What is gathered of nodes whose keys are numbered.
-fn gather_by(
-    alloc: Global,
-    rows: &[Row],
-    settings: Settings,
-    table: &IndexSet<&str>,
-) -> Result<Gathered, AllocError>
-    requires tree { IsTree (map row_of rows.now) }
-    requires fits { length rows.now ≤ NODES }
-    requires keys { map (λ k. k.now) table.now.keys ≡ keys (map row_of rows.now) }
-    requires few { length (keys (map row_of rows.now)) ≤ KEYS + 1 }
-    ensures keys { IfOk result (λ l. l.keys.items ≡ keys (map row_of rows.now)) }
-    ensures locking { IfOk result (λ l. l.locked.locking.items ≡ column (locking_node (map row_of rows.now)) (length rows.now)) }
-    ensures locks { IfOk result (λ l. map (λ v. v.items) l.locked.locks.items ≡ column (locks (map row_of rows.now)) (length rows.now)) }
-    ensures modes { IfOk result (λ l. l.modes.items ≡ column (mode (map row_of rows.now) settings) (length rows.now)) }
-{
-    let locked = lock_all(alloc, rows, table)?;
-    let modes = modes(alloc, rows, settings, &locked.locks)?;
-    let keys = copied(alloc, table.as_slice())?;
-    Ok(Gathered {
-        keys,
-        locked,
-        modes,
-    })
-}
-
-/// The locking nodes and the locks of nodes whose keys are numbered.
-fn lock_all(alloc: Global, rows: &[Row], table: &IndexSet<&str>) -> Result<Locked, AllocError>
-    requires tree { IsTree (map row_of rows.now) }
-    requires fits { length rows.now ≤ NODES }
-    requires keys { map (λ k. k.now) table.now.keys ≡ keys (map row_of rows.now) }
-    requires few { length (keys (map row_of rows.now)) ≤ KEYS + 1 }
-    ensures locking { IfOk result (λ l. l.locking.items ≡ column (locking_node (map row_of rows.now)) (length rows.now)) }
-    ensures locks { IfOk result (λ l. map (λ v. v.items) l.locks.items ≡ column (locks (map row_of rows.now)) (length rows.now)) }
-{
-    let isolated = isolated(alloc, rows)?;
-    let locking = locking_nodes(alloc, rows, &isolated)?;
-    let locks = locks(alloc, rows, table, &isolated, &locking)?;
-    Ok(Locked { locking, locks })
 }
 
 impl Plan {

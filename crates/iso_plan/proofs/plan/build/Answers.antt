@@ -35,24 +35,24 @@ invariant_of-result c =
     let small = c.in_ok-rows.ensures.fits in
     let few : length v.items ≤ NODES = omega (arith, v.ok.0, small) in
     let chained = c.in_ok-chained.ensures in
-    let gathered = c.in_ok-gathered.ensures in
+    let gathered = c.in_ok-gathered.ensures.gathered in
     record {
       is_tree = subst Holds (sym c.in_ok-rows.ensures.tree) (tree-is (map script_of c.args.scripts.now));
       fits = rw count few;
       kids_are =
-          chained.children ∙ ap (λ (rs : List Row). column (children (map row_of rs)) (length rs)) c.deref.ensures.value ∙ ap (column (children tree)) (sym count);
+          chained.children_are ∙ ap (λ (rs : List Row). column (children (map row_of rs)) (length rs)) c.deref.ensures.value ∙ ap (column (children tree)) (sym count);
       heads_are =
-          chained.chains ∙ ap (λ (rs : List Row). column (chain_classes (map row_of rs)) (length rs)) c.deref.ensures.value ∙ ap (column (chain_classes tree)) (sym count);
+          chained.chains_are ∙ ap (λ (rs : List Row). column (chain_classes (map row_of rs)) (length rs)) c.deref.ensures.value ∙ ap (column (chain_classes tree)) (sym count);
       rights_are =
-          chained.rights ∙ ap (λ (rs : List Row). column (node_rights (map row_of rs)) (length rs)) c.deref.ensures.value ∙ ap (column (node_rights tree)) (sym count);
-      table_is = gathered.keys ∙ ap (λ (rs : List Row). keys (map row_of rs)) c.deref-2.ensures.value;
-      few = gathered.few;
+          chained.rights_are ∙ ap (λ (rs : List Row). column (node_rights (map row_of rs)) (length rs)) c.deref.ensures.value ∙ ap (column (node_rights tree)) (sym count);
+      table_is = gathered.keys_are ∙ ap (λ (rs : List Row). keys (map row_of rs)) c.deref-2.ensures.value;
+      few = c.in_ok-gathered.ensures.few;
       lockers_are =
-          gathered.locking ∙ ap (λ (rs : List Row). column (locking_node (map row_of rs)) (length rs)) c.deref-2.ensures.value ∙ ap (column (locking_node tree)) (sym count);
+          gathered.locked.locking_are ∙ ap (λ (rs : List Row). column (locking_node (map row_of rs)) (length rs)) c.deref-2.ensures.value ∙ ap (column (locking_node tree)) (sym count);
       taken_are =
-          gathered.locks ∙ ap (λ (rs : List Row). column (locks (map row_of rs)) (length rs)) c.deref-2.ensures.value ∙ ap (column (locks tree)) (sym count);
+          gathered.locked.locks_are ∙ ap (λ (rs : List Row). column (locks (map row_of rs)) (length rs)) c.deref-2.ensures.value ∙ ap (column (locks tree)) (sym count);
       modes_are =
-          gathered.modes ∙ ap (λ (rs : List Row). column (mode (map row_of rs) settings) (length rs)) c.deref-2.ensures.value ∙ ap (column (mode tree settings)) (sym count);
+          gathered.modes_are ∙ ap (λ (rs : List Row). column (mode (map row_of rs) settings) (length rs)) c.deref-2.ensures.value ∙ ap (column (mode tree settings)) (sym count);
     }
 
 pub returns-in_err-rows-clause-refused : goal.returns-in_err-rows-clause-refused
@@ -88,6 +88,6 @@ returns-clause-accepted c =
     let count : length v.items ≡ length (tree ss) = sym (length-map v.items row_of) ∙ ap length nodes in
     let fits = c.in_ok-rows.ensures.fits in
     let small : length (tree ss) ≤ NODES = omega (arith, v.ok.0) in
-    let table : c.in_ok-gathered.gathered.keys.items ≡ keys (tree ss) = c.in_ok-gathered.ensures.keys ∙ ap keys (ap (map row_of) c.deref-2.ensures.value ∙ nodes) in
+    let table : c.in_ok-gathered.gathered.keys.items ≡ keys (tree ss) = c.in_ok-gathered.ensures.gathered.keys_are ∙ ap keys (ap (map row_of) c.deref-2.ensures.value ∙ nodes) in
     let known : length (keys (tree ss)) ≤ KEYS + 1 = rw (sym table) c.in_ok-gathered.ensures.few in
     accepted ss few single small known

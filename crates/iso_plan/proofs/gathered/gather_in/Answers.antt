@@ -1,7 +1,7 @@
 use Rattle.std.proofs.Common.{ℕ, List, Bor, length, ap, arith}
 use Rattle.std.proofs.lemmas.List.{length-map}
 use Rattle.std.proofs.lemmas.Result.{err_from_is_err_and}
-use Rattle.iso_plan.proofs.plan.gather_in.Goals as goal
+use Rattle.iso_plan.proofs.gathered.gather_in.Goals as goal
 
 abbrev text : Bor (List ℕ) → List ℕ
 text k = k.now
@@ -19,4 +19,4 @@ gather_by-requires-clause-few c =
 pub returns-clause-few : goal.returns-clause-few
 returns-clause-few c =
     let numbered = c.in_ok-number_keys.ensures in
-    omega (arith, numbered.few, ap length numbered.keys, length-map c.number_keys.new.table.keys text, ap length c.in_ok-gather_by.ensures.keys)
+    omega (arith, numbered.few, ap length numbered.keys, length-map c.number_keys.new.table.keys text, ap length c.in_ok-gather_by.ensures.keys_are)

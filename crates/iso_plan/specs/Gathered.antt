@@ -1,0 +1,42 @@
+-- What is gathered of rows before a plan is made of them: what its invariant asks for.
+use Rattle.std.specs.Prelude.{◌≡◌, ℕ, List, length, map}
+use Rattle.std.specs.declared.alloc.Global.{Global}
+use Rattle.std.specs.declared.sync.Arc.{Arc}
+use Rattle.std.specs.declared.vec.Vec.{Vec}
+use Rattle.iso_model.specs.ChainView.{innermost_first}
+use Rattle.iso_model.specs.Rights.{access_in}
+use Rattle.iso_model.specs.declared.heads.ClassHead.{ClassHead}
+use Rattle.iso_plan.specs.KeyTable.{keys}
+use Rattle.iso_plan.specs.Locks.{locking_node, locks}
+use Rattle.iso_plan.specs.Modes.{mode}
+use Rattle.iso_plan.specs.NodeChains.{chain_classes, node_rights}
+use Rattle.iso_plan.specs.Paths.{children, column}
+use Rattle.iso_plan.specs.RowView.{row_of}
+use Rattle.iso_plan.specs.Tree as T
+use Rattle.iso_plan.specs.declared.gathered.Chained.{Chained}
+use Rattle.iso_plan.specs.declared.gathered.Gathered.{Gathered}
+use Rattle.iso_plan.specs.declared.gathered.Locked.{Locked}
+use Rattle.iso_plan.specs.declared.lock.Lock.{Lock}
+use Rattle.iso_plan.specs.declared.row.Row.{Row}
+use Rattle.iso_settings.specs.declared.settings.Settings.{Settings}
+
+-- the nodes that rows stand for
+abbrev pub nodes_in : List Row → List T.Row
+nodes_in rows = map row_of rows
+
+-- the children, class chains and rights of all nodes
+pub record IsChained (rows : List Row) (c : Chained) : Type 0 where
+  pub children_are : map (λ (v : Vec ℕ Global). v.items) c.children.items ≡ column (children (nodes_in rows)) (length rows)
+  pub chains_are : map (λ (v : Vec (Arc ClassHead Global) Global). innermost_first v.items) c.chains.items ≡ column (chain_classes (nodes_in rows)) (length rows)
+  pub rights_are : map access_in c.rights.items ≡ column (node_rights (nodes_in rows)) (length rows)
+
+-- their locking nodes and locks
+pub record IsLocked (rows : List Row) (l : Locked) : Type 0 where
+  pub locking_are : l.locking.items ≡ column (locking_node (nodes_in rows)) (length rows)
+  pub locks_are : map (λ (v : Vec Lock Global). v.items) l.locks.items ≡ column (locks (nodes_in rows)) (length rows)
+
+-- the keys, and the locks and modes of all nodes under settings
+pub record IsGathered (rows : List Row) (settings : Settings) (g : Gathered) : Type 0 where
+  pub keys_are : g.keys.items ≡ keys (nodes_in rows)
+  pub locked : IsLocked rows g.locked
+  pub modes_are : g.modes.items ≡ column (mode (nodes_in rows) settings) (length rows)

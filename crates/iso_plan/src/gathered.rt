@@ -1,0 +1,132 @@
+//! What is gathered of the nodes of a plan before it is made of them.
+ghost use Rattle.std.specs.Prelude.{◌≡◌, ◌≤◌, ◌+◌, [], IfErr, IfOk, length, map};
+ghost use Rattle.iso_model.specs.declared.limits.TheConstants.{KEYS, NODES};
+ghost use Rattle.iso_plan.specs.Faults.{IsCrowded};
+ghost use Rattle.iso_plan.specs.Gathered.{IsChained, IsGathered, IsLocked, nodes_in};
+ghost use Rattle.iso_plan.specs.KeyTable.{keys};
+ghost use Rattle.iso_plan.specs.Paths.{IsTree};
+
+use crate::chains::chains;
+use crate::children::children;
+use crate::fault::PlanError;
+use crate::keys::{copied, number_keys};
+use crate::lock::Lock;
+use crate::locking::{isolated, locking_nodes};
+use crate::locks::locks;
+use crate::modes::modes;
+use crate::rights::rights;
+use crate::row::Row;
+use indexmap::IndexSet;
+use iso_model::heads::ClassHead;
+use iso_model::rights::Rights;
+use iso_model::script::Mode;
+use iso_model::text::Text;
+use iso_settings::settings::Settings;
+use std::alloc::{AllocError, Global};
+use std::sync::Arc;
+
+/// The children of the nodes of a plan, their class chains, and the rights that these give.
+#[derive(Drop)]
+pub(crate) struct Chained {
+    pub children: Vec<Vec<u32>>,
+    pub chains: Vec<Vec<Arc<ClassHead>>>,
+    pub rights: Vec<Rights>,
+}
+
+/// What the nodes of a plan lock.
+#[derive(Drop)]
+pub(crate) struct Locked {
+    pub locking: Vec<Option<u32>>,
+    pub locks: Vec<Vec<Lock>>,
+}
+
+/// The keys of a plan by number, with what its nodes lock of them, and their modes.
+#[derive(Drop)]
+pub(crate) struct Gathered {
+    pub keys: Vec<Text>,
+    pub locked: Locked,
+    pub modes: Vec<Mode>,
+}
+
+/// The children, chains and rights of nodes.
+pub(crate) fn chain_all(alloc: Global, rows: &[Row]) -> Result<Chained, AllocError>
+    requires tree { IsTree (nodes_in rows.now) }
+    requires fits { length rows.now ≤ NODES }
+    ensures { IfOk result (IsChained rows.now) }
+{
+    let children = children(alloc, rows)?;
+    let chains = chains(alloc, rows)?;
+    let rights = rights(alloc, rows, &chains)?;
+    Ok(Chained {
+        children,
+        chains,
+        rights,
+    })
+}
+
+/// The keys, locks and modes of nodes. More than 255 different declared keys are `TooManyKeys`.
+pub(crate) fn gather(alloc: Global, rows: &[Row], settings: Settings) -> Result<Gathered, PlanError>
+    requires tree { IsTree (nodes_in rows.now) }
+    requires fits { length rows.now ≤ NODES }
+    ensures gathered { IfOk result (IsGathered rows.now settings) }
+    ensures few { IfOk result (λ l. length l.keys.items ≤ KEYS + 1) }
+    ensures crowded { IfErr result (IsCrowded (length (keys (nodes_in rows.now)))) }
+{
+    let mut table = IndexSet::new(alloc);
+    gather_in(alloc, rows, settings, &mut table)
+}
+
+/// What is gathered of nodes by a table in which their keys are numbered. More than 255 different declared keys are `TooManyKeys`.
+fn gather_in<'a>(
+    alloc: Global,
+    rows: &'a [Row],
+    settings: Settings,
+    table: &mut IndexSet<&'a str>,
+) -> Result<Gathered, PlanError>
+    requires tree { IsTree (nodes_in rows.now) }
+    requires fits { length rows.now ≤ NODES }
+    requires empty { table.old.keys ≡ [] }
+    ensures gathered { IfOk result (IsGathered rows.now settings) }
+    ensures few { IfOk result (λ l. length l.keys.items ≤ KEYS + 1) }
+    ensures crowded { IfErr result (IsCrowded (length (keys (nodes_in rows.now)))) }
+{
+    number_keys(table, rows)?;
+    Ok(gather_by(alloc, rows, settings, table)?)
+}
+
+/// What is gathered of nodes whose keys are numbered.
+fn gather_by(
+    alloc: Global,
+    rows: &[Row],
+    settings: Settings,
+    table: &IndexSet<&str>,
+) -> Result<Gathered, AllocError>
+    requires tree { IsTree (nodes_in rows.now) }
+    requires fits { length rows.now ≤ NODES }
+    requires keys { map (λ k. k.now) table.now.keys ≡ keys (nodes_in rows.now) }
+    requires few { length (keys (nodes_in rows.now)) ≤ KEYS + 1 }
+    ensures { IfOk result (IsGathered rows.now settings) }
+{
+    let locked = lock_all(alloc, rows, table)?;
+    let modes = modes(alloc, rows, settings, &locked.locks)?;
+    let keys = copied(alloc, table.as_slice())?;
+    Ok(Gathered {
+        keys,
+        locked,
+        modes,
+    })
+}
+
+/// The locking nodes and the locks of nodes whose keys are numbered.
+fn lock_all(alloc: Global, rows: &[Row], table: &IndexSet<&str>) -> Result<Locked, AllocError>
+    requires tree { IsTree (nodes_in rows.now) }
+    requires fits { length rows.now ≤ NODES }
+    requires keys { map (λ k. k.now) table.now.keys ≡ keys (nodes_in rows.now) }
+    requires few { length (keys (nodes_in rows.now)) ≤ KEYS + 1 }
+    ensures { IfOk result (IsLocked rows.now) }
+{
+    let isolated = isolated(alloc, rows)?;
+    let locking = locking_nodes(alloc, rows, &isolated)?;
+    let locks = locks(alloc, rows, table, &isolated, &locking)?;
+    Ok(Locked { locking, locks })
+}
