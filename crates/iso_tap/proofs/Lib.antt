@@ -4,3 +4,4 @@ pub mod PlanLemmas
 pub mod PrinterLemmas
 pub mod ReportLemmas
 pub mod Sequences
+pub mod Within

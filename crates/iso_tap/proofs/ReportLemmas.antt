@@ -1,46 +1,18 @@
 -- What is said of a node, from what is said of its children.
-use Rattle.std.proofs.Common.{◌≡◌, ◌<◌, ◌≤◌, ℕ, zero, suc, ◌+◌, List, [], ◌∷◌, ◌++◌, length, get_or, Bool, true, false, ◌&&◌, ◌==◌, not, cond, refl, sym, ap, ap₂, ◌∙◌, arith, true≢false}
-use Rattle.std.specs.List.{All, AllByRecursion, list_all}
-use Rattle.std.proofs.lemmas.List.Elements.{All-nil, All-cons, All-append, All-get_or, recursion_from_All}
+use Rattle.std.proofs.Common.{◌≡◌, ◌<◌, ◌≤◌, ℕ, zero, suc, ◌+◌, List, [], ◌∷◌, ◌++◌, length, get_or, Bool, ◌&&◌, cond, refl, sym, ap, ap₂, ◌∙◌, arith}
+use Rattle.std.specs.List.{AllByRecursion, list_all}
+use Rattle.std.proofs.lemmas.List.Elements.{All-get_or, recursion_from_All}
 use Rattle.iso_model.specs.declared.outcome.Outcome.{Outcome}
-use Rattle.iso_plan.proofs.PathLemmas.{eq_from}
-use Rattle.iso_plan.specs.Paths.{IsTree, children, children_below, is_root, is_test, parent, row_at}
+use Rattle.iso_plan.specs.Paths.{IsTree, children, is_test, row_at}
 use Rattle.iso_plan.specs.Tree.{Row}
 use Rattle.iso_tap.specs.ReportBlocks.{point}
 use Rattle.iso_tap.specs.ReportLines.{is_ok_verdict, plan_line, subtest_line}
-use Rattle.iso_tap.specs.Reports.{is_ok, is_ok_within, numbered, reported, reported_within, subtest}
-
-push_if : (P : ℕ → Type 0) (n : ℕ) (xs : List ℕ) (t : Bool) → (t ≡ true → P n) → All P xs → All P (cond t (xs ++ n ∷ []) xs)
-push_if P n xs true h all = All-append P xs (n ∷ []) all (All-cons P n [] (h refl) (All-nil P))
-push_if P n xs false h all = all
-
-child_is : (tree : List Row) (m n : ℕ) → (not (is_root n) && parent tree n == m) ≡ true → (0 < n) × (parent tree n ≡ m)
-child_is tree m zero h = absurd (true≢false (sym h))
-child_is tree m (suc n) h = (omega arith, eq_from (parent tree (suc n)) m h)
-
--- what holds of each node that stands directly in a node holds of its children
-children-have : (P : ℕ → Type 0) (tree : List Row) (m k : ℕ) → ((n : ℕ) → 0 < n → n < k → parent tree n ≡ m → P n) → All P (children_below tree m k)
-children-have P tree m zero h = All-nil P
-children-have P tree m (suc n) h =
-    push_if P n (children_below tree m n) (not (is_root n) && parent tree n == m)
-    (λ e. let c = child_is tree m n e in h n c.0 (omega arith) c.1)
-    (children-have P tree m n (λ c pos less is. h c pos (omega arith) is))
-
--- a child comes after the node that it stands in, and is one of the nodes
-abbrev pub IsChild : List Row → ℕ → ℕ → Type 0
-IsChild tree m n = (0 < n) × (m < n) × (n < length tree)
-
-pub children-are : (tree : List Row) (m : ℕ) → IsTree tree → All (IsChild tree m) (children tree m)
-children-are tree m t =
-    children-have (IsChild tree m) tree m (length tree) (λ n pos less is. let e = t.below n pos in (pos, omega arith, less))
+use Rattle.iso_tap.specs.Reports.{is_ok, numbered, reported, reported_within, subtest}
+use Rattle.iso_tap.proofs.Within.{IsChild, children-are, within-down}
 
 -- the child at a place
 pub child-at : (tree : List Row) (m i : ℕ) (d : ℕ) → IsTree tree → i < length (children tree m) → IsChild tree m (get_or (children tree m) i d)
 child-at tree m i d t h = All-get_or (IsChild tree m) (children tree m) i d h (children-are tree m t)
-
-all_same : (tree : List Row) (m : ℕ) (f g : ℕ → Bool) → ((n : ℕ) → IsChild tree m n → f n ≡ g n) → (ns : List ℕ) → AllByRecursion (IsChild tree m) ns → list_all f ns ≡ list_all g ns
-all_same tree m f g same [] h = refl
-all_same tree m f g same (n ∷ ns) h = ap₂ (λ a b. a && b) (same n h.0) (all_same tree m f g same ns h.1)
 
 numbered_same : (tree : List Row) (m : ℕ) (f g : ℕ → ℕ → List ℕ) → ((i n : ℕ) → IsChild tree m n → f i n ≡ g i n) → (i : ℕ) (ns : List ℕ) → AllByRecursion (IsChild tree m) ns → numbered f i ns ≡ numbered g i ns
 numbered_same tree m f g same i [] h = refl
@@ -50,32 +22,16 @@ pub point-same : (indent number : ℕ) {b c : Bool} {s t : List ℕ} {o p : Outc
 point-same indent number e f h = rw (e, f, h) refl
 
 module _ (tree : List Row) (outcome : ℕ → Outcome) (t : IsTree tree) where
-  -- a depth that reaches past the last node is enough
-  ok_enough : (d e n : ℕ) → n < length tree → length tree ≤ n + d → length tree ≤ n + e → is_ok_within d tree outcome n ≡ is_ok_within e tree outcome n
-  ok_enough zero e n h k l = absurd (omega arith)
-  ok_enough (suc d) zero n h k l = absurd (omega arith)
-  ok_enough (suc d) (suc e) n h k l =
-      ap (λ b. is_ok_verdict (outcome n).verdict && b)
-      (all_same tree n (is_ok_within d tree outcome) (is_ok_within e tree outcome) (λ c is. ok_enough d e c is.2 (let less = is.1 in omega arith) (let less = is.1 in omega arith))
-      (children tree n) (recursion_from_All (IsChild tree n) (children tree n) (children-are tree n t)))
-
-  ok_from : (d n : ℕ) → 0 < n → n < length tree → length tree ≡ d → is_ok_within d tree outcome n ≡ (is_ok_verdict (outcome n).verdict && list_all (is_ok tree outcome) (children tree n))
-  ok_from zero n pos h e = absurd (omega arith)
-  ok_from (suc d) n pos h e =
-      ap (λ b. is_ok_verdict (outcome n).verdict && b)
-      (all_same tree n (is_ok_within d tree outcome) (is_ok tree outcome) (λ c is. ok_enough d (length tree) c is.2 (let less = is.1 in omega arith) (omega arith))
-      (children tree n) (recursion_from_All (IsChild tree n) (children tree n) (children-are tree n t)))
-
   -- whether a point is ok, from its children's
   pub ok-down : (n : ℕ) → 0 < n → n < length tree → is_ok tree outcome n ≡ (is_ok_verdict (outcome n).verdict && list_all (is_ok tree outcome) (children tree n))
-  ok-down n pos h = ok_from (length tree) n pos h refl
+  ok-down n pos h = within-down tree t (λ m. is_ok_verdict (outcome m).verdict) n pos h
 
   -- the same, where an equal outcome is known
   pub ok-by : (n : ℕ) (o : Outcome) (b : Bool) → o ≡ outcome n → b ≡ is_ok_verdict o.verdict → 0 < n → n < length tree → is_ok tree outcome n ≡ (b && list_all (is_ok tree outcome) (children tree n))
   ok-by n o b same is pos h =
       ok-down n pos h ∙ ap (λ v. v && list_all (is_ok tree outcome) (children tree n)) (sym (is ∙ ap (λ (x : Outcome). is_ok_verdict x.verdict) same))
 
-  -- the text of a node, from its children's
+  -- a depth that reaches past the last node is enough: the text of a node, from its children's
   abbrev pub shown : (indent : ℕ) (text : ℕ → ℕ → List ℕ) (number n : ℕ) → List ℕ
   shown indent text number n =
       subtest indent (row_at tree n) text (children tree n) ++ point indent number (is_ok tree outcome n) (row_at tree n).title (outcome n)

@@ -118,3 +118,65 @@ blocked_block =
     ∷ codes "output: []"
     ∷ codes "..."
     ∷ [])
+
+-- one of each verdict in the same suite: a faulted, b was blocked, c was skipped, the class Till failed over d, which passed
+abbrev pub each_by_node : List Outcome
+each_by_node =
+    silent
+    ∷ silent
+    ∷ came_to (Fault Frozen (in_test (codes "n is frozen"))) []
+    ∷ blocked
+    ∷ silent
+    ∷ came_to skipped (codes "c" ∷ [])
+    ∷ came_to (Fail (in_opening (codes "late"))) []
+    ∷ silent
+    ∷ []
+
+abbrev pub each_of : ℕ → Outcome
+each_of n = slice_index_or each_by_node n silent
+
+-- their report
+abbrev pub each_reported : List ℕ
+each_reported =
+    text_of
+    (codes "TAP version 14"
+    ∷ codes "1..2"
+    ∷ codes "# Subtest: shop.Cart"
+    ∷ codes "    1..2"
+    ∷ codes "    not ok 1 - a"
+    ∷ codes "      ---"
+    ∷ codes "      verdict: fault"
+    ∷ codes "      message: \"n is frozen\""
+    ∷ codes "      at: \"test row 2\""
+    ∷ codes "      output: []"
+    ∷ codes "      ..."
+    ∷ codes "    not ok 2 - b"
+    ∷ codes "      ---"
+    ∷ codes "      verdict: blocked"
+    ∷ codes "      message: \"no db\""
+    ∷ codes "      at: \"class 1 before_all row 3\""
+    ∷ codes "      output: []"
+    ∷ codes "      ..."
+    ∷ codes "not ok 1 - shop.Cart"
+    ∷ codes "# Subtest: shop.Desk"
+    ∷ codes "    1..2"
+    ∷ codes "    ok 1 - c # SKIP no \\\\ \\#1"
+    ∷ codes "      ---"
+    ∷ codes "      verdict: skipped"
+    ∷ codes "      message: \"no \\\\ #1\""
+    ∷ codes "      at: \"test row 2\""
+    ∷ codes "      output:"
+    ∷ codes "        - \"c\""
+    ∷ codes "      ..."
+    ∷ codes "    # Subtest: Till"
+    ∷ codes "        1..1"
+    ∷ codes "        ok 1 - d"
+    ∷ codes "    not ok 2 - Till"
+    ∷ codes "      ---"
+    ∷ codes "      verdict: fail"
+    ∷ codes "      message: \"late\""
+    ∷ codes "      at: \"class 1 before_all row 3\""
+    ∷ codes "      output: []"
+    ∷ codes "      ..."
+    ∷ codes "not ok 2 - shop.Desk"
+    ∷ [])

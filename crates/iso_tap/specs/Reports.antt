@@ -1,21 +1,19 @@
 -- The report of a suite's outcomes (TAP version 14, subtests): the version, and then the level of the root.
--- A definition that goes down the tree counts how deep it may still go; nodes stand in one another no deeper than there are nodes.
-use Rattle.std.specs.Prelude.{ℕ, zero, suc, ◌+◌, List, [], ◌∷◌, ◌++◌, Bool, true, ◌&&◌, cond, length}
-use Rattle.std.specs.List.{list_all}
+use Rattle.std.specs.Prelude.{ℕ, zero, suc, ◌+◌, List, [], ◌∷◌, ◌++◌, Bool, cond, length}
+use Rattle.std.specs.List.{filter, list_all, range_with_len}
 use Rattle.iso_model.specs.declared.outcome.Outcome.{Outcome}
-use Rattle.iso_plan.specs.Paths.{children, is_test, row_at}
+use Rattle.iso_plan.specs.Paths.{children, is_test, is_under, row_at}
 use Rattle.iso_plan.specs.Tree.{Row}
 use Rattle.iso_tap.specs.ReportBlocks.{point}
 use Rattle.iso_tap.specs.ReportLines.{is_ok_verdict, plan_line, subtest_line, version_line}
 
--- whether the point of a node is ok: its verdict lets it, and all its children's points are ok. A test has no children.
-abbrev pub is_ok_within : (depth : ℕ) → List Row → (ℕ → Outcome) → ℕ → Bool
-is_ok_within zero tree outcome n = true
-is_ok_within (suc depth) tree outcome n =
-    is_ok_verdict (outcome n).verdict && list_all (is_ok_within depth tree outcome) (children tree n)
+-- the nodes at or under a node, in order
+abbrev pub within : List Row → ℕ → List ℕ
+within tree n = filter (is_under tree n) (range_with_len 0 (length tree))
 
+-- whether the point of a node is ok: no verdict at or under the node is a fail, a fault or blocked
 abbrev pub is_ok : List Row → (ℕ → Outcome) → ℕ → Bool
-is_ok tree outcome n = is_ok_within (length tree) tree outcome n
+is_ok tree outcome n = list_all (λ m. is_ok_verdict (outcome m).verdict) (within tree n)
 
 -- whether all points of the report are ok
 abbrev pub all_ok : List Row → (ℕ → Outcome) → Bool
@@ -34,7 +32,8 @@ level indent text ns = plan_line indent (length ns) ++ numbered text 1 ns
 abbrev pub subtest : (indent : ℕ) → Row → (text : ℕ → ℕ → List ℕ) → List ℕ → List ℕ
 subtest indent row text ns = cond (is_test row.kind) [] (subtest_line indent row.title ++ level (indent + 4) text ns)
 
--- what is reported of a node: its subtest, and then its point
+-- What is reported of a node: its subtest, in which its children are reported, and then its point. The definition counts how deep it
+-- may still go, and nodes stand in one another no deeper than there are nodes; the law `reports_go_down_the_tree` says it without.
 abbrev pub reported_within : (depth : ℕ) → List Row → (ℕ → Outcome) → (indent number n : ℕ) → List ℕ
 reported_within zero tree outcome indent number n = []
 reported_within (suc depth) tree outcome indent number n =

@@ -4,7 +4,7 @@ ghost use Rattle.iso_plan.specs.Examples.{cart_and_desk, concurrent_by_default};
 ghost use Rattle.iso_plan.specs.Tree.{tree};
 ghost use Rattle.iso_tap.specs.PlanText.{plan_text};
 ghost use Rattle.iso_tap.specs.ReportBlocks.{block_lines};
-ghost use Rattle.iso_tap.specs.ReportExamples.{blocked, blocked_block, frozen, frozen_block, outcome_of, reported_text, skipped};
+ghost use Rattle.iso_tap.specs.ReportExamples.{blocked, blocked_block, each_of, each_reported, frozen, frozen_block, outcome_of, reported_text, skipped};
 ghost use Rattle.iso_tap.specs.ReportLines.{point_line};
 ghost use Rattle.iso_tap.specs.Reports.{all_ok, is_ok, report};
 
@@ -23,6 +23,22 @@ pub fn empty_suite_has_no_points()
 /// A level counts its own nodes, a class's point comes after its level, and its block tells of the class alone.
 pub fn classes_come_after_their_levels()
     ensures { report cart_and_desk outcome_of ≡ reported_text }
+{}
+
+/// Each of the five verdicts in one report: a fail, a fault and what is blocked are not ok, a skipped test is and says why, and only a
+/// pass without output has no block.
+pub fn each_verdict_has_its_point()
+    ensures { report cart_and_desk each_of ≡ each_reported }
+{}
+
+/// A fault, a blocked test and a class that failed by itself reach up as a failed test does, and not down.
+pub fn what_is_not_ok_reaches_up()
+    ensures fault { is_ok cart_and_desk each_of 2 ≡ false }
+    ensures blocked { is_ok cart_and_desk each_of 3 ≡ false }
+    ensures class { is_ok cart_and_desk each_of 6 ≡ false }
+    ensures below_it { is_ok cart_and_desk each_of 7 ≡ true }
+    ensures two_above { is_ok cart_and_desk each_of 4 ≡ false }
+    ensures beside_it { is_ok cart_and_desk each_of 5 ≡ true }
 {}
 
 /// A failed test makes its class not ok, and the suite; a skipped one doesn't.

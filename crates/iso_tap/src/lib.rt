@@ -5,6 +5,7 @@ mod blocks;
 pub mod escape;
 pub mod examples;
 pub mod fault;
+pub mod laws;
 pub mod memory;
 pub mod ok;
 pub mod output;

@@ -2,7 +2,8 @@ use Rattle.std.proofs.Common.{◌<◌, length, get_or, true, false, sym, ◌∙�
 use Rattle.iso_lifecycle.specs.ResultViews.{outcome_in, outcome_of_view}
 use Rattle.iso_plan.specs.Paths.{children}
 use Rattle.iso_plan.specs.RowView.{tree_of}
-use Rattle.iso_tap.proofs.ReportLemmas.{IsChild, child-at, ok-by}
+use Rattle.iso_tap.proofs.ReportLemmas.{child-at, ok-by}
+use Rattle.iso_tap.proofs.Within.{IsChild}
 use Rattle.iso_tap.proofs.ok.+being_ok.Goals as goal
 
 pub children_are_ok-is_ok-requires : goal.children_are_ok-is_ok-requires

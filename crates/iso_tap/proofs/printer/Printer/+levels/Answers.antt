@@ -7,7 +7,8 @@ use Rattle.iso_tap.specs.ReportBlocks.{point}
 use Rattle.iso_tap.specs.ReportLines.{subtest_line}
 use Rattle.iso_tap.specs.Reports.{is_ok, level, numbered, reported}
 use Rattle.iso_tap.proofs.PrinterLemmas.{drop_next, left_cut, left_next, prints_as, prints_stopped, prints_then}
-use Rattle.iso_tap.proofs.ReportLemmas.{IsChild, child-at, point-same, text-down}
+use Rattle.iso_tap.proofs.ReportLemmas.{child-at, point-same, text-down}
+use Rattle.iso_tap.proofs.Within.{IsChild}
 use Rattle.iso_tap.proofs.printer.Printer.+levels.Goals as goal
 
 pub level-reported-requires : goal.level-reported-requires
