@@ -3,7 +3,7 @@ ghost use Rattle.std.specs.Prelude.{◌≡◌};
 ghost use Rattle.iso_locks.specs.Owners.{CanHold};
 ghost use Rattle.iso_locks.specs.Vaults.{CanTakeBack, IsLentTo, lending};
 
-use crate::locks::suite::{CART_AND_DESK, READERS_AND_WRITERS, suite};
+use crate::locks::suite::{CART_AND_DESK, READERS_AND_WRITERS, Suite};
 use iso_locks::laws::{lent_nodes_may_be_taken_back, other_nodes_may_still_be_taken_back};
 use iso_locks::tray::Tray;
 use iso_locks::vault::{Busy, Vault};
@@ -48,7 +48,7 @@ fn in_the_way(rt: &impl Abort, vault: &mut Vault<'_>, tray: &mut Tray<'_>, node:
 fn isolated_class_is_lent_after_two_nodes_came_home(rt: HostRuntime) -> Result<(), Fail> {
     other_nodes_may_still_be_taken_back();
     let alloc = rt.alloc();
-    let suite = suite(alloc, CART_AND_DESK)?;
+    let suite = Suite::of(alloc, CART_AND_DESK)?;
     let mut vault = Vault::new(alloc, &suite.plan, &suite.world)?;
     let mut cart = Tray::new(alloc, &suite.plan, &suite.world)?;
     let mut desk = Tray::new(alloc, &suite.plan, &suite.world)?;
@@ -65,7 +65,7 @@ fn isolated_class_is_lent_after_two_nodes_came_home(rt: HostRuntime) -> Result<(
 #[test]
 fn writer_waits_for_readers_and_takes_its_value_away(rt: HostRuntime) -> Result<(), Fail> {
     let alloc = rt.alloc();
-    let suite = suite(alloc, READERS_AND_WRITERS)?;
+    let suite = Suite::of(alloc, READERS_AND_WRITERS)?;
     let mut vault = Vault::new(alloc, &suite.plan, &suite.world)?;
     let mut first = Tray::new(alloc, &suite.plan, &suite.world)?;
     let mut second = Tray::new(alloc, &suite.plan, &suite.world)?;

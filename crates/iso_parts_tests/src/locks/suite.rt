@@ -23,9 +23,11 @@ pub(crate) struct Suite {
     pub(crate) world: World,
 }
 
-/// The plan of a script, and the world in which no starting value is given.
-pub(crate) fn suite(alloc: Global, script: &str) -> Result<Suite, Fail> {
-    let plan = build(alloc, &read(alloc, &[script])?, &concurrent())?;
-    let world = read_world(alloc, "")?;
-    Ok(Suite { plan, world })
+impl Suite {
+    /// The plan of a script, and the world in which no starting value is given.
+    pub(crate) fn of(alloc: Global, script: &str) -> Result<Suite, Fail> {
+        let plan = build(alloc, &read(alloc, &[script])?, &concurrent())?;
+        let world = read_world(alloc, "")?;
+        Ok(Suite { plan, world })
+    }
 }

@@ -1,5 +1,5 @@
 //! Trays of a plan, with memory at hand.
-use crate::locks::suite::suite;
+use crate::locks::suite::Suite;
 use iso_locks::tray::Tray;
 use std::test::Fail;
 
@@ -12,7 +12,7 @@ write \"file:a\" class A { test t { } } write \"file:b\" class B { test u { } }
 #[tactic(auto, using(iso_locks::proofs::LawLemmas::laws))]
 fn new_tray_holds_nothing(rt: HostRuntime) -> Result<(), Fail> {
     let alloc = rt.alloc();
-    let suite = suite(alloc, TWO_WRITERS)?;
+    let suite = Suite::of(alloc, TWO_WRITERS)?;
     let mut tray = Tray::new(alloc, &suite.plan, &suite.world)?;
     assert_eq!(rt; tray.plan().len(), 5);
     assert!(rt; !tray.is_flat());

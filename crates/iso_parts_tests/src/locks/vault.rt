@@ -1,7 +1,7 @@
 //! The vault of a plan, with memory at hand.
 ghost use Rattle.std.specs.Prelude.{◌≡◌, ◌<◌, length};
 
-use crate::locks::suite::{CART_AND_DESK, READERS_AND_WRITERS, Suite, suite};
+use crate::locks::suite::{CART_AND_DESK, READERS_AND_WRITERS, Suite};
 use iso_locks::laws::lent_nodes_may_be_taken_back;
 use iso_locks::tray::Tray;
 use iso_locks::vault::{Busy, Vault};
@@ -193,7 +193,7 @@ fn check_row(rt: &impl Abort, alloc: Global, suite: &Suite, row: &Row) -> Result
 fn conflicting_nodes_wait_and_readers_share(rt: HostRuntime) -> Result<(), Fail> {
     let alloc = rt.alloc();
     for row in &ROWS {
-        check_row(&rt, alloc, &suite(alloc, row.script)?, row)?;
+        check_row(&rt, alloc, &Suite::of(alloc, row.script)?, row)?;
     }
     Ok(())
 }
@@ -212,7 +212,8 @@ fn most_keys(alloc: Global) -> Result<String, AllocError> {
 #[test]
 fn every_value_is_home_in_a_new_vault(rt: HostRuntime) -> Result<(), Fail> {
     let alloc = rt.alloc();
-    let suite = suite(alloc, most_keys(alloc)?.as_str())?;
+    let script = most_keys(alloc)?;
+    let suite = Suite::of(alloc, script.as_str())?;
     assert_eq!(rt; suite.plan.key_count(), 256);
     let vault = Vault::new(alloc, &suite.plan, &suite.world)?;
     let _tray = Tray::new(alloc, &suite.plan, &suite.world)?;
