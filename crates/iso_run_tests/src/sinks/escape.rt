@@ -1,10 +1,9 @@
 //! Escaped texts, on sinks that take all, take little, or fail.
-use crate::sinks::failing::{FailingSink, has_begun};
+use crate::sinks::failing::{DeafSink, FailingSink, has_begun};
 use iso_tap::escape::escape;
-use iso_tap::fault::TapFault;
 use iso_tap::memory::MemorySink;
 use iso_tap::output::OutputSink;
-use iso_tap::sink::{Sink, SinkFailed};
+use iso_tap::sink::Sink;
 use std::alloc::Global;
 use std::io;
 
@@ -53,39 +52,9 @@ fn failed_sink_keeps_what_it_took(rt: HostRuntime) {
     }
 }
 
-/// Takes no byte, and says that it took none.
-#[derive(Drop)]
-struct DeafSink {
-    asked: u32,
-    failures: u64,
-}
-
-impl Sink for DeafSink {
-    ghost use Rattle.std.specs.Prelude.{None};
-    ghost use Rattle.iso_tap.specs.Sinks.{Account};
-
-    ghost account = { λ s. record { bytes = None; count = 0; failures = s.failures } };
-
-    fn write(&mut self, bytes: &[u8]) -> Result<usize, SinkFailed> {
-        self.asked = self.asked.saturating_add(1);
-        if !bytes.is_empty() {
-            self.failures = self.failures.saturating_add(1);
-        }
-        Ok(0)
-    }
-
-    fn flush(&mut self) -> Result<(), SinkFailed> {
-        Ok(())
-    }
-}
-
 #[test]
 fn no_byte_taken_is_a_failure(rt: HostRuntime) {
-    let mut sink = DeafSink {
-        asked: 0,
-        failures: 0,
-    };
-    assert!(rt; escape(TITLE, &mut sink) == Err(TapFault { written: 0 }));
-    assert_eq!(rt; sink.asked, 1);
-    assert_eq!(rt; sink.failures, 1);
+    let mut sink = DeafSink::new();
+    let answer = escape(TITLE, &mut sink);
+    assert!(rt; sink.was_asked_once(answer));
 }

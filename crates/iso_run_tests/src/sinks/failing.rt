@@ -1,4 +1,4 @@
-//! A sink that takes little and then fails.
+//! Sinks that take little and then fail, or nothing.
 ghost use Rattle.std.specs.Prelude.{Some, length};
 
 use iso_tap::fault::TapFault;
@@ -64,5 +64,46 @@ pub(crate) fn has_begun(sink: &FailingSink, whole: &[u8], answer: Result<(), Tap
             let told = sink.bytes.len() as u64 == fault.written;
             begun && told && sink.failures == 1 && sink.asked == sink.calls.saturating_add(1)
         }
+    }
+}
+
+/// Takes no byte, and says that it took none.
+#[derive(Drop)]
+pub(crate) struct DeafSink {
+    asked: u32,
+    failures: u64,
+}
+
+impl DeafSink {
+    /// A sink that was asked nothing.
+    pub(crate) fn new() -> DeafSink {
+        DeafSink {
+            asked: 0,
+            failures: 0,
+        }
+    }
+
+    /// Whether the answer is that nothing was written, and the sink was asked no second time.
+    pub(crate) fn was_asked_once(&self, answer: Result<(), TapFault>) -> bool {
+        answer == Err(TapFault { written: 0 }) && self.asked == 1 && self.failures == 1
+    }
+}
+
+impl Sink for DeafSink {
+    ghost use Rattle.std.specs.Prelude.{None};
+    ghost use Rattle.iso_tap.specs.Sinks.{Account};
+
+    ghost account = { λ s. record { bytes = None; count = 0; failures = s.failures } };
+
+    fn write(&mut self, bytes: &[u8]) -> Result<usize, SinkFailed> {
+        self.asked = self.asked.saturating_add(1);
+        if !bytes.is_empty() {
+            self.failures = self.failures.saturating_add(1);
+        }
+        Ok(0)
+    }
+
+    fn flush(&mut self) -> Result<(), SinkFailed> {
+        Ok(())
     }
 }
