@@ -1,12 +1,13 @@
 //! What the words of a command line ask for.
-ghost use Rattle.std.specs.Prelude.{◌≡◌, [], None, IfOk, IsOkAnd};
+ghost use Rattle.std.specs.Prelude.{◌≡◌, [], None, IfOk, IsOkAnd, drop};
+ghost use Rattle.std.specs.Vec.Iter.{into_iter_items};
 ghost use Rattle.iso_arguments.specs.Requests.{AsksForSomeProcessors, IsCount, IsPlainRun};
 
 use crate::options::command_line;
 use clap::error::ErrorKind;
 use clap::{ArgMatches, Error};
 use std::alloc::{AllocError, AllocFailed, AllocGlobal, Global};
-use std::env::{self, Env};
+use std::env::{self, Args, Env};
 use std::io;
 
 /// The files that a run, a plan or a replay is made of, as the words name them.
@@ -58,7 +59,7 @@ pub enum Request<'a> {
 #[derive(Drop)]
 pub enum WordsFault {
     /// They aren't those of `jtap`. The text, which ends in a line feed, says what is wrong.
-    Refused(String),
+    Wrong(String),
     OutOfMemory,
 }
 
@@ -79,15 +80,23 @@ pub fn words_of<E: Env + AllocGlobal>(env: &E) -> Result<Vec<String>, WordsFault
     let args = match env::args(env) {
         Ok(args) => args,
         Err(error) if error.kind() == io::ErrorKind::InvalidData => {
-            return Err(WordsFault::Refused(String::from_str(
+            return Err(WordsFault::Wrong(String::from_str(
                 env.alloc(),
                 "error: a word isn't UTF-8\n\nFor more information, try '--help'.\n",
             )?));
         }
         Err(_) => return Err(WordsFault::OutOfMemory),
     };
-    let mut words = Vec::new(env.alloc());
-    for word in args.skip(1) {
+    after_name(env.alloc(), args)
+}
+
+/// The words after the first, which is the program's name, in their order.
+fn after_name(alloc: Global, mut args: Args) -> Result<Vec<String>, WordsFault>
+    ensures { IfOk result (λ words. words.items ≡ drop 1 (into_iter_items args)) }
+{
+    let _name = args.next();
+    let mut words = Vec::new(alloc);
+    for word in args {
         words.push(word)?;
     }
     Ok(words)
@@ -123,7 +132,7 @@ fn shown<'a>(alloc: Global, error: &Error) -> Result<Request<'a>, WordsFault>
         ErrorKind::DisplayHelp | ErrorKind::DisplayVersion => {
             Ok(Request::Show(format!(in alloc; "{error}")?))
         }
-        _ => Err(WordsFault::Refused(format!(in alloc; "{error}")?)),
+        _ => Err(WordsFault::Wrong(format!(in alloc; "{error}")?)),
     }
 }
 

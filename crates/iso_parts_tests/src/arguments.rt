@@ -49,7 +49,7 @@ fn asked(alloc: Global, line: &str) -> Result<String, AllocError> {
     let words = words_in(alloc, line)?;
     match read_words(alloc, &words) {
         Ok(request) => request_text(alloc, &request),
-        Err(WordsFault::Refused(text)) => format!(in alloc; "refused:\n{text}"),
+        Err(WordsFault::Wrong(text)) => format!(in alloc; "refused:\n{text}"),
         Err(WordsFault::OutOfMemory) => Err(AllocError),
     }
 }
@@ -175,7 +175,7 @@ impl Env for BrokenWord {
 #[test]
 fn word_that_is_not_utf_8_is_wrong(rt: HostRuntime) {
     match words_of(&(BrokenWord, rt.alloc())) {
-        Err(WordsFault::Refused(text)) => {
+        Err(WordsFault::Wrong(text)) => {
             assert!(rt; text.starts_with("error: a word isn't UTF-8\n"));
         }
         _ => panic!(rt; "it is taken"),

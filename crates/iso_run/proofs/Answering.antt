@@ -1,71 +1,82 @@
 -- How a run that was reported, or that has a fault, and a plan that was shown are answered.
-use Rattle.std.proofs.Common.{◌≡◌, ℕ, List, Result, Ok, Err, MatchResult, true, ap, sym, cond, subst, ◌∙◌}
-use Rattle.iso_inputs.specs.Suites.{texts}
-use Rattle.iso_inputs.specs.declared.inputs.Inputs.{Inputs}
-use Rattle.iso_run.specs.Commands.{Answered, Flushed, NotAnswered, NotReported, RanOn, Refuses}
-use Rattle.iso_run.specs.Replays.{NotReplayed, Replayed}
-use Rattle.iso_run.specs.Runs.{Refused, Reported, Untouched}
+use Rattle.std.proofs.Common.{◌≡◌, ℕ, List, [], Option, Some, Result, Ok, Err, MatchResult, true, ap, sym, cond, subst, ◌∙◌}
+use Rattle.std.specs.Borrow.{Bor}
+use Rattle.iso_arguments.specs.Requests.{IsPlainRun}
+use Rattle.iso_arguments.specs.declared.request.InputFiles.{InputFiles}
+use Rattle.iso_arguments.specs.declared.request.Request.{Request}
+use Rattle.iso_arguments.specs.declared.request.Request.TheVariants.{Replay}
+use Rattle.iso_run.specs.CommandFaults.{Answers, Flushed, IsRefusal, NotAnswered, command_aftermath}
+use Rattle.iso_run.specs.Commands.{Answered, Did, OfBytes, OfFiles, Reports, WereRead, script_texts}
+use Rattle.iso_run.specs.Faults.{Aftermath, Refuses, GivesUp, BreaksOff, Leaves, Untouched, aftermath}
+use Rattle.iso_run.specs.Replays.{IsPlayed}
+use Rattle.iso_run.specs.Runs.{NotWritten, Reported, Shown, suite_plan, suite_report}
+use Rattle.iso_run.specs.Suites.{Suite, texts}
 use Rattle.iso_run.specs.declared.command_fault.CommandFault.{CommandFault}
 use Rattle.iso_run.specs.declared.fault.RunFault.{RunFault}
-use Rattle.iso_run.specs.declared.fault.RunFault.TheVariants as F
-use Rattle.iso_run.specs.declared.run.Summary.{Summary}
-use Rattle.iso_tap.specs.Sinks.{Account, Wrote, failures_after}
+use Rattle.iso_run.specs.declared.files.InputBytes.{InputBytes}
+use Rattle.iso_run.specs.declared.inputs.Inputs.{Inputs}
+use Rattle.iso_run.specs.declared.report.Summary.{Summary}
+use Rattle.iso_tap.specs.Sinks.{Account, HasFailed, Wrote, failures_after}
 
-pub refused-leaves : (inputs : Inputs) (old new : Account) (fault : RunFault) → Refused inputs old new fault → NotReported fault old new
-refused-leaves inputs old new (F.Settings fault) h = h.1
-refused-leaves inputs old new (F.World fault) h = h.1
-refused-leaves inputs old new (F.Script index fault) h = h.1
-refused-leaves inputs old new (F.Plan fault) h = h.1
-refused-leaves inputs old new (F.Schedule fault) h = absurd h
-refused-leaves inputs old new (F.Refused index why) h = absurd h
-refused-leaves inputs old new F.Unfinished h = absurd h
-refused-leaves inputs old new F.Memory h = h
-refused-leaves inputs old new (F.Write written) h = h.broken.failed
+weaker : (P Q : Type 0) → (P → Q) → (old new : Account) (of : Aftermath) → Leaves P old new of → Leaves Q old new of
+weaker P Q f old new Refuses h = h
+weaker P Q f old new GivesUp h = h
+weaker P Q f old new BreaksOff h = f h
 
-pub unreplayed-leaves : (inputs : Inputs) (schedule : List ℕ) (old new : Account) (fault : RunFault) → NotReplayed inputs schedule old new fault → NotReported fault old new
-unreplayed-leaves inputs schedule old new (F.Settings fault) h = h.1
-unreplayed-leaves inputs schedule old new (F.World fault) h = h.1
-unreplayed-leaves inputs schedule old new (F.Script index fault) h = h.1
-unreplayed-leaves inputs schedule old new (F.Plan fault) h = h.1
-unreplayed-leaves inputs schedule old new (F.Schedule fault) h = h.1
-unreplayed-leaves inputs schedule old new (F.Refused index why) h = h.1
-unreplayed-leaves inputs schedule old new F.Unfinished h = h.1
-unreplayed-leaves inputs schedule old new F.Memory h = h
-unreplayed-leaves inputs schedule old new (F.Write written) h = h.1.broken.failed
+-- the fault of a command that comes of one of a run leaves of the output what that one does
+pub refused : (text : Suite → List ℕ) (inputs : Inputs) (schedule : Option (List ℕ)) (old new : Account) (fault : RunFault) (of : CommandFault)
+    → NotWritten text inputs schedule old new fault → command_aftermath of ≡ aftermath fault → NotAnswered old new of
+refused text inputs schedule old new fault of h same =
+    subst (Leaves (HasFailed old.failures new.failures) old new) (sym same) (weaker _ (HasFailed old.failures new.failures) (λ cut. cut.broken.broken.failed) old new (aftermath fault) h.leaves)
 
--- where a run isn't reported, its fault is left
-pub ran : (inputs : Inputs) (old new : Account) (result : Result Summary RunFault) → MatchResult result (λ s. Reported inputs old new s.all_ok) (Refused inputs old new)
-    → MatchResult result (λ s. Reported inputs old new s.all_ok) (λ fault. NotReported fault old new)
-ran inputs old new (Ok summary) h = h
-ran inputs old new (Err fault) h = refused-leaves inputs old new fault h
-
-pub replayed : (inputs : Inputs) (schedule : List ℕ) (old new : Account) (result : Result Summary RunFault)
-    → MatchResult result (λ s. Replayed inputs schedule old new s.all_ok) (NotReplayed inputs schedule old new) → MatchResult result (λ s. Reported inputs old new s.all_ok) (λ fault. NotReported fault old new)
-replayed inputs schedule old new (Ok summary) h = h.1
-replayed inputs schedule old new (Err fault) h = unreplayed-leaves inputs schedule old new fault h
-
-pub shown : (old mid new : Account) (text : List ℕ) → Wrote old mid text → (answer : Result ℕ CommandFault) → Flushed 0 mid new answer → MatchResult answer (λ s. Answered s old new) (λ fault. NotAnswered fault old new)
-shown old mid new text wrote (Ok status) end = subst (λ (s : ℕ). Answered s old new) (sym end.0) (record { text = text; wrote = subst (λ (a : Account). Wrote old a text) (sym end.1) wrote })
-shown old mid new text wrote (Err fault) end = subst (λ (f : CommandFault). NotAnswered f old new) (sym end.0) (end.1 ∙ ap (failures_after true) wrote.failures)
+-- after a whole text, the output failed as it was flushed
+pub unflushed : (old mid new : Account) (text : List ℕ) (fault : CommandFault) (status : ℕ) → Wrote old mid text → Flushed status mid new (Err fault) → NotAnswered old new fault
+unflushed old mid new text fault status wrote end = subst (NotAnswered old new) (sym end.0) (end.1 ∙ ap (failures_after true) wrote.failures)
 
 -- what is answered of a run, by what the run came to
-abbrev pub Answers : Result Summary RunFault → Account → Account → Result ℕ CommandFault → Type 0
-Answers ran old new answer = MatchResult ran (λ s. Flushed (cond s.all_ok 0 1) old new answer) (λ fault. Refuses fault answer × Untouched old new)
+abbrev pub AnswersRun : Result Summary RunFault → Account → Account → Result ℕ CommandFault → Type 0
+AnswersRun ran old new answer = MatchResult ran (λ s. Flushed (cond s.all_ok 0 1) old new answer) (λ fault. IsRefusal fault answer × Untouched old new)
 
-module _ (inputs : Inputs) (scripts : List (List ℕ)) (settings world : List ℕ) (processors : ℕ) (scripts_are : texts inputs.scripts.now ≡ scripts) (settings_are : inputs.settings.now ≡ settings)
-    (world_is : inputs.world.now ≡ world) (processors_are : inputs.processors ≡ processors) (old mid new : Account) where
-  pub answered : (result : Result Summary RunFault) (answer : Result ℕ CommandFault) → MatchResult result (λ s. Reported inputs old mid s.all_ok) (λ fault. NotReported fault old mid)
-      → Answers result mid new answer → MatchResult answer (RanOn scripts settings world processors old new) (λ fault. NotAnswered fault old new)
-  answered (Ok summary) (Ok status) reported end = record {
-    inputs = inputs;
-    scripts_are = scripts_are;
-    settings_are = settings_are;
-    world_is = world_is;
-    processors_are = processors_are;
+module _ (bytes : InputBytes) (processors : ℕ) (inputs : Inputs) (scripts_are : texts inputs.scripts.now ≡ script_texts bytes) (settings_are : inputs.settings.now ≡ bytes.settings.items)
+    (world_is : inputs.world.now ≡ bytes.world.items) (processors_are : inputs.processors ≡ processors) (old mid new : Account) where
+  -- what is true of the inputs is true of inputs of these bytes
+  of-bytes : (P : Inputs → Type 0) → P inputs → OfBytes bytes processors P
+  of-bytes P holds = record { inputs = inputs; scripts_are = scripts_are; settings_are = settings_are; world_is = world_is; processors_are = processors_are; holds = holds }
+
+  pub answered : (schedule : Option (List ℕ)) (result : Result Summary RunFault) (answer : Result ℕ CommandFault)
+      → MatchResult result (λ s. IsPlayed inputs schedule true × Reported inputs old mid s.all_ok) (NotWritten suite_report inputs schedule old mid)
+      → AnswersRun result mid new answer → Answers (λ s. OfBytes bytes processors (λ i. Reports i schedule old new s)) old new answer
+  answered schedule (Ok summary) (Ok status) ran end = of-bytes (λ i. Reports i schedule old new status) (record {
     ok = summary.all_ok;
-    reported = subst (λ (a : Account). Reported inputs old a summary.all_ok) (sym end.1) reported;
+    played = ran.0;
+    reported = subst (λ (a : Account). Reported inputs old a summary.all_ok) (sym end.1) ran.1;
     tells = end.0;
-  }
-  answered (Ok summary) (Err fault) reported end = subst (λ (f : CommandFault). NotAnswered f old new) (sym end.0) (end.1 ∙ ap (failures_after true) reported.wrote.failures)
-  answered (Err fault) (Ok status) refused end = absurd end.0
-  answered (Err fault) (Err answer) refused end = subst (λ (a : Account). NotAnswered answer old a) (sym end.1) (end.0 old mid refused)
+  })
+  answered schedule (Ok summary) (Err fault) ran end = unflushed old mid new (suite_report ran.1.suite) fault (cond summary.all_ok 0 1) ran.1.wrote end
+  answered schedule (Err fault) (Ok status) unwritten end = absurd end.0
+  answered schedule (Err fault) (Err of) unwritten end = subst (λ (a : Account). NotAnswered old a of) (sym end.1) (refused suite_report inputs schedule old mid fault of unwritten end.0)
+
+  pub shown : (answer : Result ℕ CommandFault) → Shown inputs old mid → Flushed 0 mid new answer → Answers (λ s. (s ≡ 0) × OfBytes bytes processors (λ i. Shown i old new)) old new answer
+  shown (Ok status) h end = (end.0, of-bytes (λ i. Shown i old new) (subst (λ (a : Account). Shown inputs old a) (sym end.1) h))
+  shown (Err fault) h end = unflushed old mid new (suite_plan h.suite) fault 0 h.wrote end
+
+-- what is true of inputs of the bytes that were read for files is true of inputs of these files
+pub of-files : (files : InputFiles) (input : Option (List ℕ)) (bytes : InputBytes) (P : Inputs → Type 0) → WereRead files input bytes → OfBytes bytes files.processors P → OfFiles files input P
+of-files files input bytes P read h = record {
+  inputs = h.inputs;
+  are_of = rw (h.settings_are, h.world_is, h.scripts_are) read;
+  processors_are = h.processors_are;
+  holds = h.holds;
+}
+
+-- what is answered of a replay's inputs is answered of its request
+pub did-replay : (files : InputFiles) (input : Option (List ℕ)) (bytes : InputBytes) → WereRead files input bytes → (old new : Account) (name : Bor (List ℕ)) (schedule : List ℕ) (result : Result ℕ CommandFault)
+    → Answers (λ s. OfBytes bytes files.processors (λ i. Reports i (Some schedule) old new s)) old new result → Answers (Did (Replay name files) input old new) old new result
+did-replay files input bytes read old new name schedule (Ok status) h = (schedule, of-files files input bytes (λ i. Reports i (Some schedule) old new status) read h)
+did-replay files input bytes read old new name schedule (Err fault) h = h
+
+-- what is answered of a request is answered of the words that ask for it
+pub answered-words : {A : Type 0} (words : List A) (request : Request) (input : Option (List ℕ)) (old new : Account) → (words ≡ [] → IsPlainRun request) → (result : Result ℕ CommandFault)
+    → Answers (Did request input old new) old new result → Answers (Answered words input old new) old new result
+answered-words words request input old new plain (Ok status) h = record { request = request; plain = plain; did = h }
+answered-words words request input old new plain (Err fault) h = h

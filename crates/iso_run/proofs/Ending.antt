@@ -1,57 +1,61 @@
 -- How a command ends, by what it answers.
-use Rattle.std.proofs.Common.{ℕ, zero, suc, ◌≤◌, List, Option, None, Some, IfSome, inl, inr, arith}
-use Rattle.iso_run.specs.Commands.{Answered, Ended, NotAnswered, NotReported, command_status}
-use Rattle.iso_run.specs.Runs.{status}
-use Rattle.iso_run.specs.declared.command_fault.CommandFault.{CommandFault}
-use Rattle.iso_run.specs.declared.command_fault.CommandFault.TheVariants.{Words, Unreadable, TooLarge, Unwritten, Run}
-use Rattle.iso_run.specs.declared.fault.RunFault.{RunFault}
-use Rattle.iso_run.specs.declared.fault.RunFault.TheVariants as F
-use Rattle.iso_tap.specs.Sinks.{Account}
+use Rattle.std.proofs.Common.{◌≡◌, ℕ, zero, suc, ◌+◌, ◌≤◌, List, [], ◌∷◌, take, Bool, true, false, cond, Option, None, Some, IfSome, inl, inr, arith, ◌∙◌}
+use Rattle.iso_arguments.specs.Requests.{IsPlainRun}
+use Rattle.iso_arguments.specs.declared.request.Request.{Request}
+use Rattle.iso_arguments.specs.declared.request.Request.TheVariants.{Run, Plan, Replay, Show}
+use Rattle.iso_model.specs.declared.limits.TheConstants.{FILE_BYTES}
+use Rattle.iso_run.specs.Commands.{Answered, Did, Ended, RanOn}
+use Rattle.iso_run.specs.Faults.{Aftermath, Refuses, GivesUp, BreaksOff, Leaves, exit_status}
+use Rattle.iso_tap.specs.Sinks.{Account, HasFailed}
 
-pub ended-well : (answer : ℕ) (old new : Account) → Answered answer old new → Ended answer old new
-ended-well zero old new h = h
-ended-well (suc zero) old new h = h
-ended-well (suc (suc n)) old new h = absurd h
+-- a status that tells whether all is ok is 0 or 1
+never-two : (ok : Bool) (n : ℕ) → suc (suc n) ≡ cond ok 0 1 → ⊥
+never-two true n e = absurd (omega arith)
+never-two false n e = absurd (omega arith)
 
-ended-run : (fault : RunFault) (old new : Account) → NotReported fault old new → Ended (status fault) old new
-ended-run (F.Settings fault) old new h = h
-ended-run (F.World fault) old new h = h
-ended-run (F.Script index fault) old new h = h
-ended-run (F.Plan fault) old new h = h
-ended-run (F.Schedule fault) old new h = h
-ended-run (F.Refused index why) old new h = h
-ended-run F.Unfinished old new h = h
-ended-run F.Memory old new h = inl h
-ended-run (F.Write written) old new h = inr h
+never-high : (request : Request) (input : Option (List ℕ)) (old new : Account) (n : ℕ) → Did request input old new (suc (suc n)) → ⊥
+never-high (Show text) input old new n did = never-two true n did.0
+never-high (Plan files) input old new n did = never-two true n did.0
+never-high (Run serial files) input old new n did = never-two did.holds.ok n did.holds.tells
+never-high (Replay name files) input old new n did = never-two did.1.holds.ok n did.1.holds.tells
 
-pub ended-early : (fault : CommandFault) (old new : Account) → NotAnswered fault old new → Ended (command_status fault) old new
-ended-early (Words text) old new h = h
-ended-early (Unreadable name) old new h = inl h
-ended-early (TooLarge name) old new h = h
-ended-early Unwritten old new h = inr h
-ended-early (Run fault name) old new h = ended-run fault old new h
+module _ {A : Type 0} (words : List A) (input : Option (List ℕ)) (old new : Account) where
+  pub ended-well : (answer : ℕ) → Answered words input old new answer → Ended words input old new answer
+  ended-well zero h = h
+  ended-well (suc zero) h = h
+  ended-well (suc (suc n)) h = absurd (never-high h.request input old new n h.did)
 
-run-two : (fault : RunFault) → 2 ≤ status fault
-run-two (F.Settings fault) = omega arith
-run-two (F.World fault) = omega arith
-run-two (F.Script index fault) = omega arith
-run-two (F.Plan fault) = omega arith
-run-two (F.Schedule fault) = omega arith
-run-two (F.Refused index why) = omega arith
-run-two F.Unfinished = omega arith
-run-two F.Memory = omega arith
-run-two (F.Write written) = omega arith
+  pub ended-early : (of : Aftermath) → Leaves (HasFailed old.failures new.failures) old new of → Ended words input old new (exit_status of)
+  ended-early Refuses h = h
+  ended-early GivesUp h = inl h
+  ended-early BreaksOff h = inr h
 
-pub two : (fault : CommandFault) → 2 ≤ command_status fault
-two (Words text) = omega arith
-two (Unreadable name) = omega arith
-two (TooLarge name) = omega arith
-two Unwritten = omega arith
-two (Run fault name) = run-two fault
+pub at-least-two : (of : Aftermath) → 2 ≤ exit_status of
+at-least-two Refuses = omega arith
+at-least-two GivesUp = omega arith
+at-least-two BreaksOff = omega arith
 
-pub if-low : (known : Option (List ℕ)) (P : List ℕ → Type 0) (answer : ℕ) → IfSome known P → IfSome known (λ bytes. answer ≤ 1 → P bytes)
-if-low None P answer h = tt
-if-low (Some bytes) P answer h = λ low. h
+-- a plain run reported on what stood on the input
+plain-ran : (request : Request) (bytes : List ℕ) (old new : Account) (answer : ℕ) → IsPlainRun request → Did request (Some bytes) old new answer
+    → RanOn (take (FILE_BYTES + 1) bytes ∷ []) [] [] 1 old new answer
+plain-ran (Show text) bytes old new answer is did = absurd is
+plain-ran (Plan files) bytes old new answer is did = absurd is
+plain-ran (Replay name files) bytes old new answer is did = absurd is
+plain-ran (Run serial files) bytes old new answer is did = record {
+  inputs = did.inputs;
+  scripts_are = did.are_of.scripts_named is.2;
+  settings_are = did.are_of.settings_named is.0;
+  world_is = did.are_of.world_named is.1;
+  processors_are = did.processors_are ∙ is.3;
+  ok = did.holds.ok;
+  reported = did.holds.reported;
+  tells = did.holds.tells;
+}
+
+pub without-words : {A : Type 0} (words : List A) (known : Option (List ℕ)) (old new : Account) (answer : ℕ) → words ≡ [] → Answered words known old new answer
+    → IfSome known (λ bytes. answer ≤ 1 → RanOn (take (FILE_BYTES + 1) bytes ∷ []) [] [] 1 old new answer)
+without-words words None old new answer none h = tt
+without-words words (Some bytes) old new answer none h = λ low. plain-ran h.request bytes old new answer (h.plain none) h.did
 
 pub never-low : (known : Option (List ℕ)) (P : List ℕ → Type 0) (answer : ℕ) → 2 ≤ answer → IfSome known (λ bytes. answer ≤ 1 → P bytes)
 never-low None P answer two = tt

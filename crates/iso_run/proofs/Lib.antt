@@ -1,5 +1,8 @@
 mod Answering
+mod Documents
 mod Ending
 mod Reading
 mod Replaying
 mod Reporting
+mod Turns
+mod Unread

@@ -1,7 +1,7 @@
 -- The report of results is that of their suite.
-use Rattle.std.proofs.Common.{◌≡◌, ℕ, List, Bool, true, Result, Ok, Err, MatchResult, subst, sym, ap, ap₂, ◌∙◌}
-use Rattle.iso_inputs.specs.Suites.{IsSuite, Suite}
-use Rattle.iso_inputs.specs.declared.inputs.Inputs.{Inputs}
+use Rattle.std.proofs.Common.{◌≡◌, ℕ, List, Bool, true, Option, Some, Result, Ok, Err, MatchResult, refl, subst, sym, ap, ap₂, ◌∙◌}
+use Rattle.iso_run.specs.Suites.{IsSuite, Suite}
+use Rattle.iso_run.specs.declared.inputs.Inputs.{Inputs}
 use Rattle.iso_lifecycle.specs.ResultViews.{ResultsView, outcome_in}
 use Rattle.iso_lifecycle.specs.Subjects.{outcome_alone, started}
 use Rattle.iso_plan.specs.Planned.{Planned}
@@ -10,10 +10,11 @@ use Rattle.iso_plan.specs.Tree.{Row, tree}
 use Rattle.iso_settings.specs.Worlds.{Start}
 use Rattle.iso_tap.specs.Reports.{all_ok, report}
 use Rattle.iso_tap.specs.Sinks.{Account, Wrote}
-use Rattle.iso_run.specs.Replays.{IsAccepted, NotReplayed, Replayed}
-use Rattle.iso_run.specs.Runs.{Broken, CutShort, IsBroken, Refused, Reported, ReportedOf, suite_ok, suite_report}
+use Rattle.iso_run.specs.Replays.{IsAccepted, IsPlayed}
+use Rattle.iso_run.specs.Runs.{IsBroken, NotWritten, Replayed, Reported, ReportedOf, suite_ok, suite_report}
 use Rattle.iso_run.specs.declared.fault.RunFault.{RunFault}
-use Rattle.iso_run.specs.declared.run.Summary.{Summary}
+use Rattle.iso_run.specs.declared.fault.RunFault.TheVariants.{Write}
+use Rattle.iso_run.specs.declared.report.Summary.{Summary}
 
 pub report-is : (suite : Suite) (plan : Planned) (v : ResultsView) → tree_of plan ≡ tree suite.scripts → v.plan ≡ plan → v.start ≡ suite.start → report (tree_of plan) (outcome_in v) ≡ suite_report suite
 report-is suite plan v made of on =
@@ -25,6 +26,13 @@ ok-is suite plan v made of on =
     ap₂ (λ (pl : Planned) (s : Start). all_ok (tree_of plan) (outcome_alone (tree_of pl) (started s))) of on
     ∙ ap (λ (rows : List Row). all_ok rows (outcome_alone rows (started suite.start))) made
 
+-- why a text of a suite wasn't written whole, where the sink failed
+pub cut-short : (text : Suite → List ℕ) (inputs : Inputs) (schedule : Option (List ℕ)) (suite : Suite) → IsSuite inputs suite → IsPlayed inputs schedule true → (old new : Account) (fault : RunFault)
+    → IsBroken (text suite) old new fault → NotWritten text inputs schedule old new fault
+cut-short text inputs schedule suite is played old new fault broken =
+    let whole : IsBroken (text suite) old new (Write broken.written) = record { written = broken.written; is = refl; broken = broken.broken } in
+    subst (λ (f : RunFault). NotWritten text inputs schedule old new f) (sym broken.is) (record { cause = played; leaves = record { suite = suite; is_suite = is; broken = whole } })
+
 module _ (inputs : Inputs) (old new : Account) (suite : Suite) (plan : Planned) (v : ResultsView) (is : IsSuite inputs suite) (made : tree_of plan ≡ tree suite.scripts) (of : v.plan ≡ plan) (on : v.start ≡ suite.start) where
   pub reported-whole : (ok : Bool) → ReportedOf (tree_of plan) (outcome_in v) old new ok → Reported inputs old new ok
   reported-whole ok whole = record {
@@ -34,17 +42,16 @@ module _ (inputs : Inputs) (old new : Account) (suite : Suite) (plan : Planned) 
     tells = whole.tells ∙ ok-is suite plan v made of on;
   }
 
-  pub reported-cut : (written : ℕ) → Broken (report (tree_of plan) (outcome_in v)) old new written → CutShort inputs old new written
-  reported-cut written broken = record { suite = suite; is_suite = is; broken = subst (λ (text : List ℕ). Broken text old new written) (report-is suite plan v made of on) broken }
-
   -- what is answered of the results of a suite is answered of a run of it, and of an accepted replay
-  pub run-reported : (result : Result Summary RunFault) → MatchResult result (λ s. ReportedOf (tree_of plan) (outcome_in v) old new s.all_ok) (IsBroken (report (tree_of plan) (outcome_in v)) old new)
-      → MatchResult result (λ s. Reported inputs old new s.all_ok) (Refused inputs old new)
-  run-reported (Ok summary) whole = reported-whole summary.all_ok whole
-  run-reported (Err fault) broken = subst (λ (f : RunFault). Refused inputs old new f) (sym broken.is) (reported-cut broken.written broken.broken)
+  pub reported : (schedule : Option (List ℕ)) → IsPlayed inputs schedule true → (result : Result Summary RunFault)
+      → MatchResult result (λ s. ReportedOf (tree_of plan) (outcome_in v) old new s.all_ok) (IsBroken (report (tree_of plan) (outcome_in v)) old new)
+      → MatchResult result (λ s. Reported inputs old new s.all_ok) (NotWritten suite_report inputs schedule old new)
+  reported schedule played (Ok summary) whole = reported-whole summary.all_ok whole
+  reported schedule played (Err fault) broken =
+      cut-short suite_report inputs schedule suite is played old new fault (subst (λ (text : List ℕ). IsBroken text old new fault) (report-is suite plan v made of on) broken)
 
   pub replay-reported : (schedule : List ℕ) → IsAccepted inputs schedule true → (result : Result Summary RunFault)
       → MatchResult result (λ s. ReportedOf (tree_of plan) (outcome_in v) old new s.all_ok) (IsBroken (report (tree_of plan) (outcome_in v)) old new)
-      → MatchResult result (λ s. Replayed inputs schedule old new s.all_ok) (NotReplayed inputs schedule old new)
-  replay-reported schedule accepted (Ok summary) whole = (accepted, reported-whole summary.all_ok whole)
-  replay-reported schedule accepted (Err fault) broken = subst (λ (f : RunFault). NotReplayed inputs schedule old new f) (sym broken.is) (accepted, reported-cut broken.written broken.broken)
+      → MatchResult result (λ s. Replayed inputs schedule old new s.all_ok) (NotWritten suite_report inputs (Some schedule) old new)
+  replay-reported schedule accepted (Ok summary) whole = (accepted, reported (Some schedule) accepted (Ok summary) whole)
+  replay-reported schedule accepted (Err fault) broken = reported (Some schedule) accepted (Err fault) broken

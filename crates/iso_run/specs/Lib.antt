@@ -1,4 +1,6 @@
+pub mod CommandFaults
 pub mod Commands
-pub mod PlanRuns
+pub mod Faults
 pub mod Replays
 pub mod Runs
+pub mod Suites

@@ -1,26 +1,24 @@
--- What a replay of a recorded schedule answers and what its sink took.
-use Rattle.std.specs.Prelude.{◌≡◌, ℕ, List, Bool, true, false, Some, Ok, Err}
+-- What a replay of a recorded schedule comes to, and why a run or a replay has no whole report.
+use Rattle.std.specs.Prelude.{◌≡◌, ⊤, ℕ, List, Bool, true, false, Option, None, Some, Ok, Err, IsOk, IsSomeAnd}
 use Rattle.iso_standing.specs.CodeEvents.{refused_of}
 use Rattle.iso_core.specs.Cores.{is_complete}
 use Rattle.iso_core.specs.EventRuns.{AreAccepted, RefusedAt, core_after}
 use Rattle.iso_core.specs.declared.core_fault.CoreFault.TheVariants as C
 use Rattle.iso_standing.specs.declared.refused.Refused.{Refused as Why}
 use Rattle.iso_core.specs.declared.run_events.EventsFault.{EventsFault}
-use Rattle.iso_inputs.specs.Suites.{Suite, HasFault, IsSuite}
-use Rattle.iso_inputs.specs.declared.fault.InputFault.TheVariants as F
-use Rattle.iso_inputs.specs.declared.inputs.Inputs.{Inputs}
 use Rattle.iso_plan.specs.Planned.{Planned}
 use Rattle.iso_plan.specs.RowView.{tree_of}
 use Rattle.iso_plan.specs.Tree.{tree}
-use Rattle.iso_run.specs.Runs.{CutShort, Reported, Untouched}
+use Rattle.iso_run.specs.Faults.{IsEarly, aftermath}
+use Rattle.iso_run.specs.Suites.{Suite, AreSet, FirstUnread, HasNoPlan, IsSuite, settings_from, world_from}
 use Rattle.iso_run.specs.declared.fault.RunFault.{RunFault}
 use Rattle.iso_run.specs.declared.fault.RunFault.TheVariants.{Settings, World, Script, Plan, Schedule, Refused, Unfinished, Memory, Write}
+use Rattle.iso_run.specs.declared.inputs.Inputs.{Inputs}
 use Rattle.iso_schedule.specs.Schedules.{AreRead}
 use Rattle.iso_standing.specs.declared.event.Event.{Event}
 use Rattle.iso_schedule.specs.declared.fault.ScheduleError.{ScheduleError}
 use Rattle.iso_schedule.specs.declared.fault.ScheduleError.TheVariants as S
 use Rattle.iso_schedule.specs.declared.fault.ScheduleFault.{ScheduleFault}
-use Rattle.iso_tap.specs.Sinks.{Account}
 
 -- the fault of a replay whose schedule could not be read
 abbrev pub schedule_fault : ScheduleError → RunFault
@@ -61,18 +59,25 @@ pub record IsAccepted (inputs : Inputs) (schedule : List ℕ) (whole : Bool) : T
   pub accepted : AreAccepted replay.plan replay.suite.start replay.suite.settings.worker_count replay.events
   pub ends : is_complete (core_after replay.plan replay.suite.start replay.suite.settings.worker_count replay.events) ≡ whole
 
--- The schedule is accepted to its end and whole, and the report of the suite that the inputs are was written.
-abbrev pub Replayed : Inputs → List ℕ → Account → Account → Bool → Type 0
-Replayed inputs schedule old new ok = IsAccepted inputs schedule true × Reported inputs old new ok
+-- Where there is a schedule, it is accepted to its end, and this tells whether every node but the root is finished then. A run
+-- without one is whole.
+abbrev pub IsPlayed : Inputs → Option (List ℕ) → Bool → Type 0
+IsPlayed inputs None whole = whole ≡ true
+IsPlayed inputs (Some schedule) whole = IsAccepted inputs schedule whole
 
--- Why a replay has no whole report. But for a failed write the sink was asked nothing.
-abbrev pub NotReplayed : Inputs → List ℕ → Account → Account → RunFault → Type 0
-NotReplayed inputs schedule old new (Settings fault) = HasFault inputs (F.Settings fault) × Untouched old new
-NotReplayed inputs schedule old new (World fault) = HasFault inputs (F.World fault) × Untouched old new
-NotReplayed inputs schedule old new (Script index fault) = HasFault inputs (F.Script index fault) × Untouched old new
-NotReplayed inputs schedule old new (Plan fault) = HasFault inputs (F.Plan fault) × Untouched old new
-NotReplayed inputs schedule old new (Schedule fault) = HasWrongLine inputs schedule fault × Untouched old new
-NotReplayed inputs schedule old new (Refused index why) = IsRefused inputs schedule index why × Untouched old new
-NotReplayed inputs schedule old new Unfinished = IsAccepted inputs schedule false × Untouched old new
-NotReplayed inputs schedule old new Memory = Untouched old new
-NotReplayed inputs schedule old new (Write written) = IsAccepted inputs schedule true × CutShort inputs old new written
+-- Why a text of a suite wasn't written whole: the first fault in the order settings, world, scripts in turn, plan, and where
+-- there is a schedule, its lines and events.
+abbrev pub Cause : Inputs → (schedule : Option (List ℕ)) → RunFault → Type 0
+Cause inputs schedule (Settings fault) = settings_from inputs.settings.now inputs.processors ≡ Err fault
+Cause inputs schedule (World fault) = IsOk (settings_from inputs.settings.now inputs.processors) × (world_from inputs.world.now ≡ Err fault)
+Cause inputs schedule (Script index fault) = AreSet inputs × FirstUnread inputs.scripts.now index fault
+Cause inputs schedule (Plan fault) = AreSet inputs × HasNoPlan inputs fault
+Cause inputs schedule (Schedule fault) = IsSomeAnd schedule (λ bytes. HasWrongLine inputs bytes fault)
+Cause inputs schedule (Refused index why) = IsSomeAnd schedule (λ bytes. IsRefused inputs bytes index why)
+Cause inputs schedule Unfinished = IsPlayed inputs schedule false
+Cause inputs schedule Memory = ⊤
+Cause inputs schedule (Write written) = IsPlayed inputs schedule true
+
+-- why inputs aren't read as a suite, before anything is asked of a sink
+abbrev pub NotRead : Inputs → RunFault → Type 0
+NotRead inputs fault = Cause inputs None fault × IsEarly (aftermath fault)

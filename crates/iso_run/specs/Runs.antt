@@ -1,44 +1,20 @@
--- What a run answers and what its sink took.
-use Rattle.std.specs.Prelude.{◌≡◌, ℕ, ◌<◌, List, Bool, length, map, take}
-use Rattle.iso_inputs.specs.Suites.{Suite, HasFault, IsSuite, suite_of}
-use Rattle.iso_inputs.specs.declared.fault.InputError.{InputError}
-use Rattle.iso_inputs.specs.declared.fault.InputError.TheVariants.{Fault, OutOfMemory}
-use Rattle.iso_inputs.specs.declared.fault.InputFault.TheVariants as F
-use Rattle.iso_inputs.specs.declared.inputs.Inputs.{Inputs}
-use Rattle.iso_inputs.specs.declared.inputs.Suite.{Suite as ReadSuite}
+-- What a run, a replay and a printed plan answer, and what the sink took.
+use Rattle.std.specs.Prelude.{◌≡◌, ℕ, ◌<◌, List, Bool, true, Option, length, map, take}
+use Rattle.iso_run.specs.Faults.{Leaves, aftermath}
+use Rattle.iso_run.specs.Replays.{Cause, IsAccepted}
+use Rattle.iso_run.specs.Suites.{Suite, IsSuite, suite_of}
 use Rattle.iso_run.specs.declared.fault.RunFault.{RunFault}
-use Rattle.iso_run.specs.declared.fault.RunFault.TheVariants.{Settings, World, Script, Plan, Schedule, Refused as IsRefused, Unfinished, Memory, Write}
+use Rattle.iso_run.specs.declared.fault.RunFault.TheVariants.{Write}
+use Rattle.iso_run.specs.declared.inputs.Inputs.{Inputs}
+use Rattle.iso_run.specs.declared.inputs.Suite.{Suite as ReadSuite}
 use Rattle.iso_lifecycle.specs.Subjects.{outcome_alone, started}
 use Rattle.iso_model.specs.declared.outcome.Outcome.{Outcome}
 use Rattle.iso_model.specs.ScriptView.{script_of}
 use Rattle.iso_plan.specs.RowView.{tree_of}
 use Rattle.iso_plan.specs.Tree.{Row, tree}
+use Rattle.iso_tap.specs.PlanText.{plan_text}
 use Rattle.iso_tap.specs.Reports.{all_ok, report}
 use Rattle.iso_tap.specs.Sinks.{Account, HasFailed, Took, Wrote}
-
--- the fault of a run whose inputs could not be read
-abbrev pub run_fault : InputError → RunFault
-run_fault (Fault (F.Settings fault)) = Settings fault
-run_fault (Fault (F.World fault)) = World fault
-run_fault (Fault (F.Script index fault)) = Script index fault
-run_fault (Fault (F.Plan fault)) = Plan fault
-run_fault OutOfMemory = Memory
-
--- the exit status of a fault: 2 for refused input, 3 for memory and writing
-abbrev pub status : RunFault → ℕ
-status (Settings fault) = 2
-status (World fault) = 2
-status (Script index fault) = 2
-status (Plan fault) = 2
-status (Schedule fault) = 2
-status (IsRefused index why) = 2
-status Unfinished = 2
-status Memory = 3
-status (Write written) = 3
-
--- the sink was asked nothing
-abbrev pub Untouched : Account → Account → Type 0
-Untouched old new = new ≡ old
 
 -- the outcome of each node of a suite, by its number: that of the node run alone on what the world starts with
 abbrev pub suite_outcome : Suite → ℕ → Outcome
@@ -50,6 +26,10 @@ suite_report suite = report (tree suite.scripts) (suite_outcome suite)
 
 abbrev pub suite_ok : Suite → Bool
 suite_ok suite = all_ok (tree suite.scripts) (suite_outcome suite)
+
+-- the plan of a suite, as text, with the number of workers that its settings give
+abbrev pub suite_plan : Suite → List ℕ
+suite_plan suite = plan_text (tree suite.scripts) suite.settings suite.settings.worker_count
 
 -- The inputs are the suite that was read, with the plan of its scripts under its settings.
 pub record IsRead (inputs : Inputs) (suite : ReadSuite) : Type 0 where
@@ -69,6 +49,16 @@ pub record Reported (inputs : Inputs) (old new : Account) (ok : Bool) : Type 0 w
   pub wrote : Wrote old new (suite_report suite)
   pub tells : ok ≡ suite_ok suite
 
+-- The plan of the suite that the inputs are was written, whole.
+pub record Shown (inputs : Inputs) (old new : Account) : Type 0 where
+  pub suite : Suite
+  pub is_suite : IsSuite inputs suite
+  pub wrote : Wrote old new (suite_plan suite)
+
+-- The schedule is accepted to its end and whole, and the report of the suite that the inputs are was written.
+abbrev pub Replayed : Inputs → List ℕ → Account → Account → Bool → Type 0
+Replayed inputs schedule old new ok = IsAccepted inputs schedule true × Reported inputs old new ok
+
 -- The sink failed while a text was written; its first bytes were taken.
 pub record Broken (text : List ℕ) (old new : Account) (written : ℕ) : Type 0 where
   pub took : Took old new (take written text)
@@ -81,20 +71,13 @@ pub record IsBroken (text : List ℕ) (old new : Account) (fault : RunFault) : T
   pub is : fault ≡ Write written
   pub broken : Broken text old new written
 
--- The sink failed while the report of the suite that the inputs are was written.
-pub record CutShort (inputs : Inputs) (old new : Account) (written : ℕ) : Type 0 where
+-- The fault is that the sink failed while this text of the suite that the inputs are was written.
+pub record CutShort (text : Suite → List ℕ) (inputs : Inputs) (old new : Account) (fault : RunFault) : Type 0 where
   pub suite : Suite
   pub is_suite : IsSuite inputs suite
-  pub broken : Broken (suite_report suite) old new written
+  pub broken : IsBroken (text suite) old new fault
 
--- Why a run has no whole report: never for a schedule. But for a failed write the sink was asked nothing.
-abbrev pub Refused : Inputs → Account → Account → RunFault → Type 0
-Refused inputs old new (Settings fault) = HasFault inputs (F.Settings fault) × Untouched old new
-Refused inputs old new (World fault) = HasFault inputs (F.World fault) × Untouched old new
-Refused inputs old new (Script index fault) = HasFault inputs (F.Script index fault) × Untouched old new
-Refused inputs old new (Plan fault) = HasFault inputs (F.Plan fault) × Untouched old new
-Refused inputs old new (Schedule fault) = ⊥
-Refused inputs old new (IsRefused index why) = ⊥
-Refused inputs old new Unfinished = ⊥
-Refused inputs old new Memory = Untouched old new
-Refused inputs old new (Write written) = CutShort inputs old new written
+-- Why this text of a suite wasn't written whole, and what is left of the sink: but for a failed write it was asked nothing.
+pub record NotWritten (text : Suite → List ℕ) (inputs : Inputs) (schedule : Option (List ℕ)) (old new : Account) (fault : RunFault) : Type 0 where
+  pub cause : Cause inputs schedule fault
+  pub leaves : Leaves (CutShort text inputs old new fault) old new (aftermath fault)

@@ -1,29 +1,30 @@
 //! The program, over a reader and two sinks.
-ghost use Rattle.std.specs.Prelude.{◌≡◌, ◌≤◌, ◌+◌, [], ◌∷◌, IfSome, IfOk, MatchResult, cond, map, take};
-ghost use Rattle.iso_arguments.specs.Requests.{AsksForSomeProcessors, IsCount, IsPlainRun};
+ghost use Rattle.std.specs.Prelude.{◌≡◌, ◌≤◌, ◌+◌, [], ◌∷◌, IfSome, MatchResult, cond, true, option_map, take};
+ghost use Rattle.iso_arguments.specs.Requests.{AsksForSomeProcessors, IsCount};
 ghost use Rattle.iso_model.specs.declared.limits.TheConstants.{FILE_BYTES};
-ghost use Rattle.iso_run.specs.Commands.{Answered, Ended, Flushed, IsOf, NotAnswered, RanOn, Refuses};
-ghost use Rattle.iso_run.specs.Runs.{Untouched};
+ghost use Rattle.iso_run.specs.CommandFaults.{Answers, Flushed, IsRefusal, command_aftermath, words_status};
+ghost use Rattle.iso_run.specs.Commands.{Answered, Did, Ended, OfBytes, RanOn, Reports};
+ghost use Rattle.iso_run.specs.Faults.{Untouched, aftermath};
+ghost use Rattle.iso_run.specs.Replays.{IsPlayed};
+ghost use Rattle.iso_run.specs.Runs.{NotWritten, Reported, Shown, suite_report};
+ghost use Rattle.iso_tap.specs.Sinks.{Wrote};
 
 use crate::command_fault::CommandFault;
+use crate::exit::{ALL_OK, NOT_ALL_OK};
 use crate::fault::RunFault;
 use crate::files::{InputBytes, lent, read_file, read_files};
+use crate::inputs::Inputs;
+use crate::lines::say;
 use crate::plan::show_plan;
 use crate::replay::run_schedule;
-use crate::run::{Summary, run_serial};
+use crate::report::Summary;
+use crate::run::run_serial;
 use iso_arguments::request::{InputFiles, Request, WordsFault, read_words};
-use iso_inputs::inputs::Inputs;
 use iso_tap::sink::Sink;
 use iso_tap::text::write_text;
 use std::alloc::{AllocGlobal, Global};
-use std::fmt;
 use std::fs::Files;
 use std::io::Read;
-
-/// The status where every top-level point is ok, and where a plan or help was printed.
-const ALL_OK: u8 = 0;
-/// The status where some top-level point is not ok.
-const NOT_OK: u8 = 1;
 
 /// Runs the program: reads the words, then the files that they name in the order settings, world, scripts, schedule, writes
 /// a report, a plan or a help page to `output`, and a fault's line to `errors`. Where no script is named, one is read
@@ -37,7 +38,7 @@ pub fn command<G: AllocGlobal + Files, R: Read, W: Sink, E: Sink>(
     output: &mut W,
     errors: &mut E,
 ) -> u8
-    ensures ended { Ended result (W.account output.old) (W.account output.new) }
+    ensures ended { Ended words.now (R.remaining input.old) (W.account output.old) (W.account output.new) result }
     // Without words, what was run is the script on the input.
     ensures no_word { words.now ≡ [] → IfSome (R.remaining input.old) (λ bytes. result ≤ 1
         → RanOn (take (FILE_BYTES + 1) bytes ∷ []) [] [] 1 (W.account output.old) (W.account output.new) result) }
@@ -54,7 +55,7 @@ pub fn command<G: AllocGlobal + Files, R: Read, W: Sink, E: Sink>(
 
 /// Says that memory ran out before the program began, or that a word is wrong, and answers the status.
 pub fn refuse_words<E: Sink>(fault: WordsFault, errors: &mut E) -> u8
-    ensures { 2 ≤ result }
+    ensures { result ≡ words_status fault }
 {
     let fault = CommandFault::from(fault);
     say(errors, &fault);
@@ -68,11 +69,8 @@ fn answer<'a, G: AllocGlobal + Files, R: Read, W: Sink>(
     input: &mut R,
     output: &mut W,
 ) -> Result<u8, CommandFault<'a>>
-    ensures ended { MatchResult result
-        (λ s. Answered s (W.account output.old) (W.account output.new))
-        (λ f. NotAnswered f (W.account output.old) (W.account output.new)) }
-    ensures no_word { words.now ≡ [] → IfSome (R.remaining input.old) (λ bytes. IfOk result
-        (RanOn (take (FILE_BYTES + 1) bytes ∷ []) [] [] 1 (W.account output.old) (W.account output.new))) }
+    ensures { Answers (Answered words.now (R.remaining input.old) (W.account output.old) (W.account output.new))
+        (W.account output.old) (W.account output.new) result }
 {
     let request = read_words(rt.alloc(), words)?;
     answer_request(rt, &request, input, output)
@@ -86,11 +84,8 @@ fn answer_request<'a, G: AllocGlobal + Files, R: Read, W: Sink>(
     output: &mut W,
 ) -> Result<u8, CommandFault<'a>>
     requires { AsksForSomeProcessors request.now }
-    ensures ended { MatchResult result
-        (λ s. Answered s (W.account output.old) (W.account output.new))
-        (λ f. NotAnswered f (W.account output.old) (W.account output.new)) }
-    ensures plain { IsPlainRun request.now → IfSome (R.remaining input.old) (λ bytes. IfOk result
-        (RanOn (take (FILE_BYTES + 1) bytes ∷ []) [] [] 1 (W.account output.old) (W.account output.new))) }
+    ensures { Answers (Did request.now (R.remaining input.old) (W.account output.old) (W.account output.new))
+        (W.account output.old) (W.account output.new) result }
 {
     match request {
         Request::Show(text) => show(text.as_str(), output),
@@ -100,21 +95,20 @@ fn answer_request<'a, G: AllocGlobal + Files, R: Read, W: Sink>(
         }
         Request::Run { serial: _, files } => {
             let bytes = read_files(rt, files, input)?;
-            run(rt.alloc(), &bytes, files, output)
+            run(rt.alloc(), &bytes, None, files, output)
         }
         Request::Replay { schedule, files } => {
             let bytes = read_files(rt, files, input)?;
             let schedule = read_file(rt, *schedule)?;
-            replay(rt.alloc(), &bytes, &schedule, files, output)
+            run(rt.alloc(), &bytes, Some(&schedule), files, output)
         }
     }
 }
 
 /// Writes a text.
 fn show<W: Sink>(text: &str, output: &mut W) -> Result<u8, CommandFault<'static>>
-    ensures { MatchResult result
-        (λ s. Answered s (W.account output.old) (W.account output.new))
-        (λ f. NotAnswered f (W.account output.old) (W.account output.new)) }
+    ensures { Answers (λ s. (s ≡ 0) × Wrote (W.account output.old) (W.account output.new) text.now)
+        (W.account output.old) (W.account output.new) result }
 {
     if write_text(text, output).is_err() || output.flush().is_err() {
         return Err(CommandFault::Unwritten);
@@ -122,43 +116,42 @@ fn show<W: Sink>(text: &str, output: &mut W) -> Result<u8, CommandFault<'static>
     Ok(ALL_OK)
 }
 
-/// Runs a suite, and writes its report.
+/// Runs a suite, or replays a schedule of it where one is given, and writes its report.
 fn run<'a, W: Sink>(
     alloc: Global,
     bytes: &InputBytes,
+    schedule: Option<&[u8]>,
     files: &InputFiles<'a>,
     output: &mut W,
 ) -> Result<u8, CommandFault<'a>>
     requires { IsCount files.now.processors }
-    ensures { MatchResult result
-        (RanOn (map (λ v. v.items) bytes.now.scripts.items) bytes.now.settings.items bytes.now.world.items
-        files.now.processors (W.account output.old) (W.account output.new))
-        (λ f. NotAnswered f (W.account output.old) (W.account output.new)) }
+    ensures { Answers (λ s. OfBytes bytes.now files.now.processors (λ inputs.
+        Reports inputs (option_map (λ b. b.now) schedule.entry) (W.account output.old) (W.account output.new) s))
+        (W.account output.old) (W.account output.new) result }
 {
     let scripts = lent(alloc, &bytes.scripts)?;
     let inputs = inputs_of(bytes, &scripts, files.processors);
-    let ran = run_serial(alloc, inputs, output);
+    let ran = run_or_replay(alloc, inputs, schedule, output);
     answer_run(ran, files, output)
 }
 
-/// Replays a schedule of a suite, and writes its report.
-fn replay<'a, W: Sink>(
+/// Runs a suite, or replays a schedule of it where one is given.
+fn run_or_replay<W: Sink>(
     alloc: Global,
-    bytes: &InputBytes,
-    schedule: &[u8],
-    files: &InputFiles<'a>,
+    inputs: Inputs<'_>,
+    schedule: Option<&[u8]>,
     output: &mut W,
-) -> Result<u8, CommandFault<'a>>
-    requires { IsCount files.now.processors }
+) -> Result<Summary, RunFault>
+    requires { 1 ≤ inputs.processors }
     ensures { MatchResult result
-        (RanOn (map (λ v. v.items) bytes.now.scripts.items) bytes.now.settings.items bytes.now.world.items
-        files.now.processors (W.account output.old) (W.account output.new))
-        (λ f. NotAnswered f (W.account output.old) (W.account output.new)) }
+        (λ s. IsPlayed inputs.entry (option_map (λ b. b.now) schedule.entry) true
+        × Reported inputs.entry (W.account output.old) (W.account output.new) s.all_ok)
+        (NotWritten suite_report inputs.entry (option_map (λ b. b.now) schedule.entry) (W.account output.old) (W.account output.new)) }
 {
-    let scripts = lent(alloc, &bytes.scripts)?;
-    let inputs = inputs_of(bytes, &scripts, files.processors);
-    let ran = run_schedule(alloc, inputs, schedule, output);
-    answer_run(ran, files, output)
+    match schedule {
+        None => run_serial(alloc, inputs, output),
+        Some(schedule) => run_schedule(alloc, inputs, schedule, output),
+    }
 }
 
 /// Prints a plan.
@@ -169,9 +162,9 @@ fn plan<'a, W: Sink>(
     output: &mut W,
 ) -> Result<u8, CommandFault<'a>>
     requires { IsCount files.now.processors }
-    ensures { MatchResult result
-        (λ s. Answered s (W.account output.old) (W.account output.new))
-        (λ f. NotAnswered f (W.account output.old) (W.account output.new)) }
+    ensures { Answers (λ s. (s ≡ 0) × OfBytes bytes.now files.now.processors (λ inputs.
+        Shown inputs (W.account output.old) (W.account output.new)))
+        (W.account output.old) (W.account output.new) result }
 {
     let scripts = lent(alloc, &bytes.scripts)?;
     let inputs = inputs_of(bytes, &scripts, files.processors);
@@ -204,10 +197,10 @@ fn answer_run<'a, W: Sink>(
 ) -> Result<u8, CommandFault<'a>>
     ensures { MatchResult ran
         (λ s. Flushed (cond s.all_ok 0 1) (W.account output.old) (W.account output.new) result)
-        (λ fault. Refuses fault result × Untouched (W.account output.old) (W.account output.new)) }
+        (λ fault. IsRefusal fault result × Untouched (W.account output.old) (W.account output.new)) }
 {
     match ran {
-        Ok(summary) => flush(if summary.all_ok { ALL_OK } else { NOT_OK }, output),
+        Ok(summary) => flush(if summary.all_ok { ALL_OK } else { NOT_ALL_OK }, output),
         Err(fault) => Err(named(fault, files)),
     }
 }
@@ -222,39 +215,13 @@ fn flush<W: Sink>(status: u8, output: &mut W) -> Result<u8, CommandFault<'static
     Ok(status)
 }
 
-/// A fault of a run, with the name of the script that it is of.
+/// A fault of a run, with the name of the script that it is of, where that is named.
 fn named<'a>(fault: RunFault, files: &InputFiles<'a>) -> CommandFault<'a>
-    ensures { IsOf fault result }
+    ensures { command_aftermath result ≡ aftermath fault }
 {
-    let name = script_name(&fault, files);
-    CommandFault::Run(fault, name)
-}
-
-/// The name of the script that a fault is of: `stdin` where no script is named.
-fn script_name<'a>(fault: &RunFault, files: &InputFiles<'a>) -> &'a str {
-    match fault {
-        RunFault::Script(index, _) => files.scripts.get(*index).copied().unwrap_or("stdin"),
-        _ => "",
-    }
-}
-
-/// Writes a line as far as the sink takes it.
-fn say<E: Sink>(errors: &mut E, fault: &CommandFault<'_>) {
-    let mut lines = Lines { errors };
-    let _ = fmt::Write::writeln(&mut lines, fault);
-}
-
-/// Lines of text to a sink. What is left of a line is let go where the sink fails.
-#[derive(Drop)]
-struct Lines<'a, E: Sink> {
-    errors: &'a mut E,
-}
-
-impl<E: Sink> fmt::Write for Lines<'_, E> {
-    fn write_str(&mut self, text: &str) -> fmt::Result {
-        match write_text(text, &mut *self.errors) {
-            Ok(()) => Ok(()),
-            Err(_) => Err(fmt::Error),
-        }
-    }
+    let script = match &fault {
+        RunFault::Script(index, _) => files.scripts.get(*index).copied(),
+        _ => None,
+    };
+    CommandFault::Run(fault, script)
 }

@@ -1,11 +1,12 @@
 //! Why a command ends with status 2 or 3.
 ghost use Rattle.std.specs.Prelude.{◌≡◌};
-ghost use Rattle.iso_run.specs.Commands.{IsOfWords, IsWanting, command_status};
+ghost use Rattle.iso_run.specs.CommandFaults.{IsOfWords, IsWantOfMemory, command_aftermath};
+ghost use Rattle.iso_run.specs.Faults.{exit_status};
 
-use crate::fault::{FAILED, FaultLine, REFUSED, RunFault, WRITE_FAILED};
+use crate::exit::{FAILED, WRONG_INPUT};
+use crate::fault::RunFault;
 use iso_arguments::request::WordsFault;
 use std::alloc::{AllocError, AllocFailed};
-use std::fmt;
 
 /// Why a command ends with status 2 or 3. It shows as what is written to standard error, without the last line feed.
 #[derive(Drop)]
@@ -18,34 +19,26 @@ pub(crate) enum CommandFault<'a> {
     TooLarge(&'a str),
     /// The output failed.
     Unwritten,
-    /// A fault of the run, and the name of its script, where it is of one.
-    Run(RunFault, &'a str),
+    /// A fault of the run, and where it is of a script that was named, the script's name.
+    Run(RunFault, Option<&'a str>),
 }
 
 impl CommandFault<'_> {
+    /// Memory ran out.
+    pub fn out_of_memory() -> Self
+        ensures { IsWantOfMemory result }
+    {
+        CommandFault::Run(RunFault::Memory, None)
+    }
+
     /// The exit status: 2 where the input is refused, else 3.
     pub fn status(&self) -> u8
-        ensures { result ≡ command_status self.now }
+        ensures { result ≡ exit_status (command_aftermath self.now) }
     {
         match self {
-            CommandFault::Words(_) | CommandFault::TooLarge(_) => REFUSED,
+            CommandFault::Words(_) | CommandFault::TooLarge(_) => WRONG_INPUT,
             CommandFault::Unreadable(_) | CommandFault::Unwritten => FAILED,
             CommandFault::Run(fault, _) => fault.status(),
-        }
-    }
-}
-
-impl fmt::Display for CommandFault<'_> {
-    fn fmt<W: fmt::Write>(&self, f: &mut fmt::Formatter<W>) -> fmt::Result {
-        match self {
-            CommandFault::Words(text) => f.write_str(text.as_str().trim_end()),
-            CommandFault::Unreadable(name) => write!(f, "jtap: {name}: cannot be read"),
-            CommandFault::TooLarge(name) => write!(f, "jtap: {name}: too large"),
-            CommandFault::Unwritten => f.write_str(WRITE_FAILED),
-            CommandFault::Run(fault, name) => {
-                let line = FaultLine { fault, name };
-                write!(f, "{line}")
-            }
         }
     }
 }
@@ -55,24 +48,24 @@ impl From<WordsFault> for CommandFault<'_> {
 
     fn from(fault: WordsFault) -> Self {
         match fault {
-            WordsFault::Refused(text) => CommandFault::Words(text),
-            WordsFault::OutOfMemory => CommandFault::Run(RunFault::Memory, ""),
+            WordsFault::Wrong(text) => CommandFault::Words(text),
+            WordsFault::OutOfMemory => CommandFault::out_of_memory(),
         }
     }
 }
 
 impl From<AllocError> for CommandFault<'_> {
-    ghost from_gives = { λ _ fault. IsWanting fault };
+    ghost from_gives = { λ _ fault. IsWantOfMemory fault };
 
     fn from(_error: AllocError) -> Self {
-        CommandFault::Run(RunFault::Memory, "")
+        CommandFault::out_of_memory()
     }
 }
 
 impl<T: Drop> From<AllocFailed<T>> for CommandFault<'_> {
-    ghost from_gives = { λ _ fault. IsWanting fault };
+    ghost from_gives = { λ _ fault. IsWantOfMemory fault };
 
     fn from(_error: AllocFailed<T>) -> Self {
-        CommandFault::Run(RunFault::Memory, "")
+        CommandFault::out_of_memory()
     }
 }

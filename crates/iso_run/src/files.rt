@@ -1,11 +1,15 @@
 //! The files that a command is made of.
-ghost use Rattle.std.specs.Prelude.{◌≡◌, ◌+◌, [], ◌∷◌, IfErr, IfOk, IfSome, None, map, take};
+ghost use Rattle.std.specs.Prelude.{◌≡◌, ◌+◌, [], ◌∷◌, IfErr, IfOk, IfSome, None, length, map, take};
+ghost use Rattle.std.specs.IoError.{error_kind};
+ghost use Rattle.std.specs.declared.io.ErrorKind.TheVariants.{OutOfMemory};
 ghost use Rattle.iso_model.specs.declared.limits.TheConstants.{FILE_BYTES};
-ghost use Rattle.iso_inputs.specs.Suites.{texts};
-ghost use Rattle.iso_run.specs.Commands.{IsEarly};
+ghost use Rattle.iso_run.specs.Suites.{texts};
+ghost use Rattle.iso_run.specs.CommandFaults.{ComesEarly, IsWantOfMemory};
+ghost use Rattle.iso_run.specs.Commands.{IsInput, WereRead};
+ghost use Rattle.iso_run.specs.declared.command_fault.CommandFault.TheVariants.{Unreadable};
 
 use crate::command_fault::CommandFault;
-use crate::fault::RunFault;
+use crate::lines::STDIN;
 use iso_arguments::request::InputFiles;
 use iso_model::limits::FILE_BYTES;
 use std::alloc::{AllocGlobal, Global};
@@ -27,15 +31,12 @@ pub(crate) fn read_files<'a, G: AllocGlobal + Files, R: Read>(
     files: &InputFiles<'a>,
     input: &mut R,
 ) -> Result<InputBytes, CommandFault<'a>>
-    ensures early { IfErr result IsEarly }
-    ensures settings { files.now.settings ≡ None → IfOk result (λ b. b.settings.items ≡ []) }
-    ensures world { files.now.world ≡ None → IfOk result (λ b. b.world.items ≡ []) }
-    ensures scripts { files.now.scripts.items ≡ [] → IfSome (R.remaining input.old) (λ bytes.
-        IfOk result (λ b. map (λ v. v.items) b.scripts.items ≡ take (FILE_BYTES + 1) bytes ∷ [])) }
+    ensures early { IfErr result ComesEarly }
+    ensures read { IfOk result (WereRead files.now (R.remaining input.old)) }
 {
     let settings = read_document(rt, files.settings)?;
     let world = read_document(rt, files.world)?;
-    let scripts = read_scripts(rt, &files.scripts, input)?;
+    let scripts = read_script_files(rt, &files.scripts, input)?;
     Ok(InputBytes {
         scripts,
         settings,
@@ -48,7 +49,7 @@ fn read_document<'a, G: AllocGlobal + Files>(
     rt: &G,
     name: Option<&'a str>,
 ) -> Result<Vec<u8>, CommandFault<'a>>
-    ensures early { IfErr result IsEarly }
+    ensures early { IfErr result ComesEarly }
     ensures unnamed { name.entry ≡ None → IfOk result (λ bytes. bytes.items ≡ []) }
 {
     let Some(name) = name else {
@@ -62,17 +63,18 @@ fn read_document<'a, G: AllocGlobal + Files>(
 }
 
 /// Reads the scripts of these names, or one from standard input where there is none.
-fn read_scripts<'a, G: AllocGlobal + Files, R: Read>(
+fn read_script_files<'a, G: AllocGlobal + Files, R: Read>(
     rt: &G,
     names: &[&'a str],
     input: &mut R,
 ) -> Result<Vec<Vec<u8>>, CommandFault<'a>>
-    ensures early { IfErr result IsEarly }
-    ensures standard_input { names.now ≡ [] → IfSome (R.remaining input.old) (λ bytes.
-        IfOk result (λ scripts. map (λ v. v.items) scripts.items ≡ take (FILE_BYTES + 1) bytes ∷ [])) }
+    ensures early { IfErr result ComesEarly }
+    ensures standard_input { names.now ≡ [] → IfOk result (λ scripts.
+        IsInput (R.remaining input.old) (map (λ v. v.items) scripts.items)) }
+    ensures each { (names.now ≡ [] → ⊥) → IfOk result (λ scripts. length scripts.items ≡ length names.now) }
 {
     if names.is_empty() {
-        return one_script(rt.alloc(), read_limited(rt.alloc(), input, "stdin")?);
+        return one_script(rt.alloc(), read_limited(rt.alloc(), input, STDIN)?);
     }
     let mut scripts = Vec::new(rt.alloc());
     for name in names {
@@ -83,7 +85,7 @@ fn read_scripts<'a, G: AllocGlobal + Files, R: Read>(
 
 /// The bytes of a script alone.
 fn one_script<'a>(alloc: Global, bytes: Vec<u8>) -> Result<Vec<Vec<u8>>, CommandFault<'a>>
-    ensures early { IfErr result IsEarly }
+    ensures early { IfErr result ComesEarly }
     ensures bytes { IfOk result (λ scripts. map (λ v. v.items) scripts.items ≡ bytes.items ∷ []) }
 {
     let mut scripts = Vec::new(alloc);
@@ -96,7 +98,7 @@ pub(crate) fn read_file<'a, G: AllocGlobal + Files>(
     rt: &G,
     name: &'a str,
 ) -> Result<Vec<u8>, CommandFault<'a>>
-    ensures early { IfErr result IsEarly }
+    ensures early { IfErr result ComesEarly }
 {
     match File::open(rt, name) {
         Ok(mut file) => read_limited(rt.alloc(), &mut file, name),
@@ -110,7 +112,7 @@ fn read_limited<'a, R: Read>(
     reader: &mut R,
     name: &'a str,
 ) -> Result<Vec<u8>, CommandFault<'a>>
-    ensures early { IfErr result IsEarly }
+    ensures early { IfErr result ComesEarly }
     ensures bytes { IfSome (R.remaining reader.old) (λ bytes.
         IfOk result (λ read. read.items ≡ take (FILE_BYTES + 1) bytes)) }
 {
@@ -124,10 +126,11 @@ fn read_limited<'a, R: Read>(
 
 /// Why a file was not read.
 fn unread<'a>(error: &io::Error, name: &'a str) -> CommandFault<'a>
-    ensures { IsEarly result }
+    ensures memory { error_kind error.now ≡ OutOfMemory → IsWantOfMemory result }
+    ensures other { (error_kind error.now ≡ OutOfMemory → ⊥) → result ≡ Unreadable name.entry }
 {
     if error.kind() == io::ErrorKind::OutOfMemory {
-        CommandFault::Run(RunFault::Memory, "")
+        CommandFault::out_of_memory()
     } else {
         CommandFault::Unreadable(name)
     }
@@ -138,7 +141,7 @@ pub(crate) fn lent<'a>(
     alloc: Global,
     scripts: &'a [Vec<u8>],
 ) -> Result<Vec<&'a [u8]>, CommandFault<'static>>
-    ensures early { IfErr result IsEarly }
+    ensures early { IfErr result ComesEarly }
     ensures bytes { IfOk result (λ lent. texts lent.items ≡ map (λ v. v.items) scripts.now) }
 {
     let mut lent = Vec::new(alloc);

@@ -1,10 +1,14 @@
-//! Runs of suites.
+//! Runs of suites, from what they are given to their reports, and the program over them.
 #![tactic(auto)]
 
 pub mod command;
 mod command_fault;
+mod exit;
 pub mod fault;
 mod files;
+pub mod inputs;
+mod lines;
 pub mod plan;
 pub mod replay;
+pub mod report;
 pub mod run;

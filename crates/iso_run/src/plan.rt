@@ -1,9 +1,9 @@
 //! The printed plan of inputs.
-ghost use Rattle.std.specs.Prelude.{◌≤◌, MatchResult};
-ghost use Rattle.iso_run.specs.PlanRuns.{NotShown, Shown};
+ghost use Rattle.std.specs.Prelude.{◌≤◌, MatchResult, None};
+ghost use Rattle.iso_run.specs.Runs.{NotWritten, Shown, suite_plan};
 
 use crate::fault::RunFault;
-use iso_inputs::inputs::{Inputs, read_inputs};
+use crate::inputs::{Inputs, read_inputs};
 use iso_tap::plan::write_plan;
 use iso_tap::sink::Sink;
 use std::alloc::Global;
@@ -16,7 +16,7 @@ pub fn show_plan<W: Sink>(alloc: Global, inputs: Inputs<'_>, sink: &mut W) -> Re
     requires { 1 ≤ inputs.processors }
     ensures { MatchResult result
         (λ _. Shown inputs.entry (W.account sink.old) (W.account sink.new))
-        (NotShown inputs.entry (W.account sink.old) (W.account sink.new)) }
+        (NotWritten suite_plan inputs.entry None (W.account sink.old) (W.account sink.new)) }
 {
     let suite = read_inputs(alloc, inputs)?;
     match write_plan(&suite.plan, suite.settings.workers(), sink) {

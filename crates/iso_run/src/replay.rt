@@ -1,14 +1,13 @@
 //! Replays of recorded schedules, from their inputs to the report.
-ghost use Rattle.std.specs.Prelude.{◌≤◌, List, MatchResult, Ok, ℕ};
-ghost use Rattle.iso_inputs.specs.declared.inputs.Inputs.{Inputs};
-ghost use Rattle.iso_run.specs.Replays.{NotReplayed, Replayed};
-ghost use Rattle.iso_run.specs.Runs.{IsRead};
+ghost use Rattle.std.specs.Prelude.{◌≤◌, List, MatchResult, Ok, Some, ℕ};
+ghost use Rattle.iso_run.specs.declared.inputs.Inputs.{Inputs};
+ghost use Rattle.iso_run.specs.Runs.{IsRead, NotWritten, Replayed, suite_report};
 ghost use Rattle.iso_schedule.specs.Schedules.{AreRead};
 
 use crate::fault::RunFault;
-use crate::run::{Summary, write_results};
+use crate::inputs::{Inputs, Suite, read_inputs};
+use crate::report::{Summary, write_results};
 use iso_core::run_events::run_events;
-use iso_inputs::inputs::{Inputs, Suite, read_inputs};
 use iso_schedule::reader::read_schedule;
 use iso_standing::event::Event;
 use iso_tap::sink::Sink;
@@ -29,7 +28,7 @@ pub fn run_schedule<W: Sink>(
     requires { 1 ≤ inputs.processors }
     ensures { MatchResult result
         (λ s. Replayed inputs.entry schedule.now (W.account sink.old) (W.account sink.new) s.all_ok)
-        (NotReplayed inputs.entry schedule.now (W.account sink.old) (W.account sink.new)) }
+        (NotWritten suite_report inputs.entry (Some schedule.now) (W.account sink.old) (W.account sink.new)) }
 {
     let suite = read_inputs(alloc, inputs)?;
     replay_on(alloc, &suite, schedule, sink)
@@ -44,7 +43,7 @@ fn replay_on<W: Sink>(
 ) -> Result<Summary, RunFault>
     ensures { (inputs : Inputs) → IsRead inputs suite.now → MatchResult result
         (λ s. Replayed inputs schedule.now (W.account sink.old) (W.account sink.new) s.all_ok)
-        (NotReplayed inputs schedule.now (W.account sink.old) (W.account sink.new)) }
+        (NotWritten suite_report inputs (Some schedule.now) (W.account sink.old) (W.account sink.new)) }
 {
     let events = read_schedule(alloc, schedule)?;
     replay_events(alloc, suite, &events, sink)
@@ -59,7 +58,7 @@ fn replay_events<W: Sink>(
 ) -> Result<Summary, RunFault>
     ensures { (inputs : Inputs) (schedule : List ℕ) → IsRead inputs suite.now → AreRead schedule (Ok events.now) → MatchResult result
         (λ s. Replayed inputs schedule (W.account sink.old) (W.account sink.new) s.all_ok)
-        (NotReplayed inputs schedule (W.account sink.old) (W.account sink.new)) }
+        (NotWritten suite_report inputs (Some schedule) (W.account sink.old) (W.account sink.new)) }
 {
     let workers = suite.settings.workers();
     let core = run_events(alloc, &suite.plan, &suite.world, workers, events)?;

@@ -1,25 +1,12 @@
-//! Runs of a suite, from its inputs to its report.
-ghost use Rattle.std.specs.Prelude.{◌≡◌, ◌≤◌, MatchResult};
-ghost use Rattle.iso_lifecycle.specs.ResultViews.{AreComplete, outcome_in};
-ghost use Rattle.iso_plan.specs.RowView.{tree_of};
-ghost use Rattle.iso_run.specs.Runs.{IsBroken, Refused, Reported, ReportedOf};
-ghost use Rattle.iso_tap.specs.Reports.{report};
+//! Runs of a suite on one thread, from its inputs to its report.
+ghost use Rattle.std.specs.Prelude.{◌≤◌, MatchResult, None};
+ghost use Rattle.iso_run.specs.Runs.{NotWritten, Reported, suite_report};
 
 use crate::fault::RunFault;
-use iso_inputs::inputs::{Inputs, read_inputs};
-use iso_lifecycle::results::Results;
-use iso_plan::plan::Plan;
-use iso_tap::ok::all_ok;
-use iso_tap::report::write_report;
+use crate::inputs::{Inputs, read_inputs};
+use crate::report::{Summary, write_results};
 use iso_tap::sink::Sink;
 use std::alloc::Global;
-
-/// What a run tells besides its report.
-#[derive(Clone, Copy, PartialEq, Eq)]
-pub struct Summary {
-    /// Whether every top-level point is ok.
-    pub all_ok: bool,
-}
 
 /// Runs a suite on one thread, depth first, and writes its report to the sink.
 ///
@@ -34,31 +21,11 @@ pub fn run_serial<W: Sink>(
     requires { 1 ≤ inputs.processors }
     ensures { MatchResult result
         (λ s. Reported inputs.entry (W.account sink.old) (W.account sink.new) s.all_ok)
-        (Refused inputs.entry (W.account sink.old) (W.account sink.new)) }
+        (NotWritten suite_report inputs.entry None (W.account sink.old) (W.account sink.new)) }
 {
     let suite = read_inputs(alloc, inputs)?;
     match iso_serial::run::run(alloc, &suite.plan, &suite.world) {
         Ok(results) => write_results(&suite.plan, &results, sink),
         Err(_) => Err(RunFault::Memory),
-    }
-}
-
-/// Writes the report of the results of all nodes of a plan.
-pub(crate) fn write_results<W: Sink>(
-    plan: &Plan,
-    results: &Results<'_>,
-    sink: &mut W,
-) -> Result<Summary, RunFault>
-    requires plan { results.now.plan ≡ plan.now }
-    requires complete { AreComplete results.now }
-    ensures { MatchResult result
-        (λ s. ReportedOf (tree_of plan.now) (outcome_in results.now) (W.account sink.old) (W.account sink.new) s.all_ok)
-        (IsBroken (report (tree_of plan.now) (outcome_in results.now)) (W.account sink.old) (W.account sink.new)) }
-{
-    match write_report(plan, results, sink) {
-        Ok(()) => Ok(Summary {
-            all_ok: all_ok(plan, results),
-        }),
-        Err(fault) => Err(RunFault::Write(fault.written)),
     }
 }

@@ -6,7 +6,8 @@ use crate::folder::{answers, new_folder_of, put, remove, run, words_of};
 use crate::ran::{Answer, Ran, run_words};
 use crate::refusal::{Refusal, first_other_refusal};
 use crate::suites::{CART_AND_DESK, CART_AND_DESK_PLAN, TWO_WORKERS};
-use iso_run::command::command;
+use iso_arguments::request::WordsFault;
+use iso_run::command::{command, refuse_words};
 use iso_tap::memory::MemorySink;
 use iso_tap::sink::{Sink, SinkFailed};
 use std::alloc::{AllocError, Global};
@@ -31,7 +32,7 @@ ok 1 - shop.Cart
 ";
 
 /// Files that the tests below name.
-static FILES: [(&str, &str); 10] = [
+static FILES: [(&str, &str); 15] = [
     ("cart", CART),
     ("empty", ""),
     (
@@ -51,6 +52,23 @@ static FILES: [(&str, &str); 10] = [
     ),
     ("world", "locale = \"de\"\n"),
     ("numbers", "[files]\na = 1\n"),
+    ("lines", "[files]\n\"x\\ny\\u001b\\u00e9\" = \"s\"\n"),
+    (
+        "dynamic",
+        "[junit.jupiter.execution.parallel]\nenabled = true\nmode.default = \"concurrent\"\n",
+    ),
+    (
+        "by_second",
+        "enter 1 1\nleave 1\nenter 0 2\nleave 0\nshut 1 1\nleave 1\n",
+    ),
+    (
+        "by_ninth",
+        "enter 8 1\nleave 8\nenter 0 2\nleave 0\nshut 8 1\nleave 8\n",
+    ),
+    (
+        "by_last",
+        "enter 63 1\nleave 63\nenter 62 2\nleave 62\nshut 63 1\nleave 63\n",
+    ),
 ];
 
 /// Writes a file of so many bytes.
@@ -79,7 +97,7 @@ fn new_files(rt: &HostRuntime) -> Result<String, Fail> {
     Ok(folder)
 }
 
-static REFUSALS: [Refusal; 22] = [
+static REFUSALS: [Refusal; 27] = [
     // Each file has its own fault.
     ("run @bad", 2, "jtap: @bad:2:11: EmptyClass\n"),
     ("run @cart @bad", 2, "jtap: @bad:2:11: EmptyClass\n"),
@@ -101,6 +119,12 @@ static REFUSALS: [Refusal; 22] = [
         "run --world @numbers @cart",
         2,
         "jtap: world: WrongValue files.a\n",
+    ),
+    // What isn't printable ASCII in a key is shown by its number, so that a fault has one line.
+    (
+        "run --world @lines @cart",
+        2,
+        "jtap: world: WrongValue files.x\\u{a}y\\u{1b}\\u{e9}\n",
     ),
     ("run @cart @cart", 2, "jtap: plan: DoubleClass\n"),
     (
@@ -128,6 +152,26 @@ static REFUSALS: [Refusal; 22] = [
         3,
         "jtap: @none: cannot be read\n",
     ),
+    (
+        "run --settings @large @none",
+        2,
+        "jtap: @large: too large\n",
+    ),
+    (
+        "run --world @none @absent",
+        3,
+        "jtap: @none: cannot be read\n",
+    ),
+    (
+        "replay --schedule @none --settings @large @cart",
+        2,
+        "jtap: @large: too large\n",
+    ),
+    (
+        "replay --schedule @none @absent",
+        3,
+        "jtap: @absent: cannot be read\n",
+    ),
     // Then the settings come first, and the world before the scripts.
     (
         "run --world @numbers --settings @missing @bad",
@@ -150,12 +194,16 @@ fn faults_have_a_line_and_a_status(rt: HostRuntime) -> Result<(), Fail> {
     remove(&rt, folder.as_str())
 }
 
-/// Words that run the cart alone.
-static CART_RUNS: [&str; 4] = [
+/// Words that run the cart alone, on one worker and on as many as there may be.
+static CART_RUNS: [&str; 8] = [
     "run @cart",
     "run --serial --processors 1024 @cart",
     "run --settings @settings --world @world @cart",
     "run --settings @empty --world @largest @cart @shop @shop",
+    "run --settings @dynamic --processors 64 @cart",
+    "replay --schedule @by_second --settings @dynamic --processors 2 @cart",
+    "replay --schedule @by_ninth --settings @dynamic --processors 9 @cart",
+    "replay --schedule @by_last --settings @dynamic --processors 1024 @cart",
 ];
 
 /// The first of these words that the program answers otherwise than with the cart's report.
@@ -192,19 +240,125 @@ fn scripts_run_under_settings_and_a_world(rt: HostRuntime) -> Result<(), Fail> {
     remove(&rt, folder.as_str())
 }
 
-static PLAN_FILES: [(&str, &str); 2] = [("script", CART_AND_DESK), ("settings", TWO_WORKERS)];
+static PLAN_FILES: [(&str, &str); 4] = [
+    ("script", CART_AND_DESK),
+    ("settings", TWO_WORKERS),
+    ("cart", CART),
+    (
+        "dynamic",
+        "junit.jupiter.execution.parallel.enabled = true\n",
+    ),
+];
+
+/// Words, and the plan that is printed.
+static PLANS: [(&str, &str); 4] = [
+    ("plan --settings @settings @script", CART_AND_DESK_PLAN),
+    (
+        "plan @cart",
+        "workers 1\n1 class same_thread [r:iso:global] shop.Cart\n2 test same_thread [] shop.Cart.adds\n",
+    ),
+    (
+        "plan --settings @dynamic --processors 2 @cart",
+        "workers 2\n1 class same_thread [r:iso:global] shop.Cart\n2 test same_thread [] shop.Cart.adds\n",
+    ),
+    (
+        "plan --settings @dynamic --processors 1024 @cart",
+        "workers 64\n1 class same_thread [r:iso:global] shop.Cart\n2 test same_thread [] shop.Cart.adds\n",
+    ),
+];
+
+/// Whether words are answered by this plan.
+fn print_the_plan(
+    rt: &HostRuntime,
+    folder: &str,
+    words: &str,
+    plan: &str,
+) -> Result<bool, AllocError> {
+    let answer = Answer {
+        status: 0,
+        output: plan,
+        errors: "",
+    };
+    answers(rt, folder, words, "", answer)
+}
 
 #[test]
 fn plan_is_printed(rt: HostRuntime) -> Result<(), Fail> {
     let folder = new_folder_of(&rt, &PLAN_FILES)?;
-    let answer = Answer {
-        status: 0,
-        output: CART_AND_DESK_PLAN,
-        errors: "",
-    };
-    let words = "plan --settings @settings @script";
-    assert!(rt; answers(&rt, folder.as_str(), words, "", answer)?);
+    for (words, plan) in &PLANS {
+        expect(
+            &rt,
+            print_the_plan(&rt, folder.as_str(), words, plan)?,
+            words,
+        );
+    }
     remove(&rt, folder.as_str())
+}
+
+/// A script in which a part with a number of its own stands again and again.
+struct Repeated {
+    start: &'static str,
+    /// What stands before and after each number.
+    part: (&'static str, &'static str),
+    end: &'static str,
+}
+
+impl Repeated {
+    /// The script with so many parts.
+    fn script(&self, alloc: Global, count: u32) -> Result<String, AllocError> {
+        let mut script = String::from_str(alloc, self.start)?;
+        for number in 0..count {
+            let part = format!(in alloc; "{}{number}{}", self.part.0, self.part.1)?;
+            script.push_str(part.as_str())?;
+        }
+        script.push_str(self.end)?;
+        Ok(script)
+    }
+}
+
+/// A class of tests, and a class with marks.
+static REPEATED: [(Repeated, u32, &str); 2] = [
+    (
+        Repeated {
+            start: "team shop class C {\n",
+            part: ("test t", " { }\n"),
+            end: "}\n",
+        },
+        4_095,
+        "jtap: plan: TooManyNodes\n",
+    ),
+    (
+        Repeated {
+            start: "team shop\n",
+            part: ("read \"k", "\"\n"),
+            end: "class C { test t { } }\n",
+        },
+        256,
+        "jtap: plan: TooManyKeys\n",
+    ),
+];
+
+/// Whether a script has too many parts, and with one part less is run.
+fn is_limited(
+    rt: &HostRuntime,
+    repeated: &Repeated,
+    count: u32,
+    line: &str,
+) -> Result<bool, AllocError> {
+    let script = repeated.script(rt.alloc(), count)?;
+    let most = repeated.script(rt.alloc(), count.saturating_sub(1))?;
+    Ok(
+        answers(rt, "", "", script.as_str(), Answer::refused(2, line))?
+            && run(rt, "", "plan", most.as_str())?.status == 0,
+    )
+}
+
+#[test]
+fn nodes_and_keys_are_limited(rt: HostRuntime) -> Result<(), Fail> {
+    for (repeated, count, line) in &REPEATED {
+        expect(&rt, is_limited(&rt, repeated, *count, line)?, line);
+    }
+    Ok(())
 }
 
 /// The words that run so many scripts.
@@ -258,6 +412,7 @@ fn are_wrong(rt: &HostRuntime, line: &str) -> Result<bool, AllocError> {
         ran.status == 2
             && errors.starts_with("error: ".as_bytes())
             && errors.ends_with("\n".as_bytes())
+            && !errors.ends_with("\n\n".as_bytes())
             && ran.output.bytes().is_empty(),
     )
 }
@@ -267,6 +422,29 @@ fn wrong_words_are_refused(rt: HostRuntime) -> Result<(), Fail> {
     for line in &WRONG_WORDS {
         expect(&rt, are_wrong(&rt, line)?, line);
     }
+    Ok(())
+}
+
+/// Whether words that ask for nothing are told so.
+fn is_told(rt: &HostRuntime, fault: WordsFault, answer: Answer<'_>) -> bool {
+    let mut errors = MemorySink::new(rt.alloc());
+    let status = refuse_words(fault, &mut errors);
+    let output = MemorySink::new(rt.alloc());
+    let ran = Ran {
+        status,
+        output,
+        errors,
+    };
+    answer.is_of(&ran)
+}
+
+#[test]
+fn words_that_cannot_be_read_are_told(rt: HostRuntime) -> Result<(), Fail> {
+    let text = "error: a word isn't UTF-8\n\nFor more information, try '--help'.\n";
+    let wrong = WordsFault::Wrong(String::from_str(rt.alloc(), text)?);
+    assert!(rt; is_told(&rt, wrong, Answer::refused(2, text)));
+    let wanting = Answer::refused(3, "jtap: out of memory\n");
+    assert!(rt; is_told(&rt, WordsFault::OutOfMemory, wanting));
     Ok(())
 }
 
@@ -300,12 +478,13 @@ fn help_and_version_are_printed(rt: HostRuntime) -> Result<(), Fail> {
 #[derive(Drop)]
 struct FailingReader {
     left: usize,
+    kind: io::ErrorKind,
 }
 
 impl Read for FailingReader {
     fn read(&mut self, buf: &mut [u8]) -> io::Result<usize> {
         if self.left == 0 {
-            return Err(io::Error::from(io::ErrorKind::ConnectionReset));
+            return Err(io::Error::from(self.kind));
         }
         let count = self.left.min(buf.len());
         for place in 0..count {
@@ -316,17 +495,31 @@ impl Read for FailingReader {
     }
 }
 
-/// Whether an input that fails after so many bytes is told as one that can't be read.
-fn is_told_unreadable(rt: &HostRuntime, left: usize) -> bool {
-    let mut input = FailingReader { left };
+/// How an input fails, and the line that tells it.
+static FAILURES: [(io::ErrorKind, &str); 2] = [
+    (
+        io::ErrorKind::ConnectionReset,
+        "jtap: stdin: cannot be read\n",
+    ),
+    (io::ErrorKind::OutOfMemory, "jtap: out of memory\n"),
+];
+
+/// Whether an input that fails so after so many bytes is told by this line.
+fn failure_is_told(rt: &HostRuntime, kind: io::ErrorKind, left: usize, line: &str) -> bool {
+    let mut input = FailingReader { left, kind };
     let ran = run_words(rt, &[], &mut input);
-    Answer::refused(3, "jtap: stdin: cannot be read\n").is_of(&ran)
+    Answer::refused(3, line).is_of(&ran)
 }
 
 #[test]
 fn standard_input_that_fails_cannot_be_read(rt: HostRuntime) {
-    for left in [0, 1, 5000] {
-        assert!(rt; is_told_unreadable(&rt, left), "after {left} bytes");
+    for (kind, line) in &FAILURES {
+        for left in [0, 1, 5000] {
+            assert!(rt;
+                failure_is_told(&rt, *kind, left, line),
+                "after {left} bytes"
+            );
+        }
     }
 }
 

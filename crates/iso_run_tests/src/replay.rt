@@ -40,19 +40,20 @@ const WHOLE: &str =
 enter 1 4\nenter 0 5\nstep 1\nstep 0\nstep 1\nstep 0\nleave 1\nleave 0\nshut 0 1\nleave 0\n";
 
 /// What the words below name besides the schedule.
-static FILES: [(&str, &str); 6] = [
+static FILES: [(&str, &str); 7] = [
     ("settings", TWO_WORKERS),
     ("world", "files.a = \"s\"\n"),
     ("script", TWO_FILES),
     ("shop", "team shop\n"),
     ("bad", "team shop\nclass C { }\n"),
     ("wrong", "junit.jupiter.execution.parallel.enabled = 1\n"),
+    ("siblings", "enter 0 1\nleave 0\nenter 0 3\n"),
 ];
 
 const REPLAY: &str = "replay --schedule @schedule --settings @settings --world @world @script";
 
 /// Faults of a schedule: its text, and the line that the program writes.
-static FAULTS: [(&str, &str); 14] = [
+static FAULTS: [(&str, &str); 23] = [
     ("", "unfinished"),
     ("enter 0 1\nleave 0\n", "unfinished"),
     // Lines are counted from 1, empty ones too; a bad line comes before a number that is too big.
@@ -74,6 +75,18 @@ static FAULTS: [(&str, &str); 14] = [
         "enter 0 1\nleave 0\nenter 0 2\nenter 1 3\nstep 0\nstep 1\nleave 1\nenter 1 4\n",
         "event 7: LockHeld 2",
     ),
+    ("enter 2 1", "event 0: NoWorker"),
+    ("enter 0 1\nenter 0 1", "event 1: WorkerBusy"),
+    ("enter 0 0", "event 0: AlreadyEntered"),
+    ("enter 0 1\nleave 0\nshut 1 1", "event 2: NotOwner"),
+    ("enter 0 1\nstep 0", "event 1: BodyEnded"),
+    (
+        "enter 0 1\nleave 0\nenter 0 2\nleave 0",
+        "event 3: BodyNotEnded",
+    ),
+    ("enter 0 1\nleave 0\nshut 0 1", "event 2: ChildrenLeft"),
+    ("shut 0 0", "event 0: NotClass"),
+    ("shut 0 1", "event 0: NotOpen"),
     // A line that can't be read is answered before an event that is refused.
     ("leave 0\nleave\n", "line 2: BadLine"),
 ];
@@ -140,7 +153,7 @@ fn replay_writes_the_report_of_the_serial_run(rt: HostRuntime) -> Result<(), Fai
 }
 
 /// The schedule is read last, and one that can't be read is a fault of the files.
-static ORDER: [Refusal; 6] = [
+static ORDER: [Refusal; 7] = [
     (
         "replay --schedule @none @script",
         3,
@@ -170,6 +183,12 @@ static ORDER: [Refusal; 6] = [
         "replay --schedule @shop @script",
         2,
         "jtap: schedule: line 1: BadLine\n",
+    ),
+    // Without settings every node is on the thread of its class.
+    (
+        "replay --schedule @siblings @script",
+        2,
+        "jtap: schedule: event 2: EarlierSibling\n",
     ),
 ];
 

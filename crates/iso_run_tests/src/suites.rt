@@ -1,8 +1,8 @@
 //! Suites that the tests run on.
 ghost use Rattle.std.specs.Prelude.{◌≤◌};
 
-use iso_inputs::inputs::{Inputs, read_inputs};
 use iso_plan::plan::Plan;
+use iso_run::inputs::{Inputs, read_inputs};
 use iso_settings::world::World;
 use std::alloc::{AllocError, Global};
 use std::process::Abort;

@@ -1,15 +1,12 @@
-use Rattle.std.proofs.Common.{ap, map, ◌∙◌}
-use Rattle.iso_inputs.specs.Suites.{texts}
-use Rattle.iso_run.proofs.Answering.{answered, ran}
+use Rattle.std.proofs.Common.{ap, map, option_map, ◌∙◌}
+use Rattle.iso_run.specs.Suites.{texts}
+use Rattle.iso_run.proofs.Answering.{answered}
 use Rattle.iso_run.proofs.command.run.Goals as goal
 
 pub returns : goal.returns
 returns g c =
-    let before = g.W.Sink.account c.args.output.now in
-    let after = g.W.Sink.account c.run_serial-ran.new.sink in
-    let inputs = c.inputs_of-inputs.result in
     let is = c.inputs_of-inputs.ensures in
-    let bytes = c.args.bytes.now in
     let scripts = ap texts is.scripts ∙ rw (← c.deref-2.ensures.value, c.deref.ensures.value) at c.in_ok-scripts.ensures.bytes in
-    answered inputs (map (λ v. v.items) bytes.scripts.items) bytes.settings.items bytes.world.items c.args.files.now.processors scripts is.settings is.world is.processors
-    before after (g.W.Sink.account c.answer_run.new.output) c.run_serial-ran.result c.answer_run.result (ran inputs before after c.run_serial-ran.result c.run_serial-ran.ensures) c.answer_run.ensures
+    answered c.args.bytes.now c.args.files.now.processors c.inputs_of-inputs.result scripts is.settings is.world is.processors
+    (g.W.Sink.account c.args.output.now) (g.W.Sink.account c.run_or_replay-ran.new.output) (g.W.Sink.account c.answer_run.new.output)
+    (option_map (λ b. b.now) c.args.schedule) c.run_or_replay-ran.result c.answer_run.result c.run_or_replay-ran.ensures c.answer_run.ensures

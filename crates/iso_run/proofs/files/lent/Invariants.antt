@@ -1,5 +1,5 @@
 use Rattle.std.proofs.Common.{◌≡◌, map, take}
-use Rattle.iso_inputs.specs.Suites.{texts}
+use Rattle.iso_run.specs.Suites.{texts}
 use Rattle.iso_run.proofs.files.lent.Given as goal
 
 abbrev pub invariant-loop-script : goal.invariant-loop-script

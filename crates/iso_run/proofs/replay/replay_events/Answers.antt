@@ -1,7 +1,7 @@
 use Rattle.std.proofs.Common.{◌≡◌, true, false, sym, refl, ◌∙◌}
 use Rattle.std.proofs.lemmas.Result.{err_from_is_err_and}
 use Rattle.iso_core.specs.Cores.{is_complete}
-use Rattle.iso_inputs.specs.Suites.{suite_of}
+use Rattle.iso_run.specs.Suites.{suite_of}
 use Rattle.iso_run.proofs.Replaying.{ended, replay-of, results-plan, results-start, stopped}
 use Rattle.iso_run.proofs.Reporting.{replay-reported}
 use Rattle.iso_run.proofs.replay.replay_events.Goals as goal
@@ -17,7 +17,7 @@ returns-then-not-is_complete g c = λ inputs schedule is read.
     let r = replay-of inputs schedule c.args.suite.now c.args.events.now is read in
     let ran = rw c.workers-workers.ensures at c.in_ok-core.ensures in
     let left : is_complete c.in_ok-core.core ≡ false = sym c.is_complete.ensures ∙ c.if-not-is_complete.true in
-    (ended inputs schedule r c.in_ok-core.core false ran left, refl)
+    record { cause = ended inputs schedule r c.in_ok-core.core false ran left; leaves = refl }
 
 pub returns : goal.returns
 returns g c = λ inputs schedule is read.

@@ -4,7 +4,7 @@ use Rattle.std.proofs.lemmas.List.{map_more, take_all, get_or-map}
 use Rattle.std.specs.Borrow.{Bor}
 use Rattle.iso_model.specs.Scripts.{Script}
 use Rattle.iso_script.specs.Grammar.{Reads}
-use Rattle.iso_inputs.specs.Suites.{AreRead, texts}
+use Rattle.iso_run.specs.Suites.{AreRead, texts}
 
 -- one script more
 pub read_more : (ts : List (List ℕ)) (ss : List Script) (t : List ℕ) (s : Script) → AreRead ts ss → Reads t s → AreRead (ts ++ t ∷ []) (ss ++ s ∷ [])

@@ -1,23 +1,25 @@
--- The suite that inputs are, or their first fault.
-use Rattle.std.specs.Prelude.{◌≡◌, ℕ, ◌<◌, if◌then◌else◌, List, [], ◌∷◌, map, take, length, get_or, Option, None, Some, Result, Ok, Err, IsOk}
+-- The suite that inputs are, and which of the scripts is the first that is none.
+use Rattle.std.specs.Prelude.{◌≡◌, ⊤, ℕ, ◌<◌, if◌then◌else◌, List, [], ◌∷◌, map, take, length, get_or, Option, None, Some, Ok, IsOk}
 use Rattle.std.specs.Borrow.{Bor}
 use Rattle.std.specs.Str.{is_utf8}
 use Rattle.toml.specs.Data.{Members}
 use Rattle.toml.specs.Parse.{parse_document}
 use Rattle.iso_model.specs.Scripts.{Script}
 use Rattle.iso_model.specs.ScriptView.{script_of}
+use Rattle.iso_model.specs.declared.limits.TheConstants.{FILE_BYTES}
 use Rattle.iso_plan.specs.Faults.{plan_fault}
+use Rattle.iso_plan.specs.declared.fault.PlanFault.{PlanFault}
 use Rattle.iso_script.specs.Grammar.{Reads}
+use Rattle.iso_script_statements.specs.declared.fault.ScriptFault.{ScriptFault}
+use Rattle.iso_script_statements.specs.declared.fault.ScriptFaultKind.TheVariants.{TooLong}
 use Rattle.iso_settings.specs.Readings.{Reading}
 use Rattle.iso_settings.specs.Settings.{settings_in}
 use Rattle.iso_settings.specs.Worlds.{Start, world_in}
 use Rattle.iso_settings.specs.declared.settings.Settings.{Settings}
-use Rattle.iso_inputs.specs.declared.fault.InputFault.{InputFault}
-use Rattle.iso_inputs.specs.declared.fault.InputFault.TheVariants as F
-use Rattle.iso_inputs.specs.declared.fault.InputError.{InputError}
-use Rattle.iso_inputs.specs.declared.fault.InputError.TheVariants.{Fault, OutOfMemory}
-use Rattle.iso_inputs.specs.declared.inputs.Inputs.{Inputs}
-use Rattle.iso_inputs.specs.declared.inputs.Suite.{Suite as ReadSuite}
+use Rattle.iso_run.specs.declared.fault.RunFault.{RunFault}
+use Rattle.iso_run.specs.declared.fault.RunFault.TheVariants as F
+use Rattle.iso_run.specs.declared.inputs.Inputs.{Inputs}
+use Rattle.iso_run.specs.declared.inputs.Suite.{Suite as ReadSuite}
 
 -- a suite: its scripts in order, the settings, and what the world says that resources start with
 pub record Suite : Type 0 where
@@ -52,11 +54,12 @@ AreRead [] (s ∷ ss) = ⊥
 AreRead (t ∷ ts) [] = ⊥
 AreRead (t ∷ ts) (s ∷ ss) = Reads t s × AreRead ts ss
 
--- the script at this place is none, and those before it are scripts
-pub record FirstUnread (scripts : List (Bor (List ℕ))) (index : ℕ) : Type 0 where
+-- The script at this place is none, and those before it are scripts. A script above the limit has just this fault.
+pub record FirstUnread (scripts : List (Bor (List ℕ))) (index : ℕ) (fault : ScriptFault) : Type 0 where
   pub within : index < length scripts
   pub earlier : (ss : List Script) × AreRead (texts (take index scripts)) ss
   pub unread : (s : Script) → Reads (get_or (texts scripts) index []) s → ⊥
+  pub too_long : FILE_BYTES < length (get_or (texts scripts) index []) → fault ≡ record { kind = TooLong; line = 1; column = 1 }
 
 -- The inputs are this suite: each is read, and the scripts have a plan.
 pub record IsSuite (inputs : Inputs) (suite : Suite) : Type 0 where
@@ -69,22 +72,14 @@ pub record IsSuite (inputs : Inputs) (suite : Suite) : Type 0 where
 abbrev pub AreSet : Inputs → Type 0
 AreSet inputs = IsOk (settings_from inputs.settings.now inputs.processors) × IsOk (world_from inputs.world.now)
 
--- This is the first fault of the inputs: settings come first, then the world, the scripts in turn, and the plan of all.
-abbrev pub HasFault : Inputs → InputFault → Type 0
-HasFault inputs (F.Settings fault) = settings_from inputs.settings.now inputs.processors ≡ Err fault
-HasFault inputs (F.World fault) = IsOk (settings_from inputs.settings.now inputs.processors) × (world_from inputs.world.now ≡ Err fault)
-HasFault inputs (F.Script index fault) = AreSet inputs × FirstUnread inputs.scripts.now index
-HasFault inputs (F.Plan fault) = AreSet inputs × ((ss : List Script) × AreRead (texts inputs.scripts.now) ss × (plan_fault ss ≡ Some fault))
+-- the inputs are scripts whose plan has this fault
+pub record HasNoPlan (inputs : Inputs) (fault : PlanFault) : Type 0 where
+  pub scripts : List Script
+  pub read : AreRead (texts inputs.scripts.now) scripts
+  pub unplanned : plan_fault scripts ≡ Some fault
 
--- the error is the first fault of the inputs, unless memory ran out
-abbrev pub FirstFault : Inputs → InputError → Type 0
-FirstFault inputs (Fault fault) = HasFault inputs fault
-FirstFault inputs OutOfMemory = Unit {0}
-
--- the error is the first of the scripts that is none, unless memory ran out
-abbrev pub IsFirstUnread : List (Bor (List ℕ)) → InputError → Type 0
-IsFirstUnread scripts (Fault (F.Settings fault)) = ⊥
-IsFirstUnread scripts (Fault (F.World fault)) = ⊥
-IsFirstUnread scripts (Fault (F.Script index fault)) = FirstUnread scripts index
-IsFirstUnread scripts (Fault (F.Plan fault)) = ⊥
-IsFirstUnread scripts OutOfMemory = Unit {0}
+-- the fault is the first of the scripts that is none, or want of memory
+abbrev pub IsFirstUnread : List (Bor (List ℕ)) → RunFault → Type 0
+IsFirstUnread scripts (F.Script index fault) = FirstUnread scripts index fault
+IsFirstUnread scripts F.Memory = ⊤
+IsFirstUnread scripts _ = ⊥

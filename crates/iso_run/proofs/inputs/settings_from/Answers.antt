@@ -1,8 +1,8 @@
 use Rattle.std.proofs.Common.{ap, subst, sym}
 use Rattle.iso_settings.specs.Readings.{Gives}
 use Rattle.iso_settings.specs.Settings.{settings_in}
-use Rattle.iso_inputs.proofs.Documents.{document-of_text, document-of_broken}
-use Rattle.iso_inputs.proofs.inputs.settings_from.Goals as goal
+use Rattle.iso_run.proofs.Documents.{document-of_text, document-of_broken}
+use Rattle.iso_run.proofs.inputs.settings_from.Goals as goal
 
 pub returns-in-Ok : goal.returns-in-Ok
 returns-in-Ok c =

@@ -5,7 +5,7 @@ use Rattle.std.specs.Prelude.{IsUtf8}
 use Rattle.std.specs.Str.{is_utf8}
 use Rattle.toml.specs.Data.{Members}
 use Rattle.toml.specs.Parse.{parse_document}
-use Rattle.iso_inputs.specs.Suites.{document}
+use Rattle.iso_run.specs.Suites.{document}
 
 pub document-of_text : (bytes text : List ℕ) → text ≡ bytes → IsUtf8 bytes → document bytes ≡ parse_document text
 document-of_text bytes text same is_text = rw (is_utf8-from_IsUtf8 bytes is_text, same) refl

@@ -1,11 +1,13 @@
+//! What a run is given, read as a suite.
 ghost use Rattle.std.specs.Prelude.{◌≡◌, ◌≤◌, IfOk, MatchResult, map};
-ghost use Rattle.iso_inputs.specs.Suites.{FirstFault, IsFirstUnread, IsSuite, AreRead, settings_from, suite_of, texts, world_from};
+ghost use Rattle.iso_run.specs.Replays.{NotRead};
+ghost use Rattle.iso_run.specs.Suites.{IsFirstUnread, IsSuite, AreRead, settings_from, suite_of, texts, world_from};
 ghost use Rattle.iso_model.specs.ScriptView.{script_of};
 ghost use Rattle.iso_plan.specs.RowView.{tree_of};
 ghost use Rattle.iso_plan.specs.Tree.{tree};
 ghost use Rattle.iso_settings.specs.Readings.{Gives};
 
-use crate::fault::{InputError, InputFault};
+use crate::fault::RunFault;
 use iso_model::script::Script;
 use iso_plan::fault::PlanError;
 use iso_plan::plan::{Plan, build};
@@ -39,25 +41,25 @@ pub struct Suite {
 /// Reads inputs as a suite: the settings, the world and the scripts in turn, and plans the scripts. The first fault
 /// in this order is answered. Settings or a world that isn't UTF-8 is `NotToml`. Want of memory may be answered at each
 /// growth.
-pub fn read_inputs(alloc: Global, inputs: Inputs<'_>) -> Result<Suite, InputError>
+pub fn read_inputs(alloc: Global, inputs: Inputs<'_>) -> Result<Suite, RunFault>
     requires { 1 ≤ inputs.processors }
-    ensures suite { MatchResult result (λ s. IsSuite inputs.entry (suite_of s)) (FirstFault inputs.entry) }
+    ensures suite { MatchResult result (λ s. IsSuite inputs.entry (suite_of s)) (NotRead inputs.entry) }
     ensures plan { IfOk result (λ s. tree_of s.plan ≡ tree (map script_of s.scripts.items)) }
     ensures planned_by { IfOk result (λ s. s.plan.settings ≡ s.settings) }
 {
     let settings = match settings_from(alloc, inputs.settings, inputs.processors) {
         Ok(settings) => settings,
         Err(SettingsError::Fault(fault)) => {
-            return Err(InputError::Fault(InputFault::Settings(fault)));
+            return Err(RunFault::Settings(fault));
         }
-        Err(SettingsError::OutOfMemory) => return Err(InputError::OutOfMemory),
+        Err(SettingsError::OutOfMemory) => return Err(RunFault::Memory),
     };
     let world = match world_from(alloc, inputs.world) {
         Ok(world) => world,
         Err(SettingsError::Fault(fault)) => {
-            return Err(InputError::Fault(InputFault::World(fault)));
+            return Err(RunFault::World(fault));
         }
-        Err(SettingsError::OutOfMemory) => return Err(InputError::OutOfMemory),
+        Err(SettingsError::OutOfMemory) => return Err(RunFault::Memory),
     };
     let scripts = read_scripts(alloc, inputs.scripts)?;
     match build(alloc, &scripts, &settings) {
@@ -67,8 +69,8 @@ pub fn read_inputs(alloc: Global, inputs: Inputs<'_>) -> Result<Suite, InputErro
             world,
             plan,
         }),
-        Err(PlanError::OutOfMemory) => Err(InputError::OutOfMemory),
-        Err(PlanError::Fault(fault)) => Err(InputError::Fault(InputFault::Plan(fault))),
+        Err(PlanError::OutOfMemory) => Err(RunFault::Memory),
+        Err(PlanError::Fault(fault)) => Err(RunFault::Plan(fault)),
     }
 }
 
@@ -94,7 +96,7 @@ fn world_from(alloc: Global, bytes: &[u8]) -> Result<World, SettingsError>
 }
 
 /// Reads scripts in turn, up to the first that is none.
-fn read_scripts(alloc: Global, scripts: &[&[u8]]) -> Result<Vec<Script>, InputError>
+fn read_scripts(alloc: Global, scripts: &[&[u8]]) -> Result<Vec<Script>, RunFault>
     ensures { MatchResult result (λ v. AreRead (texts scripts.now) (map script_of v.items)) (IsFirstUnread scripts.now) }
 {
     let mut read = Vec::new(alloc);
@@ -102,9 +104,9 @@ fn read_scripts(alloc: Global, scripts: &[&[u8]]) -> Result<Vec<Script>, InputEr
         match read_script(alloc, bytes) {
             Ok(script) => read.push(script)?,
             Err(ScriptError::Fault(fault)) => {
-                return Err(InputError::Fault(InputFault::Script(index, fault)));
+                return Err(RunFault::Script(index, fault));
             }
-            Err(ScriptError::OutOfMemory) => return Err(InputError::OutOfMemory),
+            Err(ScriptError::OutOfMemory) => return Err(RunFault::Memory),
         }
     }
     Ok(read)

@@ -1,7 +1,7 @@
 use Rattle.std.proofs.Common.{ap}
 use Rattle.iso_settings.specs.Worlds.{world_in}
-use Rattle.iso_inputs.proofs.Documents.{document-of_text, document-of_broken}
-use Rattle.iso_inputs.proofs.inputs.world_from.Goals as goal
+use Rattle.iso_run.proofs.Documents.{document-of_text, document-of_broken}
+use Rattle.iso_run.proofs.inputs.world_from.Goals as goal
 
 pub returns-in-Ok : goal.returns-in-Ok
 returns-in-Ok c =

@@ -1,5 +1,5 @@
 use Rattle.std.proofs.Common.{refl}
-use Rattle.iso_run.proofs.run.write_results.Goals as goal
+use Rattle.iso_run.proofs.report.write_results.Goals as goal
 
 pub returns-in-Ok : goal.returns-in-Ok
 returns-in-Ok g c = record { wrote = c.in-Ok.ensures.wrote; tells = c.all_ok.ensures }

@@ -1,0 +1,40 @@
+//! The report of a run, by whatever way its results came about.
+ghost use Rattle.std.specs.Prelude.{◌≡◌, MatchResult};
+ghost use Rattle.iso_lifecycle.specs.ResultViews.{AreComplete, outcome_in};
+ghost use Rattle.iso_plan.specs.RowView.{tree_of};
+ghost use Rattle.iso_run.specs.Runs.{IsBroken, ReportedOf};
+ghost use Rattle.iso_tap.specs.Reports.{report};
+
+use crate::fault::RunFault;
+use iso_lifecycle::results::Results;
+use iso_plan::plan::Plan;
+use iso_tap::ok::all_ok;
+use iso_tap::report::write_report;
+use iso_tap::sink::Sink;
+
+/// What a run tells besides its report.
+#[derive(Clone, Copy, PartialEq, Eq)]
+pub struct Summary {
+    /// Whether every top-level point is ok.
+    pub all_ok: bool,
+}
+
+/// Writes the report of the results of all nodes of a plan.
+pub(crate) fn write_results<W: Sink>(
+    plan: &Plan,
+    results: &Results<'_>,
+    sink: &mut W,
+) -> Result<Summary, RunFault>
+    requires plan { results.now.plan ≡ plan.now }
+    requires complete { AreComplete results.now }
+    ensures { MatchResult result
+        (λ s. ReportedOf (tree_of plan.now) (outcome_in results.now) (W.account sink.old) (W.account sink.new) s.all_ok)
+        (IsBroken (report (tree_of plan.now) (outcome_in results.now)) (W.account sink.old) (W.account sink.new)) }
+{
+    match write_report(plan, results, sink) {
+        Ok(()) => Ok(Summary {
+            all_ok: all_ok(plan, results),
+        }),
+        Err(fault) => Err(RunFault::Write(fault.written)),
+    }
+}
