@@ -179,7 +179,7 @@ module _ (plan : Planned) (world : Start) (t : IsTree (tree_of plan)) where
           steps = going.steps;
           stage = going.alone.body ∙ ap (λ (p : Progress Stage Resources). p.body) same;
           resources = record {
-            at = λ k r.
+            same = λ k r.
                 going.alone.at k (ap is_readable (chain-rights tree t plan.settings start k n) ∙ ap (λ (q : Subject). is_readable (rights_of_subject q k)) (sym under.subject) ∙ r)
                 ∙ ap (λ (p : Progress Stage Resources). p.content k) same;
           };
