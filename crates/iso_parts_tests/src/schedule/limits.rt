@@ -32,11 +32,13 @@ fn check_events(
     check_count(rt, alloc, text.as_bytes(), count)
 }
 
-/// The greatest number of events, and the greatest number of lines.
+/// Schedules as long as one may be: of the shortest event as many as there may be, of a longer one, and of empty lines.
 #[test]
 fn schedules_of_a_mebibyte_are_read(rt: HostRuntime) -> Result<(), ScheduleError> {
     check_events(&rt, rt.alloc(), "step 10\n", MOST / 8)?;
-    check_events(&rt, rt.alloc(), "\n\n\n\n\n\n\n\n", 0)
+    check_events(&rt, rt.alloc(), "\n\n\n\n\n\n\n\n", 0)?;
+    let most = made(rt.alloc(), &[("step 0\n", MOST / 7), ("\n", MOST % 7)])?;
+    check_count(&rt, rt.alloc(), most.as_bytes(), 149_796)
 }
 
 /// A piece again and again, and then this, is refused so.
