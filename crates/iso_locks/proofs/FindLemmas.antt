@@ -2,7 +2,7 @@
 use Rattle.std.proofs.Common.{◌≡◌, ◌≢◌, ℕ, ◌<◌, List, length, Option, Some, None, Bool, true, false, ◌||◌, ◌&&◌, ◌==◌, not, cond, bytes_eq, is_some, ◌⊎◌, inl, inr, ap, ap₂, sym, subst, ◌∙◌, arith, refl}
 use Rattle.std.proofs.lemmas.Bool.{cases_eq}
 use Rattle.std.specs.Option.{option_or}
-use Rattle.iso_locks.proofs.ConflictLemmas.{any-at}
+use Rattle.iso_plan.proofs.ConflictLemmas.{any-at}
 use Rattle.iso_locks.proofs.KeyLemmas.{HasNumber, any-has, has-number, or-left, readable-of, written-is}
 use Rattle.iso_locks.proofs.OwnerLemmas.{no-conflict, none-by}
 use Rattle.iso_locks.specs.Clashes.{clash, lockers_conflict}

@@ -5,7 +5,7 @@ use Rattle.std.proofs.lemmas.Cmp.{nat_list_eq_equiv}
 use Rattle.std.proofs.lemmas.List.{get_or-map, get_or_past, length-map}
 use Rattle.std.proofs.lemmas.Slice.Eq.{bytes_eq-Decides}
 use Rattle.std.specs.List.{IsDistinct, list_any}
-use Rattle.iso_locks.proofs.ConflictLemmas.{any-at}
+use Rattle.iso_plan.proofs.ConflictLemmas.{any-at}
 use Rattle.iso_locks.specs.Moves.{is_written}
 use Rattle.iso_locks.specs.Trays.{any_lent, holds_read, is_lent, is_open, is_read, key_at, number_below, number_of}
 use Rattle.iso_model.specs.Rights.{is_readable, is_writable}

@@ -1,4 +1,3 @@
-pub mod ConflictLemmas
 pub mod FindLemmas
 pub mod FlatLemmas
 pub mod KeyLemmas

@@ -7,6 +7,7 @@ use Rattle.iso_model.specs.declared.resource.Resource.{Resource}
 use Rattle.iso_plan.proofs.Columns.{column-from, column-read, length-column}
 use Rattle.iso_plan.proofs.PathLemmas.{eq_from, eq_same}
 use Rattle.iso_plan.specs.KeyTable.{keys}
+use Rattle.iso_plan.specs.Conflicts.{is_in_the_way}
 use Rattle.iso_plan.specs.Locks.{conflict, is_write, locks}
 use Rattle.iso_plan.specs.Paths.{column}
 use Rattle.iso_plan.specs.Planned.{Planned}
@@ -17,8 +18,8 @@ use Rattle.iso_store.specs.Histories.{History}
 use Rattle.iso_locks.specs.Moves.{is_written, moved_away, moved_here}
 use Rattle.iso_locks.specs.Slots.{Slots, slot}
 use Rattle.iso_locks.specs.Trays.{TrayView, is_lent, key_at}
-use Rattle.iso_locks.specs.Vaults.{CanTakeBack, IsLentTo, IsVault, VaultView, busy, is_home, is_in_the_way, receiving, value_in}
-use Rattle.iso_locks.proofs.ConflictLemmas.{lowest-none}
+use Rattle.iso_locks.specs.Vaults.{CanTakeBack, IsLentTo, IsVault, VaultView, busy, is_home, receiving, value_in}
+use Rattle.iso_plan.proofs.ConflictLemmas.{lowest-none}
 use Rattle.iso_locks.proofs.KeyLemmas.{written-conflict, written-within}
 use Rattle.iso_locks.proofs.OwnerLemmas.{away-slot, here-slot, lent-other, lent-within, still-lent}
 
@@ -31,8 +32,8 @@ home-for v values n i kept free w within none =
     let less : away.node < length v.lent = lent-within v.lent away.node away.lent in
     let lent_within : away.node < length v.plan.rows = omega arith in
     let clash : conflict tree away.node n ≡ true = written-conflict tree away.node n i away.writes w in
-    let in_way : is_in_the_way v n away.node ≡ true = ap₂ (λ (p q : Bool). p && q) away.lent clash in
-    let not_in_way : is_in_the_way v n away.node ≡ false = lowest-none (is_in_the_way v n) (length v.plan.rows) away.node free lent_within in
+    let in_way : is_in_the_way tree (is_lent v.lent) n away.node ≡ true = ap₂ (λ (p q : Bool). p && q) away.lent clash in
+    let not_in_way : is_in_the_way tree (is_lent v.lent) n away.node ≡ false = lowest-none (is_in_the_way tree (is_lent v.lent) n) (length v.plan.rows) away.node free lent_within in
     cc
 
 some-of : (o : Option History) → (o ≡ None → ⊥) → is_some o ≡ true

@@ -1,5 +1,4 @@
 pub mod Clashes
-pub mod Conflicts
 pub mod Examples
 pub mod Flats
 pub mod Moves

@@ -4,7 +4,8 @@ use Rattle.std.specs.Option.{option_or}
 use Rattle.std.specs.Coded.{Coded, code_by, coded×, coded_list, coded_bool}
 use Rattle.iso_model.specs.declared.resource.Resource.{Resource}
 use Rattle.iso_plan.specs.KeyTable.{keys}
-use Rattle.iso_plan.specs.Locks.{conflict, locks}
+use Rattle.iso_plan.specs.Conflicts.{lowest_in_the_way}
+use Rattle.iso_plan.specs.Locks.{locks}
 use Rattle.iso_plan.specs.Paths.{column}
 use Rattle.iso_plan.specs.Planned.{Planned}
 use Rattle.iso_plan.specs.RowView.{tree_of}
@@ -50,18 +51,9 @@ whole_vault plan world =
 abbrev pub is_home : List Bool → ℕ → Bool
 is_home home i = slice_index_or home i false
 
--- whether a node is lent that conflicts with another one
-abbrev pub is_in_the_way : VaultView → ℕ → ℕ → Bool
-is_in_the_way v n m = is_lent v.lent m && conflict (tree_of v.plan) m n
-
--- the lowest number below n that passes a test
-abbrev pub lowest : (ℕ → Bool) → ℕ → Option ℕ
-lowest test zero = None
-lowest test (suc n) = option_or (lowest test n) (cond (test n) (Some n) None)
-
 -- the lowest lent node that conflicts with a node
 abbrev pub busy : VaultView → ℕ → Option ℕ
-busy v n = lowest (is_in_the_way v n) (length v.plan.rows)
+busy v n = lowest_in_the_way (tree_of v.plan) (is_lent v.lent) n
 
 -- a node may be lent to a tray of the same plan and starting values: it is lent neither from the vault nor to the tray, and where no node that is lent from the vault is in its way, it clashes with none that is lent to the tray
 pub record CanLend (n : ℕ) (v : VaultView) (t : TrayView) : Type 0 where

@@ -1,7 +1,7 @@
 //! Values in the hands of one worker at a time: trays, and the vault that lends to them.
 #![tactic(auto)]
 
-pub mod conflict;
+pub mod clash;
 pub mod examples;
 pub mod laws;
 pub mod mark;

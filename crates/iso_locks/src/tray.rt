@@ -15,7 +15,7 @@ ghost use Rattle.iso_plan.specs.Locks.{locks};
 ghost use Rattle.iso_plan.specs.Paths.{column};
 ghost use Rattle.iso_plan.specs.RowView.{tree_of};
 
-use crate::conflict::nodes_clash;
+use crate::clash::nodes_clash;
 use crate::mark::Mark;
 use crate::moves::move_values;
 use crate::slots::Slots;

@@ -1,20 +1,18 @@
 //! The values that no worker holds.
-ghost use Rattle.std.specs.Prelude.{◌≡◌, ◌<◌, ◌&&◌, ℕ, IfOk, MatchResult, None, OnErr, OnOk, Some, is_some, length, map, replicate, true};
+ghost use Rattle.std.specs.Prelude.{◌≡◌, ◌<◌, ℕ, IfOk, MatchResult, None, OnErr, OnOk, Some, is_some, length, map, replicate, true};
 ghost use Rattle.iso_locks.specs.Slots.{slot};
 ghost use Rattle.iso_locks.specs.Trays.{is_lent, key_at};
-ghost use Rattle.iso_locks.specs.Vaults.{CanLend, CanTakeBack, IsLentTo, busy, giving_back, is_home, lending, lowest, regaining, whole_vault};
+ghost use Rattle.iso_locks.specs.Vaults.{CanLend, CanTakeBack, IsLentTo, busy, giving_back, is_home, lending, regaining, whole_vault};
 ghost use Rattle.iso_plan.specs.KeyTable.{keys};
-ghost use Rattle.iso_plan.specs.Locks.{conflict};
 ghost use Rattle.iso_plan.specs.RowView.{tree_of};
 ghost use Rattle.iso_settings.specs.Worlds.{starting_value_in};
 ghost use Rattle.iso_store.specs.Histories.{History};
 
-use crate::conflict::conflicts;
 use crate::slots::Slots;
 use crate::tray::Tray;
-use iso_model::access::Access;
 use iso_model::key::Key;
 use iso_model::text::Text;
+use iso_plan::conflict::{Holders, lowest_in_the_way};
 use iso_plan::plan::Plan;
 use iso_settings::world::World;
 use iso_store::held::Held;
@@ -91,7 +89,7 @@ impl<'a> Vault<'a> {
         ensures vault_stays { OnErr result (self.new ≡ self.old) }
         ensures tray_stays { OnErr result (tray.new ≡ tray.old) }
     {
-        if let Some(m) = lowest_in_the_way(self.plan, &self.lent, node) {
+        if let Some(m) = lowest_in_the_way(self.plan, &*self, node) {
             return Err(Busy { node: m });
         }
         let locks = self.plan.locks(node);
@@ -112,6 +110,20 @@ impl<'a> Vault<'a> {
     }
 }
 
+impl<'a> Holders for Vault<'a> {
+    ghost use Rattle.std.specs.Prelude.{length};
+    ghost use Rattle.iso_locks.specs.Trays.{is_lent};
+    ghost use Rattle.iso_locks.specs.Vaults.{VaultView};
+
+    ghost nodes = { λ (v : VaultView). length v.plan.rows };
+
+    ghost held = { λ (v : VaultView). is_lent v.lent };
+
+    fn is_held(&self, node: u32) -> bool {
+        self.is_lent(node)
+    }
+}
+
 /// All values of a plan at their start, by key number.
 pub(crate) fn values(alloc: Global, plan: &Plan, world: &World) -> Result<Slots, AllocError>
     ensures fits { IfOk result (λ s. map is_some s ≡ replicate (length (keys (tree_of plan.now))) true) }
@@ -124,23 +136,4 @@ pub(crate) fn values(alloc: Global, plan: &Plan, world: &World) -> Result<Slots,
         values.add(Some(Held::new(alloc, value)))?;
     }
     Ok(values)
-}
-
-/// The lowest lent node that conflicts with a node. None does with one that takes no locks, so that lending a node whose locks
-/// an enclosing class took costs no search.
-fn lowest_in_the_way(plan: &Plan, lent: &[bool], node: u32) -> Option<u32>
-    requires node { node < length plan.now.rows }
-    requires lent { length lent.now ≡ length plan.now.rows }
-    ensures { result ≡ lowest (λ m. is_lent lent.now m && conflict (tree_of plan.now) m node) (length plan.now.rows) }
-{
-    let taken = plan.locks(node);
-    if taken.is_empty() {
-        return None;
-    }
-    'nodes: for m in 0..plan.len() {
-        if lent[m as usize] && conflicts(plan.locks(m), taken) {
-            return Some(m);
-        }
-    }
-    None
 }

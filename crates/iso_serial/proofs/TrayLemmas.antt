@@ -10,7 +10,7 @@ use Rattle.iso_locks.specs.Clashes.{clash, lockers_conflict}
 use Rattle.iso_locks.specs.Moves.{is_written}
 use Rattle.iso_locks.specs.Slots.{slot}
 use Rattle.iso_locks.specs.Trays.{IsOnward, TrayView, content, has_at, has_value, is_lent, is_open, key_at, number_of, resources, seen, seen_at}
-use Rattle.iso_locks.specs.Vaults.{CanLend, IsLentTo, VaultView, busy, is_in_the_way, lending, lowest, regaining, value_in}
+use Rattle.iso_locks.specs.Vaults.{CanLend, IsLentTo, VaultView, busy, lending, regaining, value_in}
 use Rattle.iso_model.specs.Agreement.{EqualAt}
 use Rattle.iso_model.specs.Resources.{Resources}
 use Rattle.iso_model.specs.Rights.{is_readable, is_writable}
@@ -18,6 +18,7 @@ use Rattle.iso_model.specs.Touch.{HasKeys, kind_of_value}
 use Rattle.iso_model.specs.declared.resource.Resource.{Resource}
 use Rattle.iso_plan.proofs.LawLemmas.{conflict-apart, covered, root-unreadable}
 use Rattle.iso_plan.proofs.PathLemmas.{IsBelow, along, eq_from, eq_same, path-root, path-step, under-le, under-self, under-step}
+use Rattle.iso_plan.specs.Conflicts.{is_in_the_way, lowest}
 use Rattle.iso_plan.specs.KeyTable.{keys}
 use Rattle.iso_plan.specs.Locks.{conflict, declares, locking_node, locks, taken}
 use Rattle.iso_plan.specs.NodeChains.{node_rights}
@@ -245,8 +246,9 @@ module _ (plan : Planned) (world : Start) (t : IsTree (tree_of plan)) where
 
   pub free : (v : VaultView) (n : ℕ) → 0 < n → IsLentAlong plan world (parent tr n) v → busy v n ≡ None
   free v n pos a =
-      lowest-no (is_in_the_way v n) (length v.plan.rows)
-      (λ m less. elim (true-or-false (is_in_the_way v n m)) [
+      let test : ℕ → Bool = is_in_the_way (tree_of v.plan) (is_lent v.lent) n in
+      lowest-no test (length v.plan.rows)
+      (λ m less. elim (true-or-false (test m)) [
         | inl way ↦
             let parts = both (is_lent v.lent m) (conflict (tree_of v.plan) m n) way in
             absurd (no-conflict m n pos (sym (a.lent.along m) ∙ parts.0) (ap (λ (pl : Planned). conflict (tree_of pl) m n) (sym a.plan_is) ∙ parts.1))

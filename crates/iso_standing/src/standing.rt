@@ -22,7 +22,7 @@ use crate::event::Event;
 use crate::phase::Phase;
 use crate::refused::Refused;
 use iso_model::script::Mode;
-use iso_plan::conflict::nodes_conflict;
+use iso_plan::conflict::{Holders, lowest_in_the_way};
 use iso_plan::laws::parents_come_first;
 use iso_plan::plan::Plan;
 use std::alloc::{AllocError, Global};
@@ -521,26 +521,28 @@ impl<'a> Standing<'a> {
         false
     }
 
-    /// Whether a node was entered, isn't finished and conflicts with another.
-    fn is_in_the_way(&self, node: u32, other: u32) -> bool
-        requires node { node < nodes_in self.now }
-        requires other { other < nodes_in self.now }
-        ensures { result ≡ (is_held (bare (phase_at self.now node)) && conflict (tree_of self.now.plan) node other) }
-    {
-        self.phase(node).is_held() && nodes_conflict(self.plan, node, other)
-    }
-
-    /// The lowest entered, unfinished node that conflicts with a node, as what refuses it. It goes over all nodes, and looks at the
-    /// locks of those that were entered and aren't finished.
+    /// The lowest entered, unfinished node that conflicts with a node, as what refuses it.
     fn lock_held(&self, node: u32) -> Option<Refused>
         requires { node < nodes_in self.now }
         ensures { (start : Resources) (s : RunState) → LooksLike self.now s → at self.now start s (Why.lock_held scripts) node ≡ option_map refused_of result }
     {
-        'nodes: for m in 0..self.plan.len() {
-            if self.is_in_the_way(m, node) {
-                return Some(Refused::LockHeld(m));
-            }
+        match lowest_in_the_way(self.plan, self, node) {
+            Some(held) => Some(Refused::LockHeld(held)),
+            None => None,
         }
-        None
+    }
+}
+
+impl<'a> Holders for Standing<'a> {
+    ghost use Rattle.iso_isolation.specs.States.{is_held};
+    ghost use Rattle.iso_standing.specs.Phases.{bare};
+    ghost use Rattle.iso_standing.specs.Standings.{nodes_in, phase_at};
+
+    ghost nodes = { nodes_in };
+
+    ghost held = { λ v node. is_held (bare (phase_at v node)) };
+
+    fn is_held(&self, node: u32) -> bool {
+        self.phase(node).is_held()
     }
 }

@@ -1,12 +1,13 @@
 use Rattle.std.proofs.Common.{◌≡◌, ◌<◌, ◌&&◌, List, length, map, set, None, Bool, true, is_some, ap, sym, ◌∙◌, subst, arith}
-use Rattle.iso_plan.specs.Locks.{conflict, locks}
+use Rattle.iso_plan.specs.Conflicts.{lowest_in_the_way}
+use Rattle.iso_plan.specs.Locks.{locks}
 use Rattle.iso_plan.specs.Planned.{Planned}
 use Rattle.iso_plan.specs.RowView.{tree_of}
 use Rattle.iso_settings.specs.Worlds.{Start}
 use Rattle.iso_locks.specs.Moves.{is_written, moved_away}
 use Rattle.iso_locks.specs.Slots.{Slots}
 use Rattle.iso_locks.specs.Trays.{TrayView, is_lent}
-use Rattle.iso_locks.specs.Vaults.{IsLentTo, IsVault, VaultView, busy, lending, lowest}
+use Rattle.iso_locks.specs.Vaults.{IsLentTo, IsVault, VaultView, busy, lending}
 use Rattle.iso_locks.proofs.VaultLemmas.{home-all, home-lent, lent-to, lent-vault}
 use Rattle.iso_locks.proofs.vault.Vault.lend.Goals as goal
 
@@ -35,12 +36,12 @@ returns-clause-tray c =
     let plan : Planned = c.self.inside.plan.now in
     let same : plan ≡ t.plan = ap (λ (v : VaultView). v.plan) c.self.view_is ∙ sym c.requires.plan in
     let world : c.self.inside.world.now ≡ t.world = ap (λ (v : VaultView). v.world) c.self.view_is ∙ sym c.requires.world in
-    let free : lowest (λ m. is_lent c.self.inside.lent.items m && conflict (tree_of plan) m c.args.node) (length plan.rows) ≡ None =
-    ap (λ (ls : List Bool). lowest (λ m. is_lent ls m && conflict (tree_of plan) m c.args.node) (length plan.rows)) (sym c.deref.ensures.value) ∙ sym c.lowest_in_the_way.ensures ∙ c.in_default.is in
+    let free : lowest_in_the_way (tree_of plan) (is_lent c.self.inside.lent.items) c.args.node ≡ None =
+    ap (λ (u : VaultView). lowest_in_the_way (tree_of plan) (is_lent u.lent) c.args.node) c.self.view_is ∙ sym c.lowest_in_the_way.ensures ∙ c.in_default.is in
     let P : Planned → Type 0 = λ p. IsVault p c.self.inside.world.now c.self.inside.lent.items c.self.inside.values in
     let Q : Start → Type 0 = λ w. IsVault t.plan w c.self.inside.lent.items c.self.inside.values in
     let kept : IsVault t.plan t.world c.self.inside.lent.items c.self.inside.values = subst Q world (subst P same c.self.invariant) in
-    let F : Planned → Type 0 = λ p. lowest (λ m. is_lent c.self.inside.lent.items m && conflict (tree_of p) m c.args.node) (length p.rows) ≡ None in
+    let F : Planned → Type 0 = λ p. lowest_in_the_way (tree_of p) (is_lent c.self.inside.lent.items) c.args.node ≡ None in
     let R : TrayView → Type 0 = λ u. IsLentTo c.args.node t u in
     let holds : is_lent (set t.lent c.args.node true) c.args.node ≡ true = ap (λ (u : TrayView). is_lent u.lent c.args.node) (sym c.receive.ensures.tray) ∙ c.receive.ensures.holds in
     subst R (sym c.receive.ensures.tray) (lent-to t c.self.inside.lent.items (map is_some c.self.inside.values) c.self.inside.values c.args.node kept (subst F same free) c.receive.ensures.fits holds c.receive.ensures.fresh)
@@ -52,7 +53,7 @@ receive-requires-clause-there c =
     let same : c.args.tray.now.plan ≡ plan = c.requires.plan ∙ sym (ap (λ (v : VaultView). v.plan) c.self.view_is) in
     let v : VaultView = record { plan = plan; world = c.self.inside.world.now; lent = c.self.inside.lent.items; home = map is_some c.self.inside.values } in
     let free : busy v n ≡ None =
-    ap (λ (ls : List Bool). lowest (λ m. is_lent ls m && conflict (tree_of plan) m n) (length plan.rows)) (sym c.deref.ensures.value) ∙ sym c.lowest_in_the_way.ensures ∙ c.in_default.is in
+    ap (λ (u : VaultView). lowest_in_the_way (tree_of plan) (is_lent u.lent) n) c.self.view_is ∙ sym c.lowest_in_the_way.ensures ∙ c.in_default.is in
     λ i w. home-all v c.self.inside.values n c.self.invariant free i (ap (λ (p : Planned). is_written (locks (tree_of p) n) i) (sym same) ∙ w)
 
 pub receive-requires-clause-beside : goal.receive-requires-clause-beside
@@ -61,6 +62,6 @@ receive-requires-clause-beside c =
     let n = c.args.node in
     let v : VaultView = record { plan = plan; world = c.self.inside.world.now; lent = c.self.inside.lent.items; home = map is_some c.self.inside.values } in
     let free : busy v n ≡ None =
-    ap (λ (ls : List Bool). lowest (λ m. is_lent ls m && conflict (tree_of plan) m n) (length plan.rows)) (sym c.deref.ensures.value) ∙ sym c.lowest_in_the_way.ensures ∙ c.in_default.is in
+    ap (λ (u : VaultView). lowest_in_the_way (tree_of plan) (is_lent u.lent) n) c.self.view_is ∙ sym c.lowest_in_the_way.ensures ∙ c.in_default.is in
     let Free : VaultView → Type 0 = λ x. busy x n ≡ None in
     c.requires.beside (subst Free c.self.view_is free)

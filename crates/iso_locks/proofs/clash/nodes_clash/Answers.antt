@@ -1,7 +1,7 @@
 use Rattle.std.proofs.Common.{◌≡◌, ◌<◌, ◌≤◌, length, sym, arith}
 use Rattle.iso_plan.proofs.LockLemmas.{locking-le}
 use Rattle.iso_plan.specs.RowView.{tree_of}
-use Rattle.iso_locks.proofs.conflict.nodes_clash.Goals as goal
+use Rattle.iso_locks.proofs.clash.nodes_clash.Goals as goal
 
 pub nodes_conflict-requires-then-a-b-clause-node : goal.nodes_conflict-requires-then-a-b-clause-node
 nodes_conflict-requires-then-a-b-clause-node c =

@@ -1,8 +1,0 @@
-use Rattle.std.proofs.Common.{ap₂, ◌∙◌}
-use Rattle.iso_plan.specs.RowView.{tree_of}
-use Rattle.iso_locks.specs.Conflicts.{conflicts}
-use Rattle.iso_locks.proofs.ConflictLemmas.{conflicts-is}
-use Rattle.iso_locks.proofs.conflict.nodes_conflict.Goals as goal
-
-pub returns : goal.returns
-returns c = c.conflicts.ensures ∙ ap₂ conflicts c.locks.ensures.locks c.locks-2.ensures.locks ∙ conflicts-is (tree_of c.args.plan.now) c.args.node c.args.other
