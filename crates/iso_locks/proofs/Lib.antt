@@ -1,3 +1,4 @@
+pub mod DepthLemmas
 pub mod FindLemmas
 pub mod FlatLemmas
 pub mod KeyLemmas

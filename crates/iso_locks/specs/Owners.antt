@@ -1,13 +1,14 @@
 -- Which nodes own the values that a tray holds.
-use Rattle.std.specs.Prelude.{◌≡◌, ◌≢◌, ◌≤◌, ℕ, List, length, map, Bool, true, false, is_some}
+use Rattle.std.specs.Prelude.{◌≡◌, ◌≢◌, ◌≤◌, ℕ, List, [], length, map, Bool, true, false, is_some}
 use Rattle.iso_locks.specs.Clashes.{clash}
 use Rattle.iso_locks.specs.Moves.{is_written}
 use Rattle.iso_locks.specs.Slots.{Slots, slot}
 use Rattle.iso_locks.specs.Trays.{TrayView, is_lent, start_at}
 use Rattle.iso_locks.specs.declared.starting.Starting.{Starting}
-use Rattle.iso_model.specs.declared.limits.TheConstants.{CLASS_DEPTH}
+use Rattle.iso_lifecycle.specs.Subjects.{Subject}
 use Rattle.iso_plan.specs.KeyTable.{keys}
 use Rattle.iso_plan.specs.Locks.{locks}
+use Rattle.iso_plan.specs.NodeChains.{depth}
 use Rattle.iso_plan.specs.Planned.{Planned}
 use Rattle.iso_plan.specs.RowView.{tree_of}
 use Rattle.iso_plan.specs.Tree.{Row}
@@ -30,10 +31,16 @@ pub record CanHold (n : ℕ) (t : TrayView) : Type 0 where
   pub apart : is_lent t.lent n ≡ false
   pub beside : (m : ℕ) → is_lent t.lent m ≡ true → clash (tree_of t.plan) m n ≡ false
 
--- what holds of the lists that a tray keeps, with room for so many frames
-pub record IsTray (plan : Planned) (world : Start) (flat : Bool) (lent : List Bool) (values : Slots) (starts : List Starting) (room : ℕ) : Type 0 where
+-- There is room for so many frames, and as much to gather them in, where none is but while they are gathered.
+pub record HasRoom (most room spare_room : ℕ) (spare : List Subject) : Type 0 where
+  pub frames : most ≤ room
+  pub gathered : most ≤ spare_room
+  pub empty : spare ≡ []
+
+-- what holds of the lists that a tray keeps, with room for the frames of the deepest class chain
+pub record IsTray (plan : Planned) (world : Start) (flat : Bool) (lent : List Bool) (values : Slots) (starts : List Starting) (room spare_room : ℕ) (spare : List Subject) : Type 0 where
   pub lent_fits : length lent ≡ length plan.rows
   pub values_fit : length values ≡ length (keys (tree_of plan))
   pub starts_are : starts ≡ map (start_at world) (keys (tree_of plan))
-  pub has_room : CLASS_DEPTH ≤ room
+  pub has_room : HasRoom (depth (tree_of plan)) room spare_room spare
   pub are_owned : AreOwned (tree_of plan) flat lent values

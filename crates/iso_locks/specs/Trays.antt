@@ -1,5 +1,5 @@
 -- What contracts see of a tray, and the resources that it holds: the values that nodes lent to it may change, and the starting values that they may look at.
-use Rattle.std.specs.Prelude.{◌≡◌, ◌≤◌, ℕ, zero, suc, List, [], length, map, replicate, Option, Some, None, Bool, true, false, ◌||◌, ◌&&◌, cond, bytes_eq, is_some, slice_index_or, refl, option_map, slice_set}
+use Rattle.std.specs.Prelude.{◌≡◌, ◌≤◌, ℕ, zero, suc, List, [], length, map, replicate, reverse, Option, Some, None, Bool, true, false, ◌||◌, ◌&&◌, cond, bytes_eq, is_some, slice_index_or, refl, option_map, slice_set}
 use Rattle.std.specs.Option.{option_or}
 use Rattle.std.specs.Coded.{Coded, code_by, coded×, coded_list, coded_option, coded_bool, coded_ℕ}
 use Rattle.iso_model.specs.Resources.{Resources}
@@ -10,7 +10,7 @@ use Rattle.iso_model.specs.declared.resource.Resource.{Resource}
 use Rattle.iso_plan.specs.KeyTable.{keys}
 use Rattle.iso_plan.specs.Locks.{locking_node, taken}
 use Rattle.iso_plan.specs.NodeChains.{node_rights}
-use Rattle.iso_plan.specs.Paths.{column}
+use Rattle.iso_plan.specs.Paths.{column, path}
 use Rattle.iso_plan.specs.Planned.{Planned}
 use Rattle.iso_plan.specs.RowView.{tree_of}
 use Rattle.iso_plan.specs.Tree.{Row}
@@ -18,7 +18,8 @@ use Rattle.iso_plan.specs.contracts.plan.Plan as plan
 use Rattle.iso_settings.specs.Worlds.{Start, start_code, starting_value_in}
 use Rattle.iso_model.specs.declared.resource.Change.{Change}
 use Rattle.iso_store.specs.Histories.{History, after, history_code}
-use Rattle.iso_lifecycle.specs.Subjects.{Subject, subject_code}
+use Rattle.iso_lifecycle.specs.ResultViews.{ResultsView}
+use Rattle.iso_lifecycle.specs.Subjects.{Subject, subject, subject_code}
 use Rattle.iso_locks.specs.Slots.{Slots, HasLater, slot}
 use Rattle.iso_locks.specs.declared.starting.Starting.{Starting}
 
@@ -61,6 +62,10 @@ empty_tray plan world = record {
   values = replicate (length (keys (tree_of plan))) None;
   frames = [];
 }
+
+-- the frames of a class and of the classes that it stands in, outermost first
+abbrev pub frames_on : ResultsView → ℕ → List Subject
+frames_on v n = map (subject v.plan v.start) (reverse (path (tree_of v.plan) n))
 
 -- a key with the value that it starts with
 abbrev pub start_at : Start → List ℕ → Starting

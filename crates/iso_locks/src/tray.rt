@@ -1,18 +1,19 @@
 //! One worker's values.
-ghost use Rattle.std.specs.Prelude.{◌≡◌, ◌<◌, ◌&&◌, ◌++◌, ◌∷◌, [], ℕ, None, IfOk, cond, false, is_some, length, map, option_copied, replicate, true};
+ghost use Rattle.std.specs.Prelude.{◌≡◌, ◌<◌, ◌&&◌, ◌++◌, ◌∷◌, [], ℕ, None, IfOk, OnErr, OnOk, cond, false, is_some, length, map, option_copied, replicate, true};
 ghost use Rattle.iso_locks.specs.Clashes.{clash};
 ghost use Rattle.iso_locks.specs.Owners.{AreOwned, CanHold};
 ghost use Rattle.iso_locks.specs.Slots.{slot};
 ghost use Rattle.iso_locks.specs.Flats.{IsFlat, flat};
+ghost use Rattle.iso_lifecycle.specs.ResultViews.{AreOpened};
 ghost use Rattle.iso_lifecycle.specs.Subjects.{started};
-ghost use Rattle.iso_locks.specs.Trays.{CanUndo, empty_tray, is_lent, kept_at, marked, undone};
+ghost use Rattle.iso_locks.specs.Trays.{CanUndo, empty_tray, frames_on, is_lent, kept_at, marked, undone};
 ghost use Rattle.iso_model.specs.Rights.{access_in, is_writable};
-ghost use Rattle.iso_model.specs.declared.limits.TheConstants.{CLASS_DEPTH};
 ghost use Rattle.iso_locks.specs.Moves.{is_written, moved_away, moved_here};
 ghost use Rattle.iso_locks.specs.Vaults.{giving_back, receiving};
 ghost use Rattle.iso_plan.specs.KeyTable.{keys};
 ghost use Rattle.iso_plan.specs.Locks.{locks};
-ghost use Rattle.iso_plan.specs.Paths.{column};
+ghost use Rattle.iso_plan.specs.NodeChains.{depth};
+ghost use Rattle.iso_plan.specs.Paths.{column, is_test, path, row_at};
 ghost use Rattle.iso_plan.specs.RowView.{tree_of};
 
 use crate::clash::nodes_clash;
@@ -22,19 +23,21 @@ use crate::slots::Slots;
 use crate::starting::{Starting, number_of, starts_of};
 use crate::vault::values;
 use iso_lifecycle::frame::Frame;
+use iso_lifecycle::results::Results;
 use iso_model::access::Access;
 use iso_model::key::Key;
-use iso_model::limits::CLASS_DEPTH;
 use iso_model::resource::{Ask, Change};
 use iso_model::resource_key::ResourceKey;
 use iso_model::rights::Rights;
 use iso_model::touch::Touch;
+use iso_plan::laws::nodes_are_a_tree;
 use iso_plan::lock::Lock;
 use iso_plan::plan::Plan;
 use iso_settings::world::World;
 use iso_store::held::{self, Held};
 use std::alloc::{AllocError, Global};
 use std::marker::Model;
+use std::mem;
 
 /// What one worker holds of the resources: the values that nodes lent to it may change, and copies of all
 /// starting values, to be looked at where such a node holds the key for READ.
@@ -52,6 +55,8 @@ pub struct Tray<'a> {
     /// The keys with their starting values, by key number.
     starts: Vec<Starting>,
     frames: Vec<Frame>,
+    /// Where frames are gathered before they are handed.
+    spare: Vec<Frame>,
 }
 
 impl<'a> Model for Tray<'a> {
@@ -67,7 +72,7 @@ impl<'a> Model for Tray<'a> {
 
     ghost view = { λ t. record { plan = t.plan.now; world = t.world.now; flat = t.flat; lent = t.lent.items; values = t.values; frames = t.frames.items } };
 
-    ghost invariant = { λ t. IsTray t.plan.now t.world.now t.flat t.lent.items t.values t.starts.items (vec_capacity t.frames) };
+    ghost invariant = { λ t. IsTray t.plan.now t.world.now t.flat t.lent.items t.values t.starts.items (vec_capacity t.frames) (vec_capacity t.spare) t.spare.items };
 }
 
 impl<'a> Tray<'a> {
@@ -78,6 +83,7 @@ impl<'a> Tray<'a> {
     {
         let count = plan.key_count() as usize;
         let nodes = plan.len() as usize;
+        let depth = plan.depth();
         Ok(Tray {
             plan,
             world,
@@ -85,7 +91,8 @@ impl<'a> Tray<'a> {
             lent: vec![in alloc; false; nodes]?,
             values: Slots::empty(alloc, count)?,
             starts: starts_of(alloc, plan, world)?,
-            frames: Vec::with_capacity(alloc, CLASS_DEPTH as usize)?,
+            frames: Vec::with_capacity(alloc, depth)?,
+            spare: Vec::with_capacity(alloc, depth)?,
         })
     }
 
@@ -169,12 +176,30 @@ impl<'a> Tray<'a> {
         &self.frames
     }
 
-    /// Hands it a frame, after those that it has: one for each class that a test or a block stands in. Takes no memory.
+    /// Hands it a frame, after those that it has: one for each class that a test or a block stands in, so that it has no more than the
+    /// longest class chain of its plan has classes. Takes no memory.
     pub fn hand(&mut self, frame: Frame)
-        requires { length self.old.frames < CLASS_DEPTH }
+        requires { length self.old.frames < depth (tree_of self.old.plan) }
         ensures { self.new ≡ record self.old { frames = self.old.frames ++ frame ∷ [] } }
     {
         self.frames.push_reserved(frame);
+    }
+
+    /// Hands it, in place of the frames that it has, those of a class and of the classes that it stands in, outermost first; of the
+    /// root none. It takes the memory of `Frame::share` alone, and after want of memory it has the frames that it had.
+    pub fn hand_path(&mut self, results: &Results<'_>, class: u32) -> Result<(), AllocError>
+        requires plan { results.now.plan ≡ self.old.plan }
+        requires node { class < length self.old.plan.rows }
+        requires class { is_test (row_at (tree_of self.old.plan) class).kind ≡ false }
+        requires opened { AreOpened results.now (path (tree_of self.old.plan) class) }
+        ensures ok { OnOk result (self.new ≡ record self.old { frames = frames_on results.now class }) }
+        ensures err { OnErr result (self.new ≡ self.old) }
+    {
+        nodes_are_a_tree(self.plan);
+        results.share_frames(class, &mut self.spare)?;
+        mem::swap(&mut self.frames, &mut self.spare);
+        self.spare.clear();
+        Ok(())
     }
 
     /// Lets go of all frames that were handed to it. Takes no memory.

@@ -1,4 +1,4 @@
-use Rattle.std.proofs.Common.{◌≡◌, List, Bool, false, Option, None, length, replicate, rules, ap, ap₂, sym, subst, ◌∙◌}
+use Rattle.std.proofs.Common.{◌≡◌, List, Bool, false, Option, None, length, replicate, rules, ap, ap₂, sym, subst, ◌∙◌, arith}
 use Rattle.std.proofs.lemmas.List.{length-replicate}
 use Rattle.iso_plan.specs.KeyTable.{keys}
 use Rattle.iso_plan.specs.RowView.{tree_of}
@@ -19,7 +19,11 @@ invariant_of-result c =
       lent_fits = ap length lent ∙ length-replicate (length plan.rows) false;
       values_fit = ap length c.in_ok-empty.ensures ∙ length-replicate c.key_count-count.result none ∙ c.key_count-count.ensures;
       starts_are = c.in_ok-starts_of.ensures;
-      has_room = c.in_ok-with_capacity.ensures.capacity;
+      has_room =
+          let depth_is = c.depth-depth.ensures in
+          let frames = c.in_ok-with_capacity.ensures.exact in
+          let spare = c.in_ok-with_capacity-2.ensures.exact in
+          record { frames = omega arith; gathered = omega arith; empty = c.in_ok-with_capacity-2.ensures.items };
       are_owned =
           let Own : List Bool → Type 0 = λ l. AreOwned (tree_of plan) false l c.in_ok-empty.field-0 in
           subst Own (sym lent)
