@@ -1,10 +1,11 @@
 -- Where a block run stands.
-use Rattle.std.specs.Prelude.{◌≡◌, ℕ, List, [], ◌∷◌, ◌++◌, map, reverse, Option, Some, None}
+use Rattle.std.specs.Prelude.{◌≡◌, ℕ, List, [], ◌∷◌, ◌++◌, map, reverse, Option, Some, None, Result, OnOk}
 use Rattle.std.specs.Option.{option_to_list}
 use Rattle.iso_model.specs.Resources.{Resources}
 use Rattle.iso_model.specs.Rights.{Rights, access_in}
-use Rattle.iso_model.specs.Statements.{Local, State, fails, note, with_ending}
-use Rattle.iso_model.specs.Steps.{Piece, rest, turning, Point, point, Machine, machine_at}
+use Rattle.iso_model.specs.Statements.{Local, State, fails, note, performed, with_ending}
+use Rattle.iso_model.specs.Steps.{Piece, rest, turning, Point, point, Machine, machine_at, begin}
+use Rattle.iso_model.specs.Syntax.{Act, Plain}
 use Rattle.iso_model.specs.SyntaxView.{block_of}
 use Rattle.iso_model.specs.Texts.{fault_message, kind_of}
 use Rattle.iso_model.specs.declared.fault.Fault.{Fault}
@@ -89,3 +90,14 @@ skipped row reason l = with_ending (Endings.Assumed (note reason row l)) l
 abbrev pub said : ℕ → State → Option (List ℕ) → State
 said row s None = s
 said row s (Some message) = fails row message s
+
+-- A statement without a body did what it means, its step being taken: from a run and its resources to the next.
+abbrev pub Performs : {E : Type 0} → (old new : BlockRun) → (before after : Resources) → ℕ → Plain → Result (Unit {0}) E → Type 0
+Performs old new before after row statement result =
+    OnOk result (state_of new after ≡ performed (run_rights old) row statement (state_of old before))
+
+-- A statement did what it does in its step, and put its pieces before those that were left.
+abbrev pub Begins : {E : Type 0} → (old new : BlockRun) → (before after : Resources) → ℕ → Act → Result (Unit {0}) E → Type 0
+Begins old new before after row statement result =
+    let m = begin (run_rights old) row statement (state_of old before) in
+    OnOk result ((state_of new after ≡ m.state) × (pieces_of new ≡ m.pieces ++ pieces_of old))

@@ -1,12 +1,12 @@
 //! The value of an expression, over the names, the rights and the resources of a block.
-ghost use Rattle.std.specs.Prelude.{◌≡◌, [], IfOk, Err, Ok, option_map};
-ghost use Rattle.iso_model.specs.Evaluation.{called, compared, evaluated, evaluated_all, joined, joined_all, or_fault, then};
+ghost use Rattle.std.specs.Prelude.{◌≡◌, [], IfOk, Err, Ok, option_copied, option_map};
+ghost use Rattle.iso_model.specs.Evaluation.{called, compared, evaluated, evaluated_all, joined, joined_all, looked, or_fault, then};
 ghost use Rattle.iso_model.specs.Names.{binding_of};
 ghost use Rattle.iso_model.specs.ResourceKeys.{spelling};
 ghost use Rattle.iso_model.specs.Rights.{access_in};
 ghost use Rattle.iso_model.specs.SyntaxView.{term_of, terms_of_all};
 ghost use Rattle.iso_model.specs.Syntax.{locale};
-ghost use Rattle.iso_model.specs.Touch.{HasKeys};
+ghost use Rattle.iso_model.specs.Touch.{HasKeys, answered, kind_of_ask, kind_of_key};
 ghost use Rattle.iso_model.specs.declared.data.Data.TheVariants as Kinds;
 ghost use Rattle.iso_model.specs.declared.data.Data.TheVariants.{Flag};
 ghost use Rattle.iso_model.specs.declared.fault.Fault.TheVariants as Faults;
@@ -214,10 +214,22 @@ fn call_on_text<'a, T: Touch>(
     }
 }
 
-/// The fault of a look at a resource that isn't declared.
-fn undeclared<'a>(alloc: Global, key: ResourceKey<'_>) -> Result<Value<'a>, Interrupt>
-    ensures { Answers data_of result (Err (Faults.Undeclared Access.Read (spelling key.entry))) }
+/// What is answered to a look at a resource, where the rights let it be looked at.
+fn looked<'a, T: Touch>(
+    alloc: Global,
+    rights: &Rights,
+    touch: &'a T,
+    key: ResourceKey<'_>,
+    ask: Ask<'_>,
+) -> Result<Option<&'a str>, Interrupt>
+    requires keys { HasKeys (access_in rights.now) (T.content touch.now) (T.writes touch.now) }
+    requires kind { kind_of_key (spelling key) ≡ kind_of_ask ask }
+    ensures { Answers option_copied result (looked (access_in rights.now) (spelling key.entry)
+        (Ok (answered (T.content touch.now (spelling key.entry)) ask.entry))) }
 {
+    if rights.lets_look(key) {
+        return Ok(touch.look(key, ask));
+    }
     Err(Interrupt::Fault(Fault::Undeclared(Access::Read, key.key(alloc)?)))
 }
 
@@ -231,10 +243,8 @@ fn property<'a, T: Touch>(
     requires { HasKeys (access_in rights.now) (T.content touch.now) (T.writes touch.now) }
     ensures { Answers data_of result (called (T.content touch.now) (access_in rights.now) Functions.Prop (Kinds.Text name.now)) }
 {
-    if !rights.lets_look(ResourceKey::Properties) {
-        return undeclared(alloc, ResourceKey::Properties);
-    }
-    match touch.look(ResourceKey::Properties, Ask::Prop(name)) {
+    let key = ResourceKey::Properties;
+    match looked(alloc, rights, touch, key, Ask::Prop(name))? {
         Some(text) => Ok(Value::Text(TextValue::Lent(text))),
         None => Err(Interrupt::Fault(Fault::MissingProperty(Text::copied(alloc, name)?))),
     }
@@ -250,10 +260,8 @@ fn has_property<'a, T: Touch>(
     requires { HasKeys (access_in rights.now) (T.content touch.now) (T.writes touch.now) }
     ensures { Answers data_of result (called (T.content touch.now) (access_in rights.now) Functions.HasProp (Kinds.Text name.now)) }
 {
-    if !rights.lets_look(ResourceKey::Properties) {
-        return undeclared(alloc, ResourceKey::Properties);
-    }
-    let found = touch.look(ResourceKey::Properties, Ask::Prop(name));
+    let key = ResourceKey::Properties;
+    let found = looked(alloc, rights, touch, key, Ask::Prop(name))?;
     Ok(Value::Flag(found.is_some()))
 }
 
@@ -267,10 +275,7 @@ fn file<'a, T: Touch>(
     requires { HasKeys (access_in rights.now) (T.content touch.now) (T.writes touch.now) }
     ensures { Answers data_of result (called (T.content touch.now) (access_in rights.now) Functions.File (Kinds.Text path.now)) }
 {
-    if !rights.lets_look(ResourceKey::File(path)) {
-        return undeclared(alloc, ResourceKey::File(path));
-    }
-    match touch.look(ResourceKey::File(path), Ask::File) {
+    match looked(alloc, rights, touch, ResourceKey::File(path), Ask::File)? {
         Some(text) => Ok(Value::Text(TextValue::Lent(text))),
         None => Err(Interrupt::Fault(Fault::MissingFile(Text::copied(alloc, path)?))),
     }
@@ -286,10 +291,7 @@ fn has_file<'a, T: Touch>(
     requires { HasKeys (access_in rights.now) (T.content touch.now) (T.writes touch.now) }
     ensures { Answers data_of result (called (T.content touch.now) (access_in rights.now) Functions.HasFile (Kinds.Text path.now)) }
 {
-    if !rights.lets_look(ResourceKey::File(path)) {
-        return undeclared(alloc, ResourceKey::File(path));
-    }
-    let found = touch.look(ResourceKey::File(path), Ask::File);
+    let found = looked(alloc, rights, touch, ResourceKey::File(path), Ask::File)?;
     Ok(Value::Flag(found.is_some()))
 }
 
@@ -302,11 +304,6 @@ fn locale<'a, T: Touch>(
     requires { HasKeys (access_in rights.now) (T.content touch.now) (T.writes touch.now) }
     ensures { Answers data_of result (evaluated [] (T.content touch.now) (access_in rights.now) locale) }
 {
-    if !rights.lets_look(ResourceKey::Locale) {
-        return undeclared(alloc, ResourceKey::Locale);
-    }
-    match touch.look(ResourceKey::Locale, Ask::Locale) {
-        Some(text) => Ok(Value::Text(TextValue::Lent(text))),
-        None => Ok(Value::Text(TextValue::Lent(""))),
-    }
+    let found = looked(alloc, rights, touch, ResourceKey::Locale, Ask::Locale)?;
+    Ok(Value::Text(TextValue::Lent(found.unwrap_or(""))))
 }

@@ -106,7 +106,7 @@ impl<'a> BlockRun<'a> {
             top: Some(Pending::Rest(before, block)),
             below: Vec::new(alloc),
         };
-        run.settle();
+        run.reach_next_point();
         run
     }
 
@@ -175,7 +175,7 @@ impl<'a> BlockRun<'a> {
 
     /// Leaves the pieces in which nothing is left to do, and all of them once the block has ended.
     #[inline(always)]
-    fn settle(&mut self)
+    fn reach_next_point(&mut self)
         ensures settled { point_of_run self.new ≡ next_point (pieces_of self.old) (local_of self.old) }
         ensures block { SameBlock self.old self.new }
     {
@@ -233,7 +233,7 @@ impl<'a> BlockRun<'a> {
     }
 
     /// Puts a piece before the others.
-    fn enter(&mut self, piece: Pending<'a>) -> Result<(), AllocError>
+    fn push(&mut self, piece: Pending<'a>) -> Result<(), AllocError>
         ensures pieces { OnOk result (pieces_of self.new ≡ piece_of piece.entry ∷ pieces_of self.old) }
         ensures local { local_of self.new ≡ local_of self.old }
         ensures block { SameBlock self.old self.new }

@@ -1,11 +1,11 @@
 //! The statements that test values, and the one that fails.
 ghost use Rattle.std.specs.Prelude.{◌≡◌, Ok, OnOk, IfOk};
-ghost use Rattle.iso_model.specs.Statements.{performed, upon, value};
+ghost use Rattle.iso_model.specs.Statements.{upon, value};
 ghost use Rattle.iso_model.specs.Syntax.{assert, assert_equal, assume};
 ghost use Rattle.iso_model.specs.SyntaxView.{term_of};
 ghost use Rattle.iso_model.specs.Texts.{difference_message};
 ghost use Rattle.iso_model.specs.Touch.{HasKeys};
-ghost use Rattle.iso_interp.specs.Runs.{SameWork, failed, local_of, run_rights, said, state_of};
+ghost use Rattle.iso_interp.specs.Runs.{Performs, SameWork, failed, local_of, run_rights, said, state_of};
 ghost use Rattle.iso_interp.specs.Values.{data_of, difference};
 
 use crate::operators::is_equal;
@@ -26,7 +26,8 @@ impl<'a> BlockRun<'a> {
         expression: &Expr,
     ) -> Result<(), AllocError>
         requires { HasKeys (run_rights self.old) (T.content touch.now) (T.writes touch.now) }
-        ensures done { OnOk result (state_of self.new (T.content touch.now) ≡ performed (run_rights self.old) row (assert (term_of expression.now)) (state_of self.old (T.content touch.now))) }
+        ensures done { Performs self.old self.new (T.content touch.now) (T.content touch.now) row
+            (assert (term_of expression.now)) result }
         ensures work { SameWork self.old self.new }
     {
         match self.flag(touch, expression)? {
@@ -49,7 +50,8 @@ impl<'a> BlockRun<'a> {
         actual: &Expr,
     ) -> Result<(), AllocError>
         requires { HasKeys (run_rights self.old) (T.content touch.now) (T.writes touch.now) }
-        ensures done { OnOk result (state_of self.new (T.content touch.now) ≡ performed (run_rights self.old) row (assert_equal (term_of expected.now) (term_of actual.now)) (state_of self.old (T.content touch.now))) }
+        ensures done { Performs self.old self.new (T.content touch.now) (T.content touch.now) row
+            (assert_equal (term_of expected.now) (term_of actual.now)) result }
         ensures work { SameWork self.old self.new }
     {
         self.expect(touch, row, expected, actual)
@@ -116,7 +118,8 @@ impl<'a> BlockRun<'a> {
         reason: &Text,
     ) -> Result<(), AllocError>
         requires { HasKeys (run_rights self.old) (T.content touch.now) (T.writes touch.now) }
-        ensures done { OnOk result (state_of self.new (T.content touch.now) ≡ performed (run_rights self.old) row (assume (term_of expression.now) reason.now) (state_of self.old (T.content touch.now))) }
+        ensures done { Performs self.old self.new (T.content touch.now) (T.content touch.now) row
+            (assume (term_of expression.now) reason.now) result }
         ensures work { SameWork self.old self.new }
     {
         match self.flag(touch, expression)? {

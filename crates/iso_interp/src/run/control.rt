@@ -1,12 +1,12 @@
 //! What a step does first: statements, turns, and the bodies that they choose.
-ghost use Rattle.std.specs.Prelude.{◌≡◌, ◌∷◌, ◌++◌, ℕ, Some, None, length, OnOk};
+ghost use Rattle.std.specs.Prelude.{◌≡◌, ◌∷◌, ℕ, Some, None, length, OnOk};
 ghost use Rattle.iso_model.specs.Resources.{Resources};
 ghost use Rattle.iso_model.specs.Rights.{Rights};
 ghost use Rattle.iso_model.specs.Steps.{begin, followed_by, machine, machine_at, next_point, point, rest as rest_of, step_at, turning};
 ghost use Rattle.iso_model.specs.Syntax.{choice, repeat};
 ghost use Rattle.iso_model.specs.SyntaxView.{block_of, stmt_of, term_of};
 ghost use Rattle.iso_model.specs.Touch.{HasKeys};
-ghost use Rattle.iso_interp.specs.Runs.{SameBlock, local_of, machine_of, pieces_in, pieces_of, point_of_run, run_rights, state_of};
+ghost use Rattle.iso_interp.specs.Runs.{Begins, SameBlock, local_of, machine_of, pieces_in, pieces_of, point_of_run, run_rights, state_of};
 ghost use Rattle.iso_interp.specs.declared.run.Pending.TheVariants.{Rest, Turning};
 
 use crate::run::{BlockRun, Pending};
@@ -58,17 +58,15 @@ impl<'a> BlockRun<'a> {
     {
         self.top = Some(Pending::Rest(names, rest));
         self.begin(touch, first)?;
-        self.settle();
+        self.reach_next_point();
         Ok(())
     }
 
     /// Does what a statement does in its step, and puts its pieces before the rest.
     fn begin<T: Touch>(&mut self, touch: &mut T, statement: &'a Stmt) -> Result<(), AllocError>
         requires { HasKeys (run_rights self.old) (T.content touch.old) (T.writes touch.old) }
-        ensures begun { OnOk result
-            (let s = stmt_of statement.now in
-            let m = begin (run_rights self.old) s.0 s.1 (state_of self.old (T.content touch.old)) in
-            (state_of self.new (T.content touch.new) ≡ m.state) × (pieces_of self.new ≡ m.pieces ++ pieces_of self.old)) }
+        ensures begun { let s = stmt_of statement.now in
+            Begins self.old self.new (T.content touch.old) (T.content touch.new) s.0 s.1 result }
         ensures block { SameBlock self.old self.new }
         ensures goes_on { T.goes_on touch.old touch.new }
     {
@@ -104,15 +102,14 @@ impl<'a> BlockRun<'a> {
         second: &'a [Stmt],
     ) -> Result<(), AllocError>
         requires { HasKeys (run_rights self.old) (T.content touch.now) (T.writes touch.now) }
-        ensures begun { OnOk result
-            (let m = begin (run_rights self.old) row (choice (term_of condition.now) (block_of first.now) (block_of second.now)) (state_of self.old (T.content touch.now)) in
-            (state_of self.new (T.content touch.now) ≡ m.state) × (pieces_of self.new ≡ m.pieces ++ pieces_of self.old)) }
+        ensures begun { Begins self.old self.new (T.content touch.now) (T.content touch.now) row
+            (choice (term_of condition.now) (block_of first.now) (block_of second.now)) result }
         ensures block { SameBlock self.old self.new }
     {
         match self.flag(touch, condition)? {
             Ok(holds) => {
                 let names = self.names.len();
-                self.enter(Pending::Rest(names, if holds { first } else { second }))
+                self.push(Pending::Rest(names, if holds { first } else { second }))
             }
             Err(fault) => self.fault(row, fault),
         }
@@ -127,13 +124,12 @@ impl<'a> BlockRun<'a> {
         body: &'a [Stmt],
     ) -> Result<(), AllocError>
         requires { HasKeys (run_rights self.old) (T.content touch.now) (T.writes touch.now) }
-        ensures begun { OnOk result
-            (let m = begin (run_rights self.old) row (repeat (term_of count.now) (block_of body.now)) (state_of self.old (T.content touch.now)) in
-            (state_of self.new (T.content touch.now) ≡ m.state) × (pieces_of self.new ≡ m.pieces ++ pieces_of self.old)) }
+        ensures begun { Begins self.old self.new (T.content touch.now) (T.content touch.now) row
+            (repeat (term_of count.now) (block_of body.now)) result }
         ensures block { SameBlock self.old self.new }
     {
         match self.count(touch, count)? {
-            Ok(turns) => self.enter(Pending::Turning(row, turns, body)),
+            Ok(turns) => self.push(Pending::Turning(row, turns, body)),
             Err(fault) => self.fault(row, fault),
         }
     }
@@ -167,8 +163,8 @@ impl<'a> BlockRun<'a> {
     {
         self.top = Some(Pending::Turning(row, left, body));
         let names = self.names.len();
-        self.enter(Pending::Rest(names, body))?;
-        self.settle();
+        self.push(Pending::Rest(names, body))?;
+        self.reach_next_point();
         Ok(())
     }
 }

@@ -3,12 +3,12 @@ ghost use Rattle.std.specs.Prelude.{◌≡◌, IfOk, OnOk};
 ghost use Rattle.iso_model.specs.Keys.{file_key};
 ghost use Rattle.iso_model.specs.ResourceKeys.{spelling};
 ghost use Rattle.iso_model.specs.Resources.{text_in};
-ghost use Rattle.iso_model.specs.Statements.{allowed, appending, changes, deleting, performed};
+ghost use Rattle.iso_model.specs.Statements.{allowed, appending, changes, deleting};
 ghost use Rattle.iso_model.specs.Syntax.{append_file, clear_prop, delete_file, set_locale, set_prop, write_file};
 ghost use Rattle.iso_model.specs.SyntaxView.{term_of};
 ghost use Rattle.iso_model.specs.Touch.{HasKeys, HasKind, file, kind_of_change, kind_of_key};
 ghost use Rattle.iso_model.specs.declared.fault.Fault.TheVariants as Faults;
-ghost use Rattle.iso_interp.specs.Runs.{SameWork, faulted, local_of, run_rights, state_of};
+ghost use Rattle.iso_interp.specs.Runs.{Performs, SameWork, faulted, local_of, run_rights, state_of};
 ghost use Rattle.iso_interp.specs.Values.{appended};
 
 use crate::operators::joined_text;
@@ -32,7 +32,8 @@ impl<'a> BlockRun<'a> {
         text: &Expr,
     ) -> Result<(), AllocError>
         requires { HasKeys (run_rights self.old) (T.content touch.old) (T.writes touch.old) }
-        ensures done { OnOk result (state_of self.new (T.content touch.new) ≡ performed (run_rights self.old) row (set_prop (term_of name.now) (term_of text.now)) (state_of self.old (T.content touch.old))) }
+        ensures done { Performs self.old self.new (T.content touch.old) (T.content touch.new) row
+            (set_prop (term_of name.now) (term_of text.now)) result }
         ensures work { SameWork self.old self.new }
         ensures goes_on { T.goes_on touch.old touch.new }
     {
@@ -53,7 +54,8 @@ impl<'a> BlockRun<'a> {
         name: &Expr,
     ) -> Result<(), AllocError>
         requires { HasKeys (run_rights self.old) (T.content touch.old) (T.writes touch.old) }
-        ensures done { OnOk result (state_of self.new (T.content touch.new) ≡ performed (run_rights self.old) row (clear_prop (term_of name.now)) (state_of self.old (T.content touch.old))) }
+        ensures done { Performs self.old self.new (T.content touch.old) (T.content touch.new) row
+            (clear_prop (term_of name.now)) result }
         ensures work { SameWork self.old self.new }
         ensures goes_on { T.goes_on touch.old touch.new }
     {
@@ -74,7 +76,8 @@ impl<'a> BlockRun<'a> {
         text: &Expr,
     ) -> Result<(), AllocError>
         requires { HasKeys (run_rights self.old) (T.content touch.old) (T.writes touch.old) }
-        ensures done { OnOk result (state_of self.new (T.content touch.new) ≡ performed (run_rights self.old) row (set_locale (term_of text.now)) (state_of self.old (T.content touch.old))) }
+        ensures done { Performs self.old self.new (T.content touch.old) (T.content touch.new) row
+            (set_locale (term_of text.now)) result }
         ensures work { SameWork self.old self.new }
         ensures goes_on { T.goes_on touch.old touch.new }
     {
@@ -96,7 +99,8 @@ impl<'a> BlockRun<'a> {
         text: &Expr,
     ) -> Result<(), AllocError>
         requires { HasKeys (run_rights self.old) (T.content touch.old) (T.writes touch.old) }
-        ensures done { OnOk result (state_of self.new (T.content touch.new) ≡ performed (run_rights self.old) row (write_file (term_of path.now) (term_of text.now)) (state_of self.old (T.content touch.old))) }
+        ensures done { Performs self.old self.new (T.content touch.old) (T.content touch.new) row
+            (write_file (term_of path.now) (term_of text.now)) result }
         ensures work { SameWork self.old self.new }
         ensures goes_on { T.goes_on touch.old touch.new }
     {
@@ -118,7 +122,8 @@ impl<'a> BlockRun<'a> {
         text: &Expr,
     ) -> Result<(), AllocError>
         requires { HasKeys (run_rights self.old) (T.content touch.old) (T.writes touch.old) }
-        ensures done { OnOk result (state_of self.new (T.content touch.new) ≡ performed (run_rights self.old) row (append_file (term_of path.now) (term_of text.now)) (state_of self.old (T.content touch.old))) }
+        ensures done { Performs self.old self.new (T.content touch.old) (T.content touch.new) row
+            (append_file (term_of path.now) (term_of text.now)) result }
         ensures work { SameWork self.old self.new }
         ensures goes_on { T.goes_on touch.old touch.new }
     {
@@ -180,7 +185,8 @@ impl<'a> BlockRun<'a> {
         path: &Expr,
     ) -> Result<(), AllocError>
         requires { HasKeys (run_rights self.old) (T.content touch.old) (T.writes touch.old) }
-        ensures done { OnOk result (state_of self.new (T.content touch.new) ≡ performed (run_rights self.old) row (delete_file (term_of path.now)) (state_of self.old (T.content touch.old))) }
+        ensures done { Performs self.old self.new (T.content touch.old) (T.content touch.new) row
+            (delete_file (term_of path.now)) result }
         ensures work { SameWork self.old self.new }
         ensures goes_on { T.goes_on touch.old touch.new }
     {

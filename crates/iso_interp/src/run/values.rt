@@ -2,11 +2,11 @@
 ghost use Rattle.std.specs.Prelude.{◌≡◌, OnOk};
 ghost use Rattle.iso_model.specs.Names.{assigned};
 ghost use Rattle.iso_model.specs.Resources.{Resources};
-ghost use Rattle.iso_model.specs.Statements.{declares, locally, performed, prints, upon, with_names};
+ghost use Rattle.iso_model.specs.Statements.{declares, locally, prints, upon, with_names};
 ghost use Rattle.iso_model.specs.Syntax.{assign, let_name, print};
 ghost use Rattle.iso_model.specs.SyntaxView.{term_of};
 ghost use Rattle.iso_model.specs.Touch.{HasKeys};
-ghost use Rattle.iso_interp.specs.Runs.{SameWork, run_rights, state_of};
+ghost use Rattle.iso_interp.specs.Runs.{Performs, SameWork, run_rights, state_of};
 
 use crate::run::BlockRun;
 use iso_model::data::Data;
@@ -27,7 +27,8 @@ impl<'a> BlockRun<'a> {
         expression: &Expr,
     ) -> Result<(), AllocError>
         requires { HasKeys (run_rights self.old) (T.content touch.now) (T.writes touch.now) }
-        ensures done { OnOk result (state_of self.new (T.content touch.now) ≡ performed (run_rights self.old) row (let_name name.now (term_of expression.now)) (state_of self.old (T.content touch.now))) }
+        ensures done { Performs self.old self.new (T.content touch.now) (T.content touch.now) row
+            (let_name name.now (term_of expression.now)) result }
         ensures work { SameWork self.old self.new }
     {
         match self.own_value(touch, expression)? {
@@ -58,7 +59,8 @@ impl<'a> BlockRun<'a> {
         expression: &Expr,
     ) -> Result<(), AllocError>
         requires { HasKeys (run_rights self.old) (T.content touch.now) (T.writes touch.now) }
-        ensures done { OnOk result (state_of self.new (T.content touch.now) ≡ performed (run_rights self.old) row (assign name.now (term_of expression.now)) (state_of self.old (T.content touch.now))) }
+        ensures done { Performs self.old self.new (T.content touch.now) (T.content touch.now) row
+            (assign name.now (term_of expression.now)) result }
         ensures work { SameWork self.old self.new }
     {
         match self.own_value(touch, expression)? {
@@ -93,7 +95,8 @@ impl<'a> BlockRun<'a> {
         expression: &Expr,
     ) -> Result<(), AllocError>
         requires { HasKeys (run_rights self.old) (T.content touch.now) (T.writes touch.now) }
-        ensures done { OnOk result (state_of self.new (T.content touch.now) ≡ performed (run_rights self.old) row (print (term_of expression.now)) (state_of self.old (T.content touch.now))) }
+        ensures done { Performs self.old self.new (T.content touch.now) (T.content touch.now) row
+            (print (term_of expression.now)) result }
         ensures work { SameWork self.old self.new }
     {
         match self.value(touch, expression)? {
