@@ -2,7 +2,7 @@
 use iso_model::fault::Fault;
 use std::alloc::AllocError;
 
-/// A fault, which ends the block, or want of memory, which ends its run.
+/// A fault, which ends the block, or out of memory, which ends its run.
 #[derive(Drop)]
 pub enum Interrupt {
     Fault(Fault),

@@ -58,7 +58,7 @@ pub struct BlockEnd {
 }
 
 /// A run of a block (JUnit 5, a method of a test's life cycle), one step at a time.
-/// After want of memory it is only to be dropped.
+/// Once out of memory it is only to be dropped.
 #[derive(Drop)]
 pub struct BlockRun<'a> {
     alloc: Global,

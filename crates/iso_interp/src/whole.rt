@@ -13,7 +13,7 @@ use iso_model::touch::Touch;
 use iso_model::tree::Stmt;
 use std::alloc::{AllocError, Global};
 
-/// Runs a block to its end. Want of memory is the only error; it leaves the resources as they
+/// Runs a block to its end. Out of memory is the only error; it leaves the resources as they
 /// were after some step.
 pub fn run_block<T: Touch>(
     alloc: Global,

@@ -1,5 +1,9 @@
 -- Where a body begins, and where its steps lead.
 use Rattle.std.proofs.Common.{◌≡◌, ℕ, suc, ◌<◌, ◌≤◌, ◌-◌, List, [], ◌∷◌, length, reverse, Option, Some, false, sym, ap, ◌∙◌, arith, subst, true≢false}
+use Rattle.std.proofs.lemmas.List.{length-map, length-reverse}
+use Rattle.std.specs.Arc.{arc_value}
+use Rattle.std.specs.declared.alloc.Global.{Global}
+use Rattle.std.specs.declared.sync.Arc.{Arc}
 use Rattle.iso_model.proofs.BodyKeys.{body-step-alike}
 use Rattle.iso_model.specs.Agreement.{EqualAt}
 use Rattle.iso_model.specs.Bodies.{Going, Stage, body_step, during, ended, fresh_account, going, is_ended, stage_from, test_stage}
@@ -8,16 +12,22 @@ use Rattle.iso_model.specs.Chains.{ClassHead, TestHead}
 use Rattle.iso_model.specs.Jobs.{job, opening_names, test_jobs}
 use Rattle.iso_model.specs.Openings.{statics_of}
 use Rattle.iso_model.specs.Resources.{Resources}
+use Rattle.iso_model.specs.ScriptView.{class_head_of}
 use Rattle.iso_model.specs.Syntax.{Acts}
 use Rattle.iso_model.specs.Tests.{test_names}
+use Rattle.iso_model.specs.declared.heads.ClassHead.{ClassHead as Head}
 use Rattle.iso_model.specs.declared.names.Binding.{Binding}
 use Rattle.iso_model.specs.declared.place.BlockName.TheVariants.{Class}
 use Rattle.iso_model.specs.declared.place.Lifecycle.TheVariants as L
 use Rattle.iso_plan.specs.NodeChains.{chain_test}
 use Rattle.iso_plan.specs.RowView.{tree_of}
+use Rattle.iso_lifecycle.specs.BodyRuns.{rights_of}
+use Rattle.iso_lifecycle.specs.BodyViews.{kind_of_body, stage_of_body, subject_of}
+use Rattle.iso_lifecycle.specs.Heads.{heads_in}
 use Rattle.iso_lifecycle.specs.JobPlaces.{head_at, outside}
 use Rattle.iso_lifecycle.specs.Origins.{HasCome, HasLeft}
 use Rattle.iso_lifecycle.specs.Subjects.{Subject, begun, begun_closing, begun_opening, begun_testing, classes_of, enclosing, opening_of, reached, rights_of_subject}
+use Rattle.iso_lifecycle.specs.declared.body.Body.{Body}
 use Rattle.iso_lifecycle.specs.declared.kind.BodyKind.{BodyKind}
 use Rattle.iso_lifecycle.specs.declared.kind.BodyKind.TheVariants.{BeforeAll, Test, AfterAll}
 use Rattle.iso_lifecycle.proofs.JobLemmas.{outside-all, outside-more}
@@ -25,6 +35,13 @@ use Rattle.iso_lifecycle.proofs.JobLemmas.{outside-all, outside-more}
 -- the last of the classes, outermost first, is the innermost
 pub last-class : (os : List ClassHead) (d : ℕ) → suc d ≡ length os → reverse os ≡ head_at os d ∷ outside os d
 last-class os d e = sym (outside-all os) ∙ ap (outside os) (sym e) ∙ outside-more os d (omega (arith, e))
+
+-- a chain has as many classes, outermost first, as the subject's, innermost first
+pub heads-length : (heads : List (Arc Head Global)) → length heads ≡ length (heads_in heads)
+heads-length heads = sym (length-map heads (λ h. class_head_of (arc_value h)))
+
+pub chain-length : (s : Subject) (heads : List (Arc Head Global)) → reverse (heads_in heads) ≡ classes_of s → length heads ≡ length (classes_of s)
+chain-length s heads are = heads-length heads ∙ sym (length-reverse (heads_in heads)) ∙ ap length are
 
 -- a class stands in a chain of at least one
 pub some-class : (n m : ℕ) → n ≡ suc m → 1 ≤ n
@@ -62,6 +79,15 @@ steps-on kind s n now next m k stage same stepped =
     let r = rights_of_subject s in
     let alike : AlikeGoing r (going now m) (reached kind s n) = record { stage = stage; resources = same } in
     subst (λ (g : Going). AlikeGoing r g (reached kind s (suc n))) (sym stepped) (body-step-alike r (going now m) (reached kind s n) alike)
+
+-- a step more of a body that stands where so many steps of it alone have left it
+pub step-stands : (b : Body) (n : ℕ) (next : Stage) (m k : Resources) → stage_of_body b ≡ (reached (kind_of_body b) (subject_of b) n).stage
+    → EqualAt (rights_of_subject (subject_of b)) m (reached (kind_of_body b) (subject_of b) n).resources
+    → going next k ≡ body_step (rights_of b.run) (going (stage_of_body b) m)
+    → AlikeGoing (rights_of_subject (subject_of b)) (going next k) (reached (kind_of_body b) (subject_of b) (suc n))
+step-stands b n next m k stage same stepped =
+    let rights : rights_of b.run ≡ rights_of_subject (subject_of b) = λ i q. b.rights q i in
+    steps-on (kind_of_body b) (subject_of b) n (stage_of_body b) next m k stage same (stepped ∙ (λ i. body_step (rights i) (going (stage_of_body b) m)))
 
 -- a body that hasn't ended owes nothing
 pub owes-come : (kind : BodyKind) (s : Subject) (stage : Stage) → is_ended stage ≡ false → HasCome kind s stage

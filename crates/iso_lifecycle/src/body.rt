@@ -8,7 +8,6 @@ ghost use Rattle.iso_lifecycle.specs.Origins.{HasCome, HasCome-prop, HasLeft, Ha
 ghost use Rattle.iso_lifecycle.specs.Subjects.{begun, rights_of_subject, subject};
 ghost use Rattle.iso_lifecycle.specs.WholeBodies.{CanBegin, IsAfterBody};
 
-use crate::blocks::head;
 use crate::body_run::BodyRun;
 use crate::done::{Closed, Done, Opened, What};
 use crate::frame::{Frame, are_of_classes};
@@ -27,7 +26,7 @@ use iso_settings::world::World;
 use std::alloc::{AllocError, Global};
 use std::snapshot::Snapshot;
 
-/// A body of a node of a plan: a class's `before_all` or `after_all`, or a whole test (JUnit 5, test lifecycle). After want of
+/// A body of a node of a plan: a class's `before_all` or `after_all`, or a whole test (JUnit 5, test lifecycle). Once out of
 /// memory in a step it never ends, and is only to be dropped.
 #[derive(Drop)]
 pub struct Body<'a> {
@@ -113,12 +112,11 @@ impl<'a> Body<'a> {
         are_of_classes(frames);
         paths_lead_up(origin.plan);
         chains_grow_down(origin.plan);
-        let classes = origin.plan.chain(origin.node).classes;
-        let class = head(classes, classes.len() - 1);
+        let (class, depth) = origin.class();
         let mut names = statics_of(alloc, frames)?;
         let outer = names.len();
         add_variables(alloc, &mut names, &class.statics, Sort::Static)?;
-        let words = BlockName::Class(classes.len() as u32, Lifecycle::BeforeAll);
+        let words = BlockName::Class(depth, Lifecycle::BeforeAll);
         let run = BodyRun::of_block(alloc, &class.before_all, words, names, origin.rights())?;
         Body::with_frame(alloc, origin, run, outer)
     }
@@ -158,10 +156,9 @@ impl<'a> Body<'a> {
         are_of_classes(frames);
         paths_lead_up(origin.plan);
         chains_grow_down(origin.plan);
-        let classes = origin.plan.chain(origin.node).classes;
-        let class = head(classes, classes.len() - 1);
+        let (class, depth) = origin.class();
         let names = statics_of(alloc, frames)?;
-        let words = BlockName::Class(classes.len() as u32, Lifecycle::AfterAll);
+        let words = BlockName::Class(depth, Lifecycle::AfterAll);
         let run = BodyRun::of_block(alloc, &class.after_all, words, names, origin.rights())?;
         Body::with_frame(alloc, origin, run, 0)
     }

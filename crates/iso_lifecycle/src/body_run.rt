@@ -26,15 +26,15 @@ use std::sync::Arc;
 
 /// What an ended body leaves: the endings of the blocks that were done, in order, the lines that they printed, and its names.
 #[derive(Drop)]
-pub struct BodyEnd {
+pub(crate) struct BodyEnd {
     pub endings: Vec<Ending>,
     pub output: Lines,
     pub names: Vec<Binding>,
 }
 
-/// A run of a body (JUnit 5, test lifecycle), one step at a time. After want of memory it is only to be dropped.
+/// A run of a body (JUnit 5, test lifecycle), one step at a time. Once out of memory it is only to be dropped.
 #[derive(Drop)]
-pub struct BodyRun<'a> {
+pub(crate) struct BodyRun<'a> {
     rest: Rest<'a>,
     block: Option<BlockRun<'a>>,
     ghost same: { HaveRights block rest } by { HaveRights-prop block rest },
@@ -45,7 +45,7 @@ impl<'a> BodyRun<'a> {
 
     /// A whole test at its beginning: the `before_each` blocks of these classes, outermost first, its own block, and the
     /// `after_each` blocks, innermost first. The names are those that the innermost block sees, the outer classes' first.
-    pub fn of_test(
+    pub(crate) fn of_test(
         alloc: Global,
         classes: &'a [Arc<ClassHead>],
         test: &'a TestHead,
@@ -77,7 +77,7 @@ impl<'a> BodyRun<'a> {
     }
 
     /// A body of one block at its beginning, which sees all these names: a `before_all` or an `after_all`.
-    pub fn of_block(
+    pub(crate) fn of_block(
         alloc: Global,
         block: &'a [Stmt],
         words: BlockName,
@@ -110,9 +110,9 @@ impl<'a> BodyRun<'a> {
     }
 
     /// Does the first piece that is left; where its block has then ended, the next begins that has something to do.
-    /// A body that has ended stays as it is. One that met want of memory never ends.
+    /// A body that has ended stays as it is. One that was out of memory never ends.
     #[inline(always)]
-    pub fn step<T: Touch>(&mut self, touch: &mut T) -> Result<(), AllocError>
+    pub(crate) fn step<T: Touch>(&mut self, touch: &mut T) -> Result<(), AllocError>
         requires { HasKeys (rights_of self.old) (T.content touch.old) (T.writes touch.old) }
         ensures step { OnOk result (going (stage_of self.new) (T.content touch.new) ≡ body_step (rights_of self.old) (going (stage_of self.old) (T.content touch.old))) }
         ensures stopped { OnErr result (is_ended (stage_of self.new) ≡ false) }
@@ -125,7 +125,7 @@ impl<'a> BodyRun<'a> {
         };
         match run.step(touch)? {
             Progress::More => Ok(()),
-            Progress::Ended => self.settle(),
+            Progress::Ended => self.reach_next_block(),
         }
     }
 
@@ -146,14 +146,14 @@ impl<'a> BodyRun<'a> {
     }
 
     /// Whether nothing is left to do.
-    pub fn is_ended(&self) -> bool
+    pub(crate) fn is_ended(&self) -> bool
         ensures { result ≡ is_ended (stage_of self.now) }
     {
         self.block.is_none()
     }
 
     /// What the body leaves, once it has ended. Takes no memory.
-    pub fn finish(self) -> BodyEnd
+    pub(crate) fn finish(self) -> BodyEnd
         requires { is_ended (stage_of self) ≡ true }
         ensures { stage_of self.entry ≡ ended (end_account result (account_in_run self.entry).printed) }
     {
@@ -166,7 +166,7 @@ impl<'a> BodyRun<'a> {
     }
 
     /// Leaves a block of which nothing is left, and begins the next that has something to do.
-    fn settle(&mut self) -> Result<(), AllocError>
+    fn reach_next_block(&mut self) -> Result<(), AllocError>
         ensures stage { OnOk result (stage_of self.new ≡ settled_stage self.old) }
         ensures stopped { OnErr result (is_ended (stage_of self.new) ≡ false) }
         ensures rights { rights_of self.new ≡ rights_of self.old }

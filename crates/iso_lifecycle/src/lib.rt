@@ -3,7 +3,7 @@
 
 mod blocks;
 pub mod body;
-pub mod body_run;
+mod body_run;
 pub mod done;
 mod entry;
 pub mod frame;

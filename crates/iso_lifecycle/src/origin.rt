@@ -1,18 +1,21 @@
 //! What a body is of.
-ghost use Rattle.std.specs.Prelude.{◌≡◌, ◌<◌, ◌^◌, IfOk, length, true};
+ghost use Rattle.std.specs.Prelude.{◌≡◌, ◌<◌, ◌^◌, ◌∷◌, IfOk, length, true};
 ghost use Rattle.iso_model.specs.Bodies.{is_ended};
 ghost use Rattle.iso_model.specs.Rights.{access_in};
+ghost use Rattle.iso_model.specs.ScriptView.{class_head_of};
 ghost use Rattle.iso_plan.specs.Paths.{row_at};
 ghost use Rattle.iso_plan.specs.RowView.{tree_of};
 ghost use Rattle.iso_lifecycle.specs.BodyRuns.{stage_of};
 ghost use Rattle.iso_lifecycle.specs.Origins.{HasCome, HasLeft, outer_names};
-ghost use Rattle.iso_lifecycle.specs.Subjects.{IsFrame, enclosing, is_kind_of, opening_of, rights_of_subject, subject};
+ghost use Rattle.iso_lifecycle.specs.Subjects.{IsFrame, IsOfClass, classes_of, enclosing, is_kind_of, opening_of, rights_of_subject, subject};
 
+use crate::blocks::head;
 use crate::body_run::BodyRun;
 use crate::done::{Done, What};
 use crate::frame::Frame;
 use crate::kind::BodyKind;
 use crate::names::frozen_past;
+use iso_model::heads::ClassHead;
 use iso_model::names::Binding;
 use iso_model::rights::Rights;
 use iso_plan::laws::chains_grow_down;
@@ -44,6 +47,18 @@ impl<'a> Origin<'a> {
         ensures { access_in result.now ≡ rights_of_subject (subject_of_origin self.now) }
     {
         self.plan.rights(self.node)
+    }
+
+    /// The class that the body is of, and how deep it stands: a class at the top level stands at depth 1.
+    pub(crate) fn class(&self) -> (&'a ClassHead, u32)
+        requires { IsOfClass (subject_of_origin self.now) }
+        ensures class { let s = subject_of_origin self.now in
+            classes_of s ≡ class_head_of result.0.now ∷ classes_of (enclosing s) }
+        ensures depth { result.1 ≡ length (classes_of (subject_of_origin self.now)) }
+    {
+        chains_grow_down(self.plan);
+        let classes = self.plan.chain(self.node).classes;
+        (head(classes, classes.len() - 1), classes.len() as u32)
     }
 
     /// The frame that an ended `before_all` leaves, so many names of which are of the enclosing classes. No other body leaves one.

@@ -157,7 +157,7 @@ impl<'a> Results<'a> {
     }
 
     /// Shares the frames of a class and of those that it stands in into a list that has room for them, outermost first; of the root there
-    /// are none. It takes the memory of `Frame::share` alone, and after want of memory the list is empty again.
+    /// are none. It takes the memory of `Frame::share` alone, and once out of memory the list is empty again.
     pub fn share_frames(&self, node: u32, frames: &mut Vec<Frame>) -> Result<(), AllocError>
         requires node { node < length self.now.plan.rows }
         requires opened { AreOpened self.now (path (tree_of self.now.plan) node) }

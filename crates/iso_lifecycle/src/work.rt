@@ -44,7 +44,7 @@ impl<'a> Rest<'a> {
     ghost use Rattle.iso_lifecycle.specs.Works.{HaveRights, SameChain, account_in, begun_with, beside_in, job_in, jobs_left, stage_with};
 
     /// Ends a block, of which nothing is left to do.
-    fn leave(&mut self, run: BlockRun<'a>) -> Result<(), AllocError>
+    fn end_block(&mut self, run: BlockRun<'a>) -> Result<(), AllocError>
         requires { is_done (pieces_of run) ≡ true }
         ensures account { OnOk result (account_in self.new ≡ account_after (names_before run.entry) (local_of run.entry) (beside_in self.old)) }
         ensures chain { SameChain self.old self.new }
@@ -65,7 +65,7 @@ impl<'a> Rest<'a> {
     }
 
     /// Ends a block of which nothing is left to do, and answers any other.
-    fn leave_if_ended(&mut self, run: BlockRun<'a>) -> Result<Option<BlockRun<'a>>, AllocError>
+    fn end_block_if_done(&mut self, run: BlockRun<'a>) -> Result<Option<BlockRun<'a>>, AllocError>
         ensures stage { IfOk result (λ block. begun_with block self.new ≡ settled_with (Some run.entry) self.old) }
         ensures same { IfOk result (λ block. IfSome block (λ left. left ≡ run.entry)) }
         ensures chain { SameChain self.old self.new }
@@ -74,7 +74,7 @@ impl<'a> Rest<'a> {
         if !run.is_ended() {
             return Ok(Some(run));
         }
-        self.leave(run)?;
+        self.end_block(run)?;
         Ok(None)
     }
 
@@ -93,7 +93,7 @@ impl<'a> Rest<'a> {
     }
 
     /// Begins the block of a job, which may have nothing to do.
-    fn enter(&mut self, job: Job) -> Result<BlockRun<'a>, AllocError>
+    fn begin_block(&mut self, job: Job) -> Result<BlockRun<'a>, AllocError>
         requires { IsPlaced (length self.old.classes.now) (Some job) }
         ensures point { IfOk result (λ run. point_of_run run ≡ first_point (job_in self.old job).acts (job_environment (job_in self.old job) (account_in self.old))) }
         ensures names { IfOk result (λ run. names_before run ≡ length (job_environment (job_in self.old job) (account_in self.old)).names) }
@@ -146,8 +146,8 @@ impl<'a> Rest<'a> {
         if !self.is_due(job) {
             return Ok(None);
         }
-        let run = self.enter(job)?;
-        self.leave_if_ended(run)
+        let run = self.begin_block(job)?;
+        self.end_block_if_done(run)
     }
 
     /// Begins the next block that has something to do, if there is one.
@@ -172,7 +172,7 @@ impl<'a> Rest<'a> {
         ensures rights { IfOk result (λ block. HaveRights block self.old) }
         ensures chain { SameChain self.old self.new }
     {
-        match self.leave_if_ended(run)? {
+        match self.end_block_if_done(run)? {
             Some(run) => Ok(Some(run)),
             None => self.follow(),
         }

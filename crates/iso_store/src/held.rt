@@ -78,7 +78,7 @@ impl Held {
     }
 
     /// Changes the value: sets or clears a property, sets the locale, writes or deletes the file.
-    /// A value of another kind stays as it is. After want of memory nothing is changed.
+    /// A value of another kind stays as it is. Once out of memory nothing is changed.
     pub fn apply(&mut self, change: Change) -> Result<(), AllocError>
         ensures ok { OnOk result (self.new ≡ after change self.old) }
         ensures err { OnErr result (self.new ≡ self.old) }

@@ -1,11 +1,10 @@
 use Rattle.std.proofs.Common.{◌≡◌, suc, ap, ◌∙◌, false, sym}
-use Rattle.iso_model.specs.Bodies.{body_step, going, is_ended}
-use Rattle.iso_model.specs.BodyAgreement.{AlikeGoing}
+use Rattle.iso_model.specs.Bodies.{is_ended}
 use Rattle.iso_model.specs.Rights.{Rights}
-use Rattle.iso_lifecycle.specs.BodyRuns.{rights_of, stage_of}
+use Rattle.iso_lifecycle.specs.BodyRuns.{stage_of}
+use Rattle.iso_lifecycle.specs.BodyViews.{subject_of}
 use Rattle.iso_lifecycle.specs.OriginViews.{subject_of_origin}
-use Rattle.iso_lifecycle.specs.Subjects.{reached, rights_of_subject}
-use Rattle.iso_lifecycle.proofs.Beginnings.{owes-come, owes-left, steps-on}
+use Rattle.iso_lifecycle.proofs.Beginnings.{owes-come, owes-left, step-stands}
 use Rattle.iso_lifecycle.proofs.Comings.{comes}
 use Rattle.iso_lifecycle.proofs.body.Body.step.Goals as goal
 
@@ -37,51 +36,31 @@ invariant_of-self-then-not-is_ended g c =
 
 pub returns-then-not-is_ended-clause-stands : goal.returns-then-not-is_ended-clause-stands
 returns-then-not-is_ended-clause-stands g c =
-    let b = c.args.self.now in
-    let s = subject_of_origin b.origin in
-    let kind = b.origin.kind in
-    let m = g.T.Touch.content c.args.touch.now in
-    let k = g.T.Touch.content c.step.new.touch in
-    let now = stage_of b.run in
-    let next = stage_of c.step.new.self in
     let n = c.requires.stands.steps in
-    let same : rights_of b.run ≡ rights_of_subject s = λ i q. b.rights q i in
-    let stepped : going next k ≡ body_step (rights_of_subject s) (going now m) = c.in_ok-step.ensures.step ∙ (λ i. body_step (same i) (going now m)) in
-    let alike : AlikeGoing (rights_of_subject s) (going next k) (reached kind s (suc n)) = steps-on kind s n now next m k c.requires.stands.stage c.requires.stands.resources stepped in
+    let content = g.T.Touch.content in
+    let alike = step-stands c.args.self.now n (stage_of c.step.new.self) (content c.args.touch.now) (content c.step.new.touch) c.requires.stands.stage c.requires.stands.resources c.in_ok-step.ensures.step in
     record { steps = suc n; stage = alike.stage; resources = alike.resources }
 
 pub frame-requires-clause-come : goal.frame-requires-clause-come
 frame-requires-clause-come g c =
     let b = c.args.self.now in
-    let s = subject_of_origin b.origin in
-    let kind = b.origin.kind in
-    let m = g.T.Touch.content c.args.touch.now in
-    let k = g.T.Touch.content c.step.new.touch in
-    let now = stage_of b.run in
-    let next = stage_of c.step.new.self in
     let n = c.requires.stands.steps in
-    let same : rights_of b.run ≡ rights_of_subject s = λ i q. b.rights q i in
-    let stepped : going next k ≡ body_step (rights_of_subject s) (going now m) = c.in_ok-step.ensures.step ∙ (λ i. body_step (same i) (going now m)) in
-    let alike : AlikeGoing (rights_of_subject s) (going next k) (reached kind s (suc n)) = steps-on kind s n now next m k c.requires.stands.stage c.requires.stands.resources stepped in
-    comes kind s (suc n) next alike.stage
+    let content = g.T.Touch.content in
+    let next = stage_of c.step.new.self in
+    let alike = step-stands b n next (content c.args.touch.now) (content c.step.new.touch) c.requires.stands.stage c.requires.stands.resources c.in_ok-step.ensures.step in
+    comes b.origin.kind (subject_of b) (suc n) next alike.stage
 
 pub invariant_of-self-in-Ok : goal.invariant_of-self-in-Ok
 invariant_of-self-in-Ok g c =
     let b = c.args.self.now in
-    let s = subject_of_origin b.origin in
-    let kind = b.origin.kind in
-    let m = g.T.Touch.content c.args.touch.now in
-    let k = g.T.Touch.content c.step.new.touch in
-    let now = stage_of b.run in
-    let next = stage_of c.step.new.self in
     let n = c.requires.stands.steps in
-    let same : rights_of b.run ≡ rights_of_subject s = λ i q. b.rights q i in
-    let stepped : going next k ≡ body_step (rights_of_subject s) (going now m) = c.in_ok-step.ensures.step ∙ (λ i. body_step (same i) (going now m)) in
-    let alike : AlikeGoing (rights_of_subject s) (going next k) (reached kind s (suc n)) = steps-on kind s n now next m k c.requires.stands.stage c.requires.stands.resources stepped in
+    let content = g.T.Touch.content in
+    let next = stage_of c.step.new.self in
+    let alike = step-stands b n next (content c.args.touch.now) (content c.step.new.touch) c.requires.stands.stage c.requires.stands.resources c.in_ok-step.ensures.step in
     record {
       outer_is = b.outer_is;
       rights = λ q. ap (λ (r : Rights). r q) c.step.ensures.rights ∙ b.rights q;
-      come = comes kind s (suc n) next alike.stage;
+      come = comes b.origin.kind (subject_of b) (suc n) next alike.stage;
       left = c.in-Ok.ensures;
     }
 
@@ -99,15 +78,7 @@ invariant_of-self-in-Err g c =
 
 pub returns-in-Ok-clause-stands : goal.returns-in-Ok-clause-stands
 returns-in-Ok-clause-stands g c =
-    let b = c.args.self.now in
-    let s = subject_of_origin b.origin in
-    let kind = b.origin.kind in
-    let m = g.T.Touch.content c.args.touch.now in
-    let k = g.T.Touch.content c.step.new.touch in
-    let now = stage_of b.run in
-    let next = stage_of c.step.new.self in
     let n = c.requires.stands.steps in
-    let same : rights_of b.run ≡ rights_of_subject s = λ i q. b.rights q i in
-    let stepped : going next k ≡ body_step (rights_of_subject s) (going now m) = c.in_ok-step.ensures.step ∙ (λ i. body_step (same i) (going now m)) in
-    let alike : AlikeGoing (rights_of_subject s) (going next k) (reached kind s (suc n)) = steps-on kind s n now next m k c.requires.stands.stage c.requires.stands.resources stepped in
+    let content = g.T.Touch.content in
+    let alike = step-stands c.args.self.now n (stage_of c.step.new.self) (content c.args.touch.now) (content c.step.new.touch) c.requires.stands.stage c.requires.stands.resources c.in_ok-step.ensures.step in
     record { steps = suc n; stage = alike.stage; resources = alike.resources }

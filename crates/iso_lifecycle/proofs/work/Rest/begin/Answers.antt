@@ -56,7 +56,7 @@ returns-in_err-run-clause-jobs c =
     let job = job_at (heads_in old.classes.now) body c.args.job in
     let js = jobs_from (heads_in old.classes.now) body c.after-self.result in
     let jobs : jobs_left old ≡ job ∷ js = first-job old.classes.now body old.next c.after-self.result c.args.job old.placed c.requires c.after-self.ensures.next in
-    let kept : jobs_left c.enter.new.self ≡ js = same-jobs c.in_err-run.ensures.chain c.in_err-run.ensures.next in
+    let kept : jobs_left c.begin_block.new.self ≡ js = same-jobs c.in_err-run.ensures.chain c.in_err-run.ensures.next in
     jobs ∙ ap (λ xs. job ∷ xs) (sym kept)
 
 pub returns-clause-begun : goal.returns-clause-begun
@@ -68,16 +68,16 @@ returns-clause-begun c =
     let jobs : jobs_left old ≡ job ∷ js = first-job old.classes.now body old.next c.after-self.result c.args.job old.placed c.requires c.after-self.ensures.next in
     let a = account_in old in
     let run = c.in_ok-run.run' in
-    let b = beside_in c.enter.new.self in
+    let b = beside_in c.begin_block.new.self in
     let due = sym c.is_due.ensures ∙ c.if-not-is_due.false in
-    let kept : jobs_left c.enter.new.self ≡ js = same-jobs c.in_ok-run.ensures.chain c.in_ok-run.ensures.next in
+    let kept : jobs_left c.begin_block.new.self ≡ js = same-jobs c.in_ok-run.ensures.chain c.in_ok-run.ensures.next in
     let whole = ap (λ xs. stage_at (stage_from xs) (pieces_of run) (local_of run) (names_before run) b xs) kept
     ∙ entered job js a (point_of_run run) (names_before run) b due c.in_ok-run.ensures.point c.in_ok-run.ensures.names c.in_ok-run.ensures.beside
     ∙ ap (λ xs. stage_from xs a) (sym jobs) in
-    IfOk-weaker c.leave_if_ended.result _ _ (λ block is. is ∙ whole) c.leave_if_ended.ensures.stage
+    IfOk-weaker c.end_block_if_done.result _ _ (λ block is. is ∙ whole) c.end_block_if_done.ensures.stage
 
 pub returns-clause-rights : goal.returns-clause-rights
-returns-clause-rights c = IfOk-weaker c.leave_if_ended.result _ _ (λ block same. rights-kept block c.in_ok-run.run' c.args.self.now c.in_ok-run.ensures.rights same) c.leave_if_ended.ensures.same
+returns-clause-rights c = IfOk-weaker c.end_block_if_done.result _ _ (λ block same. rights-kept block c.in_ok-run.run' c.args.self.now c.in_ok-run.ensures.rights same) c.end_block_if_done.ensures.same
 
 pub returns-clause-jobs : goal.returns-clause-jobs
 returns-clause-jobs c =
@@ -86,5 +86,5 @@ returns-clause-jobs c =
     let job = job_at (heads_in old.classes.now) body c.args.job in
     let js = jobs_from (heads_in old.classes.now) body c.after-self.result in
     let jobs : jobs_left old ≡ job ∷ js = first-job old.classes.now body old.next c.after-self.result c.args.job old.placed c.requires c.after-self.ensures.next in
-    let kept : jobs_left c.enter.new.self ≡ js = same-jobs c.in_ok-run.ensures.chain c.in_ok-run.ensures.next in
-    jobs ∙ ap (λ xs. job ∷ xs) (sym (same-jobs c.leave_if_ended.ensures.chain c.leave_if_ended.ensures.next ∙ kept))
+    let kept : jobs_left c.begin_block.new.self ≡ js = same-jobs c.in_ok-run.ensures.chain c.in_ok-run.ensures.next in
+    jobs ∙ ap (λ xs. job ∷ xs) (sym (same-jobs c.end_block_if_done.ensures.chain c.end_block_if_done.ensures.next ∙ kept))

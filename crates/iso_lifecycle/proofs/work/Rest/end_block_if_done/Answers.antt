@@ -4,7 +4,7 @@ use Rattle.iso_interp.specs.Runs.{local_of, names_before, pieces_of}
 use Rattle.iso_lifecycle.proofs.Following.{goes-on}
 use Rattle.iso_lifecycle.proofs.WorkLemmas.{left-ended}
 use Rattle.iso_lifecycle.specs.Works.{beside_in, jobs_left}
-use Rattle.iso_lifecycle.proofs.work.Rest.leave_if_ended.Goals as goal
+use Rattle.iso_lifecycle.proofs.work.Rest.end_block_if_done.Goals as goal
 
 pub returns-then-not-is_ended-clause-stage : goal.returns-then-not-is_ended-clause-stage
 returns-then-not-is_ended-clause-stage c =
@@ -14,4 +14,4 @@ returns-then-not-is_ended-clause-stage c =
 
 pub returns-clause-stage : goal.returns-clause-stage
 returns-clause-stage c =
-    left-ended c.args.run c.args.self.now c.leave.new.self (sym c.is_ended.ensures ∙ c.if-not-is_ended.false) c.in_ok-leave.ensures.chain c.in_ok-leave.ensures.next c.in_ok-leave.ensures.account
+    left-ended c.args.run c.args.self.now c.end_block.new.self (sym c.is_ended.ensures ∙ c.if-not-is_ended.false) c.in_ok-end_block.ensures.chain c.in_ok-end_block.ensures.next c.in_ok-end_block.ensures.account

@@ -2,7 +2,7 @@ use Rattle.std.proofs.Common.{Option, ap, ◌∙◌}
 use Rattle.iso_interp.specs.declared.run.BlockRun.{BlockRun}
 use Rattle.iso_lifecycle.specs.Works.{stage_with}
 use Rattle.iso_lifecycle.proofs.RunLemmas.{idle-rights, settled}
-use Rattle.iso_lifecycle.proofs.body_run.BodyRun.settle.Goals as goal
+use Rattle.iso_lifecycle.proofs.body_run.BodyRun.reach_next_block.Goals as goal
 
 pub invariant_of-self-in-Break-1 : goal.invariant_of-self-in-Break-1
 invariant_of-self-in-Break-1 c = record { same = idle-rights c.replace-run.new.dest c.idle.result c.args.self.now.rest c.settle.new.self c.replace-run.ensures.after c.idle.ensures c.settle.ensures.chain.rights }
