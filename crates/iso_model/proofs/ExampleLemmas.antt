@@ -1,5 +1,5 @@
 -- What the proofs of the examples need beside computation: the digits of the numbers printed, and what the properties answer.
-use Rattle.std.proofs.Common.{◌≡◌, false, Some, None, codes, refl}
+use Rattle.std.proofs.Common.{◌≡◌, ◌∙◌, false, Some, None, codes, refl}
 use Rattle.std.specs.Fmt.{digits}
 use Rattle.std.specs.Cmp.Lexicographic.{nat_list_cmp_total, slice_cmp}
 use Rattle.std.specs.Ordering.{nat_cmp}
@@ -43,7 +43,13 @@ get-a_is_x = get-insert nat_list_cmp_total a_is_1 (codes "a") (codes "x") (codes
 pub get-cleared : get (remove (remove a_is_1 (codes "a")) (codes "a")) (codes "a") ≡ None
 get-cleared = get-remove nat_list_cmp_total (remove a_is_1 (codes "a")) (codes "a") (codes "a")
 
+pub get-beside : get (remove (insert a_is_1 (codes "b") (codes "2")) (codes "b")) (codes "a") ≡ Some (codes "1")
+get-beside =
+    get-remove nat_list_cmp_total (insert a_is_1 (codes "b") (codes "2")) (codes "b") (codes "a")
+    ∙ get-insert nat_list_cmp_total a_is_1 (codes "b") (codes "2") (codes "a")
+    ∙ get-a_is_1
+
 pub get-absent : get no_properties (codes "a") ≡ None
 get-absent = get-empty (slice_cmp nat_cmp) (codes "a")
 
-pub ruleset properties = (get-a_is_1, get-a_is_x, get-cleared, get-absent)
+pub ruleset properties = (get-a_is_1, get-a_is_x, get-cleared, get-beside, get-absent)

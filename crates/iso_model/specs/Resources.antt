@@ -41,11 +41,15 @@ changed change value = value
 abbrev pub changed_at : Resources → List ℕ → Change → Resources
 changed_at m k change q = cond (bytes_eq q k) (option_map (changed change) (m q)) (m q)
 
+-- the locale where the world says nothing of it
+abbrev pub default_locale : List ℕ
+default_locale = codes "en"
+
 -- the value that a key starts with in a world that says nothing of it
 abbrev pub starting_value : List ℕ → Resource
 starting_value k =
     cond (bytes_eq k properties_key) (Props empty)
-    (cond (bytes_eq k locale_key) (Locale (codes "en"))
+    (cond (bytes_eq k locale_key) (Locale default_locale)
     (cond (starts_with nat_eq k file_prefix) (File None) Plain))
 
 -- the starting values of a world that says nothing

@@ -16,13 +16,13 @@ ghost use Rattle.iso_model.specs.declared.fault.FaultKind.TheVariants as K;
 ghost use Rattle.iso_model.specs.declared.outcome.Ending.TheVariants.{Assumed, Fail, Fault, Well};
 ghost use Rattle.iso_model.specs.declared.place.Lifecycle.TheVariants.{BeforeAll, AfterAll, BeforeEach, AfterEach};
 ghost use Rattle.iso_model.specs.Examples.Words.{quoted, number, minus, flag, name, add, subtract, multiply, join, equal, not_equal, less, text, len, prop, has_prop, file, has_file};
-ghost use Rattle.iso_model.specs.Examples.Words.{body, on_row, let_name, assign, print, assert, assert_equal, assume, fail, if_then, if_else, set_prop, clear_prop, set_locale, append_file, write_file, delete_file, repeats, repeats_twice, takes_name_twice, long, writes, file_a};
+ghost use Rattle.iso_model.specs.Examples.Words.{body, reads, on_row, let_name, assign, print, assert, assert_equal, assume, fail, if_then, if_else, set_prop, clear_prop, set_locale, append_file, write_file, delete_file, repeats, repeats_twice, takes_name_twice, long, writes, file_a};
 ghost use Rattle.iso_model.specs.Examples.Words.{property_a_is_1, values_of, endings_of, block_with, by_itself, ending_on_row_3, by_single_steps, steps_left};
 ghost use Rattle.iso_model.specs.Examples.Words.{in_test, in_class, note, lines, passed, failed, faulted, skipped, blocked, fault_here};
 ghost use Rattle.iso_model.specs.Examples.Resources.{sets_x_first, sets_y, expects_x, marks_locale, marks_locale_inside, prints_all, closes_file};
-ghost use Rattle.iso_model.specs.Examples.Resources.{sets_2, writes_properties, sets_1, reads_and_sets_1, prints_a, reads_and_prints_a, reads_properties, looks_around, clears_a, writes_and_deletes, prints_locale};
+ghost use Rattle.iso_model.specs.Examples.Resources.{changes_b, sets_2, writes_properties, sets_1, reads_and_sets_1, prints_a, reads_and_prints_a, reads_properties, looks_around, clears_a, writes_and_deletes, prints_locale};
 ghost use Rattle.iso_model.specs.Examples.Lifecycles.{outer, inner, prints_t, no_database, does_nothing, opens_inside, assumes_before_each, fails_before_each};
-ghost use Rattle.iso_model.specs.Examples.Lifecycles.{assumes_false, fails_late, assumes_false_first};
+ghost use Rattle.iso_model.specs.Examples.Lifecycles.{assumes_false, assumes_twice, fails_late, assumes_false_first};
 ghost use Rattle.iso_model.specs.Examples.Names.{counts_up, prints_n, sets_static, has_static, assigns_n, declares_n, assigns_static_before_each, assigns_outer_static};
 ghost use Rattle.iso_model.specs.Examples.Names.{assigns_inner_field, has_field, prints_field_first};
 
@@ -63,6 +63,7 @@ pub fn marks_of_the_whole_chain_count()
         ≡ passed [] }
     ensures around { test_alone reads_and_prints_a (looks_around ∷ []) property_a_is_1
         ≡ passed ("true" ∷ "1" ∷ "true" ∷ []) }
+    ensures stronger_inside { test_alone sets_2 (reads_properties ∷ []) property_a_is_1 ≡ passed [] }
 {}
 
 /// Without a mark nothing may be looked at, and a `read` lets nothing be changed.
@@ -80,11 +81,12 @@ pub fn undeclared_access_is_a_fault()
         ∷ replicate 3 "undeclared READ_WRITE of file:a") }
 {}
 
-/// A property is absent once it is cleared, and stays so.
+/// A property is absent once it is cleared, and stays so. The others stay as they are.
 #[tactic(auto, using(crate::proofs::ExampleLemmas::properties))]
 pub fn cleared_property_is_absent()
-    ensures { test_alone clears_a (writes_properties ∷ []) property_a_is_1
+    ensures absent { test_alone clears_a (writes_properties ∷ []) property_a_is_1
         ≡ passed ("true" ∷ "false" ∷ []) }
+    ensures others { test_alone changes_b (writes_properties ∷ []) property_a_is_1 ≡ passed ("1" ∷ []) }
 {}
 
 /// The locale starts as "en" where the world says nothing of it.
@@ -147,6 +149,7 @@ pub fn false_assumption_in_before_all_skips_all()
         ≡ skipped "no #1" (in_class 1 BeforeAll) [] }
     ensures class { class_alone assumes_false_first [] empty_world
         ≡ skipped "no #1" (in_class 1 BeforeAll) [] }
+    ensures first { class_alone assumes_twice [] empty_world ≡ skipped "no #1" (in_class 1 BeforeAll) [] }
 {}
 
 /// Each test begins with the fields at their literals.
@@ -204,6 +207,10 @@ pub fn numbers_have_64_bits()
         ≡ replicate 3 (Err F.Overflow) }
     ensures least { values_of (subtract (minus 9223372036854775807) (number 1 ∷ []) ∷ [])
         ≡ Ok (Whole (negsuc 9223372036854775807)) ∷ [] }
+    ensures most { values_of (add (number 9223372036854775806) (number 1 ∷ []) ∷ [])
+        ≡ Ok (Whole (pos 9223372036854775807)) ∷ [] }
+    ensures message { endings_of (print (add (number 9223372036854775807) (number 1 ∷ [])) ∷ [])
+        ≡ fault_here K.Overflow "overflow" ∷ [] }
 {}
 
 /// Operands come from the left, all of them before the first pair and before what the form itself
@@ -224,13 +231,18 @@ pub fn comparisons_give_flags()
         ≡ replicate 3 (Ok (Flag true)) }
     ensures fail { values_of (less (number 1) (number 1) ∷ equal (flag true) (flag false) ∷ not_equal (number 1) (number 1) ∷ [])
         ≡ replicate 3 (Ok (Flag false)) }
+    ensures flags { values_of (equal (flag true) (flag true) ∷ not_equal (flag false) (flag true) ∷ [])
+        ≡ replicate 2 (Ok (Flag true)) }
+    ensures numbers { values_of (less (number 1) (number 2) ∷ less (number 2) (number 1) ∷ [])
+        ≡ Ok (Flag true) ∷ Ok (Flag false) ∷ [] }
 {}
 
 /// Texts are joined and measured, and any value has a text.
 #[tactic(auto, using(crate::proofs::ExampleLemmas::numerals))]
 pub fn texts_are_joined_and_measured()
-    ensures { values_of (join (text (number 5)) (text (flag true) ∷ []) ∷ len (quoted "abc") ∷ [])
+    ensures joined { values_of (join (text (number 5)) (text (flag true) ∷ []) ∷ len (quoted "abc") ∷ [])
         ≡ Ok (Text (codes "5true")) ∷ Ok (Whole (pos 3)) ∷ [] }
+    ensures negative { values_of (text (minus 5) ∷ []) ≡ Ok (Text (codes "-5")) ∷ [] }
 {}
 
 /// The kinds of operands are tested before rights, resources and values.
@@ -251,6 +263,16 @@ pub fn kinds_come_first()
 pub fn assertions_name_what_differs()
     ensures { endings_of (assert (flag false) ∷ assert_equal (number 3) (number 4) ∷ assume (flag false) "no" ∷ [])
         ≡ Fail (note "assertion failed" (in_test 1)) ∷ Fail (note "expected: <3> but was: <4>" (in_test 1)) ∷ Assumed (note "no" (in_test 1)) ∷ [] }
+{}
+
+/// A place names its block: the lifecycle block, with the depth of its class, or the test.
+#[tactic(auto, using(crate::proofs::ExampleLemmas::numerals))]
+pub fn places_name_their_block()
+    ensures before_all { place_text (in_class 1 BeforeAll) ≡ codes "class 1 before_all row 1" }
+    ensures after_all { place_text (in_class 2 AfterAll) ≡ codes "class 2 after_all row 1" }
+    ensures before_each { place_text (in_class 1 BeforeEach) ≡ codes "class 1 before_each row 1" }
+    ensures after_each { place_text (in_class 2 AfterEach) ≡ codes "class 2 after_each row 1" }
+    ensures test { place_text (in_test 2) ≡ codes "test row 2" }
 {}
 
 /// A place has the row of the innermost statement, and of the `repeat` for the beginning of a turn.
@@ -310,6 +332,8 @@ pub fn absent_resources_are_missing()
     ensures append { (block_with (writes file_a ∷ []) 0 (body (append_file (quoted "a") (quoted "n") ∷ []))).here.ending
         ≡ fault_here K.Missing "missing file a" }
     ensures delete { (block_with (writes file_a ∷ []) 0 (body (delete_file (quoted "a") ∷ []))).here.ending
+        ≡ fault_here K.Missing "missing file a" }
+    ensures file { (block_with (reads file_a ∷ []) 0 (body (print (file (quoted "a")) ∷ []))).here.ending
         ≡ fault_here K.Missing "missing file a" }
     ensures property { test_alone reads_and_prints_a (empty_head ∷ []) empty_world
         ≡ faulted K.Missing "missing property a" (in_test 1) [] }

@@ -1,11 +1,18 @@
 ghost use Rattle.std.specs.Prelude.{◌≡◌, IfOk, OnOk, OnErr, option_copied};
-ghost use Rattle.iso_model.specs.Resources.{changed, starting_value};
+ghost use Rattle.iso_model.specs.Resources.{changed, default_locale, starting_value};
 ghost use Rattle.iso_model.specs.Touch.{answer};
 
 use crate::key::Key;
 use crate::properties::Properties;
 use crate::text::Text;
 use std::alloc::{AllocError, Global};
+
+/// The locale where the world says nothing of it.
+pub fn default_locale(alloc: Global) -> Result<Text, AllocError>
+    ensures { IfOk result (λ text. text ≡ default_locale) }
+{
+    Text::copied(alloc, "en")
+}
 
 /// The value of a resource.
 #[derive(Drop)]
@@ -20,8 +27,8 @@ pub enum Resource {
 }
 
 impl Resource {
-    /// The value that a key starts with where nothing is said of it: no properties, the locale
-    /// `en`, a missing file.
+    /// The value that a key starts with where nothing is said of it: no properties, the default
+    /// locale, a missing file.
     pub fn starting(alloc: Global, key: &Key) -> Result<Resource, AllocError>
         ensures { IfOk result (λ value. value ≡ starting_value key.now) }
     {
@@ -29,7 +36,7 @@ impl Resource {
         if spelling == "java.lang.System.properties" {
             Ok(Resource::Props(Properties::new(alloc)))
         } else if spelling == "java.util.Locale.default" {
-            Ok(Resource::Locale(Text::copied(alloc, "en")?))
+            Ok(Resource::Locale(default_locale(alloc)?))
         } else if spelling.as_bytes().starts_with(b"file:") {
             Ok(Resource::File(None))
         } else {
@@ -52,7 +59,7 @@ impl Resource {
         }
     }
 
-    /// Changes the value. One of another kind stays as it is, and after want of memory any does.
+    /// Changes the value. One of another kind stays as it is, and once out of memory any does.
     pub fn change(&mut self, change: Change) -> Result<(), AllocError>
         ensures ok { OnOk result (self.new ≡ changed change self.old) }
         ensures err { OnErr result (self.new ≡ self.old) }

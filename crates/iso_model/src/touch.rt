@@ -24,7 +24,7 @@ pub trait Touch {
         requires { HasKind (content self.now (spelling key)) (kind_of_ask ask) }
         ensures { option_copied result ≡ answered (content self.now (spelling key.entry)) ask.entry };
 
-    /// Changes the value of one key. After want of memory nothing is changed.
+    /// Changes the value of one key. Once out of memory nothing is changed.
     fn change(&mut self, key: ResourceKey<'_>, change: Change) -> Result<(), AllocError>
         requires kind { HasKind (content self.old (spelling key)) (kind_of_change change) }
         requires writes { writes self.old (spelling key) ≡ true }

@@ -54,3 +54,8 @@ fails_late = record empty_head { after_each = body (fail "late" ∷ []) }
 -- A false assumption of an opening skips the class and the tests under it.
 abbrev pub assumes_false_first : ClassHead
 assumes_false_first = record empty_head { before_all = body (assume (flag false) "no #1" ∷ []) }
+
+-- class C { before_all { assume false, "no #1"; } after_all { assume false, "late"; } }
+-- Of two false assumptions the first counts.
+abbrev pub assumes_twice : ClassHead
+assumes_twice = record assumes_false_first { after_all = body (assume (flag false) "late" ∷ []) }

@@ -94,6 +94,11 @@ reads_properties = record empty_head { marks = reads properties_key ∷ [] }
 abbrev pub clears_a : TestHead
 clears_a = a_test (print (has_prop (quoted "a")) ∷ clear_prop (quoted "a") ∷ clear_prop (quoted "a") ∷ print (has_prop (quoted "a")) ∷ [])
 
+-- write "P" class C { test t { set_prop "b", "2"; clear_prop "b"; print prop("a"); } }
+-- A change of one property leaves the others as they are.
+abbrev pub changes_b : TestHead
+changes_b = a_test (set_prop (quoted "b") (quoted "2") ∷ clear_prop (quoted "b") ∷ print (prop (quoted "a")) ∷ [])
+
 -- write "file:a" test t { write_file "a", "m"; append_file "a", "n"; print file("a"); print has_file("a"); delete_file "a"; print has_file("a"); }
 -- A file is written, grows, and is missing again.
 abbrev pub writes_and_deletes : TestHead
