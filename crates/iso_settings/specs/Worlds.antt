@@ -6,6 +6,7 @@ use Rattle.std.specs.Coded.{Coded, code_by, coded×, coded_list, coded_ℕ}
 use Rattle.toml.specs.Data.{Data, string, table, Members, no_members, member}
 use Rattle.iso_model.specs.Keys.{properties_key, locale_key, file_prefix}
 use Rattle.iso_model.specs.Properties.{Map}
+use Rattle.iso_model.specs.Resources.{default_locale}
 use Rattle.iso_model.specs.declared.limits.TheConstants.{TEXT_BYTES}
 use Rattle.iso_model.specs.declared.resource.Resource.{Resource}
 use Rattle.iso_model.specs.declared.resource.Resource.TheVariants.{Props, Locale, File, Plain}
@@ -38,7 +39,7 @@ start_code = code_by Parts (coded× map_code (coded× (coded_list coded_ℕ) map
 
 -- the start of a world that says nothing
 abbrev pub empty_start : Start
-empty_start = record { files = empty; locale = codes "en"; properties = empty }
+empty_start = record { files = empty; locale = default_locale; properties = empty }
 
 -- the value that a key starts with: a file that isn't named is missing
 abbrev pub starting_value_in : Start → List ℕ → Resource

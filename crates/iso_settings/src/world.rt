@@ -11,7 +11,7 @@ use crate::table::read_table;
 use iso_model::key::Key;
 use iso_model::limits::TEXT_BYTES;
 use iso_model::properties::Properties;
-use iso_model::resource::Resource;
+use iso_model::resource::{Resource, default_locale};
 use iso_model::text::Text;
 use std::alloc::{AllocError, Global};
 use std::marker::Model;
@@ -53,7 +53,7 @@ impl World {
     {
         Ok(World {
             files: Properties::new(alloc),
-            locale: Text::copied(alloc, "en")?,
+            locale: default_locale(alloc)?,
             properties: Properties::new(alloc),
         })
     }
