@@ -8,5 +8,4 @@ pub mod CoreSteps
 pub mod CoreValues
 pub mod FlatStates
 pub mod FlatValues
-pub mod FramesUp
 pub mod Isolating

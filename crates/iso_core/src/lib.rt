@@ -5,6 +5,5 @@
 mod beside;
 pub mod core_fault;
 mod flat_map;
-mod frames;
 pub mod machine;
 pub mod run_events;

@@ -1,5 +1,5 @@
 //! The core of a run: events of several workers on one map of resources, each accepted or refused.
-ghost use Rattle.std.specs.Prelude.{◌≡◌, ◌<◌, ℕ, IfOk, IfSome, MatchResult, None, OnErr, OnOk, Some, false, is_some, length, replicate, set, true};
+ghost use Rattle.std.specs.Prelude.{◌≡◌, ◌<◌, ℕ, IfOk, IfSome, MatchResult, None, OnErr, OnOk, Some, false, is_some, length, map, replicate, reverse, set, true};
 ghost use Rattle.std.specs.Option.{option_map};
 ghost use Rattle.std.specs.Vec.{vec_capacity, vec_len};
 ghost use Rattle.iso_standing.specs.CodeEvents.{refused_of, worker_of};
@@ -13,21 +13,21 @@ ghost use Rattle.iso_isolation.specs.Events as E;
 ghost use Rattle.iso_isolation.specs.Events.{where_some};
 ghost use Rattle.iso_isolation.specs.States.{body_in, is_at_rest, is_closing, is_open};
 ghost use Rattle.iso_lifecycle.specs.BodyViews.{stage_of_body};
-ghost use Rattle.iso_lifecycle.specs.ResultViews.{AreComplete, is_barring, outcome_of_view, result_in};
-ghost use Rattle.iso_lifecycle.specs.Subjects.{is_kind_of, outcome_alone, started};
+ghost use Rattle.iso_lifecycle.specs.ResultViews.{AreComplete, AreOpened, is_barring, outcome_of_view, result_in};
+ghost use Rattle.iso_lifecycle.specs.Subjects.{is_kind_of, outcome_alone, started, subject};
 ghost use Rattle.iso_model.specs.Bodies.{Stage, is_ended};
-ghost use Rattle.iso_plan.specs.Paths.{is_test, parent, row_at};
+ghost use Rattle.iso_plan.specs.Paths.{is_test, parent, path, row_at};
 ghost use Rattle.iso_plan.specs.RowView.{tree_of};
 
 use crate::beside::entered_nodes_are_apart;
 use crate::core_fault::CoreFault;
 use crate::flat_map::FlatMap;
-use crate::frames::frames_on_path;
 use iso_lifecycle::body::Body;
+use iso_lifecycle::frame::Frame;
 use iso_lifecycle::kind::BodyKind;
 use iso_lifecycle::results::Results;
 use iso_lifecycle::view::View;
-use iso_plan::laws::{nodes_are_a_tree, parents_come_first};
+use iso_plan::laws::nodes_are_a_tree;
 use iso_plan::plan::Plan;
 use iso_settings::world::World;
 use iso_standing::event::Event;
@@ -96,6 +96,25 @@ fn first_kind(plan: &Plan, node: u32) -> BodyKind
     } else {
         BodyKind::BeforeAll
     }
+}
+
+/// The frames of a class that was opened and of the classes that it stands in, outermost first; of the root there are none.
+fn opened_frames(
+    alloc: Global,
+    plan: &Plan,
+    results: &Results<'_>,
+    class: u32,
+) -> Result<Vec<Frame>, AllocError>
+    requires within { class < length plan.now.rows }
+    requires plan { results.now.plan ≡ plan.now }
+    requires class { is_test (row_at (tree_of plan.now) class).kind ≡ false }
+    requires opened { AreOpened results.now (path (tree_of plan.now) class) }
+    ensures { IfOk result (λ v. v.items ≡ map (subject plan.now results.now.start) (reverse (path (tree_of plan.now) class))) }
+{
+    nodes_are_a_tree(plan);
+    let mut frames = Vec::with_capacity(alloc, plan.depth())?;
+    results.share_frames(class, &mut frames)?;
+    Ok(frames)
 }
 
 /// What the Leave of a body does to the flat map: the last body of a node lets the values that it may change stand as at its Enter.
@@ -307,11 +326,11 @@ impl<'a> Core<'a> {
         requires open { is_open ((state_in self.now).nodes.status (parent (tree_of self.now.plan) node)) ≡ true }
         ensures { IfOk result (λ b. IsUnderWay self.now.plan self.now.world node b (E.entering scripts (suite_in self.now) node (state_in self.now).nodes)) }
     {
-        parents_come_first(self.plan);
+        nodes_are_a_tree(self.plan);
         bodies_stand_as_alone(self.plan);
         let class = self.plan.parent(node).unwrap_or(0);
         let kind = first_kind(self.plan, node);
-        let frames = frames_on_path(self.alloc, self.plan, &self.results, class)?;
+        let frames = opened_frames(self.alloc, self.plan, &self.results, class)?;
         let start = Snapshot::of(self.world);
         Body::begin(self.alloc, self.plan, node, kind, &frames, start)
     }
@@ -327,7 +346,7 @@ impl<'a> Core<'a> {
         nodes_are_a_tree(self.plan);
         bodies_stand_as_alone(self.plan);
         let kind = BodyKind::AfterAll;
-        let frames = frames_on_path(self.alloc, self.plan, &self.results, node)?;
+        let frames = opened_frames(self.alloc, self.plan, &self.results, node)?;
         let start = Snapshot::of(self.world);
         Body::begin(self.alloc, self.plan, node, kind, &frames, start)
     }

@@ -1,4 +1,3 @@
-pub mod DepthLemmas
 pub mod FindLemmas
 pub mod FlatLemmas
 pub mod KeyLemmas

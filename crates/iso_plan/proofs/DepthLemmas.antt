@@ -1,6 +1,6 @@
--- How deep a tree is: as deep as its longest class chain.
+-- How deep a tree is: as deep as its longest class chain, so that no path of a class is longer.
 use Prim.Native.Nat.max as M
-use Rattle.std.proofs.Common.{◌≡◌, ℕ, zero, suc, ◌<◌, ◌≤◌, List, [], ◌∷◌, ◌++◌, length, map, get_or, max, ap, ap₂, sym, ◌∙◌, inl, inr, refl, arith}
+use Rattle.std.proofs.Common.{◌≡◌, ℕ, zero, suc, ◌<◌, ◌≤◌, List, [], ◌∷◌, ◌++◌, length, map, get_or, max, Bool, true, false, ap, ap₂, sym, ◌∙◌, inl, inr, refl, arith}
 use Rattle.std.proofs.lemmas.Bool.{cases_lt}
 use Rattle.std.proofs.lemmas.List.{get_or_past, length-map, length-reverse, map-append}
 use Rattle.std.proofs.lemmas.List.Recursion.{max_bounds}
@@ -13,10 +13,10 @@ use Rattle.iso_model.specs.ChainView.{innermost_first}
 use Rattle.iso_model.specs.ScriptView.{class_head_of}
 use Rattle.iso_model.specs.declared.heads.ClassHead.{ClassHead}
 use Rattle.iso_plan.proofs.Columns.{column-read, length-column}
-use Rattle.iso_plan.proofs.PathLemmas.{chain-step, path-root}
+use Rattle.iso_plan.proofs.PathLemmas.{along, chain-step, path-root, path-step}
 use Rattle.iso_plan.specs.NodeChains.{chain_classes, class_heads, depth, heads_on, largest}
-use Rattle.iso_plan.specs.Paths.{IsTree, column, parent, row_at}
-use Rattle.iso_plan.specs.Tree.{Row, root_row}
+use Rattle.iso_plan.specs.Paths.{IsTree, column, is_class_or_test, is_test, parent, path, row_at}
+use Rattle.iso_plan.specs.Tree.{Kind, root, class_node, test_node, Row, root_row}
 
 root-chain : (tree : List Row) → chain_classes tree 0 ≡ []
 root-chain tree = ap (heads_on tree) (path-root tree)
@@ -43,6 +43,24 @@ chain-within tree t n = elim (cases_lt n (length tree)) [
   | inl inside ↦ within tree n inside
   | inr past ↦ rw (past-chain tree t n past) (omega arith)
 ]
+
+-- a class's path is as long as its chain, and so no longer than the tree is deep
+one-more : (k : Kind) (cs : List C.ClassHead) → is_class_or_test k ≡ true → is_test k ≡ false → length (class_heads k ++ cs) ≡ suc (length cs)
+one-more root cs e c = absurd (cc)
+one-more (class_node isolated head) cs e c = refl
+one-more (test_node head) cs e c = absurd (cc)
+
+chain-path : (tree : List Row) → IsTree tree → (n : ℕ) → n < length tree → is_test (row_at tree n).kind ≡ false → length (path tree n) ≡ length (chain_classes tree n)
+chain-path tree t =
+    along tree t.below (λ n. n < length tree → is_test (row_at tree n).kind ≡ false → length (path tree n) ≡ length (chain_classes tree n))
+    (λ h c. ap length (path-root tree) ∙ sym (ap (λ (ns : List ℕ). length (heads_on tree ns)) (path-root tree)))
+    (λ n pos ih h c.
+    let below = t.below n pos in
+    ap length (path-step tree t.below n pos) ∙ ap suc (ih (omega arith) (t.inner n pos))
+    ∙ sym (ap length (chain-step tree t.below n pos) ∙ one-more (row_at tree n).kind (chain_classes tree (parent tree n)) (t.full n pos h) c))
+
+pub path-within : (tree : List Row) → IsTree tree → (n : ℕ) → n < length tree → is_test (row_at tree n).kind ≡ false → length (path tree n) ≤ depth tree
+path-within tree t n h c = rw (chain-path tree t n h c) (chain-within tree t n)
 
 -- how many classes chains have
 abbrev pub counts : List (Vec (Arc ClassHead Global) Global) → List ℕ

@@ -9,7 +9,7 @@ use Rattle.iso_suites.specs.PlanSuites.{head_of}
 use Rattle.iso_standing.specs.ResultStates.{AreResultsOf}
 use Rattle.iso_suites.specs.ScriptLanguage.{Head, chain_rights, closing, entering, gone_on, of_class, of_test, scripts}
 use Rattle.iso_suites.specs.SuiteStates.{RunState, IsReached, suite_at}
-use Rattle.iso_standing.specs.UnderWay.{AreBodiesOf, AreOpened, IsUnderWay, body_at, is_after_all}
+use Rattle.iso_standing.specs.UnderWay.{AreBodiesOf, IsUnderWay, body_at, is_after_all}
 use Rattle.iso_isolation.proofs.Bodies.{reach}
 use Rattle.iso_isolation.proofs.Changes.{put_here}
 use Rattle.iso_isolation.proofs.Invariant.{Kept, source}
@@ -21,7 +21,7 @@ use Rattle.iso_isolation.specs.Languages.{Progress}
 use Rattle.iso_isolation.specs.States.{Begun, Closing, body_in, is_at_rest, is_closing, is_open}
 use Rattle.iso_isolation.specs.Suites.{Suite, chain}
 use Rattle.iso_lifecycle.specs.BodyViews.{Stands, kind_of_body, stage_of_body, subject_of}
-use Rattle.iso_lifecycle.specs.ResultViews.{ResultsView}
+use Rattle.iso_lifecycle.specs.ResultViews.{AreOpened, ResultsView}
 use Rattle.iso_lifecycle.specs.Subjects.{Subject, begun, begun_closing, begun_opening, begun_testing, enclosing, is_kind_of, opening_of, reached, rights_of_subject, started, subject}
 use Rattle.iso_lifecycle.specs.declared.body.Body.{Body}
 use Rattle.iso_lifecycle.specs.declared.kind.BodyKind.{BodyKind}

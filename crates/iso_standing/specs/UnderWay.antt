@@ -1,9 +1,8 @@
 -- The bodies of workers, and the states that they are of.
-use Rattle.std.specs.Prelude.{◌≡◌, ℕ, ◌<◌, List, [], ◌∷◌, Option, Some, None, Bool, true, false, length, slice_index_or}
+use Rattle.std.specs.Prelude.{◌≡◌, ℕ, ◌<◌, List, Option, Some, None, Bool, true, false, length, slice_index_or}
 use Rattle.iso_suites.specs.SuiteStates.{RunNodes, RunState}
 use Rattle.iso_isolation.specs.States.{body_in, is_closing}
 use Rattle.iso_lifecycle.specs.BodyViews.{kind_of_body, stage_of_body, subject_of}
-use Rattle.iso_lifecycle.specs.ResultViews.{ResultsView, is_opened}
 use Rattle.iso_lifecycle.specs.Subjects.{is_kind_of, subject}
 use Rattle.iso_lifecycle.specs.declared.body.Body.{Body}
 use Rattle.iso_lifecycle.specs.declared.kind.BodyKind.{BodyKind}
@@ -40,8 +39,3 @@ pub record AreBodiesOf (plan : Planned) (world : Start) (bodies : List (Option B
   pub free : (w : ℕ) → w < length bodies → s.busy w ≡ None → body_at bodies w ≡ None
   pub at : (w n : ℕ) → w < length bodies → s.busy w ≡ Some n → HasUnderWay plan world n (body_at bodies w) s.nodes
   pub apart : (w u n : ℕ) → w < length bodies → u < length bodies → s.busy w ≡ Some n → s.busy u ≡ Some n → w ≡ u
-
--- the `before_all`s of all these classes were put
-abbrev pub AreOpened : ResultsView → List ℕ → Type 0
-AreOpened r [] = Unit {0}
-AreOpened r (n ∷ ns) = (is_opened r n ≡ true) × AreOpened r ns

@@ -3,13 +3,13 @@ ghost use Rattle.std.specs.Prelude.{◌≡◌, ◌<◌, ℕ, List, Option, None,
 ghost use Rattle.iso_standing.specs.ResultStates.{AreResultsOf, AtLeave};
 ghost use Rattle.iso_suites.specs.ScriptLanguage.{scripts};
 ghost use Rattle.iso_suites.specs.SuiteStates.{RunNodes, RunState, IsReached, suite_at};
-ghost use Rattle.iso_standing.specs.UnderWay.{AreBodiesOf, AreOpened, IsUnderWay, body_at, is_after_all};
+ghost use Rattle.iso_standing.specs.UnderWay.{AreBodiesOf, IsUnderWay, body_at, is_after_all};
 ghost use Rattle.iso_isolation.specs.Events as E;
 ghost use Rattle.iso_isolation.specs.Runs.{result_of};
 ghost use Rattle.iso_isolation.specs.States.{body_in, first, is_at_rest, is_closing, is_open, is_waiting};
 ghost use Rattle.iso_isolation.specs.Suites.{chain};
 ghost use Rattle.iso_lifecycle.specs.BodyViews.{Stands, kind_of_body, stage_of_body, subject_of};
-ghost use Rattle.iso_lifecycle.specs.ResultViews.{CanPut, ResultsView, is_barring, no_results, result_in, with_done_of};
+ghost use Rattle.iso_lifecycle.specs.ResultViews.{AreOpened, CanPut, ResultsView, is_barring, no_results, result_in, with_done_of};
 ghost use Rattle.iso_lifecycle.specs.Subjects.{begun, enclosing, is_kind_of, opening_of, subject};
 ghost use Rattle.iso_lifecycle.specs.declared.body.Body.{Body as Under};
 ghost use Rattle.iso_lifecycle.specs.declared.kind.BodyKind.{BodyKind as Kind};

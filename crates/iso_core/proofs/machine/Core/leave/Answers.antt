@@ -1,4 +1,4 @@
-use Rattle.std.proofs.Common.{◌≡◌, ℕ, ◌<◌, List, [], ◌∷◌, ◌++◌, Option, Some, None, true, false, not, is_some, length, set, refl, ap, ap₂, sym, ◌∙◌, subst, arith}
+use Rattle.std.proofs.Common.{◌≡◌, ℕ, ◌<◌, List, [], ◌∷◌, ◌++◌, Option, Some, None, true, false, not, is_some, length, set, refl, ap, ap₂, sym, ◌∙◌, subst}
 use Rattle.std.proofs.lemmas.List.{get_or_default, length-set}
 use Rattle.iso_core.proofs.CoreBodies.{at-leave, leave-found, leave-there, told}
 use Rattle.iso_core.proofs.CoreRuns.{core_of}
@@ -10,7 +10,7 @@ use Rattle.iso_suites.specs.PlanSuites.{head_of, suite_of}
 use Rattle.iso_standing.specs.ResultStates.{AreResultsOf, AtLeave}
 use Rattle.iso_suites.specs.ScriptLanguage.{Head, is_of_test, scripts}
 use Rattle.iso_standing.specs.Standings.{EndsWellAs}
-use Rattle.iso_standing.specs.UnderWay.{AreBodiesOf, body_at, is_after_all}
+use Rattle.iso_standing.specs.UnderWay.{AreBodiesOf, is_after_all}
 use Rattle.iso_isolation.proofs.Statuses.{body_held}
 use Rattle.iso_isolation.specs.Events as E
 use Rattle.iso_isolation.specs.Events.{after, ended_well, leaving}

@@ -1,4 +1,4 @@
-use Rattle.std.proofs.Common.{◌≡◌, ◌<◌, List, [], ◌∷◌, ◌++◌, Some, None, true, false, length, set, refl, ap, sym, ◌∙◌, arith}
+use Rattle.std.proofs.Common.{◌≡◌, List, [], ◌∷◌, ◌++◌, Some, None, true, false, set, refl, ap, sym, ◌∙◌}
 use Rattle.std.proofs.lemmas.List.{get_or_default, length-set}
 use Rattle.iso_core.proofs.CoreBodies.{step-found, step-there, told}
 use Rattle.iso_core.proofs.CoreRuns.{core_of}
@@ -6,7 +6,6 @@ use Rattle.iso_core.proofs.CoreSteps.{core-as, stands-on, stepped, stopped-as, s
 use Rattle.iso_core.proofs.CoreValues.{same-step}
 use Rattle.iso_core.specs.Cores.{CoreView, refusal_in, state_in, suite_in}
 use Rattle.iso_suites.specs.ScriptLanguage.{scripts}
-use Rattle.iso_standing.specs.UnderWay.{body_at}
 use Rattle.iso_isolation.specs.Suites.{chain}
 use Rattle.iso_lifecycle.specs.BodyViews.{stage_of_body, subject_of}
 use Rattle.iso_lifecycle.specs.Subjects.{Subject, rights_of_subject}

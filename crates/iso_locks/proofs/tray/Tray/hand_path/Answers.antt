@@ -4,7 +4,7 @@ use Rattle.iso_lifecycle.specs.ResultViews.{AreOpened}
 use Rattle.iso_plan.specs.Paths.{is_test, path, row_at}
 use Rattle.iso_plan.specs.Planned.{Planned}
 use Rattle.iso_plan.specs.RowView.{tree_of}
-use Rattle.iso_locks.proofs.DepthLemmas.{path-within}
+use Rattle.iso_plan.proofs.DepthLemmas.{path-within}
 use Rattle.iso_locks.specs.Trays.{TrayView}
 use Rattle.iso_locks.proofs.tray.Tray.hand_path.Goals as goal
 

@@ -1,4 +1,4 @@
-use Rattle.std.proofs.Common.{◌≡◌, ◌<◌, length, is_some, Bool, true, false, not, ap, sym, ◌∙◌, arith}
+use Rattle.std.proofs.Common.{◌≡◌, ◌<◌, length, is_some, true, false, ap, sym, ◌∙◌, arith}
 use Rattle.iso_standing.proofs.Looks.{booking-is}
 use Rattle.iso_standing.specs.Standings.{Standing, body_under_way, workers_in}
 use Rattle.iso_standing.proofs.standing.Standing.refusal_of_booking.Goals as goal
