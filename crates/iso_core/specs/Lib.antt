@@ -1,4 +1,5 @@
 pub mod Cores
 pub mod EventRuns
+pub mod FaultTexts
 pub mod FlatMaps
 pub mod Isolation

@@ -6,7 +6,7 @@ use Rattle.std.specs.Option.{option_or}
 use Rattle.iso_standing.proofs.Below.{any-alike, any-cut, children-any, lowest-alike}
 use Rattle.iso_standing.specs.Phases.{bare, phase_of}
 use Rattle.iso_suites.specs.PlanSuites.{is_same_thread}
-use Rattle.iso_standing.specs.Refusing.{at, before_locks, booking_kinds, early_kinds, first_kinds, shut_kinds}
+use Rattle.iso_standing.specs.KindsAt.{at, before_locks, booking_kinds, early_kinds, first_kinds, shut_kinds}
 use Rattle.iso_suites.specs.ScriptLanguage.{scripts}
 use Rattle.iso_suites.specs.SuiteStates.{RunState}
 use Rattle.iso_standing.specs.Standings.{EndsAs, IsStanding, LooksLike, Standing, body_under_way, is_complete_in, node_of, nodes_in, phase_at, refusal_in, suite_in, workers_in}
@@ -104,6 +104,16 @@ option-assoc (Some k) b c = refl
 joined : (xs ys : List (Option Refused)) → first_of (xs ++ ys) ≡ option_or (first_of xs) (first_of ys)
 joined [] ys = refl
 joined (x ∷ xs) ys = ap (option_or x) (joined xs ys) ∙ sym (option-assoc x (first_of xs) (first_of ys))
+
+third : (a b k : Option Refused) → first_of (a ∷ b ∷ k ∷ []) ≡ None → k ≡ None
+third None None None e = refl
+third None None (Some k) e = absurd (cc)
+third None (Some b) k e = absurd (cc)
+third (Some a) b k e = absurd (cc)
+
+un-refused : (b : Bool) → refuse (not b) Why.NoBody ≡ None → b ≡ true
+un-refused true e = refl
+un-refused false e = absurd (cc)
 
 told : (o : Option Stage) (test : Stage → Bool) (e : Bool) → is_some o ≡ true → ((b : Stage) → o ≡ Some b → test b ≡ e) → where_some o false test ≡ e
 told None test e there h = absurd (cc)
@@ -205,20 +215,28 @@ module _ (v : Standing) (start : Resources) (s : RunState) (like : LooksLike v s
   booking-is going w hw b there =
       rw (stop-is false going, worker-in w hw) (last (Why.no_body scripts (suite_in v start) (workers_in v) s w) ∙ ap (λ (x : Bool). refuse (not x) Why.NoBody) there)
 
-  -- a worker without a body neither steps nor leaves, and one with a body does one of both
-  pub step-without : v.stopped ≡ false → (w : ℕ) → w < workers_in v → is_some (body_under_way v start s w) ≡ false → refusal_in v start s (Step w) ≡ Some Why.NoBody
-  step-without going w hw none = rw (stop-is false going, worker-in w hw, none) refl
+  -- the kinds of a Step and a Leave are those that a booking tests, and that of the body's end
+  abbrev booked : ℕ → List (Option Refused)
+  booked w = at v start s (Why.stopped scripts) ∷ at v start s (Why.no_worker scripts) w ∷ at v start s (Why.no_body scripts) w ∷ []
 
-  pub leave-without : v.stopped ≡ false → (w : ℕ) → w < workers_in v → is_some (body_under_way v start s w) ≡ false → refusal_in v start s (Leave w) ≡ Some Why.NoBody
-  leave-without going w hw none = rw (stop-is false going, worker-in w hw, none) refl
+  pub step-split : (w : ℕ) → refusal_in v start s (Step w) ≡ option_or (booking_kinds v start s w) (at v start s (Why.body_ended scripts) w)
+  step-split w =
+      joined (booked w) (at v start s (Why.body_ended scripts) w ∷ []) ∙ ap (option_or (booking_kinds v start s w)) (last (at v start s (Why.body_ended scripts) w))
 
-  pub step-with : v.stopped ≡ false → (w : ℕ) → w < workers_in v → is_some (body_under_way v start s w) ≡ true → (e : Bool) → EndsAs v s w e → refusal_in v start s (Step w) ≡ refuse e Why.BodyEnded
-  step-with going w hw there e ends =
-      rw (stop-is false going, worker-in w hw, there) (last (Why.body_ended scripts (suite_in v start) (workers_in v) s w) ∙ ap (λ (x : Bool). refuse x Why.BodyEnded) (told (body_under_way v start s w) is_ended e there (ends start)))
+  pub leave-split : (w : ℕ) → refusal_in v start s (Leave w) ≡ option_or (booking_kinds v start s w) (at v start s (Why.body_not_ended scripts) w)
+  leave-split w =
+      joined (booked w) (at v start s (Why.body_not_ended scripts) w ∷ []) ∙ ap (option_or (booking_kinds v start s w)) (last (at v start s (Why.body_not_ended scripts) w))
 
-  pub leave-with : v.stopped ≡ false → (w : ℕ) → w < workers_in v → is_some (body_under_way v start s w) ≡ true → (e : Bool) → EndsAs v s w e → refusal_in v start s (Leave w) ≡ refuse (not e) Why.BodyNotEnded
-  leave-with going w hw there e ends =
-      rw (stop-is false going, worker-in w hw, there) (last (Why.body_not_ended scripts (suite_in v start) (workers_in v) s w) ∙ ap (λ (x : Bool). refuse x Why.BodyNotEnded) (told (body_under_way v start s w) (λ b. not (is_ended b)) (not e) there (λ b at. ap not (ends start b at))))
+  -- a worker whose body may be booked has one
+  has-one : (w : ℕ) → booking_kinds v start s w ≡ None → is_some (body_under_way v start s w) ≡ true
+  has-one w none = un-refused (is_some (body_under_way v start s w)) (third (at v start s (Why.stopped scripts)) (at v start s (Why.no_worker scripts) w) (at v start s (Why.no_body scripts) w) none)
+
+  pub end-of-step : (w : ℕ) → booking_kinds v start s w ≡ None → (e : Bool) → EndsAs v s w e → at v start s (Why.body_ended scripts) w ≡ refuse e Why.BodyEnded
+  end-of-step w none e ends = ap (λ (x : Bool). refuse x Why.BodyEnded) (told (body_under_way v start s w) is_ended e (has-one w none) (ends start))
+
+  pub end-of-leave : (w : ℕ) → booking_kinds v start s w ≡ None → (e : Bool) → EndsAs v s w e → at v start s (Why.body_not_ended scripts) w ≡ refuse (not e) Why.BodyNotEnded
+  end-of-leave w none e ends =
+      ap (λ (x : Bool). refuse x Why.BodyNotEnded) (told (body_under_way v start s w) (λ b. not (is_ended b)) (not e) (has-one w none) (λ b here. ap not (ends start b here)))
 
   pub complete-is : is_complete_in v start s ≡ not (any_below (nodes_in v) (λ m. not (is_root m) && is_left_at m))
   complete-is =

@@ -1,6 +1,7 @@
 pub mod CodeEvents
+pub mod KindsAt
 pub mod Phases
-pub mod Refusing
+pub mod RefusalTexts
 pub mod ResultStates
 pub mod Standings
 pub mod UnderWay

@@ -6,4 +6,5 @@ pub mod following;
 pub mod laws;
 pub mod phase;
 pub mod refused;
+mod refusing;
 pub mod standing;

@@ -1,5 +1,8 @@
 //! Why an event is refused.
-use thiserror::Error;
+ghost use Rattle.std.specs.Prelude.{◌≡◌};
+ghost use Rattle.iso_standing.specs.RefusalTexts.{kind_name, node_in};
+
+use std::fmt;
 
 /// Why an event is refused. An event tests its kinds in a stated order, and the first that applies is answered:
 ///
@@ -13,57 +16,94 @@ use thiserror::Error;
 /// The last two are a book's alone, to which a worker brings the body that has ended and its values: no standing answers them.
 ///
 /// It shows as its kind, `LockHeld` and `OtherBody` with a space and their node.
-#[derive(Clone, Copy, Debug, PartialEq, Eq, Error)]
+#[derive(Clone, Copy, Debug, PartialEq, Eq)]
 pub enum Refused {
     /// The run was stopped.
-    #[error("Stopped")]
     Stopped,
     /// The worker isn't below the number of workers.
-    #[error("NoWorker")]
     NoWorker,
     /// The node isn't in the plan.
-    #[error("NoNode")]
     NoNode,
     /// The worker has a body.
-    #[error("WorkerBusy")]
     WorkerBusy,
     /// The node isn't the root, and its parent isn't open.
-    #[error("ParentClosed")]
     ParentClosed,
     /// The node is the root, or was entered before.
-    #[error("AlreadyEntered")]
     AlreadyEntered,
     /// Enter: the node is SAME_THREAD and another worker owns its parent. Shut: another worker owns the node.
-    #[error("NotOwner")]
     NotOwner,
     /// The node is SAME_THREAD, and an earlier SAME_THREAD sibling isn't finished.
-    #[error("EarlierSibling")]
     EarlierSibling,
     /// An entered, unfinished node conflicts with the node: the lowest such one.
-    #[error("LockHeld {0}")]
     LockHeld(u32),
     /// The worker has no body.
-    #[error("NoBody")]
     NoBody,
     /// The worker's body has ended.
-    #[error("BodyEnded")]
     BodyEnded,
     /// The worker's body hasn't ended.
-    #[error("BodyNotEnded")]
     BodyNotEnded,
     /// The class is open, and a child isn't finished.
-    #[error("ChildrenLeft")]
     ChildrenLeft,
     /// The node is the root or a test.
-    #[error("NotClass")]
     NotClass,
     /// The class is neither open nor barred.
-    #[error("NotOpen")]
     NotOpen,
     /// The body that was brought is of this node, or of a kind, that isn't the worker's.
-    #[error("OtherBody {0}")]
     OtherBody(u32),
     /// The values that were brought aren't those that the event is about.
-    #[error("Stranger")]
     Stranger,
 }
+
+impl Refused {
+    /// How the kind is called.
+    pub fn as_str(self) -> &'static str
+        ensures { result.now ≡ kind_name self }
+    {
+        match self {
+            Refused::Stopped => "Stopped",
+            Refused::NoWorker => "NoWorker",
+            Refused::NoNode => "NoNode",
+            Refused::WorkerBusy => "WorkerBusy",
+            Refused::ParentClosed => "ParentClosed",
+            Refused::AlreadyEntered => "AlreadyEntered",
+            Refused::NotOwner => "NotOwner",
+            Refused::EarlierSibling => "EarlierSibling",
+            Refused::LockHeld(_) => "LockHeld",
+            Refused::NoBody => "NoBody",
+            Refused::BodyEnded => "BodyEnded",
+            Refused::BodyNotEnded => "BodyNotEnded",
+            Refused::ChildrenLeft => "ChildrenLeft",
+            Refused::NotClass => "NotClass",
+            Refused::NotOpen => "NotOpen",
+            Refused::OtherBody(_) => "OtherBody",
+            Refused::Stranger => "Stranger",
+        }
+    }
+
+    /// The node that it names, if it names one.
+    fn node(self) -> Option<u32>
+        ensures { result ≡ node_in self }
+    {
+        match self {
+            Refused::LockHeld(node) | Refused::OtherBody(node) => Some(node),
+            _ => None,
+        }
+    }
+}
+
+impl fmt::Display for Refused {
+    ghost use Rattle.std.specs.Prelude.{Some};
+    ghost use Rattle.iso_standing.specs.RefusalTexts.{refused_text};
+
+    ghost output = { λ why. Some (refused_text why) };
+
+    fn fmt<W: fmt::Write>(&self, f: &mut fmt::Formatter<W>) -> fmt::Result {
+        f.write_str(self.as_str())?;
+        match self.node() {
+            Some(node) => write!(f, " {node}"),
+            None => Ok(()),
+        }
+    }
+}
+
+impl std::error::Error for Refused {}

@@ -6,10 +6,11 @@ use Rattle.iso_standing.proofs.Below.{at-end}
 use Rattle.iso_standing.proofs.Looks.{siblings-are}
 use Rattle.iso_standing.specs.Phases.{bare}
 use Rattle.iso_suites.specs.PlanSuites.{is_same_thread}
-use Rattle.iso_standing.specs.Standings.{Standing, phase_at}
+use Rattle.iso_standing.specs.Standings.{phase_at}
 use Rattle.iso_isolation.specs.States.{is_finished}
 use Rattle.iso_plan.specs.Modes.{mode}
 use Rattle.iso_plan.specs.Paths.{children, parent}
+use Rattle.iso_plan.specs.Planned.{Planned}
 use Rattle.iso_plan.specs.RowView.{tree_of}
 use Rattle.iso_standing.proofs.standing.Standing.has_unfinished_sibling.Goals as goal
 
@@ -21,7 +22,7 @@ returns-then-is_due c = λ start s like.
     let xs = c.children-sibling-items.result.now in
     let i = c.loop-sibling.sibling-index in
     let test : ℕ → Bool = λ m. leb (suc m) n && (is_same_thread (mode tree v.plan.settings m) && not (is_finished (bare (phase_at v m)))) in
-    let are : xs ≡ children tree (parent tree n) = c.children-sibling-items.ensures ∙ ap (λ (u : Standing). children (tree_of u.plan) c.parent-parent.result) c.self.view_is ∙ ap (children tree) (c.parent-parent.ensures.parent c.requires.inner) in
+    let are : xs ≡ children tree (parent tree n) = c.children-sibling-items.ensures ∙ ap (λ (p : Planned). children (tree_of p) c.parent-parent.result) c.plan.ensures ∙ ap (children tree) (c.parent-parent.ensures.parent c.requires.inner) in
     let less : suc (get_or xs i 0) ≤ n = omega (arith, c.if-sibling-node.true) in
     let this : test (get_or xs i 0) ≡ true = ap₂ (λ (a b : Bool). a && b) (le-leb (suc (get_or xs i 0)) n less) (sym c.is_due.ensures ∙ c.if-is_due.true) in
     siblings-are v start s like n c.requires.node ∙ ap (list_any test) (sym are) ∙ list_any_at test xs i 0 c.loop-sibling-test.true this
@@ -33,5 +34,5 @@ returns c = λ start s like.
     let n = c.args.node in
     let xs = c.children-sibling-items.result.now in
     let test : ℕ → Bool = λ m. leb (suc m) n && (is_same_thread (mode tree v.plan.settings m) && not (is_finished (bare (phase_at v m)))) in
-    let are : xs ≡ children tree (parent tree n) = c.children-sibling-items.ensures ∙ ap (λ (u : Standing). children (tree_of u.plan) c.parent-parent.result) c.self.view_is ∙ ap (children tree) (c.parent-parent.ensures.parent c.requires.inner) in
+    let are : xs ≡ children tree (parent tree n) = c.children-sibling-items.ensures ∙ ap (λ (p : Planned). children (tree_of p) c.parent-parent.result) c.plan.ensures ∙ ap (children tree) (c.parent-parent.ensures.parent c.requires.inner) in
     siblings-are v start s like n c.requires.node ∙ ap (list_any test) (sym are) ∙ at-end test xs c.loop-sibling.sibling-index c.loop-sibling.invariant c.loop-sibling-test.false

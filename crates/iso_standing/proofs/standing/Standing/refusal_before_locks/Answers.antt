@@ -1,7 +1,7 @@
 use Rattle.std.proofs.Common.{◌≡◌, Some, None, Bool, ap, ◌∙◌, refl}
 use Rattle.iso_standing.proofs.Looks.{before-split}
 use Rattle.iso_suites.specs.ScriptLanguage.{scripts}
-use Rattle.iso_standing.specs.Refusing.{at, first_kinds}
+use Rattle.iso_standing.specs.KindsAt.{at, first_kinds}
 use Rattle.iso_isolation.specs.Refusals as Why
 use Rattle.iso_isolation.specs.Refusals.{refuse}
 use Rattle.iso_standing.proofs.standing.Standing.refusal_before_locks.Goals as goal

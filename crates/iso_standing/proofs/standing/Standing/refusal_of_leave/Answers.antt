@@ -1,33 +1,21 @@
-use Rattle.std.proofs.Common.{◌≡◌, ◌<◌, length, is_some, Bool, true, false, not, ap, sym, ◌∙◌, arith}
-use Rattle.iso_standing.proofs.Looks.{leave-with, leave-without}
-use Rattle.iso_standing.specs.Standings.{Standing, body_under_way, workers_in}
+use Rattle.std.proofs.Common.{Bool, not, ap, ◌∙◌, refl}
+use Rattle.iso_standing.proofs.Looks.{end-of-leave, leave-split}
 use Rattle.iso_isolation.specs.Refusals as Why
 use Rattle.iso_isolation.specs.Refusals.{refuse}
 use Rattle.iso_standing.proofs.standing.Standing.refusal_of_leave.Goals as goal
 
-pub returns-then-not-has_body-clause-kind : goal.returns-then-not-has_body-clause-kind
-returns-then-not-has_body-clause-kind c = λ start s like ends.
-    let v = c.args.self.now in
-    let going : v.stopped ≡ false = ap (λ (u : Standing). u.stopped) (sym c.self.view_is) ∙ c.if-self.false in
-    let count : length c.self.inside.busy.items ≡ workers_in v = ap workers_in c.self.view_is in
-    let worker : c.args.worker < workers_in v = omega (arith, c.if-worker-len.false, c.len.ensures) in
-    let there : is_some (body_under_way v start s c.args.worker) ≡ false = c.has_body.ensures.state start s like ∙ c.if-not-has_body.true in
-    leave-without v start s like going c.args.worker worker there
+pub returns-in-Some-clause-kind : goal.returns-in-Some-clause-kind
+returns-in-Some-clause-kind c = λ start s like ends.
+    leave-split c.args.self.now start s like c.args.worker ∙ rw (c.in-Some.ensures.kind start s like) refl
 
 pub returns-then-not-ended-clause-kind : goal.returns-then-not-ended-clause-kind
 returns-then-not-ended-clause-kind c = λ start s like ends.
-    let v = c.args.self.now in
-    let going : v.stopped ≡ false = ap (λ (u : Standing). u.stopped) (sym c.self.view_is) ∙ c.if-self.false in
-    let count : length c.self.inside.busy.items ≡ workers_in v = ap workers_in c.self.view_is in
-    let worker : c.args.worker < workers_in v = omega (arith, c.if-worker-len.false, c.len.ensures) in
-    let there : is_some (body_under_way v start s c.args.worker) ≡ true = c.has_body.ensures.state start s like ∙ c.if-not-has_body.false in
-    leave-with v start s like going c.args.worker worker there c.args.ended ends ∙ ap (λ (b : Bool). refuse (not b) Why.BodyNotEnded) c.if-not-ended.true
+    let none = c.in_default.ensures.kind start s like in
+    leave-split c.args.self.now start s like c.args.worker
+    ∙ rw none (end-of-leave c.args.self.now start s like c.args.worker none c.args.ended ends ∙ ap (λ (b : Bool). refuse (not b) Why.BodyNotEnded) c.if-not-ended.true)
 
 pub returns-clause-kind : goal.returns-clause-kind
 returns-clause-kind c = λ start s like ends.
-    let v = c.args.self.now in
-    let going : v.stopped ≡ false = ap (λ (u : Standing). u.stopped) (sym c.self.view_is) ∙ c.if-self.false in
-    let count : length c.self.inside.busy.items ≡ workers_in v = ap workers_in c.self.view_is in
-    let worker : c.args.worker < workers_in v = omega (arith, c.if-worker-len.false, c.len.ensures) in
-    let there : is_some (body_under_way v start s c.args.worker) ≡ true = c.has_body.ensures.state start s like ∙ c.if-not-has_body.false in
-    leave-with v start s like going c.args.worker worker there c.args.ended ends ∙ ap (λ (b : Bool). refuse (not b) Why.BodyNotEnded) c.if-not-ended.false
+    let none = c.in_default.ensures.kind start s like in
+    leave-split c.args.self.now start s like c.args.worker
+    ∙ rw none (end-of-leave c.args.self.now start s like c.args.worker none c.args.ended ends ∙ ap (λ (b : Bool). refuse (not b) Why.BodyNotEnded) c.if-not-ended.false)

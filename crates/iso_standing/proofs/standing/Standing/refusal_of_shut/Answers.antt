@@ -1,7 +1,7 @@
 use Rattle.std.proofs.Common.{◌≡◌, ◌<◌, Some, None, Bool, true, false, ap, sym, ◌∙◌, refl}
 use Rattle.iso_standing.proofs.Looks.{not-open-is, shut-split}
 use Rattle.iso_suites.specs.ScriptLanguage.{scripts}
-use Rattle.iso_standing.specs.Refusing.{at, first_kinds}
+use Rattle.iso_standing.specs.KindsAt.{at, first_kinds}
 use Rattle.iso_standing.specs.Standings.{nodes_in}
 use Rattle.iso_standing.specs.Phases.{bare}
 use Rattle.iso_standing.specs.declared.phase.Phase.{Phase}

@@ -1,33 +1,21 @@
-use Rattle.std.proofs.Common.{◌≡◌, ◌<◌, length, is_some, Bool, true, false, ap, sym, ◌∙◌, arith}
-use Rattle.iso_standing.proofs.Looks.{step-with, step-without}
-use Rattle.iso_standing.specs.Standings.{Standing, body_under_way, workers_in}
+use Rattle.std.proofs.Common.{Bool, ap, ◌∙◌, refl}
+use Rattle.iso_standing.proofs.Looks.{end-of-step, step-split}
 use Rattle.iso_isolation.specs.Refusals as Why
 use Rattle.iso_isolation.specs.Refusals.{refuse}
 use Rattle.iso_standing.proofs.standing.Standing.refusal_of_step.Goals as goal
 
-pub returns-then-not-has_body-clause-kind : goal.returns-then-not-has_body-clause-kind
-returns-then-not-has_body-clause-kind c = λ start s like ends.
-    let v = c.args.self.now in
-    let going : v.stopped ≡ false = ap (λ (u : Standing). u.stopped) (sym c.self.view_is) ∙ c.if-self.false in
-    let count : length c.self.inside.busy.items ≡ workers_in v = ap workers_in c.self.view_is in
-    let worker : c.args.worker < workers_in v = omega (arith, c.if-worker-len.false, c.len.ensures) in
-    let there : is_some (body_under_way v start s c.args.worker) ≡ false = c.has_body.ensures.state start s like ∙ c.if-not-has_body.true in
-    step-without v start s like going c.args.worker worker there
+pub returns-in-Some-clause-kind : goal.returns-in-Some-clause-kind
+returns-in-Some-clause-kind c = λ start s like ends.
+    step-split c.args.self.now start s like c.args.worker ∙ rw (c.in-Some.ensures.kind start s like) refl
 
 pub returns-then-ended-clause-kind : goal.returns-then-ended-clause-kind
 returns-then-ended-clause-kind c = λ start s like ends.
-    let v = c.args.self.now in
-    let going : v.stopped ≡ false = ap (λ (u : Standing). u.stopped) (sym c.self.view_is) ∙ c.if-self.false in
-    let count : length c.self.inside.busy.items ≡ workers_in v = ap workers_in c.self.view_is in
-    let worker : c.args.worker < workers_in v = omega (arith, c.if-worker-len.false, c.len.ensures) in
-    let there : is_some (body_under_way v start s c.args.worker) ≡ true = c.has_body.ensures.state start s like ∙ c.if-not-has_body.false in
-    step-with v start s like going c.args.worker worker there c.args.ended ends ∙ ap (λ (b : Bool). refuse b Why.BodyEnded) c.if-ended.true
+    let none = c.in_default.ensures.kind start s like in
+    step-split c.args.self.now start s like c.args.worker
+    ∙ rw none (end-of-step c.args.self.now start s like c.args.worker none c.args.ended ends ∙ ap (λ (b : Bool). refuse b Why.BodyEnded) c.if-ended.true)
 
 pub returns-clause-kind : goal.returns-clause-kind
 returns-clause-kind c = λ start s like ends.
-    let v = c.args.self.now in
-    let going : v.stopped ≡ false = ap (λ (u : Standing). u.stopped) (sym c.self.view_is) ∙ c.if-self.false in
-    let count : length c.self.inside.busy.items ≡ workers_in v = ap workers_in c.self.view_is in
-    let worker : c.args.worker < workers_in v = omega (arith, c.if-worker-len.false, c.len.ensures) in
-    let there : is_some (body_under_way v start s c.args.worker) ≡ true = c.has_body.ensures.state start s like ∙ c.if-not-has_body.false in
-    step-with v start s like going c.args.worker worker there c.args.ended ends ∙ ap (λ (b : Bool). refuse b Why.BodyEnded) c.if-ended.false
+    let none = c.in_default.ensures.kind start s like in
+    step-split c.args.self.now start s like c.args.worker
+    ∙ rw none (end-of-step c.args.self.now start s like c.args.worker none c.args.ended ends ∙ ap (λ (b : Bool). refuse b Why.BodyEnded) c.if-ended.false)

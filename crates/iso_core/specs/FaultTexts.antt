@@ -1,0 +1,10 @@
+-- How a fault of a core shows.
+use Rattle.std.specs.Prelude.{ℕ, List, codes}
+use Rattle.iso_core.specs.declared.core_fault.CoreFault.{CoreFault}
+use Rattle.iso_core.specs.declared.core_fault.CoreFault.TheVariants as F
+use Rattle.iso_standing.specs.RefusalTexts.{refused_text}
+
+-- why an event is refused, or that memory ran out
+abbrev pub fault_text : CoreFault → List ℕ
+fault_text (F.Refused why) = refused_text why
+fault_text F.OutOfMemory = codes "out of memory"
