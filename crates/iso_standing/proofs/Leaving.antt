@@ -1,12 +1,12 @@
 -- A standing after a Leave looks like the state after it.
-use Rattle.std.proofs.Common.{◌≡◌, ℕ, ◌<◌, List, length, Option, Some, None, Bool, true, false, ◌||◌, ◌&&◌, cond, eqb, is_some, get_or, set, ap, ap₂, sym, ◌∙◌, arith, inl, inr, refl}
+use Rattle.std.proofs.Common.{◌≡◌, ℕ, ◌<◌, List, length, Option, Some, None, Bool, true, false, ◌||◌, ◌&&◌, cond, eqb, is_some, get_or, set, ap, ap₂, sym, ◌∙◌, subst, arith, inl, inr, refl}
 use Rattle.std.proofs.lemmas.Bool.{cases_eq}
 use Rattle.std.proofs.lemmas.List.{get_or-set_other, get_or-set_same, length-set}
 use Rattle.iso_standing.specs.Phases.{bare, phase_of}
 use Rattle.iso_suites.specs.PlanSuites.{head_of}
 use Rattle.iso_suites.specs.ScriptLanguage.{is_of_test, scripts}
 use Rattle.iso_suites.specs.SuiteStates.{RunState}
-use Rattle.iso_standing.specs.Standings.{LooksLike, Standing, after_in, is_inside, node_of, nodes_in, phase_at, phase_under, suite_in, workers_in}
+use Rattle.iso_standing.specs.Standings.{HasBody, IsStanding, LooksLike, Standing, after_in, is_inside, node_of, nodes_in, phase_at, phase_under, suite_in, workers_in}
 use Rattle.iso_standing.specs.declared.phase.Phase.{Phase}
 use Rattle.iso_standing.specs.declared.phase.Phase.TheVariants as P
 use Rattle.iso_standing.proofs.Looks.{waiting-at}
@@ -17,7 +17,8 @@ use Rattle.iso_model.specs.Openings.{Frame}
 use Rattle.iso_model.specs.Resources.{Resources}
 use Rattle.iso_model.specs.declared.outcome.Outcome.{Outcome}
 use Rattle.iso_plan.proofs.PathLemmas.{eq_not, eq_same}
-use Rattle.iso_plan.specs.Paths.{is_test}
+use Rattle.iso_plan.specs.Paths.{is_test, row_at}
+use Rattle.iso_plan.specs.RowView.{tree_of}
 use Rattle.iso_plan.specs.Tree.{Kind, root, class_node, test_node}
 
 abbrev NodeStatus : Type 0
@@ -57,6 +58,37 @@ or-left false b e = refl
 pub or-last : (a b : Bool) → (a || b) ≡ false → b ≡ false
 or-last true b e = absurd (cc)
 or-last false b e = e
+
+-- what every Leave knows of the node of its worker's body
+pub record NodeLeft (v : Standing) (w n : ℕ) : Type 0 where
+  pub at : node_of v w ≡ Some n
+  pub there : n < nodes_in v
+  pub long : n < length v.phases
+  pub body : is_some (body_in (bare (phase_at v n))) ≡ true
+
+pub node-left : (u v : Standing) (w n : ℕ) → u ≡ v → IsStanding u → HasBody v w → (w < length u.busy → get_or u.busy w None ≡ Some n) → NodeLeft v w n
+node-left u v w n same is has found =
+    let of : IsStanding v = subst IsStanding same is in
+    let count : length u.busy ≡ workers_in v = ap workers_in same in
+    let at : node_of v w ≡ Some n = ap (λ (x : Standing). node_of x w) (sym same) ∙ found (omega (arith, has.worker)) in
+    let there : n < nodes_in v = (of.bodies w n at).1 in
+    record {
+      at = at;
+      there = there;
+      long = omega (arith, of.phases);
+      body = ap (λ (o : Option ℕ). is_some (where_some o None (λ m. body_in (bare (phase_at v m))))) (sym at) ∙ has.body;
+    }
+
+-- whether the body that is under way at a node is its last
+abbrev pub is_last_at : ℕ → Standing → Bool
+is_last_at n v = is_closing (bare (phase_at v n)) || is_test (row_at (tree_of v.plan) n).kind
+
+-- a node whose body isn't its last isn't closing, and is no test
+pub unclosed : (v : Standing) (n : ℕ) → is_last_at n v ≡ false → is_closing (bare (phase_at v n)) ≡ false
+unclosed v n e = or-left (is_closing (bare (phase_at v n))) (is_test (row_at (tree_of v.plan) n).kind) e
+
+pub no-test : (v : Standing) (start : Resources) (n : ℕ) → is_last_at n v ≡ false → is_of_test ((suite_in v start).head n) ≡ false
+no-test v start n e = head-test (row_at (tree_of v.plan) n).kind ∙ or-last (is_closing (bare (phase_at v n))) (is_test (row_at (tree_of v.plan) n).kind) e
 
 module _ (v : Standing) (start : Resources) (s : RunState) (like : LooksLike v s) where
   -- phases that are those after the Leave, with the worker's body gone

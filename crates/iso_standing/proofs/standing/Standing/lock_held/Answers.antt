@@ -1,4 +1,4 @@
-use Rattle.std.proofs.Common.{◌≡◌, ℕ, Bool, option_map, ap, sym, ◌∙◌}
+use Rattle.std.proofs.Common.{ℕ, Bool, option_map, ap, sym, ◌∙◌}
 use Rattle.iso_standing.proofs.Below.{lowest-as}
 use Rattle.iso_standing.proofs.Looks.{holders-are}
 use Rattle.iso_standing.specs.Phases.{bare}
