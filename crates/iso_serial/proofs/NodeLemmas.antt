@@ -1,5 +1,5 @@
 -- A node from the moment it is lent to the moment it was taken back, and the first moment of a run.
-use Rattle.std.proofs.Common.{◌≡◌, ℕ, zero, suc, ◌<◌, List, [], length, map, reverse, replicate, get_or, Option, Some, None, Bool, true, false, cond, is_some, option_map, Result, Ok, Err, OnOk, IsOk, MatchResult, inl, inr, refl, sym, ap, ap₂, ◌∙◌, subst, arith}
+use Rattle.std.proofs.Common.{◌≡◌, ℕ, zero, suc, ◌<◌, List, [], length, replicate, get_or, Option, Some, None, Bool, true, false, cond, is_some, option_map, Result, Ok, Err, OnOk, IsOk, MatchResult, inl, inr, refl, sym, ap, ap₂, ◌∙◌, subst, arith}
 use Rattle.std.proofs.lemmas.List.{length-replicate}
 use Rattle.iso_lifecycle.specs.ResultViews.{AreComplete, AreOpen, ResultsView, has_result, no_results}
 use Rattle.iso_lifecycle.specs.Subjects.{opening_of, own_frame, started, subject}
@@ -20,13 +20,15 @@ use Rattle.iso_plan.specs.RowView.{tree_of}
 use Rattle.iso_plan.specs.Tree.{Row}
 use Rattle.iso_settings.specs.Worlds.{Start, starting_value_in}
 use Rattle.iso_store.specs.Histories.{History}
-use Rattle.iso_serial.proofs.LeaveLemmas.{can-take-back, home-further, home-holds, home-values}
+use Rattle.iso_serial.proofs.LeaveLemmas.{at-start, back-holds, home-further, home-stands}
 use Rattle.iso_serial.proofs.OpeningLemmas.{opened-by, opened-well}
 use Rattle.iso_serial.proofs.ResultLemmas.{all-done, open-above, root-or-not}
 use Rattle.iso_serial.proofs.StepLemmas.{inside-tree, parent-at, tree-at}
-use Rattle.iso_serial.proofs.TrayLemmas.{can-lend, free, lent-holds, lent-values, vault-back, vault-lent}
-use Rattle.iso_serial.specs.Standing.{AreDone, AreLentAlong, GoesFurther, HoldsAlong, IsAsOpened, IsEntered, IsLentAlong, IsUnderWay, Stands, StandsAtEnd, StandsAtEntry}
-use Rattle.iso_serial.specs.declared.run.Standing.{Standing}
+use Rattle.iso_serial.proofs.TrayLemmas.{lent-stands}
+use Rattle.iso_serial.proofs.VaultLemmas.{can-lend, can-take-back, free, vault-back, vault-lent}
+use Rattle.iso_serial.specs.OpenedTrays.{AreLentAlong, StandsAsOpened}
+use Rattle.iso_serial.specs.Walks.{AreDone, AreResultsAlong, AtEntry, AtExit, BetweenNodes, GoesFurther, IsEntered, IsLentAlong}
+use Rattle.iso_serial.specs.declared.run.Walk.{Walk}
 
 pub on-one : {A E : Type 0} {P Q : Type 0} (r : Result A E) → OnOk r P → (P → Q) → OnOk r Q
 on-one (Ok x) p f = f p
@@ -35,10 +37,10 @@ on-one (Err e) p f = tt
 pub on-ok-is : {A E : Type 0} {P : Type 0} (r : Result A E) (x : A) → r ≡ Ok x → OnOk r P → P
 on-ok-is {P = P} r x e p = let Q : Result _ _ → Type 0 = λ q. OnOk q P in subst Q e p
 
-pub further-still : (a : Standing) → GoesFurther a a
+pub further-still : (a : Walk) → GoesFurther a a
 further-still a = record { tray = on-still a.tray; results = λ m h. h }
 
-pub further-on : (a b c : Standing) → GoesFurther a b → GoesFurther b c → GoesFurther a c
+pub further-on : (a b c : Walk) → GoesFurther a b → GoesFurther b c → GoesFurther a c
 further-on a b c x y = record { tray = on-further a.tray b.tray c.tray x.tray y.tray; results = λ m h. y.results m (x.results m h) }
 
 -- what is answered where there is a result, and where there is none
@@ -62,7 +64,7 @@ module _ (plan : Planned) (world : Start) where
   tr = tree_of plan
 
   -- where a node that stands directly in p has no result, p was opened well
-  child-well : (p n : ℕ) (v : ResultsView) → IsEntered plan world p → 0 < n → parent tr n ≡ p → IsUnderWay plan world p v → has_result v n ≡ false → (opening_of (subject plan world p)).well ≡ true
+  child-well : (p n : ℕ) (v : ResultsView) → IsEntered plan world p → 0 < n → parent tr n ≡ p → AreResultsAlong plan world p v → has_result v n ≡ false → (opening_of (subject plan world p)).well ≡ true
   child-well p n v e pos q u w = elim (root-or-not p) [
     | inl zeroth ↦
         ap (λ (j : ℕ). (opening_of (subject plan world j)).well) zeroth
@@ -77,34 +79,33 @@ module _ (plan : Planned) (world : Start) where
         ∙ stepped.0.1
   ]
 
-  module _ (n : ℕ) (old : Standing) (pos : 0 < n) (within : n < length plan.rows) (s : Stands plan world (parent (tree_of plan) n) old) (w : has_result old.results n ≡ false) where
+  module _ (n : ℕ) (old : Walk) (pos : 0 < n) (within : n < length plan.rows) (s : BetweenNodes plan world (parent tr n) old) (w : has_result old.results n ≡ false) where
     pub may-lend : CanLend n old.vault old.tray
-    may-lend = can-lend plan world s.entered.tree old.vault old.tray n pos within s.vault s.tray
+    may-lend = can-lend plan world s.entered.tree old.vault old.tray n pos within s.vault s.tray.holds
 
     pub lends : busy old.vault n ≡ None
     lends = free plan world s.entered.tree old.vault n pos s.vault
 
-    pub entry : (v : VaultView) (u : TrayView) → v ≡ lending n old.vault → IsLentTo n old.tray u → StandsAtEntry plan world n (record { vault = v; tray = u; frames = old.frames; results = old.results })
+    pub entry : (v : VaultView) (u : TrayView) → v ≡ lending n old.vault → IsLentTo n old.tray u → AtEntry plan world n (record old { vault = v; tray = u })
     entry v u ve l = record {
       tree = s.entered.tree;
       positive = pos;
       within = within;
       well = child-well (parent tr n) n old.results s.entered pos refl s.results w;
       vault = subst (λ x. IsLentAlong plan world n x) (sym ve) (vault-lent plan world s.entered.tree old.vault n pos within s.vault);
-      tray = lent-holds plan world s.entered.tree old.tray u n pos within s.tray s.values l;
-      values = lent-values plan world s.entered.tree old.tray u n pos within s.tray s.values l;
-      frames = s.frames;
+      tray = lent-stands plan world s.entered.tree old.tray u n pos within s.tray l;
       results = s.results;
       waits = w;
     }
 
-    module _ (v : VaultView) (u : TrayView) (mark : MarkView) (end : Standing) (ve : v ≡ lending n old.vault) (l : IsLentTo n old.tray u) (me : mark ≡ marked u n)
-        (at : StandsAtEnd plan world n end) (on : GoesFurther (record { vault = v; tray = u; frames = old.frames; results = old.results }) end) where
-      pub may-undo : CanUndo mark end.tray
-      may-undo = subst (λ (m : MarkView). CanUndo m end.tray) (sym me) (own-mark u end.tray n on.tray)
+    -- what a lent node's bodies and all that stands in it leave; its mark is undone, and it is taken back
+    module _ (v : VaultView) (u : TrayView) (mark : MarkView) (end : Walk) (l : IsLentTo n old.tray u) (me : mark ≡ marked u n)
+        (at : AtExit plan world n end) (further : GoesFurther (record old { vault = v; tray = u }) end) where
+      abbrev on : GoesOn u end.tray
+      on = further.tray
 
-      abbrev a : StandsAtEntry plan world n (record { vault = v; tray = u; frames = old.frames; results = old.results })
-      a = entry v u ve l
+      pub may-undo : CanUndo mark end.tray
+      may-undo = subst (λ (m : MarkView). CanUndo m end.tray) (sym me) (own-mark u end.tray n on)
 
       gone-back : undone mark end.tray ≡ undone (marked u n) end.tray
       gone-back = ap (λ (m : MarkView). undone m end.tray) me
@@ -112,30 +113,25 @@ module _ (plan : Planned) (world : Start) where
       pub may-take : (w : TrayView) → w ≡ undone mark end.tray → CanTakeBack n end.vault w
       may-take w e =
           subst (λ (x : TrayView). CanTakeBack n end.vault x) (sym (e ∙ gone-back))
-          (can-take-back plan world s.entered.tree old.tray u end.tray n pos within s.tray l a.tray a.values on.tray at.tray at.values end.vault at.vault)
-
-      abbrev final : VaultView → TrayView → Standing
-      final x y = record { vault = x; tray = y; frames = end.frames; results = end.results }
+          (can-take-back plan world s.entered.tree end.vault (undone (marked u n) end.tray) n pos within at.vault
+          (back-holds plan world s.entered.tree old.tray u end.tray n pos within s.tray l on at.tray)
+          (at-start plan world s.entered.tree old.tray u end.tray n pos within s.tray l on at.tray))
 
       tray-is : (w y : TrayView) → w ≡ undone mark end.tray → y ≡ giving_back n w → y ≡ giving_back n (undone (marked u n) end.tray)
       tray-is w y e f = f ∙ ap (giving_back n) (e ∙ gone-back)
 
-      pub left-stands : (x : VaultView) (w y : TrayView) → x ≡ regaining n end.vault → w ≡ undone mark end.tray → y ≡ giving_back n w → Stands plan world (parent tr n) (final x y)
-      left-stands x w y xe e f =
-          let is = tray-is w y e f in
-          record {
-            entered = s.entered;
-            vault = subst (λ z. IsLentAlong plan world (parent tr n) z) (sym xe) (vault-back plan world s.entered.tree end.vault n pos within at.vault);
-            tray = subst (λ (z : TrayView). HoldsAlong plan world (parent tr n) z) (sym is) (home-holds plan world s.entered.tree old.tray u end.tray n pos within s.tray l a.tray a.values on.tray at.tray at.values);
-            values = subst (λ (z : TrayView). IsAsOpened plan world (parent tr n) z) (sym is) (home-values plan world s.entered.tree old.tray u end.tray n pos within s.tray l a.tray a.values on.tray at.tray at.values);
-            frames = at.frames;
-            results = at.results;
-          }
+      pub left-stands : (x : VaultView) (w y : TrayView) → x ≡ regaining n end.vault → w ≡ undone mark end.tray → y ≡ giving_back n w → BetweenNodes plan world (parent tr n) (record end { vault = x; tray = y })
+      left-stands x w y xe e f = record {
+        entered = s.entered;
+        vault = subst (λ z. IsLentAlong plan world (parent tr n) z) (sym xe) (vault-back plan world s.entered.tree end.vault n pos within at.vault);
+        tray = subst (λ (z : TrayView). StandsAsOpened plan world (parent tr n) (parent tr n) z) (sym (tray-is w y e f)) (home-stands plan world s.entered.tree old.tray u end.tray n pos within s.tray l on at.tray);
+        results = at.results;
+      }
 
-      pub left-further : (x : VaultView) (w y : TrayView) → w ≡ undone mark end.tray → y ≡ giving_back n w → GoesFurther old (final x y)
+      pub left-further : (x : VaultView) (w y : TrayView) → w ≡ undone mark end.tray → y ≡ giving_back n w → GoesFurther old (record end { vault = x; tray = y })
       left-further x w y e f = record {
-        tray = subst (λ (z : TrayView). GoesOn old.tray z) (sym (tray-is w y e f)) (home-further plan world s.entered.tree old.tray u end.tray n pos within s.tray l a.tray a.values on.tray at.tray at.values);
-        results = on.results;
+        tray = subst (λ (z : TrayView). GoesOn old.tray z) (sym (tray-is w y e f)) (home-further plan world s.entered.tree old.tray u end.tray n pos within s.tray l on at.tray);
+        results = further.results;
       }
 
   -- a child of a class, by its place
@@ -176,8 +172,8 @@ module _ (plan : Planned) (world : Start) where
       (any-none (replicate (length plan.rows) false) (none-lent (length plan.rows)) (holds_read tr k) (length tr))
 
   -- at the beginning nothing is lent, and nothing has a result
-  pub first-stands : (s : Standing) → IsTree tr → s.vault ≡ whole_vault plan world → s.tray ≡ empty_tray plan world → s.frames.items ≡ [] → s.results ≡ no_results plan world → Stands plan world 0 s
-  first-stands s t ve te fe re =
+  pub first-stands : (s : Walk) → IsTree tr → s.vault ≡ whole_vault plan world → s.tray ≡ empty_tray plan world → s.results ≡ no_results plan world → BetweenNodes plan world 0 s
+  first-stands s t ve te re =
       let rooted = t.rooted in
       record {
         entered = record {
@@ -186,17 +182,17 @@ module _ (plan : Planned) (world : Start) where
           well = ap (λ (ns : List ℕ). (opening (heads_on tr ns) (started world)).well) (root-path t);
         };
         vault = subst (λ x. IsLentAlong plan world 0 x) (sym ve) (record { plan_is = refl; world_is = refl; lent = none-along (replicate (length plan.rows) false) refl });
-        tray = subst (λ (x : TrayView). HoldsAlong plan world 0 x) (sym te) (record {
-          plan_is = refl;
-          world_is = refl;
-          lent = none-along (replicate (length plan.rows) false) refl;
-          there = λ i on. let wrong : false ≡ true = sym (nothing-under-root on.node) ∙ on.above in absurd (cc);
-          only = λ i h. let wrong : false ≡ true = sym (ap is_some (none-there (length (keys tr)) i)) ∙ h in absurd (cc);
+        tray = subst (λ (x : TrayView). StandsAsOpened plan world 0 0 x) (sym te) (record {
+          holds = record {
+            plan_is = refl;
+            world_is = refl;
+            lent = none-along (replicate (length plan.rows) false) refl;
+            there = λ i on. let wrong : false ≡ true = sym (nothing-under-root on.node) ∙ on.above in absurd (cc);
+            only = λ i h. let wrong : false ≡ true = sym (ap is_some (none-there (length (keys tr)) i)) ∙ h in absurd (cc);
+          };
+          values = λ k h. let wrong : false ≡ true = sym (ap is_some (nothing-held k (number_of tr k))) ∙ h in absurd (cc);
         });
-        values = subst (λ (x : TrayView). IsAsOpened plan world 0 x) (sym te)
-            (λ k h. let wrong : false ≡ true = sym (ap is_some (nothing-held k (number_of tr k))) ∙ h in absurd (cc));
-        frames = fe ∙ sym (ap (λ (ns : List ℕ). map (subject plan world) (reverse ns)) (path-root tr));
-        results = subst (λ (x : ResultsView). IsUnderWay plan world 0 x) (sym re) (record {
+        results = subst (λ (x : ResultsView). AreResultsAlong plan world 0 x) (sym re) (record {
           plan_is = refl;
           start_is = refl;
           opened_fit = length-replicate (length plan.rows) false;
@@ -210,7 +206,7 @@ module _ (plan : Planned) (world : Start) where
       }
 
   -- at the end all nodes have results
-  pub last-complete : (s : Standing) → Stands plan world 0 s → AreDone plan 0 s.results → AreComplete s.results
+  pub last-complete : (s : Walk) → BetweenNodes plan world 0 s → AreDone plan 0 s.results → AreComplete s.results
   last-complete s st done =
       let u = st.results in
       all-done plan world s.results (tree-at plan world s.results u.plan_is st.entered.tree) u

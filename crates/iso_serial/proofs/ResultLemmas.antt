@@ -2,7 +2,7 @@
 use Rattle.std.proofs.Common.{◌≡◌, ◌≢◌, ℕ, zero, suc, ◌<◌, List, [], ◌∷◌, length, get_or, set, Bool, true, false, ◌||◌, ◌&&◌, not, ◌⊎◌, inl, inr, refl, sym, ap, ap₂, ◌∙◌, subst, arith}
 use Rattle.std.proofs.lemmas.Bool.{cases_eq, cases_lt}
 use Rattle.std.proofs.lemmas.List.{get_or-set_other, get_or-set_same, get_or_past, length-set}
-use Rattle.iso_lifecycle.specs.ResultViews.{AreComplete, AreOpen, ResultsView, has_result, is_barred, is_barring, is_ended, is_opened, is_some_barring, with_done_of}
+use Rattle.iso_lifecycle.specs.ResultViews.{AreComplete, AreOpen, AreOpened, ResultsView, has_result, is_barred, is_barring, is_ended, is_opened, is_some_barring, with_done_of}
 use Rattle.iso_lifecycle.specs.Subjects.{own_frame, subject}
 use Rattle.iso_lifecycle.specs.declared.kind.BodyKind.TheVariants.{BeforeAll, Test, AfterAll}
 use Rattle.iso_model.specs.Statements.{is_well}
@@ -13,7 +13,7 @@ use Rattle.iso_plan.specs.Planned.{Planned}
 use Rattle.iso_plan.specs.RowView.{tree_of}
 use Rattle.iso_plan.specs.Tree.{Row}
 use Rattle.iso_settings.specs.Worlds.{Start}
-use Rattle.iso_serial.specs.Standing.{IsUnderWay}
+use Rattle.iso_serial.specs.Walks.{AreResultsAlong}
 
 pub true-or-false : (b : Bool) → (b ≡ true) ⊎ (b ≡ false)
 true-or-false true = inl refl
@@ -101,6 +101,10 @@ result-more v o e more further m h = elim (or-cases (is_ended v m) (is_barred v 
   | inr there ↦ or-second (is_ended (with_lists v o e) m) (is_barred (with_lists v o e) m) (barring-more v o e more (path (tree_of v.plan) (parent (tree_of v.plan) m)) there)
 ]
 
+open-opened : (v : ResultsView) (ns : List ℕ) → AreOpen v ns → AreOpened v ns
+open-opened v [] h = tt
+open-opened v (n ∷ ns) h = (h.0.0, open-opened v ns h.1)
+
 module _ (plan : Planned) (world : Start) (v : ResultsView) (t : IsTree (tree_of v.plan)) where
   abbrev tr : List Row
   tr = tree_of v.plan
@@ -109,7 +113,7 @@ module _ (plan : Planned) (world : Start) (v : ResultsView) (t : IsTree (tree_of
   unended n w = (neither (is_ended v n) (is_barred v n) w).0
 
   -- a node without a result wasn't opened
-  pub unopened : (p n : ℕ) → parent tr n ≡ p → 0 < n → IsUnderWay plan world p v → has_result v n ≡ false → is_opened v n ≡ false
+  pub unopened : (p n : ℕ) → parent tr n ≡ p → 0 < n → AreResultsAlong plan world p v → has_result v n ≡ false → is_opened v n ≡ false
   unopened p n q pos u w = elim (true-or-false (is_opened v n)) [
     | inl is ↦
         let apart : is_under tr n p ≡ false = ap (is_under tr n) (sym q) ∙ not-above tr t.below n pos in
@@ -119,7 +123,7 @@ module _ (plan : Planned) (world : Start) (v : ResultsView) (t : IsTree (tree_of
   ]
 
   -- the classes that it stands in were opened well
-  pub open-above : (p n : ℕ) → parent tr n ≡ p → IsUnderWay plan world p v → has_result v n ≡ false → AreOpen v (path tr p)
+  pub open-above : (p n : ℕ) → parent tr n ≡ p → AreResultsAlong plan world p v → has_result v n ≡ false → AreOpen v (path tr p)
   open-above p n q u w = elim (root-or-not p) [
     | inl zeroth ↦ subst (λ (ns : List ℕ). AreOpen v ns) (sym (ap (path tr) zeroth ∙ path-root tr)) tt
     | inr pos ↦
@@ -130,7 +134,14 @@ module _ (plan : Planned) (world : Start) (v : ResultsView) (t : IsTree (tree_of
         subst (λ (ns : List ℕ). AreOpen v ns) (sym step) ((u.opened pos, well), u.enclosed)
   ]
 
-  pub put-opened : (p n : ℕ) → parent tr n ≡ p → 0 < n → n < length v.plan.rows → IsUnderWay plan world p v → has_result v n ≡ false → IsUnderWay plan world n (with_done_of BeforeAll n v)
+  -- and there are the frames of all that are under way
+  pub frames-there : (p : ℕ) → AreResultsAlong plan world p v → AreOpened v (path tr p)
+  frames-there p u = elim (root-or-not p) [
+    | inl zeroth ↦ subst (λ (ns : List ℕ). AreOpened v ns) (sym (ap (path tr) zeroth ∙ path-root tr)) tt
+    | inr pos ↦ subst (λ (ns : List ℕ). AreOpened v ns) (sym (path-step tr t.below p pos)) (u.opened pos, open-opened v (path tr (parent tr p)) u.enclosed)
+  ]
+
+  pub put-opened : (p n : ℕ) → parent tr n ≡ p → 0 < n → n < length v.plan.rows → AreResultsAlong plan world p v → has_result v n ≡ false → AreResultsAlong plan world n (with_done_of BeforeAll n v)
   put-opened p n q pos within u w =
       let o = set v.opened n true in
       let more = set-more v.opened n in
@@ -161,7 +172,7 @@ module _ (plan : Planned) (world : Start) (v : ResultsView) (t : IsTree (tree_of
       → ((m : ℕ) → m ≢ n → is_opened v m ≡ true → is_under tr m p ≡ false → is_ended v m ≡ true)
       → ((m : ℕ) → 0 < m → m < length v.plan.rows → is_ended v (parent tr m) ≡ true → has_result v m ≡ true)
       → ((m : ℕ) → 0 < m → m < length v.plan.rows → parent tr m ≡ n → has_result v m ≡ true)
-      → IsUnderWay plan world p (with_lists v v.opened (set v.ended n true))
+      → AreResultsAlong plan world p (with_lists v v.opened (set v.ended n true))
   put-end p n q pos within plan_is start_is ofit efit enclosed opened going others closed inside =
       let e = set v.ended n true in
       let more = set-more v.ended n in
@@ -186,7 +197,7 @@ module _ (plan : Planned) (world : Start) (v : ResultsView) (t : IsTree (tree_of
         ];
       }
 
-  pub put-test : (p n : ℕ) → parent tr n ≡ p → 0 < n → n < length v.plan.rows → is_test (row_at tr n).kind ≡ true → IsUnderWay plan world p v → IsUnderWay plan world p (with_done_of Test n v)
+  pub put-test : (p n : ℕ) → parent tr n ≡ p → 0 < n → n < length v.plan.rows → is_test (row_at tr n).kind ≡ true → AreResultsAlong plan world p v → AreResultsAlong plan world p (with_done_of Test n v)
   put-test p n q pos within test u =
       put-end p n q pos within u.plan_is u.start_is u.opened_fit u.ended_fit u.enclosed u.opened u.going (λ m _ op a. u.others m op a) u.closed
       (λ m mp mw same. let wrong : true ≡ false = sym test ∙ ap (λ (j : ℕ). is_test (row_at tr j).kind) (sym same) ∙ t.inner m mp in absurd (cc))
@@ -202,7 +213,7 @@ module _ (plan : Planned) (world : Start) (v : ResultsView) (t : IsTree (tree_of
       let at : get_or (children tr n) l.place 0 ≡ m = ap (λ (j : ℕ). get_or (children tr j) l.place 0) (sym same) ∙ l.is in
       ap (has_result v) (sym at) ∙ all l.place w
 
-  pub put-closed : (p n : ℕ) → parent tr n ≡ p → 0 < n → n < length v.plan.rows → IsUnderWay plan world n v → Inside n → IsUnderWay plan world p (with_done_of AfterAll n v)
+  pub put-closed : (p n : ℕ) → parent tr n ≡ p → 0 < n → n < length v.plan.rows → AreResultsAlong plan world n v → Inside n → AreResultsAlong plan world p (with_done_of AfterAll n v)
   put-closed p n q pos within u all =
       let above : AreOpen v (path tr p) = subst (λ (j : ℕ). AreOpen v (path tr j)) q u.enclosed in
       let stepped : 0 < p → AreOpen v (p ∷ path tr (parent tr p)) = λ pp. subst (λ (ns : List ℕ). AreOpen v ns) (path-step tr t.below p pp) above in
@@ -224,7 +235,7 @@ module _ (plan : Planned) (world : Start) (v : ResultsView) (t : IsTree (tree_of
       (inside-all n all)
 
   -- once all that stands directly in the root has results, all nodes have
-  has-by : (m : ℕ) → 0 < m → m < length v.plan.rows → (p : ℕ) → parent tr m ≡ p → IsUnderWay plan world 0 v → Inside 0 → (0 < p → p < length v.plan.rows → has_result v p ≡ true) → has_result v m ≡ true
+  has-by : (m : ℕ) → 0 < m → m < length v.plan.rows → (p : ℕ) → parent tr m ≡ p → AreResultsAlong plan world 0 v → Inside 0 → (0 < p → p < length v.plan.rows → has_result v p ≡ true) → has_result v m ≡ true
   has-by m mp mw p q u all ih = elim (root-or-not p) [
     | inl zeroth ↦ inside-all 0 all m mp mw (q ∙ zeroth)
     | inr pp ↦
@@ -237,7 +248,7 @@ module _ (plan : Planned) (world : Start) (v : ResultsView) (t : IsTree (tree_of
         ]
   ]
 
-  pub all-done : IsUnderWay plan world 0 v → Inside 0 → AreComplete v
+  pub all-done : AreResultsAlong plan world 0 v → Inside 0 → AreComplete v
   all-done u all =
       along tr t.below (λ m. 0 < m → m < length v.plan.rows → has_result v m ≡ true)
       (λ h. absurd (omega arith))

@@ -1,28 +1,28 @@
--- A tray as nodes are lent to it and taken back.
-use Rattle.std.proofs.Common.{◌≡◌, ◌≢◌, ℕ, zero, suc, ◌<◌, ◌≤◌, List, length, set, Option, Some, None, Bool, true, false, ◌||◌, ◌&&◌, ◌==◌, not, cond, is_some, option_map, ◌⊎◌, inl, inr, refl, sym, ap, ap₂, ◌∙◌, subst, arith}
-use Rattle.std.proofs.lemmas.Bool.{cases_eq, cases_lt}
-use Rattle.std.proofs.lemmas.List.{get_or-set_other, get_or-set_same, get_or_past, length-set}
+-- A tray alone, as a node is lent to it and bodies are done over it: what it holds stands as an opening left it. Nothing here speaks of vault, results or frames.
+use Rattle.std.proofs.Common.{◌≡◌, ◌≢◌, ℕ, ◌<◌, List, length, set, Option, Some, None, Bool, true, false, cond, is_some, option_map, ◌⊎◌, inl, inr, refl, sym, ap, ap₂, ◌∙◌, subst, arith}
+use Rattle.std.proofs.lemmas.Bool.{cases_eq}
+use Rattle.std.proofs.lemmas.List.{get_or-set_other, get_or-set_same, length-set}
 use Rattle.std.specs.Option.{option_or}
-use Rattle.iso_lifecycle.specs.Subjects.{opening_of, rights_of_subject, subject}
+use Rattle.iso_lifecycle.specs.Subjects.{Subject, opening_of, rights_of_subject, subject}
+use Rattle.iso_lifecycle.specs.declared.kind.BodyKind.{BodyKind}
 use Rattle.iso_lifecycle.specs.declared.kind.BodyKind.TheVariants.{BeforeAll, Test, AfterAll}
 use Rattle.iso_locks.proofs.NumberLemmas.{number-spells, number-within}
-use Rattle.iso_locks.specs.Clashes.{clash, lockers_conflict}
 use Rattle.iso_locks.specs.Moves.{is_written}
 use Rattle.iso_locks.specs.Slots.{slot}
-use Rattle.iso_locks.specs.Trays.{IsOnward, TrayView, content, has_at, has_value, is_lent, is_open, key_at, number_of, resources, seen, seen_at}
-use Rattle.iso_locks.specs.Vaults.{CanLend, IsLentTo, VaultView, busy, lending, regaining, value_in}
+use Rattle.iso_locks.specs.Trays.{TrayView, content, has_at, has_value, is_lent, is_open, key_at, number_of, resources, seen, seen_at}
+use Rattle.iso_locks.specs.Vaults.{IsLentTo, value_in}
 use Rattle.iso_model.specs.Agreement.{EqualAt}
 use Rattle.iso_model.specs.Resources.{Resources}
 use Rattle.iso_model.specs.Rights.{is_readable, is_writable}
+use Rattle.iso_model.specs.declared.access.Access.{Access}
 use Rattle.iso_model.specs.Touch.{HasKeys, kind_of_value}
 use Rattle.iso_model.specs.declared.resource.Resource.{Resource}
 use Rattle.iso_plan.proofs.LawLemmas.{conflict-apart, covered, root-unreadable}
-use Rattle.iso_plan.proofs.PathLemmas.{IsBelow, along, eq_from, eq_same, path-root, path-step, under-le, under-self, under-step}
-use Rattle.iso_plan.specs.Conflicts.{is_in_the_way, lowest}
+use Rattle.iso_plan.proofs.PathLemmas.{under-le, under-self, under-step}
 use Rattle.iso_plan.specs.KeyTable.{keys}
-use Rattle.iso_plan.specs.Locks.{conflict, declares, locking_node, locks, taken}
+use Rattle.iso_plan.specs.Locks.{conflict, locks, taken}
 use Rattle.iso_plan.specs.NodeChains.{node_rights}
-use Rattle.iso_plan.specs.Paths.{IsTree, is_on, is_test, is_under, outermost, parent, row_at}
+use Rattle.iso_plan.specs.Paths.{IsTree, is_test, is_under, parent, row_at}
 use Rattle.iso_plan.specs.Planned.{Planned}
 use Rattle.iso_plan.specs.RowView.{tree_of}
 use Rattle.iso_plan.specs.Tree.{Row}
@@ -31,7 +31,7 @@ use Rattle.iso_store.specs.Histories.{History}
 use Rattle.iso_locks.proofs.KeyLemmas.{has-number, open-of, or-true, readable-of, written-conflict, written-is, written-within}
 use Rattle.iso_serial.proofs.OpeningLemmas.{IsOpened, opened-apart, opened-whole, opening-kind, opening-start}
 use Rattle.iso_serial.proofs.ResultLemmas.{above-parent, not-above, root-or-not, true-or-false}
-use Rattle.iso_serial.specs.Standing.{AreLentAlong, HoldsAlong, IsAsOpened, IsAsOpenedApart, IsLentAlong, IsTrayAfter, IsWrittenOn, held}
+use Rattle.iso_serial.specs.OpenedTrays.{AreLentAlong, HoldsAlong, IsAsOpened, IsTrayAfter, IsWrittenOn, StandsApart, StandsAsOpened, held}
 
 pub record IsHeld (o : Option History) : Type 0 where
   pub value : History
@@ -66,25 +66,21 @@ or-some-cases true (Some h) p e = inl refl
 or-some-cases true None p e = inr e
 or-some-cases false o p e = inr e
 
-lowest-no : (test : ℕ → Bool) (n : ℕ) → ((m : ℕ) → m < n → test m ≡ false) → lowest test n ≡ None
-lowest-no test zero h = refl
-lowest-no test (suc n) h = rw (lowest-no test n (λ m less. h m (omega arith)), h n (omega arith)) refl
+unreadable-locked : (a : Option Access) → is_readable a ≡ false → is_writable a ≡ false
+unreadable-locked a unread = elim (true-or-false (is_writable a)) [
+  | inl may ↦ let wrong : false ≡ true = sym unread ∙ readable-of a may in absurd (cc)
+  | inr lock ↦ lock
+]
 
-both : (a b : Bool) → (a && b) ≡ true → (a ≡ true) × (b ≡ true)
-both true b e = (refl, e)
-both false b e = absurd (cc)
-
--- the locking node of a node is that of all that stands in it
-locking-down : (tree : List Row) → IsBelow tree → (m a : ℕ) → locking_node tree m ≡ Some a → (n : ℕ) → is_under tree m n ≡ true → locking_node tree n ≡ Some a
-locking-down tree b m a own =
-    along tree b (λ n. is_under tree m n ≡ true → locking_node tree n ≡ Some a)
-    (λ u. let wrong : false ≡ true = sym (ap (λ (ns : List ℕ). is_on ns m) (path-root tree)) ∙ u in absurd (cc))
-    (λ n pos ih u. elim (true-or-false (n == m)) [
-      | inl same ↦ ap (locking_node tree) (eq_from n m same) ∙ own
-      | inr other ↦
-          let up : is_under tree m (parent tree n) ≡ true = sym (ap (λ (x : Bool). x || is_under tree m (parent tree n)) other) ∙ sym (under-step tree b m n pos) ∙ u in
-          ap (outermost (declares tree)) (path-step tree b n pos) ∙ ap (λ (o : Option ℕ). option_or o (cond (declares tree n) (Some n) None)) (ih up)
-    ])
+-- what a body does to a tray, it does to it with other frames
+pub frames-apart : (plan : Planned) (world : Start) (kind : BodyKind) (n : ℕ) (old new : TrayView) (fs : List Subject) → IsTrayAfter plan world kind n (record old { frames = fs }) new → IsTrayAfter plan world kind n old new
+frames-apart plan world kind n old new fs d = record {
+  plan_is = d.plan_is;
+  world_is = d.world_is;
+  lent = d.lent;
+  onward = record { fits = d.onward.fits; only = d.onward.only; later = d.onward.later };
+  after = d.after;
+}
 
 module _ (plan : Planned) (world : Start) (t : IsTree (tree_of plan)) where
   abbrev tr : List Row
@@ -146,7 +142,7 @@ module _ (plan : Planned) (world : Start) (t : IsTree (tree_of plan)) where
   ]
 
   -- what stands above a node conflicts with it nowhere
-  no-conflict : (m n : ℕ) → 0 < n → is_under tr m (parent tr n) ≡ true → conflict tr m n ≡ true → ⊥
+  pub no-conflict : (m n : ℕ) → 0 < n → is_under tr m (parent tr n) ≡ true → conflict tr m n ≡ true → ⊥
   no-conflict m n pos above c =
       let under : is_under tr m n ≡ true = under-step tr t.below m n pos ∙ or-true _ (is_under tr m (parent tr n)) above in
       let same = conflict-apart tr t.below m n c under in
@@ -156,21 +152,6 @@ module _ (plan : Planned) (world : Start) (t : IsTree (tree_of plan)) where
 
   pub no-clash : (n i : ℕ) → 0 < n → IsWrittenOn tr (parent tr n) i → is_written (locks tr n) i ≡ true → ⊥
   no-clash n i pos on w = no-conflict on.node n pos on.above (written-conflict tr on.node n i on.writes w)
-
-  lockers-same : (m n : ℕ) (o : Option ℕ) → locking_node tr m ≡ o → is_under tr m n ≡ true → lockers_conflict tr o (locking_node tr n) ≡ false
-  lockers-same m n None e u = refl
-  lockers-same m n (Some a) e u =
-      ap (lockers_conflict tr (Some a)) (locking-down tr t.below m a e n u) ∙ ap (λ (b : Bool). not b && conflict tr a a) (eq_same a)
-
-  -- nor does it clash with it: both have one locking node
-  no-clash-above : (m n : ℕ) → 0 < n → is_under tr m (parent tr n) ≡ true → clash tr m n ≡ false
-  no-clash-above m n pos above =
-      let under : is_under tr m n ≡ true = under-step tr t.below m n pos ∙ or-true _ (is_under tr m (parent tr n)) above in
-      let apart : conflict tr m n ≡ false = elim (true-or-false (conflict tr m n)) [
-        | inl c ↦ absurd (no-conflict m n pos above c)
-        | inr out ↦ out
-      ] in
-      ap₂ (λ (p q : Bool). p || q) apart (lockers-same m n (locking_node tr m) refl under)
 
   -- what stands at its start in the opening of a node's parent: a key that no node of its path has, and a key that the node takes
   pub start-absent : (u : TrayView) (p : ℕ) (k : List ℕ) (i : ℕ) → p < length tr → is_test (row_at tr p).kind ≡ false → HoldsAlong plan world p u → number_of tr k ≡ Some i → slot u.values i ≡ None → left p k ≡ Some (start k)
@@ -207,22 +188,23 @@ module _ (plan : Planned) (world : Start) (t : IsTree (tree_of plan)) where
   content-is u p h = ap₂ (λ (pl : Planned) (w : Start). resources (tree_of pl) w u.lent u.values) h.plan_is h.world_is
 
   -- a body of n finds its keys, as the opening of p has left them
-  pub tray-equal : (u : TrayView) (n p : ℕ) → 0 < n → n < length tr → HoldsAlong plan world n u → IsAsOpened plan world p u → EqualAt (rights_of_subject (subject plan world n)) (content u) (left p)
-  tray-equal u n p pos within h v = record {
-    same = λ k r. ap (λ (m : Resources). m k) (content-is u n h) ∙ v k (covered-held u n k pos within h r);
+  pub tray-equal : (u : TrayView) (n p : ℕ) → 0 < n → n < length tr → StandsAsOpened plan world n p u → EqualAt (rights_of_subject (subject plan world n)) (content u) (left p)
+  tray-equal u n p pos within s = record {
+    same = λ k r. ap (λ (m : Resources). m k) (content-is u n s.holds) ∙ s.values k (covered-held u n k pos within s.holds r);
   }
 
-  pub tray-keys : (u : TrayView) (n p : ℕ) → 0 < n → n < length tr → HoldsAlong plan world n u → IsAsOpened plan world p u → HasKeys (rights_of_subject (subject plan world n)) (content u) (has_value u)
-  tray-keys u n p pos within h v = record {
-    looks = λ k r. ap (option_map kind_of_value) ((tray-equal u n p pos within h v).same k r) ∙ opening-kind plan world p k;
+  pub tray-keys : (u : TrayView) (n p : ℕ) → 0 < n → n < length tr → StandsAsOpened plan world n p u → HasKeys (rights_of_subject (subject plan world n)) (content u) (has_value u)
+  tray-keys u n p pos within s = record {
+    looks = λ k r. ap (option_map kind_of_value) ((tray-equal u n p pos within s).same k r) ∙ opening-kind plan world p k;
     changes = λ k w.
+        let h = s.holds in
         let c = covered tr t n k pos within (readable-of (node_rights tr n k) w) in
         let num = has-number tr c.taker k c.reads in
         ap (λ (pl : Planned). has_at u.values (number_of (tree_of pl) k)) h.plan_is ∙ ap (has_at u.values) num.is ∙ h.there num.number (write-covered n k num.number pos within w num.is);
   }
 
   -- lending
-  lent-more : (l : List Bool) (n : ℕ) → 0 < n → n < length plan.rows → AreLentAlong plan (parent tr n) l → AreLentAlong plan n (set l n true)
+  pub lent-more : (l : List Bool) (n : ℕ) → 0 < n → n < length plan.rows → AreLentAlong plan (parent tr n) l → AreLentAlong plan n (set l n true)
   lent-more l n pos within a =
       let fits = a.fits in
       record {
@@ -244,36 +226,10 @@ module _ (plan : Planned) (world : Start) (t : IsTree (tree_of plan)) where
         ];
       }
 
-  pub free : (v : VaultView) (n : ℕ) → 0 < n → IsLentAlong plan world (parent tr n) v → busy v n ≡ None
-  free v n pos a =
-      let test : ℕ → Bool = is_in_the_way (tree_of v.plan) (is_lent v.lent) n in
-      lowest-no test (length v.plan.rows)
-      (λ m less. elim (true-or-false (test m)) [
-        | inl way ↦
-            let parts = both (is_lent v.lent m) (conflict (tree_of v.plan) m n) way in
-            absurd (no-conflict m n pos (sym (a.lent.along m) ∙ parts.0) (ap (λ (pl : Planned). conflict (tree_of pl) m n) (sym a.plan_is) ∙ parts.1))
-        | inr out ↦ out
-      ])
+  module _ (u w : TrayView) (n : ℕ) (pos : 0 < n) (within : n < length plan.rows) (st : StandsAsOpened plan world (parent tr n) (parent tr n) u) (l : IsLentTo n u w) where
+    abbrev h : HoldsAlong plan world (parent tr n) u
+    h = st.holds
 
-  pub can-lend : (v : VaultView) (u : TrayView) (n : ℕ) → 0 < n → n < length plan.rows → IsLentAlong plan world (parent tr n) v → HoldsAlong plan world (parent tr n) u → CanLend n v u
-  can-lend v u n pos within a h =
-      let rows : length v.plan.rows ≡ length plan.rows = ap (λ (pl : Planned). length pl.rows) a.plan_is in
-      record {
-        node = omega arith;
-        plan = h.plan_is ∙ sym a.plan_is;
-        world = h.world_is ∙ sym a.world_is;
-        free = a.lent.along n ∙ not-above tr t.below n pos;
-        apart = h.lent.along n ∙ not-above tr t.below n pos;
-        beside = λ unused m l. subst (λ (pl : Planned). clash (tree_of pl) m n ≡ false) (sym h.plan_is) (no-clash-above m n pos (sym (h.lent.along m) ∙ l));
-      }
-
-  pub vault-lent : (v : VaultView) (n : ℕ) → 0 < n → n < length plan.rows → IsLentAlong plan world (parent tr n) v → IsLentAlong plan world n (lending n v)
-  vault-lent v n pos within a = record { plan_is = a.plan_is; world_is = a.world_is; lent = lent-more v.lent n pos within a.lent }
-
-  pub vault-back : (v : VaultView) (n : ℕ) → 0 < n → n < length plan.rows → IsLentAlong plan world n v → IsLentAlong plan world (parent tr n) (regaining n v)
-  vault-back v n pos within a = record { plan_is = a.plan_is; world_is = a.world_is; lent = lent-less v.lent n pos within a.lent }
-
-  module _ (u w : TrayView) (n : ℕ) (pos : 0 < n) (within : n < length plan.rows) (h : HoldsAlong plan world (parent tr n) u) (v : IsAsOpened plan world (parent tr n) u) (l : IsLentTo n u w) where
     inside : n < length tr
     inside = within
 
@@ -302,7 +258,7 @@ module _ (plan : Planned) (world : Start) (t : IsTree (tree_of plan)) where
           record { node = on.node; above = under-step tr t.below on.node n pos ∙ or-true _ (is_under tr on.node (parent tr n)) on.above; writes = on.writes }
     ]
 
-    pub lent-holds : HoldsAlong plan world n w
+    lent-holds : HoldsAlong plan world n w
     lent-holds = record {
       plan_is = l.plan ∙ h.plan_is;
       world_is = l.world ∙ h.world_is;
@@ -311,7 +267,7 @@ module _ (plan : Planned) (world : Start) (t : IsTree (tree_of plan)) where
       only = only-by;
     }
 
-    pub lent-values : IsAsOpened plan world (parent tr n) w
+    lent-values : IsAsOpened plan world (parent tr n) w
     lent-values k s =
         let num = number w k s in
         let less = t.below n pos in
@@ -325,47 +281,58 @@ module _ (plan : Planned) (world : Start) (t : IsTree (tree_of plan)) where
           | inr apart ↦ elim (some-or-none (slot u.values num.at)) [
             | inl x ↦
                 let old = held-some u k num.at x.value num.is x.is in
-                held-some w k num.at x.value num.is (lent-other num.at apart ∙ x.is) ∙ sym old ∙ v k (ap is_some old)
+                held-some w k num.at x.value num.is (lent-other num.at apart ∙ x.is) ∙ sym old ∙ st.values k (ap is_some old)
             | inr none ↦ held-start w k num.at num.is (lent-other num.at apart ∙ none) s ∙ sym (start-absent u (parent tr n) k num.at up (t.inner n pos) h num.is none)
           ]
         ]
 
-  -- a tray after further changes holds what it held
-  pub onward-holds : (u w : TrayView) (p : ℕ) → HoldsAlong plan world p u → IsOnward u w → HoldsAlong plan world p w
-  onward-holds u w p h o = record {
-    plan_is = o.plan ∙ h.plan_is;
-    world_is = o.world ∙ h.world_is;
-    lent = subst (λ (bs : List Bool). AreLentAlong plan p bs) (sym o.lent) h.lent;
-    there = λ i on. let x = held-of (slot u.values i) (h.there i on) in ap is_some (o.values.later i x.value x.is).there;
-    only = λ i s. elim (some-or-none (slot u.values i)) [
-      | inl x ↦ h.only i (ap is_some x.is)
-      | inr none ↦ let wrong : false ≡ true = sym (ap is_some (o.values.only i none)) ∙ s in absurd (cc)
-    ];
-  }
+    -- a node was lent
+    pub lent-stands : StandsAsOpened plan world n (parent tr n) w
+    lent-stands = record { holds = lent-holds; values = lent-values }
 
-  still-held : (u w : TrayView) (n p : ℕ) (k : List ℕ) → HoldsAlong plan world n u → HoldsAlong plan world n w → content w k ≡ content u k → held plan world w k ≡ held plan world u k
-  still-held u w n p k hu hw e = sym (ap (λ (m : Resources). m k) (content-is w n hw)) ∙ e ∙ ap (λ (m : Resources). m k) (content-is u n hu)
+  -- a body was done over a tray: it holds what it held
+  module _ (kind : BodyKind) (n p : ℕ) (u w : TrayView) (st : StandsAsOpened plan world n p u) (d : IsTrayAfter plan world kind n u w) where
+    after-holds : HoldsAlong plan world n w
+    after-holds =
+        let h = st.holds in
+        record {
+          plan_is = d.plan_is ∙ h.plan_is;
+          world_is = d.world_is ∙ h.world_is;
+          lent = subst (λ (bs : List Bool). AreLentAlong plan n bs) (sym d.lent) h.lent;
+          there = λ i on. let x = held-of (slot u.values i) (h.there i on) in ap is_some (d.onward.later i x.value x.is).there;
+          only = λ i s. elim (some-or-none (slot u.values i)) [
+            | inl x ↦ h.only i (ap is_some x.is)
+            | inr none ↦ let wrong : false ≡ true = sym (ap is_some (d.onward.only i none)) ∙ s in absurd (cc)
+          ];
+        }
+
+    -- and what its node may not change stands as it stood
+    after-locked : (k : List ℕ) → is_writable (node_rights tr n k) ≡ false → is_some (held plan world w k) ≡ true → held plan world w k ≡ left p k
+    after-locked k locked s =
+        let now = ap (λ (m : Resources). m k) (content-is w n after-holds) in
+        let same : held plan world w k ≡ held plan world u k = sym now ∙ d.after.others k locked ∙ ap (λ (m : Resources). m k) (content-is u n st.holds) in
+        same ∙ st.values k (ap is_some (sym same) ∙ s)
 
   -- after a `before_all` all stands as the class's opening leaves it
-  pub opened-values : (u w : TrayView) (n : ℕ) → HoldsAlong plan world n u → HoldsAlong plan world n w → IsOpened plan world n → IsAsOpened plan world (parent tr n) u → IsTrayAfter plan world BeforeAll n u w → IsAsOpened plan world n w
-  opened-values u w n hu hw is v d k s = elim (true-or-false (is_readable (node_rights tr n k))) [
-    | inl r ↦ sym (ap (λ (m : Resources). m k) (content-is w n hw)) ∙ d.after.whole.same k r ∙ ap (λ (m : Resources). m k) (opened-whole plan world n is)
-    | inr unread ↦
-        let locked : is_writable (node_rights tr n k) ≡ false = elim (true-or-false (is_writable (node_rights tr n k))) [
-          | inl may ↦ let wrong : false ≡ true = sym unread ∙ readable-of (node_rights tr n k) may in absurd (cc)
-          | inr lock ↦ lock
-        ] in
-        let same = still-held u w n n k hu hw (d.after.others k locked) in
-        same ∙ v k (ap is_some (sym same) ∙ s) ∙ sym (opened-apart plan world n k is locked)
-  ]
+  pub opened-stands : (u w : TrayView) (n : ℕ) → IsOpened plan world n → StandsAsOpened plan world n (parent tr n) u → IsTrayAfter plan world BeforeAll n u w → StandsAsOpened plan world n n w
+  opened-stands u w n is st d =
+      let holds = after-holds BeforeAll n (parent tr n) u w st d in
+      record {
+        holds = holds;
+        values = λ k s. elim (true-or-false (is_readable (node_rights tr n k))) [
+          | inl r ↦ sym (ap (λ (m : Resources). m k) (content-is w n holds)) ∙ d.after.whole.same k r ∙ ap (λ (m : Resources). m k) (opened-whole plan world n is)
+          | inr unread ↦
+              let locked = unreadable-locked (node_rights tr n k) unread in
+              after-locked BeforeAll n (parent tr n) u w st d k locked s ∙ sym (opened-apart plan world n k is locked)
+        ];
+      }
 
   -- after a test, and after an `after_all`, so does each key that the node may not change
-  pub test-apart : (u w : TrayView) (n : ℕ) → HoldsAlong plan world n u → HoldsAlong plan world n w → IsAsOpened plan world (parent tr n) u → IsTrayAfter plan world Test n u w → IsAsOpenedApart plan world (parent tr n) n w
-  test-apart u w n hu hw v d k locked s =
-      let same = still-held u w n n k hu hw (d.after.others k locked) in
-      same ∙ v k (ap is_some (sym same) ∙ s)
+  pub tested-apart : (u w : TrayView) (n : ℕ) → StandsAsOpened plan world n (parent tr n) u → IsTrayAfter plan world Test n u w → StandsApart plan world n w
+  tested-apart u w n st d = record { holds = after-holds Test n (parent tr n) u w st d; values = after-locked Test n (parent tr n) u w st d }
 
-  pub closed-apart : (u w : TrayView) (n : ℕ) → HoldsAlong plan world n u → HoldsAlong plan world n w → IsOpened plan world n → IsAsOpened plan world n u → IsTrayAfter plan world AfterAll n u w → IsAsOpenedApart plan world (parent tr n) n w
-  closed-apart u w n hu hw is v d k locked s =
-      let same = still-held u w n n k hu hw (d.after.others k locked) in
-      same ∙ v k (ap is_some (sym same) ∙ s) ∙ opened-apart plan world n k is locked
+  pub closed-apart : (u w : TrayView) (n : ℕ) → IsOpened plan world n → StandsAsOpened plan world n n u → IsTrayAfter plan world AfterAll n u w → StandsApart plan world n w
+  closed-apart u w n is st d = record {
+    holds = after-holds AfterAll n n u w st d;
+    values = λ k locked s. after-locked AfterAll n n u w st d k locked s ∙ opened-apart plan world n k is locked;
+  }

@@ -1,15 +1,13 @@
 //! A plan run on one thread.
 ghost use Rattle.std.specs.Prelude.{◌≡◌, ◌<◌, IfOk, OnOk, false, length, true};
-ghost use Rattle.iso_lifecycle.specs.ResultViews.{AreComplete, CanPut, has_result, with_done_of};
-ghost use Rattle.iso_lifecycle.specs.Subjects.{subject};
-ghost use Rattle.iso_lifecycle.specs.WholeBodies.{CanBegin, IsReadyFor};
-ghost use Rattle.iso_locks.specs.Trays.{content, has_value};
+ghost use Rattle.iso_lifecycle.specs.ResultViews.{AreComplete, has_result, with_done_of};
+ghost use Rattle.iso_lifecycle.specs.Subjects.{is_kind_of};
 ghost use Rattle.iso_plan.specs.Paths.{is_test, parent, row_at};
 ghost use Rattle.iso_plan.specs.RowView.{tree_of};
-ghost use Rattle.iso_serial.specs.Standing.{AreDone, GoesFurther, IsTrayAfter, Stands, StandsAtEnd, StandsAtEntry};
+ghost use Rattle.iso_serial.specs.OpenedTrays.{IsTrayAfter};
+ghost use Rattle.iso_serial.specs.Walks.{AreDone, AtEntry, AtExit, BetweenNodes, CanPerform, GoesFurther, innermost};
 
 use iso_lifecycle::body::Body;
-use iso_lifecycle::frame::Frame;
 use iso_lifecycle::gate::OpenGate;
 use iso_lifecycle::kind::BodyKind;
 use iso_lifecycle::results::Results;
@@ -30,14 +28,13 @@ pub fn run<'a>(alloc: Global, plan: &'a Plan, world: &'a World) -> Result<Result
 {
     nodes_are_a_tree(plan);
     let serial = Serial { alloc, plan, world };
-    let mut standing = Standing {
+    let mut walk = Walk {
         vault: Vault::new(alloc, plan, world)?,
         tray: Tray::new(alloc, plan, world)?,
-        frames: Vec::new(alloc),
         results: Results::new(alloc, plan, Snapshot::of(world))?,
     };
-    serial.children(&mut standing, 0)?;
-    Ok(standing.results)
+    serial.children(&mut walk, 0)?;
+    Ok(walk.results)
 }
 
 /// The number of the one worker.
@@ -51,12 +48,11 @@ struct Serial<'a> {
     world: &'a World,
 }
 
-/// How far a run is: where the values are, the frames of the classes that are open, outermost first, and the results so far.
+/// How far a run is: where the values are, and the results so far.
 #[derive(Drop)]
-pub(crate) struct Standing<'a> {
+pub(crate) struct Walk<'a> {
     pub(crate) vault: Vault<'a>,
     pub(crate) tray: Tray<'a>,
-    pub(crate) frames: Vec<Frame>,
     pub(crate) results: Results<'a>,
 }
 
@@ -64,15 +60,15 @@ impl<'a> Serial<'a> {
     /// Runs what stands directly in a class that was opened, or in the root. Of a class whose `before_all` didn't end well each
     /// such node has its result, and isn't entered.
     #[cycle(depth)]
-    fn children(&self, standing: &mut Standing<'a>, class: u32) -> Result<(), AllocError>
-        requires { Stands self.now.plan.now self.now.world.now class standing.old }
-        ensures stands { OnOk result (Stands self.now.plan.now self.now.world.now class standing.new) }
-        ensures done { OnOk result (AreDone self.now.plan.now class standing.new.results) }
-        ensures further { OnOk result (GoesFurther standing.old standing.new) }
+    fn children(&self, walk: &mut Walk<'a>, class: u32) -> Result<(), AllocError>
+        requires { BetweenNodes self.now.plan.now self.now.world.now class walk.old }
+        ensures between { OnOk result (BetweenNodes self.now.plan.now self.now.world.now class walk.new) }
+        ensures done { OnOk result (AreDone self.now.plan.now class walk.new.results) }
+        ensures further { OnOk result (GoesFurther walk.old walk.new) }
     {
         'children: for child in self.plan.children(class) {
-            if standing.results.get(*child).is_none() {
-                self.node(standing, *child)?;
+            if walk.results.get(*child).is_none() {
+                self.node(walk, *child)?;
             }
         }
         Ok(())
@@ -80,97 +76,112 @@ impl<'a> Serial<'a> {
 
     /// Runs a node: lends it, does its bodies and what stands in it, lets the values that it may change stand as they stood, and takes it back.
     #[cycle(depth)]
-    fn node(&self, standing: &mut Standing<'a>, node: u32) -> Result<(), AllocError>
+    fn node(&self, walk: &mut Walk<'a>, node: u32) -> Result<(), AllocError>
         requires positive { 0 < node }
         requires within { node < length self.now.plan.now.rows }
-        requires stands { Stands self.now.plan.now self.now.world.now (parent (tree_of self.now.plan.now) node) standing.old }
-        requires waits { has_result standing.old.results node ≡ false }
-        ensures stands { OnOk result (Stands self.now.plan.now self.now.world.now (parent (tree_of self.now.plan.now) node) standing.new) }
-        ensures done { OnOk result (has_result standing.new.results node ≡ true) }
-        ensures further { OnOk result (GoesFurther standing.old standing.new) }
+        requires between { BetweenNodes self.now.plan.now self.now.world.now (parent (tree_of self.now.plan.now) node) walk.old }
+        requires waits { has_result walk.old.results node ≡ false }
+        ensures between { OnOk result (BetweenNodes self.now.plan.now self.now.world.now (parent (tree_of self.now.plan.now) node) walk.new) }
+        ensures done { OnOk result (has_result walk.new.results node ≡ true) }
+        ensures further { OnOk result (GoesFurther walk.old walk.new) }
     {
-        standing.vault.lend(node, &mut standing.tray).unwrap();
-        let mark = standing.tray.mark(self.alloc, node)?;
-        if self.plan.is_test(node) {
-            self.test(standing, node)?;
-        } else {
-            self.class(standing, node)?;
-        }
-        standing.tray.undo(mark);
-        standing.vault.take_back(node, &mut standing.tray);
+        walk.vault.lend(node, &mut walk.tray).unwrap();
+        let mark = walk.tray.mark(self.alloc, node)?;
+        self.bodies(walk, node)?;
+        walk.tray.undo(mark);
+        walk.vault.take_back(node, &mut walk.tray);
         Ok(())
     }
 
-    /// Runs a test that was lent.
-    fn test(&self, standing: &mut Standing<'a>, node: u32) -> Result<(), AllocError>
-        requires stands { StandsAtEntry self.now.plan.now self.now.world.now node standing.old }
-        requires test { is_test (row_at (tree_of self.now.plan.now) node).kind ≡ true }
-        ensures stands { OnOk result (StandsAtEnd self.now.plan.now self.now.world.now node standing.new) }
-        ensures further { OnOk result (GoesFurther standing.old standing.new) }
+    /// Does the bodies of a node that was lent, and of all that stands in it.
+    #[cycle(depth)]
+    fn bodies(&self, walk: &mut Walk<'a>, node: u32) -> Result<(), AllocError>
+        requires { AtEntry self.now.plan.now self.now.world.now node walk.old }
+        ensures exit { OnOk result (AtExit self.now.plan.now self.now.world.now node walk.new) }
+        ensures further { OnOk result (GoesFurther walk.old walk.new) }
     {
-        self.perform(standing, node, BodyKind::Test)
+        if self.plan.is_test(node) {
+            self.test(walk, node)
+        } else {
+            self.class(walk, node)
+        }
+    }
+
+    /// Runs a test that was lent.
+    fn test(&self, walk: &mut Walk<'a>, node: u32) -> Result<(), AllocError>
+        requires entry { AtEntry self.now.plan.now self.now.world.now node walk.old }
+        requires test { is_test (row_at (tree_of self.now.plan.now) node).kind ≡ true }
+        ensures exit { OnOk result (AtExit self.now.plan.now self.now.world.now node walk.new) }
+        ensures further { OnOk result (GoesFurther walk.old walk.new) }
+    {
+        self.perform(walk, node, BodyKind::Test)
     }
 
     /// Runs a class that was lent: its `before_all`, what stands in it, and its `after_all`.
     #[cycle(depth)]
-    fn class(&self, standing: &mut Standing<'a>, node: u32) -> Result<(), AllocError>
-        requires stands { StandsAtEntry self.now.plan.now self.now.world.now node standing.old }
+    fn class(&self, walk: &mut Walk<'a>, node: u32) -> Result<(), AllocError>
+        requires entry { AtEntry self.now.plan.now self.now.world.now node walk.old }
         requires class { is_test (row_at (tree_of self.now.plan.now) node).kind ≡ false }
-        ensures stands { OnOk result (StandsAtEnd self.now.plan.now self.now.world.now node standing.new) }
-        ensures further { OnOk result (GoesFurther standing.old standing.new) }
+        ensures exit { OnOk result (AtExit self.now.plan.now self.now.world.now node walk.new) }
+        ensures further { OnOk result (GoesFurther walk.old walk.new) }
     {
-        self.open(standing, node)?;
-        self.children(standing, node)?;
-        self.close(standing, node)
+        self.open(walk, node)?;
+        self.children(walk, node)?;
+        self.close(walk, node)
     }
 
     /// Runs the `before_all` of a class that was lent.
-    fn open(&self, standing: &mut Standing<'a>, node: u32) -> Result<(), AllocError>
-        requires stands { StandsAtEntry self.now.plan.now self.now.world.now node standing.old }
+    fn open(&self, walk: &mut Walk<'a>, node: u32) -> Result<(), AllocError>
+        requires entry { AtEntry self.now.plan.now self.now.world.now node walk.old }
         requires class { is_test (row_at (tree_of self.now.plan.now) node).kind ≡ false }
-        ensures stands { OnOk result (Stands self.now.plan.now self.now.world.now node standing.new) }
-        ensures further { OnOk result (GoesFurther standing.old standing.new) }
+        ensures between { OnOk result (BetweenNodes self.now.plan.now self.now.world.now node walk.new) }
+        ensures further { OnOk result (GoesFurther walk.old walk.new) }
     {
-        self.perform(standing, node, BodyKind::BeforeAll)?;
-        let frame = standing.results.frame(node).unwrap().share()?;
-        standing.frames.push(frame)?;
-        Ok(())
+        self.perform(walk, node, BodyKind::BeforeAll)
     }
 
     /// Runs the `after_all` of a class when all that stands in it has results.
-    fn close(&self, standing: &mut Standing<'a>, node: u32) -> Result<(), AllocError>
+    fn close(&self, walk: &mut Walk<'a>, node: u32) -> Result<(), AllocError>
         requires positive { 0 < node }
         requires class { is_test (row_at (tree_of self.now.plan.now) node).kind ≡ false }
-        requires stands { Stands self.now.plan.now self.now.world.now node standing.old }
-        requires done { AreDone self.now.plan.now node standing.old.results }
-        ensures stands { OnOk result (StandsAtEnd self.now.plan.now self.now.world.now node standing.new) }
-        ensures further { OnOk result (GoesFurther standing.old standing.new) }
+        requires between { BetweenNodes self.now.plan.now self.now.world.now node walk.old }
+        requires done { AreDone self.now.plan.now node walk.old.results }
+        ensures exit { OnOk result (AtExit self.now.plan.now self.now.world.now node walk.new) }
+        ensures further { OnOk result (GoesFurther walk.old walk.new) }
     {
-        self.perform(standing, node, BodyKind::AfterAll)?;
-        let _ = standing.frames.pop();
+        self.perform(walk, node, BodyKind::AfterAll)
+    }
+
+    /// Runs a body of a node, with the frames of the classes around it, and puts what it came to.
+    fn perform(&self, walk: &mut Walk<'a>, node: u32, kind: BodyKind) -> Result<(), AllocError>
+        requires { CanPerform self.now.plan.now self.now.world.now kind node walk.old }
+        ensures vault { walk.new.vault ≡ walk.old.vault }
+        ensures results { OnOk result (walk.new.results ≡ with_done_of kind node walk.old.results) }
+        ensures values { OnOk result (IsTrayAfter self.now.plan.now self.now.world.now kind node walk.old.tray walk.new.tray) }
+    {
+        let class = self.innermost(node, kind);
+        walk.tray.hand_path(&walk.results, class)?;
+        let frames = walk.tray.frames();
+        let start = Snapshot::of(self.world);
+        let body = Body::begin(self.alloc, self.plan, node, kind, frames, start)?;
+        let done = body.run(WORKER, &OpenGate, &mut walk.tray)?;
+        walk.results.put(done);
         Ok(())
     }
 
-    /// Runs a body of a node and puts what it came to.
-    fn perform(
-        &self,
-        standing: &mut Standing<'a>,
-        node: u32,
-        kind: BodyKind,
-    ) -> Result<(), AllocError>
-        requires begins { CanBegin (subject self.now.plan.now self.now.world.now node) kind standing.old.frames.items }
-        requires ready { IsReadyFor (subject self.now.plan.now self.now.world.now node) kind (content standing.old.tray) (has_value standing.old.tray) }
-        requires put { CanPut (record { subject = subject self.now.plan.now self.now.world.now node; kind = kind }) standing.old.results }
-        ensures vault { standing.new.vault ≡ standing.old.vault }
-        ensures frames { standing.new.frames ≡ standing.old.frames }
-        ensures results { OnOk result (standing.new.results ≡ with_done_of kind node standing.old.results) }
-        ensures values { OnOk result (IsTrayAfter self.now.plan.now self.now.world.now kind node standing.old.tray standing.new.tray) }
+    /// The innermost class whose frame a body begins with; the root where its node stands in none.
+    fn innermost(&self, node: u32, kind: BodyKind) -> u32
+        requires positive { 0 < node }
+        requires within { node < length self.now.plan.now.rows }
+        requires fits { is_kind_of kind (row_at (tree_of self.now.plan.now) node).kind ≡ true }
+        ensures is { result ≡ innermost (tree_of self.now.plan.now) kind node }
+        ensures within { result < length self.now.plan.now.rows }
+        ensures class { is_test (row_at (tree_of self.now.plan.now) result).kind ≡ false }
     {
-        let frames = standing.frames.as_slice();
-        let start = Snapshot::of(self.world);
-        let body = Body::begin(self.alloc, self.plan, node, kind, frames, start)?;
-        let done = body.run(WORKER, &OpenGate, &mut standing.tray)?;
-        standing.results.put(done);
-        Ok(())
+        nodes_are_a_tree(self.plan);
+        match kind {
+            BodyKind::BeforeAll | BodyKind::Test => self.plan.parent(node).unwrap(),
+            BodyKind::AfterAll => node,
+        }
     }
 }

@@ -1,31 +1,55 @@
-use Rattle.std.proofs.Common.{◌≡◌, List, ap, sym, subst, ◌∙◌}
+use Rattle.std.proofs.Common.{◌≡◌, ℕ, ◌<◌, List, length, ap, sym, subst, ◌∙◌}
 use Rattle.iso_lifecycle.proofs.WholeBodies.{stands-first}
-use Rattle.iso_lifecycle.specs.BodyViews.{kind_of_body, stage_of_body, subject_of}
+use Rattle.iso_lifecycle.specs.BodyViews.{Stands, kind_of_body, stage_of_body, subject_of}
 use Rattle.iso_lifecycle.specs.DoneViews.{DoneView}
-use Rattle.iso_lifecycle.specs.ResultViews.{CanPut, with_done_of}
+use Rattle.iso_lifecycle.specs.ResultViews.{AreOpened, CanPut, with_done_of}
 use Rattle.iso_lifecycle.specs.Subjects.{Subject, begun, rights_of_subject, subject}
 use Rattle.iso_lifecycle.specs.WholeBodies.{CanBegin, IsAfterBody}
 use Rattle.iso_lifecycle.specs.declared.kind.BodyKind.{BodyKind}
-use Rattle.iso_locks.specs.Trays.{content, has_value}
+use Rattle.iso_locks.specs.Trays.{TrayView, content, frames_on, has_value}
 use Rattle.iso_model.specs.Touch.{HasKeys}
+use Rattle.iso_plan.specs.Paths.{is_test, path, row_at}
+use Rattle.iso_plan.specs.Planned.{Planned}
+use Rattle.iso_plan.specs.RowView.{tree_of}
 use Rattle.iso_settings.specs.Worlds.{Start}
+use Rattle.iso_serial.proofs.TrayLemmas.{frames-apart}
+use Rattle.iso_serial.specs.OpenedTrays.{IsTrayAfter}
+use Rattle.iso_serial.specs.Walks.{innermost}
 use Rattle.iso_serial.proofs.run.Serial.perform.Goals as goal
+
+pub hand_path-requires-clause-plan : goal.hand_path-requires-clause-plan
+hand_path-requires-clause-plan c = sym c.requires.put.plan ∙ sym c.requires.tray
+
+pub hand_path-requires-clause-node : goal.hand_path-requires-clause-node
+hand_path-requires-clause-node c = subst (λ (p : Planned). c.innermost-class.result < length p.rows) (sym c.requires.tray) c.innermost-class.ensures.within
+
+pub hand_path-requires-clause-class : goal.hand_path-requires-clause-class
+hand_path-requires-clause-class c = ap (λ (p : Planned). is_test (row_at (tree_of p) c.innermost-class.result).kind) c.requires.tray ∙ c.innermost-class.ensures.class
+
+pub hand_path-requires-clause-opened : goal.hand_path-requires-clause-opened
+hand_path-requires-clause-opened c =
+    let results = c.args.walk.now.results in
+    let here = subst (λ (n : ℕ). AreOpened results (path (tree_of c.args.self.now.plan.now) n)) (sym c.innermost-class.ensures.is) c.requires.opened in
+    subst (λ (p : Planned). AreOpened results (path (tree_of p) c.innermost-class.result)) (sym c.requires.tray) here
 
 pub begin-requires : goal.begin-requires
 begin-requires c =
     let plan = c.args.self.now.plan.now in
+    let world = c.args.self.now.world.now in
     let n = c.args.node in
     let k = c.args.kind in
-    let here = subst (λ (w : Start). CanBegin (subject plan w n) k c.args.standing.now.frames.items) (sym c.of-start.ensures) c.requires.begins in
-    subst (λ (fs : List Subject). CanBegin (subject plan c.of-start.result.value n) k fs) (sym c.as_slice-frames.ensures.value) here
+    let handed : frames_on c.args.walk.now.results (innermost (tree_of plan) k n) ≡ c.frames-frames.result.now =
+    ap (frames_on c.args.walk.now.results) (sym c.innermost-class.ensures.is) ∙ ap (λ (t : TrayView). t.frames) (sym c.in_ok-hand_path.ensures.ok) ∙ sym c.frames-frames.ensures in
+    let here = subst (λ (fs : List Subject). CanBegin (subject plan world n) k fs) handed c.requires.begins in
+    subst (λ (w : Start). CanBegin (subject plan w n) k c.frames-frames.result.now) (sym c.of-start.ensures) here
 
 pub run-requires-clause-keys : goal.run-requires-clause-keys
 run-requires-clause-keys c =
     let plan = c.args.self.now.plan.now in
     let n = c.args.node in
-    let t = c.args.standing.now.tray in
     let is_of : subject_of c.in_ok-body.body ≡ subject plan c.args.self.now.world.now n = c.in_ok-body.ensures.subject ∙ ap (λ (w : Start). subject plan w n) c.of-start.ensures in
-    subst (λ (s : Subject). HasKeys (rights_of_subject s) (content t) (has_value t)) (sym is_of) c.requires.ready.keys
+    let here = subst (λ (s : Subject). HasKeys (rights_of_subject s) (content c.args.walk.now.tray) (has_value c.args.walk.now.tray)) (sym is_of) c.requires.ready.keys in
+    subst (λ (t : TrayView). HasKeys (rights_of_subject (subject_of c.in_ok-body.body)) (content t) (has_value t)) (sym c.in_ok-hand_path.ensures.ok) here
 
 pub run-requires-clause-stands : goal.run-requires-clause-stands
 run-requires-clause-stands c =
@@ -36,7 +60,8 @@ run-requires-clause-stands c =
     let b = c.in_ok-body.body in
     let started : subject plan c.of-start.result.value n ≡ s = ap (λ (w : Start). subject plan w n) c.of-start.ensures in
     let stage : stage_of_body b ≡ (begun k s).stage = c.in_ok-body.ensures.begun ∙ ap (λ (t : Subject). (begun k t).stage) started in
-    stands-first b k s (content c.args.standing.now.tray) (c.in_ok-body.ensures.subject ∙ started) c.in_ok-body.ensures.kind stage c.requires.ready.stands
+    let here = stands-first b k s (content c.args.walk.now.tray) (c.in_ok-body.ensures.subject ∙ started) c.in_ok-body.ensures.kind stage c.requires.ready.stands in
+    subst (λ (t : TrayView). Stands b (content t)) (sym c.in_ok-hand_path.ensures.ok) here
 
 pub put-requires : goal.put-requires
 put-requires c =
@@ -47,7 +72,7 @@ put-requires c =
     let of : c.in_ok-done.done.subject ≡ s = c.in_ok-done.ensures.subject ∙ c.in_ok-body.ensures.subject ∙ started in
     let kind : c.in_ok-done.done.kind ≡ c.args.kind = c.in_ok-done.ensures.kind ∙ c.in_ok-body.ensures.kind in
     let is : c.in_ok-done.done ≡ record { subject = s; kind = c.args.kind } = λ i. record { subject = of i; kind = kind i } in
-    subst (λ (d : DoneView). CanPut d c.args.standing.now.results) (sym is) c.requires.put
+    subst (λ (d : DoneView). CanPut d c.args.walk.now.results) (sym is) c.requires.put
 
 pub returns-clause-results : goal.returns-clause-results
 returns-clause-results c =
@@ -57,17 +82,23 @@ returns-clause-results c =
     let started : subject plan c.of-start.result.value n ≡ s = ap (λ (w : Start). subject plan w n) c.of-start.ensures in
     let of : c.in_ok-done.done.subject ≡ s = c.in_ok-done.ensures.subject ∙ c.in_ok-body.ensures.subject ∙ started in
     let kind : c.in_ok-done.done.kind ≡ c.args.kind = c.in_ok-done.ensures.kind ∙ c.in_ok-body.ensures.kind in
-    c.put.ensures ∙ (λ i. with_done_of (kind i) (of i).node c.args.standing.now.results)
+    c.put.ensures ∙ (λ i. with_done_of (kind i) (of i).node c.args.walk.now.results)
 
 pub returns-clause-values : goal.returns-clause-values
 returns-clause-values c =
     let plan = c.args.self.now.plan.now in
+    let world = c.args.self.now.world.now in
     let n = c.args.node in
-    let old = content c.args.standing.now.tray in
-    let new = content c.run.new.touch in
-    let is_of : subject_of c.in_ok-body.body ≡ subject plan c.args.self.now.world.now n = c.in_ok-body.ensures.subject ∙ ap (λ (w : Start). subject plan w n) c.of-start.ensures in
-    let here = subst (λ (s : Subject). IsAfterBody s (kind_of_body c.in_ok-body.body) old new) is_of c.in_ok-done.ensures.values in
-    record {
-      onward = c.run.ensures.goes_on;
-      after = subst (λ (k : BodyKind). IsAfterBody (subject plan c.args.self.now.world.now n) k old new) c.in_ok-body.ensures.kind here;
-    }
+    let old = c.hand_path.new.self in
+    let new = c.run.new.touch in
+    let is_of : subject_of c.in_ok-body.body ≡ subject plan world n = c.in_ok-body.ensures.subject ∙ ap (λ (w : Start). subject plan w n) c.of-start.ensures in
+    let here = subst (λ (s : Subject). IsAfterBody s (kind_of_body c.in_ok-body.body) (content old) (content new)) is_of c.in_ok-done.ensures.values in
+    let after : IsTrayAfter plan world c.args.kind n old new = record {
+      plan_is = c.run.ensures.goes_on.plan;
+      world_is = c.run.ensures.goes_on.world;
+      lent = c.run.ensures.goes_on.lent;
+      onward = c.run.ensures.goes_on.values;
+      after = subst (λ (k : BodyKind). IsAfterBody (subject plan world n) k (content old) (content new)) c.in_ok-body.ensures.kind here;
+    } in
+    frames-apart plan world c.args.kind n c.args.walk.now.tray new (frames_on c.args.walk.now.results c.innermost-class.result)
+    (subst (λ (t : TrayView). IsTrayAfter plan world c.args.kind n t new) c.in_ok-hand_path.ensures.ok after)
