@@ -1,6 +1,6 @@
 -- From one stage of a node to the next: its bodies can be done, and their ends are put.
-use Rattle.std.proofs.Common.{◌≡◌, ℕ, ◌<◌, List, length, map, reverse, set, slice_index_or, Bool, true, false, ◌||◌, ◌&&◌, not, Result, Ok, Err, OnOk, refl, sym, ap, ap₂, ◌∙◌, subst, arith}
-use Rattle.iso_lifecycle.specs.ResultViews.{AreOpen, AreOpened, CanPut, ResultsView, has_result, is_barred, is_ended, with_done_of}
+use Rattle.std.proofs.Common.{◌≡◌, ℕ, ◌<◌, List, length, map, reverse, set, slice_index_or, Bool, true, false, ◌&&◌, not, Result, Ok, Err, OnOk, refl, sym, ap, ap₂, ◌∙◌, subst, arith}
+use Rattle.iso_lifecycle.specs.ResultViews.{AreOpen, AreOpened, CanPut, ResultsView, has_result, is_barred, is_due, is_ended, with_done_of}
 use Rattle.iso_lifecycle.specs.Subjects.{is_kind_of, subject}
 use Rattle.iso_lifecycle.specs.declared.kind.BodyKind.{BodyKind}
 use Rattle.iso_lifecycle.specs.declared.kind.BodyKind.TheVariants.{BeforeAll, Test, AfterAll}
@@ -13,7 +13,7 @@ use Rattle.iso_plan.specs.Tree as T
 use Rattle.iso_plan.specs.Tree.{root, class_node, test_node, Row}
 use Rattle.iso_settings.specs.Worlds.{Start}
 use Rattle.iso_serial.proofs.OpeningLemmas.{opened-by}
-use Rattle.iso_serial.proofs.ResultLemmas.{frames-there, open-above, put-closed, put-opened, put-test, result-more, set-more, set-there, unopened}
+use Rattle.iso_serial.proofs.ResultLemmas.{frames-there, neither, open-above, or-first, put-closed, put-opened, put-test, result-more, set-more, set-there, unopened}
 use Rattle.iso_serial.proofs.ReadyLemmas.{closing-ready, opening-ready, test-ready}
 use Rattle.iso_serial.proofs.TrayLemmas.{closed-apart, opened-stands, tested-apart}
 use Rattle.iso_serial.specs.OpenedTrays.{IsTrayAfter}
@@ -23,13 +23,6 @@ use Rattle.iso_serial.specs.declared.run.Walk.{Walk}
 pub on-both : {A E : Type 0} {P Q R : Type 0} (r : Result A E) → OnOk r P → OnOk r Q → (P → Q → R) → OnOk r R
 on-both (Ok x) p q f = f p q
 on-both (Err e) p q f = tt
-
-or-first : (a b : Bool) → a ≡ true → (a || b) ≡ true
-or-first a b e = ap (λ (x : Bool). x || b) e
-
-neither : (a b : Bool) → (a || b) ≡ false → (a ≡ false) × (b ≡ false)
-neither true b e = absurd (cc)
-neither false b e = (refl, e)
 
 -- which bodies a test and a class have
 test-fits : (kind : T.Kind) → is_test kind ≡ true → is_kind_of Test kind ≡ true
@@ -63,21 +56,12 @@ module _ (plan : Planned) (world : Start) where
       let q = parent-at v n u.plan_is in
       subst (λ (j : ℕ). AreOpen v (path (tree_of v.plan) j)) (sym q) (open-above plan world v (tree-at v u.plan_is t) (parent tr n) n q u w)
 
-  can-put-test : (n : ℕ) (v : ResultsView) → IsTree tr → n < length plan.rows → AreResultsAlong plan world (parent tr n) v → has_result v n ≡ false → CanPut (record { subject = subject plan world n; kind = Test }) v
-  can-put-test n v t within u w = record {
+  can-put-entered : (k : BodyKind) (n : ℕ) (v : ResultsView) → IsTree tr → n < length plan.rows → AreResultsAlong plan world (parent tr n) v → has_result v n ≡ false → is_due k n v ≡ true → CanPut (record { subject = subject plan world n; kind = k }) v
+  can-put-entered k n v t within u w due = record {
     plan = sym u.plan_is;
     start = sym u.start_is;
     node = within-at v n u.plan_is within;
-    due = ap not (neither (is_ended v n) (is_barred v n) w).0;
-    enclosed = above-at n v t u w;
-  }
-
-  can-put-opened : (n : ℕ) (v : ResultsView) → IsTree tr → 0 < n → n < length plan.rows → AreResultsAlong plan world (parent tr n) v → has_result v n ≡ false → CanPut (record { subject = subject plan world n; kind = BeforeAll }) v
-  can-put-opened n v t pos within u w = record {
-    plan = sym u.plan_is;
-    start = sym u.start_is;
-    node = within-at v n u.plan_is within;
-    due = ap not (unopened plan world v (tree-at v u.plan_is t) (parent tr n) n (parent-at v n u.plan_is) pos u w);
+    due = due;
     enclosed = above-at n v t u w;
   }
 
@@ -105,7 +89,7 @@ module _ (plan : Planned) (world : Start) where
     opened = opened-at (parent tr n) s.results at.tree at.results;
     begins = record { inner = at.positive; within = at.within; fits = test-fits (row_at tr n).kind e; frames = frames-at (parent tr n) s.results at.results; well = at.well };
     ready = test-ready plan world at.tree n s.tray at.positive (inside-tree n at.within) e at.tray;
-    put = can-put-test n s.results at.tree at.within at.results at.waits;
+    put = can-put-entered Test n s.results at.tree at.within at.results at.waits (ap not (neither (is_ended s.results n) (is_barred s.results n) at.waits).0);
   }
 
   pub opening-can : (n : ℕ) (s : Walk) → AtEntry plan world n s → is_test (row_at tr n).kind ≡ false → CanPerform plan world BeforeAll n s
@@ -120,7 +104,10 @@ module _ (plan : Planned) (world : Start) where
       well = at.well;
     };
     ready = opening-ready plan world at.tree n s.tray at.positive (inside-tree n at.within) at.tray;
-    put = can-put-opened n s.results at.tree at.positive at.within at.results at.waits;
+    put =
+        let u = at.results in
+        let closed = unopened plan world s.results (tree-at s.results u.plan_is at.tree) (parent tr n) n (parent-at s.results n u.plan_is) at.positive u at.waits in
+        can-put-entered BeforeAll n s.results at.tree at.within u at.waits (ap not closed);
   }
 
   pub closing-can : (n : ℕ) (s : Walk) → BetweenNodes plan world n s → 0 < n → is_test (row_at tr n).kind ≡ false → CanPerform plan world AfterAll n s

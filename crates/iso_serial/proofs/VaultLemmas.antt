@@ -14,7 +14,7 @@ use Rattle.iso_plan.specs.Planned.{Planned}
 use Rattle.iso_plan.specs.RowView.{tree_of}
 use Rattle.iso_plan.specs.Tree.{Row}
 use Rattle.iso_settings.specs.Worlds.{Start, starting_value_in}
-use Rattle.iso_serial.proofs.ResultLemmas.{not-above, true-or-false}
+use Rattle.iso_serial.proofs.ResultLemmas.{and-parts, not-above, true-or-false}
 use Rattle.iso_serial.proofs.TrayLemmas.{lent-less, lent-more, no-conflict}
 use Rattle.iso_serial.specs.OpenedTrays.{HoldsAlong}
 use Rattle.iso_serial.specs.Walks.{IsLentAlong}
@@ -22,10 +22,6 @@ use Rattle.iso_serial.specs.Walks.{IsLentAlong}
 lowest-no : (test : ℕ → Bool) (n : ℕ) → ((m : ℕ) → m < n → test m ≡ false) → lowest test n ≡ None
 lowest-no test zero h = refl
 lowest-no test (suc n) h = rw (lowest-no test n (λ m less. h m (omega arith)), h n (omega arith)) refl
-
-both : (a b : Bool) → (a && b) ≡ true → (a ≡ true) × (b ≡ true)
-both true b e = (refl, e)
-both false b e = absurd (cc)
 
 -- the locking node of a node is that of all that stands in it
 locking-down : (tree : List Row) → IsBelow tree → (m a : ℕ) → locking_node tree m ≡ Some a → (n : ℕ) → is_under tree m n ≡ true → locking_node tree n ≡ Some a
@@ -64,7 +60,7 @@ module _ (plan : Planned) (world : Start) (t : IsTree (tree_of plan)) where
       lowest-no test (length v.plan.rows)
       (λ m less. elim (true-or-false (test m)) [
         | inl way ↦
-            let parts = both (is_lent v.lent m) (conflict (tree_of v.plan) m n) way in
+            let parts = and-parts (is_lent v.lent m) (conflict (tree_of v.plan) m n) way in
             absurd (no-conflict plan world t m n pos (sym (a.lent.along m) ∙ parts.0) (ap (λ (pl : Planned). conflict (tree_of pl) m n) (sym a.plan_is) ∙ parts.1))
         | inr out ↦ out
       ])

@@ -2,7 +2,7 @@ use Rattle.std.proofs.Common.{◌≡◌, ℕ, ◌<◌, List, length, ap, sym, su
 use Rattle.iso_lifecycle.proofs.WholeBodies.{stands-first}
 use Rattle.iso_lifecycle.specs.BodyViews.{Stands, kind_of_body, stage_of_body, subject_of}
 use Rattle.iso_lifecycle.specs.DoneViews.{DoneView}
-use Rattle.iso_lifecycle.specs.ResultViews.{AreOpened, CanPut, with_done_of}
+use Rattle.iso_lifecycle.specs.ResultViews.{AreOpened, CanPut, with_done}
 use Rattle.iso_lifecycle.specs.Subjects.{Subject, begun, rights_of_subject, subject}
 use Rattle.iso_lifecycle.specs.WholeBodies.{CanBegin, IsAfterBody}
 use Rattle.iso_lifecycle.specs.declared.kind.BodyKind.{BodyKind}
@@ -63,26 +63,23 @@ run-requires-clause-stands c =
     let here = stands-first b k s (content c.args.walk.now.tray) (c.in_ok-body.ensures.subject ∙ started) c.in_ok-body.ensures.kind stage c.requires.ready.stands in
     subst (λ (t : TrayView). Stands b (content t)) (sym c.in_ok-hand_path.ensures.ok) here
 
+-- a done is told by its subject and its kind
+done-is : (d : DoneView) (s : Subject) (k : BodyKind) → d.subject ≡ s → d.kind ≡ k → d ≡ record { subject = s; kind = k }
+done-is d s k of kind i = record { subject = of i; kind = kind i }
+
 pub put-requires : goal.put-requires
 put-requires c =
-    let plan = c.args.self.now.plan.now in
-    let n = c.args.node in
-    let s = subject plan c.args.self.now.world.now n in
-    let started : subject plan c.of-start.result.value n ≡ s = ap (λ (w : Start). subject plan w n) c.of-start.ensures in
-    let of : c.in_ok-done.done.subject ≡ s = c.in_ok-done.ensures.subject ∙ c.in_ok-body.ensures.subject ∙ started in
-    let kind : c.in_ok-done.done.kind ≡ c.args.kind = c.in_ok-done.ensures.kind ∙ c.in_ok-body.ensures.kind in
-    let is : c.in_ok-done.done ≡ record { subject = s; kind = c.args.kind } = λ i. record { subject = of i; kind = kind i } in
+    let s = subject c.args.self.now.plan.now c.args.self.now.world.now c.args.node in
+    let started = ap (λ (w : Start). subject c.args.self.now.plan.now w c.args.node) c.of-start.ensures in
+    let is = done-is c.in_ok-done.done s c.args.kind (c.in_ok-done.ensures.subject ∙ c.in_ok-body.ensures.subject ∙ started) (c.in_ok-done.ensures.kind ∙ c.in_ok-body.ensures.kind) in
     subst (λ (d : DoneView). CanPut d c.args.walk.now.results) (sym is) c.requires.put
 
 pub returns-clause-results : goal.returns-clause-results
 returns-clause-results c =
-    let plan = c.args.self.now.plan.now in
-    let n = c.args.node in
-    let s = subject plan c.args.self.now.world.now n in
-    let started : subject plan c.of-start.result.value n ≡ s = ap (λ (w : Start). subject plan w n) c.of-start.ensures in
-    let of : c.in_ok-done.done.subject ≡ s = c.in_ok-done.ensures.subject ∙ c.in_ok-body.ensures.subject ∙ started in
-    let kind : c.in_ok-done.done.kind ≡ c.args.kind = c.in_ok-done.ensures.kind ∙ c.in_ok-body.ensures.kind in
-    c.put.ensures ∙ (λ i. with_done_of (kind i) (of i).node c.args.walk.now.results)
+    let s = subject c.args.self.now.plan.now c.args.self.now.world.now c.args.node in
+    let started = ap (λ (w : Start). subject c.args.self.now.plan.now w c.args.node) c.of-start.ensures in
+    let is = done-is c.in_ok-done.done s c.args.kind (c.in_ok-done.ensures.subject ∙ c.in_ok-body.ensures.subject ∙ started) (c.in_ok-done.ensures.kind ∙ c.in_ok-body.ensures.kind) in
+    c.put.ensures ∙ ap (λ (d : DoneView). with_done d c.args.walk.now.results) is
 
 pub returns-clause-values : goal.returns-clause-values
 returns-clause-values c =
