@@ -1,5 +1,5 @@
 -- Why a replay ends early, by what its parts answer, and how far a replay went that no event stopped.
-use Rattle.std.proofs.Common.{◌≡◌, ℕ, List, Bool, Err, Ok, None, Some, Option, refl, subst, ap, ◌∙◌}
+use Rattle.std.proofs.Common.{◌≡◌, ℕ, List, Bool, Err, Ok, Some, refl, subst, ap, ◌∙◌}
 use Rattle.std.proofs.lemmas.Bool.{false≢true}
 use Rattle.iso_core.specs.Cores.{CoreView, is_complete}
 use Rattle.iso_core.specs.EventRuns.{EndedBy, Ran}

@@ -1,6 +1,6 @@
 -- Scripts that are read one after another.
-use Rattle.std.proofs.Common.{◌≡◌, ℕ, ◌+◌, ◌<◌, ◌≤◌, List, [], ◌∷◌, ◌++◌, map, take, length, get_or, subst, refl, sym, ap, ◌∙◌}
-use Rattle.std.proofs.lemmas.List.{map_more, take_all, get_or-map}
+use Rattle.std.proofs.Common.{◌≡◌, ℕ, ◌+◌, ◌<◌, List, [], ◌∷◌, ◌++◌, take, length, get_or}
+use Rattle.std.proofs.lemmas.List.{map_more}
 use Rattle.std.specs.Borrow.{Bor}
 use Rattle.iso_model.specs.Scripts.{Script}
 use Rattle.iso_script.specs.Grammar.{Reads}

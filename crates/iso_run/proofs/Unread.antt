@@ -1,9 +1,5 @@
 -- Inputs that aren't read.
-use Rattle.std.proofs.Common.{◌≡◌, ℕ, List, Result, Ok, Err, Option, None, refl, ap, sym, ◌∙◌}
-use Rattle.iso_model.specs.declared.script.Script.{Script}
-use Rattle.iso_script_statements.specs.declared.fault.ScriptError.{ScriptError}
-use Rattle.iso_script_statements.specs.declared.fault.ScriptError.TheVariants as S
-use Rattle.iso_script_statements.specs.declared.fault.ScriptFault.{ScriptFault}
+use Rattle.std.proofs.Common.{ℕ, List, None, refl}
 use Rattle.iso_run.specs.Faults.{Aftermath, Refuses, GivesUp, BreaksOff, IsEarly, Leaves, aftermath}
 use Rattle.iso_run.specs.Replays.{NotRead}
 use Rattle.iso_run.specs.Runs.{NotWritten}
@@ -34,12 +30,3 @@ early-leaves BreaksOff early broken a = absurd early
 -- inputs that aren't read make no text, and the sink is asked nothing
 pub unread-unwritten : (text : Suite → List ℕ) (inputs : Inputs) (a : Account) (fault : RunFault) → NotRead inputs fault → NotWritten text inputs None a a fault
 unread-unwritten text inputs a fault not = record { cause = not.0; leaves = early-leaves (aftermath fault) not.1 _ a }
-
--- the fault that a reading of a script answers
-abbrev pub told : ScriptFault → Result Script ScriptError → ScriptFault
-told default (Ok script) = default
-told default (Err (S.Fault fault)) = fault
-told default (Err S.OutOfMemory) = default
-
-pub same-fault : (r : Result Script ScriptError) (f g : ScriptFault) → r ≡ Err (S.Fault f) → r ≡ Err (S.Fault g) → f ≡ g
-same-fault r f g is same = ap (told f) (sym is ∙ same)

@@ -6,12 +6,11 @@ use Rattle.toml.specs.Data.{Members}
 use Rattle.toml.specs.Parse.{parse_document}
 use Rattle.iso_model.specs.Scripts.{Script}
 use Rattle.iso_model.specs.ScriptView.{script_of}
-use Rattle.iso_model.specs.declared.limits.TheConstants.{FILE_BYTES}
 use Rattle.iso_plan.specs.Faults.{plan_fault}
 use Rattle.iso_plan.specs.declared.fault.PlanFault.{PlanFault}
+use Rattle.iso_script.specs.Faults.{HasScriptFault}
 use Rattle.iso_script.specs.Grammar.{Reads}
 use Rattle.iso_script_statements.specs.declared.fault.ScriptFault.{ScriptFault}
-use Rattle.iso_script_statements.specs.declared.fault.ScriptFaultKind.TheVariants.{TooLong}
 use Rattle.iso_settings.specs.Readings.{Reading}
 use Rattle.iso_settings.specs.Settings.{settings_in}
 use Rattle.iso_settings.specs.Worlds.{Start, world_in}
@@ -54,12 +53,11 @@ AreRead [] (s ∷ ss) = ⊥
 AreRead (t ∷ ts) [] = ⊥
 AreRead (t ∷ ts) (s ∷ ss) = Reads t s × AreRead ts ss
 
--- The script at this place is none, and those before it are scripts. A script above the limit has just this fault.
+-- The bytes at this place are no script and have this fault, and those before them are scripts.
 pub record FirstUnread (scripts : List (Bor (List ℕ))) (index : ℕ) (fault : ScriptFault) : Type 0 where
   pub within : index < length scripts
   pub earlier : (ss : List Script) × AreRead (texts (take index scripts)) ss
-  pub unread : (s : Script) → Reads (get_or (texts scripts) index []) s → ⊥
-  pub too_long : FILE_BYTES < length (get_or (texts scripts) index []) → fault ≡ record { kind = TooLong; line = 1; column = 1 }
+  pub unread : HasScriptFault (get_or (texts scripts) index []) fault
 
 -- The inputs are this suite: each is read, and the scripts have a plan.
 pub record IsSuite (inputs : Inputs) (suite : Suite) : Type 0 where

@@ -14,8 +14,8 @@ ghost use Rattle.iso_isolation.specs.States.{first};
 ghost use Rattle.iso_isolation.specs.Suites.{SuiteLaws};
 ghost use Rattle.iso_model.specs.Agreement.{ClassesAgree, TestsAgree};
 ghost use Rattle.iso_model.specs.Alone.{class_alone, test_alone};
-ghost use Rattle.iso_model.specs.Chains.{ClassHead, TestHead};
-ghost use Rattle.iso_model.specs.Resources.{Resources};
+ghost use Rattle.iso_model.specs.Chains.{ClassHead, TestHead, class_rights, test_rights};
+ghost use Rattle.iso_model.specs.Resources.{Resources, restricted};
 ghost use Rattle.iso_model.specs.Scripts.{Script};
 ghost use Rattle.iso_model.specs.declared.outcome.Outcome.{Outcome};
 ghost use Rattle.iso_plan.specs.RowView.{tree_of};
@@ -48,6 +48,14 @@ pub fn what_agrees_has_equal_outcomes()
         → IsTestAt l i t cs → IsTestAt m j u ds → TestsAgree t cs l.start u ds m.start → MayEnd l i r → MayEnd m j q → r ≡ q }
     ensures classes { (l m : Launch) (i j : ℕ) (c d : ClassHead) (cs ds : List ClassHead) (r q : Outcome)
         → IsClassAt l i c cs → IsClassAt m j d ds → ClassesAgree c cs l.start d ds m.start → MayEnd l i r → MayEnd m j q → r ≡ q }
+{}
+
+/// Tests, and classes, agree though their starting values differ at keys that neither they nor the classes around them are marked with:
+/// each start agrees with what it says of the marked keys alone.
+pub fn agreement_is_at_marked_keys_alone()
+    ensures tests { (t : TestHead) (cs : List ClassHead) (start : Resources) → TestsAgree t cs start t cs (restricted (test_rights t cs) start) }
+    ensures classes { (c : ClassHead) (cs : List ClassHead) (start : Resources)
+        → ClassesAgree c cs start c cs (restricted (class_rights (c ∷ cs)) start) }
 {}
 
 /// A history goes on by each event that is accepted after it, and by a Leave against which nothing stands but the steps that its

@@ -1,4 +1,4 @@
-use Rattle.std.proofs.Common.{ap, map, None, ◌∙◌}
+use Rattle.std.proofs.Common.{ap, None, ◌∙◌}
 use Rattle.iso_run.specs.Runs.{suite_plan}
 use Rattle.iso_run.specs.Suites.{texts}
 use Rattle.iso_run.proofs.Answering.{refused, shown}

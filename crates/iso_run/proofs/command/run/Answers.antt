@@ -1,4 +1,4 @@
-use Rattle.std.proofs.Common.{ap, map, option_map, ◌∙◌}
+use Rattle.std.proofs.Common.{ap, option_map, ◌∙◌}
 use Rattle.iso_run.specs.Suites.{texts}
 use Rattle.iso_run.proofs.Answering.{answered}
 use Rattle.iso_run.proofs.command.run.Goals as goal

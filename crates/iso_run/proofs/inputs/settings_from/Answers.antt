@@ -1,5 +1,4 @@
-use Rattle.std.proofs.Common.{ap, subst, sym}
-use Rattle.iso_settings.specs.Readings.{Gives}
+use Rattle.std.proofs.Common.{ap}
 use Rattle.iso_settings.specs.Settings.{settings_in}
 use Rattle.iso_run.proofs.Documents.{document-of_text, document-of_broken}
 use Rattle.iso_run.proofs.inputs.settings_from.Goals as goal

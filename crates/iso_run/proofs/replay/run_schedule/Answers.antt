@@ -1,4 +1,3 @@
-use Rattle.std.proofs.Common.{Some, refl}
 use Rattle.std.proofs.lemmas.Result.{err_from_is_err_and}
 use Rattle.iso_run.proofs.Replaying.{unread-unreplayed}
 use Rattle.iso_run.proofs.replay.run_schedule.Goals as goal
