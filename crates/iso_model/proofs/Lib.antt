@@ -19,6 +19,7 @@ pub mod Output
 pub mod Pairs
 pub mod PropertyLemmas
 pub mod RightsLemmas
+pub mod SameLemmas
 pub mod SeenNames
 pub mod TouchLemmas
 pub mod Untouched

@@ -1,5 +1,5 @@
 -- The map of a list of entries answers as a search of the list does.
-use Rattle.std.proofs.Common.{◌≡◌, ℕ, List, [], ◌∷◌, Option, Some, None, Bool, cond, string_bytes, bytes_eq, sym, ap, refl, inl, inr, ◌∙◌, Bor}
+use Rattle.std.proofs.Common.{◌≡◌, ℕ, List, [], ◌∷◌, Option, Some, None, Bool, true, false, not, cond, string_bytes, bytes_eq, sym, ap, refl, inl, inr, ◌∙◌, Bor}
 use Rattle.std.specs.FinMap.{empty, get, insert, remove, get-insert, get-empty, get-remove, same_map, slice_cmp-IsAntisymmetric, nat_cmp-IsAntisymmetric}
 use Rattle.std.specs.Ordering.{nat_cmp, is_eq}
 use Rattle.std.specs.Cmp.Lexicographic.{slice_cmp}
@@ -86,3 +86,46 @@ pub turn : (xs : List (Bor (String Global) × Bor (List ℕ))) (s t u : List (St
     → Yields (TakesFirst deref_pair) s xs t → r ≡ Some x → TakesFirst deref_pair t r u → (m : Entries) → s ≡ m.entries → IsOrdered string_cmp m
     → get (map_of m.entries) (string_bytes x.0.now) ≡ Some x.1.now
 turn xs s t u r x y is step m start ordered = get-map_of m.entries (string_bytes x.0.now) ∙ (btree_map_turn deref_pair xs s t u r x y is step string_cmp_total m start ordered).1
+
+-- what the first map answers at names that are none of those left, the second answers too
+abbrev pub IsWithinBut : Map → Map → (left : List (String Global × List ℕ)) → Type 0
+IsWithinBut a b left = (q t : List ℕ) → lookup (is_at q) left ≡ None → get a q ≡ Some t → get b q ≡ Some t
+
+pub within-none : (es : List (String Global × List ℕ)) (a b : Map) → a ≡ map_of es → IsWithinBut a b es
+within-none es a b is q t absent there =
+    let found : lookup (is_at q) es ≡ Some t = sym (get-map_of es q) ∙ ap (λ m. get m q) (sym is) ∙ there in
+    absurd cc
+
+pub within-more : (a b : Map) (e : String Global × List ℕ) (left : List (String Global × List ℕ)) → IsWithinBut a b (e ∷ left) → get a (string_bytes e.0) ≡ Some e.1 → get b (string_bytes e.0) ≡ Some e.1 → IsWithinBut a b left
+within-more a b e left within in_a in_b q t absent there =
+    elim (cases_Bool (is_at q e.0)) [
+      | inl same ↦
+          let here : q ≡ string_bytes e.0 = (bytes_eq-Decides q (string_bytes e.0)).0 (sym (is_eq-slice_cmp q (string_bytes e.0)) ∙ same) in
+          ap (get b) here ∙ in_b ∙ sym in_a ∙ ap (get a) (sym here) ∙ there
+      | inr other ↦
+          let passed : lookup (is_at q) (e ∷ left) ≡ None = ap (λ (x : Bool). cond x (Some e.1) (lookup (is_at q) left)) other ∙ absent in
+          within q t passed there
+    ]
+
+-- two answers, where each that is there is the other
+answers-same : (o p : Option (List ℕ)) → ((t : List ℕ) → o ≡ Some t → p ≡ Some t) → ((t : List ℕ) → p ≡ Some t → o ≡ Some t) → o ≡ p
+answers-same (Some t) p there back = sym (there t refl)
+answers-same None (Some t) there back = back t refl
+answers-same None None there back = refl
+
+-- two maps, where each has the other's texts
+pub within-both : (a b : Map) → ((q t : List ℕ) → get a q ≡ Some t → get b q ≡ Some t) → ((q t : List ℕ) → get b q ≡ Some t → get a q ≡ Some t) → a ≡ b
+within-both a b there back = same a b (λ q. answers-same (get a q) (get b q) (there q) (back q))
+
+-- two texts are equal where the test for unequal ones says no, and not equal where it says yes
+pub told_equal : (r : Bool) (x y : List ℕ) → r ≡ not (bytes_eq x y) → r ≡ false → x ≡ y
+told_equal r x y tests is =
+    elim (cases_Bool (bytes_eq x y)) [
+      | inl same ↦ (bytes_eq-Decides x y).0 same
+      | inr other ↦ let yes_ : r ≡ true = tests ∙ ap not other in absurd cc
+    ]
+
+pub told_apart : (r : Bool) (x y : List ℕ) → r ≡ not (bytes_eq x y) → r ≡ true → x ≡ y → ⊥
+told_apart r x y tests is same =
+    let no_ : r ≡ false = tests ∙ ap not ((bytes_eq-Decides x y).1 same) in
+    cc

@@ -22,6 +22,7 @@ pub mod properties;
 pub mod resource;
 pub mod resource_key;
 pub mod rights;
+pub mod same;
 pub mod script;
 pub mod text;
 pub mod touch;

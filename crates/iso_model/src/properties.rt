@@ -1,4 +1,4 @@
-ghost use Rattle.std.specs.Prelude.{◌≡◌, IfOk, OnOk, OnErr, option_copied, string_bytes};
+ghost use Rattle.std.specs.Prelude.{◌≡◌, ◌↔◌, IfOk, IsTrue, List, OnOk, OnErr, Some, option_copied, string_bytes, ℕ};
 ghost use Rattle.std.specs.FinMap as map;
 
 use crate::text::Text;
@@ -63,6 +63,30 @@ impl Properties {
             copied.set(String::from_str(alloc, name.as_str())?, text.copy(alloc)?)?;
         }
         Ok(copied)
+    }
+
+    /// Whether both have the same properties, with the same texts. Looks up each entry of both in the other at most
+    /// once, and takes no memory.
+    pub fn same(&self, other: &Properties) -> bool
+        ensures { IsTrue result ↔ (self.now ≡ other.now) }
+    {
+        self.is_within(other) && other.is_within(self)
+    }
+
+    /// Whether the other map has each property of this one, with the same text.
+    fn is_within(&self, other: &Properties) -> bool
+        ensures { IsTrue result
+            ↔ ((name text : List ℕ) → map.get self.now name ≡ Some text → map.get other.now name ≡ Some text) }
+    {
+        'entries: for (name, text) in self.entries.iter() {
+            let Some(found) = other.get(name.as_str()) else {
+                return false;
+            };
+            if found.as_str() != text.as_str() {
+                return false;
+            }
+        }
+        true
     }
 
     /// Makes a property absent. An absent one stays absent.
