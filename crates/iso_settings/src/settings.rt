@@ -1,4 +1,4 @@
-ghost use Rattle.std.specs.Prelude.{◌≡◌, ◌≤◌, IfOk, IfSome};
+ghost use Rattle.std.specs.Prelude.{◌≡◌, ◌≤◌, ◌↔◌, IfOk, IfSome, IsTrue};
 ghost use Rattle.std.specs.Int.{IsInRange};
 ghost use Rattle.toml.specs.Parse.{parse_document};
 ghost use Rattle.toml.specs.View.{table_view};
@@ -33,6 +33,16 @@ impl Settings {
         ensures { result ≡ self.worker_count }
     {
         self.worker_count
+    }
+
+    /// Whether two settings are the same.
+    pub fn same(self, other: Settings) -> bool
+        ensures { IsTrue result ↔ (self ≡ other) }
+    {
+        self.parallel == other.parallel
+            && self.default_mode == other.default_mode
+            && self.classes_default_mode == other.classes_default_mode
+            && self.worker_count == other.worker_count
     }
 }
 

@@ -1,4 +1,4 @@
-ghost use Rattle.std.specs.Prelude.{◌≡◌, ◌++◌, IfOk, OnOk, codes, string_bytes};
+ghost use Rattle.std.specs.Prelude.{◌≡◌, ◌++◌, ◌↔◌, IfOk, IsTrue, OnOk, codes, string_bytes};
 ghost use Rattle.toml.specs.Parse.{parse_document};
 ghost use Rattle.toml.specs.View.{table_view, view};
 ghost use Rattle.iso_settings.specs.Leaves.{leaves_at, leaves_behind};
@@ -110,6 +110,16 @@ impl World {
         } else {
             Ok(Resource::Plain)
         }
+    }
+
+    /// Whether two worlds say the same: every key starts with the same value, however they were written. Takes no
+    /// memory. It goes over both worlds, so a caller who knows the answer otherwise needn't ask under a lock.
+    pub fn same(&self, other: &World) -> bool
+        ensures { IsTrue result ↔ (self.now ≡ other.now) }
+    {
+        self.locale.as_str() == other.locale.as_str()
+            && self.files.same(&other.files)
+            && self.properties.same(&other.properties)
     }
 }
 
