@@ -34,6 +34,7 @@ pub fn classes_take_the_default_mode()
 pub fn strategies_choose_workers()
     ensures default { workers_in (enabled yes ∷ []) 3 ≡ Ok 3 }
     ensures dynamic { workers_in (enabled yes ∷ factor (number 2) ∷ []) 31 ≡ Ok 62 }
+    ensures dynamic_alone { workers_in (enabled yes ∷ parallelism (number 3) ∷ []) 5 ≡ Ok 5 }
     ensures most { workers_in (enabled yes ∷ factor (number 2) ∷ []) 40 ≡ Ok 64 }
     ensures fixed { workers_in (enabled yes ∷ strategy (text "fixed") ∷ factor (number 2) ∷ parallelism (number 3) ∷ []) 40
         ≡ Ok 3 }
@@ -64,6 +65,8 @@ pub fn refused_values_have_their_fault()
     ensures custom { workers_in (strategy (text "custom") ∷ []) 1
         ≡ Err (Unsupported (jupiter "execution.parallel.config.strategy")) }
     ensures per_class { workers_in (set "testinstance.lifecycle.default" (text "per_class") ∷ []) 1
+        ≡ Err (Unsupported (jupiter "testinstance.lifecycle.default")) }
+    ensures other_lifecycle { workers_in (set "testinstance.lifecycle.default" (text "other") ∷ []) 1
         ≡ Err (Unsupported (jupiter "testinstance.lifecycle.default")) }
     ensures per_method { workers_in (set "testinstance.lifecycle.default" (text "Per_Method") ∷ []) 1 ≡ Ok 1 }
     ensures other_strategy { workers_in (strategy (text "other") ∷ []) 1
