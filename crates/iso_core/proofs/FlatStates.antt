@@ -31,7 +31,7 @@ use Rattle.iso_model.specs.Rights.{Rights, is_readable, is_writable}
 use Rattle.iso_model.specs.declared.access.Access.{Access}
 use Rattle.iso_model.specs.declared.outcome.Outcome.{Outcome}
 use Rattle.iso_model.specs.declared.resource.Resource.{Resource}
-use Rattle.iso_plan.proofs.Columns.{length-column}
+use Rattle.iso_plan.proofs.ColumnLemmas.{length-column}
 use Rattle.iso_plan.specs.NodeChains.{node_rights}
 use Rattle.iso_plan.specs.Paths.{IsTree}
 use Rattle.iso_plan.specs.Planned.{Planned}

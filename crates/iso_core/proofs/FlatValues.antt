@@ -21,7 +21,7 @@ use Rattle.iso_model.specs.Rights.{is_readable, is_writable}
 use Rattle.iso_model.specs.Touch.{HasKeys, HasKind, Kind, kind_of_key, kind_of_value}
 use Rattle.iso_model.specs.declared.resource.Change.{Change}
 use Rattle.iso_model.specs.declared.resource.Resource.{Resource}
-use Rattle.iso_plan.proofs.Columns.{column-read, length-column}
+use Rattle.iso_plan.proofs.ColumnLemmas.{column-read, length-column}
 use Rattle.iso_plan.proofs.LawLemmas.{taken-known}
 use Rattle.iso_plan.specs.KeyTable.{keys}
 use Rattle.iso_plan.specs.NodeChains.{node_rights}

@@ -19,7 +19,7 @@ use Rattle.iso_plan.proofs.LockLemmas.{that-is}
 use Rattle.iso_plan.proofs.PathLemmas.{IsBelow, eq_not}
 use Rattle.iso_plan.proofs.TopLemmas.{own-path}
 use Rattle.iso_plan.specs.KeyTable.{keys}
-use Rattle.iso_plan.specs.Locks.{conflict, declares, exclude, gathered_below, global_access, holds_isolated, is_locking, is_marked, locking_node, taken}
+use Rattle.iso_plan.specs.Locks.{conflict, declares, exclude, gathered, global_access, holds_isolated, is_locking, is_marked, locking_node, taken}
 use Rattle.iso_plan.specs.Paths.{is_top, outermost}
 use Rattle.iso_plan.specs.RowView.{tree_of}
 use Rattle.iso_plan.specs.Tree.{Row}
@@ -41,7 +41,7 @@ global-locks : (tree : List Row) → IsBelow tree → (m : ℕ) (k : List ℕ) �
 global-locks tree b m k top w true own = that-is (locking_node tree m) m own
 global-locks tree b m k top w false own =
     let alone : taken tree m k ≡ global_access tree m k =
-    ap (λ (l : Bool). strongest (global_access tree m k) (cond l (gathered_below tree m k (length tree)) None)) own ∙ strongest-none (global_access tree m k) in
+    ap (λ (l : Bool). strongest (global_access tree m k) (cond l (gathered tree m k) None)) own ∙ strongest-none (global_access tree m k) in
     isolated-locks tree b m top (writes-global (is_top tree m && bytes_eq global_key k) (holds_isolated tree m) (sym (ap is_writable alone) ∙ w))
 
 -- a node that takes a key for READ_WRITE is the locking node of its path

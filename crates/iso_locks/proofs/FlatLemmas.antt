@@ -10,7 +10,7 @@ use Rattle.iso_locks.specs.Slots.{Slots, slot}
 use Rattle.iso_locks.specs.Trays.{IsOnward, MarkView, TrayView, has_at, is_open, kept, key_at, marked, may_write, number_of, restored, seen, seen_at, undone}
 use Rattle.iso_model.specs.Rights.{is_writable}
 use Rattle.iso_model.specs.declared.resource.Resource.{Resource}
-use Rattle.iso_plan.proofs.Columns.{column-read}
+use Rattle.iso_plan.proofs.ColumnLemmas.{column-read}
 use Rattle.iso_plan.specs.KeyTable.{keys}
 use Rattle.iso_plan.specs.NodeChains.{node_rights}
 use Rattle.iso_plan.specs.Planned.{Planned}

@@ -3,7 +3,7 @@ use Rattle.std.proofs.Common.{◌≡◌, ◌≢◌, ℕ, zero, suc, ◌+◌, ◌
 use Rattle.std.specs.Option.{option_or}
 use Rattle.std.proofs.lemmas.List.{get_or_default, get_or-set_same, get_or-set_other, length-set, length-map, take_all, take_more}
 use Rattle.iso_model.specs.declared.access.Access.{Access}
-use Rattle.iso_plan.proofs.Columns.{column-from, length-column}
+use Rattle.iso_plan.proofs.ColumnLemmas.{column-from, length-column}
 use Rattle.iso_plan.proofs.PathLemmas.{eq_from, eq_same}
 use Rattle.iso_plan.specs.KeyTable.{keys}
 use Rattle.iso_plan.specs.Locks.{is_write, locks, locks_from, taken}

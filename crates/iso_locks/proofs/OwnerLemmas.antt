@@ -12,7 +12,7 @@ use Rattle.iso_locks.specs.Slots.{HasLater, Slots, slot}
 use Rattle.iso_locks.specs.Trays.{is_lent, restored}
 use Rattle.iso_model.specs.Rights.{is_writable}
 use Rattle.iso_model.specs.declared.access.Access.{Access}
-use Rattle.iso_plan.proofs.Columns.{column-read, length-column}
+use Rattle.iso_plan.proofs.ColumnLemmas.{column-read, length-column}
 use Rattle.iso_plan.proofs.PathLemmas.{eq_not, eq_same}
 use Rattle.iso_plan.specs.KeyTable.{keys}
 use Rattle.iso_plan.specs.Locks.{conflict, exclude, locking_node, locks, taken}

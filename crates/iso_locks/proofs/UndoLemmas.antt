@@ -3,7 +3,7 @@ use Rattle.std.proofs.Common.{◌≡◌, ◌≢◌, ℕ, ◌+◌, ◌<◌, ◌�
 use Rattle.std.specs.Option.{option_or}
 use Rattle.std.proofs.lemmas.List.{length-append, length-set, get_or_append_left, get_or_push, get_or_default, get_or-set_same, get_or-set_other}
 use Rattle.std.proofs.lemmas.Bool.{cases_lt}
-use Rattle.iso_plan.proofs.Columns.{column-from}
+use Rattle.iso_plan.proofs.ColumnLemmas.{column-from}
 use Rattle.iso_plan.specs.Paths.{column}
 use Rattle.iso_store.specs.Histories.{History}
 use Rattle.iso_locks.specs.Slots.{Slots, HasLater, slot}

@@ -4,7 +4,7 @@ use Rattle.std.specs.Option.{option_or}
 use Rattle.std.proofs.lemmas.Bool.{cases_eq, cases_lt}
 use Rattle.std.proofs.lemmas.List.{get_or_past, get_or-map, get_or-set_same, get_or-set_other, length-map, length-set}
 use Rattle.iso_model.specs.declared.resource.Resource.{Resource}
-use Rattle.iso_plan.proofs.Columns.{column-from, column-read, length-column}
+use Rattle.iso_plan.proofs.ColumnLemmas.{column-from, column-read, length-column}
 use Rattle.iso_plan.proofs.PathLemmas.{eq_from, eq_same}
 use Rattle.iso_plan.specs.KeyTable.{keys}
 use Rattle.iso_plan.specs.Conflicts.{is_in_the_way}

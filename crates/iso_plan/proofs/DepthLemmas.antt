@@ -12,7 +12,7 @@ use Rattle.iso_model.specs.Chains as C
 use Rattle.iso_model.specs.ChainView.{innermost_first}
 use Rattle.iso_model.specs.ScriptView.{class_head_of}
 use Rattle.iso_model.specs.declared.heads.ClassHead.{ClassHead}
-use Rattle.iso_plan.proofs.Columns.{column-read, length-column}
+use Rattle.iso_plan.proofs.ColumnLemmas.{column-read, length-column}
 use Rattle.iso_plan.proofs.PathLemmas.{along, chain-step, path-root, path-step}
 use Rattle.iso_plan.specs.NodeChains.{chain_classes, class_heads, depth, heads_on, largest}
 use Rattle.iso_plan.specs.Paths.{IsTree, column, is_class_or_test, is_test, parent, path, row_at}

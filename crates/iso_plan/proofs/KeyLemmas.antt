@@ -9,11 +9,10 @@ use Rattle.std.proofs.lemmas.Map.Keys.{IsDistinct-push, apart_from_distinct}
 use Rattle.std.specs.Bool.{if◌then◌else◌}
 use Rattle.std.specs.Cmp.Lexicographic.{bytes_decides}
 use Rattle.std.specs.List.{IsDistinct, list_any, position, position_or_len, prefix_len}
-use Rattle.indexmap.specs.IndexSet.{insert_key}
+use Rattle.indexmap.specs.IndexSet.{insert_all, insert_key}
 use Rattle.iso_model.specs.Keys.{global_key}
-use Rattle.iso_model.specs.declared.heads.Mark.{Mark}
 use Rattle.iso_plan.proofs.PathLemmas.{eq_from, eq_same, eq_not}
-use Rattle.iso_plan.specs.KeyTable.{keys, with_marks, with_rows, written_marks}
+use Rattle.iso_plan.specs.KeyTable.{keys, marked_keys}
 use Rattle.iso_plan.specs.Locks.{is_that}
 use Rattle.iso_plan.specs.Paths.{is_root}
 use Rattle.iso_plan.specs.Tree.{Row}
@@ -31,20 +30,16 @@ insert_by ks k h false e = record { distinct = IsDistinct-push nat_list_eq_equiv
 insert_table : (ks : List (List ℕ)) (k : List ℕ) → IsTable ks → IsTable (insert_key bytes_eq ks k)
 insert_table ks k h = insert_by ks k h (list_any (bytes_eq k) ks) refl
 
-marks_table : (ms : List Mark) (ks : List (List ℕ)) → IsTable ks → IsTable (with_marks ks ms)
-marks_table [] ks h = h
-marks_table (m ∷ ms) ks h = marks_table ms (insert_key bytes_eq ks m.key) (insert_table ks m.key h)
-
-rows_table : (rs : List Row) (ks : List (List ℕ)) → IsTable ks → IsTable (with_rows ks rs)
-rows_table [] ks h = h
-rows_table (r ∷ rs) ks h = rows_table rs (with_marks ks (written_marks r.kind)) (marks_table (written_marks r.kind) ks h)
+all_table : (xs ks : List (List ℕ)) → IsTable ks → IsTable (insert_all bytes_eq ks xs)
+all_table [] ks h = h
+all_table (x ∷ xs) ks h = all_table xs (insert_key bytes_eq ks x) (insert_table ks x h)
 
 start_table : IsTable (global_key ∷ [])
 unfolding IsDistinct
 start_table = record { distinct = (tt, tt); rest = []; begins = refl }
 
 is_table : (tree : List Row) → IsTable (keys tree)
-is_table tree = rows_table tree (global_key ∷ []) start_table
+is_table tree = all_table (marked_keys tree) (global_key ∷ []) start_table
 
 pub keys-distinct : (tree : List Row) → IsDistinct bytes_eq (keys tree)
 keys-distinct tree = (is_table tree).distinct

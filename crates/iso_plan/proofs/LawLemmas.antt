@@ -7,7 +7,7 @@ use Rattle.std.specs.Bool.{if◌then◌else◌}
 use Rattle.std.specs.Cmp.Lexicographic.{bytes_decides}
 use Rattle.std.specs.List.{list_any}
 use Rattle.std.specs.Option.{option_or}
-use Rattle.indexmap.specs.IndexSet.{insert_key}
+use Rattle.indexmap.specs.IndexSet.{insert_all, insert_key}
 use Rattle.iso_model.proofs.RightsLemmas.{strongest-none, strongest-assoc, strongest-comm, rights_of-append}
 use Rattle.iso_model.specs.Chains.{ClassHead, marks_of}
 use Rattle.iso_model.specs.Keys.{global_key}
@@ -18,9 +18,10 @@ use Rattle.iso_model.specs.declared.heads.Mark.{Mark}
 use Rattle.iso_model.specs.declared.script.Mode.TheVariants.{SameThread}
 use Rattle.iso_plan.proofs.LockLemmas.{that-is, that-self, under-locking, locking-locks}
 use Rattle.iso_plan.proofs.PathLemmas.{IsBelow, along, chain-step, eq_from, eq_not, path-root, path-step}
+use Rattle.iso_plan.proofs.SoFar.{all-gathered, all-isolate, gathered_below, isolates_below}
 use Rattle.iso_plan.proofs.TopLemmas.{top, top-is, no-top, under-top, own-path}
-use Rattle.iso_plan.specs.KeyTable.{keys, with_marks, with_rows, written_marks}
-use Rattle.iso_plan.specs.Locks.{conflict, declared, declares, effective_marks, exclude, gathered_below, global_access, holds_isolated, is_isolated, is_locking, is_marked, is_write, isolates, isolates_below, lock_of, locking_node, locks_from, marks_global, taken, takes_write}
+use Rattle.iso_plan.specs.KeyTable.{keys, mark_keys, marked_keys, written_marks}
+use Rattle.iso_plan.specs.Locks.{conflict, declared, declares, effective_marks, exclude, gathered, global_access, holds_isolated, is_isolated, is_locking, is_marked, is_write, isolates, lock_of, locking_node, locks_from, marks_global, taken, takes_write}
 use Rattle.iso_plan.specs.Modes.{chosen_mode, mode}
 use Rattle.iso_plan.specs.NodeChains.{chain_classes, class_heads, heads_on, node_rights, rights_with}
 use Rattle.iso_plan.specs.Paths.{IsTree, is_on, is_root, is_test, is_top, is_under, outermost, parent, path, row_at}
@@ -186,8 +187,8 @@ covered_by tree t n k pos h r None e =
     absurd (cc)
 covered_by tree t n k pos h r (Some m) e =
     let l : is_locking tree m ≡ true = locking-locks tree t.below m n e in
-    let g = gathered_below tree m k (length tree) in
-    let all = (rises tree t k n pos).at m h e in
+    let g = gathered tree m k in
+    let all : strongest (node_rights tree n k) g ≡ g = rw (all-gathered tree m k) ((rises tree t k n pos).at m h e) in
     let takes : taken tree m k ≡ strongest (global_access tree m k) g = ap (λ (b : Bool). strongest (global_access tree m k) (cond b g None)) l in
     record {
       taker = m;
@@ -214,30 +215,44 @@ insert_has : (ks : List (List ℕ)) (x : List ℕ) → (t : Bool) → list_any (
 insert_has ks x true e = e
 insert_has ks x false e = list_any-append (bytes_eq x) ks (x ∷ []) ∙ or_last (list_any (bytes_eq x) ks) (bytes_eq x x || false) (or_left (bytes_eq x x) false (nat_list_eq_equiv.refl x))
 
-marks_keep : (ms : List Mark) (ks : List (List ℕ)) (k : List ℕ) → list_any (bytes_eq k) ks ≡ true → list_any (bytes_eq k) (with_marks ks ms) ≡ true
-marks_keep [] ks k h = h
-marks_keep (m ∷ ms) ks k h = marks_keep ms (insert_key bytes_eq ks m.key) k (insert_keeps ks m.key k h (list_any (bytes_eq m.key) ks))
+all_keep : (xs ks : List (List ℕ)) (k : List ℕ) → list_any (bytes_eq k) ks ≡ true → list_any (bytes_eq k) (insert_all bytes_eq ks xs) ≡ true
+all_keep [] ks k h = h
+all_keep (x ∷ xs) ks k h = all_keep xs (insert_key bytes_eq ks x) k (insert_keeps ks x k h (list_any (bytes_eq x) ks))
 
-rows_keep : (rs : List Row) (ks : List (List ℕ)) (k : List ℕ) → list_any (bytes_eq k) ks ≡ true → list_any (bytes_eq k) (with_rows ks rs) ≡ true
-rows_keep [] ks k h = h
-rows_keep (r ∷ rs) ks k h = rows_keep rs (with_marks ks (written_marks r.kind)) k (marks_keep (written_marks r.kind) ks k h)
+key_has : (x : List ℕ) (xs ks : List (List ℕ)) (k : List ℕ) → (t : Bool) → bytes_eq k x ≡ t → (t || list_any (bytes_eq k) xs) ≡ true
+    → (list_any (bytes_eq k) xs ≡ true → list_any (bytes_eq k) (insert_all bytes_eq ks (x ∷ xs)) ≡ true) → list_any (bytes_eq k) (insert_all bytes_eq ks (x ∷ xs)) ≡ true
+key_has x xs ks k true e h ih =
+    let same : k ≡ x = (bytes_decides k x).0 e in
+    all_keep xs (insert_key bytes_eq ks x) k (ap (λ j. list_any (bytes_eq j) (insert_key bytes_eq ks x)) same ∙ insert_has ks x (list_any (bytes_eq x) ks) refl)
+key_has x xs ks k false e h ih = ih h
 
-mark_has : (m : Mark) (ms : List Mark) (ks : List (List ℕ)) (k : List ℕ) → (t : Bool) → bytes_eq k m.key ≡ t → is_readable (strongest (cond t (Some m.access) None) (rights_of ms k)) ≡ true → (is_readable (rights_of ms k) ≡ true → list_any (bytes_eq k) (with_marks (insert_key bytes_eq ks m.key) ms) ≡ true) → list_any (bytes_eq k) (with_marks (insert_key bytes_eq ks m.key) ms) ≡ true
-mark_has m ms ks k true e h ih =
-    let same : k ≡ m.key = (bytes_decides k m.key).0 e in
-    marks_keep ms (insert_key bytes_eq ks m.key) k (ap (λ (j : List ℕ). list_any (bytes_eq j) (insert_key bytes_eq ks m.key)) same ∙ insert_has ks m.key (list_any (bytes_eq m.key) ks) refl)
-mark_has m ms ks k false e h ih = ih h
+-- what is inserted is there
+all_have : (xs ks : List (List ℕ)) (k : List ℕ) → list_any (bytes_eq k) xs ≡ true → list_any (bytes_eq k) (insert_all bytes_eq ks xs) ≡ true
+all_have [] ks k h = let wrong : false ≡ true = h in absurd (cc)
+all_have (x ∷ xs) ks k h = key_has x xs ks k (bytes_eq k x) refl h (all_have xs (insert_key bytes_eq ks x) k)
 
-marks_have : (ms : List Mark) (ks : List (List ℕ)) (k : List ℕ) → is_readable (rights_of ms k) ≡ true → list_any (bytes_eq k) (with_marks ks ms) ≡ true
-marks_have [] ks k h = let wrong : false ≡ true = h in absurd (cc)
-marks_have (m ∷ ms) ks k h =
-    mark_has m ms ks k (bytes_eq k m.key) refl h (marks_have ms (insert_key bytes_eq ks m.key) k)
+mark_by : (m : Mark) (ms : List Mark) (k : List ℕ) → (t : Bool) → is_readable (strongest (cond t (Some m.access) None) (rights_of ms k)) ≡ true
+    → (is_readable (rights_of ms k) ≡ true → list_any (bytes_eq k) (mark_keys ms) ≡ true) → (t || list_any (bytes_eq k) (mark_keys ms)) ≡ true
+mark_by m ms k true h ih = refl
+mark_by m ms k false h ih = ih h
 
-rows_have : (rs : List Row) (ks : List (List ℕ)) (j : ℕ) (k : List ℕ) → is_readable (rights_of (written_marks (row_at rs j).kind) k) ≡ true → list_any (bytes_eq k) (with_rows ks rs) ≡ true
-rows_have [] ks zero k h = let wrong : false ≡ true = h in absurd (cc)
-rows_have [] ks (suc j) k h = let wrong : false ≡ true = h in absurd (cc)
-rows_have (r ∷ rs) ks zero k h = rows_keep rs (with_marks ks (written_marks r.kind)) k (marks_have (written_marks r.kind) ks k h)
-rows_have (r ∷ rs) ks (suc j) k h = rows_have rs (with_marks ks (written_marks r.kind)) j k h
+marks_name : (ms : List Mark) (k : List ℕ) → is_readable (rights_of ms k) ≡ true → list_any (bytes_eq k) (mark_keys ms) ≡ true
+marks_name [] k h = let wrong : false ≡ true = h in absurd (cc)
+marks_name (m ∷ ms) k h = mark_by m ms k (bytes_eq k m.key) h (marks_name ms k)
+
+rows_name : (rs : List Row) (j : ℕ) (k : List ℕ) → is_readable (rights_of (written_marks (row_at rs j).kind) k) ≡ true → list_any (bytes_eq k) (marked_keys rs) ≡ true
+rows_name [] zero k h = let wrong : false ≡ true = h in absurd (cc)
+rows_name [] (suc j) k h = let wrong : false ≡ true = h in absurd (cc)
+rows_name (r ∷ rs) zero k h =
+    list_any-append (bytes_eq k) (mark_keys (written_marks r.kind)) (marked_keys rs)
+    ∙ or_left (list_any (bytes_eq k) (mark_keys (written_marks r.kind))) (list_any (bytes_eq k) (marked_keys rs)) (marks_name (written_marks r.kind) k h)
+rows_name (r ∷ rs) (suc j) k h =
+    list_any-append (bytes_eq k) (mark_keys (written_marks r.kind)) (marked_keys rs)
+    ∙ or_last (list_any (bytes_eq k) (mark_keys (written_marks r.kind))) (list_any (bytes_eq k) (marked_keys rs)) (rows_name rs j k h)
+
+-- a key that a node declares has a number
+keys_have : (tree : List Row) (j : ℕ) (k : List ℕ) → is_readable (rights_of (written_marks (row_at tree j).kind) k) ≡ true → list_any (bytes_eq k) (keys tree) ≡ true
+keys_have tree j k h = all_have (marked_keys tree) (global_key ∷ []) k (rows_name tree j k h)
 
 -- the first of two, or the second
 readable_cases : (a b : Option Access) → is_readable (strongest a b) ≡ true → (is_readable a ≡ true) ⊎ (is_readable b ≡ true)
@@ -258,14 +273,18 @@ declarer_here tree m l k false u h = let wrong : false ≡ true = h in absurd (c
 declarer_more : (tree : List Row) (m l : ℕ) (k : List ℕ) → Declarer tree m k l → Declarer tree m k (suc l)
 declarer_more tree m l k d = let less = d.less in record { node = d.node; less = omega arith; under = d.under; reads = d.reads }
 
-declarer : (tree : List Row) (m l : ℕ) (k : List ℕ) → is_readable (gathered_below tree m k l) ≡ true → Declarer tree m k l
-declarer tree m zero k h = let wrong : false ≡ true = h in absurd (cc)
-declarer tree m (suc l) k h =
-    ⊎_elim (λ here. declarer_here tree m l k (is_under tree m l) refl here) (λ there. declarer_more tree m l k (declarer tree m l k there))
+declarer_below : (tree : List Row) (m l : ℕ) (k : List ℕ) → is_readable (gathered_below tree m k l) ≡ true → Declarer tree m k l
+declarer_below tree m zero k h = let wrong : false ≡ true = h in absurd (cc)
+declarer_below tree m (suc l) k h =
+    ⊎_elim (λ here. declarer_here tree m l k (is_under tree m l) refl here) (λ there. declarer_more tree m l k (declarer_below tree m l k there))
     (readable_cases (cond (is_under tree m l) (declared tree l k) None) (gathered_below tree m k l) h)
 
+declarer : (tree : List Row) (m : ℕ) (k : List ℕ) → is_readable (gathered tree m k) ≡ true → Declarer tree m k (length tree)
+declarer tree m k h = declarer_below tree m (length tree) k (ap is_readable (sym (all-gathered tree m k)) ∙ h)
+
 global_known : (tree : List Row) → list_any (bytes_eq global_key) (keys tree) ≡ true
-global_known tree = rows_keep tree (global_key ∷ []) global_key (or_left (bytes_eq global_key global_key) false (nat_list_eq_equiv.refl global_key))
+global_known tree =
+    all_keep (marked_keys tree) (global_key ∷ []) global_key (or_left (bytes_eq global_key global_key) false (nat_list_eq_equiv.refl global_key))
 
 global_by : (tree : List Row) (m : ℕ) (k : List ℕ) → (t e : Bool) → is_top tree m ≡ t → bytes_eq global_key k ≡ e → is_readable (cond (t && e) (Some (cond (holds_isolated tree m) Write Read)) None) ≡ true → (is_top tree m ≡ true) × (global_key ≡ k)
 global_by tree m k true true ht he h = (ht, (bytes_decides global_key k).0 he)
@@ -276,15 +295,15 @@ global_by tree m k false e ht he h = let wrong : false ≡ true = h in absurd (c
 takes_global : (tree : List Row) (m : ℕ) (k : List ℕ) → is_readable (global_access tree m k) ≡ true → (is_top tree m ≡ true) × (global_key ≡ k)
 takes_global tree m k h = global_by tree m k (is_top tree m) (bytes_eq global_key k) refl refl h
 
-locking_by : (tree : List Row) (m : ℕ) (k : List ℕ) → (t : Bool) → is_locking tree m ≡ t → is_readable (cond t (gathered_below tree m k (length tree)) None) ≡ true → (is_locking tree m ≡ true) × (is_readable (gathered_below tree m k (length tree)) ≡ true)
+locking_by : (tree : List Row) (m : ℕ) (k : List ℕ) → (t : Bool) → is_locking tree m ≡ t → is_readable (cond t (gathered tree m k) None) ≡ true → (is_locking tree m ≡ true) × (is_readable (gathered tree m k) ≡ true)
 locking_by tree m k true e h = (e, h)
 locking_by tree m k false e h = let wrong : false ≡ true = h in absurd (cc)
 
 -- how a node comes to take a key: as a top-level class, or as a locking node
-pub takes-by : (tree : List Row) (m : ℕ) (k : List ℕ) → is_readable (taken tree m k) ≡ true → ((is_top tree m ≡ true) × (global_key ≡ k)) ⊎ ((is_locking tree m ≡ true) × (is_readable (gathered_below tree m k (length tree)) ≡ true))
+pub takes-by : (tree : List Row) (m : ℕ) (k : List ℕ) → is_readable (taken tree m k) ≡ true → ((is_top tree m ≡ true) × (global_key ≡ k)) ⊎ ((is_locking tree m ≡ true) × (is_readable (gathered tree m k) ≡ true))
 takes-by tree m k h =
     ⊎_elim (λ g. inl (takes_global tree m k g)) (λ g. inr (locking_by tree m k (is_locking tree m) refl g))
-    (readable_cases (global_access tree m k) (cond (is_locking tree m) (gathered_below tree m k (length tree)) None) h)
+    (readable_cases (global_access tree m k) (cond (is_locking tree m) (gathered tree m k) None) h)
 
 -- a node takes keys only where it is a locking node or a top-level class
 pub takes-only : (tree : List Row) (m : ℕ) (k : List ℕ) → is_readable (taken tree m k) ≡ true → (is_locking tree m || is_top tree m) ≡ true
@@ -295,7 +314,7 @@ takes-only tree m k h =
 pub taken-known : (tree : List Row) (m : ℕ) (k : List ℕ) → is_readable (taken tree m k) ≡ true → list_any (bytes_eq k) (keys tree) ≡ true
 taken-known tree m k h =
     ⊎_elim (λ g. ap (λ (j : List ℕ). list_any (bytes_eq j) (keys tree)) (sym g.1) ∙ global_known tree)
-    (λ g. let d = declarer tree m (length tree) k g.1 in rows_have tree (global_key ∷ []) d.node k d.reads)
+    (λ g. let d = declarer tree m k g.1 in keys_have tree d.node k d.reads)
     (takes-by tree m k h)
 
 readable_of : (a : Option Access) → is_writable a ≡ true → is_readable a ≡ true
@@ -377,7 +396,7 @@ global_top : (tree : List Row) → IsBelow tree → (n j t : ℕ) → j < length
 global_top tree b n j t h ln u i e =
     let above : is_top tree t ≡ true = top-is tree b j t e in
     let ut : is_under tree t j ≡ true = under-top tree b t j above ∙ that-self (top tree j) t e in
-    let holds : holds_isolated tree t ≡ true = ap₂ (λ (x y : Bool). x && y) above (isolates_has tree t j (length tree) h ut i) in
+    let holds : holds_isolated tree t ≡ true = all-isolate tree t ∙ ap₂ (λ (x y : Bool). x && y) above (isolates_has tree t j (length tree) h ut i) in
     let lt : is_locking tree t ≡ true = isolated_locks tree b t above holds in
     let one : locking_node tree j ≡ Some t = that-is (locking_node tree j) t (sym (under-locking tree b t j lt) ∙ ut) in
     let two : locking_node tree j ≡ Some n = that-is (locking_node tree j) n (sym (under-locking tree b n j ln) ∙ u) in
@@ -393,9 +412,9 @@ global_by_top tree b n ln d None j e h u r =
     absurd (cc)
 
 -- a locking node that gathers the global key is a top-level class
-gathers_global : (tree : List Row) → IsBelow tree → (n : ℕ) → is_locking tree n ≡ true → is_readable (gathered_below tree n global_key (length tree)) ≡ true → is_top tree n ≡ true
+gathers_global : (tree : List Row) → IsBelow tree → (n : ℕ) → is_locking tree n ≡ true → is_readable (gathered tree n global_key) ≡ true → is_top tree n ≡ true
 gathers_global tree b n ln r =
-    let d = declarer tree n (length tree) global_key r in
+    let d = declarer tree n global_key r in
     global_by_top tree b n ln d (top tree d.node) d.node refl d.less d.under d.reads
 
 both_lock : (tree : List Row) → IsBelow tree → (m n : ℕ) → is_locking tree m ≡ true → is_locking tree n ≡ true → is_under tree m n ≡ true → m ≡ n
@@ -409,7 +428,7 @@ pub apart : (tree : List Row) → IsBelow tree → (m n : ℕ) (k : List ℕ) �
 apart tree b m n k u rm rn =
     ⊎_elim (λ tn. top_alone tree b m n tn.0 u)
     (λ ln. ⊎_elim
-    (λ tm. top_alone tree b m n (gathers_global tree b n ln.0 (ap (λ (j : List ℕ). is_readable (gathered_below tree n j (length tree))) tm.1 ∙ ln.1)) u)
+    (λ tm. top_alone tree b m n (gathers_global tree b n ln.0 (ap (λ (j : List ℕ). is_readable (gathered tree n j)) tm.1 ∙ ln.1)) u)
     (λ lm. both_lock tree b m n lm.0 ln.0 u)
     (takes-by tree m k rm))
     (takes-by tree n k rn)

@@ -1,8 +1,10 @@
 pub mod ChildLemmas
-pub mod Columns
+pub mod ColumnLemmas
 pub mod ConflictLemmas
 pub mod DepthLemmas
+pub mod Doubles
 pub mod FaultLemmas
+pub mod Firsts
 pub mod FullLemmas
 pub mod Growth
 pub mod KeyLemmas
@@ -11,5 +13,6 @@ pub mod LockLemmas
 pub mod ModeLemmas
 pub mod PathLemmas
 pub mod Sharing
+pub mod SoFar
 pub mod TopLemmas
 pub mod TreeLemmas

@@ -8,11 +8,12 @@ use Rattle.iso_model.specs.Keys.{global_key}
 use Rattle.iso_model.specs.Rights.{strongest}
 use Rattle.iso_model.specs.declared.access.Access.{Access}
 use Rattle.iso_model.specs.declared.access.Access.TheVariants.{Read, Write}
-use Rattle.iso_plan.proofs.Columns.{length-column, column-read}
+use Rattle.iso_plan.proofs.ColumnLemmas.{length-column, column-read}
 use Rattle.iso_plan.proofs.KeyLemmas.{global-first}
 use Rattle.iso_plan.proofs.PathLemmas.{IsBelow, eq_from, eq_same, under-outermost, outermost-own, under-le}
+use Rattle.iso_plan.proofs.SoFar.{all-taken, gathered_below, taken_below}
 use Rattle.iso_plan.specs.KeyTable.{keys}
-use Rattle.iso_plan.specs.Locks.{declared, declares, gathered_below, global_access, holds_isolated, is_locking, is_that, lock_of, locking_node, locks, locks_from, taken_below, taken}
+use Rattle.iso_plan.specs.Locks.{declared, declares, global_access, holds_isolated, is_locking, is_that, lock_of, locking_node, locks, locks_from, taken}
 use Rattle.iso_plan.specs.Paths.{column, is_root, is_top, is_under}
 use Rattle.iso_plan.specs.Tables.{own_global, own_table, with_first}
 use Rattle.iso_plan.specs.Tree.{Row}
@@ -185,7 +186,7 @@ table-fits tree l tables n m t h =
 -- where all is gathered, the tables have the locks
 pub tables-end : (tree : List Row) (l : ℕ) (tables : List (List (Option Access))) (m : ℕ) → TablesAre tree l tables (length tree) → m < l → locks_from 0 (get_or tables m []) ≡ locks tree m
 tables-end tree l tables m t h =
-    listed-from (taken tree m) (keys tree) (get_or tables m []) 0 (table-fits tree l tables (length tree) m t h) (λ i k. t.so_far m i h k)
+    listed-from (taken tree m) (keys tree) (get_or tables m []) 0 (table-fits tree l tables (length tree) m t h) (λ i k. t.so_far m i h k ∙ sym (all-taken tree m (get_or (keys tree) i [])))
 
 known_by : (os : List (Option Access)) (i most : ℕ) → i + length os ≤ most → AllByRecursion (λ (l : Lock). l.key < most) (locks_from i os)
 known_by [] i most h = tt

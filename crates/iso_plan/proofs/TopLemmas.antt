@@ -3,7 +3,8 @@ use Rattle.std.proofs.Common.{◌≡◌, ℕ, zero, suc, ◌<◌, ◌≤◌, Lis
 use Rattle.std.specs.Option.{option_or}
 use Rattle.iso_plan.proofs.PathLemmas.{IsBelow, along, path-root, path-step, under-outermost, under-le, outermost-own}
 use Rattle.iso_plan.proofs.LockLemmas.{that-is, that-self}
-use Rattle.iso_plan.specs.Locks.{is_that, isolates, isolates_below}
+use Rattle.iso_plan.proofs.SoFar.{isolates_below}
+use Rattle.iso_plan.specs.Locks.{is_that, isolates}
 use Rattle.iso_plan.specs.Paths.{is_root, is_top, is_under, outermost, parent, path}
 use Rattle.iso_plan.specs.Tree.{Row}
 

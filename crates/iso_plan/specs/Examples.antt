@@ -50,6 +50,16 @@ till = a_class (codes "Till") None true [] (member (a_test (codes "d") None []) 
 abbrev pub desk : Class
 desk = a_class (codes "Desk") None false [] (member (a_test (codes "c") None []) (member (class_member till) no_members))
 
+-- nodes 1 and 2 of isolated class Till { test d { } }: Till, d
+abbrev pub isolated_alone : List Row
+isolated_alone = tree (shop (till ∷ []) ∷ [])
+
+-- nodes 1 to 4 of class Hall { class Desk { isolated class Till { test d { } } } }: Hall, Desk, Till, d
+abbrev pub isolated_deep : List Row
+isolated_deep =
+    tree (shop (a_class (codes "Hall") None false []
+    (member (class_member (a_class (codes "Desk") None false [] (member (class_member till) no_members))) no_members) ∷ []) ∷ [])
+
 -- nodes 1 to 7: Cart, a, b, Desk, c, Till, d
 abbrev pub cart_and_desk : List Row
 cart_and_desk = tree (shop (cart ∷ desk ∷ []) ∷ [])

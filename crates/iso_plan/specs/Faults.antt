@@ -1,10 +1,11 @@
 -- What makes scripts no plan.
-use Rattle.std.specs.Prelude.{◌≡◌, ℕ, ◌+◌, ◌<◌, List, [], ◌∷◌, ◌++◌, map, length, Bool, true, false, cond, nat_lt, Option, Some, None, ⊤}
+use Rattle.std.specs.Prelude.{◌≡◌, ℕ, ◌+◌, ◌<◌, List, [], ◌∷◌, ◌++◌, ◌||◌, map, length, Bool, false, cond, nat_lt, Option, Some, None, ⊤}
+use Rattle.std.specs.List.{list_any}
+use Rattle.std.specs.Str.{bytes_eq}
 use Rattle.iso_model.specs.Scripts.{Class, class, Script}
 use Rattle.iso_model.specs.declared.limits.TheConstants.{SCRIPTS, NODES, KEYS}
 use Rattle.iso_plan.specs.KeyTable.{keys}
 use Rattle.iso_plan.specs.Tree.{in_team, tree}
-use Rattle.iso_model.specs.NameSets.{is_among}
 use Rattle.iso_plan.specs.declared.fault.PlanFault.{PlanFault}
 use Rattle.iso_plan.specs.declared.fault.PlanFault.TheVariants.{DoubleClass, TooManyNodes, TooManyKeys, TooManyScripts}
 use Rattle.iso_plan.specs.declared.fault.PlanError.{PlanError}
@@ -22,17 +23,17 @@ abbrev pub top_names : List Script → List (List ℕ)
 top_names [] = []
 top_names (s ∷ ss) = team_names s.team s.classes ++ top_names ss
 
--- whether one of the names is among these or is an earlier one
-abbrev pub has_double : List (List ℕ) → List (List ℕ) → Bool
-has_double seen [] = false
-has_double seen (n ∷ ns) = cond (is_among seen n) true (has_double (seen ++ n ∷ []) ns)
+-- whether a name stands again after it: the names are not all distinct
+abbrev pub has_double : List (List ℕ) → Bool
+has_double [] = false
+has_double (n ∷ ns) = list_any (bytes_eq n) ns || has_double ns
 
 -- the first fault of scripts: their number; two top-level classes of one team and name; the number of nodes with the
 -- root; the number of different keys that are declared, besides the global key
 abbrev pub plan_fault : List Script → Option PlanFault
 plan_fault scripts =
     cond (nat_lt SCRIPTS (length scripts)) (Some TooManyScripts)
-    (cond (has_double [] (top_names scripts)) (Some DoubleClass)
+    (cond (has_double (top_names scripts)) (Some DoubleClass)
     (cond (nat_lt NODES (length (tree scripts))) (Some TooManyNodes)
     (cond (nat_lt (KEYS + 1) (length (keys (tree scripts)))) (Some TooManyKeys) None)))
 

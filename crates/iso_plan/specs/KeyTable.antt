@@ -1,7 +1,8 @@
 -- The keys of a tree, numbered in the order in which they are first marked, the global key first.
-use Rattle.std.specs.Prelude.{ℕ, List, [], ◌∷◌}
+use Rattle.std.specs.Prelude.{ℕ, List, [], ◌∷◌, filter, map, not}
+use Rattle.std.specs.List.{flat_map}
 use Rattle.std.specs.Str.{bytes_eq}
-use Rattle.indexmap.specs.IndexSet.{insert_key}
+use Rattle.indexmap.specs.IndexSet.{insert_all}
 use Rattle.iso_model.specs.Keys.{global_key}
 use Rattle.iso_model.specs.declared.heads.Mark.{Mark}
 use Rattle.iso_plan.specs.Tree.{Kind, root, class_node, test_node, Row}
@@ -12,16 +13,20 @@ written_marks root = []
 written_marks (class_node isolated head) = head.marks
 written_marks (test_node head) = head.marks
 
--- keys, and those of marks that aren't among them yet
-abbrev pub with_marks : List (List ℕ) → List Mark → List (List ℕ)
-with_marks keys [] = keys
-with_marks keys (m ∷ ms) = with_marks (insert_key bytes_eq keys m.key) ms
+-- the keys that marks name
+abbrev pub mark_keys : List Mark → List (List ℕ)
+mark_keys marks = map (λ (m : Mark). m.key) marks
 
--- keys, and those that are marked on nodes and aren't among them yet
-abbrev pub with_rows : List (List ℕ) → List Row → List (List ℕ)
-with_rows keys [] = keys
-with_rows keys (r ∷ rs) = with_rows (with_marks keys (written_marks r.kind)) rs
+-- the keys that are marked on nodes, in the order in which they are written
+abbrev pub marked_keys : List Row → List (List ℕ)
+marked_keys rows = flat_map (λ (r : Row). mark_keys (written_marks r.kind)) rows
 
--- the keys of a tree: a key's number is its place
+-- the first of each of some texts
+abbrev pub firsts : List (List ℕ) → List (List ℕ)
+firsts [] = []
+firsts (k ∷ ks) = k ∷ filter (λ other. not (bytes_eq k other)) (firsts ks)
+
+-- the keys of a tree: the global key and all that are marked on its nodes, each where it isn't there yet, so the first of each
+-- (`laws::keys_are_the_first_of_each`). A key's number is its place.
 abbrev pub keys : List Row → List (List ℕ)
-keys tree = with_rows (global_key ∷ []) tree
+keys tree = insert_all bytes_eq (global_key ∷ []) (marked_keys tree)

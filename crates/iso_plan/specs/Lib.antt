@@ -1,9 +1,9 @@
 pub mod Children
+pub mod Columns
 pub mod Conflicts
 pub mod Covers
 pub mod Examples
 pub mod Faults
-pub mod Gathered
 pub mod IsPlan
 pub mod KeyTable
 pub mod Locks

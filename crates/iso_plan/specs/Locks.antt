@@ -1,6 +1,6 @@
 -- The locks that a node takes: its own and its descendants' marks, gathered at the locking node.
-use Rattle.std.specs.Prelude.{ℕ, zero, suc, List, [], ◌∷◌, ◌++◌, length, map, Option, Some, None, Bool, false, ◌||◌, ◌&&◌, ◌==◌, not, cond}
-use Rattle.std.specs.List.{list_any}
+use Rattle.std.specs.Prelude.{ℕ, suc, List, [], ◌∷◌, ◌++◌, length, map, Option, Some, None, Bool, false, ◌||◌, ◌&&◌, ◌==◌, not, cond}
+use Rattle.std.specs.List.{flat_map, list_any}
 use Rattle.std.specs.Str.{bytes_eq}
 use Rattle.iso_model.specs.Keys.{global_key}
 use Rattle.iso_model.specs.Rights.{Rights, strongest, rights_of, is_writable}
@@ -8,7 +8,7 @@ use Rattle.iso_model.specs.declared.access.Access.{Access}
 use Rattle.iso_model.specs.declared.access.Access.TheVariants.{Read, Write}
 use Rattle.iso_model.specs.declared.heads.Mark.{Mark}
 use Rattle.iso_plan.specs.KeyTable.{keys, written_marks}
-use Rattle.iso_plan.specs.Paths.{row_at, path, is_under, is_top, outermost}
+use Rattle.iso_plan.specs.Paths.{row_at, path, is_top, nodes_under, outermost}
 use Rattle.iso_plan.specs.Tree.{Kind, root, class_node, test_node, Row}
 use Rattle.iso_plan.specs.declared.lock.Lock.{Lock}
 
@@ -34,14 +34,9 @@ marks_global marks = list_any (λ (m : Mark). bytes_eq global_key m.key) marks
 abbrev pub isolates : List Row → ℕ → Bool
 isolates tree n = is_isolated (row_at tree n).kind || marks_global (effective_marks tree n)
 
--- whether a node with a number below n that is m or stands in it asks for isolation
-abbrev pub isolates_below : List Row → ℕ → ℕ → Bool
-isolates_below tree m zero = false
-isolates_below tree m (suc n) = (is_under tree m n && isolates tree n) || isolates_below tree m n
-
--- whether a top-level class is isolated, or holds an isolated class at any depth
+-- whether a node is a top-level class that is isolated, or holds an isolated class at any depth
 abbrev pub holds_isolated : List Row → ℕ → Bool
-holds_isolated tree n = is_top tree n && isolates_below tree n (length tree)
+holds_isolated tree n = is_top tree n && list_any (isolates tree) (nodes_under tree n)
 
 -- whether a node is marked
 abbrev pub is_marked : List Row → ℕ → Bool
@@ -64,27 +59,19 @@ is_that (Some n) m = n == m
 abbrev pub is_locking : List Row → ℕ → Bool
 is_locking tree n = is_that (locking_node tree n) n
 
--- the strongest access that a key is marked with by a node with a number below n that is m or stands in it
-abbrev pub gathered_below : List Row → ℕ → List ℕ → ℕ → Option Access
-gathered_below tree m k zero = None
-gathered_below tree m k (suc n) =
-    strongest (cond (is_under tree m n) (declared tree n k) None) (gathered_below tree m k n)
+-- what is marked at or under a node: each key in the strongest access
+abbrev pub gathered : List Row → ℕ → Rights
+gathered tree n = rights_of (flat_map (effective_marks tree) (nodes_under tree n))
 
 -- the access with which a top-level class takes the global key: READ_WRITE where it holds an isolated class, else READ
 abbrev pub global_access : List Row → ℕ → List ℕ → Option Access
 global_access tree n k =
     cond (is_top tree n && bytes_eq global_key k) (Some (cond (holds_isolated tree n) Write Read)) None
 
--- the access with which a node takes a key, if it does, where only the nodes with a number below i are looked at. A
--- locking node takes what is marked on it and below it, each key in the strongest access; a top-level class takes the
--- global key besides.
-abbrev pub taken_below : List Row → ℕ → List ℕ → ℕ → Option Access
-taken_below tree n k i =
-    strongest (global_access tree n k) (cond (is_locking tree n) (gathered_below tree n k i) None)
-
--- the access with which a node takes a key, if it does
+-- the access with which a node takes a key, if it does: a locking node takes what is marked on it and below it, and a
+-- top-level class the global key besides
 abbrev pub taken : List Row → ℕ → Rights
-taken tree n k = taken_below tree n k (length tree)
+taken tree n k = strongest (global_access tree n k) (cond (is_locking tree n) (gathered tree n k) None)
 
 -- a lock, if there is one
 abbrev pub lock_of : ℕ → Option Access → List Lock

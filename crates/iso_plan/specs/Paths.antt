@@ -1,5 +1,6 @@
 -- Nodes by number, and the path from a node up to the root.
-use Rattle.std.specs.Prelude.{◌≡◌, ℕ, zero, suc, ◌<◌, List, [], ◌∷◌, Option, Some, None, Bool, true, false, ◌||◌, ◌&&◌, ◌==◌, ◌++◌, length, not, cond, slice_index_or}
+use Rattle.std.specs.Prelude.{◌≡◌, ℕ, zero, suc, ◌<◌, List, [], ◌∷◌, Option, Some, None, Bool, true, false, ◌||◌, ◌&&◌, ◌==◌, ◌++◌, filter, length, not, cond, slice_index_or}
+use Rattle.std.specs.List.{range_with_len}
 use Rattle.std.specs.Option.{option_or}
 use Rattle.iso_plan.specs.Tree.{Kind, root, class_node, test_node, Row, root_row}
 
@@ -34,6 +35,10 @@ is_on (n ∷ ns) m = n == m || is_on ns m
 -- whether node n is node m or stands in it at any depth
 abbrev pub is_under : List Row → ℕ → ℕ → Bool
 is_under tree m n = is_on (path tree n) m
+
+-- the numbers of the nodes at or under a node, in order
+abbrev pub nodes_under : List Row → ℕ → List ℕ
+nodes_under tree m = filter (is_under tree m) (range_with_len 0 (length tree))
 
 -- the outermost node of a path that passes a test
 abbrev pub outermost : (ℕ → Bool) → List ℕ → Option ℕ

@@ -1,5 +1,5 @@
 -- What the rows of a plan stand for.
-use Rattle.std.specs.Prelude.{List}
+use Rattle.std.specs.Prelude.{List, map}
 use Rattle.std.specs.Arc.{arc_value}
 use Rattle.iso_model.specs.ScriptView.{class_head_of, test_head_of}
 use Rattle.iso_model.specs.Scripts.{ClassTitle}
@@ -19,6 +19,10 @@ kind_of (Test head) = test_node (test_head_of (arc_value head))
 -- what a row stands for
 abbrev pub row_of : Row → T.Row
 row_of r = record { parent = r.parent; kind = kind_of r.kind; name = r.name; title = r.title; mode = r.mode }
+
+-- the nodes that rows stand for
+abbrev pub nodes_in : List Row → List T.Row
+nodes_in rows = map row_of rows
 
 -- the tree of a plan
 abbrev pub tree_of : Planned → List T.Row

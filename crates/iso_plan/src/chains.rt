@@ -3,7 +3,7 @@ ghost use Rattle.std.specs.Prelude.{◌≡◌, ◌++◌, IfOk, length, map};
 ghost use Rattle.iso_model.specs.ChainView.{innermost_first};
 ghost use Rattle.iso_plan.specs.NodeChains.{chain_classes, class_heads};
 ghost use Rattle.iso_plan.specs.Paths.{IsTree, column};
-ghost use Rattle.iso_plan.specs.RowView.{kind_of, row_of};
+ghost use Rattle.iso_plan.specs.RowView.{kind_of, nodes_in};
 
 use crate::row::{Kind, Row};
 use iso_model::heads::ClassHead;
@@ -12,9 +12,9 @@ use std::sync::Arc;
 
 /// The class heads of each node's chain, outermost first. They share the script's.
 pub(crate) fn chains(alloc: Global, rows: &[Row]) -> Result<Vec<Vec<Arc<ClassHead>>>, AllocError>
-    requires { IsTree (map row_of rows.now) }
+    requires { IsTree (nodes_in rows.now) }
     ensures { IfOk result (λ v. map (λ c. innermost_first c.items) v.items
-        ≡ column (chain_classes (map row_of rows.now)) (length rows.now)) }
+        ≡ column (chain_classes (nodes_in rows.now)) (length rows.now)) }
 {
     let mut chains: Vec<Vec<Arc<ClassHead>>> = Vec::with_capacity(alloc, rows.len())?;
     'nodes: for n in 0..rows.len() {

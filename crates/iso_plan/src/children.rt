@@ -2,17 +2,17 @@
 ghost use Rattle.std.specs.Prelude.{◌≡◌, ◌≤◌, [], IfOk, length, map};
 ghost use Rattle.iso_model.specs.declared.limits.TheConstants.{NODES};
 ghost use Rattle.iso_plan.specs.Paths.{IsTree, children, column};
-ghost use Rattle.iso_plan.specs.RowView.{row_of};
+ghost use Rattle.iso_plan.specs.RowView.{nodes_in};
 
 use crate::row::Row;
 use std::alloc::{AllocError, Global};
 
 /// The numbers of the children of each node, in order.
 pub(crate) fn children(alloc: Global, rows: &[Row]) -> Result<Vec<Vec<u32>>, AllocError>
-    requires tree { IsTree (map row_of rows.now) }
+    requires tree { IsTree (nodes_in rows.now) }
     requires fits { length rows.now ≤ NODES }
     ensures { IfOk result (λ v. map (λ c. c.items) v.items
-        ≡ column (children (map row_of rows.now)) (length rows.now)) }
+        ≡ column (children (nodes_in rows.now)) (length rows.now)) }
 {
     let mut children = no_children(alloc, rows.len())?;
     'nodes: for n in 1..rows.len() {

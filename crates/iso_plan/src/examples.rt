@@ -3,7 +3,7 @@
 ghost use Rattle.std.specs.Prelude.{◌≡◌, [], ◌∷◌, Some, None, false, true};
 ghost use Rattle.iso_model.specs.Keys.{global_key};
 ghost use Rattle.iso_model.specs.declared.script.Mode.TheVariants.{SameThread, Concurrent};
-ghost use Rattle.iso_plan.specs.Examples.{cart_and_desk, concurrent_by_default, concurrent_classes, isolated_with_keys, key_k, key_l, loose, nested, one_thread, read_lock, two_classes, write_lock};
+ghost use Rattle.iso_plan.specs.Examples.{cart_and_desk, concurrent_by_default, concurrent_classes, isolated_alone, isolated_deep, isolated_with_keys, key_k, key_l, loose, nested, one_thread, read_lock, two_classes, write_lock};
 ghost use Rattle.iso_plan.specs.KeyTable.{keys};
 ghost use Rattle.iso_plan.specs.Locks.{conflict, locking_node, locks};
 ghost use Rattle.iso_plan.specs.Modes.{mode};
@@ -41,6 +41,15 @@ pub fn isolation_reaches_up_to_the_top_level_class()
     ensures test { locking_node cart_and_desk 5 ≡ Some 4 }
     ensures till { locks cart_and_desk 6 ≡ [] }
     ensures others { conflict cart_and_desk 1 4 ≡ true }
+{}
+
+/// So does one that is isolated itself, and one that holds an isolated class in a class of its own.
+#[tactic(auto, unfolding(crate::specs::Paths::path))]
+pub fn isolation_is_found_at_each_depth()
+    ensures itself { locks isolated_alone 1 ≡ write_lock 0 ∷ [] }
+    ensures deep { locks isolated_deep 1 ≡ write_lock 0 ∷ [] }
+    ensures between { locks isolated_deep 2 ≡ [] }
+    ensures test { locking_node isolated_deep 4 ≡ Some 1 }
 {}
 
 /// Such a class takes every key that is marked in it.

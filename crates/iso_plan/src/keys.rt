@@ -1,10 +1,11 @@
 //! The keys of a plan, numbered.
 ghost use Rattle.std.specs.Prelude.{◌≡◌, ◌+◌, ◌≤◌, [], IfErr, IfOk, OnOk, length, map};
-ghost use Rattle.indexmap.specs.IndexSet.{keys as set_keys};
+ghost use Rattle.std.specs.Str.{bytes_eq};
+ghost use Rattle.indexmap.specs.IndexSet.{insert_all, keys as set_keys};
 ghost use Rattle.iso_model.specs.declared.limits.TheConstants.{KEYS};
 ghost use Rattle.iso_plan.specs.Faults.{IsCrowded};
-ghost use Rattle.iso_plan.specs.KeyTable.{keys, with_marks, with_rows, written_marks};
-ghost use Rattle.iso_plan.specs.RowView.{kind_of, row_of};
+ghost use Rattle.iso_plan.specs.KeyTable.{keys, mark_keys, written_marks};
+ghost use Rattle.iso_plan.specs.RowView.{kind_of, nodes_in};
 
 use crate::fault::{PlanError, PlanFault};
 use crate::row::{Kind, Row};
@@ -24,9 +25,9 @@ pub(crate) fn number_keys<'a>(
     rows: &'a [Row],
 ) -> Result<(), PlanError>
     requires empty { table.old.keys ≡ [] }
-    ensures keys { OnOk result (map (λ k. k.now) table.new.keys ≡ keys (map row_of rows.now)) }
+    ensures keys { OnOk result (map (λ k. k.now) table.new.keys ≡ keys (nodes_in rows.now)) }
     ensures few { OnOk result (length table.new.keys ≤ KEYS + 1) }
-    ensures crowded { IfErr result (IsCrowded (length (keys (map row_of rows.now)))) }
+    ensures crowded { IfErr result (IsCrowded (length (keys (nodes_in rows.now)))) }
 {
     table.insert(GLOBAL_KEY)?;
     'rows: for row in rows {
@@ -41,7 +42,7 @@ pub(crate) fn number_keys<'a>(
 /// Adds the keys of marks that aren't there yet.
 fn add_marks<'a>(table: &mut IndexSet<&'a str>, marks: &'a [Mark]) -> Result<(), AllocError>
     ensures { OnOk result (map (λ k. k.now) table.new.keys
-        ≡ with_marks (map (λ k. k.now) table.old.keys) marks.now) }
+        ≡ insert_all bytes_eq (map (λ k. k.now) table.old.keys) (mark_keys marks.now)) }
 {
     'marks: for mark in marks {
         table.insert(mark.key.as_str())?;

@@ -1,9 +1,11 @@
 //! Laws of every plan: what the proofs of its runs rest on.
 ghost use Rattle.std.specs.Prelude.{◌≡◌, ◌<◌, ◌≤◌, ◌||◌, ◌++◌, ◌∷◌, [], ℕ, List, false, length, slice_index_or, true};
+ghost use Rattle.iso_model.specs.Keys.{global_key};
 ghost use Rattle.iso_model.specs.Rights.{is_readable, is_writable};
 ghost use Rattle.iso_model.specs.declared.script.Mode.TheVariants.{SameThread};
 ghost use Rattle.iso_plan.specs.Children.{IsChild, IsListed};
 ghost use Rattle.iso_plan.specs.Covers.{IsCovered};
+ghost use Rattle.iso_plan.specs.KeyTable.{firsts, keys, marked_keys};
 ghost use Rattle.iso_plan.specs.Locks.{conflict, is_locking, taken};
 ghost use Rattle.iso_plan.specs.Modes.{mode};
 ghost use Rattle.iso_plan.specs.NodeChains.{chain_classes, class_heads, depth, node_rights};
@@ -25,6 +27,11 @@ pub fn children_have_their_parent(plan: &Plan)
     ensures children { (m i : ℕ) → i < length (children (tree_of plan.now) m)
         → IsChild (tree_of plan.now) m (length (tree_of plan.now)) (slice_index_or (children (tree_of plan.now) m) i 0) }
     ensures listed { (n : ℕ) → 0 < n → n < length (tree_of plan.now) → IsListed (children (tree_of plan.now) (parent (tree_of plan.now) n)) n }
+{}
+
+/// The keys are the first of each of the global key and all keys that are marked, in preorder.
+pub fn keys_are_the_first_of_each(plan: &Plan)
+    ensures { keys (tree_of plan.now) ≡ firsts (global_key ∷ marked_keys (tree_of plan.now)) }
 {}
 
 /// A node stands in one with a smaller number, so that its parent comes before it.

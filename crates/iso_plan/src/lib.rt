@@ -3,10 +3,10 @@
 
 mod chains;
 mod children;
+mod columns;
 pub mod conflict;
 pub mod examples;
 pub mod fault;
-mod gathered;
 mod keys;
 pub mod laws;
 pub mod lock;

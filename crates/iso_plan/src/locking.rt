@@ -1,10 +1,10 @@
 //! The locking node of each path.
-ghost use Rattle.std.specs.Prelude.{◌≡◌, ◌<◌, ◌≤◌, ◌||◌, ◌&&◌, ℕ, false, true, IfOk, IfSome, length, map, slice_index_or};
+ghost use Rattle.std.specs.Prelude.{◌≡◌, ◌<◌, ◌≤◌, ◌||◌, ◌&&◌, ℕ, false, true, IfOk, IfSome, length, slice_index_or};
 ghost use Rattle.iso_model.specs.declared.limits.TheConstants.{NODES};
 ghost use Rattle.iso_plan.specs.KeyTable.{written_marks};
 ghost use Rattle.iso_plan.specs.Locks.{declares, holds_isolated, is_isolated, is_that, locking_node, marks_global};
 ghost use Rattle.iso_plan.specs.Paths.{IsTree, column, outermost, path};
-ghost use Rattle.iso_plan.specs.RowView.{kind_of, row_of};
+ghost use Rattle.iso_plan.specs.RowView.{kind_of, nodes_in};
 
 use crate::keys::GLOBAL_KEY;
 use crate::outermost::outermost;
@@ -14,9 +14,9 @@ use std::alloc::{AllocError, Global};
 
 /// For each node whether it is a top-level class that is isolated or holds an isolated class.
 pub(crate) fn isolated(alloc: Global, rows: &[Row]) -> Result<Vec<bool>, AllocError>
-    requires tree { IsTree (map row_of rows.now) }
+    requires tree { IsTree (nodes_in rows.now) }
     requires fits { length rows.now ≤ NODES }
-    ensures { IfOk result (λ v. v.items ≡ column (holds_isolated (map row_of rows.now)) (length rows.now)) }
+    ensures { IfOk result (λ v. v.items ≡ column (holds_isolated (nodes_in rows.now)) (length rows.now)) }
 {
     let tops = tops(alloc, rows)?;
     let mut isolated = vec![in alloc; false; rows.len()]?;
@@ -40,10 +40,10 @@ fn note_isolation(isolated: &mut Vec<bool>, top: Option<u32>, isolates: bool)
 
 /// The top-level class that each node stands in.
 fn tops(alloc: Global, rows: &[Row]) -> Result<Vec<Option<u32>>, AllocError>
-    requires tree { IsTree (map row_of rows.now) }
+    requires tree { IsTree (nodes_in rows.now) }
     requires fits { length rows.now ≤ NODES }
     ensures { IfOk result (λ v. v.items
-        ≡ column (λ n. outermost (λ m. true) (path (map row_of rows.now) n)) (length rows.now)) }
+        ≡ column (λ n. outermost (λ m. true) (path (nodes_in rows.now) n)) (length rows.now)) }
 {
     let all = vec![in alloc; true; rows.len()]?;
     outermost(alloc, rows, &all)
@@ -55,10 +55,10 @@ pub(crate) fn locking_nodes(
     rows: &[Row],
     isolated: &[bool],
 ) -> Result<Vec<Option<u32>>, AllocError>
-    requires tree { IsTree (map row_of rows.now) }
+    requires tree { IsTree (nodes_in rows.now) }
     requires fits { length rows.now ≤ NODES }
-    requires isolated { isolated.now ≡ column (holds_isolated (map row_of rows.now)) (length rows.now) }
-    ensures { IfOk result (λ v. v.items ≡ column (locking_node (map row_of rows.now)) (length rows.now)) }
+    requires isolated { isolated.now ≡ column (holds_isolated (nodes_in rows.now)) (length rows.now) }
+    ensures { IfOk result (λ v. v.items ≡ column (locking_node (nodes_in rows.now)) (length rows.now)) }
 {
     let declaring = declaring(alloc, rows, isolated)?;
     outermost(alloc, rows, &declaring)
@@ -66,8 +66,8 @@ pub(crate) fn locking_nodes(
 
 /// For each node whether it would lock for all that stands in it.
 fn declaring(alloc: Global, rows: &[Row], isolated: &[bool]) -> Result<Vec<bool>, AllocError>
-    requires { isolated.now ≡ column (holds_isolated (map row_of rows.now)) (length rows.now) }
-    ensures { IfOk result (λ v. v.items ≡ column (declares (map row_of rows.now)) (length rows.now)) }
+    requires { isolated.now ≡ column (holds_isolated (nodes_in rows.now)) (length rows.now) }
+    ensures { IfOk result (λ v. v.items ≡ column (declares (nodes_in rows.now)) (length rows.now)) }
 {
     let mut declaring = Vec::with_capacity(alloc, rows.len())?;
     'nodes: for n in 0..rows.len() {

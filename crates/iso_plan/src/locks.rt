@@ -7,7 +7,7 @@ ghost use Rattle.iso_model.specs.declared.limits.TheConstants.{KEYS, NODES};
 ghost use Rattle.iso_plan.specs.KeyTable.{keys};
 ghost use Rattle.iso_plan.specs.Locks.{holds_isolated, is_that, locking_node, locks, locks_from};
 ghost use Rattle.iso_plan.specs.Paths.{IsTree, column, is_root};
-ghost use Rattle.iso_plan.specs.RowView.{row_of};
+ghost use Rattle.iso_plan.specs.RowView.{nodes_in};
 ghost use Rattle.iso_plan.specs.Tables.{own_table, with_first};
 
 use crate::lock::Lock;
@@ -25,13 +25,13 @@ pub(crate) fn locks(
     isolated: &[bool],
     locking: &[Option<u32>],
 ) -> Result<Vec<Vec<Lock>>, AllocError>
-    requires tree { IsTree (map row_of rows.now) }
+    requires tree { IsTree (nodes_in rows.now) }
     requires fits { length rows.now ≤ NODES }
-    requires keys { map (λ k. k.now) key_table.now.keys ≡ keys (map row_of rows.now) }
-    requires few { length (keys (map row_of rows.now)) ≤ KEYS + 1 }
-    requires isolated { isolated.now ≡ column (holds_isolated (map row_of rows.now)) (length rows.now) }
-    requires locking { locking.now ≡ column (locking_node (map row_of rows.now)) (length rows.now) }
-    ensures { IfOk result (λ v. map (λ l. l.items) v.items ≡ column (locks (map row_of rows.now)) (length rows.now)) }
+    requires keys { map (λ k. k.now) key_table.now.keys ≡ keys (nodes_in rows.now) }
+    requires few { length (keys (nodes_in rows.now)) ≤ KEYS + 1 }
+    requires isolated { isolated.now ≡ column (holds_isolated (nodes_in rows.now)) (length rows.now) }
+    requires locking { locking.now ≡ column (locking_node (nodes_in rows.now)) (length rows.now) }
+    ensures { IfOk result (λ v. map (λ l. l.items) v.items ≡ column (locks (nodes_in rows.now)) (length rows.now)) }
 {
     let mut tables = own_tables(alloc, rows, key_table.len(), isolated, locking)?;
     'nodes: for n in 0..rows.len() {
@@ -52,9 +52,9 @@ fn own_tables(
     locking: &[Option<u32>],
 ) -> Result<Vec<Vec<Option<Access>>>, AllocError>
     requires fits { length rows.now ≤ NODES }
-    requires isolated { isolated.now ≡ column (holds_isolated (map row_of rows.now)) (length rows.now) }
-    requires locking { locking.now ≡ column (locking_node (map row_of rows.now)) (length rows.now) }
-    ensures { IfOk result (λ v. map (λ t. t.items) v.items ≡ column (own_table (map row_of rows.now) count) (length rows.now)) }
+    requires isolated { isolated.now ≡ column (holds_isolated (nodes_in rows.now)) (length rows.now) }
+    requires locking { locking.now ≡ column (locking_node (nodes_in rows.now)) (length rows.now) }
+    ensures { IfOk result (λ v. map (λ t. t.items) v.items ≡ column (own_table (nodes_in rows.now) count) (length rows.now)) }
 {
     let mut tables = Vec::with_capacity(alloc, rows.len())?;
     'nodes: for n in 0..rows.len() {

@@ -5,7 +5,7 @@ ghost use Rattle.iso_model.specs.declared.script.Mode.TheVariants.{SameThread};
 ghost use Rattle.iso_plan.specs.Locks.{is_write, locks, takes_write};
 ghost use Rattle.iso_plan.specs.Modes.{mode, nearest_mode};
 ghost use Rattle.iso_plan.specs.Paths.{IsTree, column, path};
-ghost use Rattle.iso_plan.specs.RowView.{row_of};
+ghost use Rattle.iso_plan.specs.RowView.{nodes_in};
 
 use crate::lock::Lock;
 use crate::row::Row;
@@ -22,9 +22,9 @@ pub(crate) fn modes(
     settings: Settings,
     taken: &[Vec<Lock>],
 ) -> Result<Vec<Mode>, AllocError>
-    requires tree { IsTree (map row_of rows.now) }
-    requires taken { map (λ l. l.items) taken.now ≡ column (locks (map row_of rows.now)) (length rows.now) }
-    ensures { IfOk result (λ v. v.items ≡ column (mode (map row_of rows.now) settings) (length rows.now)) }
+    requires tree { IsTree (nodes_in rows.now) }
+    requires taken { map (λ l. l.items) taken.now ≡ column (locks (nodes_in rows.now)) (length rows.now) }
+    ensures { IfOk result (λ v. v.items ≡ column (mode (nodes_in rows.now) settings) (length rows.now)) }
 {
     let marked = nearest_modes(alloc, rows)?;
     let writing = writing(alloc, rows, taken)?;
@@ -55,9 +55,9 @@ fn mode_of(settings: Settings, top: bool, forced: bool, marked: Option<Mode>) ->
 
 /// For each node the mode that is marked on it, or on the nearest enclosing class that has one.
 fn nearest_modes(alloc: Global, rows: &[Row]) -> Result<Vec<Option<Mode>>, AllocError>
-    requires { IsTree (map row_of rows.now) }
+    requires { IsTree (nodes_in rows.now) }
     ensures { IfOk result (λ v. v.items
-        ≡ column (λ n. nearest_mode (map row_of rows.now) (path (map row_of rows.now) n)) (length rows.now)) }
+        ≡ column (λ n. nearest_mode (nodes_in rows.now) (path (nodes_in rows.now) n)) (length rows.now)) }
 {
     let mut marked: Vec<Option<Mode>> = Vec::with_capacity(alloc, rows.len())?;
     marked.push(None)?;
@@ -70,10 +70,10 @@ fn nearest_modes(alloc: Global, rows: &[Row]) -> Result<Vec<Option<Mode>>, Alloc
 
 /// For each node whether it, or a class that it stands in, takes a key for READ_WRITE.
 fn writing(alloc: Global, rows: &[Row], taken: &[Vec<Lock>]) -> Result<Vec<bool>, AllocError>
-    requires tree { IsTree (map row_of rows.now) }
-    requires taken { map (λ l. l.items) taken.now ≡ column (locks (map row_of rows.now)) (length rows.now) }
+    requires tree { IsTree (nodes_in rows.now) }
+    requires taken { map (λ l. l.items) taken.now ≡ column (locks (nodes_in rows.now)) (length rows.now) }
     ensures { IfOk result (λ v. v.items
-        ≡ column (λ n. list_any (takes_write (map row_of rows.now)) (path (map row_of rows.now) n)) (length rows.now)) }
+        ≡ column (λ n. list_any (takes_write (nodes_in rows.now)) (path (nodes_in rows.now) n)) (length rows.now)) }
 {
     let mut writing: Vec<bool> = Vec::with_capacity(alloc, rows.len())?;
     writing.push(false)?;

@@ -1,5 +1,5 @@
 //! The names of top-level classes, which have to differ.
-ghost use Rattle.std.specs.Prelude.{◌≡◌, ◌++◌, [], IfOk, OnOk, map};
+ghost use Rattle.std.specs.Prelude.{◌≡◌, ◌++◌, IfOk, OnOk, map};
 ghost use Rattle.iso_model.specs.ScriptView.{class_of, script_of};
 ghost use Rattle.iso_plan.specs.Faults.{has_double, team_names, top_names};
 
@@ -12,7 +12,7 @@ use std::collections::BTreeSet;
 
 /// Whether two top-level classes have one team and name.
 pub(crate) fn has_double_class(alloc: Global, scripts: &[Script]) -> Result<bool, AllocError>
-    ensures { IfOk result (λ b. b ≡ has_double [] (top_names (map script_of scripts.now))) }
+    ensures { IfOk result (λ b. b ≡ has_double (top_names (map script_of scripts.now))) }
 {
     let names = top_names(alloc, scripts)?;
     has_double(alloc, &names)
@@ -46,7 +46,7 @@ fn add_names(
 
 /// Whether one of the names stands twice.
 fn has_double(alloc: Global, names: &[Text]) -> Result<bool, AllocError>
-    ensures { IfOk result (λ b. b ≡ has_double [] names.now) }
+    ensures { IfOk result (λ b. b ≡ has_double names.now) }
 {
     let mut seen = BTreeSet::new(alloc);
     'names: for name in names {

@@ -1,8 +1,8 @@
 //! The outermost node of each path that passes a test.
-ghost use Rattle.std.specs.Prelude.{◌≡◌, ◌≤◌, ℕ, Bool, cond, IfOk, length, map};
+ghost use Rattle.std.specs.Prelude.{◌≡◌, ◌≤◌, ℕ, Bool, cond, IfOk, length};
 ghost use Rattle.iso_model.specs.declared.limits.TheConstants.{NODES};
 ghost use Rattle.iso_plan.specs.Paths.{IsTree, column, outermost, path};
-ghost use Rattle.iso_plan.specs.RowView.{row_of};
+ghost use Rattle.iso_plan.specs.RowView.{nodes_in};
 
 use crate::row::Row;
 use std::alloc::{AllocError, Global};
@@ -13,11 +13,11 @@ pub(crate) fn outermost(
     rows: &[Row],
     passes: &[bool],
 ) -> Result<Vec<Option<u32>>, AllocError>
-    requires tree { IsTree (map row_of rows.now) }
+    requires tree { IsTree (nodes_in rows.now) }
     requires fits { length rows.now ≤ NODES }
     requires each { length passes.now ≡ length rows.now }
     ensures { (test : ℕ → Bool) → passes.now ≡ column test (length rows.now) → IfOk result (λ v. v.items
-        ≡ column (λ n. outermost test (path (map row_of rows.now) n)) (length rows.now)) }
+        ≡ column (λ n. outermost test (path (nodes_in rows.now) n)) (length rows.now)) }
 {
     let mut found: Vec<Option<u32>> = Vec::with_capacity(alloc, rows.len())?;
     found.push(None)?;

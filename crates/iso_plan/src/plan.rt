@@ -14,8 +14,8 @@ ghost use Rattle.iso_plan.specs.Paths.{IsTree, children, is_test, parent_of, row
 ghost use Rattle.iso_plan.specs.RowView.{tree_of};
 ghost use Rattle.iso_plan.specs.Tree.{tree};
 
+use crate::columns::{chain_all, key_all};
 use crate::fault::{PlanError, PlanFault};
-use crate::gathered::{chain_all, gather};
 use crate::lock::Lock;
 use crate::names::has_double_class;
 use crate::row::{Kind, Row};
@@ -55,15 +55,15 @@ impl Model for Plan {
     ghost use Rattle.std.specs.Coded.{codes};
     ghost use Rattle.iso_plan.specs.IsPlan.{IsPlan};
     ghost use Rattle.iso_plan.specs.Planned.{Planned};
-    ghost use Rattle.iso_plan.specs.RowView.{row_of};
+    ghost use Rattle.iso_plan.specs.RowView.{nodes_in};
 
     ghost Value = { Planned };
 
     ghost coded = { Prim.hlevel (codes, acts_code) };
 
-    ghost view = { λ p. record { rows = map row_of p.rows.items; settings = p.settings } };
+    ghost view = { λ p. record { rows = nodes_in p.rows.items; settings = p.settings } };
 
-    ghost invariant = { λ p. IsPlan (map row_of p.rows.items) p.settings (map (λ c. c.items) p.children.items)
+    ghost invariant = { λ p. IsPlan (nodes_in p.rows.items) p.settings (map (λ c. c.items) p.children.items)
         (map (λ c. innermost_first c.items) p.chains.items) (map access_in p.rights.items) p.keys.items
         p.locking.items (map (λ l. l.items) p.locks.items) p.modes.items };
 }
@@ -86,18 +86,18 @@ pub fn build(alloc: Global, scripts: &[Script], settings: &Settings) -> Result<P
         return Err(PlanError::Fault(PlanFault::DoubleClass));
     }
     let rows = tree(alloc, scripts)?;
+    let keyed = key_all(alloc, &rows, *settings)?;
     let chained = chain_all(alloc, &rows)?;
-    let gathered = gather(alloc, &rows, *settings)?;
     Ok(Plan {
         rows,
         settings: *settings,
         children: chained.children,
         chains: chained.chains,
         rights: chained.rights,
-        keys: gathered.keys,
-        locking: gathered.locked.locking,
-        locks: gathered.locked.locks,
-        modes: gathered.modes,
+        keys: keyed.keys,
+        locking: keyed.locked.locking,
+        locks: keyed.locked.locks,
+        modes: keyed.modes,
     })
 }
 

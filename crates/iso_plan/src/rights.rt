@@ -4,7 +4,7 @@ ghost use Rattle.iso_model.specs.ChainView.{innermost_first};
 ghost use Rattle.iso_model.specs.Rights.{access_in};
 ghost use Rattle.iso_plan.specs.NodeChains.{chain_classes, node_rights, rights_with};
 ghost use Rattle.iso_plan.specs.Paths.{column};
-ghost use Rattle.iso_plan.specs.RowView.{kind_of, row_of};
+ghost use Rattle.iso_plan.specs.RowView.{kind_of, nodes_in};
 
 use crate::row::{Kind, Row};
 use iso_model::chain::Chain;
@@ -19,8 +19,8 @@ pub(crate) fn rights(
     rows: &[Row],
     chains: &[Vec<Arc<ClassHead>>],
 ) -> Result<Vec<Rights>, AllocError>
-    requires { map (λ c. innermost_first c.items) chains.now ≡ column (chain_classes (map row_of rows.now)) (length rows.now) }
-    ensures { IfOk result (λ v. map access_in v.items ≡ column (node_rights (map row_of rows.now)) (length rows.now)) }
+    requires { map (λ c. innermost_first c.items) chains.now ≡ column (chain_classes (nodes_in rows.now)) (length rows.now) }
+    ensures { IfOk result (λ v. map access_in v.items ≡ column (node_rights (nodes_in rows.now)) (length rows.now)) }
 {
     let mut rights: Vec<Rights> = Vec::with_capacity(alloc, rows.len())?;
     'nodes: for n in 0..rows.len() {

@@ -3,7 +3,7 @@ ghost use Rattle.std.specs.Prelude.{◌≡◌, ◌+◌, ◌≤◌, ◌++◌, ◌
 ghost use Rattle.iso_model.specs.ScriptView.{class_of, member_of, members_of, script_of, test_of};
 ghost use Rattle.iso_model.specs.declared.limits.TheConstants.{NODES};
 ghost use Rattle.iso_plan.specs.Faults.{IsFull};
-ghost use Rattle.iso_plan.specs.RowView.{row_of, title_of};
+ghost use Rattle.iso_plan.specs.RowView.{nodes_in, row_of, title_of};
 ghost use Rattle.iso_plan.specs.Tree.{in_team, class_row, class_rows, member_rows, members_rows, root_row, script_rows, team_rows, test_row, top_row, top_rows, tree};
 
 use crate::fault::{PlanError, PlanFault};
@@ -16,7 +16,7 @@ use std::alloc::{AllocError, Global};
 /// The nodes of scripts in preorder, after the root: scripts as handed in, members as written.
 /// More than 4,096 are `TooManyNodes`.
 pub(crate) fn tree(alloc: Global, scripts: &[Script]) -> Result<Vec<Row>, PlanError>
-    ensures tree { IfOk result (λ v. map row_of v.items ≡ tree (map script_of scripts.now)) }
+    ensures tree { IfOk result (λ v. nodes_in v.items ≡ tree (map script_of scripts.now)) }
     ensures fits { IfOk result (λ v. vec_len v ≤ NODES) }
     ensures full { IfErr result (IsFull (length (tree (map script_of scripts.now)))) }
 {
@@ -43,7 +43,7 @@ fn root(alloc: Global) -> Row
 
 /// Adds a node.
 fn add(rows: &mut Vec<Row>, row: Row) -> Result<(), PlanError>
-    ensures ok { OnOk result (map row_of rows.new.items ≡ map row_of rows.old.items ++ row_of row ∷ []) }
+    ensures ok { OnOk result (nodes_in rows.new.items ≡ nodes_in rows.old.items ++ row_of row ∷ []) }
     ensures fits { OnOk result (vec_len rows.new ≤ NODES) }
     ensures full { IfErr result (IsFull (vec_len rows.old + 1)) }
 {
@@ -57,7 +57,7 @@ fn add(rows: &mut Vec<Row>, row: Row) -> Result<(), PlanError>
 /// Adds the nodes of a team's classes.
 fn add_team(alloc: Global, rows: &mut Vec<Row>, script: &Script) -> Result<(), PlanError>
     requires { vec_len rows.old ≤ NODES }
-    ensures ok { OnOk result (map row_of rows.new.items ≡ map row_of rows.old.items
+    ensures ok { OnOk result (nodes_in rows.new.items ≡ nodes_in rows.old.items
         ++ team_rows script.now.team (vec_len rows.old) (map class_of script.now.classes.items)) }
     ensures fits { OnOk result (vec_len rows.new ≤ NODES) }
     ensures full { IfErr result (IsFull (vec_len rows.old
@@ -72,7 +72,7 @@ fn add_team(alloc: Global, rows: &mut Vec<Row>, script: &Script) -> Result<(), P
 /// Adds the nodes of a top-level class of a team.
 fn add_top(alloc: Global, rows: &mut Vec<Row>, team: &Text, class: &Class) -> Result<(), PlanError>
     requires { vec_len rows.old ≤ NODES }
-    ensures ok { OnOk result (map row_of rows.new.items ≡ map row_of rows.old.items
+    ensures ok { OnOk result (nodes_in rows.new.items ≡ nodes_in rows.old.items
         ++ top_rows team.now (vec_len rows.old) (class_of class.now)) }
     ensures fits { OnOk result (vec_len rows.new ≤ NODES) }
     ensures full { IfErr result (IsFull (vec_len rows.old
@@ -92,7 +92,7 @@ fn add_class(
     class: &Class,
 ) -> Result<(), PlanError>
     requires { vec_len rows.old ≤ NODES }
-    ensures ok { OnOk result (map row_of rows.new.items ≡ map row_of rows.old.items
+    ensures ok { OnOk result (nodes_in rows.new.items ≡ nodes_in rows.old.items
         ++ class_rows parent (vec_len rows.old) (class_of class.now)) }
     ensures fits { OnOk result (vec_len rows.new ≤ NODES) }
     ensures full { IfErr result (IsFull (vec_len rows.old
@@ -112,7 +112,7 @@ fn add_members(
     members: &[Member],
 ) -> Result<(), PlanError>
     requires { vec_len rows.old ≤ NODES }
-    ensures ok { OnOk result (map row_of rows.new.items ≡ map row_of rows.old.items
+    ensures ok { OnOk result (nodes_in rows.new.items ≡ nodes_in rows.old.items
         ++ members_rows parent (vec_len rows.old) (members_of (map member_of members.now))) }
     ensures fits { OnOk result (vec_len rows.new ≤ NODES) }
     ensures full { IfErr result (IsFull (vec_len rows.old
@@ -133,7 +133,7 @@ fn add_member(
     member: &Member,
 ) -> Result<(), PlanError>
     requires { vec_len rows.old ≤ NODES }
-    ensures ok { OnOk result (map row_of rows.new.items ≡ map row_of rows.old.items
+    ensures ok { OnOk result (nodes_in rows.new.items ≡ nodes_in rows.old.items
         ++ member_rows parent (vec_len rows.old) (member_of member.now)) }
     ensures fits { OnOk result (vec_len rows.new ≤ NODES) }
     ensures full { IfErr result (IsFull (vec_len rows.old

@@ -10,7 +10,7 @@ use Rattle.iso_locks.specs.Slots.{HasLater, slot}
 use Rattle.iso_locks.specs.Trays.{GoesOn, TrayView, key_at, marked, may_write, undone}
 use Rattle.iso_locks.specs.Vaults.{IsLentTo, giving_back, value_in}
 use Rattle.iso_model.specs.Rights.{is_writable}
-use Rattle.iso_plan.proofs.Columns.{length-column}
+use Rattle.iso_plan.proofs.ColumnLemmas.{length-column}
 use Rattle.iso_plan.proofs.PathLemmas.{under-self}
 use Rattle.iso_plan.specs.Locks.{locks}
 use Rattle.iso_plan.specs.NodeChains.{node_rights}

@@ -1,7 +1,7 @@
 use Rattle.std.proofs.Common.{◌≡◌, [], ◌∷◌, ◌++◌, ◌<◌, ℕ, List, Option, None, cond, length, map, get_or, ap₂, sym, ◌∙◌, arith}
 use Rattle.std.proofs.lemmas.List.{get_or-map}
 use Rattle.iso_model.specs.Rights.{access_in, is_writable}
-use Rattle.iso_plan.proofs.Columns.{column-push}
+use Rattle.iso_plan.proofs.ColumnLemmas.{column-push}
 use Rattle.iso_store.specs.Histories.{History}
 use Rattle.iso_locks.specs.Trays.{kept_at}
 use Rattle.iso_locks.specs.declared.starting.Starting.{Starting}

@@ -1,7 +1,7 @@
 use Rattle.std.proofs.Common.{◌≡◌, [], ◌++◌, ◌<◌, List, length, map, get_or, ap, ap₂, sym, ◌∙◌, arith}
 use Rattle.std.proofs.lemmas.List.{length-map, map_push, get_or-map}
 use Rattle.iso_model.specs.ChainView.{innermost_first}
-use Rattle.iso_plan.proofs.Columns.{length-column, column-read, column-push, row-at}
+use Rattle.iso_plan.proofs.ColumnLemmas.{length-column, column-read, column-push, row-at}
 use Rattle.iso_plan.proofs.PathLemmas.{path-root, chain-step}
 use Rattle.iso_plan.specs.NodeChains.{chain_classes, class_heads, heads_on}
 use Rattle.iso_plan.specs.Paths.{column, parent, row_at}

@@ -1,6 +1,6 @@
 use Rattle.std.proofs.Common.{◌≡◌, [], ◌++◌, ◌∷◌, ◌<◌, length, map, get_or, ap, sym, ◌∙◌, arith}
 use Rattle.std.proofs.lemmas.List.{length-map, map-set, get_or-map, get_or_default}
-use Rattle.iso_plan.proofs.Columns.{length-column, column-read, column-from, row-at, children-next}
+use Rattle.iso_plan.proofs.ColumnLemmas.{length-column, column-read, column-from, row-at, children-next}
 use Rattle.iso_plan.specs.Paths.{parent, children, children_below}
 use Rattle.iso_plan.specs.RowView.{row_of}
 use Rattle.iso_plan.proofs.children.children.Goals as goal

@@ -2,7 +2,7 @@ use Rattle.std.proofs.Common.{◌≡◌, [], ℕ, List, map, ap, ◌∙◌, arit
 use Rattle.std.proofs.lemmas.List.{map_push}
 use Rattle.std.specs.declared.alloc.Global.{Global}
 use Rattle.std.specs.declared.vec.Vec.{Vec}
-use Rattle.iso_plan.proofs.Columns.{column-push}
+use Rattle.iso_plan.proofs.ColumnLemmas.{column-push}
 use Rattle.iso_plan.specs.Paths.{column}
 use Rattle.iso_plan.proofs.children.no_children.Goals as goal
 

@@ -3,9 +3,9 @@ use Rattle.std.proofs.lemmas.List.{map_push}
 use Rattle.std.specs.Bool.{if◌then◌else◌}
 use Rattle.std.specs.List.{list_any}
 use Rattle.std.specs.Str.{bytes_eq}
-use Rattle.indexmap.specs.IndexSet.{insert_key}
+use Rattle.indexmap.specs.IndexSet.{insert_all, insert_key}
 use Rattle.iso_plan.proofs.Growth.{drop_next}
-use Rattle.iso_plan.specs.KeyTable.{with_marks}
+use Rattle.iso_plan.specs.KeyTable.{mark_keys}
 use Rattle.iso_plan.proofs.keys.add_marks.Goals as goal
 
 abbrev text : Bor (List ℕ) → List ℕ
@@ -33,4 +33,4 @@ marks-preserved c =
     let old = c.marks.table.keys in
     let grown : map text c.insert.new.self.keys ≡ insert_key bytes_eq (map text old) c.mark-item.result.key =
     ap (map text) c.in_ok-insert.ensures.keys ∙ texts-insert old c.as_str.result ∙ ap (insert_key bytes_eq (map text old)) c.as_str.ensures in
-    ap (λ ks. with_marks ks (drop (i + 1) ms)) grown ∙ (rw next at c.marks.invariant)
+    ap (λ ks. insert_all bytes_eq ks (mark_keys (drop (i + 1) ms))) grown ∙ (rw next at c.marks.invariant)

@@ -1,6 +1,6 @@
 use Rattle.std.proofs.Common.{◌≡◌, ◌==◌, ◌||◌, List, Bool, false, not, length, map, get_or, ap, sym, ◌∙◌, arith}
 use Rattle.iso_model.specs.declared.heads.Mark.{Mark}
-use Rattle.iso_plan.proofs.Columns.{length-column, column-read, column-push, row-at}
+use Rattle.iso_plan.proofs.ColumnLemmas.{length-column, column-read, column-push, row-at}
 use Rattle.iso_plan.specs.KeyTable.{written_marks}
 use Rattle.iso_plan.specs.Locks.{declares, holds_isolated}
 use Rattle.iso_plan.specs.Paths.{row_at}

@@ -1,9 +1,10 @@
 use Rattle.std.proofs.Common.{◌≡◌, ◌<◌, ◌≤◌, ◌||◌, ◌&&◌, ℕ, Option, Some, None, Bool, false, IfSome, length, map, get_or, refl, ap, ap₂, sym, ◌∙◌, add-one, arith}
 use Rattle.std.proofs.lemmas.List.{length-map, get_or_default}
-use Rattle.iso_plan.proofs.Columns.{length-column, column-read, column-from, row-at}
+use Rattle.iso_plan.proofs.ColumnLemmas.{length-column, column-read, column-from, row-at}
+use Rattle.iso_plan.proofs.SoFar.{all-isolate, isolates_below}
 use Rattle.iso_plan.proofs.TopLemmas.{top, top-le, isolates-next}
 use Rattle.iso_plan.specs.KeyTable.{written_marks}
-use Rattle.iso_plan.specs.Locks.{holds_isolated, is_isolated, is_that, isolates, isolates_below, marks_global}
+use Rattle.iso_plan.specs.Locks.{holds_isolated, is_isolated, is_that, isolates, marks_global}
 use Rattle.iso_plan.specs.Paths.{is_top}
 use Rattle.iso_plan.specs.RowView.{row_of}
 use Rattle.iso_plan.specs.Tree as T
@@ -56,4 +57,4 @@ returns c =
     let v = c.nodes.isolated in
     let last : c.nodes.n ≡ length tree = rw (length-map rows row_of) (omega arith) in
     column-from (holds_isolated tree) v.items (length rows) c.nodes.invariant.each
-    (λ m d h. get_or_default v.items m d false (rw c.nodes.invariant.each h) ∙ c.nodes.invariant.so_far m h ∙ ap (λ (n : ℕ). is_top tree m && isolates_below tree m n) last)
+    (λ m d h. get_or_default v.items m d false (rw c.nodes.invariant.each h) ∙ c.nodes.invariant.so_far m h ∙ ap (λ (n : ℕ). is_top tree m && isolates_below tree m n) last ∙ sym (all-isolate tree m))

@@ -1,5 +1,5 @@
 use Rattle.std.proofs.Common.{◌≡◌, ◌<◌, ◌&&◌, ℕ, false, length, map, slice_index_or}
-use Rattle.iso_plan.specs.Locks.{isolates_below}
+use Rattle.iso_plan.proofs.SoFar.{isolates_below}
 use Rattle.iso_plan.specs.Paths.{is_top}
 use Rattle.iso_plan.specs.RowView.{row_of}
 use Rattle.iso_plan.proofs.locking.isolated.Given as goal

@@ -1,5 +1,5 @@
 use Rattle.std.proofs.Common.{length, map, ap, ◌∙◌}
-use Rattle.iso_plan.proofs.Columns.{length-column}
+use Rattle.iso_plan.proofs.ColumnLemmas.{length-column}
 use Rattle.iso_plan.specs.Locks.{declares}
 use Rattle.iso_plan.specs.RowView.{row_of}
 use Rattle.iso_plan.proofs.locking.locking_nodes.Goals as goal

@@ -1,5 +1,5 @@
 use Rattle.std.proofs.Common.{rules, true, length, ◌∙◌}
-use Rattle.iso_plan.proofs.Columns.{replicate-column}
+use Rattle.iso_plan.proofs.ColumnLemmas.{replicate-column}
 use Rattle.iso_plan.proofs.locking.tops.Goals as goal
 
 pub returns : goal.returns

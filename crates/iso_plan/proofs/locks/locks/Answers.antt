@@ -7,7 +7,7 @@ use Rattle.std.specs.declared.vec.Vec.{Vec}
 use Rattle.iso_model.specs.Rights.{rights_of, strongest}
 use Rattle.iso_model.specs.declared.access.Access.{Access}
 use Rattle.iso_model.specs.declared.heads.Mark.{Mark}
-use Rattle.iso_plan.proofs.Columns.{length-column, column-read, column-from, row-at}
+use Rattle.iso_plan.proofs.ColumnLemmas.{length-column, column-read, column-from, row-at}
 use Rattle.iso_plan.proofs.KeyLemmas.{keys-distinct}
 use Rattle.iso_plan.proofs.LockLemmas.{TablesAre, locking-le, locking-size, table-fits, tables-start, tables-skip, tables-gather, tables-end}
 use Rattle.iso_plan.specs.KeyTable.{keys, written_marks}

@@ -4,7 +4,7 @@ use Rattle.std.specs.declared.alloc.Global.{Global}
 use Rattle.std.specs.declared.vec.Vec.{Vec}
 use Rattle.iso_model.specs.declared.access.Access.{Access}
 use Rattle.iso_model.specs.declared.access.Access.TheVariants.{Read, Write}
-use Rattle.iso_plan.proofs.Columns.{length-column, column-read, column-push, parent-at}
+use Rattle.iso_plan.proofs.ColumnLemmas.{length-column, column-read, column-push, parent-at}
 use Rattle.iso_plan.specs.Locks.{holds_isolated, is_locking, is_that, locking_node}
 use Rattle.iso_plan.specs.Paths.{column, is_root, is_top}
 use Rattle.iso_plan.specs.RowView.{row_of}

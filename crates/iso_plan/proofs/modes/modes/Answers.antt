@@ -3,7 +3,7 @@ use Rattle.std.specs.List.{list_any}
 use Rattle.iso_model.specs.declared.script.Mode.{Mode}
 use Rattle.iso_model.specs.declared.script.Mode.TheVariants.{SameThread}
 use Rattle.std.proofs.lemmas.List.{length-map}
-use Rattle.iso_plan.proofs.Columns.{length-column, column-read, column-push, parent-at}
+use Rattle.iso_plan.proofs.ColumnLemmas.{length-column, column-read, column-push, parent-at}
 use Rattle.iso_plan.proofs.KeyLemmas.{root-eq}
 use Rattle.iso_plan.proofs.ModeLemmas.{mode-root, mode-step}
 use Rattle.iso_plan.specs.Locks.{takes_write}

@@ -2,7 +2,7 @@ use Rattle.std.proofs.Common.{◌≡◌, [], ◌++◌, ◌∷◌, ℕ, ◌<◌, 
 use Rattle.std.specs.Option.{option_or}
 use Rattle.iso_model.specs.declared.script.Mode.{Mode}
 use Rattle.std.proofs.lemmas.List.{length-map}
-use Rattle.iso_plan.proofs.Columns.{length-column, column-read, column-push, parent-at, row-at}
+use Rattle.iso_plan.proofs.ColumnLemmas.{length-column, column-read, column-push, parent-at, row-at}
 use Rattle.iso_plan.proofs.PathLemmas.{path-root, path-step}
 use Rattle.iso_plan.specs.Modes.{nearest_mode}
 use Rattle.iso_plan.specs.Paths.{column, path, parent, row_at}

@@ -3,7 +3,7 @@ use Rattle.std.proofs.lemmas.List.{length-map, get_or-map}
 use Rattle.std.specs.List.{list_any}
 use Rattle.std.specs.declared.alloc.Global.{Global}
 use Rattle.std.specs.declared.vec.Vec.{Vec}
-use Rattle.iso_plan.proofs.Columns.{length-column, column-read, column-push, parent-at}
+use Rattle.iso_plan.proofs.ColumnLemmas.{length-column, column-read, column-push, parent-at}
 use Rattle.iso_plan.proofs.PathLemmas.{path-root, path-step}
 use Rattle.iso_plan.specs.Locks.{is_write, locks, takes_write}
 use Rattle.iso_plan.specs.Paths.{column, path, parent}

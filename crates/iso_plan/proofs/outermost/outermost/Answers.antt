@@ -1,7 +1,7 @@
 use Rattle.std.proofs.Common.{◌≡◌, [], ◌++◌, ◌∷◌, ℕ, ◌<◌, ◌+◌, List, Option, Some, None, Bool, cond, length, map, get_or, ap, ap₂, sym, ◌∙◌, arith}
 use Rattle.std.proofs.lemmas.List.{length-map, length_push}
 use Rattle.std.specs.Option.{option_or}
-use Rattle.iso_plan.proofs.Columns.{column-read, column-push, parent-at}
+use Rattle.iso_plan.proofs.ColumnLemmas.{column-read, column-push, parent-at}
 use Rattle.iso_plan.proofs.PathLemmas.{path-root, path-step}
 use Rattle.iso_plan.specs.Paths.{column, outermost, path, parent}
 use Rattle.iso_plan.specs.RowView.{row_of}

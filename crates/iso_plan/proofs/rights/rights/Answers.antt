@@ -7,7 +7,7 @@ use Rattle.iso_model.specs.Chains as C
 use Rattle.iso_model.specs.ChainView.{innermost_first}
 use Rattle.iso_model.specs.Rights.{access_in}
 use Rattle.iso_model.specs.declared.heads.ClassHead.{ClassHead}
-use Rattle.iso_plan.proofs.Columns.{length-column, column-read, column-push, row-at}
+use Rattle.iso_plan.proofs.ColumnLemmas.{length-column, column-read, column-push, row-at}
 use Rattle.iso_plan.specs.NodeChains.{chain_classes, node_rights, rights_with}
 use Rattle.iso_plan.specs.Paths.{column, row_at}
 use Rattle.iso_plan.specs.RowView.{kind_of, row_of}

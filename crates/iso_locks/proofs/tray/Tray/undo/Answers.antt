@@ -1,6 +1,6 @@
 use Rattle.std.proofs.Common.{◌≡◌, length, ap, sym, subst, ◌∙◌}
 use Rattle.std.specs.Option.{option_or}
-use Rattle.iso_plan.proofs.Columns.{length-column}
+use Rattle.iso_plan.proofs.ColumnLemmas.{length-column}
 use Rattle.iso_plan.specs.RowView.{tree_of}
 use Rattle.iso_locks.proofs.OwnerLemmas.{owned-still, restored-there}
 use Rattle.iso_locks.specs.Owners.{AreOwned}

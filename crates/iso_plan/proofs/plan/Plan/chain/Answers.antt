@@ -5,7 +5,7 @@ use Rattle.std.specs.declared.vec.Vec.{Vec}
 use Rattle.iso_model.specs.Chains as C
 use Rattle.iso_model.specs.ChainView.{innermost_first}
 use Rattle.iso_model.specs.declared.heads.ClassHead.{ClassHead}
-use Rattle.iso_plan.proofs.Columns.{view-read, within-views}
+use Rattle.iso_plan.proofs.ColumnLemmas.{view-read, within-views}
 use Rattle.iso_plan.specs.NodeChains.{chain_classes}
 use Rattle.iso_plan.specs.Planned.{Planned}
 use Rattle.iso_plan.specs.RowView.{row_of, tree_of}

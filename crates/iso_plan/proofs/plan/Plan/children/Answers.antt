@@ -1,7 +1,7 @@
 use Rattle.std.proofs.Common.{[], ℕ, ◌<◌, List, length, map, ap, ◌∙◌, arith}
 use Rattle.std.specs.declared.alloc.Global.{Global}
 use Rattle.std.specs.declared.vec.Vec.{Vec}
-use Rattle.iso_plan.proofs.Columns.{view-read, within-views}
+use Rattle.iso_plan.proofs.ColumnLemmas.{view-read, within-views}
 use Rattle.iso_plan.specs.Paths.{children}
 use Rattle.iso_plan.specs.Planned.{Planned}
 use Rattle.iso_plan.specs.RowView.{row_of, tree_of}

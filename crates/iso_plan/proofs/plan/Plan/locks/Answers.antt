@@ -2,7 +2,7 @@ use Rattle.std.proofs.Common.{◌<◌, [], List, map, length, subst, ap, sym, �
 use Rattle.std.specs.List.{All}
 use Rattle.std.specs.declared.alloc.Global.{Global}
 use Rattle.std.specs.declared.vec.Vec.{Vec}
-use Rattle.iso_plan.proofs.Columns.{view-read, within-views}
+use Rattle.iso_plan.proofs.ColumnLemmas.{view-read, within-views}
 use Rattle.iso_plan.proofs.LockLemmas.{locks-known}
 use Rattle.iso_plan.specs.KeyTable.{keys}
 use Rattle.iso_plan.specs.Locks.{locks}

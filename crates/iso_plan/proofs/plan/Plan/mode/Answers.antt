@@ -1,5 +1,5 @@
 use Rattle.std.proofs.Common.{◌<◌, map, length, ap, ◌∙◌, arith}
-use Rattle.iso_plan.proofs.Columns.{column-read, within-column}
+use Rattle.iso_plan.proofs.ColumnLemmas.{column-read, within-column}
 use Rattle.iso_plan.specs.Modes.{mode}
 use Rattle.iso_plan.specs.Planned.{Planned}
 use Rattle.iso_plan.specs.RowView.{row_of, tree_of}

@@ -1,6 +1,6 @@
 use Rattle.std.proofs.Common.{◌<◌, length, map, None, ap, ◌∙◌, arith}
 use Rattle.iso_model.specs.Rights.{Rights, access_in}
-use Rattle.iso_plan.proofs.Columns.{view-read, within-views}
+use Rattle.iso_plan.proofs.ColumnLemmas.{view-read, within-views}
 use Rattle.iso_plan.specs.NodeChains.{node_rights}
 use Rattle.iso_plan.specs.Planned.{Planned}
 use Rattle.iso_plan.specs.RowView.{row_of, tree_of}

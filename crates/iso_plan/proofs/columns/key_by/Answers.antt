@@ -1,5 +1,5 @@
 use Rattle.std.proofs.Common.{ℕ, List, Bor, map, ap, ◌∙◌}
-use Rattle.iso_plan.proofs.gathered.gather_by.Goals as goal
+use Rattle.iso_plan.proofs.columns.key_by.Goals as goal
 
 pub returns : goal.returns
 returns c =

@@ -1,10 +1,11 @@
-//! What is gathered of the nodes of a plan before it is made of them.
+//! The columns of a plan: what each of its nodes has, made before the plan is.
 ghost use Rattle.std.specs.Prelude.{◌≡◌, ◌≤◌, ◌+◌, [], IfErr, IfOk, length, map};
 ghost use Rattle.iso_model.specs.declared.limits.TheConstants.{KEYS, NODES};
 ghost use Rattle.iso_plan.specs.Faults.{IsCrowded};
-ghost use Rattle.iso_plan.specs.Gathered.{IsChained, IsGathered, IsLocked, nodes_in};
+ghost use Rattle.iso_plan.specs.Columns.{IsChained, IsKeyed, IsLocked};
 ghost use Rattle.iso_plan.specs.KeyTable.{keys};
 ghost use Rattle.iso_plan.specs.Paths.{IsTree};
+ghost use Rattle.iso_plan.specs.RowView.{nodes_in};
 
 use crate::chains::chains;
 use crate::children::children;
@@ -42,7 +43,7 @@ pub(crate) struct Locked {
 
 /// The keys of a plan by number, with what its nodes lock of them, and their modes.
 #[derive(Drop)]
-pub(crate) struct Gathered {
+pub(crate) struct Keyed {
     pub keys: Vec<Text>,
     pub locked: Locked,
     pub modes: Vec<Mode>,
@@ -65,52 +66,52 @@ pub(crate) fn chain_all(alloc: Global, rows: &[Row]) -> Result<Chained, AllocErr
 }
 
 /// The keys, locks and modes of nodes. More than 255 different declared keys are `TooManyKeys`.
-pub(crate) fn gather(alloc: Global, rows: &[Row], settings: Settings) -> Result<Gathered, PlanError>
+pub(crate) fn key_all(alloc: Global, rows: &[Row], settings: Settings) -> Result<Keyed, PlanError>
     requires tree { IsTree (nodes_in rows.now) }
     requires fits { length rows.now ≤ NODES }
-    ensures gathered { IfOk result (IsGathered rows.now settings) }
+    ensures keyed { IfOk result (IsKeyed rows.now settings) }
     ensures few { IfOk result (λ l. length l.keys.items ≤ KEYS + 1) }
     ensures crowded { IfErr result (IsCrowded (length (keys (nodes_in rows.now)))) }
 {
     let mut table = IndexSet::new(alloc);
-    gather_in(alloc, rows, settings, &mut table)
+    key_in(alloc, rows, settings, &mut table)
 }
 
-/// What is gathered of nodes by a table in which their keys are numbered. More than 255 different declared keys are `TooManyKeys`.
-fn gather_in<'a>(
+/// The same, by a table in which the keys are numbered. More than 255 different declared keys are `TooManyKeys`.
+fn key_in<'a>(
     alloc: Global,
     rows: &'a [Row],
     settings: Settings,
     table: &mut IndexSet<&'a str>,
-) -> Result<Gathered, PlanError>
+) -> Result<Keyed, PlanError>
     requires tree { IsTree (nodes_in rows.now) }
     requires fits { length rows.now ≤ NODES }
     requires empty { table.old.keys ≡ [] }
-    ensures gathered { IfOk result (IsGathered rows.now settings) }
+    ensures keyed { IfOk result (IsKeyed rows.now settings) }
     ensures few { IfOk result (λ l. length l.keys.items ≤ KEYS + 1) }
     ensures crowded { IfErr result (IsCrowded (length (keys (nodes_in rows.now)))) }
 {
     number_keys(table, rows)?;
-    Ok(gather_by(alloc, rows, settings, table)?)
+    Ok(key_by(alloc, rows, settings, table)?)
 }
 
-/// What is gathered of nodes whose keys are numbered.
-fn gather_by(
+/// The keys, locks and modes of nodes whose keys are numbered.
+fn key_by(
     alloc: Global,
     rows: &[Row],
     settings: Settings,
     table: &IndexSet<&str>,
-) -> Result<Gathered, AllocError>
+) -> Result<Keyed, AllocError>
     requires tree { IsTree (nodes_in rows.now) }
     requires fits { length rows.now ≤ NODES }
     requires keys { map (λ k. k.now) table.now.keys ≡ keys (nodes_in rows.now) }
     requires few { length (keys (nodes_in rows.now)) ≤ KEYS + 1 }
-    ensures { IfOk result (IsGathered rows.now settings) }
+    ensures { IfOk result (IsKeyed rows.now settings) }
 {
     let locked = lock_all(alloc, rows, table)?;
     let modes = modes(alloc, rows, settings, &locked.locks)?;
     let keys = copied(alloc, table.as_slice())?;
-    Ok(Gathered {
+    Ok(Keyed {
         keys,
         locked,
         modes,

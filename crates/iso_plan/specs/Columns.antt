@@ -1,4 +1,4 @@
--- What is gathered of rows before a plan is made of them: what its invariant asks for.
+-- The columns that are made of rows before a plan is: what its invariant asks for.
 use Rattle.std.specs.Prelude.{◌≡◌, ℕ, List, length, map}
 use Rattle.std.specs.declared.alloc.Global.{Global}
 use Rattle.std.specs.declared.sync.Arc.{Arc}
@@ -11,18 +11,13 @@ use Rattle.iso_plan.specs.Locks.{locking_node, locks}
 use Rattle.iso_plan.specs.Modes.{mode}
 use Rattle.iso_plan.specs.NodeChains.{chain_classes, node_rights}
 use Rattle.iso_plan.specs.Paths.{children, column}
-use Rattle.iso_plan.specs.RowView.{row_of}
-use Rattle.iso_plan.specs.Tree as T
-use Rattle.iso_plan.specs.declared.gathered.Chained.{Chained}
-use Rattle.iso_plan.specs.declared.gathered.Gathered.{Gathered}
-use Rattle.iso_plan.specs.declared.gathered.Locked.{Locked}
+use Rattle.iso_plan.specs.RowView.{nodes_in}
+use Rattle.iso_plan.specs.declared.columns.Chained.{Chained}
+use Rattle.iso_plan.specs.declared.columns.Keyed.{Keyed}
+use Rattle.iso_plan.specs.declared.columns.Locked.{Locked}
 use Rattle.iso_plan.specs.declared.lock.Lock.{Lock}
 use Rattle.iso_plan.specs.declared.row.Row.{Row}
 use Rattle.iso_settings.specs.declared.settings.Settings.{Settings}
-
--- the nodes that rows stand for
-abbrev pub nodes_in : List Row → List T.Row
-nodes_in rows = map row_of rows
 
 -- the children, class chains and rights of all nodes
 pub record IsChained (rows : List Row) (c : Chained) : Type 0 where
@@ -36,7 +31,7 @@ pub record IsLocked (rows : List Row) (l : Locked) : Type 0 where
   pub locks_are : map (λ (v : Vec Lock Global). v.items) l.locks.items ≡ column (locks (nodes_in rows)) (length rows)
 
 -- the keys, and the locks and modes of all nodes under settings
-pub record IsGathered (rows : List Row) (settings : Settings) (g : Gathered) : Type 0 where
-  pub keys_are : g.keys.items ≡ keys (nodes_in rows)
-  pub locked : IsLocked rows g.locked
-  pub modes_are : g.modes.items ≡ column (mode (nodes_in rows) settings) (length rows)
+pub record IsKeyed (rows : List Row) (settings : Settings) (k : Keyed) : Type 0 where
+  pub keys_are : k.keys.items ≡ keys (nodes_in rows)
+  pub locked : IsLocked rows k.locked
+  pub modes_are : k.modes.items ≡ column (mode (nodes_in rows) settings) (length rows)
