@@ -22,7 +22,8 @@ pub record FlatView : Type 0 where
 
 abbrev pub flat_code : Coded FlatView
 flat_code =
-    code_by (TrayView × List (Option MarkView)) (coded× tray_code (coded_list (coded_option mark_code))) (λ v. (v.tray, v.marks)) (λ p. record { tray = p.0; marks = p.1 }) (λ _. refl)
+    code_by (TrayView × List (Option MarkView)) (coded× tray_code (coded_list (coded_option mark_code))) (λ v. (v.tray, v.marks))
+    (λ p. record { tray = p.0; marks = p.1 }) (λ _. refl)
 
 abbrev pub mark_at : List (Option MarkView) → ℕ → Option MarkView
 mark_at marks n = slice_index_or marks n None
@@ -52,7 +53,8 @@ pub record WasMade (t : TrayView) (n : ℕ) (m : MarkView) : Type 0 where
 abbrev pub ComesBefore : MarkView → MarkView → Type 0
 ComesBefore l m = (i : ℕ) (g h : History) → slot l.values i ≡ Some g → slot m.values i ≡ Some h → IsEarlier g h
 
--- what every flat map of a run is: it can go back to each mark, and of two nodes that saved a value of one key the lower did so first
+-- what every flat map of a run is: it can go back to each mark, and of two nodes that saved a value of one key the lower did so
+-- first
 pub record IsFlatMap (v : FlatView) : Type 0 where
   pub fits : length v.marks ≡ length v.tray.plan.rows
   pub flat : IsFlat v.tray

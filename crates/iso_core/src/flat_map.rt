@@ -12,7 +12,7 @@ ghost use Rattle.iso_model.specs.Bodies.{body_step, going, is_ended};
 ghost use Rattle.iso_model.specs.declared.outcome.Outcome.{Outcome};
 
 use iso_lifecycle::body::Body;
-use iso_locks::mark::Mark;
+use iso_locks::savepoint::Savepoint;
 use iso_locks::tray::Tray;
 use iso_model::resource::{Ask, Change};
 use iso_model::resource_key::ResourceKey;
@@ -28,7 +28,7 @@ use std::marker::Model;
 #[derive(Drop)]
 pub(crate) struct FlatMap<'a> {
     tray: Tray<'a>,
-    marks: Vec<Option<Mark>>,
+    marks: Vec<Option<Savepoint>>,
 }
 
 impl<'a> Model for FlatMap<'a> {
@@ -44,7 +44,7 @@ impl<'a> Model for FlatMap<'a> {
 }
 
 /// So many nodes that saved nothing.
-fn no_marks(alloc: Global, count: usize) -> Result<Vec<Option<Mark>>, AllocError>
+fn no_marks(alloc: Global, count: usize) -> Result<Vec<Option<Savepoint>>, AllocError>
     ensures { IfOk result (λ v. v.items ≡ replicate count None) }
 {
     let mut marks = Vec::new(alloc);

@@ -14,7 +14,8 @@ earlier-further g h k a b = record {
   is = b.is ∙ ap (λ (vs : List Resource). b.newer ++ vs) a.is ∙ sym (append_assoc b.newer a.newer (values g));
 }
 
-pub later-further : (u v : Slots) (i : ℕ) (g : History) → HasLater u i g → ((h : History) → slot u i ≡ Some h → HasLater v i h) → HasLater v i g
+pub later-further : (u v : Slots) (i : ℕ) (g : History) → HasLater u i g → ((h : History) → slot u i ≡ Some h → HasLater v i h)
+    → HasLater v i g
 later-further u v i g a on =
     let b = on a.now a.there in
     record { now = b.now; there = b.there; later = earlier-further g a.now b.now a.later b.later }
@@ -23,7 +24,11 @@ pub on-still : (t : TrayView) → GoesOn t t
 on-still t = record { fits = refl; only = λ i e. e; later = λ i h e. record { now = h; there = e; later = earlier-self h } }
 
 pub on-further : (t u v : TrayView) → GoesOn t u → GoesOn u v → GoesOn t v
-on-further t u v a b = record { fits = b.fits ∙ a.fits; only = λ i e. b.only i (a.only i e); later = λ i h e. later-further u.values v.values i h (a.later i h e) (b.later i) }
+on-further t u v a b = record {
+  fits = b.fits ∙ a.fits;
+  only = λ i e. b.only i (a.only i e);
+  later = λ i h e. later-further u.values v.values i h (a.later i h e) (b.later i);
+}
 
 pub onward-still : (t : TrayView) → IsOnward t t
 onward-still t = record { plan = refl; world = refl; flat = refl; lent = refl; there = refl; values = on-still t; frames = refl }

@@ -20,7 +20,8 @@ pub record IsOwned (tree : List Row) (given : List Bool) (i : ℕ) : Type 0 wher
   pub lent : is_lent given node ≡ true
   pub writes : is_written (locks tree node) i ≡ true
 
--- What a tray keeps of its values and the nodes that are lent to it: each value is owned, but in a flat map; what a node takes for READ_WRITE is there; and no two nodes clash.
+-- What a tray keeps of its values and the nodes that are lent to it: each value is owned, but in a flat map; what a node takes
+-- for READ_WRITE is there; and no two nodes clash.
 pub record AreOwned (tree : List Row) (flat : Bool) (lent : List Bool) (values : Slots) : Type 0 where
   pub owned : flat ≡ false → (i : ℕ) → is_some (slot values i) ≡ true → IsOwned tree lent i
   pub there : (n i : ℕ) → is_lent lent n ≡ true → is_written (locks tree n) i ≡ true → is_some (slot values i) ≡ true
@@ -38,7 +39,8 @@ pub record HasRoom (most room spare_room : ℕ) (spare : List Subject) : Type 0 
   pub empty : spare ≡ []
 
 -- what holds of the lists that a tray keeps, with room for the frames of the deepest class chain
-pub record IsTray (plan : Planned) (world : Start) (flat : Bool) (lent : List Bool) (values : Slots) (starts : List Starting) (room spare_room : ℕ) (spare : List Subject) : Type 0 where
+pub record IsTray (plan : Planned) (world : Start) (flat : Bool) (lent : List Bool) (values : Slots) (starts : List Starting)
+    (room spare_room : ℕ) (spare : List Subject) : Type 0 where
   pub lent_fits : length lent ≡ length plan.rows
   pub values_fit : length values ≡ length (keys (tree_of plan))
   pub starts_are : starts ≡ map (start_at world) (keys (tree_of plan))

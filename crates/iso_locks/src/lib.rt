@@ -4,8 +4,8 @@
 pub mod clash;
 pub mod examples;
 pub mod laws;
-pub mod mark;
 mod moves;
+pub mod savepoint;
 mod slots;
 mod starting;
 pub mod tray;

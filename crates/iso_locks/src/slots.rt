@@ -6,7 +6,7 @@ ghost use Rattle.iso_plan.specs.Paths.{column};
 ghost use Rattle.std.specs.Option.{option_or};
 
 use iso_model::resource::Change;
-use iso_store::held::{Held, Mark};
+use iso_store::held::{Held, Savepoint};
 use std::alloc::{AllocError, Global};
 use std::marker::Model;
 use std::mem;
@@ -131,7 +131,7 @@ impl Slots {
     }
 
     /// Lets the value in a slot go back to its mark. Takes no memory.
-    pub fn undo_to(&mut self, number: usize, mark: Mark)
+    pub fn undo_to(&mut self, number: usize, mark: Savepoint)
         requires slot { number < length self.old }
         requires later { HasLater self.old number mark }
         ensures { self.new ≡ slice_set self.old number (Some mark) }
@@ -142,7 +142,7 @@ impl Slots {
     }
 
     /// Lets each value that has a mark go back to it. Takes no memory.
-    pub fn undo_all(&mut self, mut marks: Vec<Option<Mark>>)
+    pub fn undo_all(&mut self, mut marks: Vec<Option<Savepoint>>)
         requires fits { length marks.items ≡ length self.old }
         requires later { (i : ℕ) (h : History) → slot marks.items i ≡ Some h → HasLater self.old i h }
         ensures { self.new ≡ column (λ i. option_or (slot marks.items i) (slot self.old i)) (length self.old) }

@@ -17,8 +17,8 @@ ghost use Rattle.iso_plan.specs.Paths.{column, is_test, path, row_at};
 ghost use Rattle.iso_plan.specs.RowView.{tree_of};
 
 use crate::clash::nodes_clash;
-use crate::mark::Mark;
 use crate::moves::move_values;
+use crate::savepoint::Savepoint;
 use crate::slots::Slots;
 use crate::starting::{Starting, number_of, starts_of};
 use crate::vault::values;
@@ -210,18 +210,18 @@ impl<'a> Tray<'a> {
     }
 
     /// Keeps the values that a node's rights let it change, as they stand now.
-    pub fn mark(&self, alloc: Global, node: u32) -> Result<Mark, AllocError>
+    pub fn mark(&self, alloc: Global, node: u32) -> Result<Savepoint, AllocError>
         requires { node < length self.now.plan.rows }
         ensures { IfOk result (λ m. m ≡ marked self.now node) }
     {
         let rights = self.plan.rights(node);
         let values = kept(alloc, rights, &self.starts, &self.values)?;
-        Ok(Mark::new(node, values))
+        Ok(Savepoint::new(node, values))
     }
 
     /// Lets the values that were kept stand as they stood then, and leaves all others. The tray has gone back to no
     /// earlier mark of these values since. Takes no memory.
-    pub fn undo(&mut self, mark: Mark)
+    pub fn undo(&mut self, mark: Savepoint)
         requires { CanUndo mark self.old }
         ensures { self.new ≡ undone mark self.old }
     {
@@ -310,7 +310,7 @@ fn kept(
     rights: &Rights,
     starts: &[Starting],
     values: &Slots,
-) -> Result<Vec<Option<held::Mark>>, AllocError>
+) -> Result<Vec<Option<held::Savepoint>>, AllocError>
     requires { length starts.now ≡ length values.now }
     ensures { IfOk result (λ v. v.items ≡ column (kept_at rights.now (map (λ s. s.key) starts.now) values.now) (length values.now)) }
 {
@@ -322,7 +322,7 @@ fn kept(
 }
 
 /// A value that rights let be changed, as it stands now.
-fn kept_at(rights: &Rights, key: &Key, value: Option<&Held>) -> Option<held::Mark>
+fn kept_at(rights: &Rights, key: &Key, value: Option<&Held>) -> Option<held::Savepoint>
     ensures { result ≡ cond (is_writable (access_in rights.now key.now)) (option_copied value.entry) None }
 {
     match (value, rights.access(key)) {

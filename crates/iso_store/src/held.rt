@@ -36,12 +36,12 @@ impl Model for Held {
 
 /// A moment of a value, to which it can go back. Contracts see the history as it was then.
 #[derive(Drop)]
-pub struct Mark {
+pub struct Savepoint {
     changes: usize,
     history: Snapshot<Held>,
 }
 
-impl Model for Mark {
+impl Model for Savepoint {
     ghost use Rattle.std.specs.Prelude.{◌≡◌, length};
     ghost use Rattle.iso_store.specs.Histories.{History, history_code};
 
@@ -68,10 +68,10 @@ impl Held {
     }
 
     /// This moment.
-    pub fn mark(&self) -> Mark
+    pub fn mark(&self) -> Savepoint
         ensures { result ≡ self.now }
     {
-        Mark {
+        Savepoint {
             changes: self.changes(),
             history: Snapshot::of(self),
         }
@@ -91,7 +91,7 @@ impl Held {
 
     /// Goes back to a mark of this value, unless it went back to an earlier one since. Takes no
     /// memory, and as many steps as there were changes since.
-    pub fn undo_to(&mut self, mark: Mark)
+    pub fn undo_to(&mut self, mark: Savepoint)
         requires { IsEarlier mark self.old }
         ensures { self.new ≡ mark }
     {

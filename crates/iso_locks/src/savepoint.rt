@@ -7,12 +7,12 @@ use std::marker::Model;
 /// What a node's rights let it change, as it stood at one moment, to which a tray can go back. Contracts see
 /// the values as they were, by the numbers of their keys.
 #[derive(Drop)]
-pub struct Mark {
+pub struct Savepoint {
     node: u32,
-    values: Vec<Option<held::Mark>>,
+    values: Vec<Option<held::Savepoint>>,
 }
 
-impl Model for Mark {
+impl Model for Savepoint {
     ghost use Rattle.iso_locks.specs.Trays.{MarkView, mark_code};
 
     ghost Value = { MarkView };
@@ -22,16 +22,16 @@ impl Model for Mark {
     ghost view = { λ m. record { node = m.node; values = m.values.items } };
 }
 
-impl Mark {
+impl Savepoint {
     /// These values of a node, by key number.
-    pub(crate) fn new(node: u32, values: Vec<Option<held::Mark>>) -> Mark
+    pub(crate) fn new(node: u32, values: Vec<Option<held::Savepoint>>) -> Savepoint
         ensures { result ≡ record { node = node; values = values.items } }
     {
-        Mark { node, values }
+        Savepoint { node, values }
     }
 
     /// The values, by key number. Takes no memory.
-    pub(crate) fn into_values(self) -> Vec<Option<held::Mark>>
+    pub(crate) fn into_values(self) -> Vec<Option<held::Savepoint>>
         ensures { result.items ≡ self.values }
     {
         self.values
