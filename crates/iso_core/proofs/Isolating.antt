@@ -2,7 +2,7 @@
 use Rattle.std.proofs.Common.{◌≡◌, ℕ, zero, suc, ◌<◌, List, [], ◌∷◌, Some, None, true, sym, ap, ◌∙◌, arith}
 use Rattle.iso_suites.proofs.AloneRuns.{class-alone, test-alone}
 use Rattle.iso_suites.proofs.LanguageLaws.{scripts-laws}
-use Rattle.iso_suites.proofs.PlanChains.{class-chain, test-chain, written}
+use Rattle.iso_suites.proofs.PlanChains.{class-chain, test-chain}
 use Rattle.iso_suites.proofs.PlanOpenings.{laws}
 use Rattle.iso_standing.specs.CodeEvents.{events_of}
 use Rattle.iso_core.specs.Cores.{CoreView, outcome_in, suite_in}
@@ -49,7 +49,7 @@ module _ (c : CoreView) (t : IsTree (tree_of c.plan)) (run : is_run scripts (sui
   tests n h cs r is e =
       let pos = test-inner (tree_of c.plan) t n h is.test in
       alone n r pos e
-      ∙ ap (λ (hs : List Head). run_alone scripts hs (started c.world)) (test-chain (tree_of c.plan) t (written (tree_of c.plan) t) c.plan.settings (started c.world) n h pos is.test)
+      ∙ ap (λ (hs : List Head). run_alone scripts hs (started c.world)) (test-chain (tree_of c.plan) t c.plan.settings (started c.world) n h pos is.test)
       ∙ test-alone h (chain_classes (tree_of c.plan) n) (started c.world)
       ∙ ap (λ (ds : List ClassHead). test_alone h ds (started c.world)) is.classes
 
@@ -58,7 +58,7 @@ module _ (c : CoreView) (t : IsTree (tree_of c.plan)) (run : is_run scripts (sui
       let pos = class-inner (tree_of c.plan) n h cs is.classes in
       alone n r pos e
       ∙ ap (λ (hs : List Head). run_alone scripts hs (started c.world))
-      (class-chain (tree_of c.plan) t (written (tree_of c.plan) t) c.plan.settings (started c.world) n h cs pos is.test is.classes)
+      (class-chain (tree_of c.plan) t c.plan.settings (started c.world) n h cs pos is.test is.classes)
       ∙ class-alone h cs (started c.world)
 
   pub core-isolated : IsIsolated c

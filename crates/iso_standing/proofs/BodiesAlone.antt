@@ -2,7 +2,7 @@
 use Rattle.std.proofs.Common.{◌≡◌, ℕ, zero, suc, ◌<◌, List, ◌∷◌, ◌++◌, length, map, Option, Some, None, Bool, true, false, is_some, refl, subst, ap, sym, ◌∙◌, arith}
 use Rattle.iso_suites.proofs.AloneRuns.{OpeningOf, classes-heads, openings, told}
 use Rattle.iso_standing.proofs.Looks.{nodes-are}
-use Rattle.iso_suites.proofs.PlanChains.{heads-at, written}
+use Rattle.iso_suites.proofs.PlanChains.{heads-at}
 use Rattle.iso_suites.proofs.PlanOpenings.{enclosing-is, kept}
 use Rattle.iso_suites.proofs.SuiteLaws.{chain-rights, positive}
 use Rattle.iso_suites.specs.PlanSuites.{head_of}
@@ -115,7 +115,7 @@ module _ (plan : Planned) (world : Start) (t : IsTree (tree_of plan)) where
   outer-chain : (n : ℕ) → 0 < n → n < length tree → chain x (parent tree n) ≡ heads (chain_classes tree (parent tree n))
   outer-chain n pos inside =
       let below : parent tree n < n = t.below n pos in
-      heads-at tree t (written tree t) plan.settings start (parent tree n) (omega arith) (t.inner n pos)
+      heads-at tree t plan.settings start (parent tree n) (omega arith) (t.inner n pos)
 
   own-chain : (n : ℕ) → 0 < n → n < length tree → chain x n ≡ head_of (row_at tree n).kind ∷ heads (chain_classes tree (parent tree n))
   own-chain n pos inside =

@@ -2,7 +2,7 @@
 use Rattle.std.proofs.Common.{◌≡◌, ℕ, List, sym, ap, ◌∙◌}
 use Rattle.iso_suites.proofs.AloneRuns.{test-alone, class-alone}
 use Rattle.iso_suites.proofs.LanguageLaws.{scripts-laws}
-use Rattle.iso_suites.proofs.PlanChains.{tree-full, test-chain, class-chain}
+use Rattle.iso_suites.proofs.PlanChains.{test-chain, class-chain}
 use Rattle.iso_suites.proofs.SuiteLaws.{suite-laws}
 use Rattle.iso_suites.specs.PlanSuites.{Launch, nodes_of, launched, MayEnd, IsTestAt, IsClassAt}
 use Rattle.iso_suites.specs.ScriptLanguage.{Head, scripts}
@@ -24,14 +24,14 @@ launched-laws l = suite-laws (nodes_of l) (tree-is l.written) l.settings l.start
 pub tests-isolated : (l : Launch) (n : ℕ) (t : TestHead) (cs : List ClassHead) (r : Outcome) → MayEnd l n r → IsTestAt l n t cs → r ≡ test_alone t cs l.start
 tests-isolated l n t cs r g is =
     isolation scripts scripts-laws (launched l) (launched-laws l) n r g
-    ∙ ap (λ (hs : List Head). run_alone scripts hs l.start) (test-chain (nodes_of l) (tree-is l.written) (tree-full l.written) l.settings l.start n t g.nonzero is.test)
+    ∙ ap (λ (hs : List Head). run_alone scripts hs l.start) (test-chain (nodes_of l) (tree-is l.written) l.settings l.start n t g.nonzero is.test)
     ∙ test-alone t (chain_classes (nodes_of l) n) l.start
     ∙ ap (λ (ds : List ClassHead). test_alone t ds l.start) is.classes
 
 pub classes-isolated : (l : Launch) (n : ℕ) (c : ClassHead) (cs : List ClassHead) (r : Outcome) → MayEnd l n r → IsClassAt l n c cs → r ≡ class_alone c cs l.start
 classes-isolated l n c cs r g is =
     isolation scripts scripts-laws (launched l) (launched-laws l) n r g
-    ∙ ap (λ (hs : List Head). run_alone scripts hs l.start) (class-chain (nodes_of l) (tree-is l.written) (tree-full l.written) l.settings l.start n c cs g.nonzero is.test is.classes)
+    ∙ ap (λ (hs : List Head). run_alone scripts hs l.start) (class-chain (nodes_of l) (tree-is l.written) l.settings l.start n c cs g.nonzero is.test is.classes)
     ∙ class-alone c cs l.start
 
 -- what agrees ends alike

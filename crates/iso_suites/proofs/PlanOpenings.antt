@@ -3,7 +3,7 @@
 use Rattle.std.proofs.Common.{◌≡◌, ℕ, ◌<◌, List, ◌∷◌, ◌++◌, length, Option, Some, None, true, false, refl, sym, ap, subst, ◌∙◌, arith}
 use Rattle.iso_suites.proofs.AloneRuns.{OpeningOf, class-alone, openings, test-alone, told}
 use Rattle.iso_suites.proofs.LanguageLaws.{scripts-laws}
-use Rattle.iso_suites.proofs.PlanChains.{class-chain, heads-at, test-chain, written}
+use Rattle.iso_suites.proofs.PlanChains.{class-chain, heads-at, test-chain}
 use Rattle.iso_suites.proofs.SuiteLaws.{suite-laws}
 use Rattle.iso_suites.specs.ScriptLanguage.{Head, scripts}
 use Rattle.iso_suites.specs.SuiteStates.{RunState, IsReached, suite_at}
@@ -65,7 +65,7 @@ module _ (plan : Planned) (world : Start) (t : IsTree (tree_of plan)) where
   -- the opening of a node that is no test
   pub opening-is : (n : ℕ) → n < length tree → is_test (row_at tree n).kind ≡ false → opening_at scripts x n ≡ told (opening_of (subject plan world n))
   opening-is n inside e =
-      ap (λ (hs : List Head). L.opening scripts hs (started world)) (heads-at tree t (written tree t) plan.settings (started world) n inside e)
+      ap (λ (hs : List Head). L.opening scripts hs (started world)) (heads-at tree t plan.settings (started world) n inside e)
       ∙ openings (chain_classes tree n) (started world)
 
   pub parent-inside : (n : ℕ) → 0 < n → n < length tree → parent tree n < length tree
@@ -88,12 +88,12 @@ module _ (plan : Planned) (world : Start) (t : IsTree (tree_of plan)) where
       let cs = chain_classes tree (parent tree n) in
       let own : chain_test tree n ≡ None = ap own_test e in
       let classes : chain_classes tree n ≡ c ∷ cs = chain-step tree t.below n pos ∙ ap (λ (k : Kind). class_heads k ++ cs) e in
-      ap (λ (hs : List Head). run_alone scripts hs (started world)) (class-chain tree t (written tree t) plan.settings (started world) n c cs pos own classes)
+      ap (λ (hs : List Head). run_alone scripts hs (started world)) (class-chain tree t plan.settings (started world) n c cs pos own classes)
       ∙ class-alone c cs (started world)
       ∙ sym (λ i. chain_alone (own i) (classes i) (started world))
   outcome-by n pos (test_node h) e full =
       let own : chain_test tree n ≡ Some h = ap own_test e in
-      ap (λ (hs : List Head). run_alone scripts hs (started world)) (test-chain tree t (written tree t) plan.settings (started world) n h pos own)
+      ap (λ (hs : List Head). run_alone scripts hs (started world)) (test-chain tree t plan.settings (started world) n h pos own)
       ∙ test-alone h (chain_classes tree n) (started world)
       ∙ sym (ap (λ (o : Option TestHead). chain_alone o (chain_classes tree n) (started world)) own)
 
