@@ -96,7 +96,9 @@ within-none es a b is q t absent there =
     let found : lookup (is_at q) es ≡ Some t = sym (get-map_of es q) ∙ ap (λ m. get m q) (sym is) ∙ there in
     absurd cc
 
-pub within-more : (a b : Map) (e : String Global × List ℕ) (left : List (String Global × List ℕ)) → IsWithinBut a b (e ∷ left) → get a (string_bytes e.0) ≡ Some e.1 → get b (string_bytes e.0) ≡ Some e.1 → IsWithinBut a b left
+pub within-more : (a b : Map) (e : String Global × List ℕ) (left : List (String Global × List ℕ))
+    → IsWithinBut a b (e ∷ left) → get a (string_bytes e.0) ≡ Some e.1 → get b (string_bytes e.0) ≡ Some e.1
+    → IsWithinBut a b left
 within-more a b e left within in_a in_b q t absent there =
     elim (cases_Bool (is_at q e.0)) [
       | inl same ↦
@@ -108,13 +110,15 @@ within-more a b e left within in_a in_b q t absent there =
     ]
 
 -- two answers, where each that is there is the other
-answers-same : (o p : Option (List ℕ)) → ((t : List ℕ) → o ≡ Some t → p ≡ Some t) → ((t : List ℕ) → p ≡ Some t → o ≡ Some t) → o ≡ p
+answers-same : (o p : Option (List ℕ)) → ((t : List ℕ) → o ≡ Some t → p ≡ Some t)
+    → ((t : List ℕ) → p ≡ Some t → o ≡ Some t) → o ≡ p
 answers-same (Some t) p there back = sym (there t refl)
 answers-same None (Some t) there back = back t refl
 answers-same None None there back = refl
 
 -- two maps, where each has the other's texts
-pub within-both : (a b : Map) → ((q t : List ℕ) → get a q ≡ Some t → get b q ≡ Some t) → ((q t : List ℕ) → get b q ≡ Some t → get a q ≡ Some t) → a ≡ b
+pub within-both : (a b : Map) → ((q t : List ℕ) → get a q ≡ Some t → get b q ≡ Some t)
+    → ((q t : List ℕ) → get b q ≡ Some t → get a q ≡ Some t) → a ≡ b
 within-both a b there back = same a b (λ q. answers-same (get a q) (get b q) (there q) (back q))
 
 -- two texts are equal where the test for unequal ones says no, and not equal where it says yes
