@@ -1,4 +1,5 @@
--- A tray alone, as a node leaves it: what the node may change stands as it stood when the node was lent, and what it takes is gone. Nothing here speaks of vault, results or frames.
+-- A tray alone, as a node leaves it: what the node may change stands as it stood when the node was lent, and what it takes is gone.
+-- Nothing here speaks of vault, results or frames.
 use Rattle.std.proofs.Common.{◌≡◌, ◌≢◌, ℕ, ◌<◌, List, length, Option, Some, None, Bool, true, false, cond, is_some, option_map, inl, inr, refl, sym, ap, ap₂, ◌∙◌, arith}
 use Rattle.std.proofs.lemmas.List.{get_or_past}
 use Rattle.std.specs.Option.{option_or}

@@ -1,4 +1,5 @@
--- A tray alone is ready for a body: its keys stand as the openings before the body have left them. Nothing here speaks of vault, results or frames.
+-- A tray alone is ready for a body: its keys stand as the openings before the body have left them.
+-- Nothing here speaks of vault, results or frames.
 use Rattle.std.proofs.Common.{◌≡◌, ℕ, ◌<◌, List, [], ◌∷◌, ◌++◌, length, Option, Some, None, true, refl, sym, ap, ◌∙◌}
 use Rattle.iso_lifecycle.specs.Subjects.{begun, begun_closing, begun_opening, begun_testing, classes_of, enclosing, opening_of, rights_of_subject, started, subject}
 use Rattle.iso_lifecycle.specs.WholeBodies.{IsReadyFor}

@@ -1,4 +1,5 @@
--- A tray alone, as a node is lent to it and bodies are done over it: what it holds stands as an opening left it. Nothing here speaks of vault, results or frames.
+-- A tray alone, as a node is lent to it and bodies are done over it: what it holds stands as an opening left it.
+-- Nothing here speaks of vault, results or frames.
 use Rattle.std.proofs.Common.{◌≡◌, ◌≢◌, ℕ, ◌<◌, List, length, set, Option, Some, None, Bool, true, false, cond, is_some, option_map, ◌⊎◌, inl, inr, refl, sym, ap, ap₂, ◌∙◌, subst, arith}
 use Rattle.std.proofs.lemmas.Bool.{cases_eq}
 use Rattle.std.proofs.lemmas.List.{get_or-set_other, get_or-set_same, length-set}

@@ -1,4 +1,5 @@
--- A tray alone, as the nodes on one path are lent to it: which values it holds, and which opening left them. Nothing here speaks of vault, results or frames.
+-- A tray alone, as the nodes on one path are lent to it: which values it holds, and which opening left them.
+-- Nothing here speaks of vault, results or frames.
 use Rattle.std.specs.Prelude.{◌≡◌, ℕ, List, Bool, true, false, length, is_some}
 use Rattle.iso_lifecycle.specs.Subjects.{opening_of, rights_of_subject, subject}
 use Rattle.iso_lifecycle.specs.WholeBodies.{IsAfterBody}
@@ -49,7 +50,7 @@ IsAsOpenedApart plan world p n t =
     (k : List ℕ) → is_writable (rights_of_subject (subject plan world n) k) ≡ false → is_some (held plan world t k) ≡ true
     → held plan world t k ≡ (opening_of (subject plan world p)).resources k
 
--- the nodes on the path of n are lent to a tray, and all stands as the opening of p has left it: of n itself, or of its parent
+-- the nodes on the path of n are lent to a tray, and all stands as the opening of p has left it: of n, or of its parent
 pub record StandsAsOpened (plan : Planned) (world : Start) (n p : ℕ) (t : TrayView) : Type 0 where
   pub holds : HoldsAlong plan world n t
   pub values : IsAsOpened plan world p t
@@ -59,7 +60,8 @@ pub record StandsApart (plan : Planned) (world : Start) (n : ℕ) (t : TrayView)
   pub holds : HoldsAlong plan world n t
   pub values : IsAsOpenedApart plan world (parent (tree_of plan) n) n t
 
--- a tray before and after a whole body of a node: its values alone were changed, but for its frames, and stand as the body leaves them
+-- a tray before and after a whole body of a node: but for its frames, its values alone were changed, and stand as the
+-- body leaves them
 pub record IsTrayAfter (plan : Planned) (world : Start) (kind : BodyKind) (n : ℕ) (old new : TrayView) : Type 0 where
   pub plan_is : new.plan ≡ old.plan
   pub world_is : new.world ≡ old.world

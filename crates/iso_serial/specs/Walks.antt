@@ -1,4 +1,4 @@
--- A run depth first: how its vault, its tray and its results stand between two nodes, and as a node is entered and left.
+-- A run depth first: how its vault, its tray and its results stand between two nodes, and at a node's entry and exit.
 use Rattle.std.specs.Prelude.{◌≡◌, ℕ, ◌<◌, List, true, false, length, slice_index_or}
 use Rattle.iso_lifecycle.specs.ResultViews.{AreOpen, AreOpened, CanPut, ResultsView, has_result, is_ended, is_opened}
 use Rattle.iso_lifecycle.specs.Subjects.{opening_of, subject}
@@ -21,8 +21,9 @@ pub record IsLentAlong (plan : Planned) (world : Start) (p : ℕ) (v : VaultView
   pub world_is : v.world ≡ world
   pub lent : AreLentAlong plan p v.lent
 
--- The results while the nodes on the path of p are under way: their `before_all`s were put and not their ends, the classes that p stands
--- in were opened well, each other opened class has ended, and what stands in an ended class has a result.
+-- The results while the nodes on the path of p are under way: their `before_all`s were put and not their ends, the
+-- classes that p stands in were opened well, each other opened class has ended, and what stands in an ended class has a
+-- result.
 pub record AreResultsAlong (plan : Planned) (world : Start) (p : ℕ) (v : ResultsView) : Type 0 where
   pub plan_is : v.plan ≡ plan
   pub start_is : v.start ≡ world
@@ -76,7 +77,8 @@ innermost tree BeforeAll n = parent tree n
 innermost tree Test n = parent tree n
 innermost tree AfterAll n = n
 
--- a body of n can be done: the frames that it begins with are there, its keys stand as the openings before it left them, and its end can be put
+-- a body of n can be done: the frames that it begins with are there, its keys stand as the openings before it left them,
+-- and its end can be put
 pub record CanPerform (plan : Planned) (world : Start) (kind : BodyKind) (n : ℕ) (w : Walk) : Type 0 where
   pub tray : w.tray.plan ≡ plan
   pub opened : AreOpened w.results (path (tree_of plan) (innermost (tree_of plan) kind n))

@@ -57,8 +57,8 @@ pub(crate) struct Walk<'a> {
 }
 
 impl<'a> Serial<'a> {
-    /// Runs what stands directly in a class that was opened, or in the root. Of a class whose `before_all` didn't end well each
-    /// such node has its result, and isn't entered.
+    /// Runs what stands directly in a class that was opened, or in the root. Of a class whose `before_all` didn't end
+    /// well each such node has its result, and isn't entered.
     #[cycle(depth)]
     fn children(&self, walk: &mut Walk<'a>, class: u32) -> Result<(), AllocError>
         requires { BetweenNodes self.now.plan.now self.now.world.now class walk.old }
@@ -74,7 +74,8 @@ impl<'a> Serial<'a> {
         Ok(())
     }
 
-    /// Runs a node: lends it, does its bodies and what stands in it, lets the values that it may change stand as they stood, and takes it back.
+    /// Runs a node: lends it, does its bodies and what stands in it, lets the values that it may change stand as they
+    /// stood, and takes it back.
     #[cycle(depth)]
     fn node(&self, walk: &mut Walk<'a>, node: u32) -> Result<(), AllocError>
         requires positive { 0 < node }
