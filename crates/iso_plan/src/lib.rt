@@ -18,4 +18,5 @@ mod outermost;
 pub mod plan;
 mod rights;
 pub mod row;
+mod same;
 mod tree;

@@ -1,5 +1,5 @@
 //! The plan of a run.
-ghost use Rattle.std.specs.Prelude.{◌≡◌, ◌<◌, [], IfErr, IfOk, None, length, map, slice_index_or};
+ghost use Rattle.std.specs.Prelude.{◌≡◌, ◌<◌, ◌↔◌, [], IfErr, IfOk, IsTrue, None, length, map, slice_index_or};
 ghost use Rattle.std.specs.List.{All};
 ghost use Rattle.std.specs.Option.{option_map};
 ghost use Rattle.iso_model.specs.ChainView.{innermost_first};
@@ -19,6 +19,7 @@ use crate::fault::{PlanError, PlanFault};
 use crate::lock::Lock;
 use crate::names::has_double_class;
 use crate::row::{Kind, Row};
+use crate::same::same_rows;
 use crate::tree::tree;
 use iso_model::chain::Chain;
 use iso_model::heads::ClassHead;
@@ -234,6 +235,15 @@ impl Plan {
         ensures { result.now ≡ slice_index_or (keys (tree_of self.now)) number [] }
     {
         self.keys[number as usize].as_str()
+    }
+
+    /// Whether two plans say the same: nodes of one tree with the same heads, marks, names and titles, and the same
+    /// settings. Takes no memory. It goes over the scripts of both, so a caller who knows the answer otherwise needn't
+    /// ask under a lock.
+    pub fn same(&self, other: &Plan) -> bool
+        ensures { IsTrue result ↔ (self.now ≡ other.now) }
+    {
+        self.settings.same(other.settings) && same_rows(&self.rows, &other.rows)
     }
 
     /// Its nodes are a tree.
