@@ -1,5 +1,4 @@
 pub mod Cores
 pub mod EventRuns
-pub mod FaultTexts
 pub mod FlatMaps
 pub mod Isolation

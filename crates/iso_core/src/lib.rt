@@ -3,7 +3,6 @@
 #![tactic(auto)]
 
 mod beside;
-pub mod core_fault;
 mod flat_map;
 pub mod machine;
 pub mod run_events;

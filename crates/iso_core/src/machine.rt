@@ -20,7 +20,6 @@ ghost use Rattle.iso_plan.specs.Paths.{is_test, parent, path, row_at};
 ghost use Rattle.iso_plan.specs.RowView.{tree_of};
 
 use crate::beside::entered_nodes_are_apart;
-use crate::core_fault::CoreFault;
 use crate::flat_map::FlatMap;
 use iso_lifecycle::body::Body;
 use iso_lifecycle::frame::Frame;
@@ -30,6 +29,7 @@ use iso_lifecycle::view::View;
 use iso_plan::laws::nodes_are_a_tree;
 use iso_plan::plan::Plan;
 use iso_settings::world::World;
+use iso_standing::core_fault::CoreFault;
 use iso_standing::event::Event;
 use iso_standing::following::{
     bodies_follow_events, bodies_stand_as_alone, results_follow_leaves, results_follow_nodes,

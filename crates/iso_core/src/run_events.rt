@@ -2,10 +2,10 @@
 ghost use Rattle.std.specs.Prelude.{◌≡◌, MatchResult};
 ghost use Rattle.iso_core.specs.EventRuns.{Ran, StoppedAt};
 
-use crate::core_fault::CoreFault;
 use crate::machine::Core;
 use iso_plan::plan::Plan;
 use iso_settings::world::World;
+use iso_standing::core_fault::CoreFault;
 use iso_standing::event::Event;
 use std::alloc::Global;
 

@@ -92,10 +92,20 @@ impl<'a> Vault<'a> {
         if let Some(m) = lowest_in_the_way(self.plan, &*self, node) {
             return Err(Busy { node: m });
         }
+        self.lend_free(node, tray);
+        Ok(())
+    }
+
+    /// Lends a node to a tray where no lent node conflicts with it, for those who know that without a search. Takes no memory.
+    pub fn lend_free(&mut self, node: u32, tray: &mut Tray<'_>)
+        requires can { CanLend node self.old tray.old }
+        requires free { busy self.old node ≡ None }
+        ensures vault { self.new ≡ lending node self.old }
+        ensures tray { IsLentTo node tray.old tray.new }
+    {
         let locks = self.plan.locks(node);
         self.lent[node as usize] = true;
         tray.receive(node, locks, &mut self.values);
-        Ok(())
     }
 
     /// Takes a node back from a tray: what it takes for READ_WRITE comes home. Takes no memory.

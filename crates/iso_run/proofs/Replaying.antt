@@ -3,8 +3,8 @@ use Rattle.std.proofs.Common.{◌≡◌, ℕ, List, Bool, Err, Ok, Some, refl, s
 use Rattle.std.proofs.lemmas.Bool.{false≢true}
 use Rattle.iso_core.specs.Cores.{CoreView, is_complete}
 use Rattle.iso_core.specs.EventRuns.{EndedBy, Ran}
-use Rattle.iso_core.specs.declared.core_fault.CoreFault.{CoreFault}
-use Rattle.iso_core.specs.declared.core_fault.CoreFault.TheVariants as C
+use Rattle.iso_standing.specs.declared.core_fault.CoreFault.{CoreFault}
+use Rattle.iso_standing.specs.declared.core_fault.CoreFault.TheVariants as C
 use Rattle.iso_run.specs.Suites.{suite_of}
 use Rattle.iso_run.specs.declared.inputs.Inputs.{Inputs}
 use Rattle.iso_run.specs.declared.inputs.Suite.{Suite as ReadSuite}

@@ -3,7 +3,7 @@ use Rattle.std.specs.Prelude.{◌≡◌, ⊤, ℕ, List, Bool, true, false, Opti
 use Rattle.iso_standing.specs.CodeEvents.{refused_of}
 use Rattle.iso_core.specs.Cores.{is_complete}
 use Rattle.iso_core.specs.EventRuns.{AreAccepted, RefusedAt, core_after}
-use Rattle.iso_core.specs.declared.core_fault.CoreFault.TheVariants as C
+use Rattle.iso_standing.specs.declared.core_fault.CoreFault.TheVariants as C
 use Rattle.iso_standing.specs.declared.refused.Refused.{Refused as Why}
 use Rattle.iso_core.specs.declared.run_events.EventsFault.{EventsFault}
 use Rattle.iso_plan.specs.Planned.{Planned}

@@ -5,12 +5,12 @@ ghost use Rattle.iso_run.specs.Replays.{events_fault, schedule_fault};
 ghost use Rattle.iso_run.specs.declared.fault.RunFault.TheVariants.{Memory};
 
 use crate::exit::{FAILED, WRONG_INPUT};
-use iso_core::core_fault::CoreFault;
 use iso_core::run_events::EventsFault;
 use iso_plan::fault::PlanFault;
 use iso_schedule::fault::{ScheduleError, ScheduleFault};
 use iso_script::fault::ScriptFault;
 use iso_settings::fault::SettingsFault;
+use iso_standing::core_fault::CoreFault;
 use iso_standing::refused::Refused;
 use std::alloc::{AllocError, AllocFailed};
 

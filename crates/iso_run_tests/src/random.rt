@@ -1,13 +1,13 @@
 //! Schedules of the three teams' example that are picked at random, on 1 to 8 workers.
 use crate::suites::{Check, check_inputs};
 use crate::teams::{OPS, ORDERS, SETTINGS, SHOP, WORLD};
-use iso_core::core_fault::CoreFault;
 use iso_core::machine::Core;
 use iso_core::run_events::{EventsFault, run_events};
 use iso_plan::plan::Plan;
 use iso_run::inputs::Inputs;
 use iso_run::run::run_serial;
 use iso_settings::world::World;
+use iso_standing::core_fault::CoreFault;
 use iso_standing::event::Event;
 use iso_tap::memory::MemorySink;
 use iso_tap::report::write_report;

@@ -1,4 +1,5 @@
 pub mod CodeEvents
+pub mod FaultTexts
 pub mod KindsAt
 pub mod Phases
 pub mod RefusalTexts

@@ -1,10 +1,10 @@
 //! Schedules whose last event is refused.
 use crate::suites::{CART_AND_DESK, CONCURRENT, Check, TWO_FILES, check_script};
-use iso_core::core_fault::CoreFault;
 use iso_core::run_events::{EventsFault, run_events};
 use iso_plan::plan::Plan;
 use iso_schedule::reader::read_schedule;
 use iso_settings::world::World;
+use iso_standing::core_fault::CoreFault;
 use iso_standing::refused::Refused;
 use iso_standing::refused::Refused::{
     AlreadyEntered, BodyEnded, BodyNotEnded, ChildrenLeft, EarlierSibling, LockHeld, NoBody,

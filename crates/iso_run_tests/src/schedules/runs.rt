@@ -3,13 +3,13 @@ ghost use Rattle.std.specs.Prelude.{◌≡◌, IfOk};
 
 use crate::suites::{CONCURRENT, Check, TWO_FILES, check_script, widest_script};
 use crate::told::expect_told;
-use iso_core::core_fault::CoreFault;
 use iso_core::machine::Core;
 use iso_core::run_events::run_events;
 use iso_plan::plan::Plan;
 use iso_run::inputs::{Suite, read_inputs};
 use iso_schedule::reader::read_schedule;
 use iso_settings::world::World;
+use iso_standing::core_fault::CoreFault;
 use iso_standing::event::Event;
 use iso_standing::refused::Refused;
 use std::alloc::{AllocError, Global};

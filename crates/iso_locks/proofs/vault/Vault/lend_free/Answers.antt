@@ -9,15 +9,15 @@ use Rattle.iso_locks.specs.Slots.{Slots}
 use Rattle.iso_locks.specs.Trays.{TrayView, is_lent}
 use Rattle.iso_locks.specs.Vaults.{IsLentTo, IsVault, VaultView, busy, lending}
 use Rattle.iso_locks.proofs.VaultLemmas.{home-all, home-lent, lent-to, lent-vault}
-use Rattle.iso_locks.proofs.vault.Vault.lend.Goals as goal
+use Rattle.iso_locks.proofs.vault.Vault.lend_free.Goals as goal
 
 pub invariant_of-self : goal.invariant_of-self
 invariant_of-self c =
     let plan : Planned = c.self.inside.plan.now in
-    let same : c.args.tray.now.plan ≡ plan = c.requires.plan ∙ sym (ap (λ (v : VaultView). v.plan) c.self.view_is) in
+    let same : c.args.tray.now.plan ≡ plan = c.requires.can.plan ∙ sym (ap (λ (v : VaultView). v.plan) c.self.view_is) in
     let moved : c.receive.new.home ≡ moved_away (locks (tree_of plan) c.args.node) c.self.inside.values = c.receive.ensures.home ∙ ap (λ (p : Planned). moved_away (locks (tree_of p) c.args.node) c.self.inside.values) same in
     let rows : length plan.rows ≡ length c.args.self.now.plan.rows = ap (λ (v : VaultView). length v.plan.rows) c.self.view_is in
-    let req = c.requires.node in
+    let req = c.requires.can.node in
     let node : c.args.node < length plan.rows = omega arith in
     let P : Slots → Type 0 = λ h. IsVault plan c.self.inside.world.now (set c.self.inside.lent.items c.args.node true) h in
     subst P (sym moved) (lent-vault plan c.self.inside.world.now c.self.inside.lent.items c.self.inside.values c.args.node node c.self.invariant)
@@ -25,7 +25,7 @@ invariant_of-self c =
 pub returns-clause-vault : goal.returns-clause-vault
 returns-clause-vault c =
     let plan : Planned = c.self.inside.plan.now in
-    let same : c.args.tray.now.plan ≡ plan = c.requires.plan ∙ sym (ap (λ (v : VaultView). v.plan) c.self.view_is) in
+    let same : c.args.tray.now.plan ≡ plan = c.requires.can.plan ∙ sym (ap (λ (v : VaultView). v.plan) c.self.view_is) in
     let moved : c.receive.new.home ≡ moved_away (locks (tree_of plan) c.args.node) c.self.inside.values = c.receive.ensures.home ∙ ap (λ (p : Planned). moved_away (locks (tree_of p) c.args.node) c.self.inside.values) same in
     let with_home : List Bool → VaultView = λ h. record { plan = plan; world = c.self.inside.world.now; lent = set c.self.inside.lent.items c.args.node true; home = h } in
     ap with_home (ap (map is_some) moved ∙ home-lent (locks (tree_of plan) c.args.node) c.self.inside.values) ∙ ap (lending c.args.node) c.self.view_is
@@ -34,10 +34,10 @@ pub returns-clause-tray : goal.returns-clause-tray
 returns-clause-tray c =
     let t : TrayView = c.args.tray.now in
     let plan : Planned = c.self.inside.plan.now in
-    let same : plan ≡ t.plan = ap (λ (v : VaultView). v.plan) c.self.view_is ∙ sym c.requires.plan in
-    let world : c.self.inside.world.now ≡ t.world = ap (λ (v : VaultView). v.world) c.self.view_is ∙ sym c.requires.world in
+    let same : plan ≡ t.plan = ap (λ (v : VaultView). v.plan) c.self.view_is ∙ sym c.requires.can.plan in
+    let world : c.self.inside.world.now ≡ t.world = ap (λ (v : VaultView). v.world) c.self.view_is ∙ sym c.requires.can.world in
     let free : lowest_in_the_way (tree_of plan) (is_lent c.self.inside.lent.items) c.args.node ≡ None =
-    ap (λ (u : VaultView). lowest_in_the_way (tree_of plan) (is_lent u.lent) c.args.node) c.self.view_is ∙ sym c.lowest_in_the_way.ensures ∙ c.in_default.is in
+    ap (λ (u : VaultView). busy u c.args.node) c.self.view_is ∙ c.requires.free in
     let P : Planned → Type 0 = λ p. IsVault p c.self.inside.world.now c.self.inside.lent.items c.self.inside.values in
     let Q : Start → Type 0 = λ w. IsVault t.plan w c.self.inside.lent.items c.self.inside.values in
     let kept : IsVault t.plan t.world c.self.inside.lent.items c.self.inside.values = subst Q world (subst P same c.self.invariant) in
@@ -50,10 +50,10 @@ pub receive-requires-clause-there : goal.receive-requires-clause-there
 receive-requires-clause-there c =
     let plan : Planned = c.self.inside.plan.now in
     let n = c.args.node in
-    let same : c.args.tray.now.plan ≡ plan = c.requires.plan ∙ sym (ap (λ (v : VaultView). v.plan) c.self.view_is) in
+    let same : c.args.tray.now.plan ≡ plan = c.requires.can.plan ∙ sym (ap (λ (v : VaultView). v.plan) c.self.view_is) in
     let v : VaultView = record { plan = plan; world = c.self.inside.world.now; lent = c.self.inside.lent.items; home = map is_some c.self.inside.values } in
     let free : busy v n ≡ None =
-    ap (λ (u : VaultView). lowest_in_the_way (tree_of plan) (is_lent u.lent) n) c.self.view_is ∙ sym c.lowest_in_the_way.ensures ∙ c.in_default.is in
+    ap (λ (u : VaultView). busy u n) c.self.view_is ∙ c.requires.free in
     λ i w. home-all v c.self.inside.values n c.self.invariant free i (ap (λ (p : Planned). is_written (locks (tree_of p) n) i) (sym same) ∙ w)
 
 pub receive-requires-clause-beside : goal.receive-requires-clause-beside
@@ -61,7 +61,4 @@ receive-requires-clause-beside c =
     let plan : Planned = c.self.inside.plan.now in
     let n = c.args.node in
     let v : VaultView = record { plan = plan; world = c.self.inside.world.now; lent = c.self.inside.lent.items; home = map is_some c.self.inside.values } in
-    let free : busy v n ≡ None =
-    ap (λ (u : VaultView). lowest_in_the_way (tree_of plan) (is_lent u.lent) n) c.self.view_is ∙ sym c.lowest_in_the_way.ensures ∙ c.in_default.is in
-    let Free : VaultView → Type 0 = λ x. busy x n ≡ None in
-    c.requires.beside (subst Free c.self.view_is free)
+    c.requires.can.beside c.requires.free

@@ -1,9 +1,9 @@
-//! Why the core of a run doesn't take an event.
-use iso_standing::refused::Refused;
+//! Why an event isn't taken.
+use crate::refused::Refused;
 use std::alloc::AllocError;
 use std::fmt;
 
-/// Why the core of a run doesn't take an event.
+/// Why an event isn't taken, by a core or a book.
 #[derive(Clone, Copy, Debug, PartialEq, Eq)]
 pub enum CoreFault {
     /// The event is refused: the first kind that applies. Nothing has changed.
@@ -14,7 +14,7 @@ pub enum CoreFault {
 
 impl fmt::Display for CoreFault {
     ghost use Rattle.std.specs.Prelude.{Some};
-    ghost use Rattle.iso_core.specs.FaultTexts.{fault_text};
+    ghost use Rattle.iso_standing.specs.FaultTexts.{fault_text};
 
     ghost output = { λ fault. Some (fault_text fault) };
 
@@ -30,7 +30,7 @@ impl std::error::Error for CoreFault {}
 
 impl From<AllocError> for CoreFault {
     ghost use Rattle.std.specs.Prelude.{◌≡◌};
-    ghost use Rattle.iso_core.specs.declared.core_fault.CoreFault.TheVariants.{OutOfMemory};
+    ghost use Rattle.iso_standing.specs.declared.core_fault.CoreFault.TheVariants.{OutOfMemory};
 
     ghost from_gives = { λ _ e. e ≡ OutOfMemory };
 

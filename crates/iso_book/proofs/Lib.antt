@@ -1,0 +1,13 @@
+pub mod Weights
+pub mod Runs
+pub mod Afters
+pub mod Enters
+pub mod Shuts
+pub mod Begins
+pub mod Frames
+pub mod Homes
+pub mod Completes
+pub mod LeaveStates
+pub mod LeaveRuns
+pub mod LeaveBooks
+pub mod LastEvents

@@ -1,0 +1,152 @@
+//! The book of a run.
+ghost use Rattle.std.specs.Prelude.{◌≡◌, ◌<◌, ◌≤◌, ◌*◌, ℕ, IfOk, IfSome, length, true};
+ghost use Rattle.std.specs.Option.{option_map};
+ghost use Rattle.iso_book.specs.Books.{is_complete, new_book, outcome_in};
+ghost use Rattle.iso_lifecycle.specs.ResultViews.{AreComplete, outcome_of_view, result_in};
+ghost use Rattle.iso_lifecycle.specs.Subjects.{outcome_alone, started};
+ghost use Rattle.iso_plan.specs.RowView.{tree_of};
+
+mod entering;
+mod leaving;
+mod shutting;
+
+use iso_lifecycle::results::Results;
+use iso_lifecycle::view::View;
+use iso_locks::vault::Vault;
+use iso_plan::laws::nodes_are_a_tree;
+use iso_plan::plan::Plan;
+use iso_settings::world::World;
+use iso_standing::event::Event;
+use iso_standing::following::{results_follow_leaves, results_follow_nodes};
+use iso_standing::standing::Standing;
+use std::alloc::{AllocError, Global};
+use std::marker::Model;
+use std::snapshot::Snapshot;
+
+/// The book of a run: where its nodes and workers stand, the values that are lent to nobody, the results, and the Enters, Leaves and
+/// Shuts that it has taken.
+///
+/// Contracts see the plan and the world that it was made for, the number of workers, the history, and whether it was stopped. That the
+/// history in full is a run, and that all else is of the state that this run gives, is kept by the type.
+#[derive(Drop)]
+pub struct Book<'a> {
+    plan: &'a Plan,
+    world: &'a World,
+    workers: u32,
+    standing: Standing<'a>,
+    vault: Vault<'a>,
+    results: Results<'a>,
+    /// It has room for every event of the plan.
+    history: Vec<Event>,
+}
+
+impl<'a> Model for Book<'a> {
+    ghost use Rattle.std.specs.Vec.{vec_capacity};
+    ghost use Rattle.iso_book.specs.Books.{BookView, IsBook, book_code};
+
+    ghost Value = { BookView };
+
+    ghost coded = { book_code };
+
+    ghost view = { λ b. record { plan = b.plan.now; world = b.world.now; workers = b.workers; history = b.history.items; stopped = b.standing.stopped } };
+
+    ghost invariant = { λ b. IsBook (record { plan = b.plan.now; world = b.world.now; workers = b.workers; history = b.history.items; stopped = b.standing.stopped })
+        b.standing b.vault b.results (vec_capacity b.history) };
+}
+
+impl<'a> Book<'a> {
+    /// The book of a plan and a world on so many workers, which has taken no event. It takes all memory that the history and the
+    /// results need.
+    pub fn new(
+        alloc: Global,
+        plan: &'a Plan,
+        world: &'a World,
+        workers: u32,
+    ) -> Result<Book<'a>, AllocError>
+        ensures { IfOk result (λ b. b ≡ new_book plan.now world.now workers) }
+    {
+        nodes_are_a_tree(plan);
+        results_follow_nodes(plan);
+        let nodes = plan.len() as usize;
+        Ok(Book {
+            plan,
+            world,
+            workers,
+            standing: Standing::new(alloc, plan, workers)?,
+            vault: Vault::new(alloc, plan, world)?,
+            results: Results::new(alloc, plan, Snapshot::of(world))?,
+            history: Vec::with_capacity(alloc, nodes * 4)?,
+        })
+    }
+
+    /// The plan that it was made for.
+    pub fn plan(&self) -> &'a Plan
+        ensures { result.now ≡ self.now.plan }
+    {
+        self.plan
+    }
+
+    /// The world that it was made for.
+    pub fn world(&self) -> &'a World
+        ensures { result.now ≡ self.now.world }
+    {
+        self.world
+    }
+
+    /// The number of workers that it was made for.
+    pub fn workers(&self) -> u32
+        ensures { result ≡ self.now.workers }
+    {
+        self.workers
+    }
+
+    /// The Enters, Leaves and Shuts that it has taken, in order: four of each node at most.
+    pub fn history(&self) -> &[Event]
+        ensures events { result.now ≡ self.now.history }
+        ensures bounded { length result.now ≤ 4 * length self.now.plan.rows }
+    {
+        &self.history
+    }
+
+    /// Whether it was stopped.
+    pub fn is_stopped(&self) -> bool
+        ensures { result ≡ self.now.stopped }
+    {
+        self.standing.is_stopped()
+    }
+
+    /// Stops: it refuses every event from now on. Takes no memory.
+    pub fn stop(&mut self)
+        ensures { self.new ≡ record self.old { stopped = true } }
+    {
+        self.standing.stop();
+    }
+
+    /// The outcome of a node, if it is finished: that of the node run alone, whatever else has run.
+    pub fn outcome(&self, node: u32) -> Option<View<'_>>
+        requires { node < length self.now.plan.rows }
+        ensures finished { option_map outcome_of_view result ≡ outcome_in self.now node }
+        ensures alone { IfSome result (λ v. outcome_of_view v ≡ outcome_alone (tree_of self.now.plan) (started self.now.world) node) }
+    {
+        results_follow_leaves(self.plan);
+        self.results.get(node)
+    }
+
+    /// The results of all finished nodes: those of tests and classes run alone, whatever else has run.
+    pub fn results(&self) -> &Results<'a>
+        ensures plan { result.now.plan ≡ self.now.plan }
+        ensures start { result.now.start ≡ self.now.world }
+        ensures outcomes { (n : ℕ) → n < length self.now.plan.rows → result_in result.now n ≡ outcome_in self.now n }
+        ensures complete { is_complete self.now ≡ true → AreComplete result.now }
+    {
+        results_follow_leaves(self.plan);
+        &self.results
+    }
+
+    /// Whether every node but the root is finished. It goes over all nodes.
+    pub fn complete(&self) -> bool
+        ensures { result ≡ is_complete self.now }
+    {
+        self.standing.is_complete()
+    }
+}
