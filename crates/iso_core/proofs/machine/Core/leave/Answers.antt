@@ -58,11 +58,9 @@ into_done-done-requires c =
     let w = c.args.worker in
     let is = c.self.invariant in
     let old : CoreView = core_of i.plan.now i.world.now i.standing i.events.items in
-    let h : refusal_in old (Code.Leave w) ≡ None = ap (λ (v : CoreView). refusal_in v (Code.Leave w)) c.self.view_is ∙ c.requires in
-    let f = leave-found old i.standing i.flat i.bodies.items i.results is w h c.bodies_stand_as_alone.ensures.inside c.in-Some.body (λ less.
+    let f = leave-found old i.standing i.flat i.bodies.items i.results is w c.args.self.now c.self.view_is c.requires c.bodies_stand_as_alone.ensures.inside c.in-Some.body (λ less.
     get_or_default i.bodies.items w None c.index_mut.result.now less ∙ sym c.index_mut.ensures.value ∙ sym c.take.ensures.value ∙ c.in-Some.is) in
-    let t = told old i.standing i.flat i.bodies.items i.results is w c.in-Some.body true f in
-    t.ended
+    f.ended
 
 pub put-requires : goal.put-requires
 put-requires c =
@@ -70,77 +68,38 @@ put-requires c =
     let w = c.args.worker in
     let is = c.self.invariant in
     let old : CoreView = core_of i.plan.now i.world.now i.standing i.events.items in
-    let h : refusal_in old (Code.Leave w) ≡ None = ap (λ (v : CoreView). refusal_in v (Code.Leave w)) c.self.view_is ∙ c.requires in
-    let f = leave-found old i.standing i.flat i.bodies.items i.results is w h c.bodies_stand_as_alone.ensures.inside c.in-Some.body (λ less.
+    let f = leave-found old i.standing i.flat i.bodies.items i.results is w c.args.self.now c.self.view_is c.requires c.bodies_stand_as_alone.ensures.inside c.in-Some.body (λ less.
     get_or_default i.bodies.items w None c.index_mut.result.now less ∙ sym c.index_mut.ensures.value ∙ sym c.take.ensures.value ∙ c.in-Some.is) in
-    let t = told old i.standing i.flat i.bodies.items i.results is w c.in-Some.body true f in
     let d = c.into_done-done.result in
-    subst (λ (s : Subject). CanPut (record { subject = s; kind = d.kind }) i.results) (sym (c.into_done-done.ensures.subject ∙ t.under.is.subject))
-    (subst (λ (k : BodyKind). CanPut (record { subject = subject i.plan.now i.world.now t.node; kind = k }) i.results) (sym c.into_done-done.ensures.kind)
-    (c.results_follow_leaves.ensures.put i.world.now i.results (state_in old) t.node (stage_of_body c.in-Some.body) (kind_of_body c.in-Some.body)
+    subst (λ (s : Subject). CanPut (record { subject = s; kind = d.kind }) i.results) (sym (c.into_done-done.ensures.subject ∙ f.under.subject))
+    (subst (λ (k : BodyKind). CanPut (record { subject = subject i.plan.now i.world.now f.node; kind = k }) i.results) (sym c.into_done-done.ensures.kind)
+    (c.results_follow_leaves.ensures.put i.world.now i.results (state_in old) f.node (stage_of_body c.in-Some.body) (kind_of_body c.in-Some.body)
     (at-leave old i.standing i.flat i.bodies.items i.results is w c.in-Some.body f)))
 
-pub leave_values-requires-clause-within : goal.leave_values-requires-clause-within
-leave_values-requires-clause-within c =
+pub leave_values-requires : goal.leave_values-requires
+leave_values-requires c =
     let i = c.self.inside in
     let w = c.args.worker in
     let is = c.self.invariant in
     let old : CoreView = core_of i.plan.now i.world.now i.standing i.events.items in
-    let s = state_in old in
-    let h : refusal_in old (Code.Leave w) ≡ None = ap (λ (v : CoreView). refusal_in v (Code.Leave w)) c.self.view_is ∙ c.requires in
-    let f = leave-found old i.standing i.flat i.bodies.items i.results is w h c.bodies_stand_as_alone.ensures.inside c.in-Some.body (λ less.
+    let f = leave-found old i.standing i.flat i.bodies.items i.results is w c.args.self.now c.self.view_is c.requires c.bodies_stand_as_alone.ensures.inside c.in-Some.body (λ less.
     get_or_default i.bodies.items w None c.index_mut.result.now less ∙ sym c.index_mut.ensures.value ∙ sym c.take.ensures.value ∙ c.in-Some.is) in
-    let t = told old i.standing i.flat i.bodies.items i.results is w c.in-Some.body true f in
-    let node : c.node-node.result ≡ t.node = c.node-node.ensures ∙ ap (λ (j : Subject). j.node) (c.into_done-done.ensures.subject ∙ t.under.is.subject) in
-    subst (λ (m : ℕ). m < length i.flat.tray.plan.rows) (sym node) (subst (λ (p : Planned). t.node < length p.rows) (sym is.flat_plan) f.within)
-
-pub leave_values-requires-clause-fits : goal.leave_values-requires-clause-fits
-leave_values-requires-clause-fits c =
-    let i = c.self.inside in
-    let w = c.args.worker in
-    let is = c.self.invariant in
-    let old : CoreView = core_of i.plan.now i.world.now i.standing i.events.items in
     let s = state_in old in
-    let h : refusal_in old (Code.Leave w) ≡ None = ap (λ (v : CoreView). refusal_in v (Code.Leave w)) c.self.view_is ∙ c.requires in
-    let f = leave-found old i.standing i.flat i.bodies.items i.results is w h c.bodies_stand_as_alone.ensures.inside c.in-Some.body (λ less.
-    get_or_default i.bodies.items w None c.index_mut.result.now less ∙ sym c.index_mut.ensures.value ∙ sym c.take.ensures.value ∙ c.in-Some.is) in
-    let t = told old i.standing i.flat i.bodies.items i.results is w c.in-Some.body true f in
-    let node : c.node-node.result ≡ t.node = c.node-node.ensures ∙ ap (λ (j : Subject). j.node) (c.into_done-done.ensures.subject ∙ t.under.is.subject) in
+    let node : c.node-node.result ≡ f.node = c.node-node.ensures ∙ ap (λ (j : Subject). j.node) (c.into_done-done.ensures.subject ∙ f.under.subject) in
     let kind : c.kind-kind.result ≡ kind_of_body c.in-Some.body = c.kind-kind.ensures ∙ c.into_done-done.ensures.kind in
-    ap (λ (k : BodyKind). is_kind_of k (row_at (tree_of i.flat.tray.plan) c.node-node.result).kind) kind
-    ∙ ap (λ (m : ℕ). is_kind_of (kind_of_body c.in-Some.body) (row_at (tree_of i.flat.tray.plan) m).kind) node
-    ∙ ap (λ (p : Planned). is_kind_of (kind_of_body c.in-Some.body) (row_at (tree_of p) t.node).kind) is.flat_plan
-    ∙ t.under.is.fits
-
-pub leave_values-requires-clause-marked : goal.leave_values-requires-clause-marked
-leave_values-requires-clause-marked c =
-    let i = c.self.inside in
-    let w = c.args.worker in
-    let is = c.self.invariant in
-    let old : CoreView = core_of i.plan.now i.world.now i.standing i.events.items in
-    let s = state_in old in
-    let h : refusal_in old (Code.Leave w) ≡ None = ap (λ (v : CoreView). refusal_in v (Code.Leave w)) c.self.view_is ∙ c.requires in
-    let f = leave-found old i.standing i.flat i.bodies.items i.results is w h c.bodies_stand_as_alone.ensures.inside c.in-Some.body (λ less.
-    get_or_default i.bodies.items w None c.index_mut.result.now less ∙ sym c.index_mut.ensures.value ∙ sym c.take.ensures.value ∙ c.in-Some.is) in
-    let t = told old i.standing i.flat i.bodies.items i.results is w c.in-Some.body true f in
-    let node : c.node-node.result ≡ t.node = c.node-node.ensures ∙ ap (λ (j : Subject). j.node) (c.into_done-done.ensures.subject ∙ t.under.is.subject) in
-    ap (λ (m : ℕ). is_some (mark_at i.flat.marks m)) node
-    ∙ (is.flat_is f.on).held t.node f.inner (body_held (s.nodes.status t.node) (stage_of_body c.in-Some.body) t.under.is.stage)
-
-pub leave_values-requires-clause-innermost : goal.leave_values-requires-clause-innermost
-leave_values-requires-clause-innermost c =
-    let i = c.self.inside in
-    let w = c.args.worker in
-    let is = c.self.invariant in
-    let old : CoreView = core_of i.plan.now i.world.now i.standing i.events.items in
-    let s = state_in old in
-    let h : refusal_in old (Code.Leave w) ≡ None = ap (λ (v : CoreView). refusal_in v (Code.Leave w)) c.self.view_is ∙ c.requires in
-    let f = leave-found old i.standing i.flat i.bodies.items i.results is w h c.bodies_stand_as_alone.ensures.inside c.in-Some.body (λ less.
-    get_or_default i.bodies.items w None c.index_mut.result.now less ∙ sym c.index_mut.ensures.value ∙ sym c.take.ensures.value ∙ c.in-Some.is) in
-    let t = told old i.standing i.flat i.bodies.items i.results is w c.in-Some.body true f in
-    let node : c.node-node.result ≡ t.node = c.node-node.ensures ∙ ap (λ (j : Subject). j.node) (c.into_done-done.ensures.subject ∙ t.under.is.subject) in
-    subst (λ (m : ℕ). IsInnermost i.flat m) (sym node)
-    (c.entered_nodes_are_apart.ensures.leave i.world.now i.flat s t.node (stage_of_body c.in-Some.body) f.reached is.flat_plan (is.flat_is f.on) t.under.is.stage)
+    record {
+      within = subst (λ (m : ℕ). m < length i.flat.tray.plan.rows) (sym node) (subst (λ (p : Planned). f.node < length p.rows) (sym is.flat_plan) f.within);
+      fits =
+          ap (λ (k : BodyKind). is_kind_of k (row_at (tree_of i.flat.tray.plan) c.node-node.result).kind) kind
+          ∙ ap (λ (m : ℕ). is_kind_of (kind_of_body c.in-Some.body) (row_at (tree_of i.flat.tray.plan) m).kind) node
+          ∙ ap (λ (p : Planned). is_kind_of (kind_of_body c.in-Some.body) (row_at (tree_of p) f.node).kind) is.flat_plan
+          ∙ f.under.fits;
+      marked =
+          ap (λ (m : ℕ). is_some (mark_at i.flat.marks m)) node
+          ∙ (is.flat_is f.on).held f.node f.inner (body_held (s.nodes.status f.node) (stage_of_body c.in-Some.body) f.under.stage);
+      innermost = subst (λ (m : ℕ). IsInnermost i.flat m) (sym node)
+          (c.entered_nodes_are_apart.ensures.leave i.world.now i.flat s f.node (stage_of_body c.in-Some.body) f.reached is.flat_plan (is.flat_is f.on) f.under.stage);
+    }
 
 pub bars-well-requires : goal.bars-well-requires
 bars-well-requires c =
@@ -148,15 +107,12 @@ bars-well-requires c =
     let w = c.args.worker in
     let is = c.self.invariant in
     let old : CoreView = core_of i.plan.now i.world.now i.standing i.events.items in
-    let s = state_in old in
-    let h : refusal_in old (Code.Leave w) ≡ None = ap (λ (v : CoreView). refusal_in v (Code.Leave w)) c.self.view_is ∙ c.requires in
-    let f = leave-found old i.standing i.flat i.bodies.items i.results is w h c.bodies_stand_as_alone.ensures.inside c.in-Some.body (λ less.
+    let f = leave-found old i.standing i.flat i.bodies.items i.results is w c.args.self.now c.self.view_is c.requires c.bodies_stand_as_alone.ensures.inside c.in-Some.body (λ less.
     get_or_default i.bodies.items w None c.index_mut.result.now less ∙ sym c.index_mut.ensures.value ∙ sym c.take.ensures.value ∙ c.in-Some.is) in
-    let t = told old i.standing i.flat i.bodies.items i.results is w c.in-Some.body true f in
-    let node : c.node-node.result ≡ t.node = c.node-node.ensures ∙ ap (λ (j : Subject). j.node) (c.into_done-done.ensures.subject ∙ t.under.is.subject) in
+    let node : c.node-node.result ≡ f.node = c.node-node.ensures ∙ ap (λ (j : Subject). j.node) (c.into_done-done.ensures.subject ∙ f.under.subject) in
     let d = c.into_done-done.result in
     let plan : c.put.new.self.plan ≡ i.plan.now = ap (λ (q : ResultsView). q.plan) c.put.ensures ∙ done-plan d.kind d.subject.node i.results ∙ is.results_plan in
-    subst (λ (m : ℕ). m < length c.put.new.self.plan.rows) (sym node) (subst (λ (p : Planned). t.node < length p.rows) (sym plan) f.within)
+    subst (λ (m : ℕ). m < length c.put.new.self.plan.rows) (sym node) (subst (λ (p : Planned). f.node < length p.rows) (sym plan) f.within)
 
 pub leave-requires : goal.leave-requires
 leave-requires c =
@@ -164,12 +120,9 @@ leave-requires c =
     let w = c.args.worker in
     let is = c.self.invariant in
     let old : CoreView = core_of i.plan.now i.world.now i.standing i.events.items in
-    let s = state_in old in
-    let h : refusal_in old (Code.Leave w) ≡ None = ap (λ (v : CoreView). refusal_in v (Code.Leave w)) c.self.view_is ∙ c.requires in
-    let f = leave-found old i.standing i.flat i.bodies.items i.results is w h c.bodies_stand_as_alone.ensures.inside c.in-Some.body (λ less.
+    let f = leave-found old i.standing i.flat i.bodies.items i.results is w c.args.self.now c.self.view_is c.requires c.bodies_stand_as_alone.ensures.inside c.in-Some.body (λ less.
     get_or_default i.bodies.items w None c.index_mut.result.now less ∙ sym c.index_mut.ensures.value ∙ sym c.take.ensures.value ∙ c.in-Some.is) in
-    let t = told old i.standing i.flat i.bodies.items i.results is w c.in-Some.body true f in
-    has-body old i.standing i.flat i.bodies.items i.results is w t f.within
+    has-body old i.standing i.flat i.bodies.items i.results is w (told old i.bodies.items w c.in-Some.body true f) f.within
 
 -- the core before the event, that nothing refuses it there, and the events after it
 abbrev old_of : After-push_reserved → CoreView
@@ -189,10 +142,9 @@ stands c =
     let is = c.self.invariant in
     let old : CoreView = core_of i.plan.now i.world.now i.standing i.events.items in
     let s = state_in old in
-    let h : refusal_in old (Code.Leave w) ≡ None = ap (λ (v : CoreView). refusal_in v (Code.Leave w)) c.self.view_is ∙ c.requires in
-    let f = leave-found old i.standing i.flat i.bodies.items i.results is w h c.bodies_stand_as_alone.ensures.inside c.in-Some.body (λ less.
+    let f = leave-found old i.standing i.flat i.bodies.items i.results is w c.args.self.now c.self.view_is c.requires c.bodies_stand_as_alone.ensures.inside c.in-Some.body (λ less.
     get_or_default i.bodies.items w None c.index_mut.result.now less ∙ sym c.index_mut.ensures.value ∙ sym c.take.ensures.value ∙ c.in-Some.is) in
-    let t = told old i.standing i.flat i.bodies.items i.results is w c.in-Some.body true f in
+    let t = told old i.bodies.items w c.in-Some.body true f in
     let node : c.node-node.result ≡ t.node = c.node-node.ensures ∙ ap (λ (j : Subject). j.node) (c.into_done-done.ensures.subject ∙ t.under.is.subject) in
     let kind : c.kind-kind.result ≡ kind_of_body c.in-Some.body = c.kind-kind.ensures ∙ c.into_done-done.ensures.kind in
     let d = c.into_done-done.result in
@@ -231,7 +183,7 @@ stands c =
     let are : AreResultsOf c.put.new.self (leaving scripts (suite_in old) t.node s.nodes (s.nodes.status t.node)) =
     subst (λ (q : ResultsView). AreResultsOf q (leaving scripts (suite_in old) t.node s.nodes (s.nodes.status t.node))) (sym put_is)
     (c.results_follow_leaves.ensures.leave i.world.now i.results s t.node b k here_left t.ended) in
-    left old i.standing i.flat i.bodies.items i.results is w t c.leave.new.self c.leave_values.new.flat (set i.bodies.items w c.take.new.self) c.put.new.self h
+    left old i.standing i.flat i.bodies.items i.results is w t c.leave.new.self c.leave_values.new.flat (set i.bodies.items w c.take.new.self) c.put.new.self (allowed c)
     c.leave.ensures.same looks c.leave_values.ensures.same values (length-set i.bodies.items w c.take.new.self) under
     (ap (λ (q : ResultsView). q.plan) c.put.ensures ∙ done-plan d.kind d.subject.node i.results)
     (ap (λ (q : ResultsView). q.start) c.put.ensures ∙ done-start d.kind d.subject.node i.results)

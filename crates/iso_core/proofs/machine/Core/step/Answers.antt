@@ -25,41 +25,20 @@ unreachable-requires c =
     absurd (step-there old i.standing i.flat i.bodies.items i.results is w h (λ less.
     get_or_default i.bodies.items w None c.index_mut.result.now less ∙ sym c.index_mut.ensures.value ∙ c.in_default-index_mut.is))
 
-pub step-requires-clause-under_way : goal.step-requires-clause-under_way
-step-requires-clause-under_way c =
+pub step-requires : goal.step-requires
+step-requires c =
     let i = c.self.inside in
     let w = c.args.worker in
     let is = c.self.invariant in
     let old : CoreView = core_of i.plan.now i.world.now i.standing i.events.items in
-    let h : refusal_in old (Code.Step w) ≡ None = ap (λ (v : CoreView). refusal_in v (Code.Step w)) c.self.view_is ∙ c.requires in
-    let f = step-found old i.standing i.flat i.bodies.items i.results is w h c.bodies_stand_as_alone.ensures.inside c.in-Some.body (λ less.
+    let f = step-found old i.standing i.flat i.bodies.items i.results is w c.args.self.now c.self.view_is c.requires c.bodies_stand_as_alone.ensures.inside c.in-Some.body (λ less.
     get_or_default i.bodies.items w None c.index_mut.result.now less ∙ sym c.index_mut.ensures.value ∙ c.in-Some.is) in
-    (told old i.standing i.flat i.bodies.items i.results is w c.in-Some.body false f).ended
-
-pub step-requires-clause-of_map : goal.step-requires-clause-of_map
-step-requires-clause-of_map c =
-    let i = c.self.inside in
-    let w = c.args.worker in
-    let is = c.self.invariant in
-    let old : CoreView = core_of i.plan.now i.world.now i.standing i.events.items in
-    let h : refusal_in old (Code.Step w) ≡ None = ap (λ (v : CoreView). refusal_in v (Code.Step w)) c.self.view_is ∙ c.requires in
-    let f = step-found old i.standing i.flat i.bodies.items i.results is w h c.bodies_stand_as_alone.ensures.inside c.in-Some.body (λ less.
-    get_or_default i.bodies.items w None c.index_mut.result.now less ∙ sym c.index_mut.ensures.value ∙ c.in-Some.is) in
-    let t = told old i.standing i.flat i.bodies.items i.results is w c.in-Some.body false f in
-    subject-at i.plan.now i.flat.tray.plan i.world.now i.flat.tray.world t.node (subject_of c.in-Some.body) t.under.is.subject is.flat_plan is.flat_world
-
-pub step-requires-clause-stands : goal.step-requires-clause-stands
-step-requires-clause-stands c =
-    let i = c.self.inside in
-    let w = c.args.worker in
-    let is = c.self.invariant in
-    let old : CoreView = core_of i.plan.now i.world.now i.standing i.events.items in
-    let h : refusal_in old (Code.Step w) ≡ None = ap (λ (v : CoreView). refusal_in v (Code.Step w)) c.self.view_is ∙ c.requires in
-    let f = step-found old i.standing i.flat i.bodies.items i.results is w h c.bodies_stand_as_alone.ensures.inside c.in-Some.body (λ less.
-    get_or_default i.bodies.items w None c.index_mut.result.now less ∙ sym c.index_mut.ensures.value ∙ c.in-Some.is) in
-    let t = told old i.standing i.flat i.bodies.items i.results is w c.in-Some.body false f in
-    stands-on c.in-Some.body (state_in old).nodes.flat (flat i.flat.tray) (is.flat_is f.on).now
-    (c.bodies_stand_as_alone.ensures.stands i.world.now i.bodies.items (state_in old) w t.node c.in-Some.body f.reached (is.bodies_are f.on) f.less t.busy f.at)
+    record {
+      under_way = f.ended;
+      of_map = subject-at i.plan.now i.flat.tray.plan i.world.now i.flat.tray.world f.node (subject_of c.in-Some.body) f.under.subject is.flat_plan is.flat_world;
+      stands = stands-on c.in-Some.body (state_in old).nodes.flat (flat i.flat.tray) (is.flat_is f.on).now
+          (c.bodies_stand_as_alone.ensures.stands i.world.now i.bodies.items (state_in old) w f.node c.in-Some.body f.reached (is.bodies_are f.on) f.less f.busy f.at);
+    }
 
 pub invariant_of-self : goal.invariant_of-self
 invariant_of-self c =
@@ -101,9 +80,9 @@ invariant_of-self-2 c =
     let old : CoreView = core_of i.plan.now i.world.now i.standing i.events.items in
     let s = state_in old in
     let h : refusal_in old (Code.Step w) ≡ None = ap (λ (v : CoreView). refusal_in v (Code.Step w)) c.self.view_is ∙ c.requires in
-    let f = step-found old i.standing i.flat i.bodies.items i.results is w h c.bodies_stand_as_alone.ensures.inside c.in-Some.body (λ less.
+    let f = step-found old i.standing i.flat i.bodies.items i.results is w c.args.self.now c.self.view_is c.requires c.bodies_stand_as_alone.ensures.inside c.in-Some.body (λ less.
     get_or_default i.bodies.items w None c.index_mut.result.now less ∙ sym c.index_mut.ensures.value ∙ c.in-Some.is) in
-    let t = told old i.standing i.flat i.bodies.items i.results is w c.in-Some.body false f in
+    let t = told old i.bodies.items w c.in-Some.body false f in
     let b = stage_of_body c.in-Some.body in
     let now = set i.bodies.items w (Some c.step.new.body) in
     let stage : stage_of_body c.step.new.body ≡ (scripts.step (chain (suite_in old) t.node) b s.nodes.flat).body =
