@@ -59,7 +59,8 @@ is_of_worker b w d = where_some ((state_in b).busy w) false (is_body_at b d)
 abbrev pub booking_in : BookView → ℕ → Option Why.Refused
 booking_in b w = booking_refusal (suite_in b) b.workers (state_in b) w
 
--- why a Leave is refused but for the tray, if it is: by the first of these kinds, or since the body that is brought isn't the worker's
+-- why a Leave is refused whatever tray comes with it, if it is: by the first of these kinds, or else since the body that is brought
+-- isn't the worker's
 abbrev pub leave_refusal_in : BookView → ℕ → DoneView → Option Why.Refused
 leave_refusal_in b w d = option_or (booking_in b w) (refuse (not (is_of_worker b w d)) (Why.OtherBody d.subject.node))
 
@@ -68,8 +69,8 @@ leave_refusal_in b w d = option_or (booking_in b w) (refuse (not (is_of_worker b
 pub record MayBring (d : DoneView) (t : TrayView) : Type 0 where
   pub plan : d.subject.plan ≡ t.plan
   pub start : d.subject.start ≡ t.world
-  pub at_start : is_last d.kind ≡ true → (i : ℕ) → i < length (keys (tree_of t.plan)) → is_written (locks (tree_of t.plan) d.subject.node) i ≡ true
-      → is_some (slot t.values i) ≡ true → StandsAtStart t i
+  pub at_start : is_last d.kind ≡ true → (i : ℕ) → i < length (keys (tree_of t.plan))
+      → is_written (locks (tree_of t.plan) d.subject.node) i ≡ true → is_some (slot t.values i) ≡ true → StandsAtStart t i
 
 -- the tray after the Leave of a body: the last one of a node gives the node back
 abbrev pub after_leave : BodyKind → ℕ → TrayView → TrayView

@@ -7,7 +7,8 @@ use crate::book::Book;
 
 /// A worker's last event before its Leave is the Enter or the Shut of the node that it leaves.
 pub fn leaves_end_what_their_workers_began(book: &Book<'_>)
-    ensures { (worker : ℕ) (done : DoneView) → leave_refusal_in book.now worker done ≡ None → Began book.now.history worker done.subject.node }
+    ensures { (worker : ℕ) (done : DoneView) → leave_refusal_in book.now worker done ≡ None
+        → Began book.now.history worker done.subject.node }
 {
     book.keep_beginnings();
 }
