@@ -12,6 +12,8 @@ mod model;
 #[cfg(test)]
 mod plan;
 #[cfg(test)]
+mod same;
+#[cfg(test)]
 mod schedule;
 #[cfg(test)]
 mod script;
