@@ -1,4 +1,5 @@
 //! Schedules on the core.
+mod longest;
 mod refused;
 mod runs;
 mod stopped;
