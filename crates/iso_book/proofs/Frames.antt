@@ -2,7 +2,7 @@
 use Rattle.std.proofs.Common.{◌≡◌, ℕ, zero, suc, ◌<◌, List, [], ◌∷◌, length, map, reverse, true, false, Result, Ok, Err, OnOk, refl, ap, sym, ◌∙◌, subst, arith}
 use Rattle.std.specs.Prelude.{unwrap_or}
 use Rattle.iso_book.specs.Turns.{BeginsIn, frames_of, handed}
-use Rattle.iso_lifecycle.specs.ResultViews.{ResultsView, AreOpened}
+use Rattle.iso_lifecycle.specs.ResultViews.{ResultsView}
 use Rattle.iso_lifecycle.specs.Subjects.{Subject, enclosing, framed, is_kind_of, opening_of, subject}
 use Rattle.iso_lifecycle.specs.WholeBodies.{CanBegin}
 use Rattle.iso_lifecycle.specs.declared.kind.BodyKind.{BodyKind}
@@ -14,12 +14,7 @@ use Rattle.iso_plan.specs.RowView.{tree_of}
 use Rattle.iso_plan.specs.Tree.{Kind, Row, root, class_node, test_node}
 use Rattle.iso_settings.specs.Worlds.{Start}
 use Rattle.iso_standing.proofs.Looks.{nodes-are}
-use Rattle.iso_standing.specs.UnderWay as UnderWay
 use Rattle.iso_standing.specs.UnderWay.{is_after_all}
-
-pub opened-as : (r : ResultsView) (ns : List ℕ) → UnderWay.AreOpened r ns → AreOpened r ns
-opened-as r [] h = tt
-opened-as r (n ∷ ns) h = (h.0, opened-as r ns h.1)
 
 pub parent-is : (tree : List Row) (n m : ℕ) → 0 < n → m ≡ unwrap_or (parent_of tree n) 0 → m ≡ parent tree n
 parent-is tree zero m pos e = absurd (omega (arith, pos))

@@ -1,5 +1,5 @@
 //! The book of a run.
-ghost use Rattle.std.specs.Prelude.{◌≡◌, ◌<◌, ◌≤◌, ◌*◌, ℕ, IfOk, IfSome, length, true};
+ghost use Rattle.std.specs.Prelude.{◌≡◌, ◌<◌, ◌≤◌, ◌↔◌, ◌*◌, ℕ, IfOk, IfSome, IsTrue, length, true};
 ghost use Rattle.std.specs.Option.{option_map};
 ghost use Rattle.iso_book.specs.Books.{is_complete, new_book, outcome_in};
 ghost use Rattle.iso_lifecycle.specs.ResultViews.{AreComplete, outcome_of_view, result_in};
@@ -12,6 +12,7 @@ mod shutting;
 
 use iso_lifecycle::results::Results;
 use iso_lifecycle::view::View;
+use iso_locks::tray::Tray;
 use iso_locks::vault::Vault;
 use iso_plan::laws::nodes_are_a_tree;
 use iso_plan::plan::Plan;
@@ -141,6 +142,13 @@ impl<'a> Book<'a> {
     {
         results_follow_leaves(self.plan);
         &self.results
+    }
+
+    /// Whether a tray was made for a plan and a world that say the same as those of this book. It goes over both.
+    fn is_made_for(&self, tray: &Tray<'_>) -> bool
+        ensures { IsTrue result ↔ ((tray.now.plan ≡ self.now.plan) × (tray.now.world ≡ self.now.world)) }
+    {
+        tray.plan().same(self.plan) && tray.world().same(self.world)
     }
 
     /// Whether every node but the root is finished. It goes over all nodes.

@@ -20,6 +20,22 @@ use iso_standing::refused::Refused;
 use std::alloc::AllocError;
 
 impl<'a> Book<'a> {
+    /// Enters a node with any tray. It asks by value whether the tray is of this plan and these starting values, which takes time by
+    /// what these say, and is then as `enter_own`: a tray of others is a stranger's.
+    pub fn enter(&mut self, worker: u32, node: u32, tray: &mut Tray<'_>) -> Result<(), CoreFault>
+        ensures event { MatchResult result (λ _. IsTaken (Event.Enter worker node) (MayEnterWith self.old node tray.old) self.old self.new)
+            (λ fault. IsNotTaken fault (Event.Enter worker node) (MayEnterWith self.old node tray.old) self.old self.new tray.old tray.new) }
+        ensures tray { OnOk result (IsEntered node tray.old tray.new) }
+    {
+        if !self.is_made_for(tray) {
+            let refused = self
+                .kind_of_enter(worker, node)
+                .unwrap_or(Refused::Stranger);
+            return Err(CoreFault::Refused(refused));
+        }
+        self.enter_own(worker, node, tray)
+    }
+
     /// Enters a node with a tray of this plan and these starting values, where nothing refuses it and the tray is the book's: the node
     /// is lent to it, and the frames of the classes around the node are handed to it in place of others. A refusal is of the first kind
     /// that applies, Stranger the last of them. Want of memory, of a further owner of a frame alone, comes after it. Neither changes

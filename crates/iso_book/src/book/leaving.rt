@@ -37,6 +37,28 @@ fn bring_home(vault: &mut Vault<'_>, node: u32, kind: BodyKind, tray: &mut Tray<
 }
 
 impl<'a> Book<'a> {
+    /// Books what a worker's body came to, with any tray: it asks by value, as `enter` does, and is then as `leave_own`.
+    pub fn leave(
+        &mut self,
+        worker: u32,
+        done: Done,
+        tray: &mut Tray<'_>,
+    ) -> Result<Receipt, (Refused, Done)>
+        requires { MayBring done tray.old }
+        ensures event { MatchResult result (λ receipt. IsLeft worker done receipt self.old self.new tray.old)
+            (λ refusal. IsNotLeft (refused_of refusal.0) refusal.1 worker done self.old self.new tray.old tray.new) }
+        ensures tray { OnOk result (tray.new ≡ after_leave done.kind done.subject.node tray.old) }
+        ensures reads { OnOk result ((n : ℕ) → is_lent tray.new.lent n ≡ true → ReadsStart n tray.new) }
+    {
+        if !self.is_made_for(tray) {
+            let refused = self
+                .kind_of_leave(worker, &done)
+                .unwrap_or(Refused::Stranger);
+            return Err((refused, done));
+        }
+        self.leave_own(worker, done, tray)
+    }
+
     /// Books what a worker's body came to, with a tray of this plan and these starting values, where nothing refuses it, the body
     /// is the one that the worker has, and the tray is the book's. The last body of a node gives the node back: what it takes for
     /// READ_WRITE comes home, and what another node of the tray holds for READ stays open. The receipt tells the place in the

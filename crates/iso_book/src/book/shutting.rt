@@ -19,6 +19,19 @@ use iso_standing::refused::Refused;
 use std::alloc::AllocError;
 
 impl<'a> Book<'a> {
+    /// Shuts a class with any tray: it asks by value, as `enter` does, and is then as `shut_own`.
+    pub fn shut(&mut self, worker: u32, node: u32, tray: &mut Tray<'_>) -> Result<(), CoreFault>
+        ensures event { MatchResult result (λ _. IsTaken (Event.Shut worker node) (GoesOnWith self.old node tray.old) self.old self.new)
+            (λ fault. IsNotTaken fault (Event.Shut worker node) (GoesOnWith self.old node tray.old) self.old self.new tray.old tray.new) }
+        ensures tray { OnOk result (IsShut node tray.old tray.new) }
+    {
+        if !self.is_made_for(tray) {
+            let refused = self.kind_of_shut(worker, node).unwrap_or(Refused::Stranger);
+            return Err(CoreFault::Refused(refused));
+        }
+        self.shut_own(worker, node, tray)
+    }
+
     /// Shuts a class with a tray of this plan and these starting values, where nothing refuses it and the tray is the book's: the frames
     /// of the class and of those around it are handed to it in place of others. Refusals and want of memory are as for an Enter.
     pub fn shut_own(&mut self, worker: u32, node: u32, tray: &mut Tray<'_>) -> Result<(), CoreFault>

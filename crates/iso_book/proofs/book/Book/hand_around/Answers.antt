@@ -2,7 +2,7 @@ use Rattle.std.proofs.Common.{◌≡◌, None, true, ℕ, ap, sym, ◌∙◌, su
 use Rattle.std.specs.Prelude.{unwrap_or}
 use Rattle.std.specs.Vec.{vec_capacity}
 use Rattle.iso_book.proofs.Enters.{around, inner, within}
-use Rattle.iso_book.proofs.Frames.{begins-in, handed-is, on-ok, opened-as, parent-is}
+use Rattle.iso_book.proofs.Frames.{begins-in, handed-is, on-ok, parent-is}
 use Rattle.iso_book.proofs.Runs.{book_of, reached, unstopped-enter}
 use Rattle.iso_book.specs.Books.{BookView, refusal_in, state_in}
 use Rattle.iso_book.specs.Turns.{handed}
@@ -30,9 +30,8 @@ hand_path-requires-clause-opened c =
     let less = tree.below n pos in
     subst (λ (m : ℕ). AreOpened i.results (path (tree_of c.args.tray.now.plan) m)) (sym class)
     (subst (λ (p : Planned). AreOpened i.results (path (tree_of p) (parent (tree_of i.plan.now) n))) (sym (c.requires.plan ∙ sym (ap (λ (v : BookView). v.plan) c.self.view_is)))
-    (opened-as i.results (path (tree_of i.plan.now) (parent (tree_of i.plan.now) n))
     (c.bodies_stand_as_alone.ensures.opened i.world.now i.results (state_in b) (parent (tree_of i.plan.now) n) (reached b is.history (unstopped-enter b w n h)) is.results_are
-    (omega (arith, less, inside)) (around b i.standing i.vault i.results room is tree w n h))))
+    (omega (arith, less, inside)) (around b i.standing i.vault i.results room is tree w n h)))
 
 pub returns-clause-begins : goal.returns-clause-begins
 returns-clause-begins c =

@@ -1,6 +1,6 @@
 use Rattle.std.proofs.Common.{◌≡◌, None, true, ap, sym, ◌∙◌, subst}
 use Rattle.std.specs.Vec.{vec_capacity}
-use Rattle.iso_book.proofs.Frames.{closes-in, handed-is, on-ok, opened-as}
+use Rattle.iso_book.proofs.Frames.{closes-in, handed-is, on-ok}
 use Rattle.iso_book.proofs.Runs.{book_of, reached, unstopped-shut}
 use Rattle.iso_book.proofs.Shuts.{class, inner, rests, within}
 use Rattle.iso_book.specs.Books.{BookView, refusal_in, state_in}
@@ -24,9 +24,8 @@ hand_path-requires-clause-opened c =
     let h : refusal_in b (Code.Shut w n) ≡ None = ap (λ (v : BookView). refusal_in v (Code.Shut w n)) c.self.view_is ∙ c.requires.allowed in
     let same = c.requires.plan ∙ sym (ap (λ (v : BookView). v.plan) c.self.view_is) in
     subst (λ (p : Planned). AreOpened i.results (path (tree_of p) n)) (sym same)
-    (opened-as i.results (path (tree_of i.plan.now) n)
     (c.bodies_stand_as_alone.ensures.opened_at_rest i.world.now i.results (state_in b) n (reached b is.history (unstopped-shut b w n h)) is.results_are
-    (within b i.standing i.vault i.results room is tree w n h) (rests b i.standing i.vault i.results room is tree w n h)))
+    (within b i.standing i.vault i.results room is tree w n h) (rests b i.standing i.vault i.results room is tree w n h))
 
 pub returns-clause-begins : goal.returns-clause-begins
 returns-clause-begins c =
