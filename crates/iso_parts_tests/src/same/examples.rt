@@ -5,11 +5,11 @@ use std::alloc::Global;
 use std::process::Abort;
 use std::test::Fail;
 
-static CART: &str = r#"team shop
+const CART: &str = r#"team shop
 class Cart { test adds { } }
 "#;
 
-static FAILING: &str = r#"// One test passes and prints, the other fails: the status is 1.
+const FAILING: &str = r#"// One test passes and prints, the other fails: the status is 1.
 team shop
 class Basket {
     test starts_empty {
@@ -24,7 +24,7 @@ class Basket {
 }
 "#;
 
-static TWO_CLASSES: &str = r#"team depot
+const TWO_CLASSES: &str = r#"team depot
 class Doors {
     test open { assert_equal true, true; }
     test shut { print "bang"; print -1; }
@@ -34,7 +34,7 @@ class Keys {
 }
 "#;
 
-static SHOP: &str =
+const SHOP: &str =
     r#"// Prices in system properties and labels in the default locale. What a test changes, the next one finds restored.
 team shop
 
@@ -76,7 +76,7 @@ class Labels {
 }
 "#;
 
-static ORDERS: &str =
+const ORDERS: &str =
     r#"// Orders in files. The database has another version than its class wants, so nothing in that class runs.
 team orders
 
@@ -118,7 +118,7 @@ class Database {
 }
 "#;
 
-static OPS: &str = r#"// Nothing else runs beside the migration.
+const OPS: &str = r#"// Nothing else runs beside the migration.
 team ops
 
 isolated
@@ -151,21 +151,13 @@ class Health {
 }
 "#;
 
-static EXAMPLES: [&[&str]; 7] = [
-    &[CART],
-    &[FAILING],
-    &[TWO_CLASSES],
-    &[SHOP],
-    &[ORDERS],
-    &[OPS],
-    &[SHOP, ORDERS, OPS],
-];
+static EXAMPLES: [&str; 6] = [CART, FAILING, TWO_CLASSES, SHOP, ORDERS, OPS];
 
 /// The plan at this place says the same as its own alone.
-fn check_example(rt: &impl Abort, alloc: Global, place: usize, one: &[&str]) -> Result<(), Fail> {
+fn check_example(rt: &impl Abort, alloc: Global, place: usize, one: &str) -> Result<(), Fail> {
     let settings = concurrent();
     for (at, other) in EXAMPLES.iter().enumerate() {
-        let found = is_same(alloc, (one, &settings), (other, &settings))?;
+        let found = is_same(alloc, (&[one], &settings), (&[*other], &settings))?;
         assert_eq!(rt; found, at == place, "{place} and {at}");
     }
     Ok(())
@@ -176,5 +168,14 @@ fn no_two_examples_have_one_plan(rt: HostRuntime) -> Result<(), Fail> {
     for (place, one) in EXAMPLES.iter().enumerate() {
         check_example(&rt, rt.alloc(), place, one)?;
     }
+    Ok(())
+}
+
+#[test]
+fn order_of_teams_is_of_the_plan(rt: HostRuntime) -> Result<(), Fail> {
+    let settings = concurrent();
+    let teams = (&[SHOP, ORDERS, OPS][..], &settings);
+    assert!(rt; is_same(rt.alloc(), teams, teams)?);
+    assert!(rt; !is_same(rt.alloc(), teams, (&[ORDERS, SHOP, OPS], &settings))?);
     Ok(())
 }
