@@ -1,0 +1,28 @@
+-- What closing a floor answers.
+use Rattle.std.specs.Prelude.{◌≡◌, ◌<◌, ◌≤◌, ℕ, List, Some, None, true, false}
+use Rattle.iso_book.specs.Books.{BookView, is_complete}
+use Rattle.iso_book.specs.Leaves.{ReceiptView}
+use Rattle.iso_floor.specs.Audits.{IsInOrder, IsLowest}
+use Rattle.iso_floor.specs.Grounds.{IsBookOf}
+use Rattle.iso_floor.specs.declared.fault.CloseFault.{CloseFault}
+use Rattle.iso_floor.specs.declared.fault.CloseFault.TheVariants.{Lost, Unfinished}
+use Rattle.iso_floor.specs.declared.fault.SeatFault.{SeatFault}
+use Rattle.iso_floor.specs.declared.fault.SeatFault.TheVariants.{NoWorker, Taken, OutOfMemory}
+use Rattle.iso_plan.specs.Planned.{Planned}
+use Rattle.iso_settings.specs.Worlds.{Start}
+
+-- a book is whole: every node but the root is finished, each receipt stands once in its history, those of a seat in their order, and no Leave is without one
+pub record IsWhole (b : BookView) (lists : List (List ReceiptView)) : Type 0 where
+  pub complete : is_complete b ≡ true
+  pub receipts : (n : ℕ) → IsInOrder b.history lists n
+
+-- why a book isn't handed out: the lowest number that is lost, or, where none is, that a node isn't finished
+abbrev pub IsCloseFault : BookView → List (List ReceiptView) → CloseFault → Type 0
+IsCloseFault b lists (Lost n) = IsLowest b.history lists (Some n)
+IsCloseFault b lists Unfinished = IsLowest b.history lists None × (is_complete b ≡ false)
+
+-- why a worker gets no seat: there is no such worker, or there is
+abbrev pub IsSeatFault : (workers worker : ℕ) → SeatFault → Type 0
+IsSeatFault workers worker NoWorker = workers ≤ worker
+IsSeatFault workers worker Taken = worker < workers
+IsSeatFault workers worker OutOfMemory = worker < workers

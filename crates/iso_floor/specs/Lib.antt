@@ -1,0 +1,5 @@
+pub mod Auditing
+pub mod Audits
+pub mod Closing
+pub mod Grounds
+pub mod Seats

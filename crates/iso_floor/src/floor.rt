@@ -1,0 +1,201 @@
+//! A book round which workers sit.
+ghost use Rattle.std.specs.Prelude.{◌≡◌, ◌<◌, ℕ, IfErr, IfOk, OnErr, OnOk, true};
+ghost use Rattle.iso_book.specs.Leaves.{MayBring};
+ghost use Rattle.iso_book.specs.Turns.{IsEntered, IsShut, ReadsStart};
+ghost use Rattle.iso_floor.specs.Closing.{IsSeatFault, IsWhole};
+ghost use Rattle.iso_floor.specs.Grounds.{IsBookOf};
+ghost use Rattle.iso_floor.specs.Seats.{HasLeft, SeatView, lists_of, new_seat};
+ghost use Rattle.iso_locks.specs.Trays.{is_lent};
+
+use crate::close::settle;
+use crate::desk::Desk;
+use crate::fault::{CloseFault, SeatFault};
+use crate::ground::Ground;
+use crate::seat::Seat;
+use iso_book::book::Book;
+use iso_lifecycle::done::Done;
+use iso_plan::plan::Plan;
+use iso_settings::world::World;
+use iso_standing::core_fault::CoreFault;
+use iso_standing::refused::Refused;
+use std::alloc::{AllocError, Global};
+use std::marker::Model;
+use std::sync::{Condvar, Mutex, Wait};
+
+/// A book under one lock, round which workers sit. What a call says of the book is known while the lock is held alone; its clauses tell
+/// what it does to the worker's seat.
+///
+/// Contracts see the number of workers; the plan and the starting values are those of the ground.
+#[derive(Drop)]
+pub struct Floor<'a, G: Ground> {
+    plan: &'a Plan,
+    world: &'a World,
+    workers: u32,
+    desk: Mutex<Desk<'a, G>>,
+    changed: Condvar,
+    /// A place for each event that a history may have, for the comparison with the receipts.
+    marks: Vec<bool>,
+}
+
+impl<'a, G: Ground> Model for Floor<'a, G> {
+    ghost use Rattle.std.specs.Prelude.{◌≡◌, ◌*◌, ℕ, false, length, replicate};
+
+    ghost Value = { ℕ };
+
+    ghost view = { λ f. f.workers };
+
+    ghost invariant = { λ f. record {
+      plan_is : f.plan.now ≡ G.plan;
+      world_is : f.world.now ≡ G.start;
+      workers_are : f.workers ≡ G.workers;
+      clear : f.marks.items ≡ replicate (4 * length G.plan.rows) false;
+    } };
+}
+
+impl<'a, G: Ground> Floor<'a, G> {
+    /// A floor on which nobody sits yet, with a book that has taken no event. It takes all memory that book and comparison need.
+    pub fn new(
+        alloc: Global,
+        plan: &'a Plan,
+        world: &'a World,
+        workers: u32,
+    ) -> Result<Floor<'a, G>, AllocError>
+        requires plan { plan.now ≡ G.plan }
+        requires start { world.now ≡ G.start }
+        requires workers { workers ≡ G.workers }
+        ensures { IfOk result (λ f. f ≡ workers) }
+    {
+        let events = plan.len() as usize * 4;
+        Ok(Floor {
+            plan,
+            world,
+            workers,
+            desk: Mutex::new(Desk::new(alloc, plan, world, workers)?),
+            changed: Condvar::new(),
+            marks: vec![in alloc; false; events]?,
+        })
+    }
+
+    /// The seat of a worker, who has none yet: its tray is empty, and it has no receipt.
+    pub fn seat<R: Wait>(
+        &self,
+        rt: &R,
+        alloc: Global,
+        worker: u32,
+    ) -> Result<Seat<'a, G>, SeatFault>
+        ensures seat { IfOk result (λ s. s ≡ new_seat G.plan G.start worker) }
+        ensures worker { OnOk result (worker < self.now) }
+        ensures fault { IfErr result (IsSeatFault self.now worker) }
+    {
+        let mut desk = self.desk.lock(rt);
+        if worker >= self.workers {
+            return Err(SeatFault::NoWorker);
+        }
+        let desk = &mut *desk;
+        if desk.taken[worker as usize] {
+            return Err(SeatFault::Taken);
+        }
+        let seat = Seat::new(alloc, self.plan, self.world, worker)?;
+        desk.taken[worker as usize] = true;
+        Ok(seat)
+    }
+
+    /// A seat's worker enters a node, as `Book::enter` does with the seat's tray. A refusal and want of memory change nothing. It may wait
+    /// for the lock.
+    pub fn enter<R: Wait>(&self, rt: &R, seat: &mut Seat<'a, G>, node: u32) -> Result<(), CoreFault>
+        ensures entered { OnOk result (IsEntered node seat.old.tray seat.new.tray) }
+        ensures seat { seat.new ≡ record seat.old { tray = seat.new.tray } }
+        ensures same { OnErr result (seat.new ≡ seat.old) }
+    {
+        let (entered, awaited) = {
+            let mut desk = self.desk.lock(rt);
+            let entered = seat.enter_at(&mut *desk, node);
+            (entered, desk.is_awaited())
+        };
+        self.tell(awaited);
+        entered
+    }
+
+    /// A seat's worker begins the closing of a class, as `Book::shut` does with the seat's tray. A refusal and want of memory change
+    /// nothing. It may wait for the lock.
+    pub fn shut<R: Wait>(&self, rt: &R, seat: &mut Seat<'a, G>, node: u32) -> Result<(), CoreFault>
+        ensures shut { OnOk result (IsShut node seat.old.tray seat.new.tray) }
+        ensures seat { seat.new ≡ record seat.old { tray = seat.new.tray } }
+        ensures same { OnErr result (seat.new ≡ seat.old) }
+    {
+        let (shut, awaited) = {
+            let mut desk = self.desk.lock(rt);
+            let shut = seat.shut_at(&mut *desk, node);
+            (shut, desk.is_awaited())
+        };
+        self.tell(awaited);
+        shut
+    }
+
+    /// Books what the body of a seat's worker came to, as `Book::leave` does with the seat's tray, and puts the receipt last into the
+    /// seat. Where the seat has no room for it, as after Leaves on another floor, it is a Stranger's before all else. A refusal changes
+    /// nothing, and hands back what was brought. It may wait for the lock. Takes no memory.
+    pub fn leave<R: Wait>(
+        &self,
+        rt: &R,
+        seat: &mut Seat<'a, G>,
+        done: Done,
+    ) -> Result<(), (Refused, Done)>
+        requires { MayBring done seat.old.tray }
+        ensures left { OnOk result (HasLeft done seat.old seat.new) }
+        ensures reads { OnOk result ((n : ℕ) → is_lent seat.new.tray.lent n ≡ true → ReadsStart n seat.new.tray) }
+        ensures same { OnErr result (seat.new ≡ seat.old) }
+        ensures done { IfErr result (λ refusal. refusal.1 ≡ done) }
+    {
+        let (left, awaited) = {
+            let mut desk = self.desk.lock(rt);
+            let left = seat.leave_at(&mut *desk, done);
+            (left, desk.is_awaited())
+        };
+        self.tell(awaited);
+        left
+    }
+
+    /// Stops the book: it refuses every event from now on. It may wait for the lock. Takes no memory.
+    pub fn stop<R: Wait>(&self, rt: &R) {
+        let awaited = {
+            let mut desk = self.desk.lock(rt);
+            desk.stop();
+            desk.is_awaited()
+        };
+        self.tell(awaited);
+    }
+
+    /// Waits until the history is longer than `seen`, the run complete or stopped, and answers the history's length.
+    pub fn wait_change<R: Wait>(&self, rt: &R, seen: u64) -> u64 {
+        let mut desk = self.desk.lock(rt);
+        desk.begin_wait();
+        let mut desk = self
+            .changed
+            .wait_while(rt, desk, |desk| desk.is_unchanged(seen));
+        desk.end_wait();
+        desk.length()
+    }
+
+    /// Hands out the book, where every node but the root is finished and the receipts of these seats are those of its history. It spends
+    /// floor and seats in any case. Takes no memory.
+    pub fn close(self, seats: Vec<Seat<'a, G>>) -> Result<Book<'a>, CloseFault>
+        ensures ground { IfOk result (IsBookOf G.plan G.start G.workers) }
+        ensures whole { IfOk result (λ b. IsWhole b (lists_of seats.entry.items)) }
+    {
+        let Floor {
+            desk,
+            mut marks,
+            ..
+        } = self;
+        let book = desk.into_inner().into_book();
+        settle(book, &seats, &mut marks)
+    }
+
+    // Wakes those who wait, where somebody does.
+    fn tell(&self, awaited: bool) {
+        if awaited {
+            self.changed.notify_all();
+        }
+    }
+}

@@ -1,0 +1,167 @@
+//! A worker's place on a floor.
+ghost use Rattle.std.specs.Prelude.{◌≡◌, ◌<◌, ℕ, IfErr, IfOk, OnErr, OnOk, length, true};
+ghost use Rattle.iso_book.specs.Leaves.{MayBring, ReceiptView};
+ghost use Rattle.iso_book.specs.Turns.{IsEntered, IsShut, ReadsStart};
+ghost use Rattle.iso_floor.specs.Seats.{HasLeft, SeatView, new_seat};
+ghost use Rattle.iso_locks.specs.Trays.{CanUndo, is_lent, marked, undone};
+
+use crate::desk::Desk;
+use crate::ground::Ground;
+use iso_book::receipt::Receipt;
+use iso_lifecycle::done::Done;
+use iso_locks::savepoint::Savepoint;
+use iso_locks::tray::Tray;
+use iso_model::resource::{Ask, Change};
+use iso_model::resource_key::ResourceKey;
+use iso_model::touch::Touch;
+use iso_plan::plan::Plan;
+use iso_settings::world::World;
+use iso_standing::core_fault::CoreFault;
+use iso_standing::refused::Refused;
+use std::alloc::{AllocError, Global};
+use std::marker::{Model, PhantomData};
+
+/// A worker's number, its tray, and the receipts of its Leaves.
+#[derive(Drop)]
+pub struct Seat<'a, G: Ground> {
+    worker: u32,
+    tray: Tray<'a>,
+    /// In the order of its Leaves, with room for every Leave of the plan.
+    receipts: Vec<Receipt>,
+    of: PhantomData<G>,
+}
+
+impl<'a, G: Ground> Model for Seat<'a, G> {
+    ghost use Rattle.iso_floor.specs.Grounds.{IsTrayOf};
+    ghost use Rattle.iso_floor.specs.Seats.{SeatView, seat_code};
+
+    ghost Value = { SeatView };
+
+    ghost coded = { seat_code };
+
+    ghost view = { λ s. record { worker = s.worker; tray = s.tray; receipts = s.receipts.items } };
+
+    ghost invariant = { λ s. IsTrayOf G.plan G.start s.tray };
+}
+
+impl<'a, G: Ground> Seat<'a, G> {
+    /// The seat of a worker, to whose tray nothing is lent. It takes all memory that its Leaves need.
+    pub(crate) fn new(
+        alloc: Global,
+        plan: &'a Plan,
+        world: &'a World,
+        worker: u32,
+    ) -> Result<Seat<'a, G>, AllocError>
+        requires plan { plan.now ≡ G.plan }
+        requires start { world.now ≡ G.start }
+        ensures { IfOk result (λ s. s ≡ new_seat G.plan G.start worker) }
+    {
+        let leaves = plan.len() as usize * 2;
+        Ok(Seat {
+            worker,
+            tray: Tray::new(alloc, plan, world)?,
+            receipts: Vec::with_capacity(alloc, leaves)?,
+            of: PhantomData,
+        })
+    }
+
+    /// The worker whose seat it is.
+    pub fn worker(&self) -> u32
+        ensures { result ≡ self.now.worker }
+    {
+        self.worker
+    }
+
+    /// Its tray.
+    pub fn tray(&self) -> &Tray<'a>
+        ensures { result.now ≡ self.now.tray }
+    {
+        &self.tray
+    }
+
+    /// The receipts of its Leaves, in their order.
+    pub fn receipts(&self) -> &[Receipt]
+        ensures { result.now ≡ self.now.receipts }
+    {
+        &self.receipts
+    }
+
+    /// The values of its tray that a node's rights let it change, as they stand now.
+    pub fn mark(&self, alloc: Global, node: u32) -> Result<Savepoint, AllocError>
+        requires { node < length self.now.tray.plan.rows }
+        ensures { IfOk result (λ m. m ≡ marked self.now.tray node) }
+    {
+        self.tray.mark(alloc, node)
+    }
+
+    /// Sets these values of its tray back to where they stood. Takes no memory.
+    pub fn undo(&mut self, mark: Savepoint)
+        requires { CanUndo mark self.old.tray }
+        ensures { self.new ≡ record self.old { tray = undone mark self.old.tray } }
+    {
+        self.tray.undo(mark);
+    }
+
+    // Enters a node at a desk.
+    pub(crate) fn enter_at(&mut self, desk: &mut Desk<'a, G>, node: u32) -> Result<(), CoreFault>
+        ensures entered { OnOk result (IsEntered node self.old.tray self.new.tray) }
+        ensures seat { self.new ≡ record self.old { tray = self.new.tray } }
+        ensures same { OnErr result (self.new ≡ self.old) }
+    {
+        desk.book.enter_own(self.worker, node, &mut self.tray)
+    }
+
+    // Shuts a class at a desk.
+    pub(crate) fn shut_at(&mut self, desk: &mut Desk<'a, G>, node: u32) -> Result<(), CoreFault>
+        ensures shut { OnOk result (IsShut node self.old.tray self.new.tray) }
+        ensures seat { self.new ≡ record self.old { tray = self.new.tray } }
+        ensures same { OnErr result (self.new ≡ self.old) }
+    {
+        desk.book.shut_own(self.worker, node, &mut self.tray)
+    }
+
+    // Books at a desk what a body came to, where there is room for its receipt.
+    pub(crate) fn leave_at(
+        &mut self,
+        desk: &mut Desk<'a, G>,
+        done: Done,
+    ) -> Result<(), (Refused, Done)>
+        requires { MayBring done self.old.tray }
+        ensures left { OnOk result (HasLeft done self.old self.new) }
+        ensures reads { OnOk result ((n : ℕ) → is_lent self.new.tray.lent n ≡ true → ReadsStart n self.new.tray) }
+        ensures same { OnErr result (self.new ≡ self.old) }
+        ensures done { IfErr result (λ refusal. refusal.1 ≡ done) }
+    {
+        if self.receipts.len() >= self.receipts.capacity() {
+            return Err((Refused::Stranger, done));
+        }
+        let receipt = desk.book.leave_own(self.worker, done, &mut self.tray)?;
+        self.receipts.push_reserved(receipt);
+        Ok(())
+    }
+}
+
+/// A body runs over the values of a seat's tray.
+impl<'a, G: Ground> Touch for Seat<'a, G> {
+    ghost use Rattle.iso_floor.specs.Seats.{seat-further, seat-still, seat-writes, SeatGoesOn, seat_content, seat_has_value};
+
+    ghost content = { seat_content };
+
+    ghost writes = { seat_has_value };
+
+    ghost goes_on = { SeatGoesOn };
+
+    fn look(&self, key: ResourceKey<'_>, ask: Ask<'_>) -> Option<&str> {
+        self.tray.look(key, ask)
+    }
+
+    fn change(&mut self, key: ResourceKey<'_>, change: Change) -> Result<(), AllocError> {
+        self.tray.change(key, change)
+    }
+
+    ghost still = { seat-still };
+
+    ghost further = { seat-further };
+
+    ghost same_writes = { seat-writes };
+}
