@@ -3,13 +3,10 @@ use Rattle.std.specs.Prelude.{◌≡◌, ◌<◌, ◌≤◌, ℕ, List, Some, No
 use Rattle.iso_book.specs.Books.{BookView, is_complete}
 use Rattle.iso_book.specs.Leaves.{ReceiptView}
 use Rattle.iso_floor.specs.Audits.{IsInOrder, IsLowest}
-use Rattle.iso_floor.specs.Grounds.{IsBookOf}
 use Rattle.iso_floor.specs.declared.fault.CloseFault.{CloseFault}
 use Rattle.iso_floor.specs.declared.fault.CloseFault.TheVariants.{Lost, Unfinished}
 use Rattle.iso_floor.specs.declared.fault.SeatFault.{SeatFault}
 use Rattle.iso_floor.specs.declared.fault.SeatFault.TheVariants.{NoWorker, Taken, OutOfMemory}
-use Rattle.iso_plan.specs.Planned.{Planned}
-use Rattle.iso_settings.specs.Worlds.{Start}
 
 -- a book is whole: every node but the root is finished, each receipt stands once in its history, those of a seat in their order, and no Leave is without one
 pub record IsWhole (b : BookView) (lists : List (List ReceiptView)) : Type 0 where

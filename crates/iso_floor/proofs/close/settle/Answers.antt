@@ -1,4 +1,3 @@
-use Rattle.std.proofs.Common.{◌≡◌}
 use Rattle.iso_floor.proofs.close.settle.Goals as goal
 
 pub returns-in-Some-clause-fault : goal.returns-in-Some-clause-fault
