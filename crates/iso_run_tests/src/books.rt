@@ -1,4 +1,7 @@
 //! What the book of a run refuses.
+mod keyless;
+mod leaves;
+
 use crate::suites::{CONCURRENT, Check, check_script};
 use iso_book::book::Book;
 use iso_locks::tray::Tray;
