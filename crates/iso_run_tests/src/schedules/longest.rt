@@ -1,9 +1,9 @@
 //! As many events as a run of a plan of nearly all nodes that there may be has, on as many workers as there may be.
 use crate::suites::{CONCURRENT, Check, check_script, wide_script};
-use iso_core::core_fault::CoreFault;
 use iso_core::run_events::{EventsFault, run_events};
 use iso_plan::plan::Plan;
 use iso_settings::world::World;
+use iso_standing::core_fault::CoreFault;
 use iso_standing::event::Event;
 use iso_standing::refused::Refused;
 use std::alloc::{AllocError, Global};
