@@ -1,6 +1,6 @@
 //! The plans of the examples: no two say the same.
 use crate::plan::scripts::concurrent;
-use crate::same::plans::is_same;
+use crate::same::plans::{is_one_plan, is_same};
 use std::alloc::Global;
 use std::process::Abort;
 use std::test::Fail;
@@ -155,9 +155,8 @@ static EXAMPLES: [&str; 6] = [CART, FAILING, TWO_CLASSES, SHOP, ORDERS, OPS];
 
 /// The plan at this place says the same as its own alone.
 fn check_example(rt: &impl Abort, alloc: Global, place: usize, one: &str) -> Result<(), Fail> {
-    let settings = concurrent();
     for (at, other) in EXAMPLES.iter().enumerate() {
-        let found = is_same(alloc, (&[one], &settings), (&[*other], &settings))?;
+        let found = is_one_plan(alloc, one, other)?;
         assert_eq!(rt; found, at == place, "{place} and {at}");
     }
     Ok(())
@@ -171,11 +170,16 @@ fn no_two_examples_have_one_plan(rt: HostRuntime) -> Result<(), Fail> {
     Ok(())
 }
 
+/// The teams of the examples, and in another order.
+static TEAMS: [&str; 3] = [SHOP, ORDERS, OPS];
+static OTHERWISE: [&str; 3] = [ORDERS, SHOP, OPS];
+
 #[test]
 fn order_of_teams_is_of_the_plan(rt: HostRuntime) -> Result<(), Fail> {
     let settings = concurrent();
-    let teams = (&[SHOP, ORDERS, OPS][..], &settings);
+    let teams = (TEAMS.as_slice(), &settings);
+    let otherwise = (OTHERWISE.as_slice(), &settings);
     assert!(rt; is_same(rt.alloc(), teams, teams)?);
-    assert!(rt; !is_same(rt.alloc(), teams, (&[ORDERS, SHOP, OPS], &settings))?);
+    assert!(rt; !is_same(rt.alloc(), teams, otherwise)?);
     Ok(())
 }

@@ -23,7 +23,7 @@ pub(crate) fn is_same(alloc: Global, one: Planned<'_>, other: Planned<'_>) -> Re
 }
 
 /// Whether two texts have one plan.
-fn is_one_plan(alloc: Global, one: &str, other: &str) -> Result<bool, Fail> {
+pub(crate) fn is_one_plan(alloc: Global, one: &str, other: &str) -> Result<bool, Fail> {
     let settings = concurrent();
     is_same(alloc, (&[one], &settings), (&[other], &settings))
 }
