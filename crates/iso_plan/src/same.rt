@@ -10,9 +10,16 @@ fn same_kind(a: &Kind, b: &Kind) -> bool
 {
     match (a, b) {
         (Kind::Root, Kind::Root) => true,
-        (Kind::Class { isolated: x, head: f }, Kind::Class { isolated: y, head: g }) => {
-            x == y && same_class_head(f, g)
-        }
+        (
+            Kind::Class {
+                isolated: x,
+                head: f,
+            },
+            Kind::Class {
+                isolated: y,
+                head: g,
+            },
+        ) => { x == y && same_class_head(f, g) }
         (Kind::Test { head: f }, Kind::Test { head: g }) => same_test_head(f, g),
         _ => false,
     }

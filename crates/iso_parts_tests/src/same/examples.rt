@@ -172,6 +172,7 @@ fn no_two_examples_have_one_plan(rt: HostRuntime) -> Result<(), Fail> {
 
 /// The teams of the examples, and in another order.
 static TEAMS: [&str; 3] = [SHOP, ORDERS, OPS];
+
 static OTHERWISE: [&str; 3] = [ORDERS, SHOP, OPS];
 
 #[test]
