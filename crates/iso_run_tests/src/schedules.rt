@@ -1,5 +1,4 @@
 //! Schedules on the core.
-mod longest;
 mod refused;
 mod runs;
 mod stopped;

@@ -112,24 +112,13 @@ pub(crate) fn check_script<R: Abort, C: Check>(
     check_inputs(rt, alloc, surroundings.inputs(&scripts), check)
 }
 
-/// A class whose tests are the nodes from 2 on below this one, each of these statements, and what stands after it.
-pub(crate) fn wide_script(
-    alloc: Global,
-    end: u32,
-    statements: &str,
-    after: &str,
-) -> Result<String, AllocError> {
+/// A class of 4,094 tests, as many as there may be.
+pub(crate) fn widest_script(alloc: Global) -> Result<String, AllocError> {
     let mut script = String::from_str(alloc, "team shop\nclass C {\n")?;
-    for node in 2..end {
-        let test = format!(in alloc; "test t{node} {{ {statements} }}\n")?;
+    for node in 2..4_096u32 {
+        let test = format!(in alloc; "test t{node} {{ }}\n")?;
         script.push_str(test.as_str())?;
     }
     script.push_str("}\n")?;
-    script.push_str(after)?;
     Ok(script)
-}
-
-/// A class of 4,094 tests, as many as there may be.
-pub(crate) fn widest_script(alloc: Global) -> Result<String, AllocError> {
-    wide_script(alloc, 4_096, "", "")
 }
