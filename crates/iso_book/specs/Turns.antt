@@ -1,5 +1,5 @@
 -- What an event asks of the tray that its worker brings, and how book and tray stand after it.
-use Rattle.std.specs.Prelude.{◌≡◌, ℕ, List, [], ◌∷◌, map, reverse, Option, Some, None, Bool, true, false, ◌||◌, ◌&&◌, not}
+use Rattle.std.specs.Prelude.{◌≡◌, ◌<◌, ℕ, List, [], ◌∷◌, length, map, reverse, Option, Some, None, Bool, true, false, ◌||◌, ◌&&◌, not}
 use Rattle.iso_book.specs.Books.{BookView, refusal_in, with_event}
 use Rattle.iso_isolation.specs.Refusals as Why
 use Rattle.iso_lifecycle.specs.Subjects.{Subject, is_kind_of, started, subject}
@@ -86,16 +86,21 @@ BeginsIn n t = (kind : BodyKind) → is_after_all kind ≡ false → is_kind_of 
 abbrev pub ReadsStart : ℕ → TrayView → Type 0
 ReadsStart n t = (k : List ℕ) → holds_read (tree_of t.plan) k n ≡ true → content t k ≡ started t.world k
 
--- A tray after the Enter of a node: the frames of the classes around the node were handed to it, and the node is lent to it; the
--- node's body may begin, and what the node holds for READ stands at its start, as what it takes for READ_WRITE does.
+-- A tray after the Enter of a node: it had what is around the node, the frames of the classes around the node were handed to it, and
+-- the node is lent to it; the node's body may begin, and what the node holds for READ stands at its start, as what it takes for
+-- READ_WRITE does.
 pub record IsEntered (n : ℕ) (t u : TrayView) : Type 0 where
+  pub inner : 0 < n
+  pub within : n < length t.plan.rows
+  pub around : has_around t n ≡ true
   pub lent : IsLentTo n (handed t (parent (tree_of t.plan) n)) u
   pub begins : BeginsIn n u
   pub reads : ReadsStart n u
 
--- a tray after the Shut of a class: the class's frame and those of the classes around it were handed to it, all else is as it was; the
--- class is lent to it, and its `after_all` may begin
+-- a tray after the Shut of a class: it had what is around the class, the class's frame and those of the classes around it were
+-- handed to it, all else is as it was; the class is lent to it, and its `after_all` may begin
 pub record IsShut (n : ℕ) (t u : TrayView) : Type 0 where
+  pub around : has_around t n ≡ true
   pub tray : u ≡ handed t n
   pub lent : is_lent u.lent n ≡ true
   pub begins : CanBegin (subject u.plan u.world n) AfterAll u.frames

@@ -21,7 +21,7 @@ use Rattle.iso_locks.proofs.LawLemmas.{other-mark, own-mark}
 use Rattle.iso_locks.specs.Flats.{IsFlat, flat}
 use Rattle.iso_locks.specs.Onward.{on-still}
 use Rattle.iso_locks.specs.Slots.{HasLater, slot}
-use Rattle.iso_locks.specs.Trays.{CanUndo, IsOnward, MarkView, TrayView, content, has_value, key_at, marked, restored, undone}
+use Rattle.iso_locks.specs.Trays.{CanUndo, IsOnward, SavepointView, TrayView, content, has_value, key_at, marked, restored, undone}
 use Rattle.iso_model.proofs.BodyKeys.{body-step-alike, body-step-untouched}
 use Rattle.iso_model.specs.BodyAgreement.{AlikeGoing}
 use Rattle.iso_model.specs.Bodies.{Going, Stage, body_step, going}
@@ -41,20 +41,20 @@ use Rattle.iso_settings.specs.Worlds.{Start}
 use Rattle.iso_store.specs.Histories.{History, IsEarlier}
 
 abbrev Marks : Type 0
-Marks = List (Option MarkView)
+Marks = List (Option SavepointView)
 
 -- a list of marks without a mark
 pub no-mark : (count n : ℕ) → mark_at (replicate count None) n ≡ None
 no-mark count n = elim (cases_lt n count) [
   | inl less ↦ get_or-replicate count n None None less
   | inr past ↦
-      let none : Option MarkView = None in
+      let none : Option SavepointView = None in
       let long : length (replicate count none) ≡ count = length-replicate count none in
       get_or_past (replicate count none) n None (omega arith)
 ]
 
 -- a mark of a list with one changed: the changed one, or one of the others
-set-mark : (marks : Marks) (node n : ℕ) (o : Option MarkView) (m : MarkView) → node < length marks → mark_at (set marks node o) n ≡ Some m
+set-mark : (marks : Marks) (node n : ℕ) (o : Option SavepointView) (m : SavepointView) → node < length marks → mark_at (set marks node o) n ≡ Some m
     → ((n ≡ node) × (o ≡ Some m)) ⊎ ((n ≡ node → ⊥) × (mark_at marks n ≡ Some m))
 set-mark marks node n o m within e = elim (cases_eq n node) [
   | inl same ↦ inl (same, sym (ap (λ (j : ℕ). mark_at (set marks node o) j) same ∙ get_or-set_same marks node o None within) ∙ e)
@@ -65,10 +65,10 @@ put-at : {A : Type 0} (n : ℕ) (a : A) (f : ℕ → A) (m : ℕ) → m ≡ n �
 put-at n a f m e = ap (λ (j : ℕ). put n a f j) e ∙ put_here n a f
 
 -- what a mark of a flat map keeps, its node may change, and it was there
-mark-writes : (t : TrayView) (n : ℕ) (m : MarkView) (i : ℕ) (h : History) → WasMade t n m → slot m.values i ≡ Some h → is_writable (node_rights (tree_of t.plan) n (key_at (tree_of t.plan) i)) ≡ true
+mark-writes : (t : TrayView) (n : ℕ) (m : SavepointView) (i : ℕ) (h : History) → WasMade t n m → slot m.values i ≡ Some h → is_writable (node_rights (tree_of t.plan) n (key_at (tree_of t.plan) i)) ≡ true
 mark-writes t n m i h made e =
     let tree = tree_of made.then.plan in
-    let at : slot (marked made.then n).values i ≡ Some h = sym (ap (λ (x : MarkView). slot x.values i) made.is) ∙ e in
+    let at : slot (marked made.then n).values i ≡ Some h = sym (ap (λ (x : SavepointView). slot x.values i) made.is) ∙ e in
     let may = (kept-from tree n made.then.values i h at).0 in
     subst (λ (p : Planned). is_writable (node_rights (tree_of p) n (key_at (tree_of p) i)) ≡ true) made.plan may
 
@@ -88,8 +88,8 @@ map-onward v u on kinds is = record {
 -- the first flat map
 pub map-first : (t : TrayView) (count : ℕ) → count ≡ length t.plan.rows → IsFlat t → AreOfKinds t → IsFlatMap (record { tray = t; marks = replicate count None })
 map-first t count fits flat kinds =
-    let none : (n : ℕ) (m : MarkView) → mark_at (replicate count None) n ≡ Some m → ⊥ = (λ n m e. let wrong : None ≡ Some m = sym (no-mark count n) ∙ e in absurd (cc)) in
-    let empty : Option MarkView = None in
+    let none : (n : ℕ) (m : SavepointView) → mark_at (replicate count None) n ≡ Some m → ⊥ = (λ n m e. let wrong : None ≡ Some m = sym (no-mark count n) ∙ e in absurd (cc)) in
+    let empty : Option SavepointView = None in
     record {
       fits = length-replicate count empty ∙ fits;
       flat = flat;
@@ -118,7 +118,7 @@ abbrev NodeStatus : Type 0
 NodeStatus = Status Stage Frame Outcome
 
 -- a node's mark and its status that change together
-marked-put : (marks : Marks) (node : ℕ) (o : Option MarkView) (st : ℕ → NodeStatus) (a : NodeStatus) → node < length marks → 0 < node → is_some o ≡ is_held a
+marked-put : (marks : Marks) (node : ℕ) (o : Option SavepointView) (st : ℕ → NodeStatus) (a : NodeStatus) → node < length marks → 0 < node → is_some o ≡ is_held a
     → ((n : ℕ) → is_some (mark_at marks n) ≡ true → (0 < n) × (is_held (st n) ≡ true))
     → (n : ℕ) → is_some (mark_at (set marks node o) n) ≡ true → (0 < n) × (is_held (put node a st n) ≡ true)
 marked-put marks node o st a within pos same old n h = elim (cases_eq n node) [
@@ -130,7 +130,7 @@ marked-put marks node o st a within pos same old n h = elim (cases_eq n node) [
       (was.0, ap is_held (put_elsewhere n node a st other) ∙ was.1)
 ]
 
-held-put : (marks : Marks) (node : ℕ) (o : Option MarkView) (st : ℕ → NodeStatus) (a : NodeStatus) → node < length marks → is_some o ≡ is_held a
+held-put : (marks : Marks) (node : ℕ) (o : Option SavepointView) (st : ℕ → NodeStatus) (a : NodeStatus) → node < length marks → is_some o ≡ is_held a
     → ((n : ℕ) → 0 < n → is_held (st n) ≡ true → is_some (mark_at marks n) ≡ true)
     → (n : ℕ) → 0 < n → is_held (put node a st n) ≡ true → is_some (mark_at (set marks node o) n) ≡ true
 held-put marks node o st a within same old n pos h = elim (cases_eq n node) [
@@ -145,14 +145,14 @@ module _ (v : FlatView) (is : IsFlatMap v) (node : ℕ) (within : node < length 
   abbrev tree : List Row
   tree = tree_of v.tray.plan
 
-  abbrev own : MarkView
+  abbrev own : SavepointView
   own = marked v.tray node
 
   abbrev more : Marks
   more = set v.marks node (Some own)
 
   -- what another mark keeps of a value that this one keeps is earlier
-  earlier-now : (p : ℕ) (l : MarkView) → mark_at v.marks p ≡ Some l → ComesBefore l own
+  earlier-now : (p : ℕ) (l : SavepointView) → mark_at v.marks p ≡ Some l → ComesBefore l own
   earlier-now p l e i g h at here =
       let later = (is.undoable p l e).later i g at in
       let there : slot v.tray.values i ≡ Some h = (kept-from tree node v.tray.values i h here).1 in
@@ -161,22 +161,22 @@ module _ (v : FlatView) (is : IsFlatMap v) (node : ℕ) (within : node < length 
       subst (λ (x : History). IsEarlier g x) same later.later
 
   -- no node below it keeps a value that it keeps
-  none-below : IsInnermost v node → (n : ℕ) (l m : MarkView) → own ≡ l → node < n → mark_at v.marks n ≡ Some m → ComesBefore l m
+  none-below : IsInnermost v node → (n : ℕ) (l m : SavepointView) → own ≡ l → node < n → mark_at v.marks n ≡ Some m → ComesBefore l m
   none-below inner n l m same less old i g h at there =
-      let kept : slot own.values i ≡ Some g = ap (λ (x : MarkView). slot x.values i) same ∙ at in
+      let kept : slot own.values i ≡ Some g = ap (λ (x : SavepointView). slot x.values i) same ∙ at in
       let right = (kept-from tree node v.tray.values i g kept).0 in
       let apart : n ≡ node → ⊥ = λ e. absurd (omega arith) in
       let lower : n < node = inner n (ap is_some old) apart (record { key = key_at tree i; left = mark-writes v.tray n m i h (is.made n m old) there; right = right }) in
       absurd (omega arith)
 
-  nested-more : IsInnermost v node → (p n : ℕ) (l m : MarkView) → p < n → mark_at more p ≡ Some l → mark_at more n ≡ Some m → ComesBefore l m
+  nested-more : IsInnermost v node → (p n : ℕ) (l m : SavepointView) → p < n → mark_at more p ≡ Some l → mark_at more n ≡ Some m → ComesBefore l m
   nested-more inner p n l m less e f = elim (set-mark v.marks node n (Some own) m within f) [
     | inl a ↦ elim (set-mark v.marks node p (Some own) l within e) [
       | inl b ↦ let first = a.0 in let second = b.0 in absurd (omega arith)
       | inr b ↦
           let both : Some own ≡ Some m = a.1 in
           let same : own ≡ m = cc in
-          subst (λ (x : MarkView). ComesBefore l x) same (earlier-now p l b.1)
+          subst (λ (x : SavepointView). ComesBefore l x) same (earlier-now p l b.1)
     ]
     | inr a ↦ elim (set-mark v.marks node p (Some own) l within e) [
       | inl b ↦
@@ -204,7 +204,7 @@ module _ (v : FlatView) (is : IsFlatMap v) (node : ℕ) (within : node < length 
       | inl a ↦
           let both : Some own ≡ Some m = a.1 in
           let same : own ≡ m = cc in
-          subst (λ (x : MarkView). CanUndo x v.tray) same (own-mark v.tray v.tray node (on-still v.tray))
+          subst (λ (x : SavepointView). CanUndo x v.tray) same (own-mark v.tray v.tray node (on-still v.tray))
       | inr a ↦ is.undoable n m a.1
     ];
     nested = nested-more inner;
@@ -217,13 +217,13 @@ module _ (v : FlatView) (is : IsFlatMap v) (node : ℕ) (within : node < length 
     abbrev keeps : Resources
     keeps = restricted (may_write scripts (suite_at v.tray.plan v.tray.world) node) s.flat
 
-    saved-here : (n : ℕ) (m : MarkView) (k : List ℕ) → n ≡ node → Some own ≡ Some m → is_writable (node_rights tree n k) ≡ true → put node keeps s.saved n k ≡ kept_values tree m k
+    saved-here : (n : ℕ) (m : SavepointView) (k : List ℕ) → n ≡ node → Some own ≡ Some m → is_writable (node_rights tree n k) ≡ true → put node keeps s.saved n k ≡ kept_values tree m k
     saved-here n m k here both w =
         let same : own ≡ m = cc in
         let own_right : is_writable (node_rights tree node k) ≡ true = ap (λ (j : ℕ). is_writable (node_rights tree j k)) (sym here) ∙ w in
         let may : may_write scripts (suite_at v.tray.plan v.tray.world) node k ≡ true = ap is_writable (chain-rights tree t v.tray.plan.settings (started v.tray.world) k node) ∙ own_right in
         ap (λ (f : Resources). f k) (put-at node keeps s.saved n here) ∙ ap (λ (b : Bool). cond b (s.flat k) None) may ∙ sym (of.now k)
-        ∙ sym (kept-value v.tray node k t is.flat own_right) ∙ ap (λ (x : MarkView). kept_values tree x k) same
+        ∙ sym (kept-value v.tray node k t is.flat own_right) ∙ ap (λ (x : SavepointView). kept_values tree x k) same
 
     pub state-entered : 0 < node → IsFlatOf (record { tray = v.tray; marks = more }) (E.entering scripts (suite_at v.tray.plan v.tray.world) node s)
     state-entered pos = record {
@@ -237,7 +237,7 @@ module _ (v : FlatView) (is : IsFlatMap v) (node : ℕ) (within : node < length 
     }
 
 -- a Leave
-within-marks : (marks : Marks) (n : ℕ) (m : MarkView) → mark_at marks n ≡ Some m → n < length marks
+within-marks : (marks : Marks) (n : ℕ) (m : SavepointView) → mark_at marks n ≡ Some m → n < length marks
 within-marks marks n m e = elim (cases_lt n (length marks)) [
   | inl less ↦ less
   | inr past ↦ let nothing : None ≡ Some m = sym (get_or_past marks n None past) ∙ e in absurd (cc)
@@ -247,7 +247,7 @@ cond-same : (b c : Bool) (p q r s : Option Resource) → b ≡ c → (b ≡ true
 cond-same true c p q r s e h g = h refl ∙ ap (λ (x : Bool). cond x r s) e
 cond-same false c p q r s e h g = g ∙ ap (λ (x : Bool). cond x r s) e
 
-module _ (v : FlatView) (is : IsFlatMap v) (node : ℕ) (mark : MarkView) (at : mark_at v.marks node ≡ Some mark) where
+module _ (v : FlatView) (is : IsFlatMap v) (node : ℕ) (mark : SavepointView) (at : mark_at v.marks node ≡ Some mark) where
   abbrev now_tree : List Row
   now_tree = tree_of v.tray.plan
 
@@ -261,7 +261,7 @@ module _ (v : FlatView) (is : IsFlatMap v) (node : ℕ) (mark : MarkView) (at : 
   made = is.made node mark at
 
   -- another mark of a value that goes back is of a lower node, and earlier
-  later-back : IsInnermost v node → (n : ℕ) (m : MarkView) → (n ≡ node → ⊥) → mark_at v.marks n ≡ Some m → (i : ℕ) (g : History) → slot m.values i ≡ Some g
+  later-back : IsInnermost v node → (n : ℕ) (m : SavepointView) → (n ≡ node → ⊥) → mark_at v.marks n ≡ Some m → (i : ℕ) (g : History) → slot m.values i ≡ Some g
       → (o : Option History) → slot mark.values i ≡ o → HasLater (restored mark.values v.tray.values) i g
   later-back inner n m apart e i g has None is_o =
       let old = (is.undoable n m e).later i g has in
@@ -273,14 +273,14 @@ module _ (v : FlatView) (is : IsFlatMap v) (node : ℕ) (mark : MarkView) (at : 
       let lower : n < node = inner n (ap is_some e) apart (record { key = key_at now_tree i; left = mark-writes v.tray n m i g (is.made n m e) has; right = mark-writes v.tray node mark i h made is_o }) in
       record { now = h; there = restored-at mark.values v.tray.values i within ∙ ap (λ (o : Option History). option_or o (slot v.tray.values i)) is_o; later = is.nested n node m mark lower e at i g h has is_o }
 
-  other-undoable : IsInnermost v node → (n : ℕ) (m : MarkView) → (n ≡ node → ⊥) → mark_at v.marks n ≡ Some m → CanUndo m (undone mark v.tray)
+  other-undoable : IsInnermost v node → (n : ℕ) (m : SavepointView) → (n ≡ node → ⊥) → mark_at v.marks n ≡ Some m → CanUndo m (undone mark v.tray)
   other-undoable inner n m apart e = record {
     fits = (is.undoable n m e).fits ∙ sym (length-column (λ (i : ℕ). option_or (slot mark.values i) (slot v.tray.values i)) (length v.tray.values));
     later = λ i g has. later-back inner n m apart e i g has (slot mark.values i) refl;
   }
 
   -- the marks that are left
-  left-mark : (n : ℕ) (m : MarkView) → mark_at less n ≡ Some m → (n ≡ node → ⊥) × (mark_at v.marks n ≡ Some m)
+  left-mark : (n : ℕ) (m : SavepointView) → mark_at less n ≡ Some m → (n ≡ node → ⊥) × (mark_at v.marks n ≡ Some m)
   left-mark n m e = elim (set-mark v.marks node n None m inside e) [
     | inl a ↦ let wrong : None ≡ Some m = a.1 in absurd (cc)
     | inr a ↦ a
@@ -290,7 +290,7 @@ module _ (v : FlatView) (is : IsFlatMap v) (node : ℕ) (mark : MarkView) (at : 
   map-left inner = record {
     fits = length-set v.marks node None ∙ is.fits;
     flat = flat-undone v.tray mark is.flat;
-    kinds = subst (λ (x : MarkView). AreOfKinds (undone x v.tray)) (sym made.is) (kinds-undone made.then v.tray node made.flat is.flat (sym made.plan) (sym made.world) made.kinds is.kinds);
+    kinds = subst (λ (x : SavepointView). AreOfKinds (undone x v.tray)) (sym made.is) (kinds-undone made.then v.tray node made.flat is.flat (sym made.plan) (sym made.world) made.kinds is.kinds);
     made = λ n m e.
         let w = is.made n m (left-mark n m e).1 in
         record { then = w.then; is = w.is; plan = w.plan; world = w.world; flat = w.flat; kinds = w.kinds };
@@ -305,13 +305,13 @@ module _ (v : FlatView) (is : IsFlatMap v) (node : ℕ) (mark : MarkView) (at : 
         let then_tree : IsTree (tree_of made.then.plan) = subst (λ (p : Planned). IsTree (tree_of p)) (sym made.plan) t in
         let now_right : is_writable (node_rights now_tree node k) ≡ true = ap (λ (p : Planned). is_writable (node_rights (tree_of p) node k)) (sym made.plan) ∙ w in
         sym (of.saved node mark k at now_right ∙ ap (λ (p : Planned). kept_values (tree_of p) mark k) (sym made.plan)
-        ∙ ap (λ (x : MarkView). kept_values (tree_of made.then.plan) x k) made.is ∙ kept-value made.then node k then_tree made.flat w)
+        ∙ ap (λ (x : SavepointView). kept_values (tree_of made.then.plan) x k) made.is ∙ kept-value made.then node k then_tree made.flat w)
 
     back-at : (k : List ℕ) → flat (undone mark v.tray) k ≡ cond (may_write scripts (suite_at v.tray.plan v.tray.world) node k) (s.saved node k) (s.flat k)
     back-at k =
         let right : is_writable (node_rights (tree_of made.then.plan) node k) ≡ may_write scripts (suite_at v.tray.plan v.tray.world) node k =
         ap (λ (p : Planned). is_writable (node_rights (tree_of p) node k)) made.plan ∙ sym (ap is_writable (chain-rights now_tree t v.tray.plan.settings (started v.tray.world) k node)) in
-        ap (λ (x : MarkView). flat (undone x v.tray) k) made.is
+        ap (λ (x : SavepointView). flat (undone x v.tray) k) made.is
         ∙ ap (λ (m : Resources). m k) (back made.then v.tray node made.flat is.flat (sym made.plan) (sym made.world))
         ∙ cond-same (is_writable (node_rights (tree_of made.then.plan) node k)) (may_write scripts (suite_at v.tray.plan v.tray.world) node k) (flat made.then k) (flat v.tray k) (s.saved node k) (s.flat k) right (saved-then k) (of.now k)
 

@@ -5,7 +5,7 @@ use Rattle.iso_suites.specs.SuiteStates.{RunNodes}
 use Rattle.iso_isolation.specs.States.{is_held}
 use Rattle.iso_locks.specs.Flats.{IsFlat, flat}
 use Rattle.iso_locks.specs.Slots.{Slots, slot}
-use Rattle.iso_locks.specs.Trays.{CanUndo, IsOnward, MarkView, TrayView, content, has_value, mark_code, marked, number_of, tray_code}
+use Rattle.iso_locks.specs.Trays.{CanUndo, IsOnward, SavepointView, TrayView, content, has_value, savepoint_code, marked, number_of, tray_code}
 use Rattle.iso_model.specs.Resources.{Resources}
 use Rattle.iso_model.specs.Rights.{is_writable}
 use Rattle.iso_model.specs.Touch.{HasKind, kind_of_key}
@@ -18,14 +18,14 @@ use Rattle.iso_store.specs.Histories.{History, IsEarlier}
 -- a tray with all values; and by node the values that it may change as they stood at its Enter, while it is entered
 pub record FlatView : Type 0 where
   pub tray : TrayView
-  pub marks : List (Option MarkView)
+  pub marks : List (Option SavepointView)
 
 abbrev pub flat_code : Coded FlatView
 flat_code =
-    code_by (TrayView × List (Option MarkView)) (coded× tray_code (coded_list (coded_option mark_code))) (λ v. (v.tray, v.marks))
+    code_by (TrayView × List (Option SavepointView)) (coded× tray_code (coded_list (coded_option savepoint_code))) (λ v. (v.tray, v.marks))
     (λ p. record { tray = p.0; marks = p.1 }) (λ _. refl)
 
-abbrev pub mark_at : List (Option MarkView) → ℕ → Option MarkView
+abbrev pub mark_at : List (Option SavepointView) → ℕ → Option SavepointView
 mark_at marks n = slice_index_or marks n None
 
 -- the values that a mark keeps
@@ -33,7 +33,7 @@ abbrev pub value_in : Slots → Option ℕ → Option Resource
 value_in slots None = None
 value_in slots (Some i) = option_map (λ h. h.now) (slot slots i)
 
-abbrev pub kept_values : List Row → MarkView → Resources
+abbrev pub kept_values : List Row → SavepointView → Resources
 kept_values tree m k = value_in m.values (number_of tree k)
 
 -- every value of a tray is of its key's kind
@@ -41,7 +41,7 @@ abbrev pub AreOfKinds : TrayView → Type 0
 AreOfKinds t = (k : List ℕ) → has_value t k ≡ true → HasKind (content t k) (kind_of_key k)
 
 -- a mark was made of a flat map of the same plan and world
-pub record WasMade (t : TrayView) (n : ℕ) (m : MarkView) : Type 0 where
+pub record WasMade (t : TrayView) (n : ℕ) (m : SavepointView) : Type 0 where
   pub then : TrayView
   pub is : m ≡ marked then n
   pub plan : then.plan ≡ t.plan
@@ -50,7 +50,7 @@ pub record WasMade (t : TrayView) (n : ℕ) (m : MarkView) : Type 0 where
   pub kinds : AreOfKinds then
 
 -- of a mark made before another, each value that both keep is the earlier one
-abbrev pub ComesBefore : MarkView → MarkView → Type 0
+abbrev pub ComesBefore : SavepointView → SavepointView → Type 0
 ComesBefore l m = (i : ℕ) (g h : History) → slot l.values i ≡ Some g → slot m.values i ≡ Some h → IsEarlier g h
 
 -- what every flat map of a run is: it can go back to each mark, and of two nodes that saved a value of one key the lower did so
@@ -59,9 +59,9 @@ pub record IsFlatMap (v : FlatView) : Type 0 where
   pub fits : length v.marks ≡ length v.tray.plan.rows
   pub flat : IsFlat v.tray
   pub kinds : AreOfKinds v.tray
-  pub made : (n : ℕ) (m : MarkView) → mark_at v.marks n ≡ Some m → WasMade v.tray n m
-  pub undoable : (n : ℕ) (m : MarkView) → mark_at v.marks n ≡ Some m → CanUndo m v.tray
-  pub nested : (p n : ℕ) (l m : MarkView) → p < n → mark_at v.marks p ≡ Some l → mark_at v.marks n ≡ Some m → ComesBefore l m
+  pub made : (n : ℕ) (m : SavepointView) → mark_at v.marks n ≡ Some m → WasMade v.tray n m
+  pub undoable : (n : ℕ) (m : SavepointView) → mark_at v.marks n ≡ Some m → CanUndo m v.tray
+  pub nested : (p n : ℕ) (l m : SavepointView) → p < n → mark_at v.marks p ≡ Some l → mark_at v.marks n ≡ Some m → ComesBefore l m
 
 -- two nodes may change one key
 pub record BothWrite (tree : List Row) (m n : ℕ) : Type 0 where
@@ -88,5 +88,5 @@ pub record IsFlatOf (v : FlatView) (s : RunNodes) : Type 0 where
   pub now : (k : List ℕ) → flat v.tray k ≡ s.flat k
   pub marked : (n : ℕ) → is_some (mark_at v.marks n) ≡ true → (0 < n) × (is_held (s.status n) ≡ true)
   pub held : (n : ℕ) → 0 < n → is_held (s.status n) ≡ true → is_some (mark_at v.marks n) ≡ true
-  pub saved : (n : ℕ) (m : MarkView) (k : List ℕ) → mark_at v.marks n ≡ Some m → is_writable (node_rights (tree_of v.tray.plan) n k) ≡ true
+  pub saved : (n : ℕ) (m : SavepointView) (k : List ℕ) → mark_at v.marks n ≡ Some m → is_writable (node_rights (tree_of v.tray.plan) n k) ≡ true
       → s.saved n k ≡ kept_values (tree_of v.tray.plan) m k

@@ -7,7 +7,7 @@ use Rattle.iso_lifecycle.specs.Subjects.{started}
 use Rattle.iso_locks.proofs.NumberLemmas.{number-spells, number-within}
 use Rattle.iso_locks.specs.Flats.{IsFlat, flat, with_saved}
 use Rattle.iso_locks.specs.Slots.{Slots, slot}
-use Rattle.iso_locks.specs.Trays.{IsOnward, MarkView, TrayView, has_at, is_open, kept, key_at, marked, may_write, number_of, restored, seen, seen_at, undone}
+use Rattle.iso_locks.specs.Trays.{IsOnward, SavepointView, TrayView, has_at, is_open, kept, key_at, marked, may_write, number_of, restored, seen, seen_at, undone}
 use Rattle.iso_model.specs.Rights.{is_writable}
 use Rattle.iso_model.specs.declared.resource.Resource.{Resource}
 use Rattle.iso_plan.proofs.ColumnLemmas.{column-read}
@@ -56,7 +56,7 @@ has_by : (marks values : Slots) (o : Option ℕ) → has_at values o ≡ is_some
 has_by marks values None is = refl
 has_by marks values (Some i) is = ap is_some (restored-slot marks values i (below values i is)) ∙ either (slot marks i) (slot values i) is
 
-pub flat-undone : (t : TrayView) (mark : MarkView) → IsFlat t → IsFlat (undone mark t)
+pub flat-undone : (t : TrayView) (mark : SavepointView) → IsFlat t → IsFlat (undone mark t)
 flat-undone t mark is k = has_by mark.values t.values (number_of (tree_of t.plan) k) (is k)
 
 pub flat-onward : (t u : TrayView) → IsOnward t u → IsFlat t → IsFlat u

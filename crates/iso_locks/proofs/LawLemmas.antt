@@ -8,7 +8,7 @@ use Rattle.iso_plan.specs.RowView.{tree_of}
 use Rattle.iso_store.specs.Histories.{History, IsEarlier, after}
 use Rattle.iso_locks.specs.Slots.{Slots, HasLater, slot}
 use Rattle.iso_locks.specs.Onward.{earlier-self, later-further, on-further, on-still, onward-still}
-use Rattle.iso_locks.specs.Trays.{CanUndo, GoesOn, IsOnward, MarkView, TrayView, kept, marked, may_write, with_change}
+use Rattle.iso_locks.specs.Trays.{CanUndo, GoesOn, IsOnward, SavepointView, TrayView, kept, marked, may_write, with_change}
 use Rattle.iso_locks.proofs.TouchLemmas.{has-still}
 
 earlier-after : (h : History) (change : Change) → IsEarlier h (after change h)
@@ -37,7 +37,7 @@ own-mark t u n on = record {
   later = λ i h e. on.later i h (was-there t n i h e);
 }
 
-pub other-mark : (t u : TrayView) (mark : MarkView) → GoesOn t u → CanUndo mark t → CanUndo mark u
+pub other-mark : (t u : TrayView) (mark : SavepointView) → GoesOn t u → CanUndo mark t → CanUndo mark u
 other-mark t u mark on can = record {
   fits = can.fits ∙ sym on.fits;
   later = λ i h e. later-further t.values u.values i h (can.later i h e) (on.later i);

@@ -7,7 +7,7 @@ use Rattle.iso_locks.proofs.OwnerLemmas.{away-slot, lent-other, lent-within, no-
 use Rattle.iso_locks.specs.Clashes.{clash}
 use Rattle.iso_locks.specs.Moves.{is_written}
 use Rattle.iso_locks.specs.Slots.{HasLater, slot}
-use Rattle.iso_locks.specs.Trays.{CanUndo, MarkView, TrayView, is_lent, key_at}
+use Rattle.iso_locks.specs.Trays.{CanUndo, SavepointView, TrayView, is_lent, key_at}
 use Rattle.iso_locks.specs.Vaults.{CanTakeBack, IsLentTo, VaultView, giving_back, lending, regaining}
 use Rattle.iso_plan.specs.KeyTable.{keys}
 use Rattle.iso_plan.specs.Locks.{conflict, locks}
@@ -59,7 +59,7 @@ back-home m n v t other apart can =
     }
 
 -- a mark can be gone back to when another node was lent since
-pub undo-lent : (n : ℕ) (t u : TrayView) (mark : MarkView) → t.flat ≡ false → CanUndo mark t → IsLentTo n t u → CanUndo mark u
+pub undo-lent : (n : ℕ) (t u : TrayView) (mark : SavepointView) → t.flat ≡ false → CanUndo mark t → IsLentTo n t u → CanUndo mark u
 undo-lent n t u mark flat can on = record {
   fits = can.fits ∙ sym on.fits;
   later = λ i h e.

@@ -159,21 +159,21 @@ abbrev pub restored : Slots → Slots → Slots
 restored marks values = column (λ i. option_or (slot marks i) (slot values i)) (length values)
 
 -- the values that a node may change, as they stood at one moment, by the numbers of their keys
-pub record MarkView : Type 0 where
+pub record SavepointView : Type 0 where
   pub node : ℕ
   pub values : Slots
 
-abbrev pub mark_code : Coded MarkView
-mark_code =
+abbrev pub savepoint_code : Coded SavepointView
+savepoint_code =
     code_by (ℕ × Slots) (coded× coded_ℕ (coded_list (coded_option history_code))) (λ m. (m.node, m.values))
     (λ p. record { node = p.0; values = p.1 }) (λ _. refl)
 
 -- what is kept of a tray for a node
-abbrev pub marked : TrayView → ℕ → MarkView
+abbrev pub marked : TrayView → ℕ → SavepointView
 marked t n = record { node = n; values = kept (tree_of t.plan) n t.values }
 
 -- a tray can go back to a mark: each value that was kept is there, and was only changed further since
-pub record CanUndo (mark : MarkView) (t : TrayView) : Type 0 where
+pub record CanUndo (mark : SavepointView) (t : TrayView) : Type 0 where
   pub fits : length mark.values ≡ length t.values
   pub later : (i : ℕ) (h : History) → slot mark.values i ≡ Some h → HasLater t.values i h
 
@@ -201,5 +201,5 @@ with_change change i t =
     record t { values = slice_set t.values i (option_map (after change) (slot t.values i)) }
 
 -- a tray gone back to a mark: the values that were kept stand as they stood then, all others stay
-abbrev pub undone : MarkView → TrayView → TrayView
+abbrev pub undone : SavepointView → TrayView → TrayView
 undone mark t = record t { values = restored mark.values t.values }

@@ -1,9 +1,11 @@
 //! Laws of trays: what lets one go back to a mark, and what lets a node be taken back. Each function does nothing: its contract is the law, and is proved.
-ghost use Rattle.std.specs.Prelude.{◌≡◌, ◌≢◌, ◌<◌, ℕ, List, false, length, true};
+ghost use Rattle.std.specs.Prelude.{◌≡◌, ◌≢◌, ◌<◌, ℕ, List, false, is_some, length, true};
 ghost use Rattle.iso_lifecycle.specs.Subjects.{started};
 ghost use Rattle.iso_locks.specs.Clashes.{clash};
 ghost use Rattle.iso_locks.specs.Flats.{IsFlat, flat, with_saved};
-ghost use Rattle.iso_locks.specs.Trays.{CanUndo, GoesOn, IsOnward, MarkView, TrayView, content, has_value, holds_read, is_lent, marked, undone, with_change};
+ghost use Rattle.iso_locks.specs.Owners.{IsOwned};
+ghost use Rattle.iso_locks.specs.Slots.{slot};
+ghost use Rattle.iso_locks.specs.Trays.{CanUndo, GoesOn, IsOnward, SavepointView, TrayView, content, has_value, holds_read, is_lent, marked, undone, with_change};
 ghost use Rattle.iso_locks.specs.Vaults.{CanTakeBack, IsLentTo, VaultView, giving_back, lending, regaining};
 ghost use Rattle.iso_model.specs.Rights.{is_writable};
 ghost use Rattle.iso_model.specs.declared.resource.Change.{Change};
@@ -16,7 +18,7 @@ use iso_plan::laws::nodes_are_a_tree;
 /// Further changes let every mark be gone back to that could be before, and the one that was made then.
 pub fn further_changes_keep_marks()
     ensures own { (t u : TrayView) (n : ℕ) → GoesOn t u → CanUndo (marked t n) u }
-    ensures others { (t u : TrayView) (mark : MarkView) → GoesOn t u → CanUndo mark t → CanUndo mark u }
+    ensures others { (t u : TrayView) (mark : SavepointView) → GoesOn t u → CanUndo mark t → CanUndo mark u }
 {}
 
 /// A tray goes on by nothing, by changes of its values, and step by step.
@@ -41,7 +43,7 @@ pub fn other_nodes_may_still_be_taken_back()
 
 /// A mark can still be gone back to when a node was lent to its tray since.
 pub fn lending_keeps_marks()
-    ensures { (n : ℕ) (t u : TrayView) (mark : MarkView) → t.flat ≡ false → CanUndo mark t → IsLentTo n t u → CanUndo mark u }
+    ensures { (n : ℕ) (t u : TrayView) (mark : SavepointView) → t.flat ≡ false → CanUndo mark t → IsLentTo n t u → CanUndo mark u }
 {}
 
 /// A node that is lent to a tray finds there each key that it or its locking node takes for READ as it starts, to look at, and
@@ -56,6 +58,13 @@ pub fn lent_nodes_find_their_values(tray: &Tray<'_>)
     tray.keep_owners();
 }
 
+/// Each value that a tray has is one that a node which is lent to it takes for READ_WRITE. A flat map has values of its own.
+pub fn values_are_of_lent_nodes(tray: &Tray<'_>)
+    ensures { tray.now.flat ≡ false → (i : ℕ) → is_some (slot tray.now.values i) ≡ true → IsOwned (tree_of tray.now.plan) tray.now.lent i }
+{
+    tray.keep_owners();
+}
+
 /// A flat map that goes back to a mark has the values that the node may change as they stood at the mark, and all others as they are.
 pub fn flat_maps_go_back_to_marks()
     ensures { (t u : TrayView) (n : ℕ) → IsFlat t → IsFlat u → u.plan ≡ t.plan → u.world ≡ t.world
@@ -65,5 +74,5 @@ pub fn flat_maps_go_back_to_marks()
 /// A flat map stays flat by changes, and when it goes back to a mark.
 pub fn flat_maps_stay_flat()
     ensures changes { (t u : TrayView) → IsOnward t u → IsFlat t → IsFlat u }
-    ensures marks { (t : TrayView) (mark : MarkView) → IsFlat t → IsFlat (undone mark t) }
+    ensures marks { (t : TrayView) (mark : SavepointView) → IsFlat t → IsFlat (undone mark t) }
 {}

@@ -13,11 +13,11 @@ pub struct Savepoint {
 }
 
 impl Model for Savepoint {
-    ghost use Rattle.iso_locks.specs.Trays.{MarkView, mark_code};
+    ghost use Rattle.iso_locks.specs.Trays.{SavepointView, savepoint_code};
 
-    ghost Value = { MarkView };
+    ghost Value = { SavepointView };
 
-    ghost coded = { mark_code };
+    ghost coded = { savepoint_code };
 
     ghost view = { λ m. record { node = m.node; values = m.values.items } };
 }

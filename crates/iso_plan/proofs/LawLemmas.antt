@@ -192,6 +192,7 @@ covered_by tree t n k pos h r (Some m) e =
     let takes : taken tree m k ≡ strongest (global_access tree m k) g = ap (λ (b : Bool). strongest (global_access tree m k) (cond b g None)) l in
     record {
       taker = m;
+      locks = e;
       above = under-locking tree t.below m n l ∙ that-self (locking_node tree n) m e;
       reads = ap is_readable takes ∙ readable_more (global_access tree m k) g (readable_by (node_rights tree n k) g all r);
       writes = λ w. ap is_writable takes ∙ writable_more (global_access tree m k) g (writable_by (node_rights tree n k) g all w);

@@ -82,8 +82,8 @@ pub fn rights_grow_down(plan: &Plan)
     plan.hold_a_tree();
 }
 
-/// A key that a node may look at is taken by the node or one that it stands in, and for READ_WRITE where the node
-/// may change it.
+/// A key that a node may look at is taken by its locking node, the node or one that it stands in, and for READ_WRITE where the
+/// node may change it.
 pub fn rights_are_covered_by_locks(plan: &Plan)
     ensures { (n : ℕ) (k : List ℕ) → 0 < n → n < length (tree_of plan.now) → is_readable (node_rights (tree_of plan.now) n k) ≡ true
         → IsCovered (tree_of plan.now) n k }

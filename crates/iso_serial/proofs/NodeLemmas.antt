@@ -5,7 +5,7 @@ use Rattle.iso_lifecycle.specs.ResultViews.{AreComplete, AreOpen, ResultsView, h
 use Rattle.iso_lifecycle.specs.Subjects.{opening_of, own_frame, started, subject}
 use Rattle.iso_locks.proofs.LawLemmas.{own-mark}
 use Rattle.iso_locks.specs.Onward.{on-further, on-still}
-use Rattle.iso_locks.specs.Trays.{CanUndo, GoesOn, MarkView, TrayView, any_lent, empty_tray, holds_read, is_lent, marked, number_of, seen, seen_at, undone}
+use Rattle.iso_locks.specs.Trays.{CanUndo, GoesOn, SavepointView, TrayView, any_lent, empty_tray, holds_read, is_lent, marked, number_of, seen, seen_at, undone}
 use Rattle.iso_locks.specs.Vaults.{CanLend, CanTakeBack, IsLentTo, VaultView, busy, giving_back, lending, regaining, whole_vault}
 use Rattle.iso_model.specs.Openings.{opening}
 use Rattle.iso_model.specs.Statements.{is_well}
@@ -99,16 +99,16 @@ module _ (plan : Planned) (world : Start) where
     }
 
     -- what a lent node's bodies and all that stands in it leave; its mark is undone, and it is taken back
-    module _ (v : VaultView) (u : TrayView) (mark : MarkView) (end : Walk) (l : IsLentTo n old.tray u) (me : mark ≡ marked u n)
+    module _ (v : VaultView) (u : TrayView) (mark : SavepointView) (end : Walk) (l : IsLentTo n old.tray u) (me : mark ≡ marked u n)
         (at : AtExit plan world n end) (further : GoesFurther (record old { vault = v; tray = u }) end) where
       abbrev on : GoesOn u end.tray
       on = further.tray
 
       pub may-undo : CanUndo mark end.tray
-      may-undo = subst (λ (m : MarkView). CanUndo m end.tray) (sym me) (own-mark u end.tray n on)
+      may-undo = subst (λ (m : SavepointView). CanUndo m end.tray) (sym me) (own-mark u end.tray n on)
 
       gone-back : undone mark end.tray ≡ undone (marked u n) end.tray
-      gone-back = ap (λ (m : MarkView). undone m end.tray) me
+      gone-back = ap (λ (m : SavepointView). undone m end.tray) me
 
       pub may-take : (w : TrayView) → w ≡ undone mark end.tray → CanTakeBack n end.vault w
       may-take w e =

@@ -64,8 +64,10 @@ impl<'a> Book<'a> {
     fn refusal_of_enter(&self, worker: u32, node: u32, tray: &Tray<'_>) -> Option<Refused>
         requires plan { tray.now.plan ≡ self.now.plan }
         requires world { tray.now.world ≡ self.now.world }
-        ensures { MatchOption result (IsAllowed (refusal_in self.now (Event.Enter worker node)) (MayEnterWith self.now node tray.now))
+        ensures kind { MatchOption result (IsAllowed (refusal_in self.now (Event.Enter worker node)) (MayEnterWith self.now node tray.now))
             (λ why. IsRefusedBy (refusal_in self.now (Event.Enter worker node)) (MayEnterWith self.now node tray.now) (refused_of why)) }
+        ensures inner { result ≡ None → 0 < node }
+        ensures node { result ≡ None → node < length self.now.plan.rows }
     {
         if let Some(refused) = self.kind_of_enter(worker, node) {
             return Some(refused);

@@ -6,13 +6,13 @@ use Rattle.iso_standing.specs.CodeEvents.{refused_of}
 use Rattle.iso_standing.specs.declared.event.Event.TheVariants as Code
 use Rattle.iso_book.proofs.book.Book.refusal_of_enter.Goals as goal
 
-pub returns-in-Some : goal.returns-in-Some
-returns-in-Some c =
+pub returns-in-Some-clause-kind : goal.returns-in-Some-clause-kind
+returns-in-Some-clause-kind c =
     let b = c.args.self.now in
     refused-by (refusal_in b (Code.Enter c.args.worker c.args.node)) (MayEnterWith b c.args.node c.args.tray.now) (refused_of c.in-Some.refused) c.in-Some.ensures.kind
 
-pub returns-then-not-enters_with : goal.returns-then-not-enters_with
-returns-then-not-enters_with c =
+pub returns-then-not-enters_with-clause-kind : goal.returns-then-not-enters_with-clause-kind
+returns-then-not-enters_with-clause-kind c =
     let b = c.args.self.now in
     let n = c.args.node in
     let t = c.args.tray.now in
@@ -21,8 +21,8 @@ returns-then-not-enters_with c =
     let missed : c.enters_with.result ≡ false = c.if-not-enters_with.true in
     absurd cc)
 
-pub returns : goal.returns
-returns c = record {
+pub returns-clause-kind : goal.returns-clause-kind
+returns-clause-kind c = record {
   allowed = sym c.in_default.ensures.kind;
   tray = may-enter-with c.args.self.now c.args.node c.args.tray.now c.requires.plan c.requires.world (c.enters_with.ensures.holds c.if-not-enters_with.false);
 }

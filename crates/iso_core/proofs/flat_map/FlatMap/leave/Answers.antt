@@ -5,7 +5,7 @@ use Rattle.iso_core.specs.FlatMaps.{FlatView, IsFlatMap, IsFlatOf, IsInnermost, 
 use Rattle.iso_suites.specs.ScriptLanguage.{scripts}
 use Rattle.iso_suites.specs.SuiteStates.{suite_at}
 use Rattle.iso_isolation.specs.Events as E
-use Rattle.iso_locks.specs.Trays.{MarkView, TrayView}
+use Rattle.iso_locks.specs.Trays.{SavepointView, TrayView}
 use Rattle.iso_plan.specs.Paths.{IsTree}
 use Rattle.iso_plan.specs.Planned.{Planned}
 use Rattle.iso_plan.specs.RowView.{tree_of}
@@ -20,7 +20,7 @@ invariant_of-self c =
     let there : get_or v.marks n None ≡ get_or v.marks n c.index_mut.result.now = get_or_default v.marks n None c.index_mut.result.now within in
     let at : mark_at v.marks n ≡ Some c.in-Some.mark = cc (there, c.index_mut.ensures.value, c.in-Some.ensures.value) in
     let inner : IsInnermost v n = subst (λ (u : FlatView). IsInnermost u n) (sym c.self.view_is) c.requires.innermost in
-    subst (λ (o : Option MarkView). IsFlatMap (record { tray = c.undo.new.self; marks = set v.marks n o })) (sym c.in-Some.ensures.after)
+    subst (λ (o : Option SavepointView). IsFlatMap (record { tray = c.undo.new.self; marks = set v.marks n o })) (sym c.in-Some.ensures.after)
     (subst (λ (t : TrayView). IsFlatMap (record { tray = t; marks = set v.marks n None })) (sym c.undo.ensures) (map-left v c.self.invariant n c.in-Some.mark at inner))
 
 pub returns-in-Some-clause-state : goal.returns-in-Some-clause-state
@@ -34,6 +34,6 @@ returns-in-Some-clause-state c = λ s r of.
     let tree : IsTree (tree_of v.tray.plan) = subst (λ (p : Planned). IsTree (tree_of p)) c.plan.ensures c.nodes_are_a_tree.ensures in
     let before : IsFlatOf v s = subst (λ (u : FlatView). IsFlatOf u s) (sym c.self.view_is) of in
     subst (λ (u : FlatView). IsFlatOf (record { tray = c.undo.new.self; marks = set v.marks n c.take.new.self }) (E.finishing scripts (suite_at u.tray.plan u.tray.world) n r s)) c.self.view_is
-    (subst (λ (o : Option MarkView). IsFlatOf (record { tray = c.undo.new.self; marks = set v.marks n o }) (E.finishing scripts (suite_at v.tray.plan v.tray.world) n r s)) (sym c.in-Some.ensures.after)
+    (subst (λ (o : Option SavepointView). IsFlatOf (record { tray = c.undo.new.self; marks = set v.marks n o }) (E.finishing scripts (suite_at v.tray.plan v.tray.world) n r s)) (sym c.in-Some.ensures.after)
     (subst (λ (t : TrayView). IsFlatOf (record { tray = t; marks = set v.marks n None }) (E.finishing scripts (suite_at v.tray.plan v.tray.world) n r s)) (sym c.undo.ensures)
     (state-left v c.self.invariant n c.in-Some.mark at tree s before r)))

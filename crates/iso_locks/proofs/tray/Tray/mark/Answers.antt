@@ -8,7 +8,7 @@ use Rattle.iso_plan.specs.RowView.{tree_of}
 use Rattle.iso_plan.specs.Tree.{Row}
 use Rattle.iso_settings.specs.Worlds.{Start}
 use Rattle.iso_locks.specs.Slots.{Slots, slot}
-use Rattle.iso_locks.specs.Trays.{MarkView, TrayView, kept, kept_at, marked, start_at}
+use Rattle.iso_locks.specs.Trays.{SavepointView, TrayView, kept, kept_at, marked, start_at}
 use Rattle.iso_locks.specs.declared.starting.Starting.{Starting}
 use Rattle.iso_locks.proofs.NumberLemmas.{spelled}
 use Rattle.iso_locks.proofs.TouchLemmas.{keys-of}
@@ -23,5 +23,5 @@ pub returns : goal.returns
 returns c =
     let tree = tree_of c.self.inside.plan.now in
     let is = kept-is tree c.self.inside.world.now c.self.inside.starts.items c.deref.result.now c.rights-rights.result.now c.self.inside.values c.args.node c.self.invariant.starts_are c.deref.ensures.value c.rights-rights.ensures in
-    let marks : MarkView = record { node = c.args.node; values = c.in_ok-values.values.items } in
+    let marks : SavepointView = record { node = c.args.node; values = c.in_ok-values.values.items } in
     c.new.ensures ∙ ap (λ (vs : Slots). record { node = c.args.node; values = vs }) (c.in_ok-values.ensures ∙ is) ∙ ap (λ (t : TrayView). marked t c.args.node) c.self.view_is
