@@ -38,12 +38,15 @@ pub record IsAudited (h : List Event) (lists : List (List ReceiptView)) (marks :
   pub marked : (n : ℕ) → is_marked marks n ≡ true → IsReceipted lists n
   pub every : (seat place : ℕ) (r : ReceiptView) → receipt_at lists seat place ≡ Some r → IsBefore r.number lowest → is_marked marks r.number ≡ true
   pub stands : (seat place : ℕ) (r : ReceiptView) → receipt_at lists seat place ≡ Some r → IsBefore r.number lowest → Stands h r
-  pub above : (seat earlier place : ℕ) (q r : ReceiptView) → earlier < place → receipt_at lists seat earlier ≡ Some q → receipt_at lists seat place ≡ Some r → IsBefore r.number lowest → q.number < r.number
-  pub once : (seat other place there : ℕ) (r q : ReceiptView) → receipt_at lists seat place ≡ Some r → receipt_at lists other there ≡ Some q → r.number ≡ q.number → IsBefore r.number lowest → seat ≡ other
+  pub above : (seat earlier place : ℕ) (q r : ReceiptView) → earlier < place → receipt_at lists seat earlier ≡ Some q
+      → receipt_at lists seat place ≡ Some r → IsBefore r.number lowest → q.number < r.number
+  pub once : (seat other place there : ℕ) (r q : ReceiptView) → receipt_at lists seat place ≡ Some r
+      → receipt_at lists other there ≡ Some q → r.number ≡ q.number → IsBefore r.number lowest → seat ≡ other
   pub astray : IfSome lowest (IsAstray h lists)
 
 -- the comparison goes on by one list more
-abbrev pub GoesOnBy : List Event → (marks : List Bool) (lowest : Option ℕ) → List ReceiptView → (marks_after : List Bool) (lowest_after : Option ℕ) → Type 0
+abbrev pub GoesOnBy : List Event → (marks : List Bool) (lowest : Option ℕ) → List ReceiptView
+    → (marks_after : List Bool) (lowest_after : Option ℕ) → Type 0
 GoesOnBy h marks lowest list marks_after lowest_after =
     (lists : List (List ReceiptView)) → IsAudited h lists marks lowest → IsAudited h (lists ++ list ∷ []) marks_after lowest_after
 
