@@ -22,7 +22,7 @@ use Rattle.iso_plan.specs.Tree.{Row}
 use Rattle.iso_settings.specs.Worlds.{Start, starting_value_in}
 use Rattle.iso_store.specs.Histories.{History}
 use Rattle.iso_serial.proofs.ResultLemmas.{above-parent, true-or-false}
-use Rattle.iso_serial.proofs.TrayLemmas.{held-of, held-some, held-start, held-same, lent-less, lent-stands, no-clash, number, or-some, or-some-cases, some-or-none, start-absent, start-taken, write-covered}
+use Rattle.iso_serial.proofs.TrayLemmas.{held-of, held-some, held-start, held-same, no-clash, number, or-some, or-some-cases, some-or-none, start-absent, start-taken, write-covered}
 use Rattle.iso_serial.specs.OpenedTrays.{HoldsAlong, IsAsOpened, IsWrittenOn, StandsApart, StandsAsOpened, held}
 
 or-none : (o : Option History) → option_or None o ≡ o
@@ -76,14 +76,11 @@ module _ (plan : Planned) (v w : TrayView) (n : ℕ) (v_plan : v.plan ≡ plan) 
   pub home-own : (i : ℕ) → is_written (locks tr n) i ≡ true → slot brought-home.values i ≡ None
   home-own i e = home-slot i ∙ ap (λ (b : Bool). cond b None (slot marked-back.values i)) e
 
--- from u a node was lent, which is v, and w is the tray when the node's bodies and all that stands in it are done
-module _ (plan : Planned) (world : Start) (t : IsTree (tree_of plan)) (u v w : TrayView) (n : ℕ) (pos : 0 < n) (within : n < length plan.rows)
-    (su : StandsAsOpened plan world (parent (tree_of plan) n) (parent (tree_of plan) n) u) (l : IsLentTo n u v) (on : GoesOn v w) (aw : StandsApart plan world n w) where
+-- to v a node was lent, and w is the tray when the node's bodies and all that stands in it are done
+module _ (plan : Planned) (world : Start) (t : IsTree (tree_of plan)) (v w : TrayView) (n : ℕ) (pos : 0 < n) (within : n < length plan.rows)
+    (sv : StandsAsOpened plan world n (parent (tree_of plan) n) v) (on : GoesOn v w) (aw : StandsApart plan world n w) where
   abbrev p : ℕ
   p = parent (tree_of plan) n
-
-  sv : StandsAsOpened plan world n p v
-  sv = lent-stands plan world t u v n pos within su l
 
   abbrev hw : HoldsAlong plan world n w
   hw = aw.holds
@@ -115,7 +112,6 @@ module _ (plan : Planned) (world : Start) (t : IsTree (tree_of plan)) (u v w : T
       record {
         plan_is = hw.plan_is;
         world_is = hw.world_is;
-        lent = hw.lent;
         there = λ i a. ap is_some (is i) ∙ or-some (cond (may_write (tree_of plan) n i) (slot v.values i) None) (slot w.values i) (hw.there i a);
         only = λ i s. elim (or-some-cases (may_write (tree_of plan) n i) (slot v.values i) (slot w.values i) (ap is_some (sym (is i)) ∙ s)) [
           | inl x ↦ sv.holds.only i x
@@ -175,7 +171,6 @@ module _ (plan : Planned) (world : Start) (t : IsTree (tree_of plan)) (u v w : T
   home-holds = record {
     plan_is = hw.plan_is;
     world_is = hw.world_is;
-    lent = lent-less plan world t w.lent n pos within hw.lent;
     there = home-there;
     only = home-only;
   }
@@ -206,8 +201,9 @@ module _ (plan : Planned) (world : Start) (t : IsTree (tree_of plan)) (u v w : T
     | inr may ↦ let x = on.later i h is in record { now = x.now; there = stays i apart ∙ as-it-came i may ∙ x.there; later = x.later }
   ]
 
-  pub home-further : GoesOn u home
-  home-further = record {
+  -- what was there before the node was lent was only changed further
+  pub home-further : (u : TrayView) → StandsAsOpened plan world p p u → IsLentTo n u v → GoesOn u home
+  home-further u su l = record {
     fits = length-column (λ j. cond (is_written (locks (tree_of w.plan) n) j) None (slot back.values j)) (length back.values) ∙ length-column (λ j. option_or (slot (marked v n).values j) (slot w.values j)) (length w.values) ∙ on.fits ∙ l.fits;
     only = λ i none. elim (some-or-none (slot home.values i)) [
       | inl x ↦ let wrong : false ≡ true = sym (ap is_some none) ∙ su.holds.there i (home-only i (ap is_some x.is)) in absurd (cc)

@@ -10,7 +10,7 @@ use Rattle.iso_locks.specs.Vaults.{CanLend, CanTakeBack, IsLentTo, VaultView, bu
 use Rattle.iso_model.specs.Openings.{opening}
 use Rattle.iso_model.specs.Statements.{is_well}
 use Rattle.iso_plan.proofs.ChildLemmas.{child-is}
-use Rattle.iso_plan.proofs.PathLemmas.{path-root, path-step}
+use Rattle.iso_plan.proofs.PathLemmas.{path-root, path-step, under-self}
 use Rattle.iso_plan.specs.Children.{IsChild}
 use Rattle.iso_plan.specs.KeyTable.{keys}
 use Rattle.iso_plan.specs.NodeChains.{heads_on}
@@ -24,7 +24,7 @@ use Rattle.iso_serial.proofs.LeaveLemmas.{at-start, back-holds, home-further, ho
 use Rattle.iso_serial.proofs.OpeningLemmas.{opened-by, opened-well}
 use Rattle.iso_serial.proofs.ResultLemmas.{all-done, open-above, root-or-not}
 use Rattle.iso_serial.proofs.StepLemmas.{inside-tree, parent-at, tree-at}
-use Rattle.iso_serial.proofs.TrayLemmas.{lent-stands}
+use Rattle.iso_serial.proofs.TrayLemmas.{lent-less, lent-more, lent-stands}
 use Rattle.iso_serial.proofs.VaultLemmas.{can-lend, can-take-back, free, vault-back, vault-lent}
 use Rattle.iso_serial.specs.OpenedTrays.{AreLentAlong, StandsAsOpened}
 use Rattle.iso_serial.specs.Walks.{AreDone, AreResultsAlong, AtEntry, AtExit, BetweenNodes, GoesFurther, IsEntered, IsLentAlong}
@@ -81,7 +81,7 @@ module _ (plan : Planned) (world : Start) where
 
   module _ (n : ℕ) (old : Walk) (pos : 0 < n) (within : n < length plan.rows) (s : BetweenNodes plan world (parent tr n) old) (w : has_result old.results n ≡ false) where
     pub may-lend : CanLend n old.vault old.tray
-    may-lend = can-lend plan world s.entered.tree old.vault old.tray n pos within s.vault s.tray.holds
+    may-lend = can-lend plan world s.entered.tree old.vault old.tray n pos within s.vault s.tray.holds s.lent
 
     pub lends : busy old.vault n ≡ None
     lends = free plan world s.entered.tree old.vault n pos s.vault
@@ -93,6 +93,7 @@ module _ (plan : Planned) (world : Start) where
       within = within;
       well = child-well (parent tr n) n old.results s.entered pos refl s.results w;
       vault = subst (λ x. IsLentAlong plan world n x) (sym ve) (vault-lent plan world s.entered.tree old.vault n pos within s.vault);
+      lent = subst (λ (ls : List Bool). AreLentAlong plan n ls) (sym l.lent) (lent-more plan world s.entered.tree old.tray.lent n pos within s.lent);
       tray = lent-stands plan world s.entered.tree old.tray u n pos within s.tray l;
       results = s.results;
       waits = w;
@@ -104,6 +105,9 @@ module _ (plan : Planned) (world : Start) where
       abbrev on : GoesOn u end.tray
       on = further.tray
 
+      entered : StandsAsOpened plan world n (parent tr n) u
+      entered = lent-stands plan world s.entered.tree old.tray u n pos within s.tray l
+
       pub may-undo : CanUndo mark end.tray
       may-undo = subst (λ (m : SavepointView). CanUndo m end.tray) (sym me) (own-mark u end.tray n on)
 
@@ -114,8 +118,8 @@ module _ (plan : Planned) (world : Start) where
       may-take w e =
           subst (λ (x : TrayView). CanTakeBack n end.vault x) (sym (e ∙ gone-back))
           (can-take-back plan world s.entered.tree end.vault (undone (marked u n) end.tray) n pos within at.vault
-          (back-holds plan world s.entered.tree old.tray u end.tray n pos within s.tray l on at.tray)
-          (at-start plan world s.entered.tree old.tray u end.tray n pos within s.tray l on at.tray))
+          (back-holds plan world s.entered.tree u end.tray n pos within entered on at.tray) (at.lent.along n ∙ under-self tr s.entered.tree.below n pos)
+          (at-start plan world s.entered.tree u end.tray n pos within entered on at.tray))
 
       tray-is : (w y : TrayView) → w ≡ undone mark end.tray → y ≡ giving_back n w → y ≡ giving_back n (undone (marked u n) end.tray)
       tray-is w y e f = f ∙ ap (giving_back n) (e ∙ gone-back)
@@ -124,13 +128,14 @@ module _ (plan : Planned) (world : Start) where
       left-stands x w y xe e f = record {
         entered = s.entered;
         vault = subst (λ z. IsLentAlong plan world (parent tr n) z) (sym xe) (vault-back plan world s.entered.tree end.vault n pos within at.vault);
-        tray = subst (λ (z : TrayView). StandsAsOpened plan world (parent tr n) (parent tr n) z) (sym (tray-is w y e f)) (home-stands plan world s.entered.tree old.tray u end.tray n pos within s.tray l on at.tray);
+        lent = subst (λ (z : TrayView). AreLentAlong plan (parent tr n) z.lent) (sym (tray-is w y e f)) (lent-less plan world s.entered.tree end.tray.lent n pos within at.lent);
+        tray = subst (λ (z : TrayView). StandsAsOpened plan world (parent tr n) (parent tr n) z) (sym (tray-is w y e f)) (home-stands plan world s.entered.tree u end.tray n pos within entered on at.tray);
         results = at.results;
       }
 
       pub left-further : (x : VaultView) (w y : TrayView) → w ≡ undone mark end.tray → y ≡ giving_back n w → GoesFurther old (record end { vault = x; tray = y })
       left-further x w y e f = record {
-        tray = subst (λ (z : TrayView). GoesOn old.tray z) (sym (tray-is w y e f)) (home-further plan world s.entered.tree old.tray u end.tray n pos within s.tray l on at.tray);
+        tray = subst (λ (z : TrayView). GoesOn old.tray z) (sym (tray-is w y e f)) (home-further plan world s.entered.tree u end.tray n pos within entered on at.tray old.tray s.tray l);
         results = further.results;
       }
 
@@ -182,11 +187,11 @@ module _ (plan : Planned) (world : Start) where
           well = ap (λ (ns : List ℕ). (opening (heads_on tr ns) (started world)).well) (root-path t);
         };
         vault = subst (λ x. IsLentAlong plan world 0 x) (sym ve) (record { plan_is = refl; world_is = refl; lent = none-along (replicate (length plan.rows) false) refl });
+        lent = subst (λ (x : TrayView). AreLentAlong plan 0 x.lent) (sym te) (none-along (replicate (length plan.rows) false) refl);
         tray = subst (λ (x : TrayView). StandsAsOpened plan world 0 0 x) (sym te) (record {
           holds = record {
             plan_is = refl;
             world_is = refl;
-            lent = none-along (replicate (length plan.rows) false) refl;
             there = λ i on. let wrong : false ≡ true = sym (nothing-under-root on.node) ∙ on.above in absurd (cc);
             only = λ i h. let wrong : false ≡ true = sym (ap is_some (none-there (length (keys tr)) i)) ∙ h in absurd (cc);
           };

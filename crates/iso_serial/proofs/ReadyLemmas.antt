@@ -4,7 +4,7 @@ use Rattle.std.proofs.Common.{◌≡◌, ℕ, ◌<◌, List, [], ◌∷◌, ◌+
 use Rattle.iso_lifecycle.specs.Subjects.{begun, begun_closing, begun_opening, begun_testing, classes_of, enclosing, opening_of, rights_of_subject, started, subject}
 use Rattle.iso_lifecycle.specs.WholeBodies.{IsReadyFor}
 use Rattle.iso_lifecycle.specs.declared.kind.BodyKind.TheVariants.{BeforeAll, Test, AfterAll}
-use Rattle.iso_locks.specs.Trays.{TrayView, content, has_value}
+use Rattle.iso_locks.specs.Trays.{TrayView, content, has_value, is_lent}
 use Rattle.iso_model.specs.Agreement.{EqualAt}
 use Rattle.iso_model.specs.Chains.{ClassHead, TestHead}
 use Rattle.iso_model.specs.Openings.{Opening, opening}
@@ -41,7 +41,7 @@ no-heads (test_node head) e = refl
 equal-to : (r : Rights) (m x y : Resources) → EqualAt r m x → y ≡ x → EqualAt r m y
 equal-to r m x y e same = record { same = λ k readable. e.same k readable ∙ ap (λ (z : Resources). z k) (sym same) }
 
-module _ (plan : Planned) (world : Start) (t : IsTree (tree_of plan)) (n : ℕ) (u : TrayView) (pos : 0 < n) (within : n < length (tree_of plan)) where
+module _ (plan : Planned) (world : Start) (t : IsTree (tree_of plan)) (n : ℕ) (u : TrayView) (pos : 0 < n) (within : n < length (tree_of plan)) (lent : is_lent u.lent n ≡ true) where
   abbrev tr : List Row
   tr = tree_of plan
 
@@ -51,8 +51,8 @@ module _ (plan : Planned) (world : Start) (t : IsTree (tree_of plan)) (n : ℕ) 
       let s = subject plan world n in
       let above : chain_classes tr n ≡ chain_classes tr (parent tr n) = chain-step tr t.below n pos ∙ ap (λ (hs : List ClassHead). hs ++ chain_classes tr (parent tr n)) (no-heads (row_at tr n).kind e) in
       record {
-        keys = tray-keys plan world t u n (parent tr n) pos within st;
-        stands = equal-to (rights_of_subject s) (content u) (opening_of (subject plan world (parent tr n))).resources (begun Test s).resources (tray-equal plan world t u n (parent tr n) pos within st)
+        keys = tray-keys plan world t u n (parent tr n) pos within lent st;
+        stands = equal-to (rights_of_subject s) (content u) (opening_of (subject plan world (parent tr n))).resources (begun Test s).resources (tray-equal plan world t u n (parent tr n) pos within lent st)
             (testing-resources (chain_test tr n) (classes_of s) (opening_of s) ∙ ap (λ (hs : List ClassHead). (opening hs (started world)).resources) above);
       }
 
@@ -61,8 +61,8 @@ module _ (plan : Planned) (world : Start) (t : IsTree (tree_of plan)) (n : ℕ) 
   opening-ready st =
       let s = subject plan world n in
       record {
-        keys = tray-keys plan world t u n (parent tr n) pos within st;
-        stands = equal-to (rights_of_subject s) (content u) (opening_of (enclosing s)).resources (begun BeforeAll s).resources (tray-equal plan world t u n (parent tr n) pos within st)
+        keys = tray-keys plan world t u n (parent tr n) pos within lent st;
+        stands = equal-to (rights_of_subject s) (content u) (opening_of (enclosing s)).resources (begun BeforeAll s).resources (tray-equal plan world t u n (parent tr n) pos within lent st)
             (opening-resources (classes_of s) (opening_of (enclosing s)));
       }
 
@@ -71,7 +71,7 @@ module _ (plan : Planned) (world : Start) (t : IsTree (tree_of plan)) (n : ℕ) 
   closing-ready st =
       let s = subject plan world n in
       record {
-        keys = tray-keys plan world t u n n pos within st;
-        stands = equal-to (rights_of_subject s) (content u) (opening_of s).resources (begun AfterAll s).resources (tray-equal plan world t u n n pos within st)
+        keys = tray-keys plan world t u n n pos within lent st;
+        stands = equal-to (rights_of_subject s) (content u) (opening_of s).resources (begun AfterAll s).resources (tray-equal plan world t u n n pos within lent st)
             (closing-resources (classes_of s) (opening_of s));
       }

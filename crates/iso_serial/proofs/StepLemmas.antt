@@ -4,7 +4,7 @@ use Rattle.iso_lifecycle.specs.ResultViews.{AreOpen, AreOpened, CanPut, ResultsV
 use Rattle.iso_lifecycle.specs.Subjects.{is_kind_of, subject}
 use Rattle.iso_lifecycle.specs.declared.kind.BodyKind.{BodyKind}
 use Rattle.iso_lifecycle.specs.declared.kind.BodyKind.TheVariants.{BeforeAll, Test, AfterAll}
-use Rattle.iso_locks.specs.Trays.{frames_on}
+use Rattle.iso_locks.specs.Trays.{frames_on, is_lent}
 use Rattle.iso_plan.proofs.PathLemmas.{under-self}
 use Rattle.iso_plan.specs.Paths.{IsTree, children, is_class_or_test, is_test, parent, path, row_at}
 use Rattle.iso_plan.specs.Planned.{Planned}
@@ -16,7 +16,7 @@ use Rattle.iso_serial.proofs.OpeningLemmas.{opened-by}
 use Rattle.iso_serial.proofs.ResultLemmas.{frames-there, neither, open-above, or-first, put-closed, put-opened, put-test, result-more, set-more, set-there, unopened}
 use Rattle.iso_serial.proofs.ReadyLemmas.{closing-ready, opening-ready, test-ready}
 use Rattle.iso_serial.proofs.TrayLemmas.{closed-apart, opened-stands, tested-apart}
-use Rattle.iso_serial.specs.OpenedTrays.{IsTrayAfter}
+use Rattle.iso_serial.specs.OpenedTrays.{AreLentAlong, IsTrayAfter}
 use Rattle.iso_serial.specs.Walks.{AreDone, AreResultsAlong, AtEntry, AtExit, BetweenNodes, CanPerform, GoesFurther, IsLentAlong}
 use Rattle.iso_serial.specs.declared.run.Walk.{Walk}
 
@@ -25,12 +25,12 @@ on-both (Ok x) p q f = f p q
 on-both (Err e) p q f = tt
 
 -- which bodies a test and a class have
-test-fits : (kind : T.Kind) → is_test kind ≡ true → is_kind_of Test kind ≡ true
+pub test-fits : (kind : T.Kind) → is_test kind ≡ true → is_kind_of Test kind ≡ true
 test-fits root e = absurd (cc)
 test-fits (class_node isolated head) e = absurd (cc)
 test-fits (test_node head) e = refl
 
-class-fits : (kind : T.Kind) → is_test kind ≡ false → is_class_or_test kind ≡ true → (is_kind_of BeforeAll kind ≡ true) × (is_kind_of AfterAll kind ≡ true)
+pub class-fits : (kind : T.Kind) → is_test kind ≡ false → is_class_or_test kind ≡ true → (is_kind_of BeforeAll kind ≡ true) × (is_kind_of AfterAll kind ≡ true)
 class-fits root e c = absurd (cc)
 class-fits (class_node isolated head) e c = (refl, refl)
 class-fits (test_node head) e c = absurd (cc)
@@ -83,12 +83,15 @@ module _ (plan : Planned) (world : Start) where
   frames-at : (p : ℕ) (v : ResultsView) → AreResultsAlong plan world p v → frames_on v p ≡ map (subject plan world) (reverse (path tr p))
   frames-at p v u = ap₂ (λ (pl : Planned) (s : Start). map (subject pl s) (reverse (path (tree_of pl) p))) u.plan_is u.start_is
 
+  own-lent : (n : ℕ) (lent : List Bool) → IsTree tr → 0 < n → AreLentAlong plan n lent → is_lent lent n ≡ true
+  own-lent n lent t pos a = a.along n ∙ under-self tr t.below n pos
+
   pub test-can : (n : ℕ) (s : Walk) → AtEntry plan world n s → is_test (row_at tr n).kind ≡ true → CanPerform plan world Test n s
   test-can n s at e = record {
     tray = at.tray.holds.plan_is;
     opened = opened-at (parent tr n) s.results at.tree at.results;
     begins = record { inner = at.positive; within = at.within; fits = test-fits (row_at tr n).kind e; frames = frames-at (parent tr n) s.results at.results; well = at.well };
-    ready = test-ready plan world at.tree n s.tray at.positive (inside-tree n at.within) e at.tray;
+    ready = test-ready plan world at.tree n s.tray at.positive (inside-tree n at.within) (own-lent n s.tray.lent at.tree at.positive at.lent) e at.tray;
     put = can-put-entered Test n s.results at.tree at.within at.results at.waits (ap not (neither (is_ended s.results n) (is_barred s.results n) at.waits).0);
   }
 
@@ -103,7 +106,7 @@ module _ (plan : Planned) (world : Start) where
       frames = frames-at (parent tr n) s.results at.results;
       well = at.well;
     };
-    ready = opening-ready plan world at.tree n s.tray at.positive (inside-tree n at.within) at.tray;
+    ready = opening-ready plan world at.tree n s.tray at.positive (inside-tree n at.within) (own-lent n s.tray.lent at.tree at.positive at.lent) at.tray;
     put =
         let u = at.results in
         let closed = unopened plan world s.results (tree-at s.results u.plan_is at.tree) (parent tr n) n (parent-at s.results n u.plan_is) at.positive u at.waits in
@@ -124,7 +127,7 @@ module _ (plan : Planned) (world : Start) where
           frames = frames-at n s.results at.results;
           well = at.entered.well;
         };
-        ready = closing-ready plan world t n s.tray pos (inside-tree n within) at.tray;
+        ready = closing-ready plan world t n s.tray pos (inside-tree n within) (own-lent n s.tray.lent t pos at.lent) at.tray;
         put = can-put-closed n s.results t pos within at.results;
       }
 
@@ -149,6 +152,7 @@ module _ (plan : Planned) (world : Start) where
       let within = within-at v n u.plan_is s.within in
       record {
         vault = subst (λ x. IsLentAlong plan world n x) (sym ve) s.vault;
+        lent = subst (λ (ls : List Bool). AreLentAlong plan n ls) (sym d.lent) s.lent;
         tray = tested-apart plan world t old.tray new.tray n s.tray d;
         results = subst (λ (x : ResultsView). AreResultsAlong plan world (parent tr n) x) (sym re)
             (put-test plan world v (tree-at v u.plan_is t) (parent tr n) n (parent-at v n u.plan_is) s.positive within (ap (λ (pl : Planned). is_test (row_at (tree_of pl) n).kind) u.plan_is ∙ test) u);
@@ -164,6 +168,7 @@ module _ (plan : Planned) (world : Start) where
       record {
         entered = record { tree = t; within = s.within; well = s.well };
         vault = subst (λ x. IsLentAlong plan world n x) (sym ve) s.vault;
+        lent = subst (λ (ls : List Bool). AreLentAlong plan n ls) (sym d.lent) s.lent;
         tray = opened-stands plan world t old.tray new.tray n (opened-by plan world n t s.positive (inside-tree n s.within) class s.well) s.tray d;
         results = subst (λ (x : ResultsView). AreResultsAlong plan world n x) (sym re)
             (put-opened plan world v (tree-at v u.plan_is t) (parent tr n) n (parent-at v n u.plan_is) s.positive (within-at v n u.plan_is s.within) u s.waits);
@@ -189,6 +194,7 @@ module _ (plan : Planned) (world : Start) where
       let inside = subst (λ (pl : Planned). (i : ℕ) → i < length (children (tree_of pl) n) → has_result v (slice_index_or (children (tree_of pl) n) i 0) ≡ true) (sym u.plan_is) all in
       record {
         vault = subst (λ x. IsLentAlong plan world n x) (sym ve) s.vault;
+        lent = subst (λ (ls : List Bool). AreLentAlong plan n ls) (sym d.lent) s.lent;
         tray = closed-apart plan world t old.tray new.tray n (opened-by plan world n t pos (inside-tree n e.within) class e.well) s.tray d;
         results = subst (λ (x : ResultsView). AreResultsAlong plan world (parent tr n) x) (sym re)
             (put-closed plan world v (tree-at v u.plan_is t) (parent tr n) n (parent-at v n u.plan_is) pos within u inside);

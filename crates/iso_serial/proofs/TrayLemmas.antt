@@ -10,18 +10,19 @@ use Rattle.iso_lifecycle.specs.declared.kind.BodyKind.TheVariants.{BeforeAll, Te
 use Rattle.iso_locks.proofs.NumberLemmas.{number-spells, number-within}
 use Rattle.iso_locks.specs.Moves.{is_written}
 use Rattle.iso_locks.specs.Slots.{slot}
-use Rattle.iso_locks.specs.Trays.{TrayView, content, has_at, has_value, is_lent, is_open, key_at, number_of, resources, seen, seen_at}
+use Rattle.iso_locks.specs.Trays.{TrayView, content, has_at, has_value, holds_read, is_lent, is_open, is_read, key_at, number_of, reads, resources, seen, seen_at}
 use Rattle.iso_locks.specs.Vaults.{IsLentTo, value_in}
 use Rattle.iso_model.specs.Agreement.{EqualAt}
 use Rattle.iso_model.specs.Resources.{Resources}
 use Rattle.iso_model.specs.Rights.{is_readable, is_writable}
 use Rattle.iso_model.specs.declared.access.Access.{Access}
+use Rattle.iso_model.specs.declared.access.Access.TheVariants.{Read, Write}
 use Rattle.iso_model.specs.Touch.{HasKeys, kind_of_value}
 use Rattle.iso_model.specs.declared.resource.Resource.{Resource}
 use Rattle.iso_plan.proofs.LawLemmas.{conflict-apart, covered, root-unreadable}
 use Rattle.iso_plan.proofs.PathLemmas.{under-le, under-self, under-step}
 use Rattle.iso_plan.specs.KeyTable.{keys}
-use Rattle.iso_plan.specs.Locks.{conflict, locks, taken}
+use Rattle.iso_plan.specs.Locks.{conflict, locking_node, locks, taken}
 use Rattle.iso_plan.specs.NodeChains.{node_rights}
 use Rattle.iso_plan.specs.Paths.{IsTree, is_test, is_under, parent, row_at}
 use Rattle.iso_plan.specs.Planned.{Planned}
@@ -29,7 +30,7 @@ use Rattle.iso_plan.specs.RowView.{tree_of}
 use Rattle.iso_plan.specs.Tree.{Row}
 use Rattle.iso_settings.specs.Worlds.{Start, starting_value_in}
 use Rattle.iso_store.specs.Histories.{History}
-use Rattle.iso_locks.proofs.KeyLemmas.{has-number, open-of, or-true, readable-of, written-conflict, written-is, written-within}
+use Rattle.iso_locks.proofs.KeyLemmas.{any-has, has-number, or-true, readable-of, written-conflict, written-is, written-within}
 use Rattle.iso_serial.proofs.OpeningLemmas.{IsOpened, opened-apart, opened-whole, opening-kind, opening-start}
 use Rattle.iso_serial.proofs.ResultLemmas.{above-parent, not-above, root-or-not, true-or-false}
 use Rattle.iso_serial.specs.OpenedTrays.{AreLentAlong, HoldsAlong, IsAsOpened, IsTrayAfter, IsWrittenOn, StandsApart, StandsAsOpened, held}
@@ -66,6 +67,11 @@ pub or-some-cases : (b : Bool) (o p : Option History) → is_some (option_or (co
 or-some-cases true (Some h) p e = inl refl
 or-some-cases true None p e = inr e
 or-some-cases false o p e = inr e
+
+read-alone : (a : Option Access) → is_readable a ≡ true → is_writable a ≡ false → is_read a ≡ true
+read-alone None r w = absurd (cc)
+read-alone (Some Read) r w = refl
+read-alone (Some Write) r w = absurd (cc)
 
 unreadable-locked : (a : Option Access) → is_readable a ≡ false → is_writable a ≡ false
 unreadable-locked a unread = elim (true-or-false (is_writable a)) [
@@ -169,19 +175,25 @@ module _ (plan : Planned) (world : Start) (t : IsTree (tree_of plan)) where
         | inr locked ↦ opening-start plan world (parent tr n) k (t.inner n pos) locked
       ]
 
+  -- what a lent node's locking node takes for READ alone is open
+  open-by : (u : TrayView) (n taker : ℕ) (k : List ℕ) → n < length tr → is_lent u.lent n ≡ true → locking_node tr n ≡ Some taker
+      → is_readable (taken tr taker k) ≡ true → is_writable (taken tr taker k) ≡ false → is_open tr u.lent k ≡ true
+  open-by u n taker k within lent locking r w =
+      any-has u.lent (holds_read tr k) (length tr) n within lent
+      (or-true (reads tr (Some n) k) (reads tr (locking_node tr n) k) (ap (λ (o : Option ℕ). reads tr o k) locking ∙ read-alone (taken tr taker k) r w))
+
   -- what a node may look at is there
-  covered-held : (u : TrayView) (n : ℕ) (k : List ℕ) → 0 < n → n < length tr → HoldsAlong plan world n u → is_readable (node_rights tr n k) ≡ true → is_some (held plan world u k) ≡ true
-  covered-held u n k pos within h r =
+  covered-held : (u : TrayView) (n : ℕ) (k : List ℕ) → 0 < n → n < length tr → is_lent u.lent n ≡ true → HoldsAlong plan world n u → is_readable (node_rights tr n k) ≡ true → is_some (held plan world u k) ≡ true
+  covered-held u n k pos within lent h r =
       let c = covered tr t n k pos within r in
       let num = has-number tr c.taker k c.reads in
-      let le = under-le tr t.below c.taker n c.above in
       elim (true-or-false (is_writable (taken tr c.taker k))) [
         | inl w ↦
             let writes : is_written (locks tr c.taker) num.number ≡ true = written-is tr c.taker num.number num.within ∙ ap (λ (j : List ℕ). is_writable (taken tr c.taker j)) num.key_is ∙ w in
             let s = held-of (slot u.values num.number) (h.there num.number (record { node = c.taker; above = c.above; writes = writes })) in
             ap is_some (held-some u k num.number s.value num.is s.is)
         | inr only ↦
-            let shown = open-of tr u.lent c.taker k (omega arith) (h.lent.along c.taker ∙ c.above) c.reads only in
+            let shown = open-by u n c.taker k within lent c.locks c.reads only in
             ap is_some (ap (seen_at tr world u.lent u.values k) num.is ∙ ap (λ (b : Bool). seen (slot u.values num.number) b (start k)) shown) ∙ seen-open (slot u.values num.number) (start k)
       ]
 
@@ -189,14 +201,14 @@ module _ (plan : Planned) (world : Start) (t : IsTree (tree_of plan)) where
   content-is u p h = ap₂ (λ (pl : Planned) (w : Start). resources (tree_of pl) w u.lent u.values) h.plan_is h.world_is
 
   -- a body of n finds its keys, as the opening of p has left them
-  pub tray-equal : (u : TrayView) (n p : ℕ) → 0 < n → n < length tr → StandsAsOpened plan world n p u → EqualAt (rights_of_subject (subject plan world n)) (content u) (left p)
-  tray-equal u n p pos within s = record {
-    same = λ k r. ap (λ (m : Resources). m k) (content-is u n s.holds) ∙ s.values k (covered-held u n k pos within s.holds r);
+  pub tray-equal : (u : TrayView) (n p : ℕ) → 0 < n → n < length tr → is_lent u.lent n ≡ true → StandsAsOpened plan world n p u → EqualAt (rights_of_subject (subject plan world n)) (content u) (left p)
+  tray-equal u n p pos within lent s = record {
+    same = λ k r. ap (λ (m : Resources). m k) (content-is u n s.holds) ∙ s.values k (covered-held u n k pos within lent s.holds r);
   }
 
-  pub tray-keys : (u : TrayView) (n p : ℕ) → 0 < n → n < length tr → StandsAsOpened plan world n p u → HasKeys (rights_of_subject (subject plan world n)) (content u) (has_value u)
-  tray-keys u n p pos within s = record {
-    looks = λ k r. ap (option_map kind_of_value) ((tray-equal u n p pos within s).same k r) ∙ opening-kind plan world p k;
+  pub tray-keys : (u : TrayView) (n p : ℕ) → 0 < n → n < length tr → is_lent u.lent n ≡ true → StandsAsOpened plan world n p u → HasKeys (rights_of_subject (subject plan world n)) (content u) (has_value u)
+  tray-keys u n p pos within lent s = record {
+    looks = λ k r. ap (option_map kind_of_value) ((tray-equal u n p pos within lent s).same k r) ∙ opening-kind plan world p k;
     changes = λ k w.
         let h = s.holds in
         let c = covered tr t n k pos within (readable-of (node_rights tr n k) w) in
@@ -263,7 +275,6 @@ module _ (plan : Planned) (world : Start) (t : IsTree (tree_of plan)) where
     lent-holds = record {
       plan_is = l.plan ∙ h.plan_is;
       world_is = l.world ∙ h.world_is;
-      lent = subst (λ (bs : List Bool). AreLentAlong plan n bs) (sym l.lent) (lent-more u.lent n pos within h.lent);
       there = there-by;
       only = only-by;
     }
@@ -299,7 +310,6 @@ module _ (plan : Planned) (world : Start) (t : IsTree (tree_of plan)) where
         record {
           plan_is = d.plan_is ∙ h.plan_is;
           world_is = d.world_is ∙ h.world_is;
-          lent = subst (λ (bs : List Bool). AreLentAlong plan n bs) (sym d.lent) h.lent;
           there = λ i on. let x = held-of (slot u.values i) (h.there i on) in ap is_some (d.onward.later i x.value x.is).there;
           only = λ i s. elim (some-or-none (slot u.values i)) [
             | inl x ↦ h.only i (ap is_some x.is)

@@ -16,7 +16,7 @@ use Rattle.iso_plan.specs.Tree.{Row}
 use Rattle.iso_settings.specs.Worlds.{Start, starting_value_in}
 use Rattle.iso_serial.proofs.ResultLemmas.{and-parts, not-above, true-or-false}
 use Rattle.iso_serial.proofs.TrayLemmas.{lent-less, lent-more, no-conflict}
-use Rattle.iso_serial.specs.OpenedTrays.{HoldsAlong}
+use Rattle.iso_serial.specs.OpenedTrays.{AreLentAlong, HoldsAlong}
 use Rattle.iso_serial.specs.Walks.{IsLentAlong}
 
 lowest-no : (test : ℕ → Bool) (n : ℕ) → ((m : ℕ) → m < n → test m ≡ false) → lowest test n ≡ None
@@ -65,16 +65,16 @@ module _ (plan : Planned) (world : Start) (t : IsTree (tree_of plan)) where
         | inr out ↦ out
       ])
 
-  pub can-lend : (v : VaultView) (u : TrayView) (n : ℕ) → 0 < n → n < length plan.rows → IsLentAlong plan world (parent tr n) v → HoldsAlong plan world (parent tr n) u → CanLend n v u
-  can-lend v u n pos within a h =
+  pub can-lend : (v : VaultView) (u : TrayView) (n : ℕ) → 0 < n → n < length plan.rows → IsLentAlong plan world (parent tr n) v → HoldsAlong plan world (parent tr n) u → AreLentAlong plan (parent tr n) u.lent → CanLend n v u
+  can-lend v u n pos within a h l =
       let rows : length v.plan.rows ≡ length plan.rows = ap (λ (pl : Planned). length pl.rows) a.plan_is in
       record {
         node = omega arith;
         plan = h.plan_is ∙ sym a.plan_is;
         world = h.world_is ∙ sym a.world_is;
         free = a.lent.along n ∙ not-above tr t.below n pos;
-        apart = h.lent.along n ∙ not-above tr t.below n pos;
-        beside = λ unused m l. subst (λ (pl : Planned). clash (tree_of pl) m n ≡ false) (sym h.plan_is) (no-clash-above m n pos (sym (h.lent.along m) ∙ l));
+        apart = l.along n ∙ not-above tr t.below n pos;
+        beside = λ unused m given. subst (λ (pl : Planned). clash (tree_of pl) m n ≡ false) (sym h.plan_is) (no-clash-above m n pos (sym (l.along m) ∙ given));
       }
 
   pub vault-lent : (v : VaultView) (n : ℕ) → 0 < n → n < length plan.rows → IsLentAlong plan world (parent tr n) v → IsLentAlong plan world n (lending n v)
@@ -83,9 +83,9 @@ module _ (plan : Planned) (world : Start) (t : IsTree (tree_of plan)) where
   pub vault-back : (v : VaultView) (n : ℕ) → 0 < n → n < length plan.rows → IsLentAlong plan world n v → IsLentAlong plan world (parent tr n) (regaining n v)
   vault-back v n pos within a = record { plan_is = a.plan_is; world_is = a.world_is; lent = lent-less plan world t v.lent n pos within a.lent }
 
-  pub can-take-back : (v : VaultView) (u : TrayView) (n : ℕ) → 0 < n → n < length plan.rows → IsLentAlong plan world n v → HoldsAlong plan world n u
+  pub can-take-back : (v : VaultView) (u : TrayView) (n : ℕ) → 0 < n → n < length plan.rows → IsLentAlong plan world n v → HoldsAlong plan world n u → is_lent u.lent n ≡ true
       → ((i : ℕ) → is_written (locks tr n) i ≡ true → value_in u.values i ≡ Some (starting_value_in world (key_at tr i))) → CanTakeBack n v u
-  can-take-back v u n pos within a h at_start =
+  can-take-back v u n pos within a h l at_start =
       let rows : length v.plan.rows ≡ length plan.rows = ap (λ (pl : Planned). length pl.rows) a.plan_is in
       let self = under-self tr t.below n pos in
       record {
@@ -93,7 +93,7 @@ module _ (plan : Planned) (world : Start) (t : IsTree (tree_of plan)) where
         plan = h.plan_is ∙ sym a.plan_is;
         world = h.world_is ∙ sym a.world_is;
         lent = a.lent.along n ∙ self;
-        holds = h.lent.along n ∙ self;
+        holds = l;
         at_start = λ i less e.
             at_start i (ap (λ (pl : Planned). is_written (locks (tree_of pl) n) i) (sym a.plan_is) ∙ e)
             ∙ ap₂ (λ (x : Start) (pl : Planned). Some (starting_value_in x (key_at (tree_of pl) i))) (sym h.world_is) (sym h.plan_is);

@@ -1,4 +1,4 @@
--- A tray alone, as the nodes on one path are lent to it: which values it holds, and which opening left them.
+-- A tray alone, beside the nodes on one path: which of their values it has, and which opening left what it holds.
 -- Nothing here speaks of vault, results or frames.
 use Rattle.std.specs.Prelude.{◌≡◌, ℕ, List, Bool, true, false, length, is_some}
 use Rattle.iso_lifecycle.specs.Subjects.{opening_of, rights_of_subject, subject}
@@ -27,11 +27,10 @@ pub record AreLentAlong (plan : Planned) (p : ℕ) (lent : List Bool) : Type 0 w
   pub fits : length lent ≡ length plan.rows
   pub along : (m : ℕ) → is_lent lent m ≡ is_under (tree_of plan) m p
 
--- so in a tray, which holds the values that these nodes take for READ_WRITE, and no other
+-- a tray has the values that the nodes on the path of p take for READ_WRITE, and no other
 pub record HoldsAlong (plan : Planned) (world : Start) (p : ℕ) (t : TrayView) : Type 0 where
   pub plan_is : t.plan ≡ plan
   pub world_is : t.world ≡ world
-  pub lent : AreLentAlong plan p t.lent
   pub there : (i : ℕ) → IsWrittenOn (tree_of plan) p i → is_some (slot t.values i) ≡ true
   pub only : (i : ℕ) → is_some (slot t.values i) ≡ true → IsWrittenOn (tree_of plan) p i
 
@@ -50,12 +49,12 @@ IsAsOpenedApart plan world p n t =
     (k : List ℕ) → is_writable (rights_of_subject (subject plan world n) k) ≡ false → is_some (held plan world t k) ≡ true
     → held plan world t k ≡ (opening_of (subject plan world p)).resources k
 
--- the nodes on the path of n are lent to a tray, and all stands as the opening of p has left it: of n, or of its parent
+-- a tray has what the nodes on the path of n take for READ_WRITE, and all stands as the opening of p has left it: of n, or of its parent
 pub record StandsAsOpened (plan : Planned) (world : Start) (n p : ℕ) (t : TrayView) : Type 0 where
   pub holds : HoldsAlong plan world n t
   pub values : IsAsOpened plan world p t
 
--- the nodes on the path of n are lent to a tray, and what n may not change stands as its parent's opening has left it
+-- a tray has what the nodes on the path of n take for READ_WRITE, and what n may not change stands as its parent's opening has left it
 pub record StandsApart (plan : Planned) (world : Start) (n : ℕ) (t : TrayView) : Type 0 where
   pub holds : HoldsAlong plan world n t
   pub values : IsAsOpenedApart plan world (parent (tree_of plan) n) n t

@@ -45,6 +45,7 @@ pub record IsEntered (plan : Planned) (world : Start) (p : ℕ) : Type 0 where
 pub record BetweenNodes (plan : Planned) (world : Start) (p : ℕ) (w : Walk) : Type 0 where
   pub entered : IsEntered plan world p
   pub vault : IsLentAlong plan world p w.vault
+  pub lent : AreLentAlong plan p w.tray.lent
   pub tray : StandsAsOpened plan world p p w.tray
   pub results : AreResultsAlong plan world p w.results
 
@@ -55,6 +56,7 @@ pub record AtEntry (plan : Planned) (world : Start) (n : ℕ) (w : Walk) : Type 
   pub within : n < length plan.rows
   pub well : (opening_of (subject plan world (parent (tree_of plan) n))).well ≡ true
   pub vault : IsLentAlong plan world n w.vault
+  pub lent : AreLentAlong plan n w.tray.lent
   pub tray : StandsAsOpened plan world n (parent (tree_of plan) n) w.tray
   pub results : AreResultsAlong plan world (parent (tree_of plan) n) w.results
   pub waits : has_result w.results n ≡ false
@@ -62,6 +64,7 @@ pub record AtEntry (plan : Planned) (world : Start) (n : ℕ) (w : Walk) : Type 
 -- n is lent still, and has its result
 pub record AtExit (plan : Planned) (world : Start) (n : ℕ) (w : Walk) : Type 0 where
   pub vault : IsLentAlong plan world n w.vault
+  pub lent : AreLentAlong plan n w.tray.lent
   pub tray : StandsApart plan world n w.tray
   pub results : AreResultsAlong plan world (parent (tree_of plan) n) w.results
   pub done : has_result w.results n ≡ true
