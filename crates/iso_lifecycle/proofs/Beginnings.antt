@@ -22,7 +22,7 @@ use Rattle.iso_model.specs.declared.place.Lifecycle.TheVariants as L
 use Rattle.iso_plan.specs.NodeChains.{chain_test}
 use Rattle.iso_plan.specs.RowView.{tree_of}
 use Rattle.iso_lifecycle.specs.BodyRuns.{rights_of}
-use Rattle.iso_lifecycle.specs.BodyViews.{kind_of_body, stage_of_body, subject_of}
+use Rattle.iso_lifecycle.specs.BodyViews.{Stands, kind_of_body, stage_of_body, subject_of}
 use Rattle.iso_lifecycle.specs.Heads.{heads_in}
 use Rattle.iso_lifecycle.specs.JobPlaces.{head_at, outside}
 use Rattle.iso_lifecycle.specs.Origins.{HasCome, HasLeft}
@@ -30,6 +30,7 @@ use Rattle.iso_lifecycle.specs.Subjects.{Subject, begun, begun_closing, begun_op
 use Rattle.iso_lifecycle.specs.declared.body.Body.{Body}
 use Rattle.iso_lifecycle.specs.declared.kind.BodyKind.{BodyKind}
 use Rattle.iso_lifecycle.specs.declared.kind.BodyKind.TheVariants.{BeforeAll, Test, AfterAll}
+use Rattle.iso_lifecycle.proofs.Comings.{comes}
 use Rattle.iso_lifecycle.proofs.JobLemmas.{outside-all, outside-more}
 
 -- the last of the classes, outermost first, is the innermost
@@ -81,13 +82,15 @@ steps-on kind s n now next m k stage same stepped =
     subst (λ (g : Going). AlikeGoing r g (reached kind s (suc n))) (sym stepped) (body-step-alike r (going now m) (reached kind s n) alike)
 
 -- a step more of a body that stands where so many steps of it alone have left it
-pub step-stands : (b : Body) (n : ℕ) (next : Stage) (m k : Resources) → stage_of_body b ≡ (reached (kind_of_body b) (subject_of b) n).stage
-    → EqualAt (rights_of_subject (subject_of b)) m (reached (kind_of_body b) (subject_of b) n).resources
-    → going next k ≡ body_step (rights_of b.run) (going (stage_of_body b) m)
-    → AlikeGoing (rights_of_subject (subject_of b)) (going next k) (reached (kind_of_body b) (subject_of b) (suc n))
-step-stands b n next m k stage same stepped =
+pub step-stands : (b : Body) (next : Stage) (m k : Resources) (stands : Stands b m) → going next k ≡ body_step (rights_of b.run) (going (stage_of_body b) m)
+    → AlikeGoing (rights_of_subject (subject_of b)) (going next k) (reached (kind_of_body b) (subject_of b) (suc stands.steps))
+step-stands b next m k stands stepped =
     let rights : rights_of b.run ≡ rights_of_subject (subject_of b) = λ i q. b.rights q i in
-    steps-on (kind_of_body b) (subject_of b) n (stage_of_body b) next m k stage same (stepped ∙ (λ i. body_step (rights i) (going (stage_of_body b) m)))
+    steps-on (kind_of_body b) (subject_of b) stands.steps (stage_of_body b) next m k stands.stage stands.resources (stepped ∙ (λ i. body_step (rights i) (going (stage_of_body b) m)))
+
+-- and what it has come to, if that was its last step
+pub step-comes : (b : Body) (next : Stage) (m k : Resources) → Stands b m → going next k ≡ body_step (rights_of b.run) (going (stage_of_body b) m) → HasCome (kind_of_body b) (subject_of b) next
+step-comes b next m k stands stepped = comes (kind_of_body b) (subject_of b) (suc stands.steps) next (step-stands b next m k stands stepped).stage
 
 -- a body that hasn't ended owes nothing
 pub owes-come : (kind : BodyKind) (s : Subject) (stage : Stage) → is_ended stage ≡ false → HasCome kind s stage

@@ -12,9 +12,10 @@ use Rattle.iso_plan.specs.Planned.{Planned}
 use Rattle.iso_plan.specs.RowView.{tree_of}
 use Rattle.iso_plan.specs.Tree.{Kind, root, class_node, test_node, Row}
 use Rattle.iso_settings.specs.Worlds.{Start}
-use Rattle.iso_lifecycle.specs.Subjects.{IsOfClass, Subject, classes_of, enclosing, frames_of, is_kind_of, opening_of, own_frame, started, subject}
-use Rattle.iso_lifecycle.specs.declared.kind.BodyKind.TheVariants.{BeforeAll}
-use Rattle.iso_lifecycle.proofs.Comings.{InClass, frames-are, in-class}
+use Rattle.iso_lifecycle.specs.Subjects.{IsOfClass, Subject, classes_of, enclosing, framed, frames_of, is_kind_of, opened_before, opening_of, own_frame, started, subject}
+use Rattle.iso_lifecycle.specs.declared.kind.BodyKind.{BodyKind}
+use Rattle.iso_lifecycle.specs.declared.kind.BodyKind.TheVariants.{BeforeAll, Test, AfterAll}
+use Rattle.iso_lifecycle.proofs.Comings.{InClass, closes-class, frames-are, in-class, in-test, node_kind}
 
 -- the laws of a plan's paths and chains
 pub record Leads (tree : List Row) : Type 0 where
@@ -125,6 +126,15 @@ frames-with-own s frames l pos class are all well =
     turned p s.start (s.node ∷ ks) frames there
     ∙ ap (λ (fs : List Frame). own_frame s ∷ fs) (sym (along p s.start l up ks refl classes.1 well))
     ∙ sym (frames-are s (l.grows s.node pos) class well)
+
+-- the frames that a body of a kind begins with
+pub frames-before : (kind : BodyKind) (s : Subject) (frames : List Subject) → Leads (tree_of s.plan) → 0 < s.node → is_kind_of kind (node_kind s) ≡ true
+    → frames ≡ map (subject s.plan s.start) (framed kind s) → All IsOfClass frames → (opening_of (enclosing s)).well ≡ true → frames_of frames ≡ (opened_before kind s).frames
+frames-before BeforeAll s frames l pos fits are all well = frames-along s.plan s.start (parent (tree_of s.plan) s.node) frames l are all well
+frames-before Test s frames l pos fits are all well =
+    frames-along s.plan s.start (parent (tree_of s.plan) s.node) frames l are all well
+    ∙ ap (λ (ds : List ClassHead). (opening ds (started s.start)).frames) (sym (in-test s (l.grows s.node pos) fits).chain)
+frames-before AfterAll s frames l pos fits are all well = frames-with-own s frames l pos (closes-class (node_kind s) fits) are all well
 
 one_head : (k : Kind) (cs : List ClassHead) → is_kind_of BeforeAll k ≡ true → length (class_heads k ++ cs) ≡ suc (length cs)
 one_head root cs fits = absurd (true≢false (sym fits))

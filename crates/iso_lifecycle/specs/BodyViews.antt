@@ -7,7 +7,7 @@ use Rattle.iso_lifecycle.specs.BodyRuns.{rights_of, stage_of}
 use Rattle.iso_lifecycle.specs.OriginViews.{kind_of_origin, subject_of_origin}
 use Rattle.iso_lifecycle.specs.Origins.{HasCome, HasLeft, HasRights, outer_names}
 use Rattle.iso_lifecycle.specs.Subjects.{Subject, begun, reached, rights_of_subject}
-use Rattle.iso_lifecycle.specs.declared.body.Beginning.{Beginning}
+use Rattle.iso_lifecycle.specs.declared.beginning.Beginning.{Beginning}
 use Rattle.iso_lifecycle.specs.declared.body.Body.{Body}
 use Rattle.iso_lifecycle.specs.declared.kind.BodyKind.{BodyKind}
 use Rattle.iso_lifecycle.specs.declared.origin.Origin.{Origin}

@@ -101,6 +101,12 @@ abbrev pub begun_testing : Option TestHead → List ClassHead → Opening → Go
 begun_testing None cs o = going (ended (fresh_account [])) o.resources
 begun_testing (Some t) cs o = going (test_stage t cs o.frames) o.resources
 
+-- what the openings before a body left
+abbrev pub opened_before : BodyKind → Subject → Opening
+opened_before BeforeAll s = opening_of (enclosing s)
+opened_before Test s = opening_of s
+opened_before AfterAll s = opening_of s
+
 -- a body at its beginning, on what the openings before it left
 abbrev pub begun : BodyKind → Subject → Going
 begun BeforeAll s = begun_opening (classes_of s) (opening_of (enclosing s))

@@ -3,24 +3,22 @@ ghost use Rattle.std.specs.Prelude.{◌≡◌, IfOk, OnErr, OnOk, true, false};
 ghost use Rattle.iso_model.specs.Bodies.{body_step, going, is_ended};
 ghost use Rattle.iso_model.specs.Touch.{HasKeys};
 ghost use Rattle.iso_lifecycle.specs.BodyRuns.{rights_of, stage_of};
-ghost use Rattle.iso_lifecycle.specs.OriginViews.{AreFrames, kind_of_origin, subject_of_origin};
+ghost use Rattle.iso_lifecycle.specs.OriginViews.{kind_of_origin, subject_of_origin};
 ghost use Rattle.iso_lifecycle.specs.Origins.{HasCome, HasCome-prop, HasLeft, HasLeft-prop, HasRights, HasRights-prop, outer_names};
 ghost use Rattle.iso_lifecycle.specs.Subjects.{begun, rights_of_subject, subject};
 ghost use Rattle.iso_lifecycle.specs.WholeBodies.{CanBegin, IsAfterBody};
 
+use crate::beginning::Beginning;
 use crate::body_run::BodyRun;
 use crate::done::{Closed, Done, Opened, What};
-use crate::frame::{Frame, are_of_classes};
+use crate::frame::Frame;
 use crate::gate::Gate;
 use crate::kind::BodyKind;
-use crate::names::{add_variables, statics_of, test_names};
 use crate::origin::Origin;
 use crate::verdict::{first_ending, verdict};
-use iso_model::names::Sort;
 use iso_model::outcome::Outcome;
-use iso_model::place::{BlockName, Lifecycle};
 use iso_model::touch::Touch;
-use iso_plan::laws::{chains_grow_down, paths_lead_up};
+use iso_plan::laws::chains_grow_down;
 use iso_plan::plan::Plan;
 use iso_settings::world::World;
 use std::alloc::{AllocError, Global};
@@ -41,16 +39,8 @@ pub struct Body<'a> {
     ghost left: { HasLeft (kind_of_origin origin) (subject_of_origin origin) (stage_of run) frame } by { HasLeft-prop (kind_of_origin origin) (subject_of_origin origin) (stage_of run) frame },
 }
 
-/// What a body begins with: its run, how many of its names are of the enclosing classes, and the frame that an empty `before_all` leaves.
-#[derive(Drop)]
-struct Beginning<'a> {
-    run: BodyRun<'a>,
-    outer: usize,
-    frame: Option<Frame>,
-}
-
 impl<'a> Body<'a> {
-    ghost use Rattle.iso_lifecycle.specs.BodyViews.{IsBeginning, Stands, kind_of_body, stage_of_body, subject_of};
+    ghost use Rattle.iso_lifecycle.specs.BodyViews.{Stands, kind_of_body, stage_of_body, subject_of};
 
     /// A body at its beginning, with the frames of the classes that its node stands in, outermost first, and for an `after_all`
     /// its own.
@@ -73,7 +63,7 @@ impl<'a> Body<'a> {
             node,
             kind,
         };
-        let Beginning { run, outer, frame } = Body::beginning(alloc, &origin, frames)?;
+        let Beginning { run, outer, frame } = origin.beginning(alloc, frames)?;
         Ok(Body {
             alloc,
             origin,
@@ -81,108 +71,6 @@ impl<'a> Body<'a> {
             outer,
             frame,
         })
-    }
-
-    /// What a body of its kind begins with.
-    fn beginning(
-        alloc: Global,
-        origin: &Origin<'a>,
-        frames: &[Frame],
-    ) -> Result<Beginning<'a>, AllocError>
-        requires { AreFrames origin.now frames.now }
-        ensures { IfOk result (IsBeginning origin.now) }
-    {
-        match origin.kind {
-            BodyKind::BeforeAll => Body::opening(alloc, origin, frames),
-            BodyKind::Test => Body::testing(alloc, origin, frames),
-            BodyKind::AfterAll => Body::closing(alloc, origin, frames),
-        }
-    }
-
-    /// The `before_all` of a class.
-    fn opening(
-        alloc: Global,
-        origin: &Origin<'a>,
-        frames: &[Frame],
-    ) -> Result<Beginning<'a>, AllocError>
-        requires kind { kind_of_origin origin.now ≡ BodyKind.BeforeAll }
-        requires frames { AreFrames origin.now frames.now }
-        ensures { IfOk result (IsBeginning origin.now) }
-    {
-        are_of_classes(frames);
-        paths_lead_up(origin.plan);
-        chains_grow_down(origin.plan);
-        let (class, depth) = origin.class();
-        let mut names = statics_of(alloc, frames)?;
-        let outer = names.len();
-        add_variables(alloc, &mut names, &class.statics, Sort::Static)?;
-        let words = BlockName::Class(depth, Lifecycle::BeforeAll);
-        let run = BodyRun::of_block(alloc, &class.before_all, words, names, origin.rights())?;
-        Body::with_frame(alloc, origin, run, outer)
-    }
-
-    /// A whole test.
-    fn testing(
-        alloc: Global,
-        origin: &Origin<'a>,
-        frames: &[Frame],
-    ) -> Result<Beginning<'a>, AllocError>
-        requires kind { kind_of_origin origin.now ≡ BodyKind.Test }
-        requires frames { AreFrames origin.now frames.now }
-        ensures { IfOk result (IsBeginning origin.now) }
-    {
-        are_of_classes(frames);
-        paths_lead_up(origin.plan);
-        chains_grow_down(origin.plan);
-        let chain = origin.plan.chain(origin.node);
-        let Some(test) = chain.test else {
-            unreachable!();
-        };
-        let names = test_names(alloc, chain.classes, frames)?;
-        let run = BodyRun::of_test(alloc, chain.classes, test, names, origin.rights())?;
-        Body::with_frame(alloc, origin, run, 0)
-    }
-
-    /// The `after_all` of a class.
-    fn closing(
-        alloc: Global,
-        origin: &Origin<'a>,
-        frames: &[Frame],
-    ) -> Result<Beginning<'a>, AllocError>
-        requires kind { kind_of_origin origin.now ≡ BodyKind.AfterAll }
-        requires frames { AreFrames origin.now frames.now }
-        ensures { IfOk result (IsBeginning origin.now) }
-    {
-        are_of_classes(frames);
-        paths_lead_up(origin.plan);
-        chains_grow_down(origin.plan);
-        let (class, depth) = origin.class();
-        let names = statics_of(alloc, frames)?;
-        let words = BlockName::Class(depth, Lifecycle::AfterAll);
-        let run = BodyRun::of_block(alloc, &class.after_all, words, names, origin.rights())?;
-        Body::with_frame(alloc, origin, run, 0)
-    }
-
-    /// What a body begins with whose run is at its beginning, with so many names of the enclosing classes.
-    fn with_frame(
-        alloc: Global,
-        origin: &Origin<'a>,
-        run: BodyRun<'a>,
-        outer: usize,
-    ) -> Result<Beginning<'a>, AllocError>
-        requires outer { outer ≡ outer_names (kind_of_origin origin.now) (subject_of_origin origin.now) }
-        requires rights { HasRights (subject_of_origin origin.now) (rights_of run) }
-        requires begun { stage_of run ≡ (begun (kind_of_origin origin.now) (subject_of_origin origin.now)).stage }
-        ensures { IfOk result (IsBeginning origin.now) }
-    {
-        match origin.frame(alloc, &run, outer) {
-            Ok(frame) => Ok(Beginning { run, outer, frame }),
-            Err(error) => {
-                // A call drops the run: its parts then stand in the proof of that call alone.
-                drop(run);
-                Err(error)
-            }
-        }
     }
 
     /// Does the first piece that is left, on what the body's last step left, and at first on what the openings before it left, at the

@@ -1,6 +1,7 @@
 //! The bodies of classes and tests: what one worker does between entering a node and leaving it.
 #![tactic(auto)]
 
+mod beginning;
 mod blocks;
 pub mod body;
 mod body_run;

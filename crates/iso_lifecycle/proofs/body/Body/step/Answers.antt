@@ -2,10 +2,8 @@ use Rattle.std.proofs.Common.{◌≡◌, suc, ap, ◌∙◌, false, sym}
 use Rattle.iso_model.specs.Bodies.{is_ended}
 use Rattle.iso_model.specs.Rights.{Rights}
 use Rattle.iso_lifecycle.specs.BodyRuns.{stage_of}
-use Rattle.iso_lifecycle.specs.BodyViews.{subject_of}
 use Rattle.iso_lifecycle.specs.OriginViews.{subject_of_origin}
-use Rattle.iso_lifecycle.proofs.Beginnings.{owes-come, owes-left, step-stands}
-use Rattle.iso_lifecycle.proofs.Comings.{comes}
+use Rattle.iso_lifecycle.proofs.Beginnings.{owes-come, owes-left, step-comes, step-stands}
 use Rattle.iso_lifecycle.proofs.body.Body.step.Goals as goal
 
 pub invariant_of-self : goal.invariant_of-self
@@ -36,31 +34,23 @@ invariant_of-self-then-not-is_ended g c =
 
 pub returns-then-not-is_ended-clause-stands : goal.returns-then-not-is_ended-clause-stands
 returns-then-not-is_ended-clause-stands g c =
-    let n = c.requires.stands.steps in
     let content = g.T.Touch.content in
-    let alike = step-stands c.args.self.now n (stage_of c.step.new.self) (content c.args.touch.now) (content c.step.new.touch) c.requires.stands.stage c.requires.stands.resources c.in_ok-step.ensures.step in
-    record { steps = suc n; stage = alike.stage; resources = alike.resources }
+    let alike = step-stands c.args.self.now (stage_of c.step.new.self) (content c.args.touch.now) (content c.step.new.touch) c.requires.stands c.in_ok-step.ensures.step in
+    record { steps = suc c.requires.stands.steps; stage = alike.stage; resources = alike.resources }
 
 pub frame-requires-clause-come : goal.frame-requires-clause-come
 frame-requires-clause-come g c =
-    let b = c.args.self.now in
-    let n = c.requires.stands.steps in
     let content = g.T.Touch.content in
-    let next = stage_of c.step.new.self in
-    let alike = step-stands b n next (content c.args.touch.now) (content c.step.new.touch) c.requires.stands.stage c.requires.stands.resources c.in_ok-step.ensures.step in
-    comes b.origin.kind (subject_of b) (suc n) next alike.stage
+    step-comes c.args.self.now (stage_of c.step.new.self) (content c.args.touch.now) (content c.step.new.touch) c.requires.stands c.in_ok-step.ensures.step
 
 pub invariant_of-self-in-Ok : goal.invariant_of-self-in-Ok
 invariant_of-self-in-Ok g c =
     let b = c.args.self.now in
-    let n = c.requires.stands.steps in
     let content = g.T.Touch.content in
-    let next = stage_of c.step.new.self in
-    let alike = step-stands b n next (content c.args.touch.now) (content c.step.new.touch) c.requires.stands.stage c.requires.stands.resources c.in_ok-step.ensures.step in
     record {
       outer_is = b.outer_is;
       rights = λ q. ap (λ (r : Rights). r q) c.step.ensures.rights ∙ b.rights q;
-      come = comes b.origin.kind (subject_of b) (suc n) next alike.stage;
+      come = step-comes b (stage_of c.step.new.self) (content c.args.touch.now) (content c.step.new.touch) c.requires.stands c.in_ok-step.ensures.step;
       left = c.in-Ok.ensures;
     }
 
@@ -78,7 +68,6 @@ invariant_of-self-in-Err g c =
 
 pub returns-in-Ok-clause-stands : goal.returns-in-Ok-clause-stands
 returns-in-Ok-clause-stands g c =
-    let n = c.requires.stands.steps in
     let content = g.T.Touch.content in
-    let alike = step-stands c.args.self.now n (stage_of c.step.new.self) (content c.args.touch.now) (content c.step.new.touch) c.requires.stands.stage c.requires.stands.resources c.in_ok-step.ensures.step in
-    record { steps = suc n; stage = alike.stage; resources = alike.resources }
+    let alike = step-stands c.args.self.now (stage_of c.step.new.self) (content c.args.touch.now) (content c.step.new.touch) c.requires.stands c.in_ok-step.ensures.step in
+    record { steps = suc c.requires.stands.steps; stage = alike.stage; resources = alike.resources }

@@ -1,24 +1,21 @@
-use Rattle.std.proofs.Common.{◌≡◌, ◌++◌, length, map, true, ap, sym, ◌∙◌, subst, arith}
+use Rattle.std.proofs.Common.{◌≡◌, ◌++◌, length, true, ap, sym, ◌∙◌, subst, arith}
 use Rattle.iso_model.specs.Names.{at_literals}
 use Rattle.iso_model.specs.Openings.{statics_of}
 use Rattle.iso_model.specs.Rights.{Rights}
 use Rattle.iso_model.specs.ScriptView.{class_head_of}
 use Rattle.iso_model.specs.SyntaxView.{block_of}
 use Rattle.iso_model.specs.declared.names.Sort.TheVariants.{Static}
-use Rattle.iso_plan.specs.Paths.{parent}
-use Rattle.iso_plan.specs.RowView.{tree_of}
 use Rattle.iso_lifecycle.specs.OriginViews.{subject_of_origin}
 use Rattle.iso_lifecycle.specs.Origins.{outer_names}
-use Rattle.iso_lifecycle.specs.Subjects.{begun, classes_of, enclosing, framed, is_kind_of, subject}
+use Rattle.iso_lifecycle.specs.Subjects.{begun, classes_of, enclosing, is_kind_of, opened_before}
 use Rattle.iso_lifecycle.specs.declared.kind.BodyKind.{BodyKind}
 use Rattle.iso_lifecycle.proofs.Beginnings.{opening-begins}
 use Rattle.iso_lifecycle.proofs.Comings.{node_kind}
-use Rattle.iso_lifecycle.proofs.Framing.{Leads, frames-along}
-use Rattle.iso_lifecycle.proofs.body.Body.opening.Goals as goal
+use Rattle.iso_lifecycle.proofs.origin.Origin.opening.Goals as goal
 
 pub class-depth-requires : goal.class-depth-requires
 class-depth-requires c =
-    let o = c.args.origin.now in
+    let o = c.args.self.now in
     subst (λ (k : BodyKind). is_kind_of k (node_kind (subject_of_origin o)) ≡ true) c.requires.kind o.fits
 
 pub with_frame-requires-clause-rights : goal.with_frame-requires-clause-rights
@@ -26,30 +23,19 @@ with_frame-requires-clause-rights c = λ k. ap (λ (r : Rights). r k) (c.in_ok-r
 
 pub with_frame-requires-clause-outer : goal.with_frame-requires-clause-outer
 with_frame-requires-clause-outer c =
-    let o = c.args.origin.now in
-    let s = subject_of_origin o in
-    let tree = tree_of s.plan in
-    let leads : Leads tree = record { root = c.paths_lead_up.ensures.root; step = c.paths_lead_up.ensures.step; grows = c.chains_grow_down.ensures } in
-    let are = c.requires.frames ∙ ap (λ (k : BodyKind). map (subject s.plan s.start) (framed k s)) c.requires.kind in
-    let frames = frames-along s.plan s.start (parent tree s.node) c.args.frames.now leads are c.are_of_classes.ensures o.enclosed in
+    let s = subject_of_origin c.args.self.now in
     let count : c.len-outer.result ≡ length c.in_ok-names.names.items = omega (arith, c.in_ok-names.names.ok.0) in
-    count ∙ ap length (c.in_ok-names.ensures ∙ ap statics_of frames) ∙ ap (λ (k : BodyKind). outer_names k s) (sym c.requires.kind)
+    count ∙ ap length c.in_ok-names.ensures ∙ ap (λ (k : BodyKind). length (statics_of (opened_before k s).frames)) c.requires.kind ∙ ap (λ (k : BodyKind). outer_names k s) (sym c.requires.kind)
 
 pub with_frame-requires-clause-begun : goal.with_frame-requires-clause-begun
 with_frame-requires-clause-begun c =
-    let o = c.args.origin.now in
-    let s = subject_of_origin o in
-    let tree = tree_of s.plan in
-    let leads : Leads tree = record { root = c.paths_lead_up.ensures.root; step = c.paths_lead_up.ensures.step; grows = c.chains_grow_down.ensures } in
-    let are = c.requires.frames ∙ ap (λ (k : BodyKind). map (subject s.plan s.start) (framed k s)) c.requires.kind in
-    let frames = frames-along s.plan s.start (parent tree s.node) c.args.frames.now leads are c.are_of_classes.ensures o.enclosed in
+    let s = subject_of_origin c.args.self.now in
     let chain = c.class-depth.ensures.class in
     let count = c.class-depth.ensures.depth ∙ ap length chain in
     let block = ap block_of c.deref-2.ensures.value in
     let fields = ap (at_literals Static) c.deref.ensures.value in
-    let before = c.in_ok-names.ensures ∙ ap statics_of frames in
-    let added = c.in_ok-add_variables.ensures ∙ (λ i. before i ++ fields i) in
-    let names = added in
+    let before = c.in_ok-names.ensures ∙ ap (λ (k : BodyKind). statics_of (opened_before k s).frames) c.requires.kind in
+    let names = c.in_ok-add_variables.ensures ∙ (λ i. before i ++ fields i) in
     c.in_ok-run.ensures.stage
     ∙ opening-begins s (class_head_of c.class-depth.result.0.now) (classes_of (enclosing s)) c.class-depth.result.1 (block_of c.deref-2.result.now) c.add_variables.new.names.items chain count block names
     ∙ ap (λ (k : BodyKind). (begun k s).stage) (sym c.requires.kind)
