@@ -6,7 +6,7 @@ use Rattle.iso_standing.specs.Phases.{bare, phase_of}
 use Rattle.iso_suites.specs.PlanSuites.{head_of}
 use Rattle.iso_suites.specs.ScriptLanguage.{is_of_test, scripts}
 use Rattle.iso_suites.specs.SuiteStates.{RunState}
-use Rattle.iso_standing.specs.Standings.{HasBody, IsStanding, LooksLike, Standing, after_in, is_inside, node_of, nodes_in, phase_at, phase_under, suite_in, workers_in}
+use Rattle.iso_standing.specs.Standings.{EndsWellAs, HasBody, IsStanding, LooksLike, Standing, after_in, is_inside, node_of, nodes_in, phase_at, phase_under, suite_in, workers_in}
 use Rattle.iso_standing.specs.declared.phase.Phase.{Phase}
 use Rattle.iso_standing.specs.declared.phase.Phase.TheVariants as P
 use Rattle.iso_standing.proofs.Looks.{waiting-at}
@@ -60,13 +60,13 @@ or-last true b e = absurd (cc)
 or-last false b e = e
 
 -- what every Leave knows of the node of its worker's body
-pub record NodeLeft (v : Standing) (w n : ℕ) : Type 0 where
+record NodeLeft (v : Standing) (w n : ℕ) : Type 0 where
   pub at : node_of v w ≡ Some n
   pub there : n < nodes_in v
   pub long : n < length v.phases
   pub body : is_some (body_in (bare (phase_at v n))) ≡ true
 
-pub node-left : (u v : Standing) (w n : ℕ) → u ≡ v → IsStanding u → HasBody v w → (w < length u.busy → get_or u.busy w None ≡ Some n) → NodeLeft v w n
+node-left : (u v : Standing) (w n : ℕ) → u ≡ v → IsStanding u → HasBody v w → (w < length u.busy → get_or u.busy w None ≡ Some n) → NodeLeft v w n
 node-left u v w n same is has found =
     let of : IsStanding v = subst IsStanding same is in
     let count : length u.busy ≡ workers_in v = ap workers_in same in
@@ -84,15 +84,15 @@ abbrev pub is_last_at : ℕ → Standing → Bool
 is_last_at n v = is_closing (bare (phase_at v n)) || is_test (row_at (tree_of v.plan) n).kind
 
 -- a node whose body isn't its last isn't closing, and is no test
-pub unclosed : (v : Standing) (n : ℕ) → is_last_at n v ≡ false → is_closing (bare (phase_at v n)) ≡ false
+unclosed : (v : Standing) (n : ℕ) → is_last_at n v ≡ false → is_closing (bare (phase_at v n)) ≡ false
 unclosed v n e = or-left (is_closing (bare (phase_at v n))) (is_test (row_at (tree_of v.plan) n).kind) e
 
-pub no-test : (v : Standing) (start : Resources) (n : ℕ) → is_last_at n v ≡ false → is_of_test ((suite_in v start).head n) ≡ false
+no-test : (v : Standing) (start : Resources) (n : ℕ) → is_last_at n v ≡ false → is_of_test ((suite_in v start).head n) ≡ false
 no-test v start n e = head-test (row_at (tree_of v.plan) n).kind ∙ or-last (is_closing (bare (phase_at v n))) (is_test (row_at (tree_of v.plan) n).kind) e
 
 module _ (v : Standing) (start : Resources) (s : RunState) (like : LooksLike v s) where
   -- phases that are those after the Leave, with the worker's body gone
-  pub left : (w n : ℕ) → w < workers_in v → node_of v w ≡ Some n → (ps : List Phase)
+  left : (w n : ℕ) → w < workers_in v → node_of v w ≡ Some n → (ps : List Phase)
       → ((m : ℕ) → m < nodes_in v → phase_of ((leaving scripts (suite_in v start) n s.nodes (s.nodes.status n)).status m) ≡ get_or ps m P.Waiting)
       → LooksLike (record v { phases = ps; busy = set v.busy w None }) (after_in v start s (Leave w))
   left w n hw at ps after = record {
@@ -114,7 +114,7 @@ module _ (v : Standing) (start : Resources) (s : RunState) (like : LooksLike v s
   finished-by n t test hn (Closing fs b) body last m h = changed phase_of n _ s.nodes.status v.phases P.Finished P.Waiting m hn refl (like.phases m h)
   finished-by n t test hn (Finished r) body last m h = absurd (cc)
 
-  pub finished : (n : ℕ) (t : Bool) → scripts.is_test ((suite_in v start).head n) ≡ t → n < nodes_in v → n < length v.phases → is_some (body_in (bare (phase_at v n))) ≡ true → (is_closing (bare (phase_at v n)) || t) ≡ true
+  finished : (n : ℕ) (t : Bool) → scripts.is_test ((suite_in v start).head n) ≡ t → n < nodes_in v → n < length v.phases → is_some (body_in (bare (phase_at v n))) ≡ true → (is_closing (bare (phase_at v n)) || t) ≡ true
       → (m : ℕ) → m < nodes_in v → phase_of ((leaving scripts (suite_in v start) n s.nodes (s.nodes.status n)).status m) ≡ get_or (set v.phases n P.Finished) m P.Waiting
   finished n t test h hn body last =
       finished-by n t test hn (s.nodes.status n) (ap (λ (p : Phase). is_some (body_in (bare p))) (like.phases n h) ∙ body) (ap (λ (p : Phase). is_closing (bare p) || t) (like.phases n h) ∙ last)
@@ -131,7 +131,7 @@ module _ (v : Standing) (start : Resources) (s : RunState) (like : LooksLike v s
   open-by n test hn (Closing fs b) body last well m h = absurd (cc)
   open-by n test hn (Finished r) body last well m h = absurd (cc)
 
-  pub opened : (n : ℕ) → scripts.is_test ((suite_in v start).head n) ≡ false → n < nodes_in v → n < length v.phases → is_some (body_in (bare (phase_at v n))) ≡ true → is_closing (bare (phase_at v n)) ≡ false
+  opened : (n : ℕ) → scripts.is_test ((suite_in v start).head n) ≡ false → n < nodes_in v → n < length v.phases → is_some (body_in (bare (phase_at v n))) ≡ true → is_closing (bare (phase_at v n)) ≡ false
       → ((b : Stage) → s.nodes.status n ≡ Begun b → ended_well scripts (suite_in v start) n b s.nodes ≡ true)
       → (m : ℕ) → m < nodes_in v → phase_of ((leaving scripts (suite_in v start) n s.nodes (s.nodes.status n)).status m) ≡ get_or (set v.phases n P.Open) m P.Waiting
   opened n test h hn body last =
@@ -162,8 +162,48 @@ module _ (v : Standing) (start : Resources) (s : RunState) (like : LooksLike v s
   barred-by n test (Closing fs b) body last well m h = absurd (cc)
   barred-by n test (Finished r) body last well m h = absurd (cc)
 
-  pub barred : (n : ℕ) → scripts.is_test ((suite_in v start).head n) ≡ false → n < nodes_in v → is_some (body_in (bare (phase_at v n))) ≡ true → is_closing (bare (phase_at v n)) ≡ false
+  barred : (n : ℕ) → scripts.is_test ((suite_in v start).head n) ≡ false → n < nodes_in v → is_some (body_in (bare (phase_at v n))) ≡ true → is_closing (bare (phase_at v n)) ≡ false
       → ((b : Stage) → s.nodes.status n ≡ Begun b → ended_well scripts (suite_in v start) n b s.nodes ≡ false)
       → (m : ℕ) → m < nodes_in v → phase_of ((leaving scripts (suite_in v start) n s.nodes (s.nodes.status n)).status m) ≡ cond (eqb m n) P.Barred (phase_under v n m)
   barred n test h body last =
       barred-by n test (s.nodes.status n) (ap (λ (p : Phase). is_some (body_in (bare p))) (like.phases n h) ∙ body) (ap (λ (p : Phase). is_closing (bare p)) (like.phases n h) ∙ last)
+
+-- a Leave, told of the values of a standing that contracts see as v
+module _ (u v : Standing) (same : u ≡ v) (is : IsStanding u) (w n : ℕ) (has : HasBody v w) (found : w < length u.busy → get_or u.busy w None ≡ Some n) (start : Resources) (s : RunState) (like : LooksLike v s) where
+  known : NodeLeft v w n
+  known = node-left u v w n same is has found
+
+  -- with these phases, and the worker free
+  abbrev next : Standing → List Phase → Standing
+  next x ps = record x { phases = ps; busy = set x.busy w None }
+
+  -- the last body of a node
+  pub left-last : is_last_at n u ≡ true → LooksLike (next u (set u.phases n P.Finished)) (after_in v start s (Leave w))
+  left-last last =
+      let kind = (row_at (tree_of v.plan) n).kind in
+      subst (λ (x : Standing). LooksLike (next x (set x.phases n P.Finished)) (after_in v start s (Leave w))) (sym same)
+      (left v start s like w n has.worker known.at (set v.phases n P.Finished)
+      (finished v start s like n (is_test kind) (head-test kind) known.there known.long known.body (ap (is_last_at n) (sym same) ∙ last)))
+
+  -- the opening of a class, which ended well or didn't
+  module _ (other : is_last_at n u ≡ false) where
+    there : is_last_at n v ≡ false
+    there = ap (is_last_at n) (sym same) ∙ other
+
+    well-as : (b : Bool) → EndsWellAs v s w b → (e : Stage) → s.nodes.status n ≡ Begun e → ended_well scripts (suite_in v start) n e s.nodes ≡ b
+    well-as b ends e begun = ends start n e (like.bodies w has.worker ∙ known.at) begun (no-test v start n there)
+
+    pub left-open : EndsWellAs v s w true → LooksLike (next u (set u.phases n P.Open)) (after_in v start s (Leave w))
+    left-open ends =
+        subst (λ (x : Standing). LooksLike (next x (set x.phases n P.Open)) (after_in v start s (Leave w))) (sym same)
+        (left v start s like w n has.worker known.at (set v.phases n P.Open)
+        (opened v start s like n (no-test v start n there) known.there known.long known.body (unclosed v n there) (well-as true ends)))
+
+    pub left-barred : EndsWellAs v s w false → (x : Standing) → x ≡ next u x.phases → ((m : ℕ) → m < nodes_in u → phase_at x m ≡ cond (eqb m n) P.Barred (phase_under u n m))
+        → LooksLike x (after_in v start s (Leave w))
+    left-barred ends x rest phases =
+        let seen : (m : ℕ) → m < nodes_in v → phase_at x m ≡ cond (eqb m n) P.Barred (phase_under v n m) =
+        subst (λ (y : Standing). (m : ℕ) → m < nodes_in y → phase_at x m ≡ cond (eqb m n) P.Barred (phase_under y n m)) same phases in
+        subst (λ (y : Standing). LooksLike y (after_in v start s (Leave w))) (sym (rest ∙ ap (λ (y : Standing). next y x.phases) same))
+        (left v start s like w n has.worker known.at x.phases
+        (λ m h. barred v start s like n (no-test v start n there) known.there known.body (unclosed v n there) (well-as false ends) m h ∙ sym (seen m h)))

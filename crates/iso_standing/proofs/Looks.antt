@@ -119,6 +119,10 @@ told : (o : Option Stage) (test : Stage → Bool) (e : Bool) → is_some o ≡ t
 told None test e there h = absurd (cc)
 told (Some b) test e there h = h b refl
 
+-- a kind of refusal applies just where its test holds, which is known
+pub tested : {o : Option Refused} {b c : Bool} (k : Refused) → o ≡ refuse b k → b ≡ c → o ≡ refuse c k
+tested k is known = is ∙ ap (λ (x : Bool). refuse x k) known
+
 module _ (v : Standing) (start : Resources) (s : RunState) (like : LooksLike v s) where
   abbrev tree : List Row
   tree = tree_of v.plan
@@ -186,25 +190,28 @@ module _ (v : Standing) (start : Resources) (s : RunState) (like : LooksLike v s
   pub rest-at : (n : ℕ) → n < nodes_in v → is_at_rest (s.nodes.status n) ≡ is_at_rest (bare (phase_at v n))
   rest-at n h = rest-is (s.nodes.status n) ∙ ap (λ (p : Phase). is_at_rest (bare p)) (like.phases n h)
 
-  pub not-open-is : (n : ℕ) → n < nodes_in v → (b : Bool) → is_at_rest (bare (phase_at v n)) ≡ b → at v start s (Why.not_open scripts) n ≡ refuse (not b) Why.NotOpen
-  not-open-is n h b e = ap (λ (x : Bool). refuse (not x) Why.NotOpen) (rest-at n h ∙ e)
+  pub not-open-is : (n : ℕ) → n < nodes_in v → {p : Phase} {r b : Bool} → p ≡ phase_at v n → r ≡ is_at_rest (bare p) → r ≡ b → at v start s (Why.not_open scripts) n ≡ refuse (not b) Why.NotOpen
+  not-open-is n h there test known = ap (λ (x : Bool). refuse (not x) Why.NotOpen) (rest-at n h ∙ ap (λ (q : Phase). is_at_rest (bare q)) (sym there) ∙ sym test ∙ known)
 
   -- the kinds of an Enter and a Shut are those that both test first, and others; an Enter's last is of locks
   abbrev common : ℕ → ℕ → List (Option Refused)
   common w n =
       at v start s (Why.stopped scripts) ∷ at v start s (Why.no_worker scripts) w ∷ at v start s (Why.no_node scripts) n ∷ at v start s (Why.worker_busy scripts) w ∷ []
 
-  pub before-split : (w n : ℕ) → before_locks v start s w n ≡ option_or (first_kinds v start s w n) (first_of (early_kinds v start s w n))
-  before-split w n = joined (common w n) (early_kinds v start s w n)
+  pub before-is : (w n : ℕ) → {a b c d e : Option Refused} → first_kinds v start s w n ≡ a → at v start s (Why.parent_closed scripts) n ≡ b → at v start s (Why.already_entered scripts) n ≡ c
+      → at v start s (Why.not_owner_of_parent scripts) w n ≡ d → at v start s (Why.earlier_sibling scripts) n ≡ e → before_locks v start s w n ≡ option_or a (first_of (b ∷ c ∷ d ∷ e ∷ []))
+  before-is w n first closed entered owner sibling =
+      joined (common w n) (early_kinds v start s w n) ∙ (λ i. option_or (first i) (first_of (closed i ∷ entered i ∷ owner i ∷ sibling i ∷ [])))
 
   pub enter-split : (w n : ℕ) → refusal_in v start s (Enter w n) ≡ option_or (before_locks v start s w n) (at v start s (Why.lock_held scripts) n)
   enter-split w n =
       joined (common w n ++ early_kinds v start s w n) (at v start s (Why.lock_held scripts) n ∷ [])
       ∙ ap (option_or (before_locks v start s w n)) (last (at v start s (Why.lock_held scripts) n))
 
-  pub shut-split : (w n : ℕ) → refusal_in v start s (Shut w n) ≡ option_or (first_kinds v start s w n) (first_of (shut_kinds v start s w n))
-  shut-split w n =
-      joined (common w n) (shut_kinds v start s w n)
+  pub shut-is : (w n : ℕ) → {a b c d e : Option Refused} → first_kinds v start s w n ≡ a → at v start s (Why.not_class scripts) n ≡ b → at v start s (Why.not_open scripts) n ≡ c
+      → at v start s (Why.not_owner scripts) w n ≡ d → at v start s (Why.children_left scripts) n ≡ e → refusal_in v start s (Shut w n) ≡ option_or a (first_of (b ∷ c ∷ d ∷ e ∷ []))
+  shut-is w n first class rests owner children =
+      joined (common w n) (shut_kinds v start s w n) ∙ (λ i. option_or (first i) (first_of (class i ∷ rests i ∷ owner i ∷ children i ∷ [])))
 
   -- what Enter and Shut test first, where the run goes on and both are there
   pub place-is : v.stopped ≡ false → (w n : ℕ) → w < workers_in v → n < nodes_in v → (b : Bool) → is_some (body_under_way v start s w) ≡ b → first_kinds v start s w n ≡ refuse b Why.WorkerBusy
