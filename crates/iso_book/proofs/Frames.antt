@@ -1,5 +1,5 @@
 -- The frames that are handed before a body begins, and what its beginning asks for.
-use Rattle.std.proofs.Common.{◌≡◌, ℕ, zero, suc, ◌<◌, List, [], ◌∷◌, length, map, reverse, true, false, Result, Ok, Err, OnOk, refl, ap, sym, ◌∙◌, subst, arith}
+use Rattle.std.proofs.Common.{◌≡◌, ℕ, zero, suc, ◌<◌, List, length, map, reverse, true, false, Result, Ok, Err, OnOk, refl, ap, sym, ◌∙◌, subst, arith}
 use Rattle.std.specs.Prelude.{unwrap_or}
 use Rattle.iso_book.specs.Turns.{BeginsIn, frames_of, handed}
 use Rattle.iso_lifecycle.specs.ResultViews.{ResultsView}

@@ -1,5 +1,6 @@
 pub mod Weights
 pub mod Runs
+pub mod Sharing
 pub mod Afters
 pub mod Enters
 pub mod Shuts
