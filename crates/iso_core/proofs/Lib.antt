@@ -9,3 +9,4 @@ pub mod CoreValues
 pub mod FlatStates
 pub mod FlatValues
 pub mod Isolating
+pub mod Taking

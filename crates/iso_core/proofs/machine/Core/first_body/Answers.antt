@@ -1,6 +1,7 @@
 use Rattle.std.proofs.Common.{◌≡◌, ℕ, zero, suc, ◌<◌, List, true, false, length, map, reverse, refl, ap, sym, ◌∙◌, subst, arith}
 use Rattle.std.specs.Prelude.{unwrap_or}
-use Rattle.iso_core.proofs.CoreRuns.{core_of, run-reached, run_state}
+use Rattle.iso_core.proofs.CoreRuns.{run-reached, run_state}
+use Rattle.iso_core.proofs.Taking.{view_of}
 use Rattle.iso_core.specs.Cores.{CoreView, state_in}
 use Rattle.iso_isolation.specs.States.{is_open}
 use Rattle.iso_lifecycle.specs.Subjects.{Subject, enclosing, framed, opening_of, subject}
@@ -26,14 +27,10 @@ pub begin-requires : goal.begin-requires
 begin-requires c =
     let i = c.self.inside in
     let n = c.args.node in
-    let is = c.self.invariant in
-    let old : CoreView = core_of i.plan.now i.world.now i.standing i.events.items in
-    let back = sym c.self.view_is in
-    let within : n < length i.plan.now.rows = subst (λ (v : CoreView). n < length v.plan.rows) back c.requires.within in
-    let around : is_open ((state_in old).nodes.status (parent (tree_of i.plan.now) n)) ≡ true =
-    subst (λ (v : CoreView). is_open ((state_in v).nodes.status (parent (tree_of v.plan) n)) ≡ true) back c.requires.open in
-    let got = run-reached old is.run in
-    let start : i.results.start ≡ c.of-start.result.value = is.results_world ∙ sym c.of-start.ensures in
+    let within : n < length i.plan.now.rows = subst (λ (v : CoreView). n < length v.plan.rows) (sym c.self.view_is) c.requires.within in
+    let around : is_open ((state_in (view_of i)).nodes.status (parent (tree_of i.plan.now) n)) ≡ true =
+    subst (λ (v : CoreView). is_open ((state_in v).nodes.status (parent (tree_of v.plan) n)) ≡ true) (sym c.self.view_is) c.requires.open in
+    let start : i.results.start ≡ c.of-start.result.value = c.self.invariant.results_world ∙ sym c.of-start.ensures in
     record {
       inner = c.requires.inner;
       within = within;
@@ -43,5 +40,5 @@ begin-requires c =
           ∙ ap (λ (m : ℕ). map (subject i.plan.now c.of-start.result.value) (reverse (path (tree_of i.plan.now) m))) (parent_is (tree_of i.plan.now) n c.unwrap_or-class.result c.requires.inner (c.unwrap_or-class.ensures ∙ ap (λ o. unwrap_or o 0) c.parent.ensures))
           ∙ sym (ap (map (subject i.plan.now c.of-start.result.value)) (first_framed c.first_kind-kind.result (subject i.plan.now c.of-start.result.value n) c.first_kind-kind.ensures.first));
       well = subst (λ (s : Start). (opening_of (enclosing (subject i.plan.now s n))).well ≡ true) (sym c.of-start.ensures)
-          (c.bodies_stand_as_alone.ensures.enclosed i.world.now (run_state old) n got c.requires.inner within around);
+          (c.bodies_stand_as_alone.ensures.enclosed i.world.now (run_state (view_of i)) n (run-reached (view_of i) c.self.invariant.run) c.requires.inner within around);
     }

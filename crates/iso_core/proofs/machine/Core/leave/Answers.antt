@@ -1,10 +1,10 @@
-use Rattle.std.proofs.Common.{◌≡◌, ℕ, ◌<◌, List, [], ◌∷◌, ◌++◌, Option, Some, None, true, false, not, is_some, length, set, refl, ap, ap₂, sym, ◌∙◌, subst}
+use Rattle.std.proofs.Common.{◌≡◌, ℕ, ◌<◌, List, Option, Some, None, true, false, not, is_some, length, set, refl, ap, ap₂, sym, ◌∙◌, subst}
 use Rattle.std.proofs.lemmas.List.{get_or_default, length-set}
-use Rattle.iso_core.proofs.CoreBodies.{at-leave, leave-found, leave-there, told}
-use Rattle.iso_core.proofs.CoreRuns.{core_of}
-use Rattle.iso_core.proofs.CoreSteps.{StandsAfter, core-as, has-body, left, suites-are, view-next}
+use Rattle.iso_core.proofs.CoreBodies.{at-leave, leave-there, told}
+use Rattle.iso_core.proofs.CoreSteps.{StandsAfter, has-body, left, suites-are}
 use Rattle.iso_core.proofs.CoreValues.{first-kind}
-use Rattle.iso_core.specs.Cores.{CoreView, refusal_in, state_in, suite_in, with_event}
+use Rattle.iso_core.proofs.Taking.{Took, allowed, leave-finds, took, view_of}
+use Rattle.iso_core.specs.Cores.{state_in, suite_in}
 use Rattle.iso_core.specs.FlatMaps.{IsFlatOf, IsInnermost, mark_at}
 use Rattle.iso_suites.specs.PlanSuites.{head_of, suite_of}
 use Rattle.iso_standing.specs.ResultStates.{AreResultsOf, AtLeave}
@@ -27,7 +27,6 @@ use Rattle.iso_model.specs.declared.resource.Resource.{Resource}
 use Rattle.iso_plan.specs.Paths.{row_at}
 use Rattle.iso_plan.specs.Planned.{Planned}
 use Rattle.iso_plan.specs.RowView.{tree_of}
-use Rattle.iso_standing.specs.declared.event.Event.{Event}
 use Rattle.iso_standing.specs.declared.event.Event.TheVariants as Code
 use Rattle.iso_core.proofs.machine.Core.leave.Goals as goal
 use Rattle.iso_core.proofs.machine.Core.leave.Goals.{After-push_reserved}
@@ -46,47 +45,31 @@ done-start K.AfterAll n r = refl
 pub unreachable-requires : goal.unreachable-requires
 unreachable-requires c =
     let i = c.self.inside in
-    let w = c.args.worker in
-    let old : CoreView = core_of i.plan.now i.world.now i.standing i.events.items in
-    let h : refusal_in old (Code.Leave w) ≡ None = ap (λ (v : CoreView). refusal_in v (Code.Leave w)) c.self.view_is ∙ c.requires in
-    absurd (leave-there old i.standing i.flat i.bodies.items i.results c.self.invariant w h (λ less.
-    get_or_default i.bodies.items w None c.index_mut.result.now less ∙ sym c.index_mut.ensures.value ∙ sym c.take.ensures.value ∙ c.in_default.is))
+    let h = allowed i c.self.invariant c.args.self.now c.self.view_is (Code.Leave c.args.worker) c.requires in
+    absurd (leave-there (view_of i) i.standing i.flat i.bodies.items i.results c.self.invariant c.args.worker h (λ less.
+    get_or_default i.bodies.items c.args.worker None c.index_mut.result.now less ∙ sym c.index_mut.ensures.value ∙ sym c.take.ensures.value ∙ c.in_default.is))
 
 pub into_done-done-requires : goal.into_done-done-requires
 into_done-done-requires c =
-    let i = c.self.inside in
-    let w = c.args.worker in
-    let is = c.self.invariant in
-    let old : CoreView = core_of i.plan.now i.world.now i.standing i.events.items in
-    let f = leave-found old i.standing i.flat i.bodies.items i.results is w c.args.self.now c.self.view_is c.requires c.bodies_stand_as_alone.ensures.inside c.in-Some.body (λ less.
-    get_or_default i.bodies.items w None c.index_mut.result.now less ∙ sym c.index_mut.ensures.value ∙ sym c.take.ensures.value ∙ c.in-Some.is) in
-    f.ended
+    (leave-finds c.self.inside c.self.invariant c.args.self.now c.self.view_is c.args.worker c.requires c.bodies_stand_as_alone.ensures.inside c.index_mut.result.now c.in-Some.body c.index_mut.ensures.value (sym c.take.ensures.value ∙ c.in-Some.is)).ended
 
 pub put-requires : goal.put-requires
 put-requires c =
     let i = c.self.inside in
-    let w = c.args.worker in
     let is = c.self.invariant in
-    let old : CoreView = core_of i.plan.now i.world.now i.standing i.events.items in
-    let f = leave-found old i.standing i.flat i.bodies.items i.results is w c.args.self.now c.self.view_is c.requires c.bodies_stand_as_alone.ensures.inside c.in-Some.body (λ less.
-    get_or_default i.bodies.items w None c.index_mut.result.now less ∙ sym c.index_mut.ensures.value ∙ sym c.take.ensures.value ∙ c.in-Some.is) in
-    let d = c.into_done-done.result in
-    subst (λ (s : Subject). CanPut (record { subject = s; kind = d.kind }) i.results) (sym (c.into_done-done.ensures.subject ∙ f.under.subject))
+    let f = leave-finds i is c.args.self.now c.self.view_is c.args.worker c.requires c.bodies_stand_as_alone.ensures.inside c.index_mut.result.now c.in-Some.body c.index_mut.ensures.value (sym c.take.ensures.value ∙ c.in-Some.is) in
+    subst (λ (s : Subject). CanPut (record { subject = s; kind = c.into_done-done.result.kind }) i.results) (sym (c.into_done-done.ensures.subject ∙ f.under.subject))
     (subst (λ (k : BodyKind). CanPut (record { subject = subject i.plan.now i.world.now f.node; kind = k }) i.results) (sym c.into_done-done.ensures.kind)
-    (c.results_follow_leaves.ensures.put i.world.now i.results (state_in old) f.node (stage_of_body c.in-Some.body) (kind_of_body c.in-Some.body)
-    (at-leave old i.standing i.flat i.bodies.items i.results is w c.in-Some.body f)))
+    (c.results_follow_leaves.ensures.put i.world.now i.results (state_in (view_of i)) f.node (stage_of_body c.in-Some.body) (kind_of_body c.in-Some.body)
+    (at-leave (view_of i) i.standing i.flat i.bodies.items i.results is c.args.worker c.in-Some.body f)))
 
 pub leave_values-requires : goal.leave_values-requires
 leave_values-requires c =
     let i = c.self.inside in
-    let w = c.args.worker in
     let is = c.self.invariant in
-    let old : CoreView = core_of i.plan.now i.world.now i.standing i.events.items in
-    let f = leave-found old i.standing i.flat i.bodies.items i.results is w c.args.self.now c.self.view_is c.requires c.bodies_stand_as_alone.ensures.inside c.in-Some.body (λ less.
-    get_or_default i.bodies.items w None c.index_mut.result.now less ∙ sym c.index_mut.ensures.value ∙ sym c.take.ensures.value ∙ c.in-Some.is) in
-    let s = state_in old in
-    let node : c.node-node.result ≡ f.node = c.node-node.ensures ∙ ap (λ (j : Subject). j.node) (c.into_done-done.ensures.subject ∙ f.under.subject) in
+    let f = leave-finds i is c.args.self.now c.self.view_is c.args.worker c.requires c.bodies_stand_as_alone.ensures.inside c.index_mut.result.now c.in-Some.body c.index_mut.ensures.value (sym c.take.ensures.value ∙ c.in-Some.is) in
     let kind : c.kind-kind.result ≡ kind_of_body c.in-Some.body = c.kind-kind.ensures ∙ c.into_done-done.ensures.kind in
+    let node : c.node-node.result ≡ f.node = c.node-node.ensures ∙ ap (λ (j : Subject). j.node) (c.into_done-done.ensures.subject ∙ f.under.subject) in
     record {
       within = subst (λ (m : ℕ). m < length i.flat.tray.plan.rows) (sym node) (subst (λ (p : Planned). f.node < length p.rows) (sym is.flat_plan) f.within);
       fits =
@@ -96,54 +79,36 @@ leave_values-requires c =
           ∙ f.under.fits;
       marked =
           ap (λ (m : ℕ). is_some (mark_at i.flat.marks m)) node
-          ∙ (is.flat_is f.on).held f.node f.inner (body_held (s.nodes.status f.node) (stage_of_body c.in-Some.body) f.under.stage);
+          ∙ (is.flat_is f.on).held f.node f.inner (body_held ((state_in (view_of i)).nodes.status f.node) (stage_of_body c.in-Some.body) f.under.stage);
       innermost = subst (λ (m : ℕ). IsInnermost i.flat m) (sym node)
-          (c.entered_nodes_are_apart.ensures.leave i.world.now i.flat s f.node (stage_of_body c.in-Some.body) f.reached is.flat_plan (is.flat_is f.on) f.under.stage);
+          (c.entered_nodes_are_apart.ensures.leave i.world.now i.flat (state_in (view_of i)) f.node (stage_of_body c.in-Some.body) f.reached is.flat_plan (is.flat_is f.on) f.under.stage);
     }
 
 pub bars-well-requires : goal.bars-well-requires
 bars-well-requires c =
     let i = c.self.inside in
-    let w = c.args.worker in
     let is = c.self.invariant in
-    let old : CoreView = core_of i.plan.now i.world.now i.standing i.events.items in
-    let f = leave-found old i.standing i.flat i.bodies.items i.results is w c.args.self.now c.self.view_is c.requires c.bodies_stand_as_alone.ensures.inside c.in-Some.body (λ less.
-    get_or_default i.bodies.items w None c.index_mut.result.now less ∙ sym c.index_mut.ensures.value ∙ sym c.take.ensures.value ∙ c.in-Some.is) in
+    let f = leave-finds i is c.args.self.now c.self.view_is c.args.worker c.requires c.bodies_stand_as_alone.ensures.inside c.index_mut.result.now c.in-Some.body c.index_mut.ensures.value (sym c.take.ensures.value ∙ c.in-Some.is) in
     let node : c.node-node.result ≡ f.node = c.node-node.ensures ∙ ap (λ (j : Subject). j.node) (c.into_done-done.ensures.subject ∙ f.under.subject) in
-    let d = c.into_done-done.result in
-    let plan : c.put.new.self.plan ≡ i.plan.now = ap (λ (q : ResultsView). q.plan) c.put.ensures ∙ done-plan d.kind d.subject.node i.results ∙ is.results_plan in
+    let plan : c.put.new.self.plan ≡ i.plan.now = ap (λ (q : ResultsView). q.plan) c.put.ensures ∙ done-plan c.into_done-done.result.kind c.into_done-done.result.subject.node i.results ∙ is.results_plan in
     subst (λ (m : ℕ). m < length c.put.new.self.plan.rows) (sym node) (subst (λ (p : Planned). f.node < length p.rows) (sym plan) f.within)
 
 pub leave-requires : goal.leave-requires
 leave-requires c =
     let i = c.self.inside in
-    let w = c.args.worker in
     let is = c.self.invariant in
-    let old : CoreView = core_of i.plan.now i.world.now i.standing i.events.items in
-    let f = leave-found old i.standing i.flat i.bodies.items i.results is w c.args.self.now c.self.view_is c.requires c.bodies_stand_as_alone.ensures.inside c.in-Some.body (λ less.
-    get_or_default i.bodies.items w None c.index_mut.result.now less ∙ sym c.index_mut.ensures.value ∙ sym c.take.ensures.value ∙ c.in-Some.is) in
-    has-body old i.standing i.flat i.bodies.items i.results is w (told old i.bodies.items w c.in-Some.body true f) f.within
+    let f = leave-finds i is c.args.self.now c.self.view_is c.args.worker c.requires c.bodies_stand_as_alone.ensures.inside c.index_mut.result.now c.in-Some.body c.index_mut.ensures.value (sym c.take.ensures.value ∙ c.in-Some.is) in
+    has-body (view_of i) i.standing i.flat i.bodies.items i.results is c.args.worker (told (view_of i) i.bodies.items c.args.worker c.in-Some.body true f) f.within
 
--- the core before the event, that nothing refuses it there, and the events after it
-abbrev old_of : After-push_reserved → CoreView
-old_of c = core_of c.self.inside.plan.now c.self.inside.world.now c.self.inside.standing c.self.inside.events.items
-
-allowed : (c : After-push_reserved) → refusal_in (old_of c) (Code.Leave c.args.worker) ≡ None
-allowed c = ap (λ (v : CoreView). refusal_in v (Code.Leave c.args.worker)) c.self.view_is ∙ c.requires
-
-added : (c : After-push_reserved) → c.push_reserved.new.self.items ≡ c.self.inside.events.items ++ Code.Leave c.args.worker ∷ []
-added c = c.push_reserved.ensures.items ∙ ap (λ (es : List Event). es ++ Code.Leave c.args.worker ∷ []) c.in_ok-reserve.ensures.items
-
-stands : (c : After-push_reserved) → StandsAfter (old_of c) c.self.inside.standing c.self.inside.flat c.self.inside.bodies.items c.self.inside.results c.self.invariant
-    (after scripts (suite_in (old_of c)) (state_in (old_of c)) (E.Leave c.args.worker)) c.leave.new.self c.leave_values.new.flat (set c.self.inside.bodies.items c.args.worker c.take.new.self) c.put.new.self
+stands : (c : After-push_reserved) → StandsAfter (view_of c.self.inside) c.self.inside.standing c.self.inside.flat c.self.inside.bodies.items c.self.inside.results c.self.invariant
+    (after scripts (suite_in (view_of c.self.inside)) (state_in (view_of c.self.inside)) (E.Leave c.args.worker)) c.leave.new.self c.leave_values.new.flat (set c.self.inside.bodies.items c.args.worker c.take.new.self) c.put.new.self
 stands c =
     let i = c.self.inside in
-    let w = c.args.worker in
     let is = c.self.invariant in
-    let old : CoreView = core_of i.plan.now i.world.now i.standing i.events.items in
+    let f = leave-finds i is c.args.self.now c.self.view_is c.args.worker c.requires c.bodies_stand_as_alone.ensures.inside c.index_mut.result.now c.in-Some.body c.index_mut.ensures.value (sym c.take.ensures.value ∙ c.in-Some.is) in
+    let w = c.args.worker in
+    let old = view_of i in
     let s = state_in old in
-    let f = leave-found old i.standing i.flat i.bodies.items i.results is w c.args.self.now c.self.view_is c.requires c.bodies_stand_as_alone.ensures.inside c.in-Some.body (λ less.
-    get_or_default i.bodies.items w None c.index_mut.result.now less ∙ sym c.index_mut.ensures.value ∙ sym c.take.ensures.value ∙ c.in-Some.is) in
     let t = told old i.bodies.items w c.in-Some.body true f in
     let node : c.node-node.result ≡ t.node = c.node-node.ensures ∙ ap (λ (j : Subject). j.node) (c.into_done-done.ensures.subject ∙ t.under.is.subject) in
     let kind : c.kind-kind.result ≡ kind_of_body c.in-Some.body = c.kind-kind.ensures ∙ c.into_done-done.ensures.kind in
@@ -183,21 +148,20 @@ stands c =
     let are : AreResultsOf c.put.new.self (leaving scripts (suite_in old) t.node s.nodes (s.nodes.status t.node)) =
     subst (λ (q : ResultsView). AreResultsOf q (leaving scripts (suite_in old) t.node s.nodes (s.nodes.status t.node))) (sym put_is)
     (c.results_follow_leaves.ensures.leave i.world.now i.results s t.node b k here_left t.ended) in
-    left old i.standing i.flat i.bodies.items i.results is w t c.leave.new.self c.leave_values.new.flat (set i.bodies.items w c.take.new.self) c.put.new.self (allowed c)
+    left old i.standing i.flat i.bodies.items i.results is w t c.leave.new.self c.leave_values.new.flat (set i.bodies.items w c.take.new.self) c.put.new.self (allowed i is c.args.self.now c.self.view_is (Code.Leave w) c.requires)
     c.leave.ensures.same looks c.leave_values.ensures.same values (length-set i.bodies.items w c.take.new.self) under
     (ap (λ (q : ResultsView). q.plan) c.put.ensures ∙ done-plan d.kind d.subject.node i.results)
     (ap (λ (q : ResultsView). q.start) c.put.ensures ∙ done-start d.kind d.subject.node i.results)
     are
 
+taken : (c : After-push_reserved) → Took c.self.inside c.args.self.now (Code.Leave c.args.worker) c.leave.new.self c.leave_values.new.flat
+    (set c.self.inside.bodies.items c.args.worker c.take.new.self) c.put.new.self c.push_reserved.new.self.items
+taken c =
+    took c.self.inside c.self.invariant c.args.self.now c.self.view_is (Code.Leave c.args.worker) c.requires c.leave.new.self c.leave_values.new.flat (set c.self.inside.bodies.items c.args.worker c.take.new.self) c.put.new.self
+    (stands c) c.reserve.new.self.items c.push_reserved.new.self.items c.in_ok-reserve.ensures.items c.push_reserved.ensures.items
+
 pub invariant_of-self-2 : goal.invariant_of-self-2
-invariant_of-self-2 c =
-    let i = c.self.inside in
-    core-as (old_of c) i.standing i.flat i.bodies.items i.results c.self.invariant c.leave.new.self c.leave_values.new.flat (set i.bodies.items c.args.worker c.take.new.self) c.put.new.self
-    (Code.Leave c.args.worker) c.push_reserved.new.self.items (allowed c) (stands c) (added c)
+invariant_of-self-2 c = (taken c).core
 
 pub returns-clause-taken : goal.returns-clause-taken
-returns-clause-taken c =
-    let i = c.self.inside in
-    view-next (old_of c) i.standing i.flat i.bodies.items i.results c.self.invariant c.leave.new.self c.leave_values.new.flat (set i.bodies.items c.args.worker c.take.new.self) c.put.new.self
-    (Code.Leave c.args.worker) c.push_reserved.new.self.items (stands c) (added c)
-    ∙ ap (λ (v : CoreView). with_event v (Code.Leave c.args.worker)) c.self.view_is
+returns-clause-taken c = (taken c).view
