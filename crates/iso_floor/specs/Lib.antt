@@ -3,3 +3,5 @@ pub mod Audits
 pub mod Closing
 pub mod Grounds
 pub mod Seats
+pub mod Turning
+pub mod Workers

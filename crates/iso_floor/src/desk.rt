@@ -3,20 +3,40 @@ ghost use Rattle.std.specs.Prelude.{◌≡◌, ℕ, IfOk, true};
 ghost use Rattle.iso_book.specs.Books.{new_book};
 ghost use Rattle.iso_floor.specs.Grounds.{IsBookOf};
 
+use crate::agenda::{Agenda, Source};
 use crate::ground::Ground;
 use iso_book::book::Book;
+use iso_lifecycle::kind::BodyKind;
 use iso_plan::plan::Plan;
 use iso_settings::world::World;
 use std::alloc::{AllocError, Global};
 use std::marker::{Model, PhantomData};
 
-/// The book, which workers have a seat, and how many wait for a change.
+/// Whom an event wakes of those who wait for something to try.
+#[derive(Clone, Copy)]
+pub(crate) enum Call {
+    Nobody,
+    Anyone,
+    Everyone,
+}
+
+/// Whom an event wakes.
+#[derive(Clone, Copy)]
+pub(crate) struct Wakes {
+    /// Whether somebody waits for a change.
+    pub(crate) watchers: bool,
+    pub(crate) workers: Call,
+}
+
+/// The book, which workers have a seat, what is to be tried next, and how many wait for a change and for something to try.
 #[derive(Drop)]
 pub(crate) struct Desk<'a, G: Ground> {
     pub(crate) book: Book<'a>,
     /// By worker, whether it has a seat.
     pub(crate) taken: Vec<bool>,
-    waiting: u32,
+    pub(crate) agenda: Agenda,
+    watching: u32,
+    idle: u32,
     of: PhantomData<G>,
 }
 
@@ -49,28 +69,106 @@ impl<'a, G: Ground> Desk<'a, G> {
         Ok(Desk {
             book: Book::new(alloc, plan, world, workers)?,
             taken: vec![in alloc; false; workers as usize]?,
-            waiting: 0,
+            agenda: Agenda::new(alloc, plan, workers)?,
+            watching: 0,
+            idle: 0,
             of: PhantomData,
         })
     }
 
-    /// Whether somebody waits for a change.
-    pub(crate) fn is_awaited(&self) -> bool {
-        self.waiting > 0
+    /// Whom the event that was booked wakes: nobody where nobody waits.
+    pub(crate) fn wakes(&mut self) -> Wakes
+        ensures { self.new ≡ self.old }
+    {
+        Wakes {
+            watchers: self.watching > 0,
+            workers: self.call(),
+        }
     }
 
-    /// One more waits.
+    // Whom it wakes of the workers: all where one of them got something for itself alone, or nothing more is to be done.
+    fn call(&mut self) -> Call
+        ensures { self.new ≡ self.old }
+    {
+        let handed = self.agenda.take_handed();
+        if self.idle == 0 {
+            Call::Nobody
+        } else if handed || self.is_over() {
+            Call::Everyone
+        } else if self.agenda.has_for_any() {
+            Call::Anyone
+        } else {
+            Call::Nobody
+        }
+    }
+
+    // Whether nothing more is to be done.
+    fn is_over(&self) -> bool {
+        self.book.is_stopped() || self.agenda.is_done()
+    }
+
+    /// Whether there is nothing for a worker to try, and the run isn't over.
+    pub(crate) fn has_nothing_for(&self, worker: u32) -> bool {
+        !self.is_over() && self.agenda.has_nothing_for(worker)
+    }
+
+    /// How many nodes a worker tries at most before it is asked again: more than are in the way at once.
+    pub(crate) fn tries(&self) -> u32 {
+        self.book.plan().len().saturating_add(1)
+    }
+
+    /// The next node for a worker to try.
+    pub(crate) fn next_for(&mut self, worker: u32) -> Option<(u32, Source)>
+        ensures { self.new ≡ self.old }
+    {
+        self.agenda.next_for(self.book.plan(), worker)
+    }
+
+    /// Opens a class up that its worker left open. Answers whether it wasn't open yet.
+    pub(crate) fn open_up(&mut self, class: u32, owner: u32) -> bool
+        ensures { self.new ≡ self.old }
+    {
+        self.agenda.open_up(self.book.plan(), class, owner)
+    }
+
+    /// A body of this kind was left by a worker.
+    pub(crate) fn note_leave(&mut self, kind: BodyKind, node: u32, worker: u32)
+        ensures { self.new ≡ self.old }
+    {
+        match kind {
+            BodyKind::BeforeAll => self.agenda.opened(node, worker),
+            BodyKind::Test | BodyKind::AfterAll => {
+                self.agenda.finish(self.book.plan(), node, worker)
+            }
+        }
+    }
+
+    /// One more waits for a change.
     pub(crate) fn begin_wait(&mut self)
         ensures { self.new ≡ self.old }
     {
-        self.waiting = self.waiting.saturating_add(1);
+        self.watching = self.watching.saturating_add(1);
     }
 
-    /// One waits no more.
+    /// One waits for a change no more.
     pub(crate) fn end_wait(&mut self)
         ensures { self.new ≡ self.old }
     {
-        self.waiting = self.waiting.saturating_sub(1);
+        self.watching = self.watching.saturating_sub(1);
+    }
+
+    /// One more worker waits for something to try.
+    pub(crate) fn begin_idle(&mut self)
+        ensures { self.new ≡ self.old }
+    {
+        self.idle = self.idle.saturating_add(1);
+    }
+
+    /// One worker waits no more.
+    pub(crate) fn end_idle(&mut self)
+        ensures { self.new ≡ self.old }
+    {
+        self.idle = self.idle.saturating_sub(1);
     }
 
     /// Stops the book.

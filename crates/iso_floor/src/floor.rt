@@ -5,13 +5,15 @@ ghost use Rattle.iso_book.specs.Turns.{IsEntered, IsShut, ReadsStart};
 ghost use Rattle.iso_floor.specs.Closing.{IsSeatFault, IsWhole};
 ghost use Rattle.iso_floor.specs.Grounds.{IsBookOf};
 ghost use Rattle.iso_floor.specs.Seats.{HasLeft, SeatView, lists_of, new_seat};
+ghost use Rattle.iso_floor.specs.Turning.{IsTurn};
 ghost use Rattle.iso_locks.specs.Trays.{is_lent};
 
 use crate::close::settle;
-use crate::desk::Desk;
+use crate::desk::{Call, Desk, Wakes};
 use crate::fault::{CloseFault, SeatFault};
 use crate::ground::Ground;
 use crate::seat::Seat;
+use crate::turn::Turn;
 use iso_book::book::Book;
 use iso_lifecycle::done::Done;
 use iso_plan::plan::Plan;
@@ -32,7 +34,10 @@ pub struct Floor<'a, G: Ground> {
     world: &'a World,
     workers: u32,
     desk: Mutex<Desk<'a, G>>,
+    /// For those who wait for an event.
     changed: Condvar,
+    /// For workers who wait for something to try.
+    called: Condvar,
     /// A place for each event that a history may have, for the comparison with the receipts.
     marks: Vec<bool>,
 }
@@ -72,6 +77,7 @@ impl<'a, G: Ground> Floor<'a, G> {
             workers,
             desk: Mutex::new(Desk::new(alloc, plan, world, workers)?),
             changed: Condvar::new(),
+            called: Condvar::new(),
             marks: vec![in alloc; false; events]?,
         })
     }
@@ -107,12 +113,12 @@ impl<'a, G: Ground> Floor<'a, G> {
         ensures seat { seat.new ≡ record seat.old { tray = seat.new.tray } }
         ensures same { OnErr result (seat.new ≡ seat.old) }
     {
-        let (entered, awaited) = {
+        let (entered, wakes) = {
             let mut desk = self.desk.lock(rt);
             let entered = seat.enter_at(&mut *desk, node);
-            (entered, desk.is_awaited())
+            (entered, desk.wakes())
         };
-        self.tell(awaited);
+        self.tell(wakes);
         entered
     }
 
@@ -123,12 +129,12 @@ impl<'a, G: Ground> Floor<'a, G> {
         ensures seat { seat.new ≡ record seat.old { tray = seat.new.tray } }
         ensures same { OnErr result (seat.new ≡ seat.old) }
     {
-        let (shut, awaited) = {
+        let (shut, wakes) = {
             let mut desk = self.desk.lock(rt);
             let shut = seat.shut_at(&mut *desk, node);
-            (shut, desk.is_awaited())
+            (shut, desk.wakes())
         };
-        self.tell(awaited);
+        self.tell(wakes);
         shut
     }
 
@@ -147,23 +153,23 @@ impl<'a, G: Ground> Floor<'a, G> {
         ensures same { OnErr result (seat.new ≡ seat.old) }
         ensures done { IfErr result (λ refusal. refusal.1 ≡ done) }
     {
-        let (left, awaited) = {
+        let (left, wakes) = {
             let mut desk = self.desk.lock(rt);
             let left = seat.leave_at(&mut *desk, done);
-            (left, desk.is_awaited())
+            (left, desk.wakes())
         };
-        self.tell(awaited);
+        self.tell(wakes);
         left
     }
 
     /// Stops the book: it refuses every event from now on. It may wait for the lock. Takes no memory.
     pub fn stop<R: Wait>(&self, rt: &R) {
-        let awaited = {
+        let wakes = {
             let mut desk = self.desk.lock(rt);
             desk.stop();
-            desk.is_awaited()
+            desk.wakes()
         };
-        self.tell(awaited);
+        self.tell(wakes);
     }
 
     /// Waits until the history is longer than `seen`, the run complete or stopped, and answers the history's length.
@@ -192,10 +198,52 @@ impl<'a, G: Ground> Floor<'a, G> {
         settle(book, &seats, &mut marks)
     }
 
-    // Wakes those who wait, where somebody does.
-    fn tell(&self, awaited: bool) {
-        if awaited {
+    /// The plan that is run on it.
+    pub(crate) fn plan(&self) -> &'a Plan
+        ensures { result.now ≡ G.plan }
+    {
+        self.plan
+    }
+
+    /// The values that it starts with.
+    pub(crate) fn world(&self) -> &'a World
+        ensures { result.now ≡ G.start }
+    {
+        self.world
+    }
+
+    /// A seat's worker looks for something to do, and enters a node or shuts a class where there is one. It may wait for the lock.
+    pub(crate) fn turn<R: Wait>(&self, rt: &R, seat: &mut Seat<'a, G>) -> Turn
+        ensures { IsTurn result seat.old seat.new }
+    {
+        let (turn, wakes) = {
+            let mut desk = self.desk.lock(rt);
+            let turn = seat.turn_at(&mut *desk);
+            (turn, desk.wakes())
+        };
+        self.tell(wakes);
+        turn
+    }
+
+    /// Waits until there is something for a worker to try, or nothing more is to be done.
+    pub(crate) fn wait_turn<R: Wait>(&self, rt: &R, worker: u32) {
+        let mut desk = self.desk.lock(rt);
+        desk.begin_idle();
+        let mut desk = self
+            .called
+            .wait_while(rt, desk, |desk| desk.has_nothing_for(worker));
+        desk.end_idle();
+    }
+
+    // Wakes those who wait and have something to wake for.
+    fn tell(&self, wakes: Wakes) {
+        if wakes.watchers {
             self.changed.notify_all();
+        }
+        match wakes.workers {
+            Call::Nobody => {}
+            Call::Anyone => self.called.notify_one(),
+            Call::Everyone => self.called.notify_all(),
         }
     }
 }

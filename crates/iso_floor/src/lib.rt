@@ -1,10 +1,16 @@
 //! The floor of a run: one lock round its book, a seat for each worker, and the comparison of what workers were told with the history.
 #![tactic(auto)]
 
+mod agenda;
 pub mod audit;
 pub mod close;
 mod desk;
 pub mod fault;
 pub mod floor;
 pub mod ground;
+mod halt;
+mod links;
 pub mod seat;
+mod turn;
+pub mod work;
+mod worker;

@@ -2,6 +2,7 @@
 ghost use Rattle.std.specs.Prelude.{◌≡◌, ◌<◌, ℕ, IfErr, IfOk, OnErr, OnOk, length, true};
 ghost use Rattle.iso_book.specs.Leaves.{MayBring, ReceiptView};
 ghost use Rattle.iso_book.specs.Turns.{IsEntered, IsShut, ReadsStart};
+ghost use Rattle.iso_floor.specs.Grounds.{IsTrayOf};
 ghost use Rattle.iso_floor.specs.Seats.{HasLeft, SeatView, new_seat};
 ghost use Rattle.iso_locks.specs.Trays.{CanUndo, is_lent, marked, undone};
 
@@ -72,9 +73,10 @@ impl<'a, G: Ground> Seat<'a, G> {
         self.worker
     }
 
-    /// Its tray.
+    /// Its tray, which is of the ground's plan and starting values.
     pub fn tray(&self) -> &Tray<'a>
-        ensures { result.now ≡ self.now.tray }
+        ensures tray { result.now ≡ self.now.tray }
+        ensures ground { IsTrayOf G.plan G.start self.now.tray }
     {
         &self.tray
     }
@@ -135,8 +137,10 @@ impl<'a, G: Ground> Seat<'a, G> {
         if self.receipts.len() >= self.receipts.capacity() {
             return Err((Refused::Stranger, done));
         }
+        let (kind, node) = (done.kind(), done.node());
         let receipt = desk.book.leave_own(self.worker, done, &mut self.tray)?;
         self.receipts.push_reserved(receipt);
+        desk.note_leave(kind, node, self.worker);
         Ok(())
     }
 }
