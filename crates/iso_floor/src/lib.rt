@@ -8,3 +8,4 @@ pub mod fault;
 pub mod floor;
 pub mod ground;
 pub mod seat;
+pub mod work;
