@@ -41,3 +41,5 @@ mod suites;
 mod teams;
 #[cfg(test)]
 mod told;
+#[cfg(test)]
+mod workers;
