@@ -10,6 +10,8 @@ mod expect;
 #[cfg(test)]
 mod folder;
 #[cfg(test)]
+mod host;
+#[cfg(test)]
 mod lifecycle;
 #[cfg(test)]
 mod program;

@@ -5,6 +5,7 @@ mod meeting;
 ghost use Rattle.std.specs.Prelude.{◌≤◌};
 
 use crate::expect::{expect, expect_no_other};
+use crate::host::Host;
 use crate::row::Row;
 use crate::suites::{CART_AND_DESK, TWO_FILES};
 use crate::teams::{OPS, ORDERS, SHOP, WORLD};
@@ -15,11 +16,14 @@ use iso_run::run::run_serial;
 use iso_run::workers::run_workers;
 use iso_tap::memory::MemorySink;
 use std::alloc::{AllocError, Global};
+use std::process::Abort;
 use std::test::Fail;
 
 /// Settings of so many workers, whose nodes are concurrent unless they are marked otherwise.
 pub(crate) fn settings_of(alloc: Global, workers: u32) -> Result<String, AllocError> {
-    format!(in alloc; "[junit.jupiter.execution.parallel]\nenabled = true\nmode.default = \"concurrent\"\nconfig.strategy = \"fixed\"\nconfig.fixed.parallelism = {workers}\n")
+    format!(in alloc;
+        "[junit.jupiter.execution.parallel]\nenabled = true\nmode.default = \"concurrent\"\nconfig.strategy = \"fixed\"\nconfig.fixed.parallelism = {workers}\n"
+    )
 }
 
 /// Scripts under a world.
@@ -43,7 +47,7 @@ impl<'a> Scripts<'a> {
     }
 
     /// Whether so many workers report the same as one thread.
-    pub(crate) fn is_same_by(self, rt: &HostRuntime, workers: u32) -> Result<bool, AllocError> {
+    pub(crate) fn is_same_by(self, rt: &impl Host, workers: u32) -> Result<bool, AllocError> {
         let settings = settings_of(rt.alloc(), workers)?;
         let inputs = self.under(settings.as_str());
         let mut serial = MemorySink::new(rt.alloc());
@@ -59,7 +63,7 @@ impl<'a> Scripts<'a> {
     /// The first of these numbers of workers that report something else than one thread.
     pub(crate) fn first_other(
         self,
-        rt: &HostRuntime,
+        rt: &impl Host,
         workers: &[u32],
     ) -> Result<Option<u32>, AllocError> {
         for number in workers {
@@ -72,7 +76,7 @@ impl<'a> Scripts<'a> {
 }
 
 /// Whether so many workers report a row's script as it was worked out.
-fn is_as_worked_out(rt: &HostRuntime, row: &Row, workers: u32) -> Result<bool, AllocError> {
+fn is_as_worked_out(rt: &impl Host, row: &Row, workers: u32) -> Result<bool, AllocError> {
     let settings = settings_of(rt.alloc(), workers)?;
     let script = format!(in rt.alloc(); "team shop\n{}\n", row.classes)?;
     let suite = Scripts {
@@ -93,7 +97,7 @@ fn is_as_worked_out(rt: &HostRuntime, row: &Row, workers: u32) -> Result<bool, A
 
 /// The script of the first row that so many workers report otherwise.
 fn first_other_row<'a>(
-    rt: &HostRuntime,
+    rt: &impl Host,
     rows: &'a [Row],
     workers: u32,
 ) -> Result<Option<&'a str>, AllocError> {
@@ -106,7 +110,7 @@ fn first_other_row<'a>(
 }
 
 /// Asserts that so many workers report all rows as they were worked out.
-fn expect_rows(rt: &HostRuntime, workers: u32) -> Result<(), AllocError> {
+fn expect_rows(rt: &(impl Host + Abort), workers: u32) -> Result<(), AllocError> {
     for rows in [
         statements::ROWS.as_slice(),
         rights::ROWS.as_slice(),
@@ -127,7 +131,7 @@ fn workers_report_as_worked_out(rt: HostRuntime) -> Result<(), Fail> {
 }
 
 /// Asserts that 1, 2 and 8 workers report the same as one thread.
-fn expect_same(rt: &HostRuntime, suite: Scripts<'_>, name: &str) -> Result<(), AllocError> {
+fn expect_same(rt: &(impl Host + Abort), suite: Scripts<'_>, name: &str) -> Result<(), AllocError> {
     expect(rt, suite.first_other(rt, &[1, 2, 8])?.is_none(), name);
     Ok(())
 }

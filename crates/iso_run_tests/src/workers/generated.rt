@@ -1,4 +1,5 @@
 //! Suites that are picked at random, by 1, 2, 8 and 64 workers.
+use crate::host::Host;
 use crate::random::Numbers;
 use crate::workers::Scripts;
 use std::alloc::{AllocError, Global};
@@ -62,7 +63,7 @@ impl Draft {
     /// Writes declarations of keys.
     fn push_keys(&mut self) -> Result<(), AllocError> {
         for key in &KEYS {
-            if self.once_in(4) {
+            if self.once_in(3) {
                 let access = self.one_of(&["read", "write"]);
                 write!(self.text, "{access} \"{key}\" ")?;
             }
@@ -163,7 +164,7 @@ fn script_of(alloc: Global, seed: u64) -> Result<String, AllocError> {
 }
 
 /// The first of these numbers of workers that report the script of a seed otherwise than one thread.
-fn first_other(rt: &HostRuntime, seed: u64) -> Result<Option<u32>, AllocError> {
+fn first_other(rt: &impl Host, seed: u64) -> Result<Option<u32>, AllocError> {
     let script = script_of(rt.alloc(), seed)?;
     let suite = Scripts {
         scripts: &[script.as_bytes()],
