@@ -1,16 +1,17 @@
 -- How a run that was reported, or that has a fault, and a plan that was shown are answered.
-use Rattle.std.proofs.Common.{◌≡◌, ℕ, List, [], Option, Some, Result, Ok, Err, MatchResult, true, ap, sym, cond, subst, ◌∙◌}
+use Rattle.std.proofs.Common.{◌≡◌, ℕ, List, [], Option, Bool, Result, Ok, Err, MatchResult, true, ap, sym, cond, subst, ◌∙◌}
 use Rattle.std.specs.Borrow.{Bor}
 use Rattle.iso_arguments.specs.Requests.{IsPlainRun}
 use Rattle.iso_arguments.specs.declared.request.InputFiles.{InputFiles}
 use Rattle.iso_arguments.specs.declared.request.Request.{Request}
-use Rattle.iso_arguments.specs.declared.request.Request.TheVariants.{Replay}
+use Rattle.iso_arguments.specs.declared.request.Request.TheVariants.{Replay, Run}
 use Rattle.iso_run.specs.CommandFaults.{Answers, Flushed, IsRefusal, NotAnswered, command_aftermath}
 use Rattle.iso_run.specs.Commands.{Answered, Did, OfBytes, OfFiles, Reports, WereRead, script_texts}
 use Rattle.iso_run.specs.Faults.{Aftermath, Refuses, GivesUp, BreaksOff, Leaves, Untouched, aftermath}
 use Rattle.iso_run.specs.Replays.{IsPlayed}
 use Rattle.iso_run.specs.Runs.{NotWritten, Reported, Shown, suite_plan, suite_report}
 use Rattle.iso_run.specs.Suites.{Suite, texts}
+use Rattle.iso_run.specs.Ways.{Way, BySchedule, way_of}
 use Rattle.iso_run.specs.declared.command_fault.CommandFault.{CommandFault}
 use Rattle.iso_run.specs.declared.fault.RunFault.{RunFault}
 use Rattle.iso_run.specs.declared.files.InputBytes.{InputBytes}
@@ -24,9 +25,9 @@ weaker P Q f old new GivesUp h = h
 weaker P Q f old new BreaksOff h = f h
 
 -- the fault of a command that comes of one of a run leaves of the output what that one does
-pub refused : (text : Suite → List ℕ) (inputs : Inputs) (schedule : Option (List ℕ)) (old new : Account) (fault : RunFault) (of : CommandFault)
-    → NotWritten text inputs schedule old new fault → command_aftermath of ≡ aftermath fault → NotAnswered old new of
-refused text inputs schedule old new fault of h same =
+pub refused : (text : Suite → List ℕ) (inputs : Inputs) (way : Way) (old new : Account) (fault : RunFault) (of : CommandFault)
+    → NotWritten text inputs way old new fault → command_aftermath of ≡ aftermath fault → NotAnswered old new of
+refused text inputs way old new fault of h same =
     subst (Leaves (HasFailed old.failures new.failures) old new) (sym same) (weaker _ (HasFailed old.failures new.failures) (λ cut. cut.broken.broken.failed) old new (aftermath fault) h.leaves)
 
 -- after a whole text, the output failed as it was flushed
@@ -43,18 +44,18 @@ module _ (bytes : InputBytes) (processors : ℕ) (inputs : Inputs) (scripts_are 
   of-bytes : (P : Inputs → Type 0) → P inputs → OfBytes bytes processors P
   of-bytes P holds = record { inputs = inputs; scripts_are = scripts_are; settings_are = settings_are; world_is = world_is; processors_are = processors_are; holds = holds }
 
-  pub answered : (schedule : Option (List ℕ)) (result : Result Summary RunFault) (answer : Result ℕ CommandFault)
-      → MatchResult result (λ s. IsPlayed inputs schedule true × Reported inputs old mid s.all_ok) (NotWritten suite_report inputs schedule old mid)
-      → AnswersRun result mid new answer → Answers (λ s. OfBytes bytes processors (λ i. Reports i schedule old new s)) old new answer
-  answered schedule (Ok summary) (Ok status) ran end = of-bytes (λ i. Reports i schedule old new status) (record {
+  pub answered : (way : Way) (result : Result Summary RunFault) (answer : Result ℕ CommandFault)
+      → MatchResult result (λ s. IsPlayed inputs way true × Reported inputs old mid s.all_ok) (NotWritten suite_report inputs way old mid)
+      → AnswersRun result mid new answer → Answers (λ s. OfBytes bytes processors (λ i. Reports i way old new s)) old new answer
+  answered way (Ok summary) (Ok status) ran end = of-bytes (λ i. Reports i way old new status) (record {
     ok = summary.all_ok;
     played = ran.0;
     reported = subst (λ (a : Account). Reported inputs old a summary.all_ok) (sym end.1) ran.1;
     tells = end.0;
   })
-  answered schedule (Ok summary) (Err fault) ran end = unflushed old mid new (suite_report ran.1.suite) fault (cond summary.all_ok 0 1) ran.1.wrote end
-  answered schedule (Err fault) (Ok status) unwritten end = absurd end.0
-  answered schedule (Err fault) (Err of) unwritten end = subst (λ (a : Account). NotAnswered old a of) (sym end.1) (refused suite_report inputs schedule old mid fault of unwritten end.0)
+  answered way (Ok summary) (Err fault) ran end = unflushed old mid new (suite_report ran.1.suite) fault (cond summary.all_ok 0 1) ran.1.wrote end
+  answered way (Err fault) (Ok status) unwritten end = absurd end.0
+  answered way (Err fault) (Err of) unwritten end = subst (λ (a : Account). NotAnswered old a of) (sym end.1) (refused suite_report inputs way old mid fault of unwritten end.0)
 
   pub shown : (answer : Result ℕ CommandFault) → Shown inputs old mid → Flushed 0 mid new answer → Answers (λ s. (s ≡ 0) × OfBytes bytes processors (λ i. Shown i old new)) old new answer
   shown (Ok status) h end = (end.0, of-bytes (λ i. Shown i old new) (subst (λ (a : Account). Shown inputs old a) (sym end.1) h))
@@ -69,10 +70,15 @@ of-files files input bytes P read h = record {
   holds = h.holds;
 }
 
--- what is answered of a replay's inputs is answered of its request
+-- what is answered of the inputs of a run, or of a replay, is answered of its request
+pub did-run : (files : InputFiles) (input : Option (List ℕ)) (bytes : InputBytes) → WereRead files input bytes → (old new : Account) (serial : Bool) (result : Result ℕ CommandFault)
+    → Answers (λ s. OfBytes bytes files.processors (λ i. Reports i (way_of serial) old new s)) old new result → Answers (Did (Run serial files) input old new) old new result
+did-run files input bytes read old new serial (Ok status) h = of-files files input bytes (λ i. Reports i (way_of serial) old new status) read h
+did-run files input bytes read old new serial (Err fault) h = h
+
 pub did-replay : (files : InputFiles) (input : Option (List ℕ)) (bytes : InputBytes) → WereRead files input bytes → (old new : Account) (name : Bor (List ℕ)) (schedule : List ℕ) (result : Result ℕ CommandFault)
-    → Answers (λ s. OfBytes bytes files.processors (λ i. Reports i (Some schedule) old new s)) old new result → Answers (Did (Replay name files) input old new) old new result
-did-replay files input bytes read old new name schedule (Ok status) h = (schedule, of-files files input bytes (λ i. Reports i (Some schedule) old new status) read h)
+    → Answers (λ s. OfBytes bytes files.processors (λ i. Reports i (BySchedule schedule) old new s)) old new result → Answers (Did (Replay name files) input old new) old new result
+did-replay files input bytes read old new name schedule (Ok status) h = (schedule, of-files files input bytes (λ i. Reports i (BySchedule schedule) old new status) read h)
 did-replay files input bytes read old new name schedule (Err fault) h = h
 
 -- what is answered of a request is answered of the words that ask for it

@@ -1,4 +1,5 @@
 mod Answering
+mod Captures
 mod Documents
 mod Ending
 mod Reading
@@ -6,3 +7,4 @@ mod Replaying
 mod Reporting
 mod Turns
 mod Unread
+mod Working

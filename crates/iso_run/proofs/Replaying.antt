@@ -1,6 +1,5 @@
 -- Why a replay ends early, by what its parts answer, and how far a replay went that no event stopped.
-use Rattle.std.proofs.Common.{◌≡◌, ℕ, List, Bool, Err, Ok, Some, refl, subst, ap, ◌∙◌}
-use Rattle.std.proofs.lemmas.Bool.{false≢true}
+use Rattle.std.proofs.Common.{◌≡◌, ℕ, List, Bool, Err, Ok, refl, subst, ap, ◌∙◌}
 use Rattle.iso_core.specs.Cores.{CoreView, is_complete}
 use Rattle.iso_core.specs.EventRuns.{EndedBy, Ran}
 use Rattle.iso_standing.specs.declared.core_fault.CoreFault.{CoreFault}
@@ -9,12 +8,9 @@ use Rattle.iso_run.specs.Suites.{suite_of}
 use Rattle.iso_run.specs.declared.inputs.Inputs.{Inputs}
 use Rattle.iso_run.specs.declared.inputs.Suite.{Suite as ReadSuite}
 use Rattle.iso_lifecycle.specs.ResultViews.{ResultsView}
-use Rattle.iso_run.specs.Faults.{aftermath}
-use Rattle.iso_run.specs.Replays.{Cause, IsAccepted, NotRead, Replay, events_fault, schedule_fault}
+use Rattle.iso_run.specs.Replays.{IsAccepted, Replay, events_fault, schedule_fault}
 use Rattle.iso_run.specs.Runs.{IsRead, NotWritten, suite_report}
-use Rattle.iso_run.specs.declared.fault.RunFault.{RunFault}
-use Rattle.iso_run.specs.declared.fault.RunFault.TheVariants as F
-use Rattle.iso_run.proofs.Unread.{early-leaves}
+use Rattle.iso_run.specs.Ways.{BySchedule}
 use Rattle.iso_schedule.specs.Schedules.{AreRead, IfAnswered}
 use Rattle.iso_standing.specs.declared.event.Event.{Event}
 use Rattle.iso_schedule.specs.declared.fault.ScheduleError.{ScheduleError}
@@ -22,24 +18,9 @@ use Rattle.iso_schedule.specs.declared.fault.ScheduleError.TheVariants as S
 use Rattle.iso_tap.specs.Sinks.{Account}
 
 pub unread : (inputs : Inputs) (schedule : List ℕ) (a : Account) (suite : ReadSuite) (error : ScheduleError) → IsRead inputs suite → IfAnswered (AreRead schedule) (Err error)
-    → NotWritten suite_report inputs (Some schedule) a a (schedule_fault error)
+    → NotWritten suite_report inputs (BySchedule schedule) a a (schedule_fault error)
 unread inputs schedule a suite (S.Fault fault) is wrong = record { cause = record { suite = suite_of suite; is_suite = is.is_suite; wrong = wrong }; leaves = refl }
 unread inputs schedule a suite S.OutOfMemory is wrong = record { cause = tt; leaves = refl }
-
--- inputs that aren't read are replayed no more than run
-cause-replayed : (inputs : Inputs) (schedule : List ℕ) (fault : RunFault) → NotRead inputs fault → Cause inputs (Some schedule) fault
-cause-replayed inputs schedule (F.Settings fault) h = h.0
-cause-replayed inputs schedule (F.World fault) h = h.0
-cause-replayed inputs schedule (F.Script index fault) h = h.0
-cause-replayed inputs schedule (F.Plan fault) h = h.0
-cause-replayed inputs schedule (F.Schedule fault) h = absurd h.0
-cause-replayed inputs schedule (F.Refused index why) h = absurd h.0
-cause-replayed inputs schedule F.Unfinished h = absurd (false≢true h.0)
-cause-replayed inputs schedule F.Memory h = tt
-cause-replayed inputs schedule (F.Write written) h = absurd h.1
-
-pub unread-unreplayed : (inputs : Inputs) (schedule : List ℕ) (a : Account) (fault : RunFault) → NotRead inputs fault → NotWritten suite_report inputs (Some schedule) a a fault
-unread-unreplayed inputs schedule a fault not = record { cause = cause-replayed inputs schedule fault not; leaves = early-leaves (aftermath fault) not.1 _ a }
 
 abbrev pub replay-of : (inputs : Inputs) (schedule : List ℕ) (suite : ReadSuite) (events : List Event) → IsRead inputs suite → AreRead schedule (Ok events) → Replay inputs schedule
 replay-of inputs schedule suite events is read =
@@ -47,7 +28,7 @@ replay-of inputs schedule suite events is read =
 
 module _ (inputs : Inputs) (schedule : List ℕ) (r : Replay inputs schedule) where
   pub stopped : (a : Account) (index : ℕ) (fault : CoreFault) → EndedBy fault r.plan r.suite.start r.suite.settings.worker_count r.events index
-      → NotWritten suite_report inputs (Some schedule) a a (events_fault (record { index = index; fault = fault }))
+      → NotWritten suite_report inputs (BySchedule schedule) a a (events_fault (record { index = index; fault = fault }))
   stopped a index (C.Refused why) by = record { cause = record { replay = r; refused = by }; leaves = refl }
   stopped a index C.OutOfMemory by = record { cause = tt; leaves = refl }
 

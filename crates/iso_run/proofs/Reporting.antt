@@ -1,5 +1,5 @@
 -- The report of results is that of their suite.
-use Rattle.std.proofs.Common.{◌≡◌, ℕ, List, Bool, true, Option, Some, Result, Ok, Err, MatchResult, refl, subst, sym, ap, ap₂, ◌∙◌}
+use Rattle.std.proofs.Common.{◌≡◌, ℕ, List, Bool, true, Result, Ok, Err, MatchResult, refl, subst, sym, ap, ap₂, ◌∙◌}
 use Rattle.iso_run.specs.Suites.{IsSuite, Suite}
 use Rattle.iso_run.specs.declared.inputs.Inputs.{Inputs}
 use Rattle.iso_lifecycle.specs.ResultViews.{ResultsView, outcome_in}
@@ -12,6 +12,7 @@ use Rattle.iso_tap.specs.Reports.{all_ok, report}
 use Rattle.iso_tap.specs.Sinks.{Account, Wrote}
 use Rattle.iso_run.specs.Replays.{IsAccepted, IsPlayed}
 use Rattle.iso_run.specs.Runs.{IsBroken, NotWritten, Replayed, Reported, ReportedOf, suite_ok, suite_report}
+use Rattle.iso_run.specs.Ways.{Way, BySchedule}
 use Rattle.iso_run.specs.declared.fault.RunFault.{RunFault}
 use Rattle.iso_run.specs.declared.fault.RunFault.TheVariants.{Write}
 use Rattle.iso_run.specs.declared.report.Summary.{Summary}
@@ -27,11 +28,11 @@ ok-is suite plan v made of on =
     ∙ ap (λ (rows : List Row). all_ok rows (outcome_alone rows (started suite.start))) made
 
 -- why a text of a suite wasn't written whole, where the sink failed
-pub cut-short : (text : Suite → List ℕ) (inputs : Inputs) (schedule : Option (List ℕ)) (suite : Suite) → IsSuite inputs suite → IsPlayed inputs schedule true → (old new : Account) (fault : RunFault)
-    → IsBroken (text suite) old new fault → NotWritten text inputs schedule old new fault
-cut-short text inputs schedule suite is played old new fault broken =
+pub cut-short : (text : Suite → List ℕ) (inputs : Inputs) (way : Way) (suite : Suite) → IsSuite inputs suite → IsPlayed inputs way true → (old new : Account) (fault : RunFault)
+    → IsBroken (text suite) old new fault → NotWritten text inputs way old new fault
+cut-short text inputs way suite is played old new fault broken =
     let whole : IsBroken (text suite) old new (Write broken.written) = record { written = broken.written; is = refl; broken = broken.broken } in
-    subst (λ (f : RunFault). NotWritten text inputs schedule old new f) (sym broken.is) (record { cause = played; leaves = record { suite = suite; is_suite = is; broken = whole } })
+    subst (λ (f : RunFault). NotWritten text inputs way old new f) (sym broken.is) (record { cause = played; leaves = record { suite = suite; is_suite = is; broken = whole } })
 
 module _ (inputs : Inputs) (old new : Account) (suite : Suite) (plan : Planned) (v : ResultsView) (is : IsSuite inputs suite) (made : tree_of plan ≡ tree suite.scripts) (of : v.plan ≡ plan) (on : v.start ≡ suite.start) where
   pub reported-whole : (ok : Bool) → ReportedOf (tree_of plan) (outcome_in v) old new ok → Reported inputs old new ok
@@ -43,15 +44,15 @@ module _ (inputs : Inputs) (old new : Account) (suite : Suite) (plan : Planned) 
   }
 
   -- what is answered of the results of a suite is answered of a run of it, and of an accepted replay
-  pub reported : (schedule : Option (List ℕ)) → IsPlayed inputs schedule true → (result : Result Summary RunFault)
+  pub reported : (way : Way) → IsPlayed inputs way true → (result : Result Summary RunFault)
       → MatchResult result (λ s. ReportedOf (tree_of plan) (outcome_in v) old new s.all_ok) (IsBroken (report (tree_of plan) (outcome_in v)) old new)
-      → MatchResult result (λ s. Reported inputs old new s.all_ok) (NotWritten suite_report inputs schedule old new)
-  reported schedule played (Ok summary) whole = reported-whole summary.all_ok whole
-  reported schedule played (Err fault) broken =
-      cut-short suite_report inputs schedule suite is played old new fault (subst (λ (text : List ℕ). IsBroken text old new fault) (report-is suite plan v made of on) broken)
+      → MatchResult result (λ s. Reported inputs old new s.all_ok) (NotWritten suite_report inputs way old new)
+  reported way played (Ok summary) whole = reported-whole summary.all_ok whole
+  reported way played (Err fault) broken =
+      cut-short suite_report inputs way suite is played old new fault (subst (λ (text : List ℕ). IsBroken text old new fault) (report-is suite plan v made of on) broken)
 
   pub replay-reported : (schedule : List ℕ) → IsAccepted inputs schedule true → (result : Result Summary RunFault)
       → MatchResult result (λ s. ReportedOf (tree_of plan) (outcome_in v) old new s.all_ok) (IsBroken (report (tree_of plan) (outcome_in v)) old new)
-      → MatchResult result (λ s. Replayed inputs schedule old new s.all_ok) (NotWritten suite_report inputs (Some schedule) old new)
-  replay-reported schedule accepted (Ok summary) whole = (accepted, reported (Some schedule) accepted (Ok summary) whole)
-  replay-reported schedule accepted (Err fault) broken = reported (Some schedule) accepted (Err fault) broken
+      → MatchResult result (λ s. Replayed inputs schedule old new s.all_ok) (NotWritten suite_report inputs (BySchedule schedule) old new)
+  replay-reported schedule accepted (Ok summary) whole = (accepted, reported (BySchedule schedule) accepted (Ok summary) whole)
+  replay-reported schedule accepted (Err fault) broken = reported (BySchedule schedule) accepted (Err fault) broken

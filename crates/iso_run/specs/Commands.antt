@@ -1,5 +1,5 @@
 -- What a command does for what its words ask, and how it ends.
-use Rattle.std.specs.Prelude.{◌≡◌, ℕ, ◌+◌, suc, zero, ◌⊎◌, List, [], ◌∷◌, length, map, take, Bool, true, cond, Option, None, Some, IfSome, string_bytes}
+use Rattle.std.specs.Prelude.{◌≡◌, ℕ, ◌+◌, suc, zero, ◌⊎◌, List, [], ◌∷◌, length, map, take, Bool, true, cond, Option, None, IfSome, string_bytes}
 use Rattle.iso_arguments.specs.Requests.{IsPlainRun}
 use Rattle.iso_arguments.specs.declared.request.InputFiles.{InputFiles}
 use Rattle.iso_arguments.specs.declared.request.Request.{Request}
@@ -9,6 +9,7 @@ use Rattle.iso_run.specs.Faults.{Untouched}
 use Rattle.iso_run.specs.Replays.{IsPlayed}
 use Rattle.iso_run.specs.Runs.{Reported, Shown}
 use Rattle.iso_run.specs.Suites.{texts}
+use Rattle.iso_run.specs.Ways.{Way, BySchedule, way_of}
 use Rattle.iso_run.specs.declared.files.InputBytes.{InputBytes}
 use Rattle.iso_run.specs.declared.inputs.Inputs.{Inputs}
 use Rattle.iso_tap.specs.Sinks.{Account, HasFailed, Wrote}
@@ -49,11 +50,11 @@ pub record OfFiles (files : InputFiles) (input : Option (List ℕ)) (P : Inputs 
   pub processors_are : inputs.processors ≡ files.processors
   pub holds : P inputs
 
--- The report of inputs was written, whole, after the schedule was played, where there is one. The status is 0 where every
--- top-level point is ok, and else 1.
-pub record Reports (inputs : Inputs) (schedule : Option (List ℕ)) (old new : Account) (answer : ℕ) : Type 0 where
+-- The report of inputs was written, whole, after they were run in this way. The status is 0 where every top-level point is ok, and
+-- else 1.
+pub record Reports (inputs : Inputs) (way : Way) (old new : Account) (answer : ℕ) : Type 0 where
   pub ok : Bool
-  pub played : IsPlayed inputs schedule true
+  pub played : IsPlayed inputs way true
   pub reported : Reported inputs old new ok
   pub tells : answer ≡ cond ok 0 1
 
@@ -62,8 +63,8 @@ pub record Reports (inputs : Inputs) (schedule : Option (List ℕ)) (old new : A
 abbrev pub Did : Request → Option (List ℕ) → Account → Account → ℕ → Type 0
 Did (Show text) input old new answer = (answer ≡ 0) × Wrote old new (string_bytes text)
 Did (Plan files) input old new answer = (answer ≡ 0) × OfFiles files input (λ inputs. Shown inputs old new)
-Did (Run serial files) input old new answer = OfFiles files input (λ inputs. Reports inputs None old new answer)
-Did (Replay name files) input old new answer = (schedule : List ℕ) × OfFiles files input (λ inputs. Reports inputs (Some schedule) old new answer)
+Did (Run serial files) input old new answer = OfFiles files input (λ inputs. Reports inputs (way_of serial) old new answer)
+Did (Replay name files) input old new answer = (schedule : List ℕ) × OfFiles files input (λ inputs. Reports inputs (BySchedule schedule) old new answer)
 
 -- What some request asks for was done, without words that of a plain run.
 pub record Answered {A : Type 0} (words : List A) (input : Option (List ℕ)) (old new : Account) (answer : ℕ) : Type 0 where

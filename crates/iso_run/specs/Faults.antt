@@ -1,7 +1,7 @@
 -- What comes of a fault: the exit status, and what is left of the sink.
 use Rattle.std.specs.Prelude.{◌≡◌, ⊤, ℕ}
 use Rattle.iso_run.specs.declared.fault.RunFault.{RunFault}
-use Rattle.iso_run.specs.declared.fault.RunFault.TheVariants.{Settings, World, Script, Plan, Schedule, Refused, Unfinished, Memory, Write}
+use Rattle.iso_run.specs.declared.fault.RunFault.TheVariants.{Settings, World, Script, Plan, Schedule, Refused, Unfinished, Start, Lost, Memory, Write}
 use Rattle.iso_tap.specs.Sinks.{Account}
 
 -- The input is refused, or the program gives up, both before anything was asked of the sink; or the sink broke off.
@@ -19,6 +19,8 @@ aftermath (Plan fault) = Refuses
 aftermath (Schedule fault) = Refuses
 aftermath (Refused index why) = Refuses
 aftermath Unfinished = Refuses
+aftermath Start = GivesUp
+aftermath Lost = GivesUp
 aftermath Memory = GivesUp
 aftermath (Write written) = BreaksOff
 

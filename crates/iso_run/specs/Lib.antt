@@ -4,3 +4,5 @@ pub mod Faults
 pub mod Replays
 pub mod Runs
 pub mod Suites
+pub mod Ways
+pub mod Workings

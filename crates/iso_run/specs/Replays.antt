@@ -1,5 +1,5 @@
--- What a replay of a recorded schedule comes to, and why a run or a replay has no whole report.
-use Rattle.std.specs.Prelude.{◌≡◌, ⊤, ℕ, List, Bool, true, false, Option, None, Some, Ok, Err, IsOk, IsSomeAnd}
+-- What a replay of a recorded schedule comes to, and why a run in some way has no whole report.
+use Rattle.std.specs.Prelude.{◌≡◌, ⊤, ℕ, List, Bool, true, false, Some, Ok, Err, IsOk}
 use Rattle.iso_standing.specs.CodeEvents.{refused_of}
 use Rattle.iso_core.specs.Cores.{is_complete}
 use Rattle.iso_core.specs.EventRuns.{AreAccepted, RefusedAt, core_after}
@@ -11,8 +11,9 @@ use Rattle.iso_plan.specs.RowView.{tree_of}
 use Rattle.iso_plan.specs.Tree.{tree}
 use Rattle.iso_run.specs.Faults.{IsEarly, aftermath}
 use Rattle.iso_run.specs.Suites.{Suite, AreSet, FirstUnread, HasNoPlan, IsSuite, settings_from, world_from}
+use Rattle.iso_run.specs.Ways.{Way, Serial, ByWorkers, BySchedule, IsByScheduleAnd, IsByWorkers}
 use Rattle.iso_run.specs.declared.fault.RunFault.{RunFault}
-use Rattle.iso_run.specs.declared.fault.RunFault.TheVariants.{Settings, World, Script, Plan, Schedule, Refused, Unfinished, Memory, Write}
+use Rattle.iso_run.specs.declared.fault.RunFault.TheVariants.{Settings, World, Script, Plan, Schedule, Refused, Unfinished, Start, Lost, Memory, Write}
 use Rattle.iso_run.specs.declared.inputs.Inputs.{Inputs}
 use Rattle.iso_schedule.specs.Schedules.{AreRead}
 use Rattle.iso_standing.specs.declared.event.Event.{Event}
@@ -59,25 +60,28 @@ pub record IsAccepted (inputs : Inputs) (schedule : List ℕ) (whole : Bool) : T
   pub accepted : AreAccepted replay.plan replay.suite.start replay.suite.settings.worker_count replay.events
   pub ends : is_complete (core_after replay.plan replay.suite.start replay.suite.settings.worker_count replay.events) ≡ whole
 
--- Where there is a schedule, it is accepted to its end, and this tells whether every node but the root is finished then. A run
--- without one is whole.
-abbrev pub IsPlayed : Inputs → Option (List ℕ) → Bool → Type 0
-IsPlayed inputs None whole = whole ≡ true
-IsPlayed inputs (Some schedule) whole = IsAccepted inputs schedule whole
+-- What a way came to, and whether every node but the root is finished then: a run on one thread is whole, and a schedule is accepted
+-- to its end. Of workers it isn't told what they came to.
+abbrev pub IsPlayed : Inputs → Way → Bool → Type 0
+IsPlayed inputs Serial whole = whole ≡ true
+IsPlayed inputs ByWorkers whole = ⊤
+IsPlayed inputs (BySchedule schedule) whole = IsAccepted inputs schedule whole
 
 -- Why a text of a suite wasn't written whole: the first fault in the order settings, world, scripts in turn, plan, and where
--- there is a schedule, its lines and events.
-abbrev pub Cause : Inputs → (schedule : Option (List ℕ)) → RunFault → Type 0
-Cause inputs schedule (Settings fault) = settings_from inputs.settings.now inputs.processors ≡ Err fault
-Cause inputs schedule (World fault) = IsOk (settings_from inputs.settings.now inputs.processors) × (world_from inputs.world.now ≡ Err fault)
-Cause inputs schedule (Script index fault) = AreSet inputs × FirstUnread inputs.scripts.now index fault
-Cause inputs schedule (Plan fault) = AreSet inputs × HasNoPlan inputs fault
-Cause inputs schedule (Schedule fault) = IsSomeAnd schedule (λ bytes. HasWrongLine inputs bytes fault)
-Cause inputs schedule (Refused index why) = IsSomeAnd schedule (λ bytes. IsRefused inputs bytes index why)
-Cause inputs schedule Unfinished = IsPlayed inputs schedule false
-Cause inputs schedule Memory = ⊤
-Cause inputs schedule (Write written) = IsPlayed inputs schedule true
+-- there is a schedule, its lines and events. What stops workers isn't told.
+abbrev pub Cause : Inputs → Way → RunFault → Type 0
+Cause inputs way (Settings fault) = settings_from inputs.settings.now inputs.processors ≡ Err fault
+Cause inputs way (World fault) = IsOk (settings_from inputs.settings.now inputs.processors) × (world_from inputs.world.now ≡ Err fault)
+Cause inputs way (Script index fault) = AreSet inputs × FirstUnread inputs.scripts.now index fault
+Cause inputs way (Plan fault) = AreSet inputs × HasNoPlan inputs fault
+Cause inputs way (Schedule fault) = IsByScheduleAnd way (λ bytes. HasWrongLine inputs bytes fault)
+Cause inputs way (Refused index why) = IsByScheduleAnd way (λ bytes. IsRefused inputs bytes index why)
+Cause inputs way Unfinished = IsPlayed inputs way false
+Cause inputs way Start = IsByWorkers way
+Cause inputs way Lost = IsByWorkers way
+Cause inputs way Memory = ⊤
+Cause inputs way (Write written) = IsPlayed inputs way true
 
 -- why inputs aren't read as a suite, before anything is asked of a sink
 abbrev pub NotRead : Inputs → RunFault → Type 0
-NotRead inputs fault = Cause inputs None fault × IsEarly (aftermath fault)
+NotRead inputs fault = Cause inputs Serial fault × IsEarly (aftermath fault)

@@ -1,8 +1,9 @@
 -- What a run, a replay and a printed plan answer, and what the sink took.
-use Rattle.std.specs.Prelude.{◌≡◌, ℕ, ◌<◌, List, Bool, true, Option, length, map, take}
+use Rattle.std.specs.Prelude.{◌≡◌, ℕ, ◌<◌, List, Bool, true, length, map, take}
 use Rattle.iso_run.specs.Faults.{Leaves, aftermath}
 use Rattle.iso_run.specs.Replays.{Cause, IsAccepted}
 use Rattle.iso_run.specs.Suites.{Suite, IsSuite, suite_of}
+use Rattle.iso_run.specs.Ways.{Way}
 use Rattle.iso_run.specs.declared.fault.RunFault.{RunFault}
 use Rattle.iso_run.specs.declared.fault.RunFault.TheVariants.{Write}
 use Rattle.iso_run.specs.declared.inputs.Inputs.{Inputs}
@@ -78,6 +79,6 @@ pub record CutShort (text : Suite → List ℕ) (inputs : Inputs) (old new : Acc
   pub broken : IsBroken (text suite) old new fault
 
 -- Why this text of a suite wasn't written whole, and what is left of the sink: but for a failed write it was asked nothing.
-pub record NotWritten (text : Suite → List ℕ) (inputs : Inputs) (schedule : Option (List ℕ)) (old new : Account) (fault : RunFault) : Type 0 where
-  pub cause : Cause inputs schedule fault
+pub record NotWritten (text : Suite → List ℕ) (inputs : Inputs) (way : Way) (old new : Account) (fault : RunFault) : Type 0 where
+  pub cause : Cause inputs way fault
   pub leaves : Leaves (CutShort text inputs old new fault) old new (aftermath fault)

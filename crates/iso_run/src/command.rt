@@ -1,5 +1,5 @@
 //! The program, over a reader and two sinks.
-ghost use Rattle.std.specs.Prelude.{◌≡◌, ◌≤◌, ◌+◌, [], ◌∷◌, IfSome, MatchResult, cond, true, option_map, take};
+ghost use Rattle.std.specs.Prelude.{◌≡◌, ◌≤◌, ◌+◌, [], ◌∷◌, IfSome, MatchResult, cond, true, take};
 ghost use Rattle.iso_arguments.specs.Requests.{AsksForSomeProcessors, IsCount};
 ghost use Rattle.iso_model.specs.declared.limits.TheConstants.{FILE_BYTES};
 ghost use Rattle.iso_run.specs.CommandFaults.{Answers, Flushed, IsRefusal, command_aftermath, words_status};
@@ -7,6 +7,7 @@ ghost use Rattle.iso_run.specs.Commands.{Answered, Did, Ended, OfBytes, RanOn, R
 ghost use Rattle.iso_run.specs.Faults.{Untouched, aftermath};
 ghost use Rattle.iso_run.specs.Replays.{IsPlayed};
 ghost use Rattle.iso_run.specs.Runs.{NotWritten, Reported, Shown, suite_report};
+ghost use Rattle.iso_run.specs.Ways.{way_in, way_of};
 ghost use Rattle.iso_tap.specs.Sinks.{Wrote};
 
 use crate::command_fault::CommandFault;
@@ -19,19 +20,29 @@ use crate::plan::show_plan;
 use crate::replay::run_schedule;
 use crate::report::Summary;
 use crate::run::run_serial;
+use crate::way::Way;
+use crate::workers::run_workers;
 use iso_arguments::request::{InputFiles, Request, WordsFault, read_words};
+use iso_lifecycle::gate::OpenGate;
 use iso_tap::sink::Sink;
 use iso_tap::text::write_text;
 use std::alloc::{AllocGlobal, Global};
 use std::fs::Files;
 use std::io::Read;
+use std::sync::Wait;
+use std::thread::Threads;
 
 /// Runs the program: reads the words, then the files that they name in the order settings, world, scripts, schedule, writes
 /// a report, a plan or a help page to `output`, and a fault's line to `errors`. Where no script is named, one is read
 /// from `input`. Answers the exit status: 0 where every top-level point is ok, or a plan or help was printed, 1 where
 /// some top-level point is not ok, 2 for refused input, 3 for want of memory and failed reads and writes. A failed write
 /// to `errors` changes nothing.
-pub fn command<G: AllocGlobal + Files, R: Read, W: Sink, E: Sink>(
+pub fn command<
+    G: AllocGlobal + Files + Threads + Wait + Sync,
+    R: Read,
+    W: Sink,
+    E: Sink,
+>(
     rt: &G,
     words: &[String],
     input: &mut R,
@@ -63,7 +74,7 @@ pub fn refuse_words<E: Sink>(fault: WordsFault, errors: &mut E) -> u8
 }
 
 /// Does what the words ask for, and answers the status, 0 or 1.
-fn answer<'a, G: AllocGlobal + Files, R: Read, W: Sink>(
+fn answer<'a, G: AllocGlobal + Files + Threads + Wait + Sync, R: Read, W: Sink>(
     rt: &G,
     words: &'a [String],
     input: &mut R,
@@ -77,7 +88,7 @@ fn answer<'a, G: AllocGlobal + Files, R: Read, W: Sink>(
 }
 
 /// Does what is asked for, and answers the status, 0 or 1.
-fn answer_request<'a, G: AllocGlobal + Files, R: Read, W: Sink>(
+fn answer_request<'a, G: AllocGlobal + Files + Threads + Wait + Sync, R: Read, W: Sink>(
     rt: &G,
     request: &Request<'a>,
     input: &mut R,
@@ -93,14 +104,14 @@ fn answer_request<'a, G: AllocGlobal + Files, R: Read, W: Sink>(
             let bytes = read_files(rt, files, input)?;
             plan(rt.alloc(), &bytes, files, output)
         }
-        Request::Run { serial: _, files } => {
+        Request::Run { serial, files } => {
             let bytes = read_files(rt, files, input)?;
-            run(rt.alloc(), &bytes, None, files, output)
+            run(rt, &bytes, asked_way(*serial), files, output)
         }
         Request::Replay { schedule, files } => {
             let bytes = read_files(rt, files, input)?;
             let schedule = read_file(rt, *schedule)?;
-            run(rt.alloc(), &bytes, Some(&schedule), files, output)
+            run(rt, &bytes, Way::BySchedule(&schedule), files, output)
         }
     }
 }
@@ -116,41 +127,49 @@ fn show<W: Sink>(text: &str, output: &mut W) -> Result<u8, CommandFault<'static>
     Ok(ALL_OK)
 }
 
-/// Runs a suite, or replays a schedule of it where one is given, and writes its report.
-fn run<'a, W: Sink>(
-    alloc: Global,
+/// The way of a run, which is asked for with `--serial` or without.
+fn asked_way(serial: bool) -> Way<'static>
+    ensures { way_in result ≡ way_of serial }
+{
+    if serial { Way::Serial } else { Way::ByWorkers }
+}
+
+/// Runs a suite, and writes its report.
+fn run<'a, G: AllocGlobal + Threads + Wait + Sync, W: Sink>(
+    rt: &G,
     bytes: &InputBytes,
-    schedule: Option<&[u8]>,
+    way: Way<'_>,
     files: &InputFiles<'a>,
     output: &mut W,
 ) -> Result<u8, CommandFault<'a>>
     requires { IsCount files.now.processors }
     ensures { Answers (λ s. OfBytes bytes.now files.now.processors (λ inputs.
-        Reports inputs (option_map (λ b. b.now) schedule.entry) (W.account output.old) (W.account output.new) s))
+        Reports inputs (way_in way.entry) (W.account output.old) (W.account output.new) s))
         (W.account output.old) (W.account output.new) result }
 {
-    let scripts = lent(alloc, &bytes.scripts)?;
+    let scripts = lent(rt.alloc(), &bytes.scripts)?;
     let inputs = inputs_of(bytes, &scripts, files.processors);
-    let ran = run_or_replay(alloc, inputs, schedule, output);
+    let ran = run_by(rt, inputs, way, output);
     answer_run(ran, files, output)
 }
 
-/// Runs a suite, or replays a schedule of it where one is given.
-fn run_or_replay<W: Sink>(
-    alloc: Global,
+/// Runs a suite in some way.
+fn run_by<G: AllocGlobal + Threads + Wait + Sync, W: Sink>(
+    rt: &G,
     inputs: Inputs<'_>,
-    schedule: Option<&[u8]>,
+    way: Way<'_>,
     output: &mut W,
 ) -> Result<Summary, RunFault>
     requires { 1 ≤ inputs.processors }
     ensures { MatchResult result
-        (λ s. IsPlayed inputs.entry (option_map (λ b. b.now) schedule.entry) true
+        (λ s. IsPlayed inputs.entry (way_in way.entry) true
         × Reported inputs.entry (W.account output.old) (W.account output.new) s.all_ok)
-        (NotWritten suite_report inputs.entry (option_map (λ b. b.now) schedule.entry) (W.account output.old) (W.account output.new)) }
+        (NotWritten suite_report inputs.entry (way_in way.entry) (W.account output.old) (W.account output.new)) }
 {
-    match schedule {
-        None => run_serial(alloc, inputs, output),
-        Some(schedule) => run_schedule(alloc, inputs, schedule, output),
+    match way {
+        Way::Serial => run_serial(rt.alloc(), inputs, output),
+        Way::ByWorkers => run_workers(rt, rt.alloc(), inputs, &OpenGate, output),
+        Way::BySchedule(schedule) => run_schedule(rt.alloc(), inputs, schedule, output),
     }
 }
 

@@ -26,8 +26,12 @@ pub enum RunFault {
     Schedule(ScheduleFault),
     /// The first event of a schedule that was refused, counted from 0, and why.
     Refused(usize, Refused),
-    /// A schedule was accepted to its end, and a node but the root isn't finished.
+    /// A schedule was accepted to its end, or the workers have ended, and a node but the root isn't finished.
     Unfinished,
+    /// A thread for a worker couldn't be started.
+    Start,
+    /// The receipts of the workers aren't those of the history.
+    Lost,
     /// Memory ran out. Nothing was written.
     Memory,
     /// The sink failed, once it had taken so many bytes of the report.
@@ -47,7 +51,7 @@ impl RunFault {
             | RunFault::Schedule(_)
             | RunFault::Refused(..)
             | RunFault::Unfinished => WRONG_INPUT,
-            RunFault::Memory | RunFault::Write(_) => FAILED,
+            RunFault::Start | RunFault::Lost | RunFault::Memory | RunFault::Write(_) => FAILED,
         }
     }
 }

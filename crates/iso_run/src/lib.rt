@@ -12,3 +12,5 @@ pub mod plan;
 pub mod replay;
 pub mod report;
 pub mod run;
+mod way;
+pub mod workers;

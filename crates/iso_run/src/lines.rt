@@ -52,6 +52,8 @@ impl fmt::Display for RunFaultLine<'_> {
             }
             RunFault::Refused(index, why) => write!(f, "jtap: schedule: event {index}: {why}"),
             RunFault::Unfinished => f.write_str("jtap: schedule: unfinished"),
+            RunFault::Start => f.write_str("jtap: cannot start a worker"),
+            RunFault::Lost => f.write_str("jtap: lost receipt"),
             RunFault::Memory => f.write_str("jtap: out of memory"),
             RunFault::Write(_) => f.write_str(WRITE_FAILED),
         }

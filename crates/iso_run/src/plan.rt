@@ -1,6 +1,7 @@
 //! The printed plan of inputs.
-ghost use Rattle.std.specs.Prelude.{◌≤◌, MatchResult, None};
+ghost use Rattle.std.specs.Prelude.{◌≤◌, MatchResult};
 ghost use Rattle.iso_run.specs.Runs.{NotWritten, Shown, suite_plan};
+ghost use Rattle.iso_run.specs.Ways.{Serial};
 
 use crate::fault::RunFault;
 use crate::inputs::{Inputs, read_inputs};
@@ -16,7 +17,7 @@ pub fn show_plan<W: Sink>(alloc: Global, inputs: Inputs<'_>, sink: &mut W) -> Re
     requires { 1 ≤ inputs.processors }
     ensures { MatchResult result
         (λ _. Shown inputs.entry (W.account sink.old) (W.account sink.new))
-        (NotWritten suite_plan inputs.entry None (W.account sink.old) (W.account sink.new)) }
+        (NotWritten suite_plan inputs.entry Serial (W.account sink.old) (W.account sink.new)) }
 {
     let suite = read_inputs(alloc, inputs)?;
     match write_plan(&suite.plan, suite.settings.workers(), sink) {

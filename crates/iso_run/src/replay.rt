@@ -1,7 +1,8 @@
 //! Replays of recorded schedules, from their inputs to the report.
-ghost use Rattle.std.specs.Prelude.{◌≤◌, List, MatchResult, Ok, Some, ℕ};
+ghost use Rattle.std.specs.Prelude.{◌≤◌, List, MatchResult, Ok, ℕ};
 ghost use Rattle.iso_run.specs.declared.inputs.Inputs.{Inputs};
 ghost use Rattle.iso_run.specs.Runs.{IsRead, NotWritten, Replayed, suite_report};
+ghost use Rattle.iso_run.specs.Ways.{BySchedule};
 ghost use Rattle.iso_schedule.specs.Schedules.{AreRead};
 
 use crate::fault::RunFault;
@@ -28,7 +29,7 @@ pub fn run_schedule<W: Sink>(
     requires { 1 ≤ inputs.processors }
     ensures { MatchResult result
         (λ s. Replayed inputs.entry schedule.now (W.account sink.old) (W.account sink.new) s.all_ok)
-        (NotWritten suite_report inputs.entry (Some schedule.now) (W.account sink.old) (W.account sink.new)) }
+        (NotWritten suite_report inputs.entry (BySchedule schedule.now) (W.account sink.old) (W.account sink.new)) }
 {
     let suite = read_inputs(alloc, inputs)?;
     replay_on(alloc, &suite, schedule, sink)
@@ -43,7 +44,7 @@ fn replay_on<W: Sink>(
 ) -> Result<Summary, RunFault>
     ensures { (inputs : Inputs) → IsRead inputs suite.now → MatchResult result
         (λ s. Replayed inputs schedule.now (W.account sink.old) (W.account sink.new) s.all_ok)
-        (NotWritten suite_report inputs (Some schedule.now) (W.account sink.old) (W.account sink.new)) }
+        (NotWritten suite_report inputs (BySchedule schedule.now) (W.account sink.old) (W.account sink.new)) }
 {
     let events = read_schedule(alloc, schedule)?;
     replay_events(alloc, suite, &events, sink)
@@ -58,7 +59,7 @@ fn replay_events<W: Sink>(
 ) -> Result<Summary, RunFault>
     ensures { (inputs : Inputs) (schedule : List ℕ) → IsRead inputs suite.now → AreRead schedule (Ok events.now) → MatchResult result
         (λ s. Replayed inputs schedule (W.account sink.old) (W.account sink.new) s.all_ok)
-        (NotWritten suite_report inputs (Some schedule) (W.account sink.old) (W.account sink.new)) }
+        (NotWritten suite_report inputs (BySchedule schedule) (W.account sink.old) (W.account sink.new)) }
 {
     let workers = suite.settings.workers();
     let core = run_events(alloc, &suite.plan, &suite.world, workers, events)?;

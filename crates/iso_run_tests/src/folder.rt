@@ -1,11 +1,12 @@
 //! A folder of files that the program's words name.
+use crate::host::Host;
 use crate::ran::{Answer, Ran, run_words};
 use std::alloc::{AllocError, Global};
 use std::fs;
 use std::test::Fail;
 
 /// A new folder.
-pub(crate) fn new_folder(rt: &HostRuntime) -> Result<String, Fail> {
+pub(crate) fn new_folder(rt: &impl Host) -> Result<String, Fail> {
     for number in 0..100_000u32 {
         let path = format!(in rt.alloc(); "/tmp/jtap_rows_{number}")?;
         if fs::create_dir(rt, path.as_str()).is_ok() {
@@ -16,14 +17,14 @@ pub(crate) fn new_folder(rt: &HostRuntime) -> Result<String, Fail> {
 }
 
 /// Writes a file of this folder.
-pub(crate) fn put(rt: &HostRuntime, folder: &str, name: &str, bytes: &[u8]) -> Result<(), Fail> {
+pub(crate) fn put(rt: &impl Host, folder: &str, name: &str, bytes: &[u8]) -> Result<(), Fail> {
     let path = format!(in rt.alloc(); "{folder}/{name}")?;
     fs::write(rt, path.as_str(), bytes)?;
     Ok(())
 }
 
 /// Writes files of this folder: a name and a text each.
-pub(crate) fn put_all(rt: &HostRuntime, folder: &str, files: &[(&str, &str)]) -> Result<(), Fail> {
+pub(crate) fn put_all(rt: &impl Host, folder: &str, files: &[(&str, &str)]) -> Result<(), Fail> {
     for (name, text) in files {
         put(rt, folder, name, text.as_bytes())?;
     }
@@ -31,14 +32,14 @@ pub(crate) fn put_all(rt: &HostRuntime, folder: &str, files: &[(&str, &str)]) ->
 }
 
 /// A new folder with these files.
-pub(crate) fn new_folder_of(rt: &HostRuntime, files: &[(&str, &str)]) -> Result<String, Fail> {
+pub(crate) fn new_folder_of(rt: &impl Host, files: &[(&str, &str)]) -> Result<String, Fail> {
     let folder = new_folder(rt)?;
     put_all(rt, folder.as_str(), files)?;
     Ok(folder)
 }
 
 /// Removes a folder with its files.
-pub(crate) fn remove(rt: &HostRuntime, folder: &str) -> Result<(), Fail> {
+pub(crate) fn remove(rt: &impl Host, folder: &str) -> Result<(), Fail> {
     fs::remove_dir_all(rt, folder)?;
     Ok(())
 }
@@ -60,7 +61,7 @@ pub(crate) fn in_folder(alloc: Global, folder: &str, text: &str) -> Result<Strin
 
 /// Runs the program with a line of words, and a text on standard input.
 pub(crate) fn run(
-    rt: &HostRuntime,
+    rt: &impl Host,
     folder: &str,
     line: &str,
     input: &str,
@@ -72,7 +73,7 @@ pub(crate) fn run(
 
 /// Whether the program, run so, answers this.
 pub(crate) fn answers(
-    rt: &HostRuntime,
+    rt: &impl Host,
     folder: &str,
     line: &str,
     input: &str,

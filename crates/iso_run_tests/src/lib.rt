@@ -10,6 +10,8 @@ mod expect;
 #[cfg(test)]
 mod folder;
 #[cfg(test)]
+mod host;
+#[cfg(test)]
 mod lifecycle;
 #[cfg(test)]
 mod program;
@@ -41,3 +43,5 @@ mod suites;
 mod teams;
 #[cfg(test)]
 mod told;
+#[cfg(test)]
+mod workers;

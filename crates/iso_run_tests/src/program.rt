@@ -3,6 +3,7 @@ ghost use Rattle.std.specs.Prelude.{None};
 
 use crate::expect::{expect, expect_no_other};
 use crate::folder::{answers, new_folder_of, put, remove, run, words_of};
+use crate::host::Host;
 use crate::ran::{Answer, Ran, run_words};
 use crate::refusal::{Refusal, first_other_refusal};
 use crate::suites::{CART_AND_DESK, CART_AND_DESK_PLAN, TWO_WORKERS};
@@ -73,7 +74,7 @@ static FILES: [(&str, &str); 15] = [
 
 /// Writes a file of so many bytes.
 fn put_filled(
-    rt: &HostRuntime,
+    rt: &impl Host,
     folder: &str,
     name: &str,
     start: &str,
@@ -84,14 +85,14 @@ fn put_filled(
 }
 
 /// Writes files that are no text, or of a length about the limit.
-fn put_others(rt: &HostRuntime, folder: &str) -> Result<(), Fail> {
+fn put_others(rt: &impl Host, folder: &str) -> Result<(), Fail> {
     put(rt, folder, "text", &[b'a', 0xFF])?;
     put_filled(rt, folder, "large", "", 1_048_577)?;
     put_filled(rt, folder, "largest", "locale = \"de\"\n", 1_048_576)
 }
 
 /// A new folder with all of these files.
-fn new_files(rt: &HostRuntime) -> Result<String, Fail> {
+fn new_files(rt: &impl Host) -> Result<String, Fail> {
     let folder = new_folder_of(rt, &FILES)?;
     put_others(rt, folder.as_str())?;
     Ok(folder)
@@ -207,7 +208,7 @@ static CART_RUNS: [&str; 8] = [
 ];
 
 /// The first of these words that the program answers otherwise than with the cart's report.
-fn first_other_run(rt: &HostRuntime, folder: &str) -> Result<Option<&'static str>, AllocError> {
+fn first_other_run(rt: &impl Host, folder: &str) -> Result<Option<&'static str>, AllocError> {
     let answer = Answer {
         status: 0,
         output: CART_REPORT,
@@ -222,7 +223,7 @@ fn first_other_run(rt: &HostRuntime, folder: &str) -> Result<Option<&'static str
 }
 
 /// Whether a failing desk is reported after the cart.
-fn desk_is_reported_last(rt: &HostRuntime, folder: &str) -> Result<bool, AllocError> {
+fn desk_is_reported_last(rt: &impl Host, folder: &str) -> Result<bool, AllocError> {
     let ran = run(rt, folder, "run @cart @desk", "")?;
     let report = ran.output.bytes();
     Ok(
@@ -269,7 +270,7 @@ static PLANS: [(&str, &str); 4] = [
 
 /// Whether words are answered by this plan.
 fn print_the_plan(
-    rt: &HostRuntime,
+    rt: &impl Host,
     folder: &str,
     words: &str,
     plan: &str,
@@ -340,7 +341,7 @@ static REPEATED: [(Repeated, u32, &str); 2] = [
 
 /// Whether a script has too many parts, and with one part less is run.
 fn is_limited(
-    rt: &HostRuntime,
+    rt: &impl Host,
     repeated: &Repeated,
     count: u32,
     line: &str,
@@ -371,18 +372,18 @@ fn many_scripts(alloc: Global, count: u32) -> Result<String, AllocError> {
 }
 
 /// What the program answers to these words.
-fn run_many(rt: &HostRuntime, folder: &str, count: u32) -> Result<Ran, AllocError> {
+fn run_many(rt: &impl Host, folder: &str, count: u32) -> Result<Ran, AllocError> {
     let line = many_scripts(rt.alloc(), count)?;
     run(rt, folder, line.as_str(), "")
 }
 
 /// Whether as many scripts as there may be are run.
-fn are_taken(rt: &HostRuntime, folder: &str) -> Result<bool, AllocError> {
+fn are_taken(rt: &impl Host, folder: &str) -> Result<bool, AllocError> {
     Ok(run_many(rt, folder, 64)?.status == 0)
 }
 
 /// Whether one script more is refused.
-fn is_one_too_many(rt: &HostRuntime, folder: &str) -> Result<bool, AllocError> {
+fn is_one_too_many(rt: &impl Host, folder: &str) -> Result<bool, AllocError> {
     let ran = run_many(rt, folder, 65)?;
     Ok(Answer::refused(2, "jtap: plan: TooManyScripts\n").is_of(&ran))
 }
@@ -405,7 +406,7 @@ static WRONG_WORDS: [&str; 6] = [
 ];
 
 /// Whether words are answered by lines of errors alone.
-fn are_wrong(rt: &HostRuntime, line: &str) -> Result<bool, AllocError> {
+fn are_wrong(rt: &impl Host, line: &str) -> Result<bool, AllocError> {
     let ran = run(rt, "", line, "")?;
     let errors = ran.errors.bytes();
     Ok(
@@ -426,7 +427,7 @@ fn wrong_words_are_refused(rt: HostRuntime) -> Result<(), Fail> {
 }
 
 /// Whether words that ask for nothing are told so.
-fn is_told(rt: &HostRuntime, fault: WordsFault, answer: Answer<'_>) -> bool {
+fn is_told(rt: &impl Host, fault: WordsFault, answer: Answer<'_>) -> bool {
     let mut errors = MemorySink::new(rt.alloc());
     let status = refuse_words(fault, &mut errors);
     let output = MemorySink::new(rt.alloc());
@@ -457,7 +458,7 @@ static PAGES: [(&str, &str); 4] = [
 ];
 
 /// Whether words are answered by a page that begins so.
-fn print_a_page(rt: &HostRuntime, line: &str, start: &str) -> Result<bool, AllocError> {
+fn print_a_page(rt: &impl Host, line: &str, start: &str) -> Result<bool, AllocError> {
     let ran = run(rt, "", line, "")?;
     Ok(
         ran.status == 0
@@ -505,7 +506,7 @@ static FAILURES: [(io::ErrorKind, &str); 2] = [
 ];
 
 /// Whether an input that fails so after so many bytes is told by this line.
-fn failure_is_told(rt: &HostRuntime, kind: io::ErrorKind, left: usize, line: &str) -> bool {
+fn failure_is_told(rt: &impl Host, kind: io::ErrorKind, left: usize, line: &str) -> bool {
     let mut input = FailingReader { left, kind };
     let ran = run_words(rt, &[], &mut input);
     Answer::refused(3, line).is_of(&ran)
@@ -548,7 +549,7 @@ impl Sink for StuckSink {
 }
 
 /// Whether the program, run so, tells of a failed write, and tries none after it.
-fn tells_failed_write_once(rt: &HostRuntime, words: &[String]) -> bool {
+fn tells_failed_write_once(rt: &impl Host, words: &[String]) -> bool {
     let mut input: &[u8] = CART.as_bytes();
     let mut output = StuckSink {
         failures: 0,
@@ -598,7 +599,7 @@ impl Sink for UnflushedSink {
 }
 
 /// Whether the program tells of a failed flush after it wrote the report.
-fn tells_failed_flush(rt: &HostRuntime) -> bool {
+fn tells_failed_flush(rt: &impl Host) -> bool {
     let mut input: &[u8] = CART.as_bytes();
     let mut output = UnflushedSink {
         sink: MemorySink::new(rt.alloc()),
@@ -617,14 +618,14 @@ fn failed_flush_is_a_failed_write(rt: HostRuntime) {
 }
 
 /// Whether a script on the input ends with this status, and no more of it is read than one byte past the limit.
-fn is_read_to_the_limit(rt: &HostRuntime, script: &[u8], status: u8) -> bool {
+fn is_read_to_the_limit(rt: &impl Host, script: &[u8], status: u8) -> bool {
     let mut input = script;
     let ran = run_words(rt, &[], &mut input);
     ran.status == status && input.len() == script.len().saturating_sub(1_048_577)
 }
 
 /// The same of a script of so many bytes.
-fn reads_to_the_limit(rt: &HostRuntime, len: usize, status: u8) -> Result<bool, AllocError> {
+fn reads_to_the_limit(rt: &impl Host, len: usize, status: u8) -> Result<bool, AllocError> {
     let script = filled(rt.alloc(), CART, len)?;
     Ok(is_read_to_the_limit(rt, script.as_slice(), status))
 }

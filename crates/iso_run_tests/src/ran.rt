@@ -1,4 +1,5 @@
 //! The program, run in memory.
+use crate::host::Host;
 use iso_run::command::command;
 use iso_tap::memory::MemorySink;
 use std::io::Read;
@@ -38,7 +39,7 @@ impl<'a> Answer<'a> {
 }
 
 /// Runs the program with these words.
-pub(crate) fn run_words<R: Read>(rt: &HostRuntime, words: &[String], input: &mut R) -> Ran {
+pub(crate) fn run_words<R: Read>(rt: &impl Host, words: &[String], input: &mut R) -> Ran {
     let mut output = MemorySink::new(rt.alloc());
     let mut errors = MemorySink::new(rt.alloc());
     let status = command(rt, words, input, &mut output, &mut errors);

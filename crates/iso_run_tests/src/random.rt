@@ -17,12 +17,19 @@ use std::test::Fail;
 
 /// Numbers that look random (xorshift), the same from each seed.
 #[derive(Clone, Copy)]
-struct Numbers {
+pub(crate) struct Numbers {
     state: u64,
 }
 
 impl Numbers {
-    fn next(&mut self) -> u64 {
+    /// Those of a seed.
+    pub(crate) fn of_seed(seed: u64) -> Numbers {
+        Numbers {
+            state: 0x9E37_79B9_7F4A_7C15 ^ seed,
+        }
+    }
+
+    pub(crate) fn next(&mut self) -> u64 {
         self.state ^= self.state << 13;
         self.state ^= self.state >> 7;
         self.state ^= self.state << 17;
@@ -103,10 +110,7 @@ fn seed_gives_report(
     report: &[u8],
 ) -> Result<bool, Fail> {
     let workers = (1 + seed % 8) as u32;
-    let numbers = Numbers {
-        state: 0x9E37_79B9_7F4A_7C15 ^ seed,
-    };
-    let events = schedule_of(alloc, plan, world, workers, numbers)?;
+    let events = schedule_of(alloc, plan, world, workers, Numbers::of_seed(seed))?;
     Ok(gives_report(alloc, plan, world, workers, &events, report)?)
 }
 

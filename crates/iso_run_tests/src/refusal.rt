@@ -1,5 +1,6 @@
 //! Words that the program refuses.
 use crate::folder::{answers, in_folder};
+use crate::host::Host;
 use crate::ran::Answer;
 use std::alloc::AllocError;
 
@@ -8,7 +9,7 @@ pub(crate) type Refusal = (&'static str, u8, &'static str);
 
 /// Whether the program refuses words so, and writes nothing else.
 fn is_refused(
-    rt: &HostRuntime,
+    rt: &impl Host,
     folder: &str,
     (words, status, line): Refusal,
 ) -> Result<bool, AllocError> {
@@ -24,7 +25,7 @@ fn is_refused(
 
 /// The first of these lines of words that the program answers otherwise.
 pub(crate) fn first_other_refusal(
-    rt: &HostRuntime,
+    rt: &impl Host,
     folder: &str,
     refusals: &[Refusal],
 ) -> Result<Option<&'static str>, AllocError> {

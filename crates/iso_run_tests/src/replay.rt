@@ -1,6 +1,7 @@
 //! Recorded schedules, replayed by the program.
 use crate::expect::{expect, expect_no_other};
 use crate::folder::{answers, new_folder_of, put, put_all, remove, run};
+use crate::host::Host;
 use crate::ran::{Answer, Ran};
 use crate::refusal::{Refusal, first_other_refusal};
 use crate::suites::{TWO_FILES, TWO_WORKERS};
@@ -93,7 +94,7 @@ static FAULTS: [(&str, &str); 23] = [
 
 /// Whether the replay of a schedule answers this.
 fn replay_answers(
-    rt: &HostRuntime,
+    rt: &impl Host,
     folder: &str,
     schedule: &str,
     answer: Answer<'_>,
@@ -103,7 +104,7 @@ fn replay_answers(
 }
 
 /// Whether a schedule is refused for this fault.
-fn is_refused(rt: &HostRuntime, folder: &str, schedule: &str, fault: &str) -> Result<bool, Fail> {
+fn is_refused(rt: &impl Host, folder: &str, schedule: &str, fault: &str) -> Result<bool, Fail> {
     let line = format!(in rt.alloc(); "jtap: schedule: {fault}\n")?;
     replay_answers(rt, folder, schedule, Answer::refused(2, line.as_str()))
 }
@@ -129,13 +130,13 @@ const WHOLE_ANSWER: Answer<'static> = Answer {
 };
 
 /// Whether the replay with a carriage return before each line feed, and with empty lines, writes the report.
-fn returns_are_passed_over(rt: &HostRuntime, folder: &str) -> Result<bool, Fail> {
+fn returns_are_passed_over(rt: &impl Host, folder: &str) -> Result<bool, Fail> {
     let returns = WHOLE.replace(rt.alloc(), '\n', "\r\n\n\r\n")?;
     replay_answers(rt, folder, returns.as_str(), WHOLE_ANSWER)
 }
 
 /// Whether the replay writes the report with line feeds, without the last, and with carriage returns and empty lines.
-fn replays_give_the_report(rt: &HostRuntime, folder: &str) -> Result<bool, Fail> {
+fn replays_give_the_report(rt: &impl Host, folder: &str) -> Result<bool, Fail> {
     Ok(
         replay_answers(rt, folder, WHOLE, WHOLE_ANSWER)?
             && replay_answers(rt, folder, WHOLE.trim_ascii_end(), WHOLE_ANSWER)?
@@ -215,12 +216,7 @@ static WHOLES: [(&str, &str, u8); 3] = [
 ];
 
 /// Whether a run ended with this status, and the replay ends so and writes its report.
-fn is_replayed(
-    rt: &HostRuntime,
-    folder: &str,
-    serial: &Ran,
-    status: u8,
-) -> Result<bool, AllocError> {
+fn is_replayed(rt: &impl Host, folder: &str, serial: &Ran, status: u8) -> Result<bool, AllocError> {
     let ran = run(rt, folder, REPLAY, "")?;
     Ok(
         serial.status == status
@@ -230,14 +226,14 @@ fn is_replayed(
 }
 
 /// Whether the serial run ends with this status, and the replay as it does.
-fn both_end(rt: &HostRuntime, folder: &str, status: u8) -> Result<bool, AllocError> {
+fn both_end(rt: &impl Host, folder: &str, status: u8) -> Result<bool, AllocError> {
     let serial = run(rt, folder, "run --serial --settings @settings @script", "")?;
     is_replayed(rt, folder, &serial, status)
 }
 
 /// The same with this script and this schedule.
 fn both_end_on(
-    rt: &HostRuntime,
+    rt: &impl Host,
     folder: &str,
     script: &str,
     schedule: &str,
@@ -261,19 +257,14 @@ fn replay_ends_with_the_status_of_the_serial_run(rt: HostRuntime) -> Result<(), 
 }
 
 /// Writes a schedule of so many empty lines.
-fn put_empty_lines(rt: &HostRuntime, folder: &str, count: usize) -> Result<(), Fail> {
+fn put_empty_lines(rt: &impl Host, folder: &str, count: usize) -> Result<(), Fail> {
     let mut schedule = Vec::new(rt.alloc());
     schedule.resize(count, b'\n')?;
     put(rt, folder, "schedule", schedule.as_slice())
 }
 
 /// Whether it is refused with this line.
-fn lines_are_refused(
-    rt: &HostRuntime,
-    folder: &str,
-    count: usize,
-    line: &str,
-) -> Result<bool, Fail> {
+fn lines_are_refused(rt: &impl Host, folder: &str, count: usize, line: &str) -> Result<bool, Fail> {
     put_empty_lines(rt, folder, count)?;
     Ok(answers(rt, folder, REPLAY, "", Answer::refused(2, line))?)
 }

@@ -1,5 +1,6 @@
 //! Rows of the worked examples.
 use crate::folder::{answers, put};
+use crate::host::Host;
 use crate::ran::Answer;
 use std::test::Fail;
 
@@ -14,7 +15,7 @@ pub(crate) struct Row {
 }
 
 /// Whether the program answers a row as it was worked out.
-fn is_as_worked_out(rt: &HostRuntime, folder: &str, row: &Row) -> Result<bool, Fail> {
+fn is_as_worked_out(rt: &impl Host, folder: &str, row: &Row) -> Result<bool, Fail> {
     put(rt, folder, "world", row.world.as_bytes())?;
     let script = format!(in rt.alloc(); "team shop\n{}\n", row.classes)?;
     let answer = Answer {
@@ -28,7 +29,7 @@ fn is_as_worked_out(rt: &HostRuntime, folder: &str, row: &Row) -> Result<bool, F
 
 /// The script of the first row of which the program answers something else.
 pub(crate) fn first_other<'a>(
-    rt: &HostRuntime,
+    rt: &impl Host,
     folder: &str,
     rows: &'a [Row],
 ) -> Result<Option<&'a str>, Fail> {

@@ -1,6 +1,7 @@
 //! Worked examples of scripts, each run through the program.
 use crate::expect::{expect, expect_no_other};
 use crate::folder::{answers, new_folder, remove, run};
+use crate::host::Host;
 use crate::ran::Answer;
 use crate::row::first_other;
 use crate::{lifecycle, restoring, rights, statements};
@@ -51,7 +52,7 @@ static REFUSALS: [(&str, &str); 5] = [
 ];
 
 /// Whether a script of these classes is refused with this line.
-fn is_refused(rt: &HostRuntime, classes: &str, line: &str) -> Result<bool, AllocError> {
+fn is_refused(rt: &impl Host, classes: &str, line: &str) -> Result<bool, AllocError> {
     let script = format!(in rt.alloc(); "team shop\n{classes}\n")?;
     answers(rt, "", "", script.as_str(), Answer::refused(2, line))
 }
@@ -88,13 +89,13 @@ fn contains(text: &[u8], part: &str) -> bool {
 }
 
 /// Whether a script ends with this status, and its report has this part.
-fn reports(rt: &HostRuntime, script: &str, status: u8, part: &str) -> Result<bool, AllocError> {
+fn reports(rt: &impl Host, script: &str, status: u8, part: &str) -> Result<bool, AllocError> {
     let ran = run(rt, "", "", script)?;
     Ok(ran.status == status && contains(ran.output.bytes(), part))
 }
 
 /// The same of a test that has so many steps.
-fn steps_report(rt: &HostRuntime, steps: u32, status: u8, part: &str) -> Result<bool, AllocError> {
+fn steps_report(rt: &impl Host, steps: u32, status: u8, part: &str) -> Result<bool, AllocError> {
     let script = script_of(rt.alloc(), "assert_equal 1, 1; ", steps, "")?;
     reports(rt, script.as_str(), status, part)
 }
@@ -134,13 +135,13 @@ fn long_lines(report: &[u8]) -> usize {
 }
 
 /// Whether the output of 16 such texts fits.
-fn output_fits(rt: &HostRuntime) -> Result<bool, AllocError> {
+fn output_fits(rt: &impl Host) -> Result<bool, AllocError> {
     let script = long_prints(rt.alloc(), "")?;
     Ok(run(rt, "", "", script.as_str())?.status == 0)
 }
 
 /// Whether an empty line that is printed after them is one too many.
-fn output_is_full(rt: &HostRuntime) -> Result<bool, AllocError> {
+fn output_is_full(rt: &impl Host) -> Result<bool, AllocError> {
     let script = long_prints(rt.alloc(), "print \"\"; ")?;
     let ran = run(rt, "", "", script.as_str())?;
     let report = ran.output.bytes();

@@ -1,5 +1,6 @@
 //! Sinks over writers, and which commands flush them.
 use crate::folder::{new_folder_of, remove, words_of};
+use crate::host::Host;
 use iso_run::command::command;
 use iso_tap::memory::MemorySink;
 use iso_tap::output::OutputSink;
@@ -56,7 +57,7 @@ fn flush_reaches_the_writer(rt: HostRuntime) {
 
 /// Whether the program flushes once, after all that it wrote; where the flush is refused it ends with status 3 and says so.
 fn flushes_once(
-    rt: &HostRuntime,
+    rt: &impl Host,
     folder: &str,
     line: &str,
     refuses: bool,

@@ -1,6 +1,7 @@
-use Rattle.std.proofs.Common.{ap, None, ◌∙◌}
+use Rattle.std.proofs.Common.{ap, ◌∙◌}
 use Rattle.iso_run.specs.Runs.{suite_plan}
 use Rattle.iso_run.specs.Suites.{texts}
+use Rattle.iso_run.specs.Ways.{Serial}
 use Rattle.iso_run.proofs.Answering.{refused, shown}
 use Rattle.iso_run.proofs.command.plan.Goals as goal
 
@@ -13,4 +14,4 @@ returns-in-Ok g c =
 
 pub returns : goal.returns
 returns g c =
-    refused suite_plan c.inputs_of-inputs.result None (g.W.Sink.account c.args.output.now) (g.W.Sink.account c.show_plan.new.sink) c.in-Err.fault c.named.result c.in-Err.ensures c.named.ensures
+    refused suite_plan c.inputs_of-inputs.result Serial (g.W.Sink.account c.args.output.now) (g.W.Sink.account c.show_plan.new.sink) c.in-Err.fault c.named.result c.in-Err.ensures c.named.ensures

@@ -1,0 +1,202 @@
+//! Runs of a suite by several workers, from its inputs to its report.
+ghost use Rattle.std.specs.Prelude.{◌≡◌, ◌≤◌, IfErr, IfOk, MatchResult, true};
+ghost use denote.Param.Send.{IsSend, IsSync};
+ghost use Rattle.iso_book.specs.Books.{is_complete};
+ghost use Rattle.iso_floor.specs.Grounds.{IsBookOf};
+ghost use Rattle.iso_run.specs.declared.inputs.Inputs.{Inputs};
+ghost use Rattle.iso_run.specs.Runs.{IsRead, NotWritten, Reported, suite_report};
+ghost use Rattle.iso_run.specs.Ways.{ByWorkers};
+ghost use Rattle.iso_run.specs.Workings.{IsOfWorkers};
+
+use crate::fault::RunFault;
+use crate::inputs::{Inputs, Suite, read_inputs};
+use crate::report::{Summary, write_results};
+use iso_book::book::Book;
+use iso_floor::fault::{CloseFault, SeatFault};
+use iso_floor::floor::Floor;
+use iso_floor::ground::Ground;
+use iso_floor::seat::Seat;
+use iso_floor::work::{Cause, WorkEnd, work};
+use iso_lifecycle::gate::Gate;
+use iso_tap::sink::Sink;
+use std::alloc::Global;
+use std::marker::Brand;
+use std::sync::Wait;
+use std::thread;
+use std::thread::{JoinHandle, Threads};
+
+/// Runs a suite by as many workers as its settings give, and writes its report to the sink. It is the report that `run_serial` writes,
+/// whatever workers there are and whatever the gate lets them do.
+///
+/// The inputs are read as by `run_serial`: the first fault is answered. Then comes the first of these that applies: `Start` where a
+/// thread could not be started, `Memory`, `Lost`, `Unfinished`. Nothing is written before all workers have ended: with any fault but
+/// `Write` the sink is asked nothing. Want of memory may be answered at each growth. It may wait, as workers do for one another and
+/// at the gate.
+pub fn run_workers<R: Threads + Wait + Sync, G: Gate + Sync, W: Sink>(
+    rt: &R,
+    alloc: Global,
+    inputs: Inputs<'_>,
+    gate: &G,
+    sink: &mut W,
+) -> Result<Summary, RunFault>
+    requires { 1 ≤ inputs.processors }
+    ensures { MatchResult result
+        (λ s. Reported inputs.entry (W.account sink.old) (W.account sink.new) s.all_ok)
+        (NotWritten suite_report inputs.entry ByWorkers (W.account sink.old) (W.account sink.new)) }
+{
+    let suite = read_inputs(alloc, inputs)?;
+    run_suite::<Brand, R, G, W>(rt, alloc, &suite, gate, sink)
+}
+
+/// Runs a suite by its workers, on a floor of its plan and world.
+fn run_suite<L: Ground + Send + Sync, R: Threads + Wait + Sync, G: Gate + Sync, W: Sink>(
+    rt: &R,
+    alloc: Global,
+    suite: &Suite,
+    gate: &G,
+    sink: &mut W,
+) -> Result<Summary, RunFault>
+    requires plan { suite.now.plan ≡ L.plan }
+    requires start { suite.now.world ≡ L.start }
+    requires workers { suite.now.settings.worker_count ≡ L.workers }
+    ensures { (inputs : Inputs) → IsRead inputs suite.now → MatchResult result
+        (λ s. Reported inputs (W.account sink.old) (W.account sink.new) s.all_ok)
+        (NotWritten suite_report inputs ByWorkers (W.account sink.old) (W.account sink.new)) }
+{
+    let book = run_on_floor::<L, R, G>(rt, alloc, suite, gate)?;
+    write_results(&suite.plan, book.results(), sink)
+}
+
+/// Has its workers run a suite, each in a seat of its own, and answers the book of the run.
+fn run_on_floor<'s, L: Ground + Send + Sync, R: Threads + Wait + Sync, G: Gate + Sync>(
+    rt: &R,
+    alloc: Global,
+    suite: &'s Suite,
+    gate: &G,
+) -> Result<Book<'s>, RunFault>
+    requires plan { suite.now.plan ≡ L.plan }
+    requires start { suite.now.world ≡ L.start }
+    requires workers { suite.now.settings.worker_count ≡ L.workers }
+    ensures book { IfOk result (IsBookOf L.plan L.start L.workers) }
+    ensures complete { IfOk result (λ b. is_complete b ≡ true) }
+    ensures fault { IfErr result IsOfWorkers }
+{
+    let workers = suite.settings.workers();
+    let floor: Floor<'s, L> = Floor::new(alloc, &suite.plan, &suite.world, workers)?;
+    let first = seat_on(rt, alloc, &floor, 0)?;
+    let others = seats_on(rt, alloc, &floor, workers)?;
+    let seats = run_seats(rt, alloc, &floor, first, others, gate)?;
+    close(floor, seats)
+}
+
+/// The seat of a worker on a floor.
+fn seat_on<'a, L: Ground, R: Wait>(
+    rt: &R,
+    alloc: Global,
+    floor: &Floor<'a, L>,
+    worker: u32,
+) -> Result<Seat<'a, L>, RunFault>
+    ensures { IfErr result IsOfWorkers }
+{
+    match floor.seat(rt, alloc, worker) {
+        Ok(seat) => Ok(seat),
+        Err(SeatFault::OutOfMemory) => Err(RunFault::Memory),
+        // Where another has the seat, nobody hands in its receipts.
+        Err(SeatFault::NoWorker | SeatFault::Taken) => Err(RunFault::Lost),
+    }
+}
+
+/// The seats on a floor of all workers but the first.
+fn seats_on<'a, L: Ground, R: Wait>(
+    rt: &R,
+    alloc: Global,
+    floor: &Floor<'a, L>,
+    workers: u32,
+) -> Result<Vec<Seat<'a, L>>, RunFault>
+    ensures { IfErr result IsOfWorkers }
+{
+    let mut seats = Vec::new(alloc);
+    for worker in 1..workers {
+        seats.push(seat_on(rt, alloc, floor, worker)?)?;
+    }
+    Ok(seats)
+}
+
+/// Has the worker of each seat work to its end, the first here and each other in a thread of its own, and answers the seats.
+fn run_seats<'a, L: Ground + Send + Sync, R: Threads + Wait + Sync, G: Gate + Sync>(
+    rt: &R,
+    alloc: Global,
+    floor: &Floor<'a, L>,
+    first: Seat<'a, L>,
+    others: Vec<Seat<'a, L>>,
+    gate: &G,
+) -> Result<Vec<Seat<'a, L>>, RunFault>
+    ensures { IfErr result IsOfWorkers }
+{
+    thread::scope(
+        thread::scope_env(),
+        rt,
+        move |scope| -> Result<Vec<Seat<'_, L>>, RunFault>
+            requires { IsSync R.row × IsSync G.row × IsSend L.row × IsSync L.row }
+            ensures { IfErr result IsOfWorkers }
+        {
+            let mut handles = Vec::with_capacity(alloc, others.len())?;
+            let mut started = true;
+            let mut whole = true;
+            for seat in others {
+                match scope.spawn(move || work(rt, alloc, floor, seat, gate)) {
+                    Ok(handle) => whole = handles.push(handle).is_ok() && whole,
+                    Err(_) => started = false,
+                }
+            }
+            if !started || !whole {
+                floor.stop(rt);
+            }
+            let own = work(rt, alloc, floor, first, gate);
+            let seats = seats_of(rt, alloc, own, handles);
+            if !started {
+                return Err(RunFault::Start);
+            }
+            if !whole {
+                return Err(RunFault::Memory);
+            }
+            seats
+        },
+    )
+}
+
+/// The seats of workers, of which one has ended and the others are waited for.
+fn seats_of<'a, L: Ground, R: Threads>(
+    rt: &R,
+    alloc: Global,
+    own: WorkEnd<'a, L>,
+    handles: Vec<JoinHandle<WorkEnd<'a, L>>>,
+) -> Result<Vec<Seat<'a, L>>, RunFault>
+    ensures { IfErr result IsOfWorkers }
+{
+    let mut seats = Vec::new(alloc);
+    let mut whole = keep(&mut seats, own);
+    for handle in handles {
+        whole = keep(&mut seats, handle.join(rt)) && whole;
+    }
+    if whole { Ok(seats) } else { Err(RunFault::Memory) }
+}
+
+/// Puts the seat of a worker that has ended to those of others, and answers whether there was memory for this and for its work.
+fn keep<'a, L: Ground>(seats: &mut Vec<Seat<'a, L>>, end: WorkEnd<'a, L>) -> bool {
+    let WorkEnd { seat, cause } = end;
+    seats.push(seat).is_ok() && cause != Cause::OutOfMemory
+}
+
+/// Closes a floor whose workers have ended, and answers its book.
+fn close<'a, L: Ground>(floor: Floor<'a, L>, seats: Vec<Seat<'a, L>>) -> Result<Book<'a>, RunFault>
+    ensures book { IfOk result (IsBookOf L.plan L.start L.workers) }
+    ensures complete { IfOk result (λ b. is_complete b ≡ true) }
+    ensures fault { IfErr result IsOfWorkers }
+{
+    match floor.close(seats) {
+        Ok(book) => Ok(book),
+        Err(CloseFault::Lost(_)) => Err(RunFault::Lost),
+        Err(CloseFault::Unfinished) => Err(RunFault::Unfinished),
+    }
+}
