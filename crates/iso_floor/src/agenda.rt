@@ -19,9 +19,10 @@ struct OpenClass {
 /// The nodes that can be tried.
 ///
 /// A node that may run beside others can be entered by any worker when its class is open. One that may not, and the closing of a class,
-/// is for the class's owner. A node that finds another one in its way waits behind that one; when it is finished, those behind it are
-/// tried in their order, and where the first of them finds a further one in its way all wait behind that, so that each is tried
-/// once or twice and none is overtaken for ever.
+/// is for the class's owner. A node that finds another one in its way waits behind that one, and siblings wait there as one group; when it
+/// is finished, those of a group are tried in their order, and where one of them finds a further one in its way the rest of its group waits
+/// behind that too. So each is tried a few times, however many wait, and none is overtaken for ever. Only siblings wait so for what may not be
+/// in their own way: what waits for one of them to end waits for the others too, so that no class waits for itself.
 #[derive(Drop)]
 pub(crate) struct Agenda {
     links: Links,
@@ -31,8 +32,10 @@ pub(crate) struct Agenda {
     cleared: Line,
     /// By worker, for that one alone.
     own: Vec<Line>,
-    /// By node, those that wait until it is finished.
+    /// By node, the first of each group that waits until it is finished.
     behind: Vec<Line>,
+    /// By the first node of a group, the others.
+    group: Vec<Line>,
     /// By node, whether it is a class that was entered to be left open.
     shared: Vec<bool>,
     /// By node, what is known of it while it is open.
@@ -46,8 +49,8 @@ pub(crate) struct Agenda {
 pub(crate) enum Source {
     /// From one of the lines of what was never in the way of another.
     Line,
-    /// From those that waited behind a finished node.
-    Behind(u32),
+    /// From the first group that waited behind a finished node, of which others may be left.
+    Behind { cleared: u32, others: bool },
 }
 
 impl Agenda {
@@ -60,6 +63,7 @@ impl Agenda {
             cleared: Line::EMPTY,
             own: vec![in alloc; Line::EMPTY; workers as usize]?,
             behind: vec![in alloc; Line::EMPTY; nodes]?,
+            group: vec![in alloc; Line::EMPTY; nodes]?,
             shared: vec![in alloc; false; nodes]?,
             open: vec![in alloc; None; nodes]?,
             handed: false,
@@ -73,10 +77,10 @@ impl Agenda {
         if let Some(node) = self.pop_own(worker) {
             return Some((node, Source::Line));
         }
-        if let Some((node, cleared)) = self.pop_behind() {
+        if let Some((node, source)) = self.pop_behind() {
             match self.owner_for(plan, node) {
                 Some(owner) if owner != worker => self.hand(owner, node),
-                _ => return Some((node, Source::Behind(cleared))),
+                _ => return Some((node, source)),
             }
         }
         let node = self.links.pop_front(&mut self.ready)?;
@@ -151,15 +155,29 @@ impl Agenda {
         true
     }
 
-    /// A node waits until another one is finished. Where it had waited behind one that is, all others that did wait with it.
-    pub(crate) fn wait_behind(&mut self, way: u32, node: u32, source: Source) {
-        let rest = match source {
-            Source::Line => Line::EMPTY,
-            Source::Behind(cleared) => self.take_behind(cleared),
+    /// A node waits until another one is finished, with those that are left of the group that it was taken from.
+    pub(crate) fn wait_behind(&mut self, plan: &Plan, way: u32, node: u32, source: Source) {
+        let others = match source {
+            Source::Behind {
+                cleared,
+                others: true,
+            } => self.take_group(cleared),
+            _ => Line::EMPTY,
         };
-        if let Some(line) = self.behind.get_mut(way as usize) {
-            self.links.push_back(line, node);
-            self.links.append(line, rest);
+        let last = self.behind.get(way as usize).and_then(|line| line.last());
+        match last {
+            Some(first) if are_one_group(plan, first, node) => {
+                if let Some(line) = self.group.get_mut(first as usize) {
+                    self.links.push_back(line, node);
+                    self.links.append(line, others);
+                }
+            }
+            _ => {
+                self.set_group(node, others);
+                if let Some(line) = self.behind.get_mut(way as usize) {
+                    self.links.push_back(line, node);
+                }
+            }
         }
     }
 
@@ -236,28 +254,67 @@ impl Agenda {
         self.links.pop_front(line)
     }
 
-    // The next of those behind the finished node that others wait behind longest, and that node.
-    fn pop_behind(&mut self) -> Option<(u32, u32)> {
+    // The first of those behind the finished node that was finished first.
+    fn pop_behind(&mut self) -> Option<(u32, Source)> {
         let cleared = self.links.pop_front(&mut self.cleared)?;
         let line = self.behind.get_mut(cleared as usize)?;
         let node = self.links.pop_front(line)?;
-        if !line.is_empty() {
-            self.links.push_front(&mut self.cleared, cleared);
+        let mut rest = self.replace_group(node, Line::EMPTY);
+        let next = self.links.pop_front(&mut rest);
+        if let Some(first) = next {
+            self.set_group(first, rest);
+            if let Some(line) = self.behind.get_mut(cleared as usize) {
+                self.links.push_front(line, first);
+            }
         }
-        Some((node, cleared))
+        self.keep_cleared(cleared);
+        let others = next.is_some();
+        Some((node, Source::Behind { cleared, others }))
     }
 
-    // Those who still wait behind a finished node, which wait there no more.
-    fn take_behind(&mut self, cleared: u32) -> Line {
+    // The first group behind the finished node that was finished first, which waits there no more.
+    fn take_group(&mut self, cleared: u32) -> Line {
+        self.links.pop_front(&mut self.cleared);
         let Some(line) = self.behind.get_mut(cleared as usize) else {
-            return Line::EMPTY
+            return Line::EMPTY;
         };
-        let rest = std::mem::replace(line, Line::EMPTY);
-        if !rest.is_empty() {
-            self.links.pop_front(&mut self.cleared);
-        }
-        rest
+        let Some(first) = self.links.pop_front(line) else {
+            return Line::EMPTY;
+        };
+        let mut group = self.replace_group(first, Line::EMPTY);
+        self.links.push_front(&mut group, first);
+        self.keep_cleared(cleared);
+        group
     }
+
+    // Keeps a finished node, while others wait behind it.
+    fn keep_cleared(&mut self, cleared: u32) {
+        let waited_for = self
+            .behind
+            .get(cleared as usize)
+            .is_some_and(|line| !line.is_empty());
+        if waited_for {
+            self.links.push_front(&mut self.cleared, cleared);
+        }
+    }
+
+    fn set_group(&mut self, first: u32, others: Line) {
+        self.replace_group(first, others);
+    }
+
+    fn replace_group(&mut self, first: u32, others: Line) -> Line {
+        match self.group.get_mut(first as usize) {
+            Some(line) => std::mem::replace(line, others),
+            None => Line::EMPTY,
+        }
+    }
+}
+
+// Whether two nodes wait as one group: siblings that any worker may enter.
+fn are_one_group(plan: &Plan, first: u32, node: u32) -> bool {
+    is_concurrent(plan, first)
+        && is_concurrent(plan, node)
+        && parent_of(plan, first) == parent_of(plan, node)
 }
 
 // Whether a node may run beside what its class's owner does.

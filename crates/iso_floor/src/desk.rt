@@ -124,6 +124,13 @@ impl<'a, G: Ground> Desk<'a, G> {
         self.agenda.next_for(self.book.plan(), worker)
     }
 
+    /// A node waits until another one is finished.
+    pub(crate) fn wait_behind(&mut self, way: u32, node: u32, source: Source)
+        ensures { self.new ≡ self.old }
+    {
+        self.agenda.wait_behind(self.book.plan(), way, node, source);
+    }
+
     /// Opens a class up that its worker left open. Answers whether it wasn't open yet.
     pub(crate) fn open_up(&mut self, class: u32, owner: u32) -> bool
         ensures { self.new ≡ self.old }

@@ -21,6 +21,11 @@ impl Line {
     pub(crate) fn is_empty(&self) -> bool {
         self.ends.is_none()
     }
+
+    /// The last that stands in it.
+    pub(crate) fn last(&self) -> Option<u32> {
+        self.ends.map(|ends| ends.last)
+    }
 }
 
 /// By node, the one after it in its line.

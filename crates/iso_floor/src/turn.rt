@@ -71,7 +71,7 @@ impl<'a, G: Ground> Seat<'a, G> {
                 Some(Turn::Entered(node))
             }
             Err(CoreFault::Refused(Refused::LockHeld(way))) => {
-                desk.agenda.wait_behind(way, node, source);
+                desk.wait_behind(way, node, source);
                 None
             }
             // Whoever entered it didn't ask the agenda.
