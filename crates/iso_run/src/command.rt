@@ -35,14 +35,9 @@ use std::thread::Threads;
 /// Runs the program: reads the words, then the files that they name in the order settings, world, scripts, schedule, writes
 /// a report, a plan or a help page to `output`, and a fault's line to `errors`. Where no script is named, one is read
 /// from `input`. Answers the exit status: 0 where every top-level point is ok, or a plan or help was printed, 1 where
-/// some top-level point is not ok, 2 for refused input, 3 for want of memory and failed reads and writes. A failed write
-/// to `errors` changes nothing.
-pub fn command<
-    G: AllocGlobal + Files + Threads + Wait + Sync,
-    R: Read,
-    W: Sink,
-    E: Sink,
->(
+/// some top-level point is not ok, 2 for refused input, 3 for want of memory, failed reads and writes, and workers that couldn't be
+/// started or lost a receipt. A failed write to `errors` changes nothing. It may wait for the workers of a run.
+pub fn command<G: AllocGlobal + Files + Threads + Wait + Sync, R: Read, W: Sink, E: Sink>(
     rt: &G,
     words: &[String],
     input: &mut R,

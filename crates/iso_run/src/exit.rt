@@ -6,5 +6,5 @@ pub(crate) const ALL_OK: u8 = 0;
 pub(crate) const NOT_ALL_OK: u8 = 1;
 /// The input is refused.
 pub(crate) const WRONG_INPUT: u8 = 2;
-/// Memory, a read or a write failed.
+/// Memory, a read, a write or a worker failed.
 pub(crate) const FAILED: u8 = 3;

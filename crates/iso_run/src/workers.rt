@@ -179,7 +179,11 @@ fn seats_of<'a, L: Ground, R: Threads>(
     for handle in handles {
         whole = keep(&mut seats, handle.join(rt)) && whole;
     }
-    if whole { Ok(seats) } else { Err(RunFault::Memory) }
+    if whole {
+        Ok(seats)
+    } else {
+        Err(RunFault::Memory)
+    }
 }
 
 /// Puts the seat of a worker that has ended to those of others, and answers whether there was memory for this and for its work.

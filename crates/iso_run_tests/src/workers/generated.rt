@@ -3,6 +3,7 @@ use crate::host::Host;
 use crate::random::Numbers;
 use crate::workers::Scripts;
 use std::alloc::{AllocError, Global};
+use std::process::Abort;
 use std::test::Fail;
 
 /// What all of them start with.
@@ -164,20 +165,32 @@ fn script_of(alloc: Global, seed: u64) -> Result<String, AllocError> {
 }
 
 /// The first of these numbers of workers that report the script of a seed otherwise than one thread.
-fn first_other(rt: &impl Host, seed: u64) -> Result<Option<u32>, AllocError> {
+fn first_other(rt: &impl Host, seed: u64, workers: &[u32]) -> Result<Option<u32>, AllocError> {
     let script = script_of(rt.alloc(), seed)?;
     let suite = Scripts {
         scripts: &[script.as_bytes()],
         world: WORLD,
     };
-    suite.first_other(rt, &[1, 2, 8, 64])
+    suite.first_other(rt, workers)
+}
+
+/// Asserts that so many workers report the scripts of 500 seeds as one thread does.
+fn expect_seeds(rt: &(impl Host + Abort), workers: &[u32]) -> Result<(), AllocError> {
+    for seed in 0..500u64 {
+        let other = first_other(rt, seed, workers)?;
+        assert_eq!(rt; other, None, "at seed {seed}");
+    }
+    Ok(())
 }
 
 #[test]
-fn workers_report_suites_at_random_as_one_thread_does(rt: HostRuntime) -> Result<(), Fail> {
-    for seed in 0..500u64 {
-        let other = first_other(&rt, seed)?;
-        assert_eq!(rt; other, None, "at seed {seed}");
-    }
+fn few_workers_report_suites_at_random_as_one_thread_does(rt: HostRuntime) -> Result<(), Fail> {
+    expect_seeds(&rt, &[1, 2, 8])?;
+    Ok(())
+}
+
+#[test]
+fn many_workers_report_suites_at_random_as_one_thread_does(rt: HostRuntime) -> Result<(), Fail> {
+    expect_seeds(&rt, &[64])?;
     Ok(())
 }
