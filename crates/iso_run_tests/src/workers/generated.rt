@@ -174,23 +174,76 @@ fn first_other(rt: &impl Host, seed: u64, workers: &[u32]) -> Result<Option<u32>
     suite.first_other(rt, workers)
 }
 
-/// Asserts that so many workers report the scripts of 500 seeds as one thread does.
-fn expect_seeds(rt: &(impl Host + Abort), workers: &[u32]) -> Result<(), AllocError> {
-    for seed in 0..500u64 {
-        let other = first_other(rt, seed, workers)?;
+/// Asserts that so many workers report the scripts of 250 seeds as one thread does: of the first of 500, or of the others.
+fn expect_half(rt: &(impl Host + Abort), half: u64, workers: u32) -> Result<(), AllocError> {
+    for place in 0..250u64 {
+        let seed = half % 2 * 250 + place;
+        let other = first_other(rt, seed, &[workers])?;
         assert_eq!(rt; other, None, "at seed {seed}");
     }
     Ok(())
 }
 
 #[test]
-fn few_workers_report_suites_at_random_as_one_thread_does(rt: HostRuntime) -> Result<(), Fail> {
-    expect_seeds(&rt, &[1, 2, 8])?;
+fn one_worker_reports_the_first_suites_at_random_as_one_thread_does(
+    rt: HostRuntime,
+) -> Result<(), Fail> {
+    expect_half(&rt, 0, 1)?;
     Ok(())
 }
 
 #[test]
-fn many_workers_report_suites_at_random_as_one_thread_does(rt: HostRuntime) -> Result<(), Fail> {
-    expect_seeds(&rt, &[64])?;
+fn one_worker_reports_further_suites_at_random_as_one_thread_does(
+    rt: HostRuntime,
+) -> Result<(), Fail> {
+    expect_half(&rt, 1, 1)?;
+    Ok(())
+}
+
+#[test]
+fn two_workers_report_the_first_suites_at_random_as_one_thread_does(
+    rt: HostRuntime,
+) -> Result<(), Fail> {
+    expect_half(&rt, 0, 2)?;
+    Ok(())
+}
+
+#[test]
+fn two_workers_report_further_suites_at_random_as_one_thread_does(
+    rt: HostRuntime,
+) -> Result<(), Fail> {
+    expect_half(&rt, 1, 2)?;
+    Ok(())
+}
+
+#[test]
+fn eight_workers_report_the_first_suites_at_random_as_one_thread_does(
+    rt: HostRuntime,
+) -> Result<(), Fail> {
+    expect_half(&rt, 0, 8)?;
+    Ok(())
+}
+
+#[test]
+fn eight_workers_report_further_suites_at_random_as_one_thread_does(
+    rt: HostRuntime,
+) -> Result<(), Fail> {
+    expect_half(&rt, 1, 8)?;
+    Ok(())
+}
+
+#[test]
+fn many_workers_report_the_first_suites_at_random_as_one_thread_does(
+    rt: HostRuntime,
+) -> Result<(), Fail> {
+    expect_half(&rt, 0, 64)?;
+    Ok(())
+}
+
+#[test]
+fn many_workers_report_further_suites_at_random_as_one_thread_does(
+    rt: HostRuntime,
+) -> Result<(), Fail> {
+    expect_half(&rt, 1, 64)?;
     Ok(())
 }
