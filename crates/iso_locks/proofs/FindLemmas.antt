@@ -1,14 +1,14 @@
 -- What a node finds in a tray that it is lent to.
-use Rattle.std.proofs.Common.{◌≡◌, ◌≢◌, ℕ, ◌<◌, List, length, Option, Some, None, Bool, true, false, ◌||◌, ◌&&◌, ◌==◌, not, cond, bytes_eq, is_some, ◌⊎◌, inl, inr, ap, ap₂, sym, subst, ◌∙◌, arith, refl}
+use Rattle.std.proofs.Common.{◌≡◌, ℕ, ◌<◌, List, length, Option, Some, None, Bool, true, false, ◌||◌, ◌&&◌, not, cond, bytes_eq, ◌⊎◌, inl, inr, ap, ap₂, sym, subst, ◌∙◌, arith, refl}
 use Rattle.std.proofs.lemmas.Bool.{cases_eq}
 use Rattle.std.specs.Option.{option_or}
 use Rattle.iso_plan.proofs.ConflictLemmas.{any-at}
 use Rattle.iso_locks.proofs.KeyLemmas.{HasNumber, any-has, has-number, or-left, readable-of, written-is}
 use Rattle.iso_locks.proofs.OwnerLemmas.{no-conflict, none-by}
-use Rattle.iso_locks.specs.Clashes.{clash, lockers_conflict}
+use Rattle.iso_locks.specs.Clashes.{lockers_conflict}
 use Rattle.iso_locks.specs.Owners.{AreOwned}
 use Rattle.iso_locks.specs.Slots.{Slots, slot}
-use Rattle.iso_locks.specs.Trays.{TrayView, content, has_at, has_value, holds_read, is_lent, is_open, is_read, key_at, number_of, reads, seen, seen_at}
+use Rattle.iso_locks.specs.Trays.{TrayView, content, has_at, has_value, holds_read, is_lent, is_open, is_read, key_at, reads, seen, seen_at}
 use Rattle.iso_model.proofs.RightsLemmas.{strongest-none}
 use Rattle.iso_model.specs.Keys.{global_key}
 use Rattle.iso_model.specs.Rights.{is_readable, is_writable, strongest}

@@ -4,16 +4,16 @@ use Rattle.std.proofs.lemmas.Bool.{cases_eq, cases_lt}
 use Rattle.std.proofs.lemmas.List.{get_or_past, get_or-set_other, get_or-set_same}
 use Rattle.std.specs.List.{list_any}
 use Rattle.std.specs.Option.{option_or}
-use Rattle.iso_locks.proofs.KeyLemmas.{or-left, written-conflict}
+use Rattle.iso_locks.proofs.KeyLemmas.{written-conflict}
 use Rattle.iso_locks.specs.Clashes.{clash, lockers_conflict}
 use Rattle.iso_locks.specs.Moves.{is_written, moved_away, moved_here}
-use Rattle.iso_locks.specs.Owners.{AreOwned, IsOwned}
+use Rattle.iso_locks.specs.Owners.{AreOwned}
 use Rattle.iso_locks.specs.Slots.{HasLater, Slots, slot}
 use Rattle.iso_locks.specs.Trays.{is_lent, restored}
 use Rattle.iso_model.specs.Rights.{is_writable}
 use Rattle.iso_model.specs.declared.access.Access.{Access}
 use Rattle.iso_plan.proofs.ColumnLemmas.{column-read, length-column}
-use Rattle.iso_plan.proofs.PathLemmas.{eq_not, eq_same}
+use Rattle.iso_plan.proofs.PathLemmas.{eq_not}
 use Rattle.iso_plan.specs.KeyTable.{keys}
 use Rattle.iso_plan.specs.Locks.{conflict, exclude, locking_node, locks, taken}
 use Rattle.iso_plan.specs.Paths.{column}

@@ -1,12 +1,12 @@
 -- What one node needs to be taken back, and to be undone, outlasts others that are lent and taken back.
-use Rattle.std.proofs.Common.{◌≡◌, ◌≢◌, ℕ, ◌<◌, List, length, set, Option, Some, None, Bool, true, false, cond, option_map, inl, inr, ap, ap₂, sym, subst, ◌∙◌, arith, refl}
+use Rattle.std.proofs.Common.{◌≡◌, ◌≢◌, ℕ, ◌<◌, List, length, set, Some, None, Bool, true, false, cond, option_map, inl, inr, ap, ap₂, sym, subst, ◌∙◌, arith}
 use Rattle.std.proofs.lemmas.Bool.{cases_eq}
 use Rattle.std.proofs.lemmas.List.{get_or-set_same}
 use Rattle.iso_locks.proofs.KeyLemmas.{written-conflict}
 use Rattle.iso_locks.proofs.OwnerLemmas.{away-slot, lent-other, lent-within, no-conflict, true-or-false}
 use Rattle.iso_locks.specs.Clashes.{clash}
 use Rattle.iso_locks.specs.Moves.{is_written}
-use Rattle.iso_locks.specs.Slots.{HasLater, slot}
+use Rattle.iso_locks.specs.Slots.{slot}
 use Rattle.iso_locks.specs.Trays.{CanUndo, SavepointView, TrayView, is_lent, key_at}
 use Rattle.iso_locks.specs.Vaults.{CanTakeBack, IsLentTo, VaultView, giving_back, lending, regaining}
 use Rattle.iso_plan.specs.KeyTable.{keys}

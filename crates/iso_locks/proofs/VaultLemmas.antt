@@ -1,14 +1,13 @@
 -- A vault stays as it should be when nodes are lent and taken back.
-use Rattle.std.proofs.Common.{◌≡◌, ◌≢◌, ℕ, ◌<◌, ◌≤◌, List, [], ◌∷◌, length, map, Option, Some, None, Bool, true, false, ◌||◌, ◌&&◌, not, cond, set, is_some, option_map, ◌⊎◌, ap, ap₂, sym, subst, ◌∙◌, arith, refl, inl, inr}
+use Rattle.std.proofs.Common.{◌≡◌, ◌≢◌, ℕ, ◌<◌, ◌≤◌, List, length, map, Option, Some, None, Bool, true, false, ◌||◌, ◌&&◌, not, cond, set, is_some, option_map, ◌⊎◌, ap, ap₂, sym, subst, ◌∙◌, arith, refl, inl, inr}
 use Rattle.std.specs.Option.{option_or}
-use Rattle.std.proofs.lemmas.Bool.{cases_eq, cases_lt}
-use Rattle.std.proofs.lemmas.List.{get_or_past, get_or-map, get_or-set_same, get_or-set_other, length-map, length-set}
+use Rattle.std.proofs.lemmas.Bool.{cases_lt}
+use Rattle.std.proofs.lemmas.List.{get_or_past, get_or-map, get_or-set_same, length-map, length-set}
 use Rattle.iso_model.specs.declared.resource.Resource.{Resource}
 use Rattle.iso_plan.proofs.ColumnLemmas.{column-from, column-read, length-column}
-use Rattle.iso_plan.proofs.PathLemmas.{eq_from, eq_same}
 use Rattle.iso_plan.specs.KeyTable.{keys}
 use Rattle.iso_plan.specs.Conflicts.{is_in_the_way}
-use Rattle.iso_plan.specs.Locks.{conflict, is_write, locks}
+use Rattle.iso_plan.specs.Locks.{conflict, locks}
 use Rattle.iso_plan.specs.Paths.{column}
 use Rattle.iso_plan.specs.Planned.{Planned}
 use Rattle.iso_plan.specs.RowView.{tree_of}
@@ -21,7 +20,7 @@ use Rattle.iso_locks.specs.Trays.{TrayView, is_lent, key_at}
 use Rattle.iso_locks.specs.Vaults.{CanTakeBack, IsLentTo, IsVault, VaultView, busy, is_home, receiving, value_in}
 use Rattle.iso_plan.proofs.ConflictLemmas.{lowest-none}
 use Rattle.iso_locks.proofs.KeyLemmas.{written-conflict, written-within}
-use Rattle.iso_locks.proofs.OwnerLemmas.{away-slot, here-slot, lent-other, lent-within, still-lent}
+use Rattle.iso_locks.proofs.OwnerLemmas.{lent-other, lent-within, still-lent}
 
 -- in a vault that isn't busy, what a node takes for READ_WRITE is home
 pub home-for : (v : VaultView) (values : Slots) (n i : ℕ) → IsVault v.plan v.world v.lent values → busy v n ≡ None → is_written (locks (tree_of v.plan) n) i ≡ true → i < length values → (slot values i ≡ None → ⊥)

@@ -1,6 +1,7 @@
 pub mod Clashes
 pub mod Examples
 pub mod Flats
+pub mod Listed
 pub mod Moves
 pub mod Onward
 pub mod Owners

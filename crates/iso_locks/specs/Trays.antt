@@ -1,6 +1,6 @@
 -- What contracts see of a tray, and the resources that it holds: the values that nodes lent to it may change, and the starting
 -- values that they may look at.
-use Rattle.std.specs.Prelude.{◌≡◌, ◌≤◌, ℕ, zero, suc, List, [], length, map, replicate, reverse, Option, Some, None, Bool, true, false, ◌||◌, ◌&&◌, cond, bytes_eq, is_some, slice_index_or, refl, option_map, slice_set}
+use Rattle.std.specs.Prelude.{◌≡◌, ℕ, zero, suc, List, [], length, map, replicate, reverse, Option, Some, None, Bool, true, false, ◌||◌, ◌&&◌, cond, bytes_eq, is_some, slice_index_or, refl, option_map, slice_set}
 use Rattle.std.specs.Option.{option_or}
 use Rattle.std.specs.Coded.{Coded, code_by, coded×, coded_list, coded_option, coded_bool, coded_ℕ}
 use Rattle.iso_model.specs.Resources.{Resources}

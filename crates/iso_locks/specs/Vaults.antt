@@ -1,6 +1,5 @@
 -- What contracts see of a vault, and what moves when a node is lent and taken back.
-use Rattle.std.specs.Prelude.{◌≡◌, ℕ, zero, suc, ◌<◌, List, length, replicate, Option, Some, None, Bool, true, false, ◌||◌, ◌&&◌, not, cond, option_map, slice_index_or, slice_set, refl}
-use Rattle.std.specs.Option.{option_or}
+use Rattle.std.specs.Prelude.{◌≡◌, ℕ, ◌<◌, List, length, replicate, Option, Some, None, Bool, true, false, ◌||◌, ◌&&◌, not, option_map, slice_index_or, slice_set, refl}
 use Rattle.std.specs.Coded.{Coded, code_by, coded×, coded_list, coded_bool}
 use Rattle.iso_model.specs.declared.resource.Resource.{Resource}
 use Rattle.iso_plan.specs.KeyTable.{keys}
@@ -9,7 +8,6 @@ use Rattle.iso_plan.specs.Locks.{locks}
 use Rattle.iso_plan.specs.Paths.{column}
 use Rattle.iso_plan.specs.Planned.{Planned}
 use Rattle.iso_plan.specs.RowView.{tree_of}
-use Rattle.iso_plan.specs.Tree.{Row}
 use Rattle.iso_plan.specs.contracts.plan.Plan as plan
 use Rattle.iso_settings.specs.Worlds.{Start, start_code, starting_value_in}
 use Rattle.iso_store.specs.Histories.{History}

@@ -4,6 +4,7 @@
 pub mod clash;
 pub mod examples;
 pub mod laws;
+mod lent;
 mod moves;
 pub mod savepoint;
 mod slots;

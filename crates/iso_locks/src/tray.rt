@@ -17,6 +17,7 @@ ghost use Rattle.iso_plan.specs.Paths.{column, is_test, path, row_at};
 ghost use Rattle.iso_plan.specs.RowView.{tree_of};
 
 use crate::clash::nodes_clash;
+use crate::lent::LentNodes;
 use crate::moves::move_values;
 use crate::savepoint::Savepoint;
 use crate::slots::Slots;
@@ -50,7 +51,7 @@ pub struct Tray<'a> {
     world: &'a World,
     /// Whether it is the flat map of a run, which has every value though no node is lent to it.
     flat: bool,
-    lent: Vec<bool>,
+    lent: LentNodes,
     values: Slots,
     /// The keys with their starting values, by key number.
     starts: Vec<Starting>,
@@ -70,9 +71,9 @@ impl<'a> Model for Tray<'a> {
 
     ghost coded = { tray_code };
 
-    ghost view = { λ t. record { plan = t.plan.now; world = t.world.now; flat = t.flat; lent = t.lent.items; values = t.values; frames = t.frames.items } };
+    ghost view = { λ t. record { plan = t.plan.now; world = t.world.now; flat = t.flat; lent = t.lent; values = t.values; frames = t.frames.items } };
 
-    ghost invariant = { λ t. IsTray t.plan.now t.world.now t.flat t.lent.items t.values t.starts.items (vec_capacity t.frames) (vec_capacity t.spare) t.spare.items };
+    ghost invariant = { λ t. IsTray t.plan.now t.world.now t.flat t.lent t.values t.starts.items (vec_capacity t.frames) (vec_capacity t.spare) t.spare.items };
 }
 
 impl<'a> Tray<'a> {
@@ -88,7 +89,7 @@ impl<'a> Tray<'a> {
             plan,
             world,
             flat: false,
-            lent: vec![in alloc; false; nodes]?,
+            lent: LentNodes::new(alloc, nodes)?,
             values: Slots::empty(alloc, count)?,
             starts: starts_of(alloc, plan, world)?,
             frames: Vec::with_capacity(alloc, depth)?,
@@ -140,10 +141,11 @@ impl<'a> Tray<'a> {
         requires { node < length self.now.plan.rows }
         ensures { result ≡ is_lent self.now.lent node }
     {
-        self.lent[node as usize]
+        self.lent.has(node)
     }
 
-    /// Whether a node may be lent to it beside those that are: it isn't lent to it, and clashes with none of them. Takes no memory.
+    /// Whether a node may be lent to it beside those that are: it isn't lent to it, and clashes with none of them. It goes over those
+    /// alone. Takes no memory.
     pub fn can_hold(&self, node: u32) -> bool
         requires { node < length self.now.plan.rows }
         ensures holds { result ≡ true → CanHold node self.now }
@@ -152,8 +154,9 @@ impl<'a> Tray<'a> {
         if self.is_lent(node) {
             return false;
         }
-        'nodes: for other in 0..self.plan.len() {
-            if self.keeps_out(other, node) {
+        let listed = self.lent.listed();
+        'nodes: for other in listed {
+            if self.keeps_out(*other, node) {
                 return false;
             }
         }
@@ -242,6 +245,7 @@ impl<'a> Tray<'a> {
         requires home { length home.old ≡ length (keys (tree_of self.old.plan)) }
         requires taken { taken.now ≡ locks (tree_of self.old.plan) node }
         requires there { (i : ℕ) → is_written (locks (tree_of self.old.plan) node) i ≡ true → is_some (slot home.old i) ≡ true }
+        requires apart { is_lent self.old.lent node ≡ false }
         requires beside { (m : ℕ) → is_lent self.old.lent m ≡ true → clash (tree_of self.old.plan) m node ≡ false }
         ensures holds { is_lent self.new.lent node ≡ true }
         ensures fresh { self.old.flat ≡ false → (i : ℕ) → is_written (locks (tree_of self.old.plan) node) i ≡ true → slot self.old.values i ≡ None }
@@ -249,8 +253,7 @@ impl<'a> Tray<'a> {
         ensures tray { self.new ≡ receiving node home.old self.old }
         ensures home { home.new ≡ moved_away (locks (tree_of self.old.plan) node) home.old }
     {
-        let number = node as usize;
-        self.lent[number] = true;
+        self.lent.lend(node);
         move_values(taken, home, &mut self.values);
     }
 
@@ -264,8 +267,7 @@ impl<'a> Tray<'a> {
         ensures tray { self.new ≡ giving_back node self.old }
         ensures home { home.new ≡ moved_here (locks (tree_of self.old.plan) node) self.old.values home.old }
     {
-        let number = node as usize;
-        self.lent[number] = false;
+        self.lent.take_back(node);
         move_values(taken, &mut self.values, home);
     }
 }

@@ -1,4 +1,4 @@
-use Rattle.std.proofs.Common.{◌≡◌, ◌<◌, ◌≤◌, length, sym, arith}
+use Rattle.std.proofs.Common.{sym, arith}
 use Rattle.iso_plan.proofs.LockLemmas.{locking-le}
 use Rattle.iso_plan.specs.RowView.{tree_of}
 use Rattle.iso_locks.proofs.clash.nodes_clash.Goals as goal
