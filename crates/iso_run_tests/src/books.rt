@@ -1,6 +1,9 @@
 //! What the book of a run refuses.
 mod keyless;
 mod leaves;
+mod opened;
+
+ghost use Rattle.std.specs.Prelude.{◌≡◌};
 
 use crate::suites::{CONCURRENT, Check, check_script};
 use iso_book::book::Book;
@@ -31,7 +34,10 @@ concurrent write \"K\" class D { test e { } }
 type Row = (&'static str, Refused);
 
 /// An Enter or a Shut with a new tray.
-fn with_new_tray(alloc: Global, book: &mut Book<'_>, event: Event) -> Result<(), CoreFault> {
+fn with_new_tray(alloc: Global, book: &mut Book<'_>, event: Event) -> Result<(), CoreFault>
+    ensures plan { book.new.plan ≡ book.old.plan }
+    ensures world { book.new.world ≡ book.old.world }
+{
     let mut tray = Tray::new(alloc, book.plan(), book.world())?;
     match event {
         Event::Enter { worker, node } => book.enter_own(worker, node, &mut tray),
@@ -41,7 +47,10 @@ fn with_new_tray(alloc: Global, book: &mut Book<'_>, event: Event) -> Result<(),
 }
 
 /// An Enter or a Shut with a stranger's tray.
-fn with_stranger(alloc: Global, book: &mut Book<'_>, event: Event) -> Result<(), CoreFault> {
+fn with_stranger(alloc: Global, book: &mut Book<'_>, event: Event) -> Result<(), CoreFault>
+    ensures plan { book.new.plan ≡ book.old.plan }
+    ensures world { book.new.world ≡ book.old.world }
+{
     let mut tray = Tray::flat(alloc, book.plan(), book.world())?;
     match event {
         Event::Enter { worker, node } => book.enter_own(worker, node, &mut tray),
