@@ -6,5 +6,6 @@ pub mod EventLists
 pub mod Inside
 pub mod Leaving
 pub mod Looks
+pub mod Passing
 pub mod ResultLeaves
 pub mod ResultPuts

@@ -1,6 +1,7 @@
 pub mod CodeEvents
 pub mod FaultTexts
 pub mod KindsAt
+pub mod Passed
 pub mod Phases
 pub mod RefusalTexts
 pub mod ResultStates

@@ -1,5 +1,5 @@
 -- Where all nodes and workers stand, and the states of the core that look so.
-use Rattle.std.specs.Prelude.{◌≡◌, ℕ, ◌<◌, List, [], Option, Some, None, Bool, true, false, cond, eqb, is_some, ◌&&◌, length, slice_index_or, refl}
+use Rattle.std.specs.Prelude.{◌≡◌, ℕ, ◌<◌, List, [], Option, Some, None, Bool, true, false, cond, eqb, is_some, ◌&&◌, length, slice_index_or, slice_set, refl}
 use Rattle.std.specs.Coded.{Coded, code_by, coded×, coded_list, coded_option, coded_bool, coded_ℕ}
 use Rattle.iso_suites.specs.PlanSuites.{suite_of}
 use Rattle.iso_standing.specs.Phases.{bare, phase_of}
@@ -173,6 +173,10 @@ CanTake v (Code.Enter worker node) = Fits v worker node
 CanTake v (Code.Step worker) = HasBody v worker
 CanTake v (Code.Leave worker) = HasBody v worker
 CanTake v (Code.Shut worker node) = Fits v worker node
+
+-- a node came so far, and nothing else changed
+abbrev pub with_phase : Standing → ℕ → Phase → Standing
+with_phase v n p = record v { phases = slice_set v.phases n p }
 
 -- the phase of a node once a class was barred: what waits in it is finished
 abbrev pub phase_under : Standing → ℕ → ℕ → Phase

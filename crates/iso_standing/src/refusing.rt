@@ -1,14 +1,13 @@
 //! Which event is refused where all nodes and workers stand so, and why: the kinds of refusal, each a test of its own.
-ghost use Rattle.std.specs.Prelude.{◌≡◌, ◌<◌, ◌&&◌, None, false, not, option_map};
+ghost use Rattle.std.specs.Prelude.{◌≡◌, ◌<◌, None, false, option_map};
 ghost use Rattle.iso_isolation.specs.Events as E;
 ghost use Rattle.iso_isolation.specs.Refusals as Why;
-ghost use Rattle.iso_isolation.specs.States.{is_finished};
 ghost use Rattle.iso_model.specs.Resources.{Resources};
 ghost use Rattle.iso_plan.specs.Modes.{mode};
 ghost use Rattle.iso_plan.specs.RowView.{tree_of};
 ghost use Rattle.iso_standing.specs.CodeEvents.{event_of, refused_of};
 ghost use Rattle.iso_standing.specs.KindsAt.{Refuses, at, before_locks, booking_kinds, first_kinds};
-ghost use Rattle.iso_standing.specs.Phases.{bare};
+ghost use Rattle.iso_standing.specs.Passed.{is_due};
 ghost use Rattle.iso_standing.specs.Standings.{CanTake, EndsAs, Fits, HasBody, LooksLike, TellsEnd, nodes_in, phase_at, refusal_in, workers_in};
 ghost use Rattle.iso_suites.specs.PlanSuites.{is_same_thread};
 ghost use Rattle.iso_suites.specs.ScriptLanguage.{scripts};
@@ -203,15 +202,21 @@ impl<'a> Standing<'a> {
         self.is_same_thread(node) && self.has_unfinished_sibling(node)
     }
 
-    /// Whether an earlier SAME_THREAD sibling of a node isn't finished. It goes over the siblings.
+    /// Whether an earlier SAME_THREAD sibling of a node isn't finished. It goes over the siblings that aren't passed, up to the node,
+    /// since they come in order, or the first that is due.
     fn has_unfinished_sibling(&self, node: u32) -> bool
         requires node { node < nodes_in self.now }
         requires inner { 0 < node }
         ensures { (start : Resources) (s : RunState) → LooksLike self.now s → at self.now start s (Why.has_unfinished_sibling scripts) node ≡ result }
     {
         let parent = self.parent(node);
-        for sibling in self.plan().children(parent) {
-            if *sibling < node && self.is_due(*sibling) {
+        let first = self.passed(parent) as usize;
+        let left = &self.plan().children(parent)[first..];
+        for sibling in left {
+            if *sibling >= node {
+                return false;
+            }
+            if self.is_due(*sibling) {
                 return true;
             }
         }
@@ -219,9 +224,9 @@ impl<'a> Standing<'a> {
     }
 
     /// Whether a node is SAME_THREAD and isn't finished.
-    fn is_due(&self, node: u32) -> bool
+    pub(crate) fn is_due(&self, node: u32) -> bool
         requires { node < nodes_in self.now }
-        ensures { result ≡ (is_same_thread (mode (tree_of self.now.plan) self.now.plan.settings node) && not (is_finished (bare (phase_at self.now node)))) }
+        ensures { result ≡ is_due self.now.plan self.now.phases node }
     {
         self.is_same_thread(node) && !self.phase(node).is_finished()
     }

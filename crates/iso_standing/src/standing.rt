@@ -1,9 +1,11 @@
 //! Where all nodes and workers stand.
-ghost use Rattle.std.specs.Prelude.{◌≡◌, ◌<◌, ◌||◌, IfOk, is_some};
+ghost use Rattle.std.specs.Prelude.{◌≡◌, ◌<◌, ◌||◌, IfOk, is_some, slice_set};
 ghost use Rattle.iso_standing.specs.Phases.{bare};
+ghost use Rattle.iso_standing.specs.declared.phase.Phase.TheVariants.{Finished};
 ghost use Rattle.iso_standing.specs.CodeEvents.{event_of};
 ghost use Rattle.iso_suites.specs.SuiteStates.{RunState};
-ghost use Rattle.iso_standing.specs.Standings.{CanTake, EndsWellAs, Fits, HasBody, IsBarred, LooksLike, OfSame, TellsWell, after_in, body_under_way, first_in, has_body_at, is_complete_in, is_inside, node_of, nodes_in, owner_at, phase_at, phase_under, workers_in};
+ghost use Rattle.iso_standing.specs.Passed.{ArePassed};
+ghost use Rattle.iso_standing.specs.Standings.{CanTake, EndsWellAs, Fits, HasBody, IsBarred, LooksLike, OfSame, TellsWell, after_in, body_under_way, first_in, has_body_at, is_complete_in, is_inside, node_of, nodes_in, owner_at, phase_at, phase_under, with_phase, workers_in};
 ghost use Rattle.iso_isolation.specs.Events as E;
 ghost use Rattle.iso_isolation.specs.Events.{stop};
 ghost use Rattle.iso_isolation.specs.States.{is_closing};
@@ -26,11 +28,15 @@ pub struct Standing<'a> {
     owners: Vec<u32>,
     busy: Vec<Option<u32>>,
     stopped: bool,
+    /// By node, how many of its first children are passed: none of these is due, that is SAME_THREAD and not finished. It only
+    /// shortens a search, so contracts don't see it.
+    passed: Vec<u32>,
 }
 
 impl<'a> Model for Standing<'a> {
     ghost use Rattle.iso_standing.specs.Standings as standings;
     ghost use Rattle.iso_standing.specs.Standings.{IsStanding, standing_code};
+    ghost use Rattle.iso_standing.specs.Passed.{KeepsPassed};
 
     ghost Value = { standings.Standing };
 
@@ -38,7 +44,8 @@ impl<'a> Model for Standing<'a> {
 
     ghost view = { λ s. record { plan = s.plan.now; phases = s.phases.items; owners = s.owners.items; busy = s.busy.items; stopped = s.stopped } };
 
-    ghost invariant = { λ s. IsStanding (record { plan = s.plan.now; phases = s.phases.items; owners = s.owners.items; busy = s.busy.items; stopped = s.stopped }) };
+    ghost invariant = { λ s. IsStanding (record { plan = s.plan.now; phases = s.phases.items; owners = s.owners.items; busy = s.busy.items; stopped = s.stopped })
+        × KeepsPassed s.plan.now s.phases.items s.passed.items };
 }
 
 impl<'a> Standing<'a> {
@@ -59,6 +66,7 @@ impl<'a> Standing<'a> {
             owners: vec![in alloc; 0; nodes]?,
             busy: vec![in alloc; None; workers as usize]?,
             stopped: false,
+            passed: vec![in alloc; 0; nodes]?,
         })
     }
 
@@ -83,7 +91,7 @@ impl<'a> Standing<'a> {
         ensures same { OfSame self.old self.new }
         ensures state { (start : Resources) (s : RunState) → LooksLike self.old s → LooksLike self.new (after_in self.old start s (E.Enter worker node)) }
     {
-        self.phases[node as usize] = Phase::Begun;
+        self.set_phase(node, Phase::Begun);
         self.owners[node as usize] = worker;
         self.busy[worker as usize] = Some(node);
     }
@@ -99,9 +107,9 @@ impl<'a> Standing<'a> {
         if let Some(node) = self.busy[worker as usize] {
             self.busy[worker as usize] = None;
             if self.has_last_body(node) {
-                self.phases[node as usize] = Phase::Finished;
+                self.finish(node);
             } else if well {
-                self.phases[node as usize] = Phase::Open;
+                self.set_phase(node, Phase::Open);
             } else {
                 self.bar(node);
             }
@@ -114,7 +122,7 @@ impl<'a> Standing<'a> {
         ensures same { OfSame self.old self.new }
         ensures state { (start : Resources) (s : RunState) → LooksLike self.old s → LooksLike self.new (after_in self.old start s (E.Shut worker node)) }
     {
-        self.phases[node as usize] = Phase::Closing;
+        self.set_phase(node, Phase::Closing);
         self.busy[worker as usize] = Some(node);
     }
 
@@ -229,6 +237,65 @@ impl<'a> Standing<'a> {
         above == class
     }
 
+    /// Finishes a node, and passes those children of its parent that come next and aren't due.
+    fn finish(&mut self, node: u32)
+        requires node { node < nodes_in self.old }
+        requires inner { 0 < node }
+        ensures { self.new ≡ with_phase self.old node Finished }
+    {
+        self.set_phase(node, Phase::Finished);
+        let parent = self.parent(node);
+        let passed = self.passable(parent);
+        self.passed[parent as usize] = passed;
+    }
+
+    /// Sets how far a node but the root has come.
+    fn set_phase(&mut self, node: u32, phase: Phase)
+        requires node { node < nodes_in self.old }
+        requires inner { 0 < node }
+        ensures { self.new ≡ with_phase self.old node phase }
+    {
+        let parent = self.parent(node);
+        let passed = self.still_passed(node, phase);
+        self.passed[parent as usize] = passed;
+        self.phases[node as usize] = phase;
+    }
+
+    /// How many first children of a node's parent stay passed where the node comes to a phase.
+    fn still_passed(&self, node: u32, phase: Phase) -> u32
+        requires node { node < nodes_in self.now }
+        requires inner { 0 < node }
+        ensures { ArePassed self.now.plan (slice_set self.now.phases node phase) (parent (tree_of self.now.plan) node) result }
+    {
+        // No event that is accepted leads here, but the contracts of `enter` and `shut` don't rule it out.
+        if self.phase(node).is_finished() && !phase.is_finished() {
+            return 0;
+        }
+        self.passed(self.parent(node))
+    }
+
+    /// How many first children of a class can be passed: those before the first that is due. It begins after those that are passed,
+    /// so that it goes over each child once.
+    fn passable(&self, class: u32) -> u32
+        requires { class < nodes_in self.now }
+        ensures { ArePassed self.now.plan self.now.phases class result }
+    {
+        let children = self.plan.children(class);
+        let mut next = self.passed(class);
+        'children: while (next as usize) < children.len() && !self.is_due(children[next as usize]) {
+            next += 1;
+        }
+        next
+    }
+
+    /// How many first children of a class are passed: none of them is due.
+    pub(crate) fn passed(&self, class: u32) -> u32
+        requires { class < nodes_in self.now }
+        ensures { ArePassed self.now.plan self.now.phases class result }
+    {
+        self.passed[class as usize]
+    }
+
     /// Bars a class: what waits in it is finished.
     fn bar(&mut self, class: u32)
         requires class { class < nodes_in self.old }
@@ -236,10 +303,10 @@ impl<'a> Standing<'a> {
         ensures { IsBarred class self.old self.new }
     {
         parents_come_first(self.plan);
-        self.phases[class as usize] = Phase::Barred;
+        self.set_phase(class, Phase::Barred);
         'nodes: for node in class..self.plan.len() {
             let next = self.phase_under(node, class);
-            self.phases[node as usize] = next;
+            self.set_phase(node, next);
         }
     }
 

@@ -14,7 +14,7 @@ body_there v o = is_some (where_some o None (λ n. body_in (bare (phase_at v n))
 
 pub phase-requires : goal.phase-requires
 phase-requires c =
-    let is : IsStanding c.args.self.now = subst IsStanding c.self.view_is c.self.invariant in
+    let is : IsStanding c.args.self.now = subst IsStanding c.self.view_is c.self.invariant.0 in
     let count : length c.self.inside.busy.items ≡ workers_in c.args.self.now = ap workers_in c.self.view_is in
     let inside : c.args.worker < length c.self.inside.busy.items = omega (arith, c.requires) in
     let here : node_of c.args.self.now c.args.worker ≡ Some c.in-Some.node =
@@ -23,7 +23,7 @@ phase-requires c =
 
 pub returns-in-None-clause-state : goal.returns-in-None-clause-state
 returns-in-None-clause-state c = λ start s like.
-    let is : IsStanding c.args.self.now = subst IsStanding c.self.view_is c.self.invariant in
+    let is : IsStanding c.args.self.now = subst IsStanding c.self.view_is c.self.invariant.0 in
     let count : length c.self.inside.busy.items ≡ workers_in c.args.self.now = ap workers_in c.self.view_is in
     let inside : c.args.worker < length c.self.inside.busy.items = omega (arith, c.requires) in
     let here : node_of c.args.self.now c.args.worker ≡ None =
@@ -32,7 +32,7 @@ returns-in-None-clause-state c = λ start s like.
 
 pub returns-in-Some-clause-state : goal.returns-in-Some-clause-state
 returns-in-Some-clause-state c = λ start s like.
-    let is : IsStanding c.args.self.now = subst IsStanding c.self.view_is c.self.invariant in
+    let is : IsStanding c.args.self.now = subst IsStanding c.self.view_is c.self.invariant.0 in
     let count : length c.self.inside.busy.items ≡ workers_in c.args.self.now = ap workers_in c.self.view_is in
     let inside : c.args.worker < length c.self.inside.busy.items = omega (arith, c.requires) in
     let here : node_of c.args.self.now c.args.worker ≡ Some c.in-Some.node =

@@ -1,0 +1,32 @@
+use Rattle.std.proofs.Common.{rules, ◌≡◌, ℕ, Vec, Global, length, get_or, replicate, None, ap, sym, ◌∙◌, subst, arith}
+use Rattle.std.proofs.lemmas.List.{get_or-set_same, length-set}
+use Rattle.iso_standing.proofs.Passing.{keeps-none, none-in}
+use Rattle.iso_standing.specs.Passed.{KeepsPassed}
+use Rattle.iso_standing.specs.declared.phase.Phase.{Phase}
+use Rattle.iso_standing.specs.declared.phase.Phase.TheVariants.{Open, Waiting}
+use Rattle.iso_standing.proofs.standing.Standing.new.Goals as goal
+use Rattle.iso_standing.proofs.standing.Standing.new.Goals.{then-nodes-gt0, else-nodes-gt0}
+
+pub invariant_of-result : goal.invariant_of-result
+invariant_of-result c =
+    let p = c.args.plan.now in
+    let phases = c.if-nodes-gt0.phases.items in
+    let waiting = c.in_ok-phases.phases.items in
+    let count : length waiting ≡ length p.rows = omega (arith, c.in_ok-phases.phases.ok.0, c.in_ok-phases.ensures.len, c.len-nodes.ensures) in
+    let busy : c.in_ok-vec-2.field-0.items ≡ replicate c.args.workers None = c.in_ok-vec-2.ensures.items_if_clones_equal (λ y h. search rules) in
+    let none : c.in_ok-vec-3.field-0.items ≡ replicate (length p.rows) 0 =
+    c.in_ok-vec-3.ensures.items_if_clones_equal (λ y h. search rules) ∙ ap (λ (n : ℕ). replicate n 0) c.len-nodes.ensures in (
+      record {
+        phases = elim c.if-nodes-gt0.branch [
+          | then-nodes-gt0 w ↦ ap (λ (v : Vec Phase Global). length v.items) w.phases-is ∙ length-set waiting 0 Open ∙ count
+          | else-nodes-gt0 w ↦ ap (λ (v : Vec Phase Global). length v.items) w.phases-is ∙ count
+        ];
+        owners = omega (arith, c.in_ok-vec.field-0.ok.0, c.in_ok-vec.ensures.len, c.len-nodes.ensures);
+        root = λ h. elim c.if-nodes-gt0.branch [
+          | then-nodes-gt0 w ↦ ap (λ (v : Vec Phase Global). get_or v.items 0 Waiting) w.phases-is ∙ get_or-set_same waiting 0 Open Waiting (omega (arith, count, h))
+          | else-nodes-gt0 w ↦ absurd (omega (arith, w.if-nodes-gt0.false, c.len-nodes.ensures, h))
+        ];
+        bodies = λ w n e. absurd (cc (sym (none-in c.args.workers w) ∙ ap (λ os. get_or os w None) (sym busy) ∙ e));
+      },
+      subst (KeepsPassed p phases) (sym none) (keeps-none p phases),
+    )
