@@ -3,7 +3,7 @@ use Rattle.std.proofs.Common.{ℕ, List, refl}
 use Rattle.iso_run.specs.Runs.{NotWritten}
 use Rattle.iso_run.specs.Suites.{Suite}
 use Rattle.iso_run.specs.Ways.{ByWorkers}
-use Rattle.iso_run.specs.Workings.{IsOfWorkers}
+use Rattle.iso_run.specs.WorkerFaults.{IsOfWorkers}
 use Rattle.iso_run.specs.declared.fault.RunFault.{RunFault}
 use Rattle.iso_run.specs.declared.fault.RunFault.TheVariants as F
 use Rattle.iso_run.specs.declared.inputs.Inputs.{Inputs}

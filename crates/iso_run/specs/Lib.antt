@@ -5,4 +5,4 @@ pub mod Replays
 pub mod Runs
 pub mod Suites
 pub mod Ways
-pub mod Workings
+pub mod WorkerFaults

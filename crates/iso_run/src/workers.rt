@@ -6,7 +6,7 @@ ghost use Rattle.iso_floor.specs.Grounds.{IsBookOf};
 ghost use Rattle.iso_run.specs.declared.inputs.Inputs.{Inputs};
 ghost use Rattle.iso_run.specs.Runs.{IsRead, NotWritten, Reported, suite_report};
 ghost use Rattle.iso_run.specs.Ways.{ByWorkers};
-ghost use Rattle.iso_run.specs.Workings.{IsOfWorkers};
+ghost use Rattle.iso_run.specs.WorkerFaults.{IsOfWorkers};
 
 use crate::fault::RunFault;
 use crate::inputs::{Inputs, Suite, read_inputs};

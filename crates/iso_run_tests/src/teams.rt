@@ -138,7 +138,7 @@ class Health {
 }
 "#;
 
-const REPORT: &str = r#"TAP version 14
+pub(crate) const REPORT: &str = r#"TAP version 14
 1..6
 # Subtest: shop.prices \#1: with tax
     1..3

@@ -1,6 +1,7 @@
 //! Suites that are run by workers.
 mod generated;
 mod meeting;
+mod turns;
 
 ghost use Rattle.std.specs.Prelude.{◌≤◌};
 
