@@ -17,7 +17,7 @@ use Rattle.iso_standing.specs.contracts.standing.Standing.TheInside as standing_
 ruleset held = (plan_shared, world.the_sync, phase.the_send, event.the_send, as_row_send, crosses, sendable)
 
 pub standing_sent : (a : NamedLft) → IsSend (standing.the_row a)
-standing_sent a = search (declared_send (standing_inside.the_type a) (search held, (search held, (search held, (search held depth 12, (search held, tt))))), sendable)
+standing_sent a = search (declared_send (standing_inside.the_type a) (search held, (search held, (search held, (search held depth 12, (search held, (search held, tt)))))), sendable)
 
 pub book_sent : (a : NamedLft) → IsSend (book.the_row a)
 book_sent a =
