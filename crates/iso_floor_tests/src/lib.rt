@@ -1,8 +1,22 @@
-//! Tests of the floor with one worker at a time: seats, waits that end, strangers, and a floor that is stopped.
+//! Tests of the floor: seats, waits that end, strangers, a floor that is stopped, and workers in threads of their own.
 #![tactic(auto)]
 
 #[cfg(test)]
 mod by_hand;
+#[cfg(test)]
+mod closings;
+#[cfg(test)]
+mod crew;
+#[cfg(test)]
+mod gates;
+#[cfg(test)]
+mod holdings;
+#[cfg(test)]
+mod meetings;
+#[cfg(test)]
+mod reports;
+#[cfg(test)]
+mod runs;
 #[cfg(test)]
 mod seats;
 #[cfg(test)]

@@ -1,4 +1,5 @@
 //! Suites that the tests run on.
+use iso_model::script::Script;
 use iso_plan::plan::{Plan, build};
 use iso_script::reader::read_script;
 use iso_settings::settings::read_settings;
@@ -29,12 +30,81 @@ pub(crate) const A_AND_B: &str = "team shop
 class C { test a { print \"1\"; } test b { print \"2\"; } }
 ";
 
-/// The suite of a script.
-pub(crate) fn read_suite(alloc: Global, script: &str) -> Result<Suite, Fail> {
+/// Two tests that write one key, whose bodies have nothing to do: a gate is met once in each.
+pub(crate) const RIVALS: &str = "team shop
+class C { write \"file:a\" test a { } write \"file:a\" test b { } }
+";
+
+/// Two tests that read it.
+pub(crate) const READERS: &str = "team shop
+class C { read \"file:a\" test a { } read \"file:a\" test b { } }
+";
+
+/// How many teams the contended suite has.
+const TEAMS: u32 = 6;
+
+/// The classes of each of its teams. One writes a key that all teams write, and sees the file as the run began; one reads it; one takes no
+/// key, so that its tests and those of the class in it are for all workers but two, which are for its owner; and one doesn't open.
+const CLASSES: &str = "write \"file:a\" class Writer {
+  before_all { append_file \"a\", \"+\"; }
+  after_all { print file(\"a\"); }
+  test a { append_file \"a\", \"1\"; print file(\"a\"); }
+  test b { print file(\"a\"); }
+}
+read \"file:a\" class Reader {
+  test a { print file(\"a\"); }
+  test b { assert_equal \"s\", file(\"a\"); }
+}
+class Outer {
+  before_all { print \"opened\"; }
+  after_all { print \"closed\"; }
+  test a { print \"1\"; }
+  write \"file:b\" test b { append_file \"b\", \"2\"; print file(\"b\"); }
+  class Inner {
+    test c { print \"3\"; }
+    read \"file:b\" test d { print file(\"b\"); }
+    write \"K\" test e { print \"5\"; }
+    same_thread test f { fail \"no\"; }
+    same_thread test g { print \"7\"; }
+  }
+}
+class Broken {
+  before_all { fail \"no\"; }
+  test a { print \"1\"; }
+  class Inner { test b { print \"2\"; } }
+}
+";
+
+/// The contended suite's class that runs alone, in a team of its own.
+const ALONE: &str = "team alone
+isolated write \"file:a\" class Alone {
+  test a { write_file \"a\", \"n\"; print file(\"a\"); }
+  test b { print file(\"a\"); }
+}
+";
+
+/// The suite of scripts.
+fn suite_of(alloc: Global, scripts: &[Script]) -> Result<Suite, Fail> {
     let settings = read_settings(alloc, SETTINGS, 1)?;
-    let script = read_script(alloc, script.as_bytes())?;
     Ok(Suite {
-        plan: build(alloc, &[script], &settings)?,
+        plan: build(alloc, scripts, &settings)?,
         world: read_world(alloc, WORLD)?,
     })
+}
+
+/// The suite of a script.
+pub(crate) fn read_suite(alloc: Global, script: &str) -> Result<Suite, Fail> {
+    let script = read_script(alloc, script.as_bytes())?;
+    suite_of(alloc, &[script])
+}
+
+/// A suite whose nodes get into one another's way.
+pub(crate) fn contended(alloc: Global) -> Result<Suite, Fail> {
+    let mut scripts = Vec::new(alloc);
+    for team in 0..TEAMS {
+        let script = format!(in alloc; "team t{team}\n{CLASSES}")?;
+        scripts.push(read_script(alloc, script.as_bytes())?)?;
+    }
+    scripts.push(read_script(alloc, ALONE.as_bytes())?)?;
+    suite_of(alloc, &scripts)
 }
