@@ -1,7 +1,6 @@
 //! What the book of a run refuses.
 mod keyless;
 mod leaves;
-mod opened;
 
 ghost use Rattle.std.specs.Prelude.{◌≡◌};
 
