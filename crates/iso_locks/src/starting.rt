@@ -1,26 +1,65 @@
 //! The keys of a plan with their starting values.
-ghost use Rattle.std.specs.Prelude.{◌≡◌, IfOk, IfSome, Bool, Option, length, map, slice_index_or};
+ghost use Rattle.std.specs.Prelude.{◌≡◌, IfOk, IfSome, Bool, Option, length, map, option_copied, slice_index_or};
+ghost use Rattle.std.specs.Arc.{arc_value};
 ghost use Rattle.iso_locks.specs.Trays.{number_below, start_at};
 ghost use Rattle.iso_model.specs.ResourceKeys.{spelling};
+ghost use Rattle.iso_model.specs.Touch.{answer};
 ghost use Rattle.iso_plan.specs.KeyTable.{keys};
 ghost use Rattle.iso_plan.specs.RowView.{tree_of};
 
 use iso_model::key::Key;
-use iso_model::resource::Resource;
+use iso_model::resource::{Ask, Resource};
 use iso_model::resource_key::ResourceKey;
 use iso_model::text::Text;
 use iso_plan::plan::Plan;
 use iso_settings::world::World;
 use std::alloc::{AllocError, Global};
+use std::marker::Model;
+use std::sync::Arc;
 
-/// A key with the value that it starts with.
+/// A value that all who look at it share, and nobody changes. Contracts see the value.
+#[derive(Drop)]
+pub(crate) struct Shared {
+    value: Arc<Resource>,
+}
+
+impl Model for Shared {
+    ghost use Rattle.std.specs.Arc.{arc_value};
+    ghost use Rattle.iso_model.specs.contracts.resource.Resource.{the_row};
+    ghost use Rattle.iso_model.specs.declared.resource.Resource.{Resource};
+
+    ghost Value = { Resource };
+
+    ghost coded = { the_row.coded };
+
+    ghost view = { λ s. arc_value s.value };
+}
+
+impl Shared {
+    /// The value that these owners share.
+    pub fn new(value: Arc<Resource>) -> Shared
+        ensures { result ≡ arc_value value }
+    {
+        Shared { value }
+    }
+
+    /// The text that is asked for, or `None` where the property is absent or the file missing, or where the value is
+    /// of another kind.
+    pub fn look(&self, ask: Ask<'_>) -> Option<&str>
+        ensures { option_copied result ≡ answer self.now ask.entry }
+    {
+        self.value.look(ask)
+    }
+}
+
+/// A key with the value that it starts with, which is the world's own.
 #[derive(Drop)]
 pub(crate) struct Starting {
     pub key: Key,
-    pub value: Resource,
+    pub value: Shared,
 }
 
-/// All keys of a plan with their starting values, by key number.
+/// All keys of a plan with their starting values, by key number. Copies none of the values that the world names.
 pub(crate) fn starts_of(
     alloc: Global,
     plan: &Plan,
@@ -31,7 +70,7 @@ pub(crate) fn starts_of(
     let mut starts = Vec::new(alloc);
     'keys: for number in 0..plan.key_count() {
         let key = Key::new(Text::copied(alloc, plan.key(number))?);
-        let value = world.copy(alloc, &key)?;
+        let value = Shared::new(world.share(alloc, &key)?);
         starts.push(Starting { key, value })?;
     }
     Ok(starts)

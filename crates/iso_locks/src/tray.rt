@@ -40,8 +40,8 @@ use std::alloc::{AllocError, Global};
 use std::marker::Model;
 use std::mem;
 
-/// What one worker holds of the resources: the values that nodes lent to it may change, and copies of all
-/// starting values, to be looked at where such a node holds the key for READ.
+/// What one worker holds of the resources: the values that nodes lent to it may change, and a share of each
+/// starting value, to be looked at where such a node holds the key for READ. All trays of a world share these.
 ///
 /// Contracts see the plan and the world that it was made for, the nodes that are lent to it, the values that
 /// were moved into it, each with its history, and the frames that were handed to it.
@@ -78,7 +78,7 @@ impl<'a> Model for Tray<'a> {
 
 impl<'a> Tray<'a> {
     /// A tray for a plan and a world, to which nothing is lent or handed. It takes all memory that lending, undoing,
-    /// taking back and handing frames need.
+    /// taking back and handing frames need, and copies no starting value that the world names.
     pub fn new(alloc: Global, plan: &'a Plan, world: &'a World) -> Result<Tray<'a>, AllocError>
         ensures { IfOk result (λ t. t ≡ empty_tray plan.now world.now) }
     {

@@ -2,4 +2,5 @@ pub mod ExampleLemmas
 pub mod LeafLemmas
 pub mod NumeralLemmas
 pub mod SettingsLemmas
+pub mod TextLemmas
 pub mod WorldLemmas

@@ -2,4 +2,5 @@ pub mod Examples
 pub mod Leaves
 pub mod Readings
 pub mod Settings
+pub mod Starts
 pub mod Worlds

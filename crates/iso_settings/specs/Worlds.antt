@@ -15,7 +15,7 @@ use Rattle.iso_settings.specs.Readings.{Reading, ◌>>=◌}
 use Rattle.iso_settings.specs.declared.fault.SettingsFault.TheVariants.{NotToml, WrongValue, OutOfRange}
 
 -- maps of texts are stored by their entries
-abbrev map_code : Coded Map
+abbrev pub map_code : Coded Map
 map_code = code (coded_list coded_ℕ) (coded_list coded_ℕ)
 
 -- what a world says: the texts of files by their paths, the locale, the properties

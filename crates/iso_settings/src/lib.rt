@@ -7,5 +7,7 @@ pub mod fault;
 mod find;
 mod rules;
 pub mod settings;
+mod starts;
 mod table;
+mod texts;
 pub mod world;

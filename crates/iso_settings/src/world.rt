@@ -7,7 +7,9 @@ ghost use Rattle.iso_settings.specs.Worlds.{is_long, is_printable, locale_of, ta
 ghost use Rattle.iso_settings.specs.declared.fault.SettingsFault.TheVariants.{OutOfRange, WrongValue};
 
 use crate::fault::SettingsError;
+use crate::starts::{FileStarts, LocaleStart, PropertiesStart};
 use crate::table::read_table;
+use crate::texts::Texts;
 use iso_model::key::Key;
 use iso_model::limits::TEXT_BYTES;
 use iso_model::properties::Properties;
@@ -15,15 +17,16 @@ use iso_model::resource::{Resource, default_locale};
 use iso_model::text::Text;
 use std::alloc::{AllocError, Global};
 use std::marker::Model;
+use std::sync::Arc;
 use toml::{Table, Value};
 
 /// The values that resources start with. How they are kept stays hidden.
+/// Each stands here once, and whoever looks at it alone shares it.
 #[derive(Drop)]
 pub struct World {
-    /// Texts by their paths.
-    files: Properties,
-    locale: Text,
-    properties: Properties,
+    files: FileStarts,
+    locale: LocaleStart,
+    properties: PropertiesStart,
 }
 
 impl Model for World {
@@ -45,6 +48,7 @@ pub fn read_world(alloc: Global, text: &str) -> Result<World, SettingsError>
 }
 
 impl World {
+    ghost use Rattle.std.specs.Arc.{arc_value};
     ghost use Rattle.iso_settings.specs.Worlds.{empty_start, starting_value_in, with_entries, with_entry};
 
     /// The world that says nothing.
@@ -52,9 +56,9 @@ impl World {
         ensures { IfOk result (λ world. world ≡ empty_start) }
     {
         Ok(World {
-            files: Properties::new(alloc),
-            locale: default_locale(alloc)?,
-            properties: Properties::new(alloc),
+            files: FileStarts::new(alloc),
+            locale: LocaleStart::new(alloc, default_locale(alloc)?)?,
+            properties: PropertiesStart::new(alloc, Properties::new(alloc))?,
         })
     }
 
@@ -82,11 +86,12 @@ impl World {
         ensures { GivesAs (λ _. self.new) (with_entry self.old key.now (view value.now)) result }
     {
         if key == "files" {
-            self.files = table_of(alloc, key, value)?;
+            self.files = table_of(alloc, key, value)?.into_files(alloc)?;
         } else if key == "locale" {
-            self.locale = locale_of(alloc, key, value)?;
+            self.locale = LocaleStart::new(alloc, locale_of(alloc, key, value)?)?;
         } else if key == "properties" {
-            self.properties = table_of(alloc, key, value)?;
+            let properties = table_of(alloc, key, value)?.into_properties(alloc)?;
+            self.properties = PropertiesStart::new(alloc, properties)?;
         } else {
             return Err(SettingsError::wrong_value(alloc, key));
         }
@@ -99,16 +104,37 @@ impl World {
     {
         let spelling = key.as_str();
         if spelling == "java.lang.System.properties" {
-            Ok(Resource::Props(self.properties.copy(alloc)?))
+            Ok(Resource::Props(self.properties.properties().copy(alloc)?))
         } else if spelling == "java.util.Locale.default" {
-            Ok(Resource::Locale(self.locale.copy(alloc)?))
+            Ok(Resource::Locale(Text::copied(alloc, self.locale.as_str())?))
         } else if let Some(path) = spelling.strip_prefix("file:") {
             match self.files.get(path) {
-                Some(text) => Ok(Resource::File(Some(text.copy(alloc)?))),
+                Some(start) => Ok(Resource::File(Some(Text::copied(alloc, start.as_str())?))),
                 None => Ok(Resource::File(None)),
             }
         } else {
             Ok(Resource::Plain)
+        }
+    }
+
+    /// The value that a key starts with, as `copy` gives it, but shared: a value that the world names stands in memory
+    /// once, however many look at it. A file that the world doesn't name and a key without a value get an `Arc` of their
+    /// own. Refused where memory is wanting, or where `Arc` refuses a further owner.
+    pub fn share(&self, alloc: Global, key: &Key) -> Result<Arc<Resource>, AllocError>
+        ensures { IfOk result (λ value. arc_value value ≡ starting_value_in self.now key.now) }
+    {
+        let spelling = key.as_str();
+        if spelling == "java.lang.System.properties" {
+            self.properties.share()
+        } else if spelling == "java.util.Locale.default" {
+            self.locale.share()
+        } else if let Some(path) = spelling.strip_prefix("file:") {
+            match self.files.get(path) {
+                Some(start) => start.share(),
+                None => Ok(Arc::new(alloc, Resource::File(None))?),
+            }
+        } else {
+            Ok(Arc::new(alloc, Resource::Plain)?)
         }
     }
 
@@ -119,7 +145,10 @@ impl World {
     {
         self.locale.as_str() == other.locale.as_str()
             && self.files.same(&other.files)
-            && self.properties.same(&other.properties)
+            && self
+                .properties
+                .properties()
+                .same(other.properties.properties())
     }
 }
 
@@ -155,13 +184,13 @@ fn locale_of(alloc: Global, key: &str, value: &Value) -> Result<Text, SettingsEr
 }
 
 /// A table of texts.
-fn table_of(alloc: Global, top: &str, value: &Value) -> Result<Properties, SettingsError>
+fn table_of(alloc: Global, top: &str, value: &Value) -> Result<Texts, SettingsError>
     ensures { Gives (table_of top.now (view value.now)) result }
 {
     match value {
         Value::Table(table) => {
             let mut path = String::new(alloc);
-            let mut texts = Properties::new(alloc);
+            let mut texts = Texts::new(alloc);
             add_texts(alloc, top, &mut path, table, &mut texts)?;
             Ok(texts)
         }
@@ -176,7 +205,7 @@ fn add_texts(
     top: &str,
     path: &mut String,
     table: &Table,
-    texts: &mut Properties,
+    texts: &mut Texts,
 ) -> Result<(), SettingsError>
     ensures texts { GivesAs (λ _. texts.new)
         (texts_of top.now texts.old (leaves_behind (string_bytes path.old) (table_view table.now))) result }
@@ -198,7 +227,7 @@ fn add_value(
     top: &str,
     key: &mut String,
     value: &Value,
-    texts: &mut Properties,
+    texts: &mut Texts,
 ) -> Result<(), SettingsError>
     ensures texts { GivesAs (λ _. texts.new)
         (texts_of top.now texts.old (leaves_at (string_bytes key.old) (view value.now))) result }
@@ -223,7 +252,7 @@ fn add_text(
     top: &str,
     key: &str,
     value: &Value,
-    texts: &mut Properties,
+    texts: &mut Texts,
 ) -> Result<(), SettingsError>
     ensures { GivesAs (λ _. texts.new) (with_text top.now texts.old key.now (view value.now)) result }
 {
@@ -236,7 +265,7 @@ fn add_text(
 fn text_of(
     alloc: Global,
     top: &str,
-    before: &Properties,
+    before: &Texts,
     key: &str,
     value: &Value,
 ) -> Result<Text, SettingsError>

@@ -1,12 +1,15 @@
 //! Nodes that are lent beside one another, to one tray and to several.
-ghost use Rattle.std.specs.Prelude.{◌≡◌};
+ghost use Rattle.std.specs.Prelude.{◌≡◌, length};
 ghost use Rattle.iso_locks.specs.Owners.{CanHold};
 ghost use Rattle.iso_locks.specs.Vaults.{CanTakeBack, IsLentTo, lending};
+ghost use Rattle.iso_plan.specs.KeyTable.{keys};
+ghost use Rattle.iso_plan.specs.RowView.{tree_of};
 
 use crate::locks::suite::{CART_AND_DESK, READERS_AND_WRITERS, Suite};
 use iso_locks::laws::{lent_nodes_may_be_taken_back, other_nodes_may_still_be_taken_back};
 use iso_locks::tray::Tray;
 use iso_locks::vault::{Busy, Vault};
+use std::alloc::{AllocError, Global};
 use std::process::Abort;
 use std::test::Fail;
 
@@ -62,22 +65,45 @@ fn isolated_class_is_lent_after_two_nodes_came_home(rt: HostRuntime) -> Result<(
 }
 
 /// Two readers have a file in two trays. A writer of it waits in a third, and a writer of another file takes that file's value away.
-#[test]
-fn writer_waits_for_readers_and_takes_its_value_away(rt: HostRuntime) -> Result<(), Fail> {
-    let alloc = rt.alloc();
-    let suite = Suite::of(alloc, READERS_AND_WRITERS)?;
+fn lend_to_three(
+    rt: &impl Abort,
+    vault: &mut Vault<'_>,
+    first: &mut Tray<'_>,
+    second: &mut Tray<'_>,
+    third: &mut Tray<'_>,
+)
+    requires keys { length (keys (tree_of vault.old.plan)) ≡ 3 }
+    requires first_plan { first.old.plan ≡ vault.old.plan }
+    requires first_world { first.old.world ≡ vault.old.world }
+    requires second_plan { second.old.plan ≡ vault.old.plan }
+    requires second_world { second.old.world ≡ vault.old.world }
+    requires third_plan { third.old.plan ≡ vault.old.plan }
+    requires third_world { third.old.world ≡ vault.old.world }
+{
+    lend(rt, vault, first, 2);
+    lend(rt, vault, second, 3);
+    assert_eq!(rt; in_the_way(rt, vault, third, 4), 2);
+    assert!(rt; vault.home(1) && vault.home(2));
+    lend(rt, vault, third, 5);
+    assert!(rt; vault.home(1) && !vault.home(2));
+    vault.take_back(5, third);
+    assert!(rt; vault.home(1) && vault.home(2));
+}
+
+/// The same with a vault and trays of a suite. It is lent: a suite that is dropped on each way out makes a proof dear.
+fn check_three(rt: &impl Abort, alloc: Global, suite: &Suite) -> Result<(), AllocError> {
+    assert_eq!(rt; suite.plan.key_count(), 3);
     let mut vault = Vault::new(alloc, &suite.plan, &suite.world)?;
     let mut first = Tray::new(alloc, &suite.plan, &suite.world)?;
     let mut second = Tray::new(alloc, &suite.plan, &suite.world)?;
     let mut third = Tray::new(alloc, &suite.plan, &suite.world)?;
-    assert_eq!(rt; suite.plan.key_count(), 3);
-    lend(&rt, &mut vault, &mut first, 2);
-    lend(&rt, &mut vault, &mut second, 3);
-    assert_eq!(rt; in_the_way(&rt, &mut vault, &mut third, 4), 2);
-    assert!(rt; vault.home(1) && vault.home(2));
-    lend(&rt, &mut vault, &mut third, 5);
-    assert!(rt; vault.home(1) && !vault.home(2));
-    vault.take_back(5, &mut third);
-    assert!(rt; vault.home(1) && vault.home(2));
+    lend_to_three(rt, &mut vault, &mut first, &mut second, &mut third);
     Ok(())
+}
+
+#[test]
+fn writer_waits_for_readers_and_takes_its_value_away(rt: HostRuntime) -> Result<(), Fail> {
+    let alloc = rt.alloc();
+    let suite = Suite::of(alloc, READERS_AND_WRITERS)?;
+    Ok(check_three(&rt, alloc, &suite)?)
 }

@@ -198,13 +198,24 @@ fn conflicting_nodes_wait_and_readers_share(rt: HostRuntime) -> Result<(), Fail>
     Ok(())
 }
 
-/// A script with as many keys as there may be: each but the global one is written by a test of its own.
+/// Adds a test that writes a key of its own.
+fn add_writer(alloc: Global, text: &mut String, number: u32) -> Result<(), AllocError> {
+    let writer = format!(in alloc; "write \"k{number}\" test t{number} {{ }}\n")?;
+    text.push_str(writer.as_str())
+}
+
+/// Adds tests that write as many keys as there may be, but for the global one.
+fn add_writers(alloc: Global, text: &mut String) -> Result<(), AllocError> {
+    for number in 0..255u32 {
+        add_writer(alloc, text, number)?;
+    }
+    text.push_str("}\n")
+}
+
+/// A script with as many keys as there may be.
 fn most_keys(alloc: Global) -> Result<String, AllocError> {
     let mut text = String::from_str(alloc, "team shop\nclass Large {\n")?;
-    for number in 0..255u32 {
-        text.push_str(format!(in alloc; "write \"k{number}\" test t{number} {{ }}\n")?.as_str())?;
-    }
-    text.push_str("}\n")?;
+    add_writers(alloc, &mut text)?;
     Ok(text)
 }
 

@@ -15,11 +15,27 @@ pub(crate) fn concurrent() -> Settings {
     }
 }
 
+/// Adds the script of a text.
+fn add_script(alloc: Global, scripts: &mut Vec<Script>, text: &str) -> Result<(), ScriptError> {
+    scripts.push(read_script(alloc, text.as_bytes())?)?;
+    Ok(())
+}
+
+/// Adds the scripts of these texts.
+fn add_scripts(
+    alloc: Global,
+    scripts: &mut Vec<Script>,
+    texts: &[&str],
+) -> Result<(), ScriptError> {
+    for text in texts {
+        add_script(alloc, scripts, text)?;
+    }
+    Ok(())
+}
+
 /// The scripts of these texts.
 pub(crate) fn read(alloc: Global, texts: &[&str]) -> Result<Vec<Script>, ScriptError> {
     let mut scripts = Vec::new(alloc);
-    for text in texts {
-        scripts.push(read_script(alloc, text.as_bytes())?)?;
-    }
+    add_scripts(alloc, &mut scripts, texts)?;
     Ok(scripts)
 }

@@ -2,12 +2,13 @@
 use crate::settings::fault::shown;
 use crate::shared::{check_text, made};
 use iso_model::key::Key;
-use iso_model::resource::Resource;
+use iso_model::resource::{Ask, Resource};
 use iso_model::text::Text;
 use iso_settings::fault::SettingsError;
 use iso_settings::world::{World, read_world};
 use std::alloc::{AllocError, Global};
 use std::process::Abort;
+use std::sync::Arc;
 
 /// How the fault of a world shows; nothing where there is none.
 pub(crate) fn fault(alloc: Global, text: &str) -> Result<String, AllocError> {
@@ -167,6 +168,78 @@ static OTHER_KEYS: [&str; 4] = ["k", "iso:global", "File:a.b", "java.lang.System
 fn other_keys_have_no_value(rt: HostRuntime) -> Result<(), SettingsError> {
     let world = read_world(rt.alloc(), SHOP)?;
     Ok(check_plain(&rt, rt.alloc(), &world)?)
+}
+
+/// What a key starts with, shared.
+fn shared(alloc: Global, world: &World, key: &str) -> Result<Arc<Resource>, AllocError> {
+    world.share(alloc, &Key::new(Text::copied(alloc, key)?))
+}
+
+/// Whether two values are of one kind.
+fn are_of_one_kind(one: &Resource, other: &Resource) -> bool {
+    match (one, other) {
+        (Resource::Props(_), Resource::Props(_)) => true,
+        (Resource::Locale(_), Resource::Locale(_)) => true,
+        (Resource::File(_), Resource::File(_)) => true,
+        (Resource::Plain, Resource::Plain) => true,
+        _ => false,
+    }
+}
+
+/// Both values are of one kind, and answer alike what is asked of them.
+fn check_alike(rt: &impl Abort, key: &str, one: &Resource, other: &Resource) {
+    assert!(rt; are_of_one_kind(one, other), "{key}");
+    for name in &["user.name", "user.home", "user"] {
+        assert!(rt;
+            one.look(Ask::Prop(name)) == other.look(Ask::Prop(name)),
+            "{key}"
+        );
+    }
+    assert!(rt; one.look(Ask::Locale) == other.look(Ask::Locale), "{key}");
+    assert!(rt; one.look(Ask::File) == other.look(Ask::File), "{key}");
+}
+
+/// Keys of each kind, and how many own what two who share it look at: the world too, where it names the value.
+static OWNERS: [(&str, usize); 6] = [
+    ("java.lang.System.properties", 3),
+    ("java.util.Locale.default", 3),
+    ("file:/etc/shop.conf", 3),
+    ("file:a.b", 3),
+    ("file:a", 1),
+    ("k", 1),
+];
+
+/// A key's value is the same shared as copied, and what the world names is kept once.
+fn check_shared(
+    rt: &impl Abort,
+    alloc: Global,
+    world: &World,
+    row: &(&str, usize),
+) -> Result<(), AllocError> {
+    let copy = start(alloc, world, row.0)?;
+    let one = shared(alloc, world, row.0)?;
+    let other = shared(alloc, world, row.0)?;
+    check_alike(rt, row.0, &copy, &one);
+    check_alike(rt, row.0, &copy, &other);
+    assert!(rt; Arc::strong_count(&one) == row.1, "{}", row.0);
+    Ok(())
+}
+
+#[test]
+fn shared_values_are_the_copied_ones(rt: HostRuntime) -> Result<(), SettingsError> {
+    let world = read_world(rt.alloc(), SHOP)?;
+    for row in &OWNERS {
+        check_shared(&rt, rt.alloc(), &world, row)?;
+    }
+    Ok(())
+}
+
+#[test]
+fn file_is_shared_as_the_world_says(rt: HostRuntime) -> Result<(), SettingsError> {
+    let world = read_world(rt.alloc(), "files.a = \"s\"")?;
+    let value = shared(rt.alloc(), &world, "file:a")?;
+    assert!(rt; text_of(&value) == Some("s"));
+    Ok(())
 }
 
 /// Worlds without a locale.
