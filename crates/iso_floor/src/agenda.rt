@@ -317,13 +317,13 @@ fn are_one_group(plan: &Plan, first: u32, node: u32) -> bool {
         && parent_of(plan, first) == parent_of(plan, node)
 }
 
-// Whether a node may run beside what its class's owner does.
-fn is_concurrent(plan: &Plan, node: u32) -> bool {
+/// Whether a node may run beside what its class's owner does.
+pub(crate) fn is_concurrent(plan: &Plan, node: u32) -> bool {
     node < plan.len() && plan.mode(node) == Mode::Concurrent
 }
 
-// What stands directly in a class.
-fn children_of(plan: &Plan, class: u32) -> &[u32] {
+/// What stands directly in a class.
+pub(crate) fn children_of(plan: &Plan, class: u32) -> &[u32] {
     if class < plan.len() {
         plan.children(class)
     } else {

@@ -3,6 +3,7 @@
 
 mod agenda;
 pub mod audit;
+pub mod busy;
 pub mod close;
 mod desk;
 pub mod fault;

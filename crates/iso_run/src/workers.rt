@@ -12,6 +12,7 @@ use crate::fault::RunFault;
 use crate::inputs::{Inputs, Suite, read_inputs};
 use crate::report::{Summary, write_results};
 use iso_book::book::Book;
+use iso_floor::busy::busy_workers;
 use iso_floor::fault::{CloseFault, SeatFault};
 use iso_floor::floor::Floor;
 use iso_floor::ground::Ground;
@@ -67,7 +68,8 @@ fn run_suite<L: Ground + Send + Sync, R: Threads + Wait + Sync, G: Gate + Sync, 
     write_results(&suite.plan, book.results(), sink)
 }
 
-/// Has its workers run a suite, each in a seat of its own, and answers the book of the run.
+/// Has its workers run a suite, each in a seat of its own, and answers the book of the run. A worker whom the suite can't keep busy isn't
+/// started.
 fn run_on_floor<'s, L: Ground + Send + Sync, R: Threads + Wait + Sync, G: Gate + Sync>(
     rt: &R,
     alloc: Global,
@@ -84,7 +86,8 @@ fn run_on_floor<'s, L: Ground + Send + Sync, R: Threads + Wait + Sync, G: Gate +
     let workers = suite.settings.workers();
     let floor: Floor<'s, L> = Floor::new(alloc, &suite.plan, &suite.world, workers)?;
     let first = seat_on(rt, alloc, &floor, 0)?;
-    let others = seats_on(rt, alloc, &floor, workers)?;
+    let busy = busy_workers(alloc, &suite.plan, workers)?;
+    let others = seats_on(rt, alloc, &floor, busy)?;
     let seats = run_seats(rt, alloc, &floor, first, others, gate)?;
     close(floor, seats)
 }
@@ -106,7 +109,7 @@ fn seat_on<'a, L: Ground, R: Wait>(
     }
 }
 
-/// The seats on a floor of all workers but the first.
+/// The seats on a floor of so many workers, without the first's.
 fn seats_on<'a, L: Ground, R: Wait>(
     rt: &R,
     alloc: Global,
