@@ -1,6 +1,8 @@
 //! What the book of a run refuses.
 mod keyless;
 mod leaves;
+mod opened;
+mod others;
 
 ghost use Rattle.std.specs.Prelude.{◌≡◌};
 

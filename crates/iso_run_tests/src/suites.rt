@@ -11,8 +11,8 @@ use std::test::Fail;
 /// The texts of the settings and of the world that a script is run under.
 #[derive(Clone, Copy)]
 pub(crate) struct Surroundings {
-    settings: &'static str,
-    world: &'static str,
+    pub settings: &'static str,
+    pub world: &'static str,
 }
 
 /// One thread, and no starting value.

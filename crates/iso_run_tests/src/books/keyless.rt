@@ -24,7 +24,7 @@ use std::snapshot::Snapshot;
 use std::test::Fail;
 
 /// Which body a node is entered with.
-fn first_kind(plan: &Plan, node: u32) -> BodyKind
+pub(crate) fn first_kind(plan: &Plan, node: u32) -> BodyKind
     requires inner { 0 < node }
     requires within { node < length plan.now.rows }
     ensures fits { is_kind_of result (row_at (tree_of plan.now) node).kind ≡ true }
@@ -39,7 +39,7 @@ fn first_kind(plan: &Plan, node: u32) -> BodyKind
 }
 
 /// Whether there is no lock, or one for READ alone.
-fn are_read(locks: &[Lock]) -> bool
+pub(crate) fn are_read(locks: &[Lock]) -> bool
     ensures { result ≡ true → (i : ℕ) → is_written locks.now i ≡ false }
 {
     match locks {
@@ -50,7 +50,7 @@ fn are_read(locks: &[Lock]) -> bool
 }
 
 /// What a body of a node comes to that has nothing to do.
-fn end_of_body<R: Abort>(
+pub(crate) fn end_of_body<R: Abort>(
     rt: &R,
     alloc: Global,
     node: u32,
