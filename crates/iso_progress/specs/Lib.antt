@@ -1,0 +1,4 @@
+pub mod ProgressLaws
+pub mod Candidates
+pub mod NeverStuck
+pub mod Examples
