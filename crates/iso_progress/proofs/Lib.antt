@@ -5,3 +5,4 @@ pub mod Reaching
 pub mod Accepting
 pub mod Descent
 pub mod Answering
+pub mod ExampleLaws

@@ -1,10 +1,12 @@
 //! Laws of runs, over any language of bodies and any suite. Each function does nothing: its contract is the law, and is proved.
 ghost use Rattle.std.specs.Prelude.{◌≡◌, ℕ, None};
 ghost use Rattle.iso_isolation.specs.Events.{stop};
+ghost use Rattle.iso_isolation.specs.Examples.{counting};
 ghost use Rattle.iso_isolation.specs.Languages.{BodyLaws, Language};
 ghost use Rattle.iso_isolation.specs.States.{State};
 ghost use Rattle.iso_isolation.specs.Suites.{Suite, SuiteLaws};
 ghost use Rattle.iso_progress.specs.Candidates.{candidate};
+ghost use Rattle.iso_progress.specs.Examples.{mall};
 ghost use Rattle.iso_progress.specs.NeverStuck.{CandidateServes, NeverStuck, IsReached, SearchServes};
 ghost use Rattle.iso_progress.specs.ProgressLaws.{ProgressLaws};
 
@@ -30,4 +32,12 @@ pub fn candidate_is_accepted<H, K, V, B, F, R>()
 /// A run that was stopped has no candidate.
 pub fn stopped_run_has_no_candidate<H, K, V, B, F, R>()
     ensures { (l : Language H K V B F R) (x : Suite H K V) (workers : ℕ) (s : State K V B F R) → candidate l x workers (stop s) ≡ None }
+{}
+
+/// There are a language and a suite that keep all that is asked, with a class that is isolated, one that takes a key for what stands in
+/// it, and one that takes none.
+pub fn laws_can_be_kept()
+    ensures bodies { BodyLaws counting }
+    ensures suite { SuiteLaws counting mall }
+    ensures progress { ProgressLaws counting mall }
 {}
