@@ -75,7 +75,7 @@ finished_closed (S.Barred fs) e = refl
 finished_closed (S.Closing fs b) e = refl
 finished_closed (S.Finished r) e = refl
 
-enter_test : (a b c d f : Bool) → a ≡ false → b ≡ true → c ≡ true → d ≡ false → f ≡ true → (not a && b && c && not d && f) ≡ true
+pub enter_test : (a b c d f : Bool) → a ≡ false → b ≡ true → c ≡ true → d ≡ false → f ≡ true → (not a && b && c && not d && f) ≡ true
 enter_test true b c d f e p q r t = absurd cc
 enter_test false true true false f e p q r t = t
 enter_test false true true true f e p q r t = absurd cc

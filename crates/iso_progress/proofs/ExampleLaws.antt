@@ -1,12 +1,12 @@
 -- The mall keeps all laws.
 use Rattle.std.proofs.Common.{◌≡◌, ◌<◌, ℕ, zero, suc, Bool, true, false, cond, ◌&&◌, ◌||◌, ◌∷◌, Option, Some, None, ◌⊎◌, inl, inr, refl, sym, ap, ◌∙◌, arith}
 use Rattle.std.proofs.Math.Dec.{eqb}
-use Rattle.std.proofs.lemmas.Bool.{eqb-true, eq-eqb}
-use Rattle.iso_isolation.specs.Suites.{On, same, up, Shared, Covered, may_read, SuiteLaws}
-use Rattle.iso_isolation.specs.Examples.{counting, is_key, equal_keys}
+use Rattle.iso_isolation.specs.Suites.{On, same, up, Covered, may_read, SuiteLaws}
+use Rattle.iso_isolation.specs.Examples.{counting, equal_keys}
 use Rattle.iso_isolation.proofs.ExampleLaws.{it_is}
 use Rattle.iso_isolation.proofs.Locks.{on_split}
 use Rattle.iso_progress.specs.Examples.{mall_rows, row_of, mall}
+use Rattle.iso_progress.proofs.RowLocks.{meet, write_takes}
 use Rattle.iso_progress.specs.ProgressLaws.{ProgressLaws, WaitsForNone}
 
 -- what holds of each node, and of all other numbers, holds of every number
@@ -31,31 +31,6 @@ below : (n : ℕ) → (n ≡ 0 → ⊥) → mall.parent n < n
 below = each (λ n. (n ≡ 0 → ⊥) → mall.parent n < n)
     (λ nz. absurd (nz refl)) (λ nz. omega arith) (λ nz. omega arith) (λ nz. omega arith) (λ nz. omega arith) (λ nz. omega arith)
     (λ nz. omega arith) (λ nz. omega arith) (λ nz. omega arith) (λ n nz. omega arith)
-
-keys_meet : (p q : Option ℕ) (k : ℕ) → is_key p k ≡ true → is_key q k ≡ true → equal_keys p q ≡ true
-keys_meet None q k e f = absurd cc
-keys_meet (Some p) None k e f = absurd cc
-keys_meet (Some p) (Some q) k e f = eq-eqb p q (sym (eqb-true k p e) ∙ eqb-true k q f)
-
-two_parts : (a b : Bool) → (a && b) ≡ true → (a ≡ true) × (b ≡ true)
-two_parts true b e = (refl, e)
-two_parts false b e = absurd cc
-
-one_writes : (a b c : Bool) → a ≡ true → (b ≡ true) ⊎ (c ≡ true) → (a && (b || c)) ≡ true
-one_writes true true c e w = refl
-one_writes true false true e w = refl
-one_writes true false false e w = elim w [ inl f ↦ absurd cc | inr f ↦ absurd cc ]
-one_writes false b c e w = absurd cc
-
-meet : (m n : ℕ) → Shared mall m n → mall.conflict m n ≡ true
-meet m n s =
-    let p = row_of mall_rows m in
-    let q = row_of mall_rows n in
-    one_writes (equal_keys p.lock q.lock) p.is_writer q.is_writer (keys_meet p.lock q.lock s.key s.left s.right)
-    (elim s.write [
-      | inl w ↦ inl (two_parts p.is_writer (is_key p.lock s.key) w).0
-      | inr w ↦ inr (two_parts q.is_writer (is_key q.lock s.key) w).0
-    ])
 
 covered : (n k : ℕ) → may_read counting mall n k ≡ true → Covered counting mall n k
 covered = each (λ n. (k : ℕ) → may_read counting mall n k ≡ true → Covered counting mall n k)
@@ -115,8 +90,8 @@ mall_laws = record {
   root = refl;
   path = path_of;
   below = below;
-  write_takes = λ n k w. (two_parts (row_of mall_rows n).is_writer (is_key (row_of mall_rows n).lock k) w).1;
-  conflicts = meet;
+  write_takes = write_takes mall_rows;
+  conflicts = meet mall_rows;
   covered = covered;
   forced = forced;
 }
@@ -147,9 +122,9 @@ gathered m n d c deep = each (λ d. On mall m d → (m ≡ d → ⊥) → WaitsF
     (λ on ne j. no_keys (row_of mall_rows j).lock ((row_of mall_rows j).is_writer || false))
     (λ i on ne j. no_keys (row_of mall_rows j).lock ((row_of mall_rows j).is_writer || false)) d
 
-classes : (n : ℕ) → (n ≡ 0 → ⊥) → (mall.parent n ≡ 0 → ⊥) → counting.is_test (mall.head (mall.parent n)) ≡ false
-classes = each (λ n. (n ≡ 0 → ⊥) → (mall.parent n ≡ 0 → ⊥) → counting.is_test (mall.head (mall.parent n)) ≡ false)
+tests : (n : ℕ) → (n ≡ 0 → ⊥) → (mall.parent n ≡ 0 → ⊥) → counting.is_test (mall.head (mall.parent n)) ≡ false
+tests = each (λ n. (n ≡ 0 → ⊥) → (mall.parent n ≡ 0 → ⊥) → counting.is_test (mall.head (mall.parent n)) ≡ false)
     (λ nz d. refl) (λ nz d. refl) (λ nz d. refl) (λ nz d. refl) (λ nz d. refl) (λ nz d. refl) (λ nz d. refl) (λ nz d. refl) (λ nz d. refl) (λ n nz d. refl)
 
 pub mall_goes_on : ProgressLaws counting mall
-mall_goes_on = record { root = λ n. refl; gathered = gathered; classes = classes }
+mall_goes_on = record { root = λ n. refl; gathered = gathered; tests = tests }

@@ -29,7 +29,7 @@ module _ {H K V B F R : Type 0} (l : Language H K V B F R) (x : Suite H K V) (pl
     -- no node stands in a test
     childless : l.is_test (x.head n) ≡ true → (m : ℕ) → (m ≡ 0 → ⊥) → x.parent m ≡ n → ⊥
     childless test m mz p =
-        let class : l.is_test (x.head (x.parent m)) ≡ false = more.classes m mz (λ z. nz (sym p ∙ z)) in
+        let class : l.is_test (x.head (x.parent m)) ≡ false = more.tests m mz (λ z. nz (sym p ∙ z)) in
         let other : l.is_test (x.head (x.parent m)) ≡ true = ap (λ (j : ℕ). l.is_test (x.head j)) p ∙ test in
         cc
 

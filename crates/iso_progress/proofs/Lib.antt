@@ -5,4 +5,7 @@ pub mod Reaching
 pub mod Accepting
 pub mod Descent
 pub mod Answering
+pub mod Refusing
+pub mod RowLocks
 pub mod ExampleLaws
+pub mod BrokenLaws

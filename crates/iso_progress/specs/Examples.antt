@@ -1,12 +1,13 @@
--- Suites of the worked examples, in the language that counts: one that keeps all laws, and three of which each breaks one law.
-use Rattle.std.specs.Prelude.{ℕ, zero, suc, Bool, true, false, ◌&&◌, ◌||◌, List, [], ◌∷◌, ◌++◌, length, Option, Some, None}
-use Rattle.iso_isolation.specs.Suites.{Suite}
+-- Suites of the worked examples, in the language that counts: one that keeps all laws, and three that each keep all but one.
+use Rattle.std.specs.Prelude.{◌≡◌, ℕ, zero, suc, Bool, true, false, ◌&&◌, ◌||◌, List, [], ◌∷◌, ◌++◌, length, Option, Some, None}
+use Rattle.iso_isolation.specs.Suites.{Suite, SuiteLaws}
 use Rattle.iso_isolation.specs.States.{State, first}
 use Rattle.iso_isolation.specs.Events.{Event, Enter, Step, Leave, Shut, where_some, after}
 use Rattle.iso_isolation.specs.Runs.{is_run, after_all_of, is_complete}
 use Rattle.iso_isolation.specs.Examples.{Head, Counter, counting, Row, node_in, no_node, class_head, test_head, at, is_key, equal_keys, numbers}
 use Rattle.iso_isolation.specs.ExampleRuns.{CrowdStatus, crowd, crowd_at}
 use Rattle.iso_progress.specs.Candidates.{candidate}
+use Rattle.iso_progress.specs.NeverStuck.{IsStuck}
 
 -- Key 0 is the global key.
 -- 1: a class without marks. In it 2, a class that takes key 1 for READ_WRITE, with a test 3, and 4, a test that takes it for READ.
@@ -24,7 +25,7 @@ mall_rows =
     ∷ node_in 7 (test_head 0 false false 1) false None false
     ∷ []
 
--- Two classes that each take a key for READ_WRITE, and in each a test that takes the other's: the second law of waiting is broken.
+-- two classes that each take a key for READ_WRITE, and in each a test that takes the other's
 abbrev pub crossed_rows : List Row
 crossed_rows =
     no_node
@@ -41,7 +42,7 @@ nested_rows =
 
 -- a root that takes the key of a test
 abbrev pub rooted_rows : List Row
-rooted_rows = node_in 0 (class_head 0 false true) true (Some 1) true ∷ node_in 0 (test_head 0 false false 1) false (Some 1) true ∷ []
+rooted_rows = node_in 0 (class_head 0 false true) true (Some 1) true ∷ node_in 0 (test_head 0 false false 1) true (Some 1) true ∷ []
 
 abbrev pub row_of : List Row → ℕ → Row
 row_of rows n = at no_node rows n
@@ -85,6 +86,13 @@ is_run_in rows es = is_run counting (suite_in rows) 2 (first counting (suite_in 
 
 abbrev pub is_complete_in : List Row → List Event → Bool
 is_complete_in rows es = is_complete (suite_in rows) (after_in rows es)
+
+-- a run of a suite that keeps `SuiteLaws` comes to a stand before its end: no event is accepted any more
+pub record ComesToAStand (rows : List Row) (es : List Event) : Type 0 where
+  pub suite : SuiteLaws counting (suite_in rows)
+  pub run : is_run_in rows es ≡ true
+  pub stuck : IsStuck counting (suite_in rows) 2 (after_in rows es)
+  pub unfinished : is_complete_in rows es ≡ false
 
 -- the candidate after these events of the mall; and all that follow one another from a state, at most so many
 abbrev pub candidate_after : List Event → Option Event

@@ -20,6 +20,10 @@ module _ {H K V B F R : Type 0} (l : Language H K V B F R) (x : Suite H K V) whe
     pub event : Event
     pub accepted : is_accepted l x workers s event ≡ true
 
+  -- no event is accepted in a state
+  abbrev pub IsStuck : ℕ → State K V B F R → Type 0
+  IsStuck workers s = (e : Event) → is_accepted l x workers s e ≡ false
+
   -- In every state that a run reaches, an event is accepted while a node but the root is unfinished.
   abbrev pub NeverStuck : Type 0
   NeverStuck = (workers : ℕ) (s : State K V B F R) → IsReached workers s → is_complete x s ≡ false → Accepts workers s

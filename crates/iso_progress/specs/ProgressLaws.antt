@@ -3,13 +3,25 @@ use Rattle.std.specs.Prelude.{◌≡◌, ℕ, true, false}
 use Rattle.iso_isolation.specs.Languages.{Language}
 use Rattle.iso_isolation.specs.Suites.{Suite, On}
 
--- a node conflicts with none, so that no lock is ever in its way
-abbrev pub WaitsForNone : {H K V : Type 0} → Suite H K V → ℕ → Type 0
-WaitsForNone x n = (m : ℕ) → x.conflict m n ≡ false
+module _ {H K V : Type 0} (x : Suite H K V) where
+  -- a node conflicts with none, so that no lock is ever in its way
+  abbrev pub WaitsForNone : ℕ → Type 0
+  WaitsForNone n = (m : ℕ) → x.conflict m n ≡ false
 
--- The root is in no node's way. What stands in a node, if that is in the way of one that isn't a top-level class, waits for none:
--- it has gathered all locks of what stands in it. And no node stands in a test.
-pub record ProgressLaws {H K V B F R : Type 0} (l : Language H K V B F R) (x : Suite H K V) : Type 0 where
-  pub root : (n : ℕ) → x.conflict 0 n ≡ false
-  pub gathered : (m n d : ℕ) → x.conflict m n ≡ true → (x.parent n ≡ 0 → ⊥) → On x m d → (m ≡ d → ⊥) → WaitsForNone x d
-  pub classes : (n : ℕ) → (n ≡ 0 → ⊥) → (x.parent n ≡ 0 → ⊥) → l.is_test (x.head (x.parent n)) ≡ false
+  -- the root is in no node's way
+  abbrev pub RootIsFree : Type 0
+  RootIsFree = (n : ℕ) → x.conflict 0 n ≡ false
+
+  -- Who is in the way of a node that isn't a top-level class has gathered all locks of what stands in it: that waits for none.
+  abbrev pub HoldersGather : Type 0
+  HoldersGather = (m n d : ℕ) → x.conflict m n ≡ true → (x.parent n ≡ 0 → ⊥) → On x m d → (m ≡ d → ⊥) → WaitsForNone d
+
+module _ {H K V B F R : Type 0} (l : Language H K V B F R) (x : Suite H K V) where
+  -- no node stands in a test
+  abbrev pub TestsHoldNone : Type 0
+  TestsHoldNone = (n : ℕ) → (n ≡ 0 → ⊥) → (x.parent n ≡ 0 → ⊥) → l.is_test (x.head (x.parent n)) ≡ false
+
+  pub record ProgressLaws : Type 0 where
+    pub root : RootIsFree x
+    pub gathered : HoldersGather x
+    pub tests : TestsHoldNone

@@ -4,8 +4,9 @@ ghost use Rattle.iso_isolation.specs.Events.{Enter, Leave, Shut, Step};
 ghost use Rattle.iso_isolation.specs.ExampleRuns.{barred_class, closing, finished, live, opened, over, waiting};
 ghost use Rattle.iso_isolation.specs.Examples.{counting};
 ghost use Rattle.iso_isolation.specs.States.{first};
-ghost use Rattle.iso_progress.specs.Examples.{after_in, both_opened, by_candidates, candidate_after, candidate_at, candidate_in, crossed_rows, failed, is_complete_in, is_run_in, isolated_opened, mall, mall_rows, nested_rows, one_by_one, outer_done, rooted_rows, writer_opened};
+ghost use Rattle.iso_progress.specs.Examples.{ComesToAStand, after_in, both_opened, by_candidates, candidate_after, candidate_at, crossed_rows, failed, is_complete_in, is_run_in, isolated_opened, mall, mall_rows, nested_rows, one_by_one, outer_done, rooted_rows, suite_in, writer_opened};
 ghost use Rattle.iso_progress.specs.NeverStuck.{IsReached};
+ghost use Rattle.iso_progress.specs.ProgressLaws.{HoldersGather, RootIsFree, TestsHoldNone};
 
 /// From candidate to candidate a suite comes to its end, node by node; then there is none.
 pub fn candidates_lead_to_the_end()
@@ -48,17 +49,18 @@ pub fn candidate_keeps_the_order_of_siblings()
         (opened ∷ opened ∷ opened ∷ opened ∷ live ∷ finished ∷ waiting ∷ finished ∷ []) true ≡ None }
 {}
 
-/// A suite that breaks one law comes to a stand: two classes of which each holds what a test of the other waits for, a test that
-/// stands in a test, and a root that takes a key.
+/// Each law of `ProgressLaws` is needed: a suite that keeps all but it comes to a stand. Two classes cross, of which each holds
+/// what a test of the other waits for; a test stands in a test; and a root takes a key.
 pub fn each_law_is_needed()
-    ensures crossed_run { is_run_in crossed_rows both_opened ≡ true }
-    ensures crossed { candidate_in crossed_rows both_opened ≡ None }
-    ensures crossed_unfinished { is_complete_in crossed_rows both_opened ≡ false }
-    ensures nested_run { is_run_in nested_rows outer_done ≡ true }
-    ensures nested { candidate_in nested_rows outer_done ≡ None }
-    ensures nested_unfinished { is_complete_in nested_rows outer_done ≡ false }
-    ensures rooted { candidate_in rooted_rows [] ≡ None }
-    ensures rooted_unfinished { is_complete_in rooted_rows [] ≡ false }
+    ensures crossed { ComesToAStand crossed_rows both_opened }
+    ensures crossed_root { RootIsFree (suite_in crossed_rows) }
+    ensures crossed_tests { TestsHoldNone counting (suite_in crossed_rows) }
+    ensures nested { ComesToAStand nested_rows outer_done }
+    ensures nested_root { RootIsFree (suite_in nested_rows) }
+    ensures nested_gathered { HoldersGather (suite_in nested_rows) }
+    ensures rooted { ComesToAStand rooted_rows [] }
+    ensures rooted_gathered { HoldersGather (suite_in rooted_rows) }
+    ensures rooted_tests { TestsHoldNone counting (suite_in rooted_rows) }
 {}
 
 /// What the laws ask of a state is met: a run reaches it.

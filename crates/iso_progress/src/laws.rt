@@ -7,7 +7,7 @@ ghost use Rattle.iso_isolation.specs.States.{State};
 ghost use Rattle.iso_isolation.specs.Suites.{Suite, SuiteLaws};
 ghost use Rattle.iso_progress.specs.Candidates.{candidate};
 ghost use Rattle.iso_progress.specs.Examples.{mall};
-ghost use Rattle.iso_progress.specs.NeverStuck.{CandidateServes, NeverStuck, IsReached, SearchServes};
+ghost use Rattle.iso_progress.specs.NeverStuck.{CandidateServes, NeverStuck, IsReached, IsStuck, SearchServes};
 ghost use Rattle.iso_progress.specs.ProgressLaws.{ProgressLaws};
 
 /// Never stuck: in every state that accepted events reach, on any number of workers but none, an event is accepted while a node but
@@ -27,6 +27,12 @@ pub fn search_finds_an_accepted_event<H, K, V, B, F, R>()
 pub fn candidate_is_accepted<H, K, V, B, F, R>()
     ensures { (l : Language H K V B F R) (x : Suite H K V) → BodyLaws l → SuiteLaws l x → ProgressLaws l x
         → (workers : ℕ) (s : State K V B F R) → IsReached l x workers s → CandidateServes l x workers s }
+{}
+
+/// In any state where there is no candidate, no event is accepted: the search leaves none out.
+pub fn state_without_candidate_is_stuck<H, K, V, B, F, R>()
+    ensures { (l : Language H K V B F R) (x : Suite H K V) (workers : ℕ) (s : State K V B F R)
+        → candidate l x workers s ≡ None → IsStuck l x workers s }
 {}
 
 /// A run that was stopped has no candidate.
