@@ -421,3 +421,26 @@ def entered_nodes(share):
     text = "class C {\n" + "".join(f'write "k{number % 255}" test t{number} {{ }}\n' for number in range(count)) + "}"
     events = ["enter 0 1", "leave 0"] + [event for number in range(count) for event in (f"enter 0 {number + 2}", "leave 0")]
     return {**one(text), "e": "\n".join(events + ["shut 0 1", "leave 0"]) + "\n", "settings.toml": settings(64)}
+
+
+@kind("replay", "--schedule", "e", "--settings", "settings.toml")
+def readers_of_255_keys(share):
+    """4,080 tests that read 255 keys, which one worker runs while 63 others are in such tests."""
+    marks, count = "".join(f'read "{number}" ' for number in range(255)), int(340 * share)
+    files = {f"s{number}.jtap": f"team t\nclass C{number} {{\n{tests(count, marks)}}}\n" for number in range(12)}
+    classes = [1 + number * (count + 1) for number in range(12)]
+    nodes = [first + 1 + number for first in classes for number in range(count)]
+    events = [event for first in classes for event in (f"enter 0 {first}", "leave 0")]
+    events += [f"enter {worker} {nodes[worker - 1]}" for worker in range(1, 64)]
+    events += [event for node in nodes[63:] for event in (f"enter 0 {node}", "leave 0")]
+    events += [f"leave {worker}" for worker in range(1, 64)] + [event for first in classes for event in (f"shut 0 {first}", "leave 0")]
+    return {**files, "e": "\n".join(events) + "\n", "settings.toml": settings(64)}
+
+
+@kind("run", "--serial")
+def looked_up_keys(share):
+    """255 files with paths of 250 bytes that begin alike, the last of which is asked for in 4,999 turns of 20 tests."""
+    paths = [f"{'p' * 247}{number:03}" for number in range(int(255 * share))]
+    marks = "".join(f'read "file:{path}"\n' for path in paths)
+    return one(marks + "class C {\n" + "".join(tests(20, "", f' repeat 4999 {{ let x=has_file("{path}"); }} ') for path in paths[:1])
+               + "class D {\n" + "".join(tests(20, "", f' repeat 4999 {{ let x=has_file("{path}"); }} ') for path in paths[-1:]) + "}}")
