@@ -1,5 +1,5 @@
 -- The rule of a deque: over what lies in it and what all passes know.
-use Rattle.std.specs.Prelude.{◌≡◌, ℕ, ◌+◌, ◌-◌, List, [], ◌∷◌, ◌++◌, length}
+use Rattle.std.specs.Prelude.{◌≡◌, ◌≤◌, ℕ, ◌+◌, ◌-◌, List, [], ◌∷◌, ◌++◌, length}
 use Rattle.iso_posts.specs.Accounts.{DequeId, IsAccount, OwnerView, ThiefView, times}
 use Rattle.iso_posts.specs.declared.rule.Hand.{Hand}
 use Rattle.iso_posts.specs.declared.rule.Role.{Role}
@@ -18,6 +18,13 @@ IsOfOwner v = v.role ≡ Owner
 
 abbrev pub IsOfThief : Hand → Type 0
 IsOfThief v = v.role ≡ Thief
+
+-- an owner's end: of a deque that is first in, first out, with so many slots, to which no more nodes were pushed than its pass has posted
+pub record IsOwnersEnd (flavor slots pushed : ℕ) (v : Hand) : Type 0 where
+  pub first_out : flavor ≡ 0
+  pub owned : IsOfOwner v
+  pub room : 64 ≤ slots
+  pub counted : pushed ≤ length v.posted
 
 -- a pass that knows of nothing that was done: the owner's at first, a thief's at first, and one that was joined
 abbrev pub new_hand : Role → Hand

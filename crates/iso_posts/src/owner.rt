@@ -20,16 +20,15 @@ pub struct Owner {
 }
 
 impl Model for Owner {
-    ghost use Rattle.std.specs.Prelude.{◌≡◌, ◌≤◌, length};
     ghost use Rattle.crossbeam_deque.specs.Handles.{worker_capacity, worker_deque, worker_flavor, worker_index, worker_view};
     ghost use Rattle.iso_posts.specs.Accounts.{OwnerView};
-    ghost use Rattle.iso_posts.specs.Rules.{IsOfOwner, owner_view};
+    ghost use Rattle.iso_posts.specs.Rules.{IsOwnersEnd, owner_view};
 
     ghost Value = { OwnerView };
 
     ghost view = { λ o. owner_view (worker_deque o.deque).0 (worker_view o.deque) };
 
-    ghost invariant = { λ o. (worker_flavor o.deque ≡ 0) × IsOfOwner (worker_view o.deque) × (64 ≤ worker_capacity o.deque) × (worker_index o.deque ≤ length (worker_view o.deque).posted) };
+    ghost invariant = { λ o. IsOwnersEnd (worker_flavor o.deque) (worker_capacity o.deque) (worker_index o.deque) (worker_view o.deque) };
 }
 
 impl Owner {

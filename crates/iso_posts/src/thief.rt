@@ -1,5 +1,5 @@
 //! The end of a deque that a thief has.
-ghost use Rattle.std.specs.Prelude.{◌≡◌, ◌∷◌, ◌++◌, []};
+ghost use Rattle.std.specs.Prelude.{◌≡◌};
 ghost use Rattle.crossbeam_deque.specs.Handles.{IsPassOf, stealer_deque, view as pass_view};
 ghost use Rattle.iso_posts.specs.Accounts.{HasStolen};
 ghost use Rattle.iso_posts.specs.Rules.{IsOfThief, thief_view};
