@@ -41,7 +41,7 @@ impl Owner {
         })
     }
 
-    /// An end for a thief, which has stolen nothing.
+    /// An end for a thief, which has stolen nothing. It takes no memory, and is refused only where the ends of a deque can't be counted.
     pub fn thief(&mut self) -> Result<Thief, AllocError>
         ensures thief { IfOk result (λ t. t ≡ new_thief self.old.deque) }
         ensures counted { OnOk result (self.new ≡ record self.old { thieves = self.old.thieves + 1 }) }
