@@ -1,4 +1,4 @@
-//! What is to be tried next, and by whom. No contract tells: that everything is tried in the end is tested.
+//! What is to be tried next, and by whom, of what isn't in a deque. No contract tells: that everything is tried in the end is tested.
 use crate::links::{Line, Links};
 use iso_model::script::Mode;
 use iso_plan::plan::Plan;
@@ -16,18 +16,17 @@ struct OpenClass {
     passed: usize,
 }
 
-/// The nodes that can be tried.
+/// The nodes that one worker alone may try, and those that others were in the way of.
 ///
-/// A node that may run beside others can be entered by any worker when its class is open. One that may not, and the closing of a class,
-/// is for the class's owner. A node that finds another one in its way waits behind that one, and siblings wait there as one group; when it
-/// is finished, those of a group are tried in their order, and where one of them finds a further one in its way the rest of its group waits
-/// behind that too. So each is tried a few times, however many wait, and none is overtaken for ever. Only siblings wait so for what may not be
-/// in their own way: what waits for one of them to end waits for the others too, so that no class waits for itself.
+/// A node that may run beside others can be entered by any worker when its class is open: it lies in a deque first. One that may not, and
+/// the closing of a class, is for the class's owner. A node that finds another one in its way waits behind that one, and siblings wait there
+/// as one group; when it is finished, those of a group are tried in their order, and where one of them finds a further one in its way the
+/// rest of its group waits behind that too. So each is tried a few times, however many wait, and none is overtaken for ever. Only siblings
+/// wait so for what may not be in their own way: what waits for one of them to end waits for the others too, so that no class waits for
+/// itself.
 #[derive(Drop)]
 pub(crate) struct Agenda {
     links: Links,
-    /// For any worker.
-    ready: Line,
     /// Finished nodes behind which others wait.
     cleared: Line,
     /// By worker, for that one alone.
@@ -47,8 +46,8 @@ pub(crate) struct Agenda {
 /// From whom a node was taken to be tried.
 #[derive(Clone, Copy)]
 pub(crate) enum Source {
-    /// From one of the lines of what was never in the way of another.
-    Line,
+    /// From a deque or a line of what no other was in the way of.
+    First,
     /// From the first group that waited behind a finished node, of which others may be left.
     Behind { cleared: u32, others: bool },
 }
@@ -59,7 +58,6 @@ impl Agenda {
         let nodes = plan.len() as usize;
         let mut agenda = Agenda {
             links: Links::new(alloc, nodes)?,
-            ready: Line::EMPTY,
             cleared: Line::EMPTY,
             own: vec![in alloc; Line::EMPTY; workers as usize]?,
             behind: vec![in alloc; Line::EMPTY; nodes]?,
@@ -75,16 +73,16 @@ impl Agenda {
     /// The next node for a worker to try, and where it was taken from.
     pub(crate) fn next_for(&mut self, plan: &Plan, worker: u32) -> Option<(u32, Source)> {
         if let Some(node) = self.pop_own(worker) {
-            return Some((node, Source::Line));
+            return Some((node, Source::First));
         }
-        if let Some((node, source)) = self.pop_behind() {
-            match self.owner_for(plan, node) {
-                Some(owner) if owner != worker => self.hand(owner, node),
-                _ => return Some((node, source)),
+        let (node, source) = self.pop_behind()?;
+        match self.owner_for(plan, node) {
+            Some(owner) if owner != worker => {
+                self.hand(owner, node);
+                None
             }
+            _ => Some((node, source)),
         }
-        let node = self.links.pop_front(&mut self.ready)?;
-        Some((node, Source::Line))
     }
 
     /// Whether there is nothing for a worker to try.
@@ -98,7 +96,7 @@ impl Agenda {
 
     /// Whether there is something that any worker may try.
     pub(crate) fn has_for_any(&self) -> bool {
-        !self.ready.is_empty() || !self.cleared.is_empty()
+        !self.cleared.is_empty()
     }
 
     /// Whether a worker got something for itself alone by what another did, since this was asked last.
@@ -133,7 +131,7 @@ impl Agenda {
         }
     }
 
-    /// Opens a class up: what stands in it can be tried. Answers whether it wasn't open yet.
+    /// Opens a class up: what stands in it can be tried, by its owner where it may not run beside others. Answers whether it wasn't open yet.
     pub(crate) fn open_up(&mut self, plan: &Plan, class: u32, owner: u32) -> bool {
         let children = children_of(plan, class);
         match self.open.get_mut(class as usize) {
@@ -145,11 +143,6 @@ impl Agenda {
                 });
             }
             _ => return false,
-        }
-        for child in children {
-            if is_concurrent(plan, *child) {
-                self.links.push_back(&mut self.ready, *child);
-            }
         }
         self.go_on_in(plan, class);
         true

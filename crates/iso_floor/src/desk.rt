@@ -1,13 +1,16 @@
 //! What lies under the lock of a floor.
-ghost use Rattle.std.specs.Prelude.{◌≡◌, ℕ, IfOk, true};
+ghost use Rattle.std.specs.Prelude.{◌≡◌, ℕ, IfOk, length, true};
 ghost use Rattle.iso_book.specs.Books.{new_book};
 ghost use Rattle.iso_floor.specs.Grounds.{IsBookOf};
 
 use crate::agenda::{Agenda, Source};
 use crate::ground::Ground;
+use crate::posting::post_children;
 use iso_book::book::Book;
 use iso_lifecycle::kind::BodyKind;
 use iso_plan::plan::Plan;
+use iso_posts::owner::Owner;
+use iso_posts::posts::{PostSeat, Posts};
 use iso_settings::world::World;
 use std::alloc::{AllocError, Global};
 use std::marker::{Model, PhantomData};
@@ -28,13 +31,17 @@ pub(crate) struct Wakes {
     pub(crate) workers: Call,
 }
 
-/// The book, which workers have a seat, what is to be tried next, and how many wait for a change and for something to try.
+/// The book, the deques of those who have no seat yet, what is to be tried next, and how many wait for a change and for something to try.
 #[derive(Drop)]
 pub(crate) struct Desk<'a, G: Ground> {
     pub(crate) book: Book<'a>,
-    /// By worker, whether it has a seat.
-    pub(crate) taken: Vec<bool>,
+    /// By worker, what it has of the deques, until it has a seat.
+    pub(crate) places: Vec<Option<PostSeat>>,
     pub(crate) agenda: Agenda,
+    /// How often a class was opened up of which nodes were posted.
+    rounds: u64,
+    /// How many nodes were posted and not tried yet: each lies in a deque, or a worker has it in hand.
+    untried: u32,
     watching: u32,
     idle: u32,
     of: PhantomData<G>,
@@ -51,11 +58,11 @@ impl<'a, G: Ground> Model for Desk<'a, G> {
 
     ghost view = { λ d. d.book };
 
-    ghost invariant = { λ d. record { book : IsBookOf G.plan G.start G.workers d.book; seats : length d.taken.items ≡ G.workers } };
+    ghost invariant = { λ d. record { book : IsBookOf G.plan G.start G.workers d.book; seats : length d.places.items ≡ G.workers } };
 }
 
 impl<'a, G: Ground> Desk<'a, G> {
-    /// A desk with a book that has taken no event.
+    /// A desk with a book that has taken no event. What may run beside others in the root is posted in the first worker's deque.
     pub(crate) fn new(
         alloc: Global,
         plan: &'a Plan,
@@ -66,10 +73,17 @@ impl<'a, G: Ground> Desk<'a, G> {
         requires start { world.now ≡ G.start }
         requires workers { workers ≡ G.workers }
     {
+        let mut seats = Posts::new(alloc, workers as usize)?;
+        let untried = match seats.first_mut() {
+            Some(first) => post_children(plan, 0, &mut first.owner)?,
+            None => 0,
+        };
         Ok(Desk {
             book: Book::new(alloc, plan, world, workers)?,
-            taken: vec![in alloc; false; workers as usize]?,
+            places: places_of(alloc, seats, workers)?,
             agenda: Agenda::new(alloc, plan, workers)?,
+            rounds: 0,
+            untried,
             watching: 0,
             idle: 0,
             of: PhantomData,
@@ -95,7 +109,7 @@ impl<'a, G: Ground> Desk<'a, G> {
             Call::Nobody
         } else if handed || self.is_over() {
             Call::Everyone
-        } else if self.agenda.has_for_any() {
+        } else if self.agenda.has_for_any() || self.untried > 0 {
             Call::Anyone
         } else {
             Call::Nobody
@@ -107,9 +121,30 @@ impl<'a, G: Ground> Desk<'a, G> {
         self.book.is_stopped() || self.agenda.is_done()
     }
 
-    /// Whether there is nothing for a worker to try, and the run isn't over.
-    pub(crate) fn has_nothing_for(&self, worker: u32) -> bool {
-        !self.is_over() && self.agenda.has_nothing_for(worker)
+    /// Whether there is nothing for a worker to try who has seen that all deques were empty after nodes had been posted so often, and the
+    /// run isn't over.
+    ///
+    /// Where they weren't posted since, no node lies in a deque: one that was taken out is never posted again. It was tried, or whoever has
+    /// it in hand tries it. So none is left to nobody, also where its deque's owner waits or has ended.
+    pub(crate) fn has_nothing_for(&self, worker: u32, seen: Option<u64>) -> bool {
+        !self.is_over() && seen == Some(self.rounds) && self.agenda.has_nothing_for(worker)
+    }
+
+    /// Whether the agenda has something for a worker to try.
+    pub(crate) fn calls_for(&self, worker: u32) -> bool {
+        !self.agenda.has_nothing_for(worker)
+    }
+
+    /// How often nodes were posted.
+    pub(crate) fn rounds(&self) -> u64 {
+        self.rounds
+    }
+
+    /// A node that lay in a deque is tried.
+    pub(crate) fn note_tried(&mut self)
+        ensures { self.new ≡ self.old }
+    {
+        self.untried = self.untried.saturating_sub(1);
     }
 
     /// How many nodes a worker tries at most before it is asked again: more than are in the way at once.
@@ -131,11 +166,24 @@ impl<'a, G: Ground> Desk<'a, G> {
         self.agenda.wait_behind(self.book.plan(), way, node, source);
     }
 
-    /// Opens a class up that its worker left open. Answers whether it wasn't open yet.
-    pub(crate) fn open_up(&mut self, class: u32, owner: u32) -> bool
+    /// Opens a class up that its worker left open, and posts what may run beside others in it. Answers whether it wasn't open yet.
+    pub(crate) fn open_up(
+        &mut self,
+        class: u32,
+        worker: u32,
+        owner: &mut Owner,
+    ) -> Result<bool, AllocError>
         ensures { self.new ≡ self.old }
     {
-        self.agenda.open_up(self.book.plan(), class, owner)
+        if !self.agenda.open_up(self.book.plan(), class, worker) {
+            return Ok(false);
+        }
+        let posted = post_children(self.book.plan(), class, owner)?;
+        if posted > 0 {
+            self.rounds = self.rounds.saturating_add(1);
+            self.untried = self.untried.saturating_add(posted);
+        }
+        Ok(true)
     }
 
     /// A body of this kind was left by a worker.
@@ -202,4 +250,20 @@ impl<'a, G: Ground> Desk<'a, G> {
         let Desk { book, .. } = self;
         book
     }
+}
+
+// What the workers have of the deques, each in the place of its worker.
+fn places_of(
+    alloc: Global,
+    seats: Vec<PostSeat>,
+    workers: u32,
+) -> Result<Vec<Option<PostSeat>>, AllocError>
+    ensures { IfOk result (λ places. length places.items ≡ workers) }
+{
+    let mut seats = seats.into_iter();
+    let mut places = Vec::with_capacity(alloc, workers as usize)?;
+    'workers: for _ in 0..workers {
+        places.push(seats.next())?;
+    }
+    Ok(places)
 }

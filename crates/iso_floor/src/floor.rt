@@ -98,12 +98,14 @@ impl<'a, G: Ground> Floor<'a, G> {
             return Err(SeatFault::NoWorker);
         }
         let desk = &mut *desk;
-        if desk.taken[worker as usize] {
+        let place = &mut desk.places[worker as usize];
+        if place.is_none() {
             return Err(SeatFault::Taken);
         }
-        let seat = Seat::new(alloc, self.plan, self.world, worker)?;
-        desk.taken[worker as usize] = true;
-        Ok(seat)
+        match Seat::new(alloc, self.plan, self.world, worker, place)? {
+            Some(seat) => Ok(seat),
+            None => Err(SeatFault::Taken),
+        }
     }
 
     /// A seat's worker enters a node, as `Book::enter` does with the seat's tray. A refusal and want of memory change nothing. It may wait
@@ -212,27 +214,30 @@ impl<'a, G: Ground> Floor<'a, G> {
         self.world
     }
 
-    /// A seat's worker looks for something to do, and enters a node or shuts a class where there is one. It may wait for the lock.
-    pub(crate) fn turn<R: Wait>(&self, rt: &R, seat: &mut Seat<'a, G>) -> Turn
+    /// A seat's worker, who found this node in a deque or none, looks for something to do, and enters a node or shuts a class where there is
+    /// one. It may wait for the lock.
+    pub(crate) fn turn<R: Wait>(&self, rt: &R, seat: &mut Seat<'a, G>, found: Option<u32>) -> Turn
         ensures { IsTurn result seat.old seat.new }
     {
         let (turn, wakes) = {
             let mut desk = self.desk.lock(rt);
-            let turn = seat.turn_at(&mut *desk);
+            let turn = seat.turn_at(&mut *desk, found);
             (turn, desk.wakes())
         };
         self.tell(wakes);
         turn
     }
 
-    /// Waits until there is something for a worker to try, or nothing more is to be done.
-    pub(crate) fn wait_turn<R: Wait>(&self, rt: &R, worker: u32) {
+    /// Waits until there is something for a worker to try, or nothing more is to be done; not at all unless the worker has seen that all
+    /// deques were empty after nodes had been posted so often. Answers how often they were posted.
+    pub(crate) fn wait_turn<R: Wait>(&self, rt: &R, worker: u32, seen: Option<u64>) -> u64 {
         let mut desk = self.desk.lock(rt);
         desk.begin_idle();
         let mut desk = self
             .called
-            .wait_while(rt, desk, |desk| desk.has_nothing_for(worker));
+            .wait_while(rt, desk, |desk| desk.has_nothing_for(worker, seen));
         desk.end_idle();
+        desk.rounds()
     }
 
     // Wakes those who wait and have something to wake for.

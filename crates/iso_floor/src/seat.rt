@@ -1,5 +1,5 @@
 //! A worker's place on a floor.
-ghost use Rattle.std.specs.Prelude.{◌≡◌, ◌<◌, ℕ, IfErr, IfOk, OnErr, OnOk, length, true};
+ghost use Rattle.std.specs.Prelude.{◌≡◌, ◌<◌, ℕ, IfErr, IfOk, IfSome, OnErr, OnOk, length, true};
 ghost use Rattle.iso_book.specs.Leaves.{MayBring, ReceiptView};
 ghost use Rattle.iso_book.specs.Turns.{IsEntered, IsShut, ReadsStart};
 ghost use Rattle.iso_floor.specs.Grounds.{IsTrayOf};
@@ -8,6 +8,7 @@ ghost use Rattle.iso_locks.specs.Trays.{CanUndo, is_lent, marked, undone};
 
 use crate::desk::Desk;
 use crate::ground::Ground;
+use crate::steal::{Look, steal_from};
 use iso_book::receipt::Receipt;
 use iso_lifecycle::done::Done;
 use iso_locks::savepoint::Savepoint;
@@ -16,19 +17,25 @@ use iso_model::resource::{Ask, Change};
 use iso_model::resource_key::ResourceKey;
 use iso_model::touch::Touch;
 use iso_plan::plan::Plan;
+use iso_posts::posts::PostSeat;
 use iso_settings::world::World;
 use iso_standing::core_fault::CoreFault;
 use iso_standing::refused::Refused;
 use std::alloc::{AllocError, Global};
 use std::marker::{Model, PhantomData};
+use std::mem;
+use std::sync::Wait;
 
-/// A worker's number, its tray, and the receipts of its Leaves.
+/// A worker's number, its tray, the receipts of its Leaves, and what it has of the deques.
 #[derive(Drop)]
 pub struct Seat<'a, G: Ground> {
     worker: u32,
     tray: Tray<'a>,
     /// In the order of its Leaves, with room for every Leave of the plan.
     receipts: Vec<Receipt>,
+    pub(crate) posts: PostSeat,
+    /// Whether the agenda had something for this worker after its last Leave.
+    is_called: bool,
     of: PhantomData<G>,
 }
 
@@ -46,24 +53,47 @@ impl<'a, G: Ground> Model for Seat<'a, G> {
 }
 
 impl<'a, G: Ground> Seat<'a, G> {
-    /// The seat of a worker, to whose tray nothing is lent. It takes all memory that its Leaves need.
+    /// The seat of a worker, to whose tray nothing is lent, if the worker's place has its deques still: it takes them. It takes all memory
+    /// that the worker's Leaves need, and where that can't be had the place is as it was.
     pub(crate) fn new(
         alloc: Global,
         plan: &'a Plan,
         world: &'a World,
         worker: u32,
-    ) -> Result<Seat<'a, G>, AllocError>
+        place: &mut Option<PostSeat>,
+    ) -> Result<Option<Seat<'a, G>>, AllocError>
         requires plan { plan.now ≡ G.plan }
         requires start { world.now ≡ G.start }
-        ensures { IfOk result (λ s. s ≡ new_seat G.plan G.start worker) }
+        ensures { IfOk result (λ seat. IfSome seat (λ s. s ≡ new_seat G.plan G.start worker)) }
     {
         let leaves = plan.len() as usize * 2;
-        Ok(Seat {
-            worker,
-            tray: Tray::new(alloc, plan, world)?,
-            receipts: Vec::with_capacity(alloc, leaves)?,
-            of: PhantomData,
-        })
+        let tray = Tray::new(alloc, plan, world)?;
+        let receipts = Vec::with_capacity(alloc, leaves)?;
+        match place.take() {
+            Some(posts) => Ok(Some(Seat {
+                worker,
+                tray,
+                receipts,
+                posts,
+                is_called: false,
+                of: PhantomData,
+            })),
+            None => Ok(None),
+        }
+    }
+
+    /// Takes a node out of a deque, if it finds one: out of the worker's own, else out of another worker's. It looks into none where the
+    /// agenda had something for this worker after its last Leave, since that comes first. It may wait for others who steal.
+    pub(crate) fn look_into_deques<R: Wait>(&mut self, rt: &R) -> Look
+        ensures { self.new ≡ self.old }
+    {
+        if mem::replace(&mut self.is_called, false) {
+            return Look::Skipped;
+        }
+        match self.posts.owner.take() {
+            Some(node) => Look::Found(node),
+            None => steal_from(rt, &mut self.posts.thieves),
+        }
     }
 
     /// The worker whose seat it is.
@@ -141,6 +171,7 @@ impl<'a, G: Ground> Seat<'a, G> {
         let receipt = desk.book.leave_own(self.worker, done, &mut self.tray)?;
         self.receipts.push_reserved(receipt);
         desk.note_leave(kind, node, self.worker);
+        self.is_called = desk.calls_for(self.worker);
         Ok(())
     }
 }

@@ -27,8 +27,9 @@ pub(crate) enum Turn {
 }
 
 impl<'a, G: Ground> Seat<'a, G> {
-    /// Tries what the agenda has for this seat's worker, one node after another, until an event was taken or nothing is left to try.
-    pub(crate) fn turn_at(&mut self, desk: &mut Desk<'a, G>) -> Turn
+    /// Tries a node that was found in a deque, if one was, and then what the agenda has for this seat's worker, one node after another, until
+    /// an event was taken or nothing is left to try.
+    pub(crate) fn turn_at(&mut self, desk: &mut Desk<'a, G>, found: Option<u32>) -> Turn
         ensures { IsTurn result self.old self.new }
     {
         if desk.book.is_stopped() {
@@ -36,6 +37,9 @@ impl<'a, G: Ground> Seat<'a, G> {
         }
         if desk.agenda.is_done() {
             return Turn::Finished;
+        }
+        if let Some(turn) = self.try_found(desk, found) {
+            return turn;
         }
         'tries: for _ in 0..desk.tries() {
             let Some((node, source)) = desk.next_for(self.worker()) else {
@@ -46,6 +50,15 @@ impl<'a, G: Ground> Seat<'a, G> {
             }
         }
         Turn::Wait
+    }
+
+    // Enters a node that was found in a deque, unless another one is in the way.
+    fn try_found(&mut self, desk: &mut Desk<'a, G>, found: Option<u32>) -> Option<Turn>
+        ensures { MatchOption result (self.new ≡ self.old) (λ turn. IsTurn turn self.old self.new) }
+    {
+        let node = found?;
+        desk.note_tried();
+        self.try_enter(desk, node, Source::First)
     }
 
     // Enters a node that waits, or shuts a class that its worker left open, unless another node is in the way. Then it goes back into the
@@ -86,10 +99,11 @@ impl<'a, G: Ground> Seat<'a, G> {
         match self.shut_at(desk, class) {
             Ok(()) => Some(Turn::Shut(class)),
             Err(CoreFault::Refused(Refused::ChildrenLeft)) => {
-                if desk.open_up(class, self.worker()) {
-                    None
-                } else {
-                    Some(Turn::Halted(Halt::Stopped))
+                let worker = self.worker();
+                match desk.open_up(class, worker, &mut self.posts.owner) {
+                    Ok(true) => None,
+                    Ok(false) => Some(Turn::Halted(Halt::Stopped)),
+                    Err(fault) => Some(Turn::Halted(Halt::from(fault))),
                 }
             }
             Err(fault) => Some(Turn::Halted(Halt::from(fault))),

@@ -1,5 +1,6 @@
 //! A worker's whole run.
 ghost use Rattle.std.specs.Prelude.{IsTrue};
+ghost use Rattle.iso_floor.specs.Turning.{IsTurn};
 ghost use Rattle.iso_floor.specs.Workers.{IsFree};
 
 use crate::floor::Floor;
@@ -78,16 +79,35 @@ fn take_turns<'a, G: Ground, R: Wait, T: Gate>(
     if !is_free(seat) {
         return Err(Halt::Stopped);
     }
+    let mut rounds = 0;
     'turns: for _ in worker.rt.forever() {
-        match worker.floor.turn(worker.rt, seat) {
+        match take_turn(worker, seat, &mut rounds) {
             Turn::Entered(node) => worker.begin_entered(seat, node)?,
             Turn::Shut(class) => worker.end_shut(seat, class)?,
-            Turn::Wait => worker.floor.wait_turn(worker.rt, seat.worker()),
+            Turn::Wait => {}
             Turn::Finished => return Ok(()),
             Turn::Halted(halt) => return Err(halt),
         }
     }
     Ok(())
+}
+
+// Looks for something to do, in the deques first unless the agenda calls for this worker, and waits where there is nothing. `rounds` is
+// how often nodes had been posted when that was asked last.
+fn take_turn<'a, G: Ground, R: Wait, T: Gate>(
+    worker: &Worker<'_, 'a, G, R, T>,
+    seat: &mut Seat<'a, G>,
+    rounds: &mut u64,
+) -> Turn
+    ensures { IsTurn result seat.old seat.new }
+{
+    let look = seat.look_into_deques(worker.rt);
+    let turn = worker.floor.turn(worker.rt, seat, look.node());
+    if matches!(turn, Turn::Wait) {
+        let seen = look.seen(*rounds);
+        *rounds = worker.floor.wait_turn(worker.rt, seat.worker(), seen);
+    }
+    turn
 }
 
 // Whether nothing is lent to a seat's tray, so that it has no value that may be changed.

@@ -2,7 +2,7 @@
 use crate::crew::{Crew, Nothing, run_suite};
 use crate::gates::Pauses;
 use crate::reports::{report_of, serial_report};
-use crate::suites::{Suite, contended};
+use crate::suites::{HELD_UP, Suite, contended, read_suite};
 use iso_lifecycle::gate::{Gate, OpenGate};
 use std::alloc::Global;
 use std::process::Abort;
@@ -16,15 +16,16 @@ const WORKERS: u32 = 64;
 /// How many runs a test makes.
 const RUNS: u32 = 100;
 
-/// A run of all workers gives this report.
+/// A run of a crew gives this report.
 fn expect_report<R: Abort + Threads + Wait + Sync, T: Gate + Sync>(
     rt: &R,
     alloc: Global,
     suite: &Suite,
+    crew: Crew,
     gate: &T,
     serial: &[u8],
 ) -> Result<(), Fail> {
-    let ran = run_suite(rt, alloc, suite, Crew::of(WORKERS), gate, &Nothing)?;
+    let ran = run_suite(rt, alloc, suite, crew, gate, &Nothing)?;
     let Ok(book) = ran.book else {
         panic!(rt; "no book");
     };
@@ -42,7 +43,7 @@ fn expect_same<R: Abort + Threads + Wait + Sync, T: Gate + Sync>(
     let suite = contended(alloc)?;
     let serial = serial_report(rt, alloc, &suite)?;
     for _ in 0..RUNS {
-        expect_report(rt, alloc, &suite, gate, serial.bytes())?;
+        expect_report(rt, alloc, &suite, Crew::of(WORKERS), gate, serial.bytes())?;
     }
     Ok(())
 }
@@ -55,4 +56,18 @@ fn contended_suite_is_reported_as_by_one_thread(rt: HostRuntime) -> Result<(), F
 #[test]
 fn contended_suite_with_pauses_is_reported_as_by_one_thread(rt: HostRuntime) -> Result<(), Fail> {
     expect_same(&rt, rt.alloc(), &Pauses::new(&rt))
+}
+
+#[test]
+fn worker_who_is_held_up_looks_into_the_deques_again(rt: HostRuntime) -> Result<(), Fail> {
+    let suite = read_suite(rt.alloc(), HELD_UP)?;
+    let serial = serial_report(&rt, rt.alloc(), &suite)?;
+    expect_report(
+        &rt,
+        rt.alloc(),
+        &suite,
+        Crew::of(1),
+        &OpenGate,
+        serial.bytes(),
+    )
 }

@@ -40,6 +40,13 @@ pub(crate) const READERS: &str = "team shop
 class C { read \"file:a\" test a { } read \"file:a\" test b { } }
 ";
 
+/// A test that is held up by a class, and one after it that is held up by another, whose own test is left in a deque then.
+pub(crate) const HELD_UP: &str = "team shop
+read \"K\" class C { test c { } }
+read \"L\" class D { test d { } }
+class A { same_thread write \"K\" test e { } same_thread write \"L\" test f { } }
+";
+
 /// How many teams the contended suite has.
 const TEAMS: u32 = 6;
 

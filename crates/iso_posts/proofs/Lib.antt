@@ -1,0 +1,3 @@
+pub mod Keeping
+pub mod Seating
+pub mod Sharing

@@ -1,0 +1,3 @@
+pub mod Accounts
+pub mod Rules
+pub mod Seats

@@ -1,0 +1,103 @@
+use crate::owner::Owner;
+use crate::posts::Posts;
+use crate::thief::{Stolen, Thief};
+use std::alloc::Global;
+use std::test::Fail;
+
+/// The owner of one deque and its only thief.
+fn pair(alloc: Global) -> Result<(Owner, Thief), Fail> {
+    let mut owner = Owner::new(alloc)?;
+    let thief = owner.thief()?;
+    Ok((owner, thief))
+}
+
+/// The node that a steal gives in the end, or none where the deque is empty.
+fn steal_on(thief: &mut Thief) -> Option<u32> {
+    for _ in 0..u64::MAX {
+        match thief.steal() {
+            Stolen::Node(node) => return Some(node),
+            Stolen::Empty => return None,
+            Stolen::Again => {}
+        }
+    }
+    None
+}
+
+#[test]
+fn owner_and_thief_get_each_node_once(rt: HostRuntime) -> Result<(), Fail> {
+    let (mut owner, mut thief) = pair(rt.alloc())?;
+    for node in 4..7 {
+        assert!(&rt; owner.post(node).is_ok());
+    }
+    assert_eq!(&rt; owner.balance(), 3);
+    assert_eq!(&rt; owner.take(), Some(4));
+    assert_eq!(&rt; steal_on(&mut thief), Some(5));
+    assert_eq!(&rt; owner.take(), Some(6));
+    assert_eq!(&rt; steal_on(&mut thief), None);
+    assert_eq!(&rt; owner.take(), None);
+    assert_eq!(&rt; owner.balance(), 0);
+    Ok(())
+}
+
+#[test]
+fn thieves_alone_get_each_node_once(rt: HostRuntime) -> Result<(), Fail> {
+    let (mut owner, mut first) = pair(rt.alloc())?;
+    let mut second = owner.thief()?;
+    for node in 4..7 {
+        assert!(&rt; owner.post(node).is_ok());
+    }
+    assert_eq!(&rt; steal_on(&mut first), Some(4));
+    assert_eq!(&rt; steal_on(&mut second), Some(5));
+    assert_eq!(&rt; steal_on(&mut first), Some(6));
+    assert_eq!(&rt; steal_on(&mut second), None);
+    assert_eq!(&rt; owner.take(), None);
+    Ok(())
+}
+
+#[test]
+fn nodes_come_first_in_first_out(rt: HostRuntime) -> Result<(), Fail> {
+    let mut owner = Owner::new(rt.alloc())?;
+    let thief = owner.thief()?;
+    owner.join(thief);
+    for node in 0..5_000 {
+        assert!(&rt; owner.post(node).is_ok());
+    }
+    for node in 0..5_000 {
+        assert_eq!(&rt; owner.take(), Some(node));
+    }
+    assert_eq!(&rt; owner.take(), None);
+    Ok(())
+}
+
+/// Whether the thieves of the first of so many workers steal what each other worker posted, in the order of the workers.
+fn first_finds_all(alloc: Global, workers: u32) -> Result<bool, Fail> {
+    let mut seats = Posts::new(alloc, workers as usize)?;
+    for worker in 0..workers {
+        let Some(seat) = seats.get_mut(worker as usize) else {
+            return Ok(false);
+        };
+        if seat.owner.post(worker).is_err() {
+            return Ok(false);
+        }
+    }
+    let Some(first) = seats.get_mut(0) else {
+        return Ok(false);
+    };
+    for worker in 1..workers {
+        let Some(thief) = first.thieves.get_mut(worker as usize - 1) else {
+            return Ok(false);
+        };
+        if steal_on(thief) != Some(worker) {
+            return Ok(false);
+        }
+    }
+    Ok(first.owner.take() == Some(0))
+}
+
+#[test]
+fn a_worker_steals_from_every_other(rt: HostRuntime) -> Result<(), Fail> {
+    for workers in [1, 2, 64] {
+        assert!(&rt; first_finds_all(rt.alloc(), workers)?);
+    }
+    Ok(())
+}
