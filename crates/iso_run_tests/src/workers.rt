@@ -131,9 +131,9 @@ fn workers_report_as_worked_out(rt: HostRuntime) -> Result<(), Fail> {
     Ok(())
 }
 
-/// Asserts that 1, 2 and 8 workers report the same as one thread.
+/// Asserts that 1, 2, 8 and 64 workers report the same as one thread.
 fn expect_same(rt: &(impl Host + Abort), suite: Scripts<'_>, name: &str) -> Result<(), AllocError> {
-    expect(rt, suite.first_other(rt, &[1, 2, 8])?.is_none(), name);
+    expect(rt, suite.first_other(rt, &[1, 2, 8, 64])?.is_none(), name);
     Ok(())
 }
 
