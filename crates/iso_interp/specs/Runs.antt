@@ -32,7 +32,7 @@ pieces_of run = pieces_in run.top run.below.items
 
 -- what the block has and does but for the resources
 abbrev pub local_of : BlockRun → Local
-local_of run = record { env = run.names; lines = run.lines.items; ending = run.ending }
+local_of run = record { env = run.names; lines = run.lines; ending = run.ending }
 
 -- the same with the resources
 abbrev pub state_of : BlockRun → Resources → State

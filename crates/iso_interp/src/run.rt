@@ -64,7 +64,7 @@ pub struct BlockRun<'a> {
     alloc: Global,
     rights: &'a Rights,
     names: Names,
-    lines: Vec<Text>,
+    lines: Lines,
     ending: Ending,
     before: usize,
     top: Option<Pending<'a>>,
@@ -100,7 +100,7 @@ impl<'a> BlockRun<'a> {
             alloc,
             rights,
             names,
-            lines: Vec::new(alloc),
+            lines: Lines::new(alloc),
             ending: Ending::Well,
             before,
             top: Some(Pending::Rest(before, block)),
@@ -151,7 +151,7 @@ impl<'a> BlockRun<'a> {
         names.keep(before);
         BlockEnd {
             ending,
-            output: Lines::new(lines),
+            output: lines,
             names,
         }
     }

@@ -1,6 +1,7 @@
 -- What contracts see of results: the plan and the start that they are of, and which bodies have been put.
 use Rattle.std.specs.Prelude.{◌≡◌, ℕ, ◌<◌, List, [], ◌∷◌, ◌++◌, length, replicate, Option, Some, None, Bool, true, false, ◌||◌, ◌&&◌, not, cond, slice_index_or, slice_set, refl}
 use Rattle.std.specs.Coded.{Coded, code_by, coded×, coded_list, coded_bool}
+use Rattle.iso_model.specs.LinesView.{lines_in}
 use Rattle.iso_model.specs.Statements.{is_well}
 use Rattle.iso_model.specs.declared.outcome.Outcome.{Outcome}
 use Rattle.iso_model.specs.declared.outcome.Verdict.{Verdict}
@@ -119,4 +120,4 @@ verdict_of_view (W.Blocked note) = V.Blocked note.now
 
 -- the outcome that a view lends
 abbrev pub outcome_of_view : View → Outcome
-outcome_of_view v = record { verdict = verdict_of_view v.verdict; output = v.lines.now ++ v.more.now }
+outcome_of_view v = record { verdict = verdict_of_view v.verdict; output = lines_in v.lines ++ lines_in v.more }

@@ -64,7 +64,7 @@ impl<'a> BodyRun<'a> {
             next: Some(Job::first(classes.len())),
             names,
             printed: 0,
-            lines: Vec::new(alloc),
+            lines: Lines::new(alloc),
             endings: Vec::new(alloc),
         };
         match rest.follow() {
@@ -96,7 +96,7 @@ impl<'a> BodyRun<'a> {
             next: None,
             names: Vec::new(alloc),
             printed: 0,
-            lines: Vec::new(alloc),
+            lines: Lines::new(alloc),
             endings: Vec::new(alloc),
         };
         match rest.settle(run) {
@@ -158,9 +158,12 @@ impl<'a> BodyRun<'a> {
         ensures { stage_of self.entry ≡ ended (end_account result (account_in_run self.entry).printed) }
     {
         let BodyRun { rest, .. } = self;
+        let mut output = rest.lines;
+        // What a body came to is kept until the end of the run.
+        output.shrink_to_fit();
         BodyEnd {
             endings: rest.endings,
-            output: Lines::new(rest.lines),
+            output,
             names: rest.names,
         }
     }

@@ -5,8 +5,8 @@ ghost use Rattle.iso_lifecycle.specs.ResultViews.{outcome_of_view, verdict_of_vi
 
 use crate::done::{Closed, Opened};
 use iso_model::fault::FaultKind;
+use iso_model::lines::LineSlice;
 use iso_model::outcome::{Ending, Note, Outcome, Verdict};
-use iso_model::text::Text;
 
 /// A verdict whose note is borrowed.
 #[derive(Clone, Copy)]
@@ -25,8 +25,8 @@ pub enum ViewVerdict<'a> {
 #[derive(Clone, Copy)]
 pub struct View<'a> {
     pub verdict: ViewVerdict<'a>,
-    pub lines: &'a [Text],
-    pub more: &'a [Text],
+    pub lines: LineSlice<'a>,
+    pub more: LineSlice<'a>,
 }
 
 impl<'a> ViewVerdict<'a> {
@@ -78,7 +78,7 @@ impl<'a> View<'a> {
         View {
             verdict: ViewVerdict::lent(&outcome.verdict),
             lines: outcome.output.as_slice(),
-            more: &[],
+            more: LineSlice::empty(),
         }
     }
 
@@ -102,8 +102,8 @@ impl<'a> View<'a> {
     {
         View {
             verdict: ViewVerdict::barred(ending),
-            lines: &[],
-            more: &[],
+            lines: LineSlice::empty(),
+            more: LineSlice::empty(),
         }
     }
 }

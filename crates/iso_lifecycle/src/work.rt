@@ -11,7 +11,6 @@ use iso_model::names::{Binding, Names};
 use iso_model::outcome::Ending;
 use iso_model::place::BlockName;
 use iso_model::rights::Rights;
-use iso_model::text::Text;
 use iso_model::tree::Stmt;
 use std::alloc::{AllocError, Global};
 use std::sync::Arc;
@@ -26,7 +25,7 @@ pub struct Rest<'a> {
     pub(crate) next: Option<Job>,
     pub(crate) names: Vec<Binding>,
     pub(crate) printed: u32,
-    pub(crate) lines: Vec<Text>,
+    pub(crate) lines: Lines,
     pub(crate) endings: Vec<Ending>,
     ghost placed: { IsPlaced (length classes.now) next } by { IsPlaced-prop (length classes.now) next },
     ghost shallow: { length classes.now < 2 ^ 32 },
@@ -57,7 +56,7 @@ impl<'a> Rest<'a> {
         } = run.finish();
         // Each is put away before any want of memory is answered, so that nothing is left over on that way out.
         let ended = add_ending(&mut self.endings, ending);
-        let printed = add_lines(&mut self.lines, output);
+        let printed = self.lines.append(output);
         self.printed = names.printed();
         put_before(&mut self.names, names.into_bindings())?;
         printed?;
@@ -184,15 +183,6 @@ fn add_ending(endings: &mut Vec<Ending>, ending: Ending) -> Result<(), AllocErro
     ensures { OnOk result (endings.new.items ≡ endings.old.items ++ ending ∷ []) }
 {
     endings.push(ending)?;
-    Ok(())
-}
-
-/// Adds lines.
-fn add_lines(lines: &mut Vec<Text>, more: Lines) -> Result<(), AllocError>
-    ensures { OnOk result (lines.new.items ≡ lines.old.items ++ more) }
-{
-    let mut more = more.into_vec();
-    lines.append(&mut more)?;
     Ok(())
 }
 

@@ -13,6 +13,8 @@ pub mod Finishing
 pub mod Keeps
 pub mod LastingNames
 pub mod LawLemmas
+pub mod LayerLemmas
+pub mod LineLemmas
 pub mod MemoryLemmas
 pub mod NameLemmas
 pub mod Output

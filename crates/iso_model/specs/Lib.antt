@@ -11,6 +11,9 @@ pub mod Evaluation
 pub mod Examples
 pub mod Jobs
 pub mod Keys
+pub mod Layers
+pub mod Lines
+pub mod LinesView
 pub mod Memory
 pub mod Names
 pub mod NameSets

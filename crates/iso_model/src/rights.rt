@@ -4,8 +4,7 @@ ghost use Rattle.iso_model.specs.ResourceKeys.{spelling};
 ghost use Rattle.iso_model.specs.Rights.{access_in, declared_by, is_readable, is_writable, rights_of, strongest};
 
 use crate::access::Access;
-use crate::chain::Chain;
-use crate::heads::{ClassHead, Mark};
+use crate::heads::Mark;
 use crate::key::Key;
 use crate::resource_key::ResourceKey;
 use std::alloc::{AllocError, Global};
@@ -23,53 +22,18 @@ fn covers(known: Option<Access>, wanted: Access) -> bool
     }
 }
 
-/// The keys that a block may look at or change. Of a key that was declared anew the newest access counts.
+/// Keys that were declared together, the newest first.
 #[derive(Drop)]
-pub struct Rights {
+struct Layer {
     entries: Vec<(Key, Access)>,
 }
 
-impl Model for Rights {
-    ghost use Rattle.std.specs.Prelude.{List, ℕ};
-    ghost use Rattle.iso_model.specs.declared.access.Access.{Access};
+impl Layer {
+    ghost use Rattle.std.specs.Prelude.{◌++◌};
 
-    ghost Value = { List (List ℕ × Access) };
-
-    ghost view = { λ r. r.entries.items };
-}
-
-impl Rights {
-    ghost use Rattle.iso_model.specs.ChainView.{innermost_first, rights_in};
-    ghost use Rattle.iso_model.specs.Chains.{class_rights};
-
-    /// No rights.
-    pub fn new(alloc: Global) -> Rights
-        ensures { result ≡ [] }
-    {
-        Rights {
-            entries: Vec::new(alloc),
-        }
-    }
-
-    /// Whether no key is declared.
-    pub fn is_empty(&self) -> bool
-        ensures { result ≡ (length self.now == 0) }
-    {
-        self.entries.is_empty()
-    }
-
-    /// A key more, or another access for one that is there.
-    pub fn declare(&mut self, key: Key, access: Access) -> Result<(), AllocError>
-        ensures ok { OnOk result (self.new ≡ (key, access) ∷ self.old) }
-        ensures err { OnErr result (self.new ≡ self.old) }
-    {
-        self.entries.insert(0, (key, access))?;
-        Ok(())
-    }
-
-    /// The access that a key is declared with, if it is.
-    pub fn access(&self, key: &Key) -> Option<Access>
-        ensures { result ≡ access_in self.now key.now }
+    /// The access that a key is declared with here, if it is.
+    fn access(&self, key: &Key) -> Option<Access>
+        ensures { result ≡ access_in self.now.entries.items key.now }
     {
         for (declared, access) in &self.entries {
             if key.as_str() == declared.as_str() {
@@ -79,13 +43,128 @@ impl Rights {
         None
     }
 
+    /// The access that a resource is declared with here, if it is.
+    fn access_of(&self, resource: ResourceKey<'_>) -> Option<Access>
+        ensures { result ≡ access_in self.now.entries.items (spelling resource.entry) }
+    {
+        for (declared, access) in &self.entries {
+            if resource.is(declared) {
+                return Some(*access);
+            }
+        }
+        None
+    }
+
+    /// The access that a key is declared with here, or else by the outer rights, if it is.
+    fn known(&self, outer: &Rights, key: &Key) -> Option<Access>
+        ensures { result ≡ access_in (self.now.entries.items ++ outer.now) key.now }
+    {
+        match self.access(key) {
+            Some(access) => Some(access),
+            None => outer.access(key),
+        }
+    }
+
+    /// What one mark declares besides these and the outer rights.
+    fn mark(&mut self, alloc: Global, outer: &Rights, mark: &Mark) -> Result<(), AllocError>
+        ensures { OnOk result ((k : List ℕ) → access_in (self.new.entries.items ++ outer.now) k
+            ≡ strongest (declared_by mark.now k) (access_in (self.old.entries.items ++ outer.now) k)) }
+    {
+        if covers(self.known(outer, &mark.key), mark.access) {
+            return Ok(());
+        }
+        let key = mark.key.copy(alloc)?;
+        self.entries.insert(0, (key, mark.access))?;
+        Ok(())
+    }
+
+    /// What marks declare besides the outer rights.
+    fn of_marks(alloc: Global, outer: &Rights, marks: &[Mark]) -> Result<Layer, AllocError>
+        ensures { IfOk result (λ l. (k : List ℕ) → access_in (l.entries.items ++ outer.now) k
+            ≡ strongest (rights_of marks.now k) (access_in outer.now k)) }
+    {
+        let mut layer = Layer {
+            entries: Vec::new(alloc),
+        };
+        'marks: for mark in marks {
+            layer.mark(alloc, outer, mark)?;
+        }
+        Ok(layer)
+    }
+}
+
+/// The keys that a block may look at or change. Of a key that was declared anew the newest access counts.
+///
+/// The innermost layer stands first. What stands in a class shares the layers of that class.
+#[derive(Drop)]
+pub struct Rights {
+    layers: Vec<Arc<Layer>>,
+}
+
+impl Model for Rights {
+    ghost use Rattle.std.specs.Prelude.{List, ℕ};
+    ghost use Rattle.iso_model.specs.Layers.{declared_in};
+    ghost use Rattle.iso_model.specs.declared.access.Access.{Access};
+
+    ghost Value = { List (List ℕ × Access) };
+
+    ghost view = { λ r. declared_in r.layers.items };
+}
+
+impl Rights {
+    /// No rights.
+    pub fn new(alloc: Global) -> Rights
+        ensures { result ≡ [] }
+    {
+        Rights {
+            layers: Vec::new(alloc),
+        }
+    }
+
+    /// A key more, or another access for one that is there.
+    pub fn declare(&mut self, alloc: Global, key: Key, access: Access) -> Result<(), AllocError>
+        ensures ok { OnOk result (self.new ≡ (key, access) ∷ self.old) }
+        ensures err { OnErr result (self.new ≡ self.old) }
+    {
+        let mut entries = Vec::new(alloc);
+        entries.push((key, access))?;
+        let layer = Arc::new(alloc, Layer { entries })?;
+        self.layers.insert(0, layer)?;
+        Ok(())
+    }
+
+    /// The rights of what stands in a class with these rights and has marks of its own.
+    pub fn within(&self, alloc: Global, marks: &[Mark]) -> Result<Rights, AllocError>
+        ensures { IfOk result (λ r. (k : List ℕ) → access_in r k ≡ strongest (rights_of marks.now k) (access_in self.now k)) }
+    {
+        let layer = Layer::of_marks(alloc, self, marks)?;
+        let mut layers = Vec::with_capacity(alloc, 1)?;
+        layers.push(Arc::new(alloc, layer)?)?;
+        'outer: for outer in &self.layers {
+            layers.push(outer.clone()?)?;
+        }
+        Ok(Rights { layers })
+    }
+
+    /// The access that a key is declared with, if it is.
+    pub fn access(&self, key: &Key) -> Option<Access>
+        ensures { result ≡ access_in self.now key.now }
+    {
+        for layer in &self.layers {
+            if let Some(access) = layer.access(key) {
+                return Some(access);
+            }
+        }
+        None
+    }
+
     /// The access that a resource is declared with, if it is, without making its key.
     pub fn access_of(&self, resource: ResourceKey<'_>) -> Option<Access>
         ensures { result ≡ access_in self.now (spelling resource.entry) }
     {
-        for (declared, found) in &self.entries {
-            if resource.is(declared) {
-                return Some(*found);
+        for layer in &self.layers {
+            if let Some(access) = layer.access_of(resource) {
+                return Some(access);
             }
         }
         None
@@ -103,51 +182,5 @@ impl Rights {
         ensures { result ≡ is_writable (access_in self.now (spelling resource.entry)) }
     {
         matches!(self.access_of(resource), Some(Access::Write))
-    }
-
-    /// What one mark declares besides.
-    fn mark(&mut self, alloc: Global, mark: &Mark) -> Result<(), AllocError>
-        ensures { OnOk result ((k : List ℕ) → access_in self.new k ≡ strongest (declared_by mark.now k) (access_in self.old k)) }
-    {
-        if covers(self.access(&mark.key), mark.access) {
-            return Ok(());
-        }
-        self.declare(mark.key.copy(alloc)?, mark.access)
-    }
-
-    /// What marks declare besides.
-    fn mark_all(&mut self, alloc: Global, marks: &[Mark]) -> Result<(), AllocError>
-        ensures { OnOk result ((k : List ℕ) → access_in self.new k ≡ strongest (rights_of marks.now k) (access_in self.old k)) }
-    {
-        'marks: for mark in marks {
-            self.mark(alloc, mark)?;
-        }
-        Ok(())
-    }
-
-    /// The rights of a class chain: each key that is marked anywhere on it, with the strongest access
-    /// of its marks.
-    pub fn of(alloc: Global, chain: Chain<'_>) -> Result<Rights, AllocError>
-        ensures { IfOk result (λ r. access_in r ≡ rights_in chain.entry) }
-    {
-        let mut rights = Rights::of_classes(alloc, chain.classes)?;
-        match chain.test {
-            Some(test) => {
-                rights.mark_all(alloc, &test.marks)?;
-                Ok(rights)
-            }
-            None => Ok(rights),
-        }
-    }
-
-    /// The rights of class heads, outermost first.
-    fn of_classes(alloc: Global, classes: &[Arc<ClassHead>]) -> Result<Rights, AllocError>
-        ensures { IfOk result (λ r. (k : List ℕ) → access_in r k ≡ class_rights (innermost_first classes.now) k) }
-    {
-        let mut rights = Rights::new(alloc);
-        'classes: for class in classes {
-            rights.mark_all(alloc, &class.marks)?;
-        }
-        Ok(rights)
     }
 }

@@ -1,11 +1,11 @@
 //! Each call once with memory at hand, on the texts that the language gives.
-use crate::shared::{check_text, set_property};
+use crate::shared::{check_text, push_lines, set_property};
 use iso_model::access::Access;
-use iso_model::chain::Chain;
 use iso_model::data::Data;
 use iso_model::fault::Fault;
-use iso_model::heads::{ClassHead, Mark, TestHead};
+use iso_model::heads::Mark;
 use iso_model::key::Key;
+use iso_model::lines::{LineSlice, Lines};
 use iso_model::names::{AssignFault, Names, Sort};
 use iso_model::place::{BlockName, Lifecycle, Place};
 use iso_model::properties::Properties;
@@ -14,7 +14,6 @@ use iso_model::rights::Rights;
 use iso_model::text::Text;
 use std::alloc::{AllocError, Global};
 use std::process::Abort;
-use std::sync::Arc;
 
 /// A text, if there was memory for it, is this.
 fn check(rt: &impl Abort, text: Result<Text, AllocError>, want: &str) -> Result<(), AllocError> {
@@ -52,6 +51,43 @@ fn values_are_written_in_decimal_and_words(rt: HostRuntime) -> Result<(), AllocE
     check_written(&rt, alloc, &Data::Flag(false), "false")?;
     let text = Data::Text(Text::copied(alloc, "a b")?);
     check_written(&rt, alloc, &text, "a b")
+}
+
+/// Lines: empty ones, one with a line feed, and the first and last characters of each length in UTF-8.
+static LINES: [&str; 5] = [
+    "",
+    "a\nb",
+    "",
+    "\0\u{7F}\u{80}\u{7FF}",
+    "\u{800}\u{FFFF}\u{10000}\u{10FFFF}",
+];
+
+/// Lines that were added one by one.
+fn lines_of(alloc: Global, texts: &[&str]) -> Result<Lines, AllocError> {
+    let mut lines = Lines::new(alloc);
+    for text in texts {
+        lines.push(text)?;
+    }
+    Ok(lines)
+}
+
+#[test]
+fn lines_are_told_apart(rt: HostRuntime) -> Result<(), AllocError> {
+    let alloc = rt.alloc();
+    let mut lines = lines_of(alloc, &LINES[..3])?;
+    lines.append(lines_of(alloc, &LINES[3..])?)?;
+    lines.shrink_to_fit();
+    let mut told = String::new(alloc);
+    push_lines(alloc, &mut told, lines.as_slice(), "|")?;
+    check_text(
+        &rt,
+        "lines",
+        told.as_str(),
+        "|a\nb||\0\u{7F}\u{80}\u{7FF}|\u{800}\u{FFFF}\u{10000}\u{10FFFF}|",
+    );
+    assert!(rt; !lines.as_slice().is_empty());
+    assert!(rt; LineSlice::empty().is_empty());
+    Ok(())
 }
 
 /// A fault says this.
@@ -220,37 +256,13 @@ fn mark(alloc: Global, access: Access) -> Result<Mark, AllocError> {
     Ok(Mark { access, key })
 }
 
-/// A class with this mark alone.
-fn marked_class(alloc: Global, access: Access) -> Result<Arc<ClassHead>, AllocError> {
-    let marks = vec![in alloc; mark(alloc, access)?]?;
-    let class = ClassHead {
-        statics: Vec::new(alloc),
-        fields: Vec::new(alloc),
-        marks,
-        before_all: Vec::new(alloc),
-        after_all: Vec::new(alloc),
-        before_each: Vec::new(alloc),
-        after_each: Vec::new(alloc),
-    };
-    Ok(Arc::new(alloc, class)?)
-}
-
-/// A test with this mark alone.
-fn marked_test(alloc: Global, access: Access) -> Result<TestHead, AllocError> {
-    let marks = vec![in alloc; mark(alloc, access)?]?;
-    let body = Vec::new(alloc);
-    Ok(TestHead { marks, body })
-}
-
 /// The rights of a test with the one mark in a class with the other.
 fn rights_of(alloc: Global, class: Access, test: Access) -> Result<Rights, AllocError> {
-    let classes = vec![in alloc; marked_class(alloc, class)?]?;
-    let test = marked_test(alloc, test)?;
-    let chain = Chain {
-        classes: &classes,
-        test: Some(&test),
-    };
-    Rights::of(alloc, chain)
+    let class = [mark(alloc, class)?];
+    let test = [mark(alloc, test)?];
+    Rights::new(alloc)
+        .within(alloc, &class)?
+        .within(alloc, &test)
 }
 
 /// Whether a file is declared so.
@@ -275,7 +287,7 @@ fn strongest_mark_of_a_chain_counts(rt: HostRuntime) -> Result<(), AllocError> {
 
 /// Declares file `a`.
 fn declare(alloc: Global, rights: &mut Rights, access: Access) -> Result<(), AllocError> {
-    rights.declare(Key::of_file(alloc, "a")?, access)
+    rights.declare(alloc, Key::of_file(alloc, "a")?, access)
 }
 
 /// Declares file `a` twice, where nothing is declared.

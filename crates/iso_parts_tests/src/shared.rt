@@ -1,4 +1,5 @@
 //! What the tests of several parts share.
+use iso_model::lines::LineSlice;
 use iso_model::properties::Properties;
 use iso_model::text::Text;
 use std::alloc::{AllocError, Global};
@@ -19,6 +20,27 @@ pub fn made(alloc: Global, pieces: &[(&str, usize)]) -> Result<String, AllocErro
     let mut text = String::new(alloc);
     add(&mut text, pieces)?;
     Ok(text)
+}
+
+/// Adds lines, each with this end.
+pub fn push_lines(
+    alloc: Global,
+    text: &mut String,
+    lines: LineSlice<'_>,
+    end: &str,
+) -> Result<(), AllocError> {
+    let mut left = lines;
+    // A body prints no more lines.
+    for _ in 0..65_536u32 {
+        let Some((line, rest)) = left.split_first() else {
+            break;
+        };
+        let line = String::from_utf8_lossy(alloc, line)?;
+        text.push_str(line.as_str())?;
+        text.push_str(end)?;
+        left = rest;
+    }
+    Ok(())
 }
 
 /// Sets a property.

@@ -366,7 +366,7 @@ alone_by m n true e h = sym (eq_from n m e)
 alone_by m n false e h = let wrong : false ≡ true = h in absurd (cc)
 
 -- a top-level class stands in itself alone
-top_alone : (tree : List Row) → IsBelow tree → (m n : ℕ) → is_top tree n ≡ true → is_under tree m n ≡ true → m ≡ n
+pub top_alone : (tree : List Row) → IsBelow tree → (m n : ℕ) → is_top tree n ≡ true → is_under tree m n ≡ true → m ≡ n
 top_alone tree b m n h u = alone_by m n (n == m) refl (sym (ap (λ (ns : List ℕ). is_on ns m) (own-path tree b n h)) ∙ u)
 
 -- a key that marks declare is the global one only where they name it
@@ -413,12 +413,12 @@ global_by_top tree b n ln d None j e h u r =
     absurd (cc)
 
 -- a locking node that gathers the global key is a top-level class
-gathers_global : (tree : List Row) → IsBelow tree → (n : ℕ) → is_locking tree n ≡ true → is_readable (gathered tree n global_key) ≡ true → is_top tree n ≡ true
+pub gathers_global : (tree : List Row) → IsBelow tree → (n : ℕ) → is_locking tree n ≡ true → is_readable (gathered tree n global_key) ≡ true → is_top tree n ≡ true
 gathers_global tree b n ln r =
     let d = declarer tree n global_key r in
     global_by_top tree b n ln d (top tree d.node) d.node refl d.less d.under d.reads
 
-both_lock : (tree : List Row) → IsBelow tree → (m n : ℕ) → is_locking tree m ≡ true → is_locking tree n ≡ true → is_under tree m n ≡ true → m ≡ n
+pub both_lock : (tree : List Row) → IsBelow tree → (m n : ℕ) → is_locking tree m ≡ true → is_locking tree n ≡ true → is_under tree m n ≡ true → m ≡ n
 both_lock tree b m n lm ln u =
     let one : locking_node tree n ≡ Some m = that-is (locking_node tree n) m (sym (under-locking tree b m n lm) ∙ u) in
     let two : locking_node tree n ≡ Some n = that-is (locking_node tree n) n ln in
@@ -434,7 +434,7 @@ apart tree b m n k u rm rn =
     (takes-by tree m k rm))
     (takes-by tree n k rn)
 
-excluded : (a b : Option Access) → exclude a b ≡ true → (is_readable a ≡ true) × (is_readable b ≡ true)
+pub excluded : (a b : Option Access) → exclude a b ≡ true → (is_readable a ≡ true) × (is_readable b ≡ true)
 excluded None b h = let wrong : false ≡ true = h in absurd (cc)
 excluded (Some a) None h = let wrong : false ≡ true = h in absurd (cc)
 excluded (Some a) (Some b) h = (refl, refl)

@@ -6,6 +6,7 @@ pub mod Doubles
 pub mod FaultLemmas
 pub mod Firsts
 pub mod FullLemmas
+pub mod Gathering
 pub mod Growth
 pub mod KeyLemmas
 pub mod LawLemmas

@@ -57,7 +57,7 @@ pub(crate) fn chain_all(alloc: Global, rows: &[Row]) -> Result<Chained, AllocErr
 {
     let children = children(alloc, rows)?;
     let chains = chains(alloc, rows)?;
-    let rights = rights(alloc, rows, &chains)?;
+    let rights = rights(alloc, rows)?;
     Ok(Chained {
         children,
         chains,

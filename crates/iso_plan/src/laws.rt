@@ -109,3 +109,11 @@ pub fn conflicting_nodes_stand_apart(plan: &Plan)
 {
     plan.hold_a_tree();
 }
+
+/// Who is in the way of a node that is no top-level class has gathered the locks of all that stands in it: nothing is in the way of that.
+pub fn holders_gather_what_stands_in_them(plan: &Plan)
+    ensures { (m n d j : ℕ) → conflict (tree_of plan.now) m n ≡ true → is_top (tree_of plan.now) n ≡ false
+        → is_under (tree_of plan.now) m d ≡ true → (m ≡ d → ⊥) → conflict (tree_of plan.now) j d ≡ false }
+{
+    plan.hold_a_tree();
+}

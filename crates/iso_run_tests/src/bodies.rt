@@ -3,7 +3,7 @@ ghost use Rattle.std.specs.Prelude.{◌≡◌, length};
 
 use crate::expect::expect;
 use crate::suites::{Check, SERIAL, check_script, widest_script};
-use crate::told::{ending, expect_told};
+use crate::told::{ending, expect_told, push_output};
 use iso_lifecycle::results::Results;
 use iso_lifecycle::view::{View, ViewVerdict};
 use iso_plan::plan::Plan;
@@ -171,6 +171,12 @@ impl Check for Passes {
 /// How the test ends in which an after block finds the output full.
 const FULL: &str = "fault: output is full at class 1 after_each row 1";
 
+/// Sixteen lines of 4,095 bytes, as they are told.
+fn sixteen_lines(alloc: Global) -> Result<String, AllocError> {
+    let line = "a".repeat(alloc, 4_095)?;
+    format!(in alloc; " | {line}")?.repeat(alloc, 16)
+}
+
 /// Asserts that the test of a suite of one filled the output with 16 lines.
 fn expect_full(
     rt: &impl Abort,
@@ -184,9 +190,11 @@ fn expect_full(
     let Some(view) = results.get(2) else {
         panic!(rt; "the test has no result");
     };
-    assert_eq!(rt; view.lines.len() + view.more.len(), 16);
-    let told = ending(alloc, view.verdict)?;
+    let mut told = ending(alloc, view.verdict)?;
     expect(rt, told.as_str() == FULL, told.as_str());
+    told.clear();
+    push_output(alloc, &mut told, view)?;
+    assert!(rt; told == sixteen_lines(alloc)?);
     Ok(())
 }
 

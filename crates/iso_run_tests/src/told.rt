@@ -1,7 +1,7 @@
 //! What nodes came to, in words.
 use iso_lifecycle::view::{View, ViewVerdict};
+use iso_model::lines::LineSlice;
 use iso_model::outcome::Note;
-use iso_model::text::Text;
 use std::alloc::{AllocError, Global};
 use std::process::Abort;
 
@@ -23,24 +23,35 @@ fn noted(alloc: Global, word: &str, note: &Note) -> Result<String, AllocError> {
 }
 
 /// Adds lines to a text.
-fn push_lines(told: &mut String, lines: &[Text]) -> Result<(), AllocError> {
-    for line in lines {
+fn push_lines(alloc: Global, told: &mut String, lines: LineSlice<'_>) -> Result<(), AllocError> {
+    let mut left = lines;
+    // A body prints no more lines.
+    for _ in 0..65_536u32 {
+        let Some((line, rest)) = left.split_first() else {
+            break;
+        };
+        let line = String::from_utf8_lossy(alloc, line)?;
         told.push_str(" | ")?;
         told.push_str(line.as_str())?;
+        left = rest;
     }
     Ok(())
 }
 
 /// Adds all lines of a result to a text.
-fn push_output(told: &mut String, view: View<'_>) -> Result<(), AllocError> {
-    push_lines(told, view.lines)?;
-    push_lines(told, view.more)
+pub(crate) fn push_output(
+    alloc: Global,
+    told: &mut String,
+    view: View<'_>,
+) -> Result<(), AllocError> {
+    push_lines(alloc, told, view.lines)?;
+    push_lines(alloc, told, view.more)
 }
 
 /// A result in words, with its lines.
 fn told(alloc: Global, view: View<'_>) -> Result<String, AllocError> {
     let mut told = ending(alloc, view.verdict)?;
-    push_output(&mut told, view)?;
+    push_output(alloc, &mut told, view)?;
     Ok(told)
 }
 

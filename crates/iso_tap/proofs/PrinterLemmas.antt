@@ -13,10 +13,6 @@ use Rattle.iso_tap.proofs.Sequences.{Wrote-none, Wrote-then, CutOff-more, CutOff
 pub drop_next : {A : Type 0} (xs : List A) (i : ℕ) (d : A) → i < length xs → drop i xs ≡ get_or xs i d ∷ drop (i + 1) xs
 drop_next xs i d h = rw (add-one, drop-cons xs i d) refl
 
--- the same, where an equal element is known
-pub drop_item : {A : Type 0} (x : A) (xs : List A) (i : ℕ) → i < length xs → x ≡ get_or xs i x → drop i xs ≡ x ∷ drop (i + 1) xs
-drop_item x xs i h e = drop_next xs i x h ∙ ap (λ y. y ∷ drop (i + 1) xs) (sym e)
-
 -- the spaces that are left, with the first of so many apart
 pub spaces_next : (n left most : ℕ) → n ≤ left → n ≤ most → replicate {A = ℕ} left 32 ≡ take n (replicate {A = ℕ} most 32) ++ replicate (left - n) 32
 spaces_next n left most h k =

@@ -2,6 +2,7 @@
 ghost use Rattle.std.specs.Prelude.{◌≡◌, ◌<◌, ◌+◌, ◌^◌, ◌++◌, ◌==◌, Some, length};
 ghost use Rattle.std.specs.Option.{option_map};
 ghost use Rattle.iso_lifecycle.specs.ResultViews.{outcome_of_view, verdict_of_view};
+ghost use Rattle.iso_model.specs.LinesView.{lines_in};
 ghost use Rattle.iso_tap.specs.Escapes.{quoted};
 ghost use Rattle.iso_tap.specs.ReportBlocks.{block_lines, item_lines, note_lines, note_of, output_lines, verdict_lines, verdict_word};
 ghost use Rattle.iso_tap.specs.ReportLines.{line_at};
@@ -9,8 +10,8 @@ ghost use Rattle.iso_tap.specs.ReportLines.{line_at};
 use crate::printer::{Piece, Printer};
 use crate::sink::{Sink, SinkFailed};
 use iso_lifecycle::view::{View, ViewVerdict};
+use iso_model::lines::LineSlice;
 use iso_model::outcome::Note;
-use iso_model::text::Text;
 
 impl<'a, W: Sink> Printer<'a, W> {
     ghost use Rattle.iso_tap.specs.Printers.{Prints};
@@ -45,7 +46,7 @@ impl<'a, W: Sink> Printer<'a, W> {
     fn note(&mut self, indent: u64, note: &Note) -> Result<(), SinkFailed>
         ensures { Prints self.old self.new (note_lines indent (Some note.now)) result }
     {
-        self.quoted(indent, b"message: ", &note.message)?;
+        self.quoted(indent, b"message: ", note.message.as_str().as_bytes())?;
         self.line(
             indent,
             &[
@@ -70,11 +71,13 @@ impl<'a, W: Sink> Printer<'a, W> {
     }
 
     /// Writes printed lines, one item each.
-    fn items(&mut self, indent: u64, lines: &[Text]) -> Result<(), SinkFailed>
-        ensures { Prints self.old self.new (item_lines indent lines.now) result }
+    fn items(&mut self, indent: u64, lines: LineSlice<'_>) -> Result<(), SinkFailed>
+        ensures { Prints self.old self.new (item_lines indent (lines_in lines.entry)) result }
     {
-        'lines: for line in lines {
+        let mut left = lines;
+        'lines: while let Some((line, rest)) = left.split_first() {
             self.quoted(indent, b"- ", line)?;
+            left = rest;
         }
         Ok(())
     }
@@ -84,7 +87,7 @@ impl<'a, W: Sink> Printer<'a, W> {
         &mut self,
         indent: u64,
         before: &'x [u8],
-        text: &'x Text,
+        text: &'x [u8],
     ) -> Result<(), SinkFailed>
         ensures { Prints self.old self.new (line_at indent (before.now ++ quoted text.now)) result }
     {
@@ -93,7 +96,7 @@ impl<'a, W: Sink> Printer<'a, W> {
             &[
                 Piece::Plain(before),
                 Piece::Plain(b"\""),
-                Piece::InQuotes(text.as_str()),
+                Piece::InQuotes(text),
                 Piece::Plain(b"\""),
             ],
         )

@@ -18,8 +18,8 @@ pub(crate) enum Piece<'a> {
     Number(u64),
     /// A text as it stands in a title or a reason.
     Escaped(&'a str),
-    /// A text as it stands between quotes.
-    InQuotes(&'a str),
+    /// The bytes of a text, as it stands between quotes.
+    InQuotes(&'a [u8]),
     /// A place as it stands between quotes: it has nothing to escape.
     At(Place),
 }
@@ -98,7 +98,7 @@ impl<'a, W: Sink> Printer<'a, W> {
             Piece::Plain(bytes) => self.bytes(bytes),
             Piece::Number(number) => self.number(number),
             Piece::Escaped(text) => self.escaped(b'#', text.as_bytes()),
-            Piece::InQuotes(text) => self.escaped(b'"', text.as_bytes()),
+            Piece::InQuotes(text) => self.escaped(b'"', text),
             Piece::At(place) => self.at(place),
         }
     }

@@ -102,21 +102,20 @@ impl<'a> BlockRun<'a> {
         match self.value(touch, expression)? {
             Ok(value) => {
                 let line = value.text(self.alloc)?.into_text(self.alloc)?;
-                self.write(row, line)
+                self.write(row, line.as_str())
             }
             Err(fault) => self.fault(row, fault),
         }
     }
 
     /// Prints a line, where it fits into the output.
-    fn write(&mut self, row: u32, line: Text) -> Result<(), AllocError>
-        ensures done { OnOk result ((m : Resources) → state_of self.new m ≡ prints row line (state_of self.old m)) }
+    fn write(&mut self, row: u32, line: &str) -> Result<(), AllocError>
+        ensures done { OnOk result ((m : Resources) → state_of self.new m ≡ prints row line.now (state_of self.old m)) }
         ensures work { SameWork self.old self.new }
     {
-        if !self.names.count_line(line.as_str().len()) {
+        if !self.names.count_line(line.len()) {
             return self.fault(row, Fault::OutputFull);
         }
-        self.lines.push(line)?;
-        Ok(())
+        self.lines.push(line)
     }
 }

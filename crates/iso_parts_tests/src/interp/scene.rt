@@ -5,7 +5,7 @@ ghost use Rattle.iso_model.specs.ResourceKeys.{spelling};
 ghost use Rattle.iso_model.specs.Rights.{access_in};
 ghost use Rattle.iso_model.specs.Touch.{HasKeys, kind_of_key, kind_of_value};
 
-use crate::shared::{check_text, set_property};
+use crate::shared::{check_text, push_lines, set_property};
 use iso_interp::run::{BlockEnd, BlockRun};
 use iso_interp::whole::run_block;
 use iso_model::access::Access;
@@ -54,7 +54,7 @@ impl Scene {
     {
         let Scene { rights, memory } = self;
         let (mut rights, mut memory) = (rights, memory);
-        rights.declare(key.key(alloc)?, access)?;
+        rights.declare(alloc, key.key(alloc)?, access)?;
         memory.hold(key.key(alloc)?, value)?;
         Ok(Scene { rights, memory })
     }
@@ -101,10 +101,7 @@ pub fn run(alloc: Global, scene: Scene, block: &str, names: Names) -> Result<Blo
 /// The lines that a block printed, and how it ended unless it passed, each with its end.
 pub fn report(alloc: Global, end: &BlockEnd) -> Result<String, AllocError> {
     let mut report = String::new(alloc);
-    for line in end.output.as_slice() {
-        report.push_str(line.as_str())?;
-        report.push('\n')?;
-    }
+    push_lines(alloc, &mut report, end.output.as_slice(), "\n")?;
     match &end.ending {
         Ending::Well => {}
         Ending::Fail(note) => push_note(alloc, &mut report, "fail", note)?,

@@ -15,6 +15,6 @@ returns-else-not-take_step-clause-done g c =
     let m = g.T.Touch.content c.args.touch.now in
     let below = pieces_in None self.below.items in
     let top : pieces_of self ≡ rest c.args.names (block_of c.args.statements.now) ∷ below = ap (λ (t : Option Pending). pieces_in t self.below.items) c.requires.top in
-    let first = first-act (run_rights self) c.args.names c.args.statements.now c.first-item.result below self.names c.take_step.new.self self.lines.items self.ending m c.in-len1-up.len_at_least c.first-item.is c.if-not-take_step.ensures.taken in
-    let whole : Acts → Machine = λ (acts : Acts). followed_by (begin (run_rights self) (stmt_of c.first-item.result).0 (stmt_of c.first-item.result).1 (in_env self.lines.items self.ending m c.take_step.new.self)) (rest c.args.names acts ∷ below) in
+    let first = first-act (run_rights self) c.args.names c.args.statements.now c.first-item.result below self.names c.take_step.new.self self.lines self.ending m c.in-len1-up.len_at_least c.first-item.is c.if-not-take_step.ensures.taken in
+    let whole : Acts → Machine = λ (acts : Acts). followed_by (begin (run_rights self) (stmt_of c.first-item.result).0 (stmt_of c.first-item.result).1 (in_env self.lines self.ending m c.take_step.new.self)) (rest c.args.names acts ∷ below) in
     on_ok_weaker c.statement.result (λ done. done ∙ ap (λ (ss : List Stmt). whole (block_of ss)) (rest-all c.args.statements.now) ∙ sym (ap (λ (ps : List Piece). step_at (run_rights self) ps self.names.steps (state_of self m)) top ∙ first)) c.statement.ensures.done

@@ -13,7 +13,7 @@ returns-clause-point c =
     let block = block_of c.args.block.now in
     let all : ℕ = length c.args.names.names in
     c.reach_next_point.ensures.settled
-    ∙ ap (λ (n : ℕ). leave_done (rest n block ∷ map piece_of (reverse c.new-2.result.items)) (record { env = names; lines = c.new.result.items; ending = Well })) c.len-before.ensures
-    ∙ ap (λ (below : List Pending). leave_done (rest all block ∷ map piece_of (reverse below)) (record { env = names; lines = c.new.result.items; ending = Well })) c.new-2.ensures.items
-    ∙ ap (λ (lines : List (List ℕ)). leave_done (rest all block ∷ []) (record { env = names; lines = lines; ending = Well })) c.new.ensures.items
+    ∙ ap (λ (n : ℕ). leave_done (rest n block ∷ map piece_of (reverse c.new-2.result.items)) (record { env = names; lines = c.new.result; ending = Well })) c.len-before.ensures
+    ∙ ap (λ (below : List Pending). leave_done (rest all block ∷ map piece_of (reverse below)) (record { env = names; lines = c.new.result; ending = Well })) c.new-2.ensures.items
+    ∙ ap (λ (lines : List (List ℕ)). leave_done (rest all block ∷ []) (record { env = names; lines = lines; ending = Well })) c.new.ensures
     ∙ ap (λ (env : Environment). leave_done (rest all block ∷ []) (record { env = env; lines = []; ending = Well })) c.restarted-names.ensures

@@ -1,6 +1,7 @@
 use Rattle.std.proofs.Common.{◌≡◌, drop}
+use Rattle.iso_model.specs.Layers.{declared_in}
 use Rattle.iso_model.specs.Rights.{access_in}
 use Rattle.iso_model.proofs.rights.Rights.access.Given as goal
 
-abbrev pub invariant-loop-declared : goal.invariant-loop-declared
-invariant-loop-declared l = access_in (drop l.declared-index l.declared-items) l.key ≡ access_in l.self l.key
+abbrev pub invariant-loop-layer : goal.invariant-loop-layer
+invariant-loop-layer l = access_in (declared_in (drop l.layer-index l.layer-items)) l.key ≡ access_in l.self l.key

@@ -1,0 +1,60 @@
+-- Keys that are declared in layers, the newest and innermost first.
+use Rattle.std.proofs.Common.{inl, inr, ◌≡◌, ◌<◌, ◌+◌, ℕ, suc, List, [], ◌∷◌, ◌++◌, length, drop, drop-cons, take, slice_index_or, Some, true, false, cond, bytes_eq, refl, sym, ap, ap₂, ◌∙◌, add-one, append_assoc}
+use Rattle.std.proofs.lemmas.Bool.{cases_Bool}
+use Rattle.std.proofs.lemmas.Grind.{flat_map-append}
+use Rattle.std.proofs.lemmas.List.{take_more}
+use Rattle.std.proofs.lemmas.Slice.Eq.{bytes_eq-Decides}
+use Rattle.std.specs.Arc.{arc_value}
+use Rattle.std.specs.Option.{option_or}
+use Rattle.std.specs.declared.alloc.Global.{Global}
+use Rattle.std.specs.declared.sync.Arc.{Arc}
+use Rattle.iso_model.specs.Layers.{declared_in}
+use Rattle.iso_model.specs.Rights.{access_in, declared_by, strongest}
+use Rattle.iso_model.specs.declared.access.Access.{Access}
+use Rattle.iso_model.specs.declared.heads.Mark.{Mark}
+use Rattle.iso_model.specs.declared.rights.Layer.{Layer}
+
+abbrev pub Entries : Type 0
+Entries = List (List ℕ × Access)
+
+-- what is declared in front counts, and else what is behind it
+pub access-both : (es fs : Entries) (k : List ℕ) → access_in (es ++ fs) k ≡ option_or (access_in es k) (access_in fs k)
+access-both [] fs k = refl
+access-both (e ∷ es) fs k =
+    elim (bytes_eq k e.0) as (λ t. cond t (Some e.1) (access_in (es ++ fs) k) ≡ option_or (cond t (Some e.1) (access_in es k)) (access_in fs k)) [
+      | true ↦ refl
+      | false ↦ access-both es fs k
+    ]
+
+-- where a key is declared for a mark, all keys have what the mark gives them besides
+pub declared-next : (m : Mark) (es : Entries) (k : List ℕ) → strongest (Some m.access) (access_in es m.key) ≡ Some m.access → access_in ((m.key, m.access) ∷ es) k ≡ strongest (declared_by m k) (access_in es k)
+declared-next m es k h =
+    elim (cases_Bool (bytes_eq k m.key)) [
+      | inl same ↦ let at : k ≡ m.key = (bytes_eq-Decides k m.key).0 same in rw same (sym (ap (λ q. strongest (Some m.access) (access_in es q)) at ∙ h))
+      | inr other ↦ rw other refl
+    ]
+
+-- a mark that asks for no more than is known changes nothing
+pub declared-known : (m : Mark) (es : Entries) (k : List ℕ) → strongest (Some m.access) (access_in es m.key) ≡ access_in es m.key → access_in es k ≡ strongest (declared_by m k) (access_in es k)
+declared-known m es k h =
+    elim (cases_Bool (bytes_eq k m.key)) [
+      | inl same ↦ let at : k ≡ m.key = (bytes_eq-Decides k m.key).0 same in rw same (ap (access_in es) at ∙ sym h ∙ sym (ap (λ q. strongest (Some m.access) (access_in es q)) at))
+      | inr other ↦ rw other refl
+    ]
+
+abbrev pub Layers : Type 0
+Layers = List (Arc Layer Global)
+
+abbrev entries : Arc Layer Global → Entries
+entries l = (arc_value l).entries.items
+
+-- the layers from one on
+pub layers-next : (ls : Layers) (i : ℕ) (l : Arc Layer Global) → i < length ls → l ≡ slice_index_or ls i l → declared_in (drop i ls) ≡ (arc_value l).entries.items ++ declared_in (drop (i + 1) ls)
+layers-next ls i l h e = rw add-one (ap declared_in (drop-cons ls i l h ∙ ap (λ (d : Arc Layer Global). d ∷ drop (suc i) ls) (sym e)))
+
+-- a layer more behind others
+pub layers-more : (ls ms : Layers) (i : ℕ) (l m : Arc Layer Global) (front : Entries) → i < length ls → l ≡ slice_index_or ls i l → arc_value m ≡ arc_value l → declared_in ms ≡ front ++ declared_in (take i ls) → declared_in (ms ++ m ∷ []) ≡ front ++ declared_in (take (i + 1) ls)
+layers-more ls ms i l m front h e same known =
+    flat_map-append entries ms (m ∷ []) ∙ ap₂ (λ (xs ys : Entries). xs ++ ys) known (ap (λ (x : Layer). x.entries.items ++ []) same)
+    ∙ append_assoc front (declared_in (take i ls)) ((arc_value l).entries.items ++ [])
+    ∙ ap (λ xs. front ++ xs) (sym (flat_map-append entries (take i ls) (l ∷ [])) ∙ ap declared_in (ap (λ (d : Arc Layer Global). take i ls ++ d ∷ []) e ∙ sym (take_more ls i l h)))

@@ -1,6 +1,0 @@
-use Rattle.std.proofs.Common.{◌≡◌, ℕ, List, drop}
-use Rattle.iso_model.specs.Rights.{access_in, rights_of, strongest}
-use Rattle.iso_model.proofs.rights.Rights.mark_all.Given as goal
-
-abbrev pub invariant-marks : goal.invariant-marks
-invariant-marks l = (k : List ℕ) → strongest (rights_of (drop l.mark-index l.marks) k) (access_in l.self k) ≡ strongest (rights_of l.marks k) (access_in l.fn.self k)
