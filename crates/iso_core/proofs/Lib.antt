@@ -9,4 +9,5 @@ pub mod CoreValues
 pub mod FlatStates
 pub mod FlatValues
 pub mod Isolating
+pub mod Progressing
 pub mod Taking

@@ -2,3 +2,4 @@ pub mod Cores
 pub mod EventRuns
 pub mod FlatMaps
 pub mod Isolation
+pub mod Progress

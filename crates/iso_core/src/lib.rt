@@ -5,4 +5,5 @@
 mod beside;
 mod flat_map;
 pub mod machine;
+pub mod progress;
 pub mod run_events;

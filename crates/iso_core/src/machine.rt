@@ -2,7 +2,7 @@
 ghost use Rattle.std.specs.Prelude.{◌≡◌, ◌<◌, ℕ, IfOk, IfSome, MatchResult, None, OnErr, OnOk, Some, false, is_some, length, map, replicate, reverse, set, true};
 ghost use Rattle.std.specs.Option.{option_map};
 ghost use Rattle.std.specs.Vec.{vec_capacity, vec_len};
-ghost use Rattle.iso_standing.specs.CodeEvents.{refused_of, worker_of};
+ghost use Rattle.iso_standing.specs.CodeEvents.{events_of, refused_of, worker_of};
 ghost use Rattle.iso_core.specs.Cores.{Accepted, NotAccepted, is_complete, new_core, outcome_in, refusal_in, state_in, suite_in, with_event};
 ghost use Rattle.iso_core.specs.FlatMaps.{IsFlatOf, IsInnermost, OfSameMap, mark_at};
 ghost use Rattle.iso_core.specs.Isolation.{AreUnaffected, IsIsolated};
@@ -11,12 +11,13 @@ ghost use Rattle.iso_suites.specs.SuiteStates.{RunNodes, suite_at};
 ghost use Rattle.iso_standing.specs.UnderWay.{IsUnderWay, body_at, is_after_all};
 ghost use Rattle.iso_isolation.specs.Events as E;
 ghost use Rattle.iso_isolation.specs.Events.{where_some};
-ghost use Rattle.iso_isolation.specs.States.{body_in, is_at_rest, is_closing, is_open};
+ghost use Rattle.iso_isolation.specs.Runs.{is_run};
+ghost use Rattle.iso_isolation.specs.States.{body_in, first, is_at_rest, is_closing, is_open};
 ghost use Rattle.iso_lifecycle.specs.BodyViews.{stage_of_body};
 ghost use Rattle.iso_lifecycle.specs.ResultViews.{AreComplete, AreOpened, is_barring, outcome_of_view, result_in};
 ghost use Rattle.iso_lifecycle.specs.Subjects.{is_kind_of, outcome_alone, started, subject};
 ghost use Rattle.iso_model.specs.Bodies.{Stage, is_ended};
-ghost use Rattle.iso_plan.specs.Paths.{is_test, parent, path, row_at};
+ghost use Rattle.iso_plan.specs.Paths.{IsTree, is_test, parent, path, row_at};
 ghost use Rattle.iso_plan.specs.RowView.{tree_of};
 
 use crate::beside::entered_nodes_are_apart;
@@ -225,7 +226,7 @@ impl<'a> Core<'a> {
     }
 
     /// Why an event is refused, if it is: the first kind that applies. Takes no memory.
-    fn refusal(&self, event: Event) -> Option<Refused>
+    pub(crate) fn refusal(&self, event: Event) -> Option<Refused>
         ensures { option_map refused_of result ≡ refusal_in self.now event }
     {
         // The bodies of a stopped core tell nothing.
@@ -379,6 +380,36 @@ impl<'a> Core<'a> {
         ensures { result ≡ is_complete self.now }
     {
         self.standing.is_complete()
+    }
+
+    /// Its plan.
+    pub(crate) fn plan(&self) -> &'a Plan
+        ensures { result.now ≡ self.now.plan }
+    {
+        self.plan
+    }
+
+    /// The number of its workers.
+    pub(crate) fn workers(&self) -> usize
+        ensures { result ≡ self.now.workers }
+    {
+        self.standing.workers()
+    }
+
+    /// The worker that owns a node.
+    pub(crate) fn owner(&self, node: u32) -> u32
+        requires { node < length self.now.plan.rows }
+        ensures { result ≡ (state_in self.now).owner node }
+    {
+        self.standing.owner(node)
+    }
+
+    /// Its events are a run of its suite, as the type keeps.
+    pub(crate) fn is_of_a_run(&self)
+        ensures tree { IsTree (tree_of self.now.plan) }
+        ensures run { is_run scripts (suite_in self.now) self.now.workers (first scripts (suite_in self.now)) (events_of self.now.events) ≡ true }
+    {
+        nodes_are_a_tree(self.plan);
     }
 
     /// What its finished nodes came to is theirs alone, as the type keeps.

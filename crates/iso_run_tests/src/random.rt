@@ -84,7 +84,7 @@ fn schedule_of(
 }
 
 /// Whether a schedule is whole and gives this report.
-fn gives_report(
+pub(crate) fn gives_report(
     alloc: Global,
     plan: &Plan,
     world: &World,

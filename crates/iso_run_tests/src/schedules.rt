@@ -1,4 +1,5 @@
 //! Schedules on the core.
+mod allowed;
 mod refused;
 mod runs;
 mod stopped;

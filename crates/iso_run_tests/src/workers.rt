@@ -1,5 +1,5 @@
 //! Suites that are run by workers.
-mod generated;
+pub(crate) mod generated;
 mod meeting;
 mod turns;
 

@@ -184,7 +184,7 @@ impl<'a> Standing<'a> {
     }
 
     /// The worker that owns a node.
-    pub(crate) fn owner(&self, node: u32) -> u32
+    pub fn owner(&self, node: u32) -> u32
         requires { node < nodes_in self.now }
         ensures { result ≡ owner_at self.now node }
     {

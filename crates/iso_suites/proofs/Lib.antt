@@ -5,5 +5,6 @@ pub mod HistoryLeaves
 pub mod LanguageLaws
 pub mod PlanChains
 pub mod PlanOpenings
+pub mod Progressing
 pub mod StateRuns
 pub mod SuiteLaws

@@ -94,13 +94,13 @@ module _ (tree : List Row) (t : IsTree tree) (settings : Settings) (start : Reso
       (λ u. let wrong : false ≡ true = sym (ap (λ (ns : List ℕ). is_on ns m) (path-root tree)) ∙ u in absurd (cc))
       (λ n pos h u. on-by m n pos h (n == m) refl (sym (under-step tree t.below m n pos) ∙ u))
 
-  on-under : (m : ℕ) → 0 < m → {n : ℕ} → On x m n → is_under tree m n ≡ true
+  pub on-under : (m : ℕ) → 0 < m → {n : ℕ} → On x m n → is_under tree m n ≡ true
   on-under m pos same = under-self tree t.below m pos
   on-under m pos {n} (up nz on) =
       under-step tree t.below m n (positive n nz) ∙ or_last (n == m) (is_under tree m (parent tree n)) (on-under m pos on)
 
   -- the root takes nothing, and a number past the nodes has no rights
-  root-takes : (k : List ℕ) → is_readable (taken tree 0 k) ≡ true → ⊥
+  pub root-takes : (k : List ℕ) → is_readable (taken tree 0 k) ≡ true → ⊥
   root-takes k r =
       let locks : is_locking tree 0 ≡ false = ap (λ (ns : List ℕ). is_that (outermost (declares tree) ns) 0) (path-root tree) in
       let wrong : false ≡ true = sym (ap (λ (b : Bool). b || is_top tree 0) locks) ∙ takes-only tree 0 k r in

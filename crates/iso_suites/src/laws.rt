@@ -20,6 +20,7 @@ ghost use Rattle.iso_model.specs.Scripts.{Script};
 ghost use Rattle.iso_model.specs.declared.outcome.Outcome.{Outcome};
 ghost use Rattle.iso_plan.specs.RowView.{tree_of};
 ghost use Rattle.iso_plan.specs.Tree.{tree};
+ghost use Rattle.iso_progress.specs.ProgressLaws.{ProgressLaws};
 ghost use Rattle.iso_settings.specs.Worlds.{Start};
 
 use iso_plan::laws::nodes_are_a_tree;
@@ -116,3 +117,10 @@ pub fn chains_run_alone_are_tests_and_classes_run_alone()
     ensures class { (c : ClassHead) (cs : List ClassHead) (start : Resources)
         → run_alone scripts (of_class c ∷ map of_class cs) start ≡ class_alone c cs start }
 {}
+
+/// The suite of every plan keeps what a run needs so that it never comes to a stand.
+pub fn plans_keep_the_laws_of_progress(plan: &Plan)
+    ensures { (world : Start) → ProgressLaws scripts (suite_at plan.now world) }
+{
+    nodes_are_a_tree(plan);
+}

@@ -17,11 +17,11 @@ use std::process::Abort;
 use std::test::Fail;
 
 /// A schedule on two workers: whether it is whole, and what some nodes have come to after it.
-struct Row {
-    script: &'static str,
-    schedule: &'static str,
-    whole: bool,
-    nodes: &'static [(u32, &'static str)],
+pub(super) struct Row {
+    pub script: &'static str,
+    pub schedule: &'static str,
+    pub whole: bool,
+    pub nodes: &'static [(u32, &'static str)],
 }
 
 /// Two readers side by side, then two writers.
@@ -34,7 +34,7 @@ const WRITERS_FIRST: &str =
     "enter 1 1\nleave 1\nenter 0 4\nenter 1 5\nstep 1\nstep 1\nleave 1\nstep 0\nstep 0\nleave 0\n\
 enter 1 3\nenter 0 2\nstep 0\nstep 0\nleave 0\nstep 1\nleave 1\nshut 1 1\nleave 1";
 
-const OF_TWO_FILES: &[(u32, &str)] = &[
+pub(super) const OF_TWO_FILES: &[(u32, &str)] = &[
     (1, "pass"),
     (2, "pass | s | x"),
     (3, "pass | s"),
@@ -156,7 +156,7 @@ fn core_after<'a>(
 }
 
 /// Compares whether a run is whole, and what nodes have come to.
-fn compare_core(
+pub(super) fn compare_core(
     rt: &impl Abort,
     alloc: Global,
     plan: &Plan,
@@ -236,7 +236,7 @@ fn as_many_nodes_as_there_may_be_are_entered_and_left(rt: HostRuntime) -> Result
     )
 }
 
-/// Whether a core refuses every event since it was stopped, before it looks at the worker.
+/// Whether a core refuses every event since it was stopped, before it looks at the worker, and so allows none.
 fn is_stopped(core: &mut Core<'_>) -> bool {
     for event in [
         Event::Enter { worker: 2, node: 9 },
@@ -248,7 +248,7 @@ fn is_stopped(core: &mut Core<'_>) -> bool {
             return false;
         }
     }
-    true
+    core.allowed_event().is_none()
 }
 
 /// Whether a core takes events to the end, but for a step that is refused memory, which stops it, and any other event that is, which it takes next.

@@ -7,7 +7,7 @@ use std::process::Abort;
 use std::test::Fail;
 
 /// What all of them start with.
-const WORLD: &str = "locale = \"de\"\nfiles.a = \"s\"\nproperties.p = \"1\"\n";
+pub(crate) const WORLD: &str = "locale = \"de\"\nfiles.a = \"s\"\nproperties.p = \"1\"\n";
 
 /// Keys that nodes may declare.
 static KEYS: [&str; 4] = [
@@ -152,7 +152,7 @@ impl Draft {
 }
 
 /// The script of a seed.
-fn script_of(alloc: Global, seed: u64) -> Result<String, AllocError> {
+pub(crate) fn script_of(alloc: Global, seed: u64) -> Result<String, AllocError> {
     let mut draft = Draft {
         numbers: Numbers::of_seed(seed),
         text: String::from_str(alloc, "team shop\n")?,
