@@ -17,9 +17,11 @@ const WRITE_FAILED: &str = "jtap: write failed";
 impl fmt::Display for CommandFault<'_> {
     fn fmt<W: fmt::Write>(&self, f: &mut fmt::Formatter<W>) -> fmt::Result {
         match self {
-            CommandFault::Words(text) => f.write_str(text.as_str().trim_end()),
-            CommandFault::Unreadable(name) => write!(f, "jtap: {name}: cannot be read"),
-            CommandFault::TooLarge(name) => write!(f, "jtap: {name}: too large"),
+            CommandFault::Words(text) => write!(f, "{}", EscapedLines(text)),
+            CommandFault::Unreadable(name) => {
+                write!(f, "jtap: {}: cannot be read", Escaped(*name))
+            }
+            CommandFault::TooLarge(name) => write!(f, "jtap: {}: too large", Escaped(*name)),
             CommandFault::Unwritten => f.write_str(WRITE_FAILED),
             CommandFault::Run(fault, script) => {
                 let name = script.unwrap_or(STDIN);
@@ -39,10 +41,10 @@ struct RunFaultLine<'a> {
 
 impl fmt::Display for RunFaultLine<'_> {
     fn fmt<W: fmt::Write>(&self, f: &mut fmt::Formatter<W>) -> fmt::Result {
-        let name = self.name;
+        let name = Escaped(self.name);
         match self.fault {
-            RunFault::Settings(fault) => write!(f, "jtap: settings: {}", Printable(fault)),
-            RunFault::World(fault) => write!(f, "jtap: world: {}", Printable(fault)),
+            RunFault::Settings(fault) => write!(f, "jtap: settings: {}", Escaped(fault)),
+            RunFault::World(fault) => write!(f, "jtap: world: {}", Escaped(fault)),
             RunFault::Script(_, ScriptFault { kind, line, column }) => {
                 write!(f, "jtap: {name}:{line}:{column}: {kind}")
             }
@@ -60,31 +62,51 @@ impl fmt::Display for RunFaultLine<'_> {
     }
 }
 
-/// A fault whose key may hold any text, in printable ASCII: each other character of it is shown by its number, a line
-/// feed as `\u{a}`.
+/// What may hold any text, as a key or a file's name, with control characters as in a TOML basic string (`\n`, `\u001B`): it
+/// stays in its line, and no terminal obeys it.
 #[derive(Clone, Copy)]
-struct Printable<'a>(&'a SettingsFault);
+struct Escaped<T: fmt::Display>(T);
 
-impl fmt::Display for Printable<'_> {
+impl<T: fmt::Display> fmt::Display for Escaped<T> {
     fn fmt<W: fmt::Write>(&self, f: &mut fmt::Formatter<W>) -> fmt::Result {
-        let mut writer = PrintableWriter { writer: f };
+        let mut writer = EscapingWriter { writer: f };
         fmt::Write::write_fmt(&mut writer, format_args!("{}", self.0))
     }
 }
 
-/// Writes on what is printable ASCII, and the numbers of other characters.
+/// Writes on all characters but control characters, and of these their escapes.
 #[derive(Drop)]
-struct PrintableWriter<'a, W: fmt::Write> {
+struct EscapingWriter<'a, W: fmt::Write> {
     writer: &'a mut W,
 }
 
-impl<W: fmt::Write> fmt::Write for PrintableWriter<'_, W> {
+impl<W: fmt::Write> fmt::Write for EscapingWriter<'_, W> {
     fn write_str(&mut self, text: &str) -> fmt::Result {
         for c in text.chars() {
             match c {
-                ' '..='~' => self.writer.write_char(c)?,
-                _ => write!(self.writer, "\\u{{{:x}}}", u32::from(c))?,
+                '\n' => self.writer.write_str("\\n")?,
+                '\r' => self.writer.write_str("\\r")?,
+                '\t' => self.writer.write_str("\\t")?,
+                _ if c.is_control() => write!(self.writer, "\\u{:04X}", u32::from(c))?,
+                _ => self.writer.write_char(c)?,
             }
+        }
+        Ok(())
+    }
+}
+
+/// A text of several lines, whose other control characters are escaped, without the white space at its end.
+#[derive(Clone, Copy)]
+struct EscapedLines<'a>(&'a str);
+
+impl fmt::Display for EscapedLines<'_> {
+    fn fmt<W: fmt::Write>(&self, f: &mut fmt::Formatter<W>) -> fmt::Result {
+        let mut lines = self.0.trim_end().split('\n');
+        if let Some(first) = lines.next() {
+            write!(f, "{}", Escaped(first))?;
+        }
+        for line in lines {
+            write!(f, "\n{}", Escaped(line))?;
         }
         Ok(())
     }

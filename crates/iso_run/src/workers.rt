@@ -24,7 +24,10 @@ use std::alloc::Global;
 use std::marker::Brand;
 use std::sync::Wait;
 use std::thread;
-use std::thread::{JoinHandle, Threads};
+use std::thread::{Builder, JoinHandle, Threads};
+
+/// The stack of a worker's thread, in bytes, whatever `ulimit -s` says. The deepest accepted body takes less than a tenth of it.
+const WORKER_STACK: usize = 2 << 20;
 
 /// Runs a suite by as many workers as its settings give, and writes its report to the sink. It is the report that `run_serial` writes,
 /// whatever workers there are and whatever the gate lets them do.
@@ -147,7 +150,8 @@ fn run_seats<'a, L: Ground + Send + Sync, R: Threads + Wait + Sync, G: Gate + Sy
             let mut started = true;
             let mut whole = true;
             for seat in others {
-                match scope.spawn(move || work(rt, alloc, floor, seat, gate)) {
+                let thread = Builder::new().stack_size(WORKER_STACK);
+                match thread.spawn_scoped(scope, move || work(rt, alloc, floor, seat, gate)) {
                     Ok(handle) => whole = handles.push(handle).is_ok() && whole,
                     Err(_) => started = false,
                 }

@@ -98,7 +98,7 @@ fn new_files(rt: &impl Host) -> Result<String, Fail> {
     Ok(folder)
 }
 
-static REFUSALS: [Refusal; 27] = [
+static REFUSALS: [Refusal; 28] = [
     // Each file has its own fault.
     ("run @bad", 2, "jtap: @bad:2:11: EmptyClass\n"),
     ("run @cart @bad", 2, "jtap: @bad:2:11: EmptyClass\n"),
@@ -121,11 +121,11 @@ static REFUSALS: [Refusal; 27] = [
         2,
         "jtap: world: WrongValue files.a\n",
     ),
-    // What isn't printable ASCII in a key is shown by its number, so that a fault has one line.
+    // Control characters in a key are escaped, so that a fault has one line.
     (
         "run --world @lines @cart",
         2,
-        "jtap: world: WrongValue files.x\\u{a}y\\u{1b}\\u{e9}\n",
+        "jtap: world: WrongValue files.x\\ny\\u001B\u{e9}\n",
     ),
     ("run @cart @cart", 2, "jtap: plan: DoubleClass\n"),
     (
@@ -136,6 +136,8 @@ static REFUSALS: [Refusal; 27] = [
     ("run --world @large @cart", 2, "jtap: @large: too large\n"),
     ("run @none", 3, "jtap: @none: cannot be read\n"),
     ("run @", 3, "jtap: @: cannot be read\n"),
+    // Control characters in a name are escaped too.
+    ("run @no\u{1b}ne", 3, "jtap: @no\\u001Bne: cannot be read\n"),
     (
         "plan --world @none @cart",
         3,
@@ -444,6 +446,14 @@ fn words_that_cannot_be_read_are_told(rt: HostRuntime) -> Result<(), Fail> {
     let text = "error: a word isn't UTF-8\n\nFor more information, try '--help'.\n";
     let wrong = WordsFault::Wrong(String::from_str(rt.alloc(), text)?);
     assert!(rt; is_told(&rt, wrong, Answer::refused(2, text)));
+    let forged = WordsFault::Wrong(String::from_str(rt.alloc(), "error: a\u{1b}b\r\n\nc\n")?);
+    assert!(rt;
+        is_told(
+            &rt,
+            forged,
+            Answer::refused(2, "error: a\\u001Bb\\r\n\nc\n")
+        )
+    );
     let wanting = Answer::refused(3, "jtap: out of memory\n");
     assert!(rt; is_told(&rt, WordsFault::OutOfMemory, wanting));
     Ok(())

@@ -6,8 +6,8 @@ use Rattle.iso_floor.proofs.Sharing.{floor_shared, seat_sent, work_end_sent}
 use Rattle.iso_run.proofs.Captures.{five_sent}
 use Rattle.iso_run.proofs.workers.fn.run_seats.scope.Goals as goal
 
-pub spawn-requires-send-F : goal.spawn-requires-send-F
-spawn-requires-send-F g c κs = λ lives.
+pub spawn_scoped-requires-send-F : goal.spawn_scoped-requires-send-F
+spawn_scoped-requires-send-F g c κs = λ lives.
     param_send _ _ (arg_send _ no _ (five_sent _ _ _ _ _ _
     (shr_send _ _ _ c.requires.0)
     send
@@ -15,5 +15,5 @@ spawn-requires-send-F g c κs = λ lives.
     (seat_sent _ (param 0 g.row.L) g.L.Ground c.requires.2)
     (shr_send _ _ _ c.requires.1)))
 
-pub spawn-requires-send-T : goal.spawn-requires-send-T
-spawn-requires-send-T g c κs = λ lives. param_send _ _ (arg_send _ no _ (work_end_sent _ (param 0 g.row.L) g.L.Ground c.requires.2))
+pub spawn_scoped-requires-send-T : goal.spawn_scoped-requires-send-T
+spawn_scoped-requires-send-T g c κs = λ lives. param_send _ _ (arg_send _ no _ (work_end_sent _ (param 0 g.row.L) g.L.Ground c.requires.2))
