@@ -3,9 +3,11 @@
  * A growth is a call that takes memory of the allocator, or one that starts a thread; they are numbered from one, over all threads.
  * REFUSED_GROWTH       the number of the one growth that is refused
  * REFUSED_GROWTHS_FROM the number from which on each growth is refused
- * GROWTHS_TOLD_IN      a file. When the program ends it holds `growths N`; for each that was refused `refused NUMBER CALL BYTES OWNER`,
- *                      and for each that started a thread `started NUMBER ..`; for each block that was not given back
- *                      `kept NUMBER ..`, of each at most 100; and `kept BLOCKS in all`.
+ * GROWTHS_OF_CALLS     where it is set, a growth has a number only between two lines that the program writes to standard error, `calling`
+ *                      and `called`, each in one piece; they don't get there. All others have the number 0, and none of them is refused.
+ * GROWTHS_TOLD_IN      a file. When the program ends it holds `growths N`; `calls N`, how often `calling` was written; for each growth that
+ *                      was refused `refused NUMBER CALL BYTES OWNER`, and for each that started a thread `started NUMBER ..`; for each
+ *                      block that was not given back `kept NUMBER ..`, of each at most 100; and `kept BLOCKS in all`.
  * OWNER is `program` where the program itself made the call, and `library` where a library that it uses did, as the C library for
  * a thread that it starts. */
 #define _GNU_SOURCE
@@ -19,6 +21,7 @@
 #include <stdint.h>
 #include <stdio.h>
 #include <stdlib.h>
+#include <string.h>
 #include <sys/syscall.h>
 #include <unistd.h>
 
@@ -37,7 +40,7 @@ struct growth {
 };
 
 /* The blocks that the program has, at the place that their address gives or after it. */
-#define PLACES (1UL << 20)
+#define PLACES (1UL << 16)
 static struct growth kept[PLACES];
 static unsigned long kept_count;
 #define SHOWN 100
@@ -46,8 +49,9 @@ static unsigned long refused_count, started_count;
 static int is_full;
 static atomic_flag taken = ATOMIC_FLAG_INIT;
 
-static int is_ready;
-static atomic_ulong growths;
+static int is_ready, is_of_calls;
+static atomic_int is_calling;
+static atomic_ulong growths, calls;
 static unsigned long refused_growth, refused_from;
 static uintptr_t program_begin, program_end;
 static const char *told_in;
@@ -59,10 +63,10 @@ static void lock(void) {
 
 static void unlock(void) { atomic_flag_clear(&taken); }
 
-static unsigned long place_of(void *block) { return ((uintptr_t)block >> 4) * 0x9E3779B97F4A7C15UL >> 44; }
+static unsigned long place_of(void *block) { return ((uintptr_t)block >> 4) * 0x9E3779B97F4A7C15UL >> 48; }
 
 static void keep(void *block, struct growth growth) {
-    if (!block || !growth.number) return;
+    if (!block || !growth.call) return;
     lock();
     unsigned long place = place_of(block);
     if (kept_count < PLACES / 2) {
@@ -109,10 +113,11 @@ static void note(struct growth *list, unsigned long *count, struct growth growth
 static int is_refused(struct growth *growth, const char *call, size_t size, void *caller) {
     *growth = (struct growth){0};
     if (!is_ready) return 0;
-    growth->number = atomic_fetch_add(&growths, 1) + 1;
     growth->size = size;
     growth->call = call;
     growth->owner = (uintptr_t)caller >= program_begin && (uintptr_t)caller < program_end ? "program" : "library";
+    if (is_of_calls && !atomic_load(&is_calling)) return 0;
+    growth->number = atomic_fetch_add(&growths, 1) + 1;
     if (growth->number != refused_growth && (!refused_from || growth->number < refused_from)) return 0;
     note(refused, &refused_count, *growth);
     errno = ENOMEM;
@@ -180,6 +185,28 @@ int pthread_create(pthread_t *thread, const pthread_attr_t *attributes, void *(*
     return start_thread(thread, attributes, body, argument);
 }
 
+/* Whether a line on standard error tells that a call begins or ends. */
+static int is_of_call(int file, const void *bytes, size_t length) {
+    if (!is_of_calls || file != STDERR_FILENO) return 0;
+    if (length == 8 && !memcmp(bytes, "calling\n", 8)) {
+        atomic_fetch_add(&calls, 1);
+        atomic_store(&is_calling, 1);
+        return 1;
+    }
+    if (length == 7 && !memcmp(bytes, "called\n", 7)) {
+        atomic_store(&is_calling, 0);
+        return 1;
+    }
+    return 0;
+}
+
+ssize_t write(int file, const void *bytes, size_t length) {
+    if (is_of_call(file, bytes, length)) return length;
+    return syscall(SYS_write, file, bytes, length);
+}
+
+ssize_t __write(int file, const void *bytes, size_t length) { return write(file, bytes, length); }
+
 /* The program stands first among what is loaded. */
 static int find_program(struct dl_phdr_info *info, size_t size, void *unused) {
     (void)size, (void)unused;
@@ -202,6 +229,7 @@ __attribute__((constructor)) static void begin(void) {
     dl_iterate_phdr(find_program, NULL);
     refused_growth = number_in("REFUSED_GROWTH");
     refused_from = number_in("REFUSED_GROWTHS_FROM");
+    is_of_calls = getenv("GROWTHS_OF_CALLS") != NULL;
     told_in = getenv("GROWTHS_TOLD_IN");
     is_ready = 1;
 }
@@ -221,7 +249,7 @@ __attribute__((destructor)) static void end(void) {
     is_ready = 0;
     int file = open(told_in, O_WRONLY | O_CREAT | O_TRUNC | O_CLOEXEC, 0666);
     char line[200];
-    put(file, line, snprintf(line, sizeof line, "growths %lu\n", atomic_load(&growths)));
+    put(file, line, snprintf(line, sizeof line, "growths %lu\ncalls %lu\n", atomic_load(&growths), atomic_load(&calls)));
     for (unsigned long at = 0; at < refused_count; at++) tell(file, "refused", &refused[at]);
     for (unsigned long at = 0; at < started_count; at++) tell(file, "started", &started[at]);
     unsigned long shown = 0;

@@ -2,7 +2,6 @@
 use crate::agenda::{children_of, is_concurrent};
 use iso_plan::plan::Plan;
 use iso_posts::owner::Owner;
-use iso_posts::posts::PostSeat;
 use std::alloc::{AllocError, Global};
 
 /// Posts what may run beside others of what stands directly in a class, and answers how many nodes those are.

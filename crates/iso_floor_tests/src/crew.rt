@@ -60,6 +60,8 @@ impl Crew {
 /// What a run on a floor has come to.
 #[derive(Drop)]
 pub(crate) struct Ran<'a> {
+    /// How long the history is after all have ended.
+    pub events: u64,
     /// How many receipts are in the seats that were handed in.
     pub receipts: usize,
     /// The first number in the seat that wasn't.
@@ -102,9 +104,11 @@ fn run_on_floor<
     let floor: Floor<'s, G> = Floor::new(alloc, plan, world, crew.workers)?;
     let seats = seats_on(rt, alloc, &floor, crew.working)?;
     let ends = work_all(rt, alloc, &floor, seats, gate, beside)?;
+    let events = floor.wait_change(rt, 0);
     let mut seats = seats_of(rt, alloc, ends, crew.cause)?;
     let kept = keep_back(&mut seats, crew.kept);
     Ok(Ran {
+        events,
         receipts: count_receipts(&seats),
         kept,
         book: floor.close(seats),

@@ -3,6 +3,7 @@ use crate::crew::Beside;
 use iso_floor::floor::Floor;
 use iso_floor::ground::Ground;
 use iso_lifecycle::gate::Gate;
+use std::alloc::Global;
 use std::rt::Clock;
 use std::sync::Wait;
 use std::sync::atomic::{AtomicU64, Ordering};
@@ -171,16 +172,36 @@ impl<C: Clock> Beside for Watcher<'_, '_, C> {
     }
 }
 
-/// Stops the floor while two bodies stand in a gate, and then opens the gate.
+/// Sits down as a third worker while two bodies stand in a gate, stops the floor, and then opens the gate.
 #[derive(Drop)]
 pub(crate) struct Stopper<'h, 'r, C: Clock> {
-    pub(crate) gate: &'h Holding<'r, C>,
+    alloc: Global,
+    gate: &'h Holding<'r, C>,
+    /// The length of the history that the floor has told of after the stop.
+    told: AtomicU64,
+}
+
+impl<'h, 'r, C: Clock> Stopper<'h, 'r, C> {
+    pub(crate) fn new(alloc: Global, gate: &'h Holding<'r, C>) -> Stopper<'h, 'r, C> {
+        Stopper {
+            alloc,
+            gate,
+            told: AtomicU64::new(0),
+        }
+    }
+
+    /// The length that the floor has told of after the stop.
+    pub(crate) fn told(&self) -> u64 {
+        self.told.load(Ordering::SeqCst)
+    }
 }
 
 impl<C: Clock> Beside for Stopper<'_, '_, C> {
     fn act<G: Ground, R: Wait>(&self, rt: &R, floor: &Floor<'_, G>) {
-        if reaches(self.gate.clock, LONG, &self.gate.come, 2) {
+        let come = reaches(self.gate.clock, LONG, &self.gate.come, 2);
+        if come && floor.seat(rt, self.alloc, 2).is_ok() {
             floor.stop(rt);
+            self.told.store(floor.wait_change(rt, 0), Ordering::SeqCst);
         }
         self.gate.open();
     }

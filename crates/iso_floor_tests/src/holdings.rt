@@ -37,25 +37,21 @@ fn body_in_the_gate_holds_up_nobody(rt: HostRuntime) -> Result<(), Fail> {
     Ok(())
 }
 
-/// The floor is stopped while both tests stand in the gate: both workers end, with no Leave booked, so the class is unfinished and the one
-/// receipt, of its opening, isn't lost.
+/// A third worker stops the floor while both tests stand in the gate: both workers end, with no Leave booked, so that the history is as long
+/// as it was, the class is unfinished, and the one receipt, of its opening, isn't lost.
 #[test]
 fn stop_ends_workers_whose_bodies_are_in_the_gate(rt: HostRuntime) -> Result<(), Fail> {
     let suite = read_suite(rt.alloc(), A_AND_B)?;
     let gate = Holding::new(&rt, true);
+    let stopper = Stopper::new(rt.alloc(), &gate);
     let crew = Crew {
+        working: 2,
         cause: Cause::Stopped,
-        ..Crew::of(2)
+        ..Crew::of(3)
     };
-    let ran = run_suite(
-        &rt,
-        rt.alloc(),
-        &suite,
-        crew,
-        &gate,
-        &Stopper { gate: &gate },
-    )?;
+    let ran = run_suite(&rt, rt.alloc(), &suite, crew, &gate, &stopper)?;
     assert_eq!(rt; gate.late(), 0);
+    assert_eq!(rt; (stopper.told(), ran.events), (4, 4));
     assert_eq!(rt; ran.receipts, 1);
     let Err(fault) = ran.book else {
         panic!(rt; "a stopped floor gave a book");

@@ -2,6 +2,7 @@
 use crate::by_hand::enter_class;
 use crate::site::{Play, Site, play_script};
 use crate::suites::A_AND_B;
+use iso_floor::fault::CloseFault;
 use iso_floor::ground::Ground;
 use iso_standing::core_fault::CoreFault;
 use iso_standing::refused::Refused;
@@ -10,7 +11,7 @@ use std::process::Abort;
 use std::sync::Wait;
 use std::test::Fail;
 
-/// A floor that was stopped refuses each event, and hands back what a body came to.
+/// A floor that was stopped refuses each event, hands back what a body came to, and with all seats is unfinished.
 struct RefuseAll;
 
 impl Play for RefuseAll {
@@ -32,6 +33,11 @@ impl Play for RefuseAll {
         assert_eq!(rt; back.node(), 1);
         assert_eq!(rt; floor.enter(rt, &mut seat, 2), stopped);
         assert_eq!(rt; floor.shut(rt, &mut seat, 1), stopped);
+        let other = floor.seat(rt, alloc, 1)?;
+        let Err(fault) = floor.close(vec![in alloc; seat, other]?) else {
+            panic!(rt; "a stopped floor gave a book");
+        };
+        assert_eq!(rt; fault, CloseFault::Unfinished);
         Ok(())
     }
 }

@@ -4,3 +4,4 @@ mod failing;
 mod output;
 mod plan;
 mod report;
+mod runs;
