@@ -60,7 +60,7 @@ class Driver:
         signal.setitimer(signal.ITIMER_REAL, SECONDS + 1)
         _, status, usage = os.wait4(self.child, 0)
         signal.setitimer(signal.ITIMER_REAL, 0)
-        output, errors = Path("output").read_bytes().decode("latin-1"), Path("errors").read_bytes().decode("latin-1")
+        output, errors = Path("output").read_bytes().decode("latin-1"), Path("errors").read_bytes().decode(errors="surrogateescape")
         code = os.waitstatus_to_exitcode(status)
         return Ran(code, output, errors, time.monotonic() - begun, usage.ru_maxrss, self.late)
 
@@ -148,8 +148,9 @@ def faults_of(command, ran, size):
     else:
         if ran.output:
             yield "words on standard output of a refused run"
-        if not re.fullmatch(r"jtap: [ -~]+\n", ran.errors):
-            yield "standard error isn't one line of printable ASCII that begins with `jtap: `"
+        # A byte that is no UTF-8 was decoded as a surrogate.
+        if not re.fullmatch(r"jtap: [^\x00-\x1f\x7f-\x9f\ud800-\udfff]+\n", ran.errors):
+            yield "standard error isn't one line of UTF-8 without control characters that begins with `jtap: `"
 
 
 def output_faults(command, ran):
