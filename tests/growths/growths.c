@@ -1,6 +1,7 @@
 /* Loaded before a program: numbers its growths, refuses some, and tells at the end what there was.
  *
- * A growth is a call that takes memory of the allocator, or one that starts a thread; they are numbered from one, over all threads.
+ * A growth is a call that takes memory of the allocator, or one that starts a thread; they are numbered from one, over all threads. A
+ * block that is made smaller is none: the program keeps the block as it is where that is refused.
  * REFUSED_GROWTH       the number of the one growth that is refused
  * REFUSED_GROWTHS_FROM the number from which on each growth is refused
  * GROWTHS_OF_CALLS     where it is set, a growth has a number only between two lines that the program writes to standard error, `calling`
@@ -141,9 +142,12 @@ void *calloc(size_t count, size_t size) {
 }
 
 void *realloc(void *old, size_t size) {
-    struct growth growth;
-    if (is_refused(&growth, "realloc", size, __builtin_return_address(0))) return NULL;
-    struct growth before = forget(old);
+    struct growth before = forget(old), growth = before;
+    growth.size = size;
+    if (size > before.size && is_refused(&growth, "realloc", size, __builtin_return_address(0))) {
+        keep(old, before);
+        return NULL;
+    }
     void *block = __libc_realloc(old, size);
     if (block)
         keep(block, growth);
