@@ -16,14 +16,18 @@ Exit status:
   2  refused input: words, settings, world, scripts, plan or schedule
   3  want of memory, a file that can't be read, or a failed write";
 
-static RUN_END: &str = "Example:
-  jtap run --settings junit.toml --world start.toml cart.jtap desk.jtap";
+static RUN_END: &str = "Examples:
+  jtap run --settings junit.toml --world start.toml cart.jtap desk.jtap
+  jtap run --only shop.Cart.adds --only shop.Desk cart.jtap desk.jtap";
 
 static PLAN_END: &str = "Example:
   jtap plan --settings junit.toml cart.jtap";
 
 static REPLAY_END: &str = "Example:
   jtap replay --schedule cart.schedule --settings junit.toml cart.jtap";
+
+static ONLY: &str = "Class or test to keep, with all in it, by its path as
+`jtap plan` prints it; may be repeated [default: all]";
 
 /// The whole command line. The words begin with the subcommand's name.
 pub(crate) fn command_line<'a>(alloc: Global) -> Result<Command<'a>, AllocError> {
@@ -85,6 +89,7 @@ fn with_inputs<'a>(
         .arg(settings(alloc))?
         .arg(world(alloc))?
         .arg(processors(alloc))?
+        .arg(only(alloc))?
         .arg(scripts(alloc))
 }
 
@@ -130,6 +135,14 @@ fn processors<'a>(alloc: Global) -> Arg<'a> {
         .value_parser(value_parser!(u32).range(1..=1024))
         .default_value("1")
         .help("Processors to count with, 1 to 1024")
+}
+
+fn only<'a>(alloc: Global) -> Arg<'a> {
+    Arg::new(alloc, "only")
+        .long("only")
+        .value_name("PATH")
+        .action(ArgAction::Append)
+        .help(ONLY)
 }
 
 fn scripts<'a>(alloc: Global) -> Arg<'a> {

@@ -10,27 +10,31 @@ use std::alloc::{AllocError, AllocFailed, AllocGlobal, Global};
 use std::env::{self, Args, Env};
 use std::io;
 
-/// The files that a run, a plan or a replay is made of, as the words name them.
+/// The files that a run, a plan or a replay is made of, as the words name them, and what is kept of them.
 #[derive(Drop)]
 pub struct InputFiles<'a> {
     pub settings: Option<&'a str>,
     pub world: Option<&'a str>,
     /// In the order of the words. None: one script is read from standard input.
     pub scripts: Vec<&'a str>,
+    /// The paths of the classes and tests that are kept, in the order of the words. None: all are.
+    pub only: Vec<&'a str>,
     /// 1 to 1024.
     pub processors: u32,
 }
 
 impl<'a> InputFiles<'a> {
-    /// No file, and one processor: a script is read from standard input.
+    /// No file, no path, and one processor: a script is read from standard input, and all of it is kept.
     pub fn none(alloc: Global) -> InputFiles<'a>
         ensures names { (result.settings ≡ None) × (result.world ≡ None) × (result.scripts.items ≡ []) }
+        ensures all { result.only.items ≡ [] }
         ensures processors { result.processors ≡ 1 }
     {
         InputFiles {
             settings: None,
             world: None,
             scripts: Vec::new(alloc),
+            only: Vec::new(alloc),
             processors: 1,
         }
     }
@@ -161,7 +165,7 @@ fn requested<'a>(alloc: Global, matches: &ArgMatches<'a>) -> Result<Request<'a>,
     })
 }
 
-/// The files that a subcommand names.
+/// The files and paths that a subcommand names.
 fn files_of<'a>(alloc: Global, found: &ArgMatches<'a>) -> Result<InputFiles<'a>, AllocError>
     ensures processors { IfOk result (λ f. IsCount f.processors) }
 {
@@ -174,6 +178,9 @@ fn files_of<'a>(alloc: Global, found: &ArgMatches<'a>) -> Result<InputFiles<'a>,
         .clamp(1, 1024);
     if let Some(scripts) = found.get_strs("scripts") {
         files.scripts.extend_from_slice(scripts)?;
+    }
+    if let Some(only) = found.get_strs("only") {
+        files.only.extend_from_slice(only)?;
     }
     Ok(files)
 }

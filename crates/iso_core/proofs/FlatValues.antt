@@ -66,7 +66,7 @@ pub numbered : (plan : Planned) (world : Start) → IsTree (tree_of plan) → (n
 numbered plan world t n k r =
     let tree = tree_of plan in
     let c = (suite-laws tree t plan.settings (started world)).covered n k (ap is_readable (chain-rights tree t plan.settings (started world) k n) ∙ r) in
-    let p = placed (keys tree) k (taken-known tree c.by k c.takes) in
+    let p = placed (keys tree) k (taken-known tree t c.by k c.takes) in
     found (keys tree) k (length (keys tree)) p.place p.within p.equal
 
 pub record HasNumber (tree : List Row) (k : List ℕ) : Type 0 where

@@ -97,7 +97,7 @@ module _ (plan : Planned) (start : Start) (tree : IsTree (tree_of plan)) where
   writer : (m i : ℕ) → is_written (locks tr m) i ≡ true → takes_write tr m ≡ true
   writer m i writes =
       let less = written-within tr m i writes in
-      taken-writes tr m (key_at tr i) (sym (written-is tr m i less) ∙ writes)
+      taken-writes tr tree m (key_at tr i) (sym (written-is tr m i less) ∙ writes)
 
   around : (n m i : ℕ) (t : TrayView) → t.plan ≡ plan → has_around t n ≡ true → is_under tr m (parent tr n) ≡ true → is_written (locks tr m) i ≡ true → is_lent t.lent m ≡ true
   around n m i t tp has above writes =

@@ -5,11 +5,13 @@ ghost use Rattle.iso_model.specs.declared.limits.TheConstants.{BLOCK_STEPS};
 
 mod assertions;
 mod control;
+mod looks;
 mod resources;
 mod values;
 
 use crate::expression::evaluate;
 use crate::interrupt::Interrupt;
+use crate::run::looks::LOOKS;
 use crate::value::{Given, as_count, as_flag, own_text, own_texts};
 use iso_model::data::Data;
 use iso_model::fault::{Fault, FaultKind};
@@ -67,6 +69,7 @@ pub struct BlockRun<'a> {
     lines: Lines,
     ending: Ending,
     before: usize,
+    looks: u32,
     top: Option<Pending<'a>>,
     below: Vec<Pending<'a>>,
     ghost stacked: { top ≡ None → below.items ≡ [] },
@@ -103,6 +106,7 @@ impl<'a> BlockRun<'a> {
             lines: Lines::new(alloc),
             ending: Ending::Well,
             before,
+            looks: LOOKS,
             top: Some(Pending::Rest(before, block)),
             below: Vec::new(alloc),
         };

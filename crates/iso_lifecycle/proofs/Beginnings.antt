@@ -6,9 +6,10 @@ use Rattle.std.specs.declared.alloc.Global.{Global}
 use Rattle.std.specs.declared.sync.Arc.{Arc}
 use Rattle.iso_model.proofs.BodyKeys.{body-step-alike}
 use Rattle.iso_model.specs.Agreement.{EqualAt}
-use Rattle.iso_model.specs.Bodies.{Going, Stage, body_step, during, ended, fresh_account, going, is_ended, stage_from, test_stage}
+use Rattle.iso_model.specs.Bodies.{Going, Stage, body_step, during, ended, fresh_account, going, is_ended, stage_from, stage_unless, test_stage}
 use Rattle.iso_model.specs.BodyAgreement.{AlikeGoing}
 use Rattle.iso_model.specs.Chains.{ClassHead, TestHead}
+use Rattle.iso_model.specs.Disabled.{acts_unless}
 use Rattle.iso_model.specs.Jobs.{job, opening_names, test_jobs}
 use Rattle.iso_model.specs.Openings.{statics_of}
 use Rattle.iso_model.specs.Resources.{Resources}
@@ -51,14 +52,14 @@ some-class n m e = omega arith
 pub last-within : (n m : ℕ) → n ≡ suc m → n - 1 < n
 last-within n m e = omega arith
 
-pub opening-begins : (s : Subject) (c : ClassHead) (cs : List ClassHead) (n : ℕ) (acts : Acts) (names : List Binding) → classes_of s ≡ c ∷ cs → n ≡ length (c ∷ cs) → acts ≡ c.before_all
-    → names ≡ opening_names c (opening_of (enclosing s)).frames
-    → stage_from (job (Class n L.BeforeAll) acts (length names) false ∷ []) (fresh_account names) ≡ (begun BeforeAll s).stage
-opening-begins s c cs n acts names chain count block are =
-    (λ i. stage_from (job (Class (count i) L.BeforeAll) (block i) (length (are i)) false ∷ []) (fresh_account (are i)))
+pub opening-begins : (s : Subject) (c : ClassHead) (cs : List ClassHead) (n : ℕ) (reason : Option (List ℕ)) (acts : Acts) (names : List Binding) → classes_of s ≡ c ∷ cs → n ≡ length (c ∷ cs)
+    → reason ≡ c.disabled → acts ≡ c.before_all → names ≡ opening_names c (opening_of (enclosing s)).frames
+    → stage_unless reason names (job (Class n L.BeforeAll) acts (length names) false ∷ []) ≡ (begun BeforeAll s).stage
+opening-begins s c cs n reason acts names chain count disabled block are =
+    (λ i. stage_unless (disabled i) (are i) (job (Class (count i) L.BeforeAll) (block i) (length (are i)) false ∷ []))
     ∙ sym (λ i. (begun_opening (chain i) (opening_of (enclosing s))).stage)
 
-pub closing-begins : (s : Subject) (c : ClassHead) (cs : List ClassHead) (n : ℕ) (acts : Acts) (names : List Binding) → classes_of s ≡ c ∷ cs → n ≡ length (c ∷ cs) → acts ≡ c.after_all
+pub closing-begins : (s : Subject) (c : ClassHead) (cs : List ClassHead) (n : ℕ) (acts : Acts) (names : List Binding) → classes_of s ≡ c ∷ cs → n ≡ length (c ∷ cs) → acts ≡ acts_unless c.disabled c.after_all
     → names ≡ statics_of (opening_of s).frames
     → stage_from (job (Class n L.AfterAll) acts (length names) false ∷ []) (fresh_account names) ≡ (begun AfterAll s).stage
 closing-begins s c cs n acts names chain count block are =
@@ -67,9 +68,9 @@ closing-begins s c cs n acts names chain count block are =
 
 pub testing-begins : (s : Subject) (t : TestHead) (cs : List ClassHead) (names : List Binding) → chain_test (tree_of s.plan) s.node ≡ Some t → cs ≡ classes_of s
     → names ≡ test_names cs (opening_of s).frames
-    → stage_from (test_jobs t cs) (fresh_account names) ≡ (begun Test s).stage
+    → stage_unless t.disabled names (test_jobs t cs) ≡ (begun Test s).stage
 testing-begins s t cs names own chain are =
-    ap (λ (ns : List Binding). stage_from (test_jobs t cs) (fresh_account ns)) are
+    ap (λ (ns : List Binding). stage_unless t.disabled ns (test_jobs t cs)) are
     ∙ ap (λ (ds : List ClassHead). test_stage t ds (opening_of s).frames) chain
     ∙ sym (ap (λ (o : Option TestHead). (begun_testing o (classes_of s) (opening_of s)).stage) own)
 

@@ -2,7 +2,7 @@
 use Rattle.std.proofs.Common.{◌≡◌, ℕ, ◌≤◌, List, [], ◌∷◌, ◌++◌, length, drop, Option, Some, None, Bool, true, cond, refl, sym, ap, ◌∙◌, arith, true≢false, length-append}
 use Rattle.iso_model.proofs.BodyRuns.{body-steps-finish, closing-finish, opening-finish, test-finish}
 use Rattle.iso_model.proofs.ChainRuns.{class_from-restricted, test_from-restricted}
-use Rattle.iso_model.proofs.LastingNames.{block-length}
+use Rattle.iso_model.proofs.SeenNames.{block_unless-length}
 use Rattle.iso_model.specs.Alone.{after_all, barred, class_outcome, test_outcome}
 use Rattle.iso_model.specs.Bodies.{Stage, account_of, body_finish, body_finished, during, ended, first_ending}
 use Rattle.iso_model.specs.Chains.{ClassHead, TestHead, class_rights, test_rights}
@@ -192,6 +192,6 @@ names-outer s grows fits =
     let own = at_literals Static w.head.statics in
     let kept : length (done_whole BeforeAll s).names ≡ length (statics ++ own) =
     ap (λ (b : Body). length b.names) (opens s w)
-    ∙ block-length (class_rights (w.head ∷ cs)) w.head.before_all (environment (statics ++ own) 0 (words_of (w.head ∷ cs) L.BeforeAll)) o.resources in
+    ∙ block_unless-length w.head.disabled (class_rights (w.head ∷ cs)) w.head.before_all (environment (statics ++ own) 0 (words_of (w.head ∷ cs) L.BeforeAll)) o.resources in
     let sum = length-append statics own in
     omega (arith, kept, sum)

@@ -8,11 +8,13 @@ ghost use Rattle.iso_lifecycle.specs.OriginViews.{AreFrames, kind_of_origin, sub
 ghost use Rattle.iso_lifecycle.specs.Origins.{HasRights, outer_names};
 ghost use Rattle.iso_lifecycle.specs.Subjects.{IsOfClass, begun, frames_of, opened_before};
 
+use crate::blocks::closing_statements;
 use crate::body_run::BodyRun;
 use crate::frame::{Frame, are_of_classes};
 use crate::kind::BodyKind;
 use crate::names::{add_variables, statics_of, test_names};
 use crate::origin::Origin;
+use iso_model::heads::ClassContents;
 use iso_model::names::{Binding, Sort};
 use iso_model::place::{BlockName, Lifecycle};
 use iso_plan::laws::{chains_grow_down, paths_lead_up};
@@ -52,9 +54,10 @@ impl<'a> Origin<'a> {
         let (class, depth) = self.class();
         let mut names = self.statics_before(alloc, frames)?;
         let outer = names.len();
-        add_variables(alloc, &mut names, &class.statics, Sort::Static)?;
+        let contents: &'a ClassContents = &class.contents;
+        add_variables(alloc, &mut names, &contents.statics, Sort::Static)?;
         let words = BlockName::Class(depth, Lifecycle::BeforeAll);
-        let run = BodyRun::of_block(alloc, &class.before_all, words, names, self.rights())?;
+        let run = BodyRun::of_opening(alloc, contents, words, names, self.rights())?;
         self.with_frame(alloc, run, outer)
     }
 
@@ -84,7 +87,8 @@ impl<'a> Origin<'a> {
         let (class, depth) = self.class();
         let names = self.statics_before(alloc, frames)?;
         let words = BlockName::Class(depth, Lifecycle::AfterAll);
-        let run = BodyRun::of_block(alloc, &class.after_all, words, names, self.rights())?;
+        let block = closing_statements(&class.contents);
+        let run = BodyRun::of_block(alloc, block, words, names, self.rights())?;
         self.with_frame(alloc, run, 0)
     }
 

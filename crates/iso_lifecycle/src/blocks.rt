@@ -1,5 +1,6 @@
 //! The blocks of a test, in its class chain.
 ghost use Rattle.std.specs.Prelude.{◌≡◌, ◌<◌, ◌≤◌, ◌+◌, Some, length, min, take, drop, IfOk, OnOk};
+ghost use Rattle.iso_model.specs.Disabled.{acts_unless};
 ghost use Rattle.iso_model.specs.ScriptView.{class_head_of};
 ghost use Rattle.iso_model.specs.SyntaxView.{block_of};
 ghost use Rattle.iso_model.specs.Tests.{names_in};
@@ -7,7 +8,7 @@ ghost use Rattle.iso_lifecycle.specs.JobPlaces.{IsPlaced, head_at, job_at, outsi
 ghost use Rattle.iso_lifecycle.specs.Heads.{heads_in};
 
 use crate::job::Job;
-use iso_model::heads::ClassHead;
+use iso_model::heads::{ClassContents, ClassHead};
 use iso_model::names::Binding;
 use iso_model::tree::Stmt;
 use std::alloc::AllocError;
@@ -24,9 +25,19 @@ pub(crate) fn statements<'a>(
     ensures { block_of result.now ≡ (job_at (heads_in classes.now) (block_of body.now) job).acts }
 {
     match job {
-        Job::BeforeEach(depth) => &head(classes, depth).before_each,
+        Job::BeforeEach(depth) => &head(classes, depth).contents.before_each,
         Job::Test => body,
-        Job::AfterEach(depth) => &head(classes, depth).after_each,
+        Job::AfterEach(depth) => &head(classes, depth).contents.after_each,
+    }
+}
+
+/// The statements of a class's `after_all`; none where the class is disabled.
+pub(crate) fn closing_statements(class: &ClassContents) -> &[Stmt]
+    ensures { block_of result.now ≡ acts_unless class.now.disabled (block_of class.now.after_all.items) }
+{
+    match class.disabled {
+        Some(_) => &[],
+        None => &class.after_all,
     }
 }
 
@@ -55,9 +66,10 @@ fn more(class: &ClassHead, count: usize, most: usize) -> usize
     requires { count ≤ most }
     ensures { result ≡ min (count + length (class_head_of class.now).statics + length (class_head_of class.now).fields) most }
 {
+    let contents = &class.contents;
     sum(
-        sum(count, class.statics.len(), most),
-        class.fields.len(),
+        sum(count, contents.statics.len(), most),
+        contents.fields.len(),
         most,
     )
 }

@@ -1,6 +1,6 @@
 //! A run of a whole body, one step at a time: its blocks, in the order of their jobs.
 ghost use Rattle.std.specs.Prelude.{◌≡◌, ◌<◌, ◌∷◌, ◌^◌, [], length, true, false, OnOk, OnErr, IfOk};
-ghost use Rattle.iso_model.specs.Bodies.{account_after, body_step, ended, fresh_account, going, is_ended, stage_from};
+ghost use Rattle.iso_model.specs.Bodies.{account_after, body_step, disabled_account, ended, fresh_account, going, is_ended, stage_from, stage_unless};
 ghost use Rattle.iso_model.specs.ChainView.{innermost_first};
 ghost use Rattle.iso_model.specs.Jobs.{job, test_jobs};
 ghost use Rattle.iso_model.specs.Rights.{access_in};
@@ -12,12 +12,13 @@ ghost use Rattle.iso_lifecycle.specs.Works.{HaveRights, HaveRights-prop};
 use crate::job::Job;
 use crate::work::Rest;
 use iso_interp::run::{BlockRun, Progress};
-use iso_model::heads::{ClassHead, TestHead};
+use iso_model::heads::{ClassContents, ClassHead, TestHead};
 use iso_model::lines::Lines;
 use iso_model::names::{Binding, Names};
-use iso_model::outcome::Ending;
-use iso_model::place::BlockName;
+use iso_model::outcome::{Ending, Note};
+use iso_model::place::{BlockName, Place};
 use iso_model::rights::Rights;
+use iso_model::text::Text;
 use iso_model::touch::Touch;
 use iso_model::tree::Stmt;
 use std::alloc::{AllocError, Global};
@@ -43,9 +44,75 @@ pub(crate) struct BodyRun<'a> {
 impl<'a> BodyRun<'a> {
     ghost use Rattle.iso_lifecycle.specs.BodyRuns.{account_in_run, end_account, rights_of, settled_stage, stage_of};
 
-    /// A whole test at its beginning: the `before_each` blocks of these classes, outermost first, its own block, and the
-    /// `after_each` blocks, innermost first. The names are those that the innermost block sees, the outer classes' first.
+    /// A whole test at its beginning, in these classes: its blocks, or where it is disabled its end. The names are those that the
+    /// innermost block sees, the outer classes' first.
     pub(crate) fn of_test(
+        alloc: Global,
+        classes: &'a [Arc<ClassHead>],
+        test: &'a TestHead,
+        names: Vec<Binding>,
+        rights: &'a Rights,
+    ) -> Result<BodyRun<'a>, AllocError>
+        requires { length classes.now < 2 ^ 32 }
+        ensures stage { IfOk result (λ run. stage_of run ≡ stage_unless (test_head_of test.now).disabled names.items (test_jobs (test_head_of test.now) (innermost_first classes.now))) }
+        ensures rights { IfOk result (λ run. rights_of run ≡ access_in rights.now) }
+    {
+        match &test.contents.disabled {
+            Some(reason) => BodyRun::of_disabled(alloc, reason, names, rights),
+            None => BodyRun::of_blocks(alloc, classes, test, names, rights),
+        }
+    }
+
+    /// The `before_all` of a class at its beginning, which sees all these names, or where the class is disabled its end.
+    pub(crate) fn of_opening(
+        alloc: Global,
+        class: &'a ClassContents,
+        words: BlockName,
+        names: Vec<Binding>,
+        rights: &'a Rights,
+    ) -> Result<BodyRun<'a>, AllocError>
+        ensures stage { IfOk result (λ run. stage_of run ≡ stage_unless class.now.disabled names.items (job words (block_of class.now.before_all.items) (length names.items) false ∷ [])) }
+        ensures rights { IfOk result (λ run. rights_of run ≡ access_in rights.now) }
+    {
+        match &class.disabled {
+            Some(reason) => BodyRun::of_disabled(alloc, reason, names, rights),
+            None => BodyRun::of_block(alloc, &class.before_all, words, names, rights),
+        }
+    }
+
+    /// A body of a disabled node: it has ended where it begins, as by a false assumption of this reason.
+    fn of_disabled(
+        alloc: Global,
+        reason: &Text,
+        names: Vec<Binding>,
+        rights: &'a Rights,
+    ) -> Result<BodyRun<'a>, AllocError>
+        ensures stage { IfOk result (λ run. stage_of run ≡ ended (disabled_account reason.now names.items)) }
+        ensures rights { IfOk result (λ run. rights_of run ≡ access_in rights.now) }
+    {
+        let note = Note {
+            message: reason.copy(alloc)?,
+            place: Place::Disabled,
+        };
+        let mut endings = Vec::new(alloc);
+        endings.push(Ending::Assumed(note))?;
+        let rest = Rest {
+            alloc,
+            rights,
+            classes: &[],
+            test: &[],
+            next: None,
+            names,
+            printed: 0,
+            lines: Lines::new(alloc),
+            endings,
+        };
+        Ok(BodyRun { rest, block: None })
+    }
+
+    /// The blocks of a test at their beginning: the `before_each` blocks of these classes, outermost first, its own block, and the
+    /// `after_each` blocks, innermost first.
+    fn of_blocks(
         alloc: Global,
         classes: &'a [Arc<ClassHead>],
         test: &'a TestHead,
@@ -60,7 +127,7 @@ impl<'a> BodyRun<'a> {
             alloc,
             rights,
             classes,
-            test: &test.body,
+            test: &test.contents.body,
             next: Some(Job::first(classes.len())),
             names,
             printed: 0,
@@ -76,7 +143,7 @@ impl<'a> BodyRun<'a> {
         }
     }
 
-    /// A body of one block at its beginning, which sees all these names: a `before_all` or an `after_all`.
+    /// A body of one block at its beginning, which sees all these names.
     pub(crate) fn of_block(
         alloc: Global,
         block: &'a [Stmt],

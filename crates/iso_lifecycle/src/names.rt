@@ -38,7 +38,12 @@ pub(crate) fn test_names(
     let mut names = Vec::new(alloc);
     for depth in 0..classes.len() {
         add_copies(alloc, &mut names, frames[depth].bindings())?;
-        add_variables(alloc, &mut names, &head(classes, depth).fields, Sort::Field)?;
+        add_variables(
+            alloc,
+            &mut names,
+            &head(classes, depth).contents.fields,
+            Sort::Field,
+        )?;
     }
     Ok(names)
 }

@@ -20,7 +20,7 @@ use Rattle.iso_plan.proofs.PathLemmas.{IsBelow, eq_not}
 use Rattle.iso_plan.proofs.TopLemmas.{own-path}
 use Rattle.iso_plan.specs.KeyTable.{keys}
 use Rattle.iso_plan.specs.Locks.{conflict, declares, exclude, gathered, global_access, holds_isolated, is_locking, is_marked, locking_node, taken}
-use Rattle.iso_plan.specs.Paths.{is_top, outermost}
+use Rattle.iso_plan.specs.Paths.{IsTree, is_top, outermost}
 use Rattle.iso_plan.specs.RowView.{tree_of}
 use Rattle.iso_plan.specs.Tree.{Row}
 use Rattle.iso_settings.specs.Worlds.{starting_value_in}
@@ -127,25 +127,25 @@ module _ (tree : List Row) (b : IsBelow tree) (lent : List Bool) (values : Slots
         | inr locker ↦ locker-read o.node o.lent w (reader tree (locking_node tree n) k locker)
       ])
 
-has-reader : (tree : List Row) (n : ℕ) (k : List ℕ) → holds_read tree k n ≡ true → HasNumber tree k
-has-reader tree n k h = elim (or-by (is_read (taken tree n k)) (reads tree (locking_node tree n) k) h) [
-  | inl mine ↦ has-number tree n k (read-readable (taken tree n k) mine)
-  | inr locker ↦ let r = reader tree (locking_node tree n) k locker in has-number tree r.node k (read-readable (taken tree r.node k) r.reads)
+has-reader : (tree : List Row) → IsTree tree → (n : ℕ) (k : List ℕ) → holds_read tree k n ≡ true → HasNumber tree k
+has-reader tree t n k h = elim (or-by (is_read (taken tree n k)) (reads tree (locking_node tree n) k) h) [
+  | inl mine ↦ has-number tree t n k (read-readable (taken tree n k) mine)
+  | inr locker ↦ let r = reader tree (locking_node tree n) k locker in has-number tree t r.node k (read-readable (taken tree r.node k) r.reads)
 ]
 
-pub finds-start : (t : TrayView) → IsBelow (tree_of t.plan) → length t.lent ≡ length (tree_of t.plan) → AreOwned (tree_of t.plan) t.flat t.lent t.values → t.flat ≡ false → (n : ℕ) (k : List ℕ)
+pub finds-start : (t : TrayView) → IsTree (tree_of t.plan) → length t.lent ≡ length (tree_of t.plan) → AreOwned (tree_of t.plan) t.flat t.lent t.values → t.flat ≡ false → (n : ℕ) (k : List ℕ)
     → n < length t.lent → is_lent t.lent n ≡ true → holds_read (tree_of t.plan) k n ≡ true → content t k ≡ Some (starting_value_in t.world k)
-finds-start t b fits own flat n k within l h =
+finds-start t is fits own flat n k within l h =
     let tree = tree_of t.plan in
-    let num = has-reader tree n k h in
+    let num = has-reader tree is n k h in
     let start = starting_value_in t.world k in
     let AreSo : Bool → Type 0 = λ f. AreOwned tree f t.lent t.values in
-    let none = read-absent tree b t.lent t.values (subst AreSo flat own) n k l num h in
+    let none = read-absent tree is.below t.lent t.values (subst AreSo flat own) n k l num h in
     let shown : is_open tree t.lent k ≡ true = any-has t.lent (holds_read tree k) (length tree) n (omega arith) l h in
     ap (seen_at tree t.world t.lent t.values k) num.is ∙ ap₂ (λ (o : Option History) (s : Bool). seen o s start) none shown
 
-pub finds-value : (t : TrayView) → AreOwned (tree_of t.plan) t.flat t.lent t.values → (n : ℕ) (k : List ℕ) → is_lent t.lent n ≡ true → is_writable (taken (tree_of t.plan) n k) ≡ true → has_value t k ≡ true
-finds-value t own n k l w =
+pub finds-value : (t : TrayView) → IsTree (tree_of t.plan) → AreOwned (tree_of t.plan) t.flat t.lent t.values → (n : ℕ) (k : List ℕ) → is_lent t.lent n ≡ true → is_writable (taken (tree_of t.plan) n k) ≡ true → has_value t k ≡ true
+finds-value t is own n k l w =
     let tree = tree_of t.plan in
-    let num = has-number tree n k (readable-of (taken tree n k) w) in
+    let num = has-number tree is n k (readable-of (taken tree n k) w) in
     ap (has_at t.values) num.is ∙ own.there n num.number l (written-is tree n num.number num.within ∙ ap (λ (q : List ℕ). is_writable (taken tree n q)) num.key_is ∙ w)

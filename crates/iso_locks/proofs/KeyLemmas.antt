@@ -14,6 +14,7 @@ use Rattle.iso_model.specs.declared.access.Access.TheVariants.{Read, Write}
 use Rattle.iso_plan.proofs.KeyLemmas.{distinct-at, keys-distinct}
 use Rattle.iso_plan.proofs.LawLemmas.{taken-known}
 use Rattle.iso_plan.proofs.PathLemmas.{eq_not, eq_same}
+use Rattle.iso_plan.specs.Paths.{IsTree}
 use Rattle.iso_plan.specs.KeyTable.{keys}
 use Rattle.iso_plan.specs.Locks.{conflict, exclude, lock_of, locks, locks_from, taken}
 use Rattle.iso_plan.specs.Tree.{Row}
@@ -107,9 +108,9 @@ placed : (ks : List (List ℕ)) (k : List ℕ) → list_any (bytes_eq k) ks ≡ 
 placed [] k h = absurd (cc)
 placed (j ∷ ks) k h = placed_by ks j k (bytes_eq k j) refl h (placed ks k)
 
-pub has-number : (tree : List Row) (m : ℕ) (k : List ℕ) → is_readable (taken tree m k) ≡ true → HasNumber tree k
-has-number tree m k r =
-    let p = placed (keys tree) k (taken-known tree m k r) in
+pub has-number : (tree : List Row) → IsTree tree → (m : ℕ) (k : List ℕ) → is_readable (taken tree m k) ≡ true → HasNumber tree k
+has-number tree t m k r =
+    let p = placed (keys tree) k (taken-known tree t m k r) in
     record { number = p.place; within = p.within; key_is = sym p.equal; is = ap (number_of tree) p.equal ∙ number-of-key tree p.place p.within }
 
 pub readable-of : (a : Option Access) → is_writable a ≡ true → is_readable a ≡ true

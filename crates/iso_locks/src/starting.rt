@@ -69,7 +69,7 @@ pub(crate) fn starts_of(
 {
     let mut starts = Vec::new(alloc);
     'keys: for number in 0..plan.key_count() {
-        let key = Key::new(Text::copied(alloc, plan.key(number))?);
+        let key = Key::new(alloc, Text::copied(alloc, plan.key(number))?)?;
         let value = Shared::new(world.share(alloc, &key)?);
         starts.push(Starting { key, value })?;
     }

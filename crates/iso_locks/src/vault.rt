@@ -141,9 +141,10 @@ pub(crate) fn values(alloc: Global, plan: &Plan, world: &World) -> Result<Slots,
 {
     let mut values = Slots::new(alloc);
     'keys: for number in 0..plan.key_count() {
-        let key = Key::new(Text::copied(alloc, plan.key(number))?);
+        let key = Key::new(alloc, Text::copied(alloc, plan.key(number))?)?;
         let value = world.copy(alloc, &key)?;
-        values.add(Some(Held::new(alloc, value)))?;
+        let held = Held::new(alloc, value);
+        values.add(Some(held))?;
     }
     Ok(values)
 }

@@ -1,8 +1,9 @@
 -- What is left of a body, done, is the same before and after a step, and from its beginning it is all its jobs.
-use Rattle.std.proofs.Common.{◌≡◌, ℕ, zero, suc, ◌+◌, ◌<◌, ◌≤◌, List, [], ◌∷◌, ◌++◌, length, drop, append-nil, Bool, true, false, cond, refl, ap, ◌∙◌, arith, true≢false}
+use Rattle.std.proofs.Common.{◌≡◌, ℕ, zero, suc, ◌+◌, ◌<◌, ◌≤◌, List, [], ◌∷◌, ◌++◌, length, drop, append-nil, Option, Some, None, Bool, true, false, cond, refl, ap, ◌∙◌, arith, true≢false}
 use Rattle.std.proofs.Math.Seq.{take-length}
 use Rattle.iso_model.specs.Blocks.{begun, block}
 use Rattle.iso_model.specs.Chains.{ClassHead, TestHead, class_rights, test_rights}
+use Rattle.iso_model.specs.Disabled.{acts_unless, block_unless}
 use Rattle.iso_model.specs.Environments.{environment}
 use Rattle.iso_model.specs.Resources.{Resources}
 use Rattle.iso_model.specs.Rights.{Rights}
@@ -11,9 +12,9 @@ use Rattle.iso_model.specs.Steps.{Piece, IsReady, finish, finished, first_point,
 use Rattle.iso_model.specs.Syntax.{Acts}
 use Rattle.iso_model.specs.Openings.{Opening, statics_of, words_of, before_all, opened}
 use Rattle.iso_model.specs.Alone.{after_all}
-use Rattle.iso_model.specs.Tests.{Body, before_each, after_each, begun_test, test, test_names}
-use Rattle.iso_model.specs.Jobs.{Job, is_due, with_job, with_due, with_jobs, body_of_block, opening_names, before_all_jobs, after_all_jobs, before_each_job, test_job, before_each_jobs, after_each_jobs, test_jobs}
-use Rattle.iso_model.specs.Bodies.{Account, body_at, fresh_account, Beside, Stage, during, ended, Going, job_environment, beside_job, account_after, stage_at, stage_if, stage_from, opening_stage, test_stage, closing_stage, stage_step, body_step, body_steps, body_finish, body_finished, is_ended, jobs_distance, body_distance, IsReadyStage, frame_left}
+use Rattle.iso_model.specs.Tests.{Body, before_each, after_each, begun_test, blocks_of_test, blocks_unless, test, test_names}
+use Rattle.iso_model.specs.Jobs.{Job, job, is_due, with_job, with_due, with_jobs, body_of_block, opening_names, before_all_jobs, after_all_jobs, before_each_job, test_job, before_each_jobs, after_each_jobs, test_jobs}
+use Rattle.iso_model.specs.Bodies.{Account, body_at, fresh_account, Beside, Stage, during, ended, Going, job_environment, beside_job, account_after, stage_at, stage_if, stage_from, stage_unless, opening_stage, test_stage, closing_stage, stage_step, body_step, body_steps, body_finish, body_finished, is_ended, jobs_distance, body_distance, IsReadyStage, frame_left}
 use Rattle.iso_model.specs.declared.limits.TheConstants.{BLOCK_STEPS}
 use Rattle.iso_model.specs.declared.names.Binding.{Binding}
 use Rattle.iso_model.specs.declared.place.BlockName.{BlockName}
@@ -89,7 +90,7 @@ after-jobs : (r : Rights) (cs : List ClassHead) (b : Body) → with_jobs r (afte
 after-jobs r [] b = refl
 after-jobs r (c ∷ cs) b = after-jobs r cs _
 
-pub test-jobs : (t : TestHead) (cs : List ClassHead) (o : Opening) → with_jobs (test_rights t cs) (test_jobs t cs) (begun_test cs o) ≡ test t cs o
+pub test-jobs : (t : TestHead) (cs : List ClassHead) (o : Opening) → with_jobs (test_rights t cs) (test_jobs t cs) (begun_test cs o) ≡ blocks_of_test t cs (begun_test cs o)
 test-jobs t cs o =
     let r = test_rights t cs in
     let b = begun_test cs o in
@@ -117,16 +118,22 @@ one-job r words acts names m =
     ∙ ap (λ (bs : List Binding). record (body_of_block (whole names)) { names = bs }) (append-nil (whole names).here.env.names)
 
 -- from its beginning a body is the test, the `before_all` and the `after_all`
+test-finish_unless : (d : Option (List ℕ)) (t : TestHead) (cs : List ClassHead) (o : Opening)
+    → body_finish (test_rights t cs) (stage_unless d (test_names cs o.frames) (test_jobs t cs)) o.resources ≡ blocks_unless d (blocks_of_test t cs) (begun_test cs o)
+test-finish_unless None t cs o = from-finish (test_rights t cs) (test_jobs t cs) (fresh_account (test_names cs o.frames)) o.resources ∙ test-jobs t cs o
+test-finish_unless (Some reason) t cs o = refl
+
 pub test-finish : (t : TestHead) (cs : List ClassHead) (o : Opening) → body_finish (test_rights t cs) (test_stage t cs o.frames) o.resources ≡ test t cs o
-test-finish t cs o = from-finish (test_rights t cs) (test_jobs t cs) (fresh_account (test_names cs o.frames)) o.resources ∙ test-jobs t cs o
+test-finish t cs o = test-finish_unless t.disabled t cs o
+
+opening-finish_unless : (d : Option (List ℕ)) (r : Rights) (words : BlockName) (acts : Acts) (names : List Binding) (m : Resources)
+    → body_finish r (stage_unless d names (job words acts (length names) false ∷ [])) m ≡ body_of_block (block_unless d r acts (environment names 0 words) m)
+opening-finish_unless None r words acts names m = from-finish r (job words acts (length names) false ∷ []) (fresh_account names) m ∙ one-job r words acts names m
+opening-finish_unless (Some reason) r words acts names m = refl
 
 pub opening-finish : (c : ClassHead) (cs : List ClassHead) (o : Opening)
     → body_finish (class_rights (c ∷ cs)) (opening_stage c cs o.frames) o.resources ≡ body_of_block (before_all c cs o)
-opening-finish c cs o =
-    let r = class_rights (c ∷ cs) in
-    let names = opening_names c o.frames in
-    from-finish r (before_all_jobs c cs o.frames) (fresh_account names) o.resources
-    ∙ one-job r (words_of (c ∷ cs) BeforeAll) c.before_all names o.resources
+opening-finish c cs o = opening-finish_unless c.disabled (class_rights (c ∷ cs)) (words_of (c ∷ cs) BeforeAll) c.before_all (opening_names c o.frames) o.resources
 
 pub closing-finish : (c : ClassHead) (cs : List ClassHead) (o : Opening)
     → body_finish (class_rights (c ∷ cs)) (closing_stage c cs o.frames) o.resources ≡ body_of_block (after_all c cs o)
@@ -134,7 +141,7 @@ closing-finish c cs o =
     let r = class_rights (c ∷ cs) in
     let names = statics_of o.frames in
     from-finish r (after_all_jobs c cs o.frames) (fresh_account names) o.resources
-    ∙ one-job r (words_of (c ∷ cs) AfterAll) c.after_all names o.resources
+    ∙ one-job r (words_of (c ∷ cs) AfterAll) (acts_unless c.disabled c.after_all) names o.resources
 
 pub opening-frame : (c : ClassHead) (cs : List ClassHead) (o : Opening)
     → frame_left o.frames (body_finish (class_rights (c ∷ cs)) (opening_stage c cs o.frames) o.resources) ∷ o.frames ≡ (opened o (before_all c cs o)).frames
@@ -157,6 +164,10 @@ if-ready js follows j a true =
 pub from-ready : (js : List Job) (a : Account) → IsReadyStage (stage_from js a)
 from-ready [] a = tt
 from-ready (j ∷ js) a = if-ready js (from-ready js) j a (is_due j a.endings)
+
+pub unless-ready : (d : Option (List ℕ)) (names : List Binding) (js : List Job) → IsReadyStage (stage_unless d names js)
+unless-ready None names js = from-ready js (fresh_account names)
+unless-ready (Some reason) names js = tt
 
 stage-step-ready : (r : Rights) (stage : Stage) (m : Resources) → IsReadyStage stage → IsReadyStage (stage_step r stage m).stage
 stage-step-ready r (during p n b js) m ready =

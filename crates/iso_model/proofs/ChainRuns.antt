@@ -1,10 +1,11 @@
 -- Openings, tests and classes change no key and look at none that their chain doesn't declare so.
-use Rattle.std.proofs.Common.{◌≡◌, ℕ, List, [], ◌∷◌, ◌++◌, length, take, drop, Bool, true, false, cond, Option, None, refl, sym, ap, ◌∙◌, subst, true≢false}
+use Rattle.std.proofs.Common.{◌≡◌, ℕ, List, [], ◌∷◌, ◌++◌, length, take, drop, Bool, true, false, cond, Option, Some, None, refl, sym, ap, ◌∙◌, subst, true≢false}
 use Rattle.std.specs.List.{list_all}
 use Rattle.iso_model.specs.Agreement.{EqualAt, LooksWithin, Alike, AlikeOpenings, AlikeBodies, TestsAgree, ClassesAgree}
 use Rattle.iso_model.specs.Alone.{after_all, barred, test_outcome, class_outcome, test_from, class_from, test_alone, class_alone}
 use Rattle.iso_model.specs.Blocks.{block}
 use Rattle.iso_model.specs.Chains.{ClassHead, TestHead, class_rights, test_rights}
+use Rattle.iso_model.specs.Disabled.{acts_unless, block_unless}
 use Rattle.iso_model.specs.Environments.{Environment, environment}
 use Rattle.iso_model.specs.Names.{at_literals, frozen}
 use Rattle.iso_model.specs.Openings.{Frame, Opening, words_of, statics_of, before_all, opened, opening}
@@ -12,7 +13,7 @@ use Rattle.iso_model.specs.Resources.{Resources, restricted}
 use Rattle.iso_model.specs.Rights.{Rights, is_readable, is_writable}
 use Rattle.iso_model.specs.Statements.{Local, State, is_well, with_names}
 use Rattle.iso_model.specs.Syntax.{Acts}
-use Rattle.iso_model.specs.Tests.{Body, seen_from, unseen_from, block_of_test, where_well, before_each, after_each, begun_test, test}
+use Rattle.iso_model.specs.Tests.{Body, seen_from, unseen_from, block_of_test, blocks_of_test, blocks_unless, where_well, before_each, after_each, begun_test, test}
 use Rattle.iso_model.specs.declared.names.Sort.TheVariants.{Static}
 use Rattle.iso_model.specs.declared.place.BlockName.{BlockName}
 use Rattle.iso_model.specs.declared.place.BlockName.TheVariants.{Test}
@@ -45,15 +46,24 @@ block-within q r within acts env m n same =
       };
     }
 
+-- the same of a block that is left out where its node is disabled
+unless-within : (d : Option (List ℕ)) (q r : Rights) → LooksWithin q r → (acts : Acts) (env : Environment) (m n : Resources) → EqualAt r m n → Alike r (block_unless d q acts env m) (block_unless d q acts env n)
+unless-within None q r within acts env m n same = block-within q r within acts env m n same
+unless-within (Some reason) q r within acts env m n same = record { here = refl; resources = same }
+
+pub block_unless-untouched : (d : Option (List ℕ)) (r : Rights) (k : List ℕ) → is_writable (r k) ≡ false → (acts : Acts) (env : Environment) (m : Resources) → (block_unless d r acts env m).resources k ≡ m k
+block_unless-untouched None r k locked acts env m = block-untouched r k locked acts env m
+block_unless-untouched (Some reason) r k locked acts env m = refl
+
 -- no other key is changed
 module _ (k : List ℕ) where
   pub before_all-untouched : (c : ClassHead) (cs : List ClassHead) (o : Opening) → is_writable (class_rights (c ∷ cs) k) ≡ false → (before_all c cs o).resources k ≡ o.resources k
   before_all-untouched c cs o locked =
-      block-untouched (class_rights (c ∷ cs)) k locked c.before_all (environment (statics_of o.frames ++ at_literals Static c.statics) 0 (words_of (c ∷ cs) BeforeAll)) o.resources
+      block_unless-untouched c.disabled (class_rights (c ∷ cs)) k locked c.before_all (environment (statics_of o.frames ++ at_literals Static c.statics) 0 (words_of (c ∷ cs) BeforeAll)) o.resources
 
   pub after_all-untouched : (c : ClassHead) (cs : List ClassHead) (o : Opening) → is_writable (class_rights (c ∷ cs) k) ≡ false → (after_all c cs o).resources k ≡ o.resources k
   after_all-untouched c cs o locked =
-      block-untouched (class_rights (c ∷ cs)) k locked c.after_all (environment (statics_of o.frames) 0 (words_of (c ∷ cs) AfterAll)) o.resources
+      block-untouched (class_rights (c ∷ cs)) k locked (acts_unless c.disabled c.after_all) (environment (statics_of o.frames) 0 (words_of (c ∷ cs) AfterAll)) o.resources
 
   pub opening-untouched : (cs : List ClassHead) (start : Resources) → is_writable (class_rights cs k) ≡ false → (opening cs start).resources k ≡ start k
   opening-untouched [] start locked = refl
@@ -80,26 +90,33 @@ module _ (k : List ℕ) where
     after_each-untouched (c ∷ cs) b =
         after_each-untouched cs (block_of_test r (words_of (c ∷ cs) AfterEach) (c ∷ cs) c.after_each b) ∙ block_of_test-untouched (words_of (c ∷ cs) AfterEach) (c ∷ cs) c.after_each b
 
-  pub test-untouched : (t : TestHead) (cs : List ClassHead) (o : Opening) → is_writable (test_rights t cs k) ≡ false → (test t cs o).resources k ≡ o.resources k
-  test-untouched t cs o locked =
+  blocks-untouched : (t : TestHead) (cs : List ClassHead) (d : Body) → is_writable (test_rights t cs k) ≡ false → (blocks_of_test t cs d).resources k ≡ d.resources k
+  blocks-untouched t cs d locked =
       let r = test_rights t cs in
-      let b = before_each r cs (begun_test cs o) in
+      let b = before_each r cs d in
       after_each-untouched r locked cs (where_well (block_of_test r Test cs t.body) b)
       ∙ where_well-untouched r locked (block_of_test r Test cs t.body) (block_of_test-untouched r locked Test cs t.body) b
-      ∙ before_each-untouched r locked cs (begun_test cs o)
+      ∙ before_each-untouched r locked cs d
+
+  blocks_unless-untouched : (d : Option (List ℕ)) (f : Body → Body) (b : Body) → (f b).resources k ≡ b.resources k → (blocks_unless d f b).resources k ≡ b.resources k
+  blocks_unless-untouched None f b same = same
+  blocks_unless-untouched (Some reason) f b same = refl
+
+  pub test-untouched : (t : TestHead) (cs : List ClassHead) (o : Opening) → is_writable (test_rights t cs k) ≡ false → (test t cs o).resources k ≡ o.resources k
+  test-untouched t cs o locked = blocks_unless-untouched t.disabled (blocks_of_test t cs) (begun_test cs o) (blocks-untouched t cs (begun_test cs o) locked)
 
 -- over resources that are equal at these keys, the same is done
 module _ (r : Rights) where
-  lifecycle-alike : (q : Rights) → LooksWithin q r → (acts : Acts) (env : List Frame → Environment) (o p : Opening) → AlikeOpenings r o p → Alike r (block q acts (env o.frames) o.resources) (block q acts (env p.frames) p.resources)
-  lifecycle-alike q within acts env o p both =
-      subst (λ (fs : List Frame). Alike r (block q acts (env o.frames) o.resources) (block q acts (env fs) p.resources)) both.frames (block-within q r within acts (env o.frames) o.resources p.resources both.resources)
+  lifecycle-alike : (d : Option (List ℕ)) (q : Rights) → LooksWithin q r → (acts : Acts) (env : List Frame → Environment) (o p : Opening) → AlikeOpenings r o p → Alike r (block_unless d q acts (env o.frames) o.resources) (block_unless d q acts (env p.frames) p.resources)
+  lifecycle-alike d q within acts env o p both =
+      subst (λ (fs : List Frame). Alike r (block_unless d q acts (env o.frames) o.resources) (block_unless d q acts (env fs) p.resources)) both.frames (unless-within d q r within acts (env o.frames) o.resources p.resources both.resources)
 
   pub before_all-alike : (c : ClassHead) (cs : List ClassHead) → LooksWithin (class_rights (c ∷ cs)) r → (o p : Opening) → AlikeOpenings r o p → Alike r (before_all c cs o) (before_all c cs p)
   before_all-alike c cs within o p both =
-      lifecycle-alike (class_rights (c ∷ cs)) within c.before_all (λ fs. environment (statics_of fs ++ at_literals Static c.statics) 0 (words_of (c ∷ cs) BeforeAll)) o p both
+      lifecycle-alike c.disabled (class_rights (c ∷ cs)) within c.before_all (λ fs. environment (statics_of fs ++ at_literals Static c.statics) 0 (words_of (c ∷ cs) BeforeAll)) o p both
 
   pub after_all-alike : (c : ClassHead) (cs : List ClassHead) → LooksWithin (class_rights (c ∷ cs)) r → (o p : Opening) → AlikeOpenings r o p → Alike r (after_all c cs o) (after_all c cs p)
-  after_all-alike c cs within o p both = lifecycle-alike (class_rights (c ∷ cs)) within c.after_all (λ fs. environment (statics_of fs) 0 (words_of (c ∷ cs) AfterAll)) o p both
+  after_all-alike c cs within o p both = lifecycle-alike None (class_rights (c ∷ cs)) within (acts_unless c.disabled c.after_all) (λ fs. environment (statics_of fs) 0 (words_of (c ∷ cs) AfterAll)) o p both
 
   pub opened-alike : (o p : Opening) (s t : State) → AlikeOpenings r o p → Alike r s t → AlikeOpenings r (opened o s) (opened p t)
   opened-alike o p s t both after = record {
@@ -152,11 +169,20 @@ module _ (r : Rights) where
   after_each-alike [] b d both = both
   after_each-alike (c ∷ cs) b d both = after_each-alike cs _ _ (block_of_test-alike (words_of (c ∷ cs) AfterEach) (c ∷ cs) c.after_each b d both)
 
+blocks-alike : (t : TestHead) (cs : List ClassHead) (b d : Body) → AlikeBodies (test_rights t cs) b d → AlikeBodies (test_rights t cs) (blocks_of_test t cs b) (blocks_of_test t cs d)
+blocks-alike t cs b d both =
+    let r = test_rights t cs in
+    after_each-alike r cs _ _ (where_well-alike r (block_of_test r Test cs t.body) (block_of_test-alike r Test cs t.body) _ _ (before_each-alike r cs _ _ both))
+
+blocks_unless-alike : (r : Rights) (e : Option (List ℕ)) (f : Body → Body) (b d : Body) → AlikeBodies r b d → AlikeBodies r (f b) (f d) → AlikeBodies r (blocks_unless e f b) (blocks_unless e f d)
+blocks_unless-alike r None f b d both each = each
+blocks_unless-alike r (Some reason) f b d both each = record { names = both.names; resources = both.resources; printed = both.printed; lines = both.lines; endings = refl }
+
 pub test-alike : (t : TestHead) (cs : List ClassHead) (o p : Opening) → AlikeOpenings (test_rights t cs) o p → AlikeBodies (test_rights t cs) (test t cs o) (test t cs p)
 test-alike t cs o p both =
     let r = test_rights t cs in
     let begun : AlikeBodies r (begun_test cs o) (begun_test cs p) = record { names = ap (λ (fs : List Frame). (begun_test cs (record o { frames = fs })).names) both.frames; resources = both.resources; printed = refl; lines = refl; endings = refl } in
-    after_each-alike r cs _ _ (where_well-alike r (block_of_test r Test cs t.body) (block_of_test-alike r Test cs t.body) _ _ (before_each-alike r cs _ _ begun))
+    blocks_unless-alike r t.disabled (blocks_of_test t cs) _ _ begun (blocks-alike t cs _ _ begun)
 
 -- the outcomes are equal
 class_outcome-same : (fs : List Frame) (s t : State) → s.here ≡ t.here → class_outcome fs s ≡ class_outcome fs t

@@ -19,6 +19,7 @@ pub mod MemoryLemmas
 pub mod NameLemmas
 pub mod Output
 pub mod Pairs
+pub mod PlaceLemmas
 pub mod PropertyLemmas
 pub mod RightsLemmas
 pub mod SameLemmas

@@ -5,7 +5,7 @@ use Rattle.iso_model.specs.declared.data.Data.{Data}
 use Rattle.iso_model.specs.declared.fault.Fault.TheVariants as F
 use Rattle.iso_model.specs.declared.names.Binding.{Binding}
 
-abbrev with_value : Binding → Data → Binding
+abbrev pub with_value : Binding → Data → Binding
 with_value b v = bound b.sort b.name v
 
 pub place_of-le : (bs : List Binding) (x : List ℕ) → place_of bs x ≤ length bs

@@ -1,18 +1,19 @@
 -- The names of a test outlast its blocks, and the first of them are those of its outer classes.
-use Rattle.std.proofs.Common.{◌≡◌, ◌+◌, List, [], ◌∷◌, ◌++◌, length, map, take, drop, append_assoc, Bool, true, false, cond, refl, sym, ap, ◌∙◌, arith}
+use Rattle.std.proofs.Common.{◌≡◌, ◌+◌, List, [], ◌∷◌, ◌++◌, length, map, take, drop, append_assoc, ℕ, Option, Some, None, Bool, true, false, cond, refl, sym, ap, ◌∙◌, arith}
 use Rattle.std.proofs.lemmas.List.{map-append, length-append, length-map, length-drop, take-append-drop}
 use Rattle.std.proofs.Math.Seq.{take-append_seam, take-length}
 use Rattle.std.specs.List.{list_all}
 use Rattle.iso_model.specs.Changes.{lasting}
 use Rattle.iso_model.specs.Chains.{ClassHead, TestHead, class_rights, test_rights}
-use Rattle.iso_model.specs.Environments.{environment}
+use Rattle.iso_model.specs.Disabled.{block_unless}
+use Rattle.iso_model.specs.Environments.{Environment, environment}
 use Rattle.iso_model.specs.Names.{bound, at_literals, frozen}
 use Rattle.iso_model.specs.Openings.{Frame, Opening, words_of, statics_of, before_all, opened, opening}
 use Rattle.iso_model.specs.Resources.{Resources}
 use Rattle.iso_model.specs.Rights.{Rights}
 use Rattle.iso_model.specs.Statements.{is_well}
 use Rattle.iso_model.specs.Syntax.{Acts}
-use Rattle.iso_model.specs.Tests.{Body, test_names, names_in, seen_from, unseen_from, block_of_test, where_well, before_each, after_each, begun_test, test}
+use Rattle.iso_model.specs.Tests.{Body, test_names, names_in, seen_from, unseen_from, block_of_test, blocks_of_test, blocks_unless, where_well, before_each, after_each, begun_test, test}
 use Rattle.iso_model.specs.declared.heads.Variable.{Variable}
 use Rattle.iso_model.specs.declared.names.Binding.{Binding}
 use Rattle.iso_model.specs.declared.names.Sort.TheVariants.{Static, Frozen, Field}
@@ -46,13 +47,25 @@ module _ (r : Rights) where
   after_each-lasts (c ∷ cs) b =
       after_each-lasts cs (block_of_test r (words_of (c ∷ cs) AfterEach) (c ∷ cs) c.after_each b) ∙ block_of_test-lasts (words_of (c ∷ cs) AfterEach) (c ∷ cs) c.after_each b
 
-pub test-lasts : (t : TestHead) (cs : List ClassHead) (o : Opening) → map lasting (test t cs o).names ≡ map lasting (test_names cs o.frames)
-test-lasts t cs o =
+blocks-last : (t : TestHead) (cs : List ClassHead) (d : Body) → map lasting (blocks_of_test t cs d).names ≡ map lasting d.names
+blocks-last t cs d =
     let r = test_rights t cs in
-    let b = before_each r cs (begun_test cs o) in
+    let b = before_each r cs d in
     after_each-lasts r cs (where_well (block_of_test r Test cs t.body) b)
     ∙ where_well-lasts r (block_of_test r Test cs t.body) (block_of_test-lasts r Test cs t.body) b
-    ∙ before_each-lasts r cs (begun_test cs o)
+    ∙ before_each-lasts r cs d
+
+blocks_unless-lasts : (e : Option (List ℕ)) (f : Body → Body) (b : Body) → map lasting (f b).names ≡ map lasting b.names → map lasting (blocks_unless e f b).names ≡ map lasting b.names
+blocks_unless-lasts None f b same = same
+blocks_unless-lasts (Some reason) f b same = refl
+
+pub test-lasts : (t : TestHead) (cs : List ClassHead) (o : Opening) → map lasting (test t cs o).names ≡ map lasting (test_names cs o.frames)
+test-lasts t cs o = blocks_unless-lasts t.disabled (blocks_of_test t cs) (begun_test cs o) (blocks-last t cs (begun_test cs o))
+
+-- a block that is left out leaves all names too
+pub block_unless-length : (d : Option (List ℕ)) (r : Rights) (acts : Acts) (env : Environment) (m : Resources) → length (block_unless d r acts env m).here.env.names ≡ length env.names
+block_unless-length None r acts env m = block-length r acts env m
+block_unless-length (Some reason) r acts env m = refl
 
 -- where an opening ended well, that of the enclosing classes did
 outer-well_at : (c : ClassHead) (cs : List ClassHead) (o : Opening) (b : Bool) → o.well ≡ b → (cond b (opened o (before_all c cs o)) o).well ≡ true → b ≡ true
@@ -69,7 +82,7 @@ opening-opened c cs start well = ap (λ (b : Bool). cond b (opened (opening cs s
 before_all-length : (c : ClassHead) (cs : List ClassHead) (o : Opening) → length (before_all c cs o).here.env.names ≡ length (statics_of o.frames) + length c.statics
 before_all-length c cs o =
     let statics = statics_of o.frames in
-    block-length (class_rights (c ∷ cs)) c.before_all (environment (statics ++ at_literals Static c.statics) 0 (words_of (c ∷ cs) BeforeAll)) o.resources
+    block_unless-length c.disabled (class_rights (c ∷ cs)) c.before_all (environment (statics ++ at_literals Static c.statics) 0 (words_of (c ∷ cs) BeforeAll)) o.resources
     ∙ length-append statics (at_literals Static c.statics)
     ∙ ap (λ n. length statics + n) (length-map c.statics (λ (v : Variable). bound Static v.name v.value))
 

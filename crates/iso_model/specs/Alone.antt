@@ -6,6 +6,7 @@ use Rattle.iso_model.specs.Statements.{State}
 use Rattle.iso_model.specs.Blocks.{block}
 use Rattle.iso_model.specs.Environments.{environment}
 use Rattle.iso_model.specs.Chains.{ClassHead, TestHead, class_rights, test_rights}
+use Rattle.iso_model.specs.Disabled.{acts_unless}
 use Rattle.iso_model.specs.Openings.{Frame, Opening, words_of, statics_of, before_all, opened, opening}
 use Rattle.iso_model.specs.Tests.{Body, test}
 use Rattle.iso_model.specs.Verdicts.{verdict, barred_verdict}
@@ -21,10 +22,10 @@ barred (f ∷ fs) = record { verdict = barred_verdict f.ending; output = [] }
 abbrev pub test_outcome : Body → Outcome
 test_outcome b = record { verdict = verdict b.endings; output = b.lines }
 
--- `after_all` of the innermost class, on the resources and statics that its `before_all` left
+-- `after_all` of the innermost class, on the resources and statics that its `before_all` left; a disabled class's does nothing
 abbrev pub after_all : ClassHead → List ClassHead → Opening → State
 after_all c cs o =
-    block (class_rights (c ∷ cs)) c.after_all (environment (statics_of o.frames) 0 (words_of (c ∷ cs) AfterAll)) o.resources
+    block (class_rights (c ∷ cs)) (acts_unless c.disabled c.after_all) (environment (statics_of o.frames) 0 (words_of (c ∷ cs) AfterAll)) o.resources
 
 -- the outcome of a class: `before_all` and then `after_all`, whatever the first did
 abbrev pub class_outcome : List Frame → State → Outcome

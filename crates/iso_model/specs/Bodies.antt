@@ -1,12 +1,13 @@
 -- Bodies, one step at a time: the block under way, the jobs after it, and the step that does what is left first.
 -- A chain is a list of class heads, innermost first.
-use Rattle.std.specs.Prelude.{◌≡◌, ℕ, zero, suc, ◌+◌, List, [], ◌∷◌, ◌++◌, length, take, drop, Bool, true, false}
+use Rattle.std.specs.Prelude.{◌≡◌, ℕ, zero, suc, ◌+◌, List, [], ◌∷◌, ◌++◌, length, take, drop, Option, Some, None, Bool, true, false}
 use Rattle.iso_model.specs.Rights.{Rights}
 use Rattle.iso_model.specs.Resources.{Resources}
 use Rattle.iso_model.specs.Statements.{Local}
 use Rattle.iso_model.specs.Steps.{Piece, Point, Machine, IsReady, first_point, finish, is_done, machine_at, point, some_left, step}
 use Rattle.iso_model.specs.Environments.{Environment, environment}
 use Rattle.iso_model.specs.Chains.{ClassHead, TestHead}
+use Rattle.iso_model.specs.Disabled.{disabled_ending}
 use Rattle.iso_model.specs.Names.{frozen}
 use Rattle.iso_model.specs.Openings.{Frame, statics_of}
 use Rattle.iso_model.specs.Tests.{Body, test_names}
@@ -32,6 +33,10 @@ body_at a m = record { names = a.names; resources = m; printed = a.printed; line
 -- a body that has done nothing yet, with these names
 abbrev pub fresh_account : List Binding → Account
 fresh_account names = record { names = names; printed = 0; lines = []; endings = [] }
+
+-- a body of a disabled node, with these names: it has ended where it begins
+abbrev pub disabled_account : List ℕ → List Binding → Account
+disabled_account reason names = record (fresh_account names) { endings = disabled_ending reason ∷ [] }
 
 -- what a body has beside its block under way: the names that the block doesn't see, and the lines and endings of the
 -- blocks before it
@@ -84,12 +89,17 @@ abbrev pub stage_from : List Job → Account → Stage
 stage_from [] a = ended a
 stage_from (j ∷ js) a = stage_if (is_due j a.endings) (stage_from js) j js a
 
+-- a body at its beginning, with these names and jobs; where its node is disabled, its end
+abbrev pub stage_unless : Option (List ℕ) → List Binding → List Job → Stage
+stage_unless None names js = stage_from js (fresh_account names)
+stage_unless (Some reason) names js = ended (disabled_account reason names)
+
 -- the bodies of `before_all`, of a test and of `after_all` at their beginning, on what these openings left
 abbrev pub opening_stage : ClassHead → List ClassHead → List Frame → Stage
-opening_stage c cs frames = stage_from (before_all_jobs c cs frames) (fresh_account (opening_names c frames))
+opening_stage c cs frames = stage_unless c.disabled (opening_names c frames) (before_all_jobs c cs frames)
 
 abbrev pub test_stage : TestHead → List ClassHead → List Frame → Stage
-test_stage t cs frames = stage_from (test_jobs t cs) (fresh_account (test_names cs frames))
+test_stage t cs frames = stage_unless t.disabled (test_names cs frames) (test_jobs t cs)
 
 abbrev pub closing_stage : ClassHead → List ClassHead → List Frame → Stage
 closing_stage c cs frames = stage_from (after_all_jobs c cs frames) (fresh_account (statics_of frames))

@@ -1,15 +1,16 @@
 -- The class chain of a test or a class, and the access rights that it gives.
-use Rattle.std.specs.Prelude.{List, [], ◌∷◌, ◌++◌}
+use Rattle.std.specs.Prelude.{ℕ, List, [], ◌∷◌, ◌++◌, Option, None}
 use Rattle.iso_model.specs.Rights.{Rights, rights_of}
 use Rattle.iso_model.specs.Syntax.{Acts, no_acts}
 use Rattle.iso_model.specs.declared.heads.Mark.{Mark}
 use Rattle.iso_model.specs.declared.heads.Variable.{Variable}
 
--- what a class gives to the tests under it; its name, its mode and its members aren't in it
+-- what a class gives to the tests under it, and why it is disabled, if it is; its name, its mode and its members aren't in it
 pub record ClassHead : Type 0 where
   pub statics : List Variable
   pub fields : List Variable
   pub marks : List Mark
+  pub disabled : Option (List ℕ)
   pub before_all : Acts
   pub after_all : Acts
   pub before_each : Acts
@@ -17,11 +18,12 @@ pub record ClassHead : Type 0 where
 
 -- the head of a class in which nothing but members is written
 abbrev pub empty_head : ClassHead
-empty_head = record { statics = []; fields = []; marks = []; before_all = no_acts; after_all = no_acts; before_each = no_acts; after_each = no_acts }
+empty_head = record { statics = []; fields = []; marks = []; disabled = None; before_all = no_acts; after_all = no_acts; before_each = no_acts; after_each = no_acts }
 
--- what a test itself has
+-- what a test itself has, and why it is disabled, if it is
 pub record TestHead : Type 0 where
   pub marks : List Mark
+  pub disabled : Option (List ℕ)
   pub body : Acts
 
 -- the marks of a list of classes, innermost first

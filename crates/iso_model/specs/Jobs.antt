@@ -8,6 +8,7 @@ use Rattle.iso_model.specs.Statements.{State, is_well}
 use Rattle.iso_model.specs.Blocks.{block}
 use Rattle.iso_model.specs.Environments.{environment}
 use Rattle.iso_model.specs.Chains.{ClassHead, TestHead}
+use Rattle.iso_model.specs.Disabled.{acts_unless}
 use Rattle.iso_model.specs.Names.{at_literals}
 use Rattle.iso_model.specs.Openings.{Frame, words_of, statics_of}
 use Rattle.iso_model.specs.Tests.{Body, names_in}
@@ -63,12 +64,12 @@ body_of_block s =
 abbrev pub opening_names : ClassHead → List Frame → List Binding
 opening_names c frames = statics_of frames ++ at_literals Static c.statics
 
--- `before_all` of the innermost class, which sees all names of its body, and `after_all`, which sees all statics
+-- `before_all` of the innermost class, which sees all names of its body, and `after_all`, which sees all statics and has nothing to do where the class is disabled
 abbrev pub before_all_jobs : ClassHead → List ClassHead → List Frame → List Job
 before_all_jobs c cs frames = job (words_of (c ∷ cs) BeforeAll) c.before_all (length (opening_names c frames)) false ∷ []
 
 abbrev pub after_all_jobs : ClassHead → List ClassHead → List Frame → List Job
-after_all_jobs c cs frames = job (words_of (c ∷ cs) AfterAll) c.after_all (length (statics_of frames)) false ∷ []
+after_all_jobs c cs frames = job (words_of (c ∷ cs) AfterAll) (acts_unless c.disabled c.after_all) (length (statics_of frames)) false ∷ []
 
 -- `before_each` and `after_each` of the innermost class of a chain, and a test's own block
 abbrev pub before_each_job : ClassHead → List ClassHead → Job

@@ -6,6 +6,7 @@ pub mod BodyAgreement
 pub mod Changes
 pub mod Chains
 pub mod ChainView
+pub mod Disabled
 pub mod Environments
 pub mod Evaluation
 pub mod Examples
@@ -16,6 +17,7 @@ pub mod Lines
 pub mod LinesView
 pub mod Memory
 pub mod Names
+pub mod NamePlaces
 pub mod NameSets
 pub mod Openings
 pub mod Properties
@@ -29,6 +31,7 @@ pub mod Steps
 pub mod Syntax
 pub mod SyntaxCodes
 pub mod SyntaxView
+pub mod Targets
 pub mod Tests
 pub mod Texts
 pub mod Touch

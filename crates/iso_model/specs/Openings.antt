@@ -4,7 +4,7 @@ use Rattle.std.specs.Prelude.{ℕ, List, [], ◌∷◌, ◌++◌, length, drop, 
 use Rattle.iso_model.specs.Resources.{Resources}
 use Rattle.iso_model.specs.Names.{at_literals, frozen}
 use Rattle.iso_model.specs.Statements.{State, is_well}
-use Rattle.iso_model.specs.Blocks.{block}
+use Rattle.iso_model.specs.Disabled.{block_unless}
 use Rattle.iso_model.specs.Environments.{environment}
 use Rattle.iso_model.specs.Chains.{ClassHead, class_rights}
 use Rattle.iso_model.specs.declared.names.Binding.{Binding}
@@ -37,10 +37,10 @@ abbrev pub statics_of : List Frame → List Binding
 statics_of [] = []
 statics_of (f ∷ fs) = statics_of fs ++ f.statics
 
--- `before_all` of the innermost class: it sees the statics of the enclosing classes, and its own at their literals
+-- `before_all` of the innermost class: it sees the statics of the enclosing classes, and its own at their literals. A disabled class's is left out.
 abbrev pub before_all : ClassHead → List ClassHead → Opening → State
 before_all c cs o =
-    block (class_rights (c ∷ cs)) c.before_all (environment (statics_of o.frames ++ at_literals Static c.statics) 0 (words_of (c ∷ cs) BeforeAll)) o.resources
+    block_unless c.disabled (class_rights (c ∷ cs)) c.before_all (environment (statics_of o.frames ++ at_literals Static c.statics) 0 (words_of (c ∷ cs) BeforeAll)) o.resources
 
 -- the opening with the innermost class's `before_all` ended
 abbrev pub opened : Opening → State → Opening

@@ -5,7 +5,9 @@ use Rattle.iso_model.specs.Chains as C
 use Rattle.iso_model.specs.Scripts.{Class, class, Member, class_member, test_member, Members, no_members, member}
 use Rattle.iso_model.specs.Scripts as S
 use Rattle.iso_model.specs.SyntaxView.{block_of}
+use Rattle.iso_model.specs.declared.heads.ClassContents.{ClassContents}
 use Rattle.iso_model.specs.declared.heads.ClassHead.{ClassHead}
+use Rattle.iso_model.specs.declared.heads.TestContents.{TestContents}
 use Rattle.iso_model.specs.declared.heads.TestHead.{TestHead}
 use Rattle.iso_model.specs.declared.script.Class as D
 use Rattle.iso_model.specs.declared.script.Member as M
@@ -13,22 +15,29 @@ use Rattle.iso_model.specs.declared.script.Member.TheOpen.{Member-F, Class-F}
 use Rattle.iso_model.specs.declared.script.Script.{Script}
 use Rattle.iso_model.specs.declared.script.Test.{Test}
 
--- what a class's head stands for
-abbrev pub class_head_of : ClassHead → C.ClassHead
-class_head_of h =
+-- what the contents of a class stand for, a head without marks; and its head
+abbrev pub class_contents_of : ClassContents → C.ClassHead
+class_contents_of c =
     record {
-      statics = h.statics.items;
-      fields = h.fields.items;
-      marks = h.marks.items;
-      before_all = block_of h.before_all.items;
-      after_all = block_of h.after_all.items;
-      before_each = block_of h.before_each.items;
-      after_each = block_of h.after_each.items;
+      statics = c.statics.items;
+      fields = c.fields.items;
+      marks = [];
+      disabled = c.disabled;
+      before_all = block_of c.before_all.items;
+      after_all = block_of c.after_all.items;
+      before_each = block_of c.before_each.items;
+      after_each = block_of c.after_each.items;
     }
 
--- what a test's head stands for
+abbrev pub class_head_of : ClassHead → C.ClassHead
+class_head_of h = record (class_contents_of (arc_value h.contents)) { marks = h.marks.items }
+
+-- what the contents of a test stand for, a head without marks; and its head
+abbrev pub test_contents_of : TestContents → C.TestHead
+test_contents_of c = record { marks = []; disabled = c.disabled; body = block_of c.body.items }
+
 abbrev pub test_head_of : TestHead → C.TestHead
-test_head_of h = record { marks = h.marks.items; body = block_of h.body.items }
+test_head_of h = record (test_contents_of (arc_value h.contents)) { marks = h.marks.items }
 
 -- what a test stands for
 abbrev pub test_of : Test → S.Test

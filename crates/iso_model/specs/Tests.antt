@@ -1,6 +1,6 @@
 -- Test execution: the `before_each` blocks outermost first, the test, the `after_each` blocks innermost first (JUnit 5, test lifecycle).
 -- A chain is a list of class heads, innermost first.
-use Rattle.std.specs.Prelude.{ℕ, ◌+◌, List, [], ◌∷◌, ◌++◌, length, take, drop, cond}
+use Rattle.std.specs.Prelude.{ℕ, ◌+◌, List, [], ◌∷◌, ◌++◌, length, take, drop, Option, Some, None, cond}
 use Rattle.std.specs.List.{list_all}
 use Rattle.iso_model.specs.Rights.{Rights}
 use Rattle.iso_model.specs.Resources.{Resources}
@@ -10,6 +10,7 @@ use Rattle.iso_model.specs.Statements.{is_well}
 use Rattle.iso_model.specs.Blocks.{block}
 use Rattle.iso_model.specs.Environments.{environment}
 use Rattle.iso_model.specs.Chains.{ClassHead, TestHead, test_rights}
+use Rattle.iso_model.specs.Disabled.{disabled_ending}
 use Rattle.iso_model.specs.Openings.{Frame, Opening, words_of}
 use Rattle.iso_model.specs.declared.names.Binding.{Binding}
 use Rattle.iso_model.specs.declared.names.Sort.TheVariants.{Field}
@@ -74,8 +75,17 @@ after_each r (c ∷ cs) b = after_each r cs (block_of_test r (words_of (c ∷ cs
 abbrev pub begun_test : List ClassHead → Opening → Body
 begun_test cs o = record { names = test_names cs o.frames; resources = o.resources; printed = 0; lines = []; endings = [] }
 
--- a test on what the opening of its chain left; all its blocks have the rights of the whole chain
-abbrev pub test : TestHead → List ClassHead → Opening → Body
-test t cs o =
+-- all blocks of a test, which have the rights of the whole chain
+abbrev pub blocks_of_test : TestHead → List ClassHead → Body → Body
+blocks_of_test t cs b =
     let r = test_rights t cs in
-    after_each r cs (where_well (block_of_test r Test cs t.body) (before_each r cs (begun_test cs o)))
+    after_each r cs (where_well (block_of_test r Test cs t.body) (before_each r cs b))
+
+-- what the blocks of a test come to; where the test is disabled, that none of them runs
+abbrev pub blocks_unless : Option (List ℕ) → (Body → Body) → Body → Body
+blocks_unless None blocks b = blocks b
+blocks_unless (Some reason) blocks b = record b { endings = disabled_ending reason ∷ [] }
+
+-- a test on what the opening of its chain left
+abbrev pub test : TestHead → List ClassHead → Opening → Body
+test t cs o = blocks_unless t.disabled (blocks_of_test t cs) (begun_test cs o)

@@ -14,7 +14,7 @@ use Rattle.iso_model.specs.declared.place.Lifecycle.TheVariants.{BeforeAll, Afte
 use Rattle.iso_model.specs.declared.place.BlockName.{BlockName}
 use Rattle.iso_model.specs.declared.place.BlockName.TheVariants.{Test, Class}
 use Rattle.iso_model.specs.declared.place.Place.{Place}
-use Rattle.iso_model.specs.declared.place.Place.TheVariants.{Row}
+use Rattle.iso_model.specs.declared.place.Place.TheVariants.{Row, Disabled}
 
 -- the text of a value, as `text` gives it: a number in decimal, with `-` where it is negative; `true` or `false`; a text itself
 abbrev pub text_of : Data → List ℕ
@@ -88,3 +88,4 @@ row_text block row = block_words block ++ codes " row " ++ decimal row
 -- a place
 abbrev pub place_text : Place → List ℕ
 place_text (Row block row) = row_text block row
+place_text Disabled = codes "disabled"

@@ -1,11 +1,12 @@
 //! Worked examples of bodies that are done step by step, as public laws.
-ghost use Rattle.std.specs.Prelude.{◌≡◌, ◌-◌, [], ◌∷◌, true, false};
+ghost use Rattle.std.specs.Prelude.{◌≡◌, ◌-◌, [], ◌∷◌, codes, true, false};
 ghost use Rattle.iso_model.specs.Bodies.{body_at, is_ended};
 ghost use Rattle.iso_model.specs.Chains.{empty_head};
 ghost use Rattle.iso_model.specs.Examples.Bodies.{after_all_after, before_all_after, so_far, test_after, to_begin};
-ghost use Rattle.iso_model.specs.Examples.Lifecycles.{does_nothing, fails_before_each, inner, no_database, outer, prints_t};
+ghost use Rattle.iso_model.specs.Examples.Lifecycles.{disabled_class, disabled_test, does_nothing, fails_before_each, inner, no_database, outer, prints_t};
 ghost use Rattle.iso_model.specs.Examples.Names.{counts_up, has_static, prints_n, sets_static};
 ghost use Rattle.iso_model.specs.Examples.Words.{in_class, in_test, lines, note};
+ghost use Rattle.iso_model.specs.Disabled.{disabled_ending};
 ghost use Rattle.iso_model.specs.declared.outcome.Ending.TheVariants.{Fail, Well};
 ghost use Rattle.iso_model.specs.declared.place.BlockName.TheVariants.{Class, Test};
 ghost use Rattle.iso_model.specs.declared.place.Lifecycle.TheVariants.{AfterAll, AfterEach, BeforeAll, BeforeEach};
@@ -49,4 +50,14 @@ pub fn lifecycle_of_a_class_is_two_bodies()
         × ((so_far g.stage).endings ≡ Fail (note "no db" (in_class 1 BeforeAll)) ∷ []) }
     ensures after_all { let g = after_all_after 1 no_database in
         (is_ended g.stage ≡ false) × ((so_far g.stage).lines ≡ lines ("close" ∷ [])) × ((so_far g.stage).printed ≡ 6) }
+{}
+
+/// A body of a disabled node has ended where it begins; a disabled class's `after_all` has nothing to do.
+pub fn disabled_bodies_end_where_they_begin()
+    ensures test { let g = test_after 0 disabled_test (inner ∷ outer ∷ []) in
+        (is_ended g.stage ≡ true) × ((so_far g.stage).endings ≡ disabled_ending (codes "later") ∷ []) × ((so_far g.stage).lines ≡ []) }
+    ensures before_all { let g = before_all_after 0 disabled_class in
+        (is_ended g.stage ≡ true) × ((so_far g.stage).endings ≡ disabled_ending (codes "soon") ∷ []) × ((so_far g.stage).lines ≡ []) }
+    ensures after_all { let g = after_all_after 0 disabled_class in
+        (is_ended g.stage ≡ true) × ((so_far g.stage).endings ≡ Well ∷ []) × ((so_far g.stage).lines ≡ []) }
 {}

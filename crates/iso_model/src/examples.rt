@@ -3,10 +3,12 @@
 ghost use Rattle.std.specs.Prelude.{◌≡◌, ◌-◌, [], ◌∷◌, Ok, Err, codes, map, replicate, true, false, pos, negsuc};
 ghost use Rattle.iso_model.specs.Alone.{after_all, test_alone, class_alone};
 ghost use Rattle.iso_model.specs.Chains.{empty_head};
+ghost use Rattle.iso_model.specs.Keys.{properties_key};
 ghost use Rattle.iso_model.specs.Openings.{opening};
 ghost use Rattle.iso_model.specs.Resources.{empty_world};
 ghost use Rattle.iso_model.specs.Steps.{is_done};
 ghost use Rattle.iso_model.specs.Syntax.{act, locale, no_acts, repeat};
+ghost use Rattle.iso_model.specs.Targets.{effective};
 ghost use Rattle.iso_model.specs.Tests.{test};
 ghost use Rattle.iso_model.specs.Texts.{place_text};
 ghost use Rattle.iso_model.specs.declared.access.Access.TheVariants.{Read};
@@ -15,14 +17,15 @@ ghost use Rattle.iso_model.specs.declared.fault.Fault.TheVariants as F;
 ghost use Rattle.iso_model.specs.declared.fault.FaultKind.TheVariants as K;
 ghost use Rattle.iso_model.specs.declared.outcome.Ending.TheVariants.{Assumed, Fail, Fault, Well};
 ghost use Rattle.iso_model.specs.declared.place.Lifecycle.TheVariants.{BeforeAll, AfterAll, BeforeEach, AfterEach};
+ghost use Rattle.iso_model.specs.declared.place.Place.TheVariants.{Disabled};
 ghost use Rattle.iso_model.specs.Examples.Words.{quoted, number, minus, flag, name, add, subtract, multiply, join, equal, not_equal, less, text, len, prop, has_prop, file, has_file};
-ghost use Rattle.iso_model.specs.Examples.Words.{body, reads, on_row, let_name, assign, print, assert, assert_equal, assume, fail, if_then, if_else, set_prop, clear_prop, set_locale, append_file, write_file, delete_file, repeats, repeats_twice, takes_name_twice, long, writes, file_a};
+ghost use Rattle.iso_model.specs.Examples.Words.{body, for_children, reads, on_row, let_name, assign, print, assert, assert_equal, assume, fail, if_then, if_else, set_prop, clear_prop, set_locale, append_file, write_file, delete_file, repeats, repeats_twice, takes_name_twice, long, writes, file_a};
 ghost use Rattle.iso_model.specs.Examples.Words.{property_a_is_1, values_of, endings_of, block_with, by_itself, ending_on_row_3, by_single_steps, steps_left};
 ghost use Rattle.iso_model.specs.Examples.Words.{in_test, in_class, note, lines, passed, failed, faulted, skipped, blocked, fault_here};
 ghost use Rattle.iso_model.specs.Examples.Resources.{sets_x_first, sets_y, expects_x, marks_locale, marks_locale_inside, prints_all, closes_file};
 ghost use Rattle.iso_model.specs.Examples.Resources.{changes_b, sets_2, writes_properties, sets_1, reads_and_sets_1, prints_a, reads_and_prints_a, reads_properties, looks_around, clears_a, writes_and_deletes, prints_locale};
 ghost use Rattle.iso_model.specs.Examples.Lifecycles.{outer, inner, prints_t, no_database, does_nothing, opens_inside, assumes_before_each, fails_before_each};
-ghost use Rattle.iso_model.specs.Examples.Lifecycles.{assumes_false, assumes_twice, fails_late, assumes_false_first};
+ghost use Rattle.iso_model.specs.Examples.Lifecycles.{assumes_false, assumes_twice, disabled_class, disabled_test, fails_late, assumes_false_first};
 ghost use Rattle.iso_model.specs.Examples.Names.{counts_up, prints_n, sets_static, has_static, assigns_n, declares_n, assigns_static_before_each, assigns_outer_static};
 ghost use Rattle.iso_model.specs.Examples.Names.{assigns_inner_field, has_field, prints_field_first};
 
@@ -150,6 +153,30 @@ pub fn false_assumption_in_before_all_skips_all()
     ensures class { class_alone assumes_false_first [] empty_world
         ≡ skipped "no #1" (in_class 1 BeforeAll) [] }
     ensures first { class_alone assumes_twice [] empty_world ≡ skipped "no #1" (in_class 1 BeforeAll) [] }
+{}
+
+/// A mark with `children` counts on each child of its class alone, and there as one of the child's own, after these.
+pub fn marks_of_children_are_theirs()
+    ensures class { effective [] (for_children (writes properties_key) ∷ reads file_a ∷ []) ≡ reads file_a ∷ [] }
+    ensures child { effective (for_children (writes properties_key) ∷ reads file_a ∷ []) (reads properties_key ∷ [])
+        ≡ reads properties_key ∷ writes properties_key ∷ [] }
+    ensures grandchild { effective (reads properties_key ∷ []) (reads file_a ∷ []) ≡ reads file_a ∷ [] }
+{}
+
+/// None of a disabled test's blocks runs. It is skipped with its reason, unless an enclosing class's opening barred it.
+pub fn disabled_test_is_skipped()
+    ensures own { test_alone disabled_test (inner ∷ outer ∷ []) empty_world ≡ skipped "later" Disabled [] }
+    ensures blocked { test_alone disabled_test (no_database ∷ []) empty_world ≡ blocked "no db" (in_class 1 BeforeAll) [] }
+    ensures place { place_text Disabled ≡ codes "disabled" }
+{}
+
+/// None of a disabled class's blocks runs. All in it is skipped with its reason, nested classes too, and enclosing ones aren't.
+pub fn disabled_class_skips_all_in_it()
+    ensures class { class_alone disabled_class [] empty_world ≡ skipped "soon" Disabled [] }
+    ensures test { test_alone prints_t (disabled_class ∷ []) empty_world ≡ skipped "soon" Disabled [] }
+    ensures inner { class_alone opens_inside (disabled_class ∷ []) empty_world ≡ skipped "soon" Disabled [] }
+    ensures outer { test_alone disabled_test (disabled_class ∷ []) empty_world ≡ skipped "soon" Disabled [] }
+    ensures enclosing { class_alone disabled_class (no_database ∷ []) empty_world ≡ blocked "no db" (in_class 1 BeforeAll) [] }
 {}
 
 /// Each test begins with the fields at their literals.

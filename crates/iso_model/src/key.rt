@@ -4,27 +4,31 @@ ghost use Rattle.iso_model.specs.Keys.{file_key};
 use crate::text::Text;
 use std::alloc::{AllocError, Global};
 use std::marker::Model;
+use std::sync::Arc;
 
-/// The key of a declared resource or lock, which contracts see as its spelling.
+/// The key of a declared resource or lock, which contracts see as its spelling. Equal keys may share it.
 #[derive(Drop)]
 pub struct Key {
-    spelling: Text,
+    spelling: Arc<Text>,
 }
 
 impl Model for Key {
     ghost use Rattle.std.specs.Prelude.{List, ℕ};
+    ghost use Rattle.std.specs.Arc.{arc_value};
 
     ghost Value = { List ℕ };
 
-    ghost view = { λ k. k.spelling };
+    ghost view = { λ k. arc_value k.spelling };
 }
 
 impl Key {
     /// The key that is spelled so.
-    pub fn new(spelling: Text) -> Key
-        ensures { result ≡ spelling }
+    pub fn new(alloc: Global, spelling: Text) -> Result<Key, AllocError>
+        ensures { IfOk result (λ k. k ≡ spelling) }
     {
-        Key { spelling }
+        Ok(Key {
+            spelling: Arc::new(alloc, spelling)?,
+        })
     }
 
     /// The key of the virtual file at a path.
@@ -33,7 +37,7 @@ impl Key {
     {
         let mut spelling = String::from_str(alloc, "file:")?;
         spelling.push_str(path)?;
-        Ok(Key::new(Text::new(spelling)))
+        Key::new(alloc, Text::new(spelling))
     }
 
     /// Its spelling.
@@ -43,10 +47,12 @@ impl Key {
         self.spelling.as_str()
     }
 
-    /// An equal key.
-    pub fn copy(&self, alloc: Global) -> Result<Key, AllocError>
+    /// An equal key, which shares the spelling.
+    pub fn share(&self) -> Result<Key, AllocError>
         ensures { IfOk result (λ k. k ≡ self.now) }
     {
-        Ok(Key::new(self.spelling.copy(alloc)?))
+        Ok(Key {
+            spelling: self.spelling.clone()?,
+        })
     }
 }

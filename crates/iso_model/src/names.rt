@@ -1,6 +1,8 @@
-ghost use Rattle.std.specs.Prelude.{◌≡◌, ◌∷◌, ◌++◌, [], length, take, option_copied, nat_le, OnOk, OnErr, ◌+◌};
+ghost use Rattle.std.specs.Prelude.{◌≡◌, ◌∷◌, ◌++◌, [], length, take, option_copied, nat_le, IfOk, OnOk, OnErr, ◌+◌};
 ghost use Rattle.std.specs.Bool.{OnTrue, OnFalse};
 ghost use Rattle.iso_model.specs.declared.names.Sort.TheVariants.{Local};
+ghost use Rattle.iso_model.specs.declared.names.Binding.{Binding};
+ghost use Rattle.iso_model.specs.NamePlaces.{Tells};
 ghost use Rattle.iso_model.specs.Names.{bound, binding_of, assigned, assignment, is_frozen, place_of};
 ghost use Rattle.iso_model.specs.Environments.{environment};
 
@@ -8,8 +10,12 @@ use crate::data::Data;
 use crate::limits::{BLOCK_STEPS, OUTPUT_BYTES};
 use crate::place::BlockName;
 use crate::text::Text;
-use std::alloc::AllocError;
+use std::alloc::{AllocError, Global};
+use std::collections::BTreeMap;
 use std::marker::Model;
+
+/// So many visible names are few: they are looked up one after another.
+pub const FEW_NAMES: usize = 32;
 
 /// What a visible name stands for.
 #[derive(Clone, Copy, PartialEq, Eq)]
@@ -56,6 +62,8 @@ pub enum AssignFault {
 #[derive(Drop)]
 pub struct Names {
     bindings: Vec<Binding>,
+    /// Where each visible name stands first, once `index` has found it out. Names that were dropped stay in it.
+    places: Option<BTreeMap<String, usize>>,
     steps: u32,
     printed: u32,
     block: BlockName,
@@ -63,10 +71,13 @@ pub struct Names {
 
 impl Model for Names {
     ghost use Rattle.iso_model.specs.Environments.{Environment};
+    ghost use Rattle.iso_model.specs.NamePlaces.{TellsWhereMade};
 
     ghost Value = { Environment };
 
     ghost view = { λ n. record { names = n.bindings.items; steps = n.steps; printed = n.printed; block = n.block } };
+
+    ghost invariant = { λ n. TellsWhereMade n.places n.bindings.items };
 }
 
 impl Names {
@@ -76,6 +87,7 @@ impl Names {
     {
         Names {
             bindings,
+            places: None,
             steps: BLOCK_STEPS,
             printed,
             block,
@@ -93,12 +105,29 @@ impl Names {
     pub fn get(&self, name: &str) -> Option<&Binding>
         ensures { option_copied result ≡ binding_of self.now.names name.now }
     {
-        for binding in &self.bindings {
-            if name == binding.name.as_str() {
-                return Some(binding);
-            }
+        self.bindings.get(self.place(name))
+    }
+
+    /// Where a name stands first, or the number of names.
+    fn place(&self, name: &str) -> usize
+        ensures { result ≡ place_of self.now.names name.now }
+    {
+        match &self.places {
+            None => place_of(&self.bindings, name),
+            Some(places) => place_in(places, &self.bindings, name),
         }
-        None
+    }
+
+    /// Makes later look-ups quick, unless few names are visible: then nothing is done, and no memory is taken.
+    /// The first time it takes as long as some 50 look-ups of the last name.
+    pub fn index(&mut self) -> Result<(), AllocError>
+        ensures { self.new ≡ self.old }
+    {
+        if self.places.is_none() && self.bindings.len() > FEW_NAMES {
+            let alloc = *self.bindings.allocator();
+            self.places = Some(places_of(alloc, &self.bindings)?);
+        }
+        Ok(())
     }
 
     /// A local more.
@@ -106,6 +135,10 @@ impl Names {
         ensures ok { OnOk result (self.new ≡ record self.old { names = self.old.names ++ bound Local name value ∷ [] }) }
         ensures err { OnErr result (self.new ≡ self.old) }
     {
+        if let Some(places) = &mut self.places {
+            let alloc = *self.bindings.allocator();
+            add_place(alloc, places, &self.bindings, name.as_str())?;
+        }
         self.bindings.push(Binding {
             name,
             value,
@@ -128,7 +161,7 @@ impl Names {
         ensures rest { self.new ≡ record self.old { names = self.new.names } }
         ensures err { OnErr result (self.new ≡ self.old) }
     {
-        let place = place_of(&self.bindings, name);
+        let place = self.place(name);
         if place == self.bindings.len() {
             return Err(AssignFault::UnknownName);
         }
@@ -207,4 +240,51 @@ fn place_of(bindings: &[Binding], name: &str) -> usize
         place += 1;
     }
     place
+}
+
+/// The same, by what was found out of these bindings. A name that was dropped may have left a place.
+fn place_in(places: &BTreeMap<String, usize>, bindings: &[Binding], name: &str) -> usize
+    ensures { Tells places.now bindings.now → result ≡ place_of bindings.now name.now }
+{
+    let Some(place) = places.get(name) else {
+        return bindings.len();
+    };
+    let place = *place;
+    if place < bindings.len() && name == bindings[place].name.as_str() {
+        return place;
+    }
+    bindings.len()
+}
+
+/// Adds the place of a name that is to stand after these bindings, unless it stands among them.
+fn add_place(
+    alloc: Global,
+    places: &mut BTreeMap<String, usize>,
+    bindings: &[Binding],
+    name: &str,
+) -> Result<(), AllocError>
+    ensures same { Tells places.old bindings.now → Tells places.new bindings.now }
+    ensures added { OnOk result ((b : Binding) → b.name ≡ name.now
+        → Tells places.old bindings.now → Tells places.new (bindings.now ++ b ∷ [])) }
+{
+    if place_in(places, bindings, name) == bindings.len() {
+        places.insert(String::from_str(alloc, name)?, bindings.len())?;
+    }
+    Ok(())
+}
+
+/// Where each name of these bindings stands first.
+fn places_of(alloc: Global, bindings: &[Binding]) -> Result<BTreeMap<String, usize>, AllocError>
+    ensures { IfOk result (λ places. Tells places bindings.now) }
+{
+    let mut places = BTreeMap::new(alloc);
+    for place in 0..bindings.len() {
+        add_place(
+            alloc,
+            &mut places,
+            &bindings[..place],
+            bindings[place].name.as_str(),
+        )?;
+    }
+    Ok(places)
 }

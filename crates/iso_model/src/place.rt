@@ -36,11 +36,13 @@ pub enum BlockName {
     Class(u32, Lifecycle),
 }
 
-/// Where a block ended.
+/// Where a block ended, or that it was left out.
 #[derive(Clone, Copy, PartialEq, Eq)]
 pub enum Place {
     /// A row of a block: 1 is the line of the block's opening brace.
     Row(BlockName, u32),
+    /// No block: the node is disabled, and none of its blocks ran.
+    Disabled,
 }
 
 impl BlockName {
@@ -74,6 +76,7 @@ impl Place {
     {
         match self {
             Place::Row(block, row) => block.at_row(row, alloc),
+            Place::Disabled => Text::copied(alloc, "disabled"),
         }
     }
 }

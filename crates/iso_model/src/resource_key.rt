@@ -35,9 +35,12 @@ impl<'a> ResourceKey<'a> {
     {
         match self {
             ResourceKey::Properties => {
-                Ok(Key::new(Text::copied(alloc, "java.lang.System.properties")?))
+                Key::new(alloc, Text::copied(alloc, "java.lang.System.properties")?)
             }
-            ResourceKey::Locale => Ok(Key::new(Text::copied(alloc, "java.util.Locale.default")?)),
+            ResourceKey::Locale => Key::new(
+                alloc,
+                Text::copied(alloc, "java.util.Locale.default")?,
+            ),
             ResourceKey::File(path) => Key::of_file(alloc, path),
         }
     }

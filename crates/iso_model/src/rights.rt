@@ -73,7 +73,7 @@ impl Layer {
         if covers(self.known(outer, &mark.key), mark.access) {
             return Ok(());
         }
-        let key = mark.key.copy(alloc)?;
+        let key = mark.key.share()?;
         self.entries.insert(0, (key, mark.access))?;
         Ok(())
     }

@@ -14,6 +14,15 @@ fn words_in(alloc: Global, line: &str) -> Result<Vec<String>, AllocError> {
     Ok(words)
 }
 
+/// Puts words to the end of a text, each after what it is.
+fn push_each(text: &mut String, what: &str, words: &[&str]) -> Result<(), AllocError> {
+    for word in words {
+        text.push_str(what)?;
+        text.push_str(word)?;
+    }
+    Ok(())
+}
+
 /// A request for these files, in words.
 fn files_text(alloc: Global, request: &str, files: &InputFiles<'_>) -> Result<String, AllocError> {
     let settings = files.settings.unwrap_or("none");
@@ -22,10 +31,8 @@ fn files_text(alloc: Global, request: &str, files: &InputFiles<'_>) -> Result<St
     let mut text = format!(in alloc;
         "{request}: settings {settings}, world {world}, processors {processors}"
     )?;
-    for script in &files.scripts {
-        text.push_str(", script ")?;
-        text.push_str(script)?;
-    }
+    push_each(&mut text, ", only ", &files.only)?;
+    push_each(&mut text, ", script ", &files.scripts)?;
     Ok(text)
 }
 
@@ -89,8 +96,22 @@ fn replay_takes_a_schedule_and_the_inputs_of_a_run(rt: HostRuntime) -> Result<()
     check_asked(&rt, rt.alloc(), line, want)
 }
 
+#[test]
+fn paths_stand_in_the_order_of_their_options(rt: HostRuntime) -> Result<(), AllocError> {
+    for request in &["run", "plan", "replay --schedule s"] {
+        let line = format!(in rt.alloc();
+            "{request} --only shop.Env.two a.jtap --only=shop --only= --only shop.Env.two b.jtap"
+        )?;
+        let found = asked(rt.alloc(), line.as_str())?;
+        let want =
+            ", only shop.Env.two, only shop, only , only shop.Env.two, script a.jtap, script b.jtap";
+        assert!(rt; found.as_str().ends_with(want), "of {line}: {found}");
+    }
+    Ok(())
+}
+
 /// Lines of words that ask for nothing.
-static REFUSED: [&str; 14] = [
+static REFUSED: [&str; 15] = [
     "plan --serial",
     "run --processors 0",
     "run --processors 1025",
@@ -98,6 +119,7 @@ static REFUSED: [&str; 14] = [
     "run --processors",
     "run --setings s.toml",
     "run --schedule steps",
+    "run a.jtap --only",
     "replay a.jtap",
     "replay --schedule",
     "replay --schedule steps --serial",

@@ -3,7 +3,7 @@ use crate::shared::{check_text, push_lines, set_property};
 use iso_model::access::Access;
 use iso_model::data::Data;
 use iso_model::fault::Fault;
-use iso_model::heads::Mark;
+use iso_model::heads::{Mark, Target};
 use iso_model::key::Key;
 use iso_model::lines::{LineSlice, Lines};
 use iso_model::names::{AssignFault, Names, Sort};
@@ -133,7 +133,7 @@ fn faults_name_the_resource(rt: HostRuntime) -> Result<(), AllocError> {
 }
 
 /// Places, with how they are named.
-static PLACES: [(Place, &str); 3] = [
+static PLACES: [(Place, &str); 4] = [
     (Place::Row(BlockName::Test, 1), "test row 1"),
     (
         Place::Row(BlockName::Class(1, Lifecycle::BeforeAll), 1),
@@ -143,6 +143,7 @@ static PLACES: [(Place, &str); 3] = [
         Place::Row(BlockName::Class(8, Lifecycle::AfterEach), 12),
         "class 8 after_each row 12",
     ),
+    (Place::Disabled, "disabled"),
 ];
 
 #[test]
@@ -167,7 +168,7 @@ fn word(value: &Resource) -> &str {
 
 /// The value that a key starts with.
 fn start(alloc: Global, key: &str) -> Result<Resource, AllocError> {
-    let key = Key::new(Text::copied(alloc, key)?);
+    let key = Key::new(alloc, Text::copied(alloc, key)?)?;
     Resource::starting(alloc, &key)
 }
 
@@ -250,10 +251,71 @@ fn visible_name_is_assigned(rt: HostRuntime) -> Result<(), AllocError> {
     Ok(())
 }
 
+/// Names that are declared again and again: so often that they are few, some more than few, and many.
+static AGAIN: [&str; 11] = ["a", "b", "c", "d", "e", "f", "g", "h", "i", "j", "k"];
+
+static TURNS: [i64; 3] = [2, 3, 10];
+
+/// Declares each of them, as the turn.
+fn declare_again(alloc: Global, names: &mut Names, turn: i64) -> Result<(), AllocError> {
+    for name in &AGAIN {
+        names.declare(Text::copied(alloc, name)?, Data::Whole(turn))?;
+    }
+    Ok(())
+}
+
+/// The names of so many turns.
+fn turned(alloc: Global, turns: i64) -> Result<Names, AllocError> {
+    let mut names = Names::new(Vec::new(alloc), 0, BlockName::Test);
+    for turn in 0..turns {
+        declare_again(alloc, &mut names, turn)?;
+    }
+    Ok(names)
+}
+
+/// Whether a name stands for this number.
+fn is_whole(names: &Names, name: &str, want: i64) -> bool {
+    names.get(name).is_some_and(
+        |binding| matches!(binding.value, Data::Whole(number) if number == want),
+    )
+}
+
+/// Assigns a name, declares one more, drops it with others, and declares one of those again.
+fn check_first_of_each(
+    rt: &impl Abort,
+    alloc: Global,
+    names: &mut Names,
+) -> Result<(), AllocError> {
+    names.index()?;
+    assert!(rt; is_whole(names, "k", 0));
+    assert!(rt; names.assign("k", Data::Whole(-1)).is_ok());
+    assert!(rt; is_whole(names, "k", -1));
+    names.declare(Text::copied(alloc, "z")?, Data::Whole(-2))?;
+    assert!(rt; is_whole(names, "z", -2));
+    names.keep(8);
+    assert!(rt; names.get("z").is_none() && names.get("k").is_none());
+    names.declare(Text::copied(alloc, "k")?, Data::Whole(-3))?;
+    assert!(rt; is_whole(names, "k", -3) && is_whole(names, "h", 0));
+    Ok(())
+}
+
+#[test]
+fn first_of_equal_names_counts(rt: HostRuntime) -> Result<(), AllocError> {
+    for turns in &TURNS {
+        let mut names = turned(rt.alloc(), *turns)?;
+        check_first_of_each(&rt, rt.alloc(), &mut names)?;
+    }
+    Ok(())
+}
+
 /// A mark on the key of file `a`.
 fn mark(alloc: Global, access: Access) -> Result<Mark, AllocError> {
     let key = Key::of_file(alloc, "a")?;
-    Ok(Mark { access, key })
+    Ok(Mark {
+        access,
+        target: Target::Itself,
+        key,
+    })
 }
 
 /// The rights of a test with the one mark in a class with the other.

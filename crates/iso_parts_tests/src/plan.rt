@@ -2,4 +2,5 @@
 mod limits;
 mod locks;
 pub(crate) mod scripts;
+mod selected;
 mod shown;

@@ -4,7 +4,7 @@ use Rattle.std.proofs.lemmas.List.Folds.{list_all-append}
 use Rattle.std.specs.List.{list_all}
 use Rattle.iso_model.specs.Scripts.{Class, class, Member, class_member, test_member, Members, no_members, member, Script}
 use Rattle.iso_plan.specs.Paths.{is_class_or_test, row_at}
-use Rattle.iso_plan.specs.Tree.{Row, member_rows, members_rows, class_rows, top_rows, team_rows, script_rows, tree}
+use Rattle.iso_plan.specs.Tree.{Row, member_rows, members_rows, class_rows, top_rows, team_rows, script_rows, written_tree}
 
 abbrev all_written : List Row → Bool
 all_written rows = list_all (λ (r : Row). is_class_or_test r.kind) rows
@@ -50,6 +50,6 @@ written-at [] i h less = absurd (omega arith)
 written-at (r ∷ rows) zero h less = (split_by (is_class_or_test r.kind) (all_written rows) h).0
 written-at (r ∷ rows) (suc i) h less = written-at rows i (split_by (is_class_or_test r.kind) (all_written rows) h).1 (omega arith)
 
-pub tree-full : (ss : List Script) (n : ℕ) → 0 < n → n < length (tree ss) → is_class_or_test (row_at (tree ss) n).kind ≡ true
+pub tree-full : (ss : List Script) (n : ℕ) → 0 < n → n < length (written_tree ss) → is_class_or_test (row_at (written_tree ss) n).kind ≡ true
 tree-full ss zero pos inside = absurd (omega arith)
 tree-full ss (suc n) pos inside = written-at (script_rows 1 ss) n (scripts-written ss 1) (omega arith)

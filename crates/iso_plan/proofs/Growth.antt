@@ -42,9 +42,9 @@ bounded v v' F G A e =
     let n : length v.items + (length F + length G) ≡ length v'.items + length A = simp (length-append, length-map) at (ap length e) in
     omega (arith, v.ok.0, v'.ok.0)
 
-pub full-more : (k m : ℕ) (e : PlanError) → k ≤ m → IsFull k e → IsFull m e
-full-more k m (Fault fault) h f = (f.0, omega arith)
-full-more k m OutOfMemory h f = f
+pub full-more : (most k m : ℕ) (e : PlanError) → k ≤ m → IsFull most k e → IsFull most m e
+full-more most k m (Fault fault) h f = (f.0, omega arith)
+full-more most k m OutOfMemory h f = f
 
 -- a class is what is written before its members, and these
 pub class-is : (c : Class) → class_of c ≡ class (title_of c) (members_of (map member_of c.members.items))
@@ -59,13 +59,13 @@ grown-first R R1 R2 x y p n n1 ms ms' first same number next members rest =
     ∙ ap₂ (λ (q : ℕ) (xs : List Member). R ++ y ∷ members_rows q (n + 1) (members_of (map member_of xs))) number members
 
 -- and what is refused among its members is refused of it
-pub full-rest : {A : Type 0} (r : Result A PlanError) (y : T.Row) (p n n1 : ℕ) (ms ms' : List Member) → p ≡ n → n1 ≡ n + 1 → ms ≡ ms'
-    → IfErr r (IsFull (n1 + length (members_rows p n1 (members_of (map member_of ms))))) → IfErr r (IsFull (n + length (y ∷ members_rows n (n + 1) (members_of (map member_of ms')))))
-full-rest r y p n n1 ms ms' number next members full =
+pub full-rest : {A : Type 0} (most : ℕ) (r : Result A PlanError) (y : T.Row) (p n n1 : ℕ) (ms ms' : List Member) → p ≡ n → n1 ≡ n + 1 → ms ≡ ms'
+    → IfErr r (IsFull most (n1 + length (members_rows p n1 (members_of (map member_of ms))))) → IfErr r (IsFull most (n + length (y ∷ members_rows n (n + 1) (members_of (map member_of ms')))))
+full-rest most r y p n n1 ms ms' number next members full =
     let count : ℕ → ℕ → List Member → ℕ = λ q m xs. length (members_rows q m (members_of (map member_of xs))) in
     let same : count p n1 ms ≡ count n (n + 1) ms' = ap₂ (λ (q m : ℕ). count q m ms) number next ∙ ap (count n (n + 1)) members in
-    IfErr-weaker r (IsFull (n1 + count p n1 ms)) (IsFull (n + length (y ∷ members_rows n (n + 1) (members_of (map member_of ms'))))) (λ e f. full-more (n1 + count p n1 ms) (n + length (y ∷ members_rows n (n + 1) (members_of (map member_of ms')))) e (omega arith) f) full
+    IfErr-weaker r (IsFull most (n1 + count p n1 ms)) (IsFull most (n + length (y ∷ members_rows n (n + 1) (members_of (map member_of ms'))))) (λ e f. full-more most (n1 + count p n1 ms) (n + length (y ∷ members_rows n (n + 1) (members_of (map member_of ms')))) e (omega arith) f) full
 
 -- a node that there is no room for is refused, and so is what begins with it
-pub full-first : (n : ℕ) (y : T.Row) (rest : List T.Row) (e : PlanError) → IsFull (n + 1) e → IsFull (n + length (y ∷ rest)) e
-full-first n y rest e f = full-more (n + 1) (n + length (y ∷ rest)) e (omega arith) f
+pub full-first : (most n : ℕ) (y : T.Row) (rest : List T.Row) (e : PlanError) → IsFull most (n + 1) e → IsFull most (n + length (y ∷ rest)) e
+full-first most n y rest e f = full-more most (n + 1) (n + length (y ∷ rest)) e (omega arith) f

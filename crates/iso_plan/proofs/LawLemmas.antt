@@ -1,5 +1,5 @@
 -- What the laws of a plan rest on: rights down a path, keys that are taken, and conflicts.
-use Rattle.std.proofs.Common.{◌≡◌, ◌⊎◌, ℕ, zero, suc, ◌<◌, List, [], ◌∷◌, ◌++◌, Option, Some, None, Bool, true, false, ◌||◌, ◌&&◌, ◌==◌, cond, length, map, not, ⊎_elim, inl, inr, refl, sym, ap, ap₂, ◌∙◌, arith, bytes_eq}
+use Rattle.std.proofs.Common.{◌≡◌, ◌⊎◌, ℕ, zero, suc, ◌<◌, List, [], ◌∷◌, ◌++◌, Option, Some, None, Bool, true, false, ◌||◌, ◌&&◌, ◌==◌, cond, filter, length, map, not, ⊎_elim, inl, inr, refl, sym, ap, ap₂, ◌∙◌, arith, bytes_eq}
 use Rattle.std.proofs.lemmas.Bool.Decides.{nat_tests}
 use Rattle.std.proofs.lemmas.Cmp.{nat_list_eq_equiv}
 use Rattle.std.proofs.lemmas.List.Folds.{list_any-append}
@@ -11,16 +11,19 @@ use Rattle.indexmap.specs.IndexSet.{insert_all, insert_key}
 use Rattle.iso_model.proofs.RightsLemmas.{strongest-none, strongest-assoc, strongest-comm, rights_of-append}
 use Rattle.iso_model.specs.Chains.{ClassHead, marks_of}
 use Rattle.iso_model.specs.Keys.{global_key}
-use Rattle.iso_model.specs.Rights.{strongest, rights_of, is_readable, is_writable}
+use Rattle.iso_model.specs.Rights.{declared_by, strongest, rights_of, is_readable, is_writable}
 use Rattle.iso_model.specs.declared.access.Access.{Access}
 use Rattle.iso_model.specs.declared.access.Access.TheVariants.{Read, Write}
+use Rattle.iso_model.specs.Targets.{for_itself, is_target, marks_for}
 use Rattle.iso_model.specs.declared.heads.Mark.{Mark}
+use Rattle.iso_model.specs.declared.heads.Target.{Target}
+use Rattle.iso_model.specs.declared.heads.Target.TheVariants.{Itself, Children}
 use Rattle.iso_model.specs.declared.script.Mode.TheVariants.{SameThread}
 use Rattle.iso_plan.proofs.LockLemmas.{that-is, that-self, under-locking, locking-locks}
 use Rattle.iso_plan.proofs.PathLemmas.{IsBelow, along, chain-step, eq_from, eq_not, path-root, path-step}
 use Rattle.iso_plan.proofs.SoFar.{all-gathered, all-isolate, gathered_below, isolates_below}
 use Rattle.iso_plan.proofs.TopLemmas.{top, top-is, no-top, under-top, own-path}
-use Rattle.iso_plan.specs.KeyTable.{keys, mark_keys, marked_keys, written_marks}
+use Rattle.iso_plan.specs.KeyTable.{keys, mark_keys, marked_keys, kind_marks}
 use Rattle.iso_plan.specs.Locks.{conflict, declared, declares, effective_marks, exclude, gathered, global_access, holds_isolated, is_isolated, is_locking, is_marked, is_write, isolates, lock_of, locking_node, locks_from, marks_global, taken, takes_write}
 use Rattle.iso_plan.specs.Modes.{chosen_mode, mode}
 use Rattle.iso_plan.specs.NodeChains.{chain_classes, class_heads, heads_on, node_rights, rights_with}
@@ -34,7 +37,7 @@ of_classes root cs k h = refl
 of_classes (class_node isolated head) cs k h = refl
 of_classes (test_node head) cs k h = let wrong : true ≡ false = h in absurd (cc)
 
-rights_by : (kind : Kind) (cs : List ClassHead) (k : List ℕ) → rights_with kind (class_heads kind ++ cs) k ≡ strongest (rights_of (written_marks kind) k) (rights_of (marks_of cs) k)
+rights_by : (kind : Kind) (cs : List ClassHead) (k : List ℕ) → rights_with kind (class_heads kind ++ cs) k ≡ strongest (rights_of (kind_marks kind) k) (rights_of (marks_of cs) k)
 rights_by root cs k = refl
 rights_by (class_node isolated head) cs k = rights_of-append head.marks (marks_of cs) k
 rights_by (test_node head) cs k = rights_of-append head.marks (marks_of cs) k
@@ -241,24 +244,52 @@ marks_name : (ms : List Mark) (k : List ℕ) → is_readable (rights_of ms k) �
 marks_name [] k h = let wrong : false ≡ true = h in absurd (cc)
 marks_name (m ∷ ms) k h = mark_by m ms k (bytes_eq k m.key) h (marks_name ms k)
 
-rows_name : (rs : List Row) (j : ℕ) (k : List ℕ) → is_readable (rights_of (written_marks (row_at rs j).kind) k) ≡ true → list_any (bytes_eq k) (marked_keys rs) ≡ true
+rows_name : (rs : List Row) (j : ℕ) (k : List ℕ) → is_readable (rights_of (row_at rs j).written k) ≡ true → list_any (bytes_eq k) (marked_keys rs) ≡ true
 rows_name [] zero k h = let wrong : false ≡ true = h in absurd (cc)
 rows_name [] (suc j) k h = let wrong : false ≡ true = h in absurd (cc)
 rows_name (r ∷ rs) zero k h =
-    list_any-append (bytes_eq k) (mark_keys (written_marks r.kind)) (marked_keys rs)
-    ∙ or_left (list_any (bytes_eq k) (mark_keys (written_marks r.kind))) (list_any (bytes_eq k) (marked_keys rs)) (marks_name (written_marks r.kind) k h)
+    list_any-append (bytes_eq k) (mark_keys r.written) (marked_keys rs)
+    ∙ or_left (list_any (bytes_eq k) (mark_keys r.written)) (list_any (bytes_eq k) (marked_keys rs)) (marks_name r.written k h)
 rows_name (r ∷ rs) (suc j) k h =
-    list_any-append (bytes_eq k) (mark_keys (written_marks r.kind)) (marked_keys rs)
-    ∙ or_last (list_any (bytes_eq k) (mark_keys (written_marks r.kind))) (list_any (bytes_eq k) (marked_keys rs)) (rows_name rs j k h)
-
--- a key that a node declares has a number
-keys_have : (tree : List Row) (j : ℕ) (k : List ℕ) → is_readable (rights_of (written_marks (row_at tree j).kind) k) ≡ true → list_any (bytes_eq k) (keys tree) ≡ true
-keys_have tree j k h = all_have (marked_keys tree) (global_key ∷ []) k (rows_name tree j k h)
+    list_any-append (bytes_eq k) (mark_keys r.written) (marked_keys rs)
+    ∙ or_last (list_any (bytes_eq k) (mark_keys r.written)) (list_any (bytes_eq k) (marked_keys rs)) (rows_name rs j k h)
 
 -- the first of two, or the second
 readable_cases : (a b : Option Access) → is_readable (strongest a b) ≡ true → (is_readable a ≡ true) ⊎ (is_readable b ≡ true)
 readable_cases None b h = inr h
 readable_cases (Some a) b h = inl refl
+
+first_readable : (a b : Option Access) → is_readable a ≡ true → is_readable (strongest a b) ≡ true
+first_readable None b h = let wrong : false ≡ true = h in absurd (cc)
+first_readable (Some a) None h = refl
+first_readable (Some a) (Some b) h = refl
+
+-- what some of the written marks declare, all of them do
+some_by : (m : Mark) (ms some : List Mark) (k : List ℕ) → (b : Bool) → is_readable (rights_of (map for_itself (cond b (m ∷ some) some)) k) ≡ true
+    → (is_readable (rights_of (map for_itself some) k) ≡ true → is_readable (rights_of ms k) ≡ true) → is_readable (rights_of (m ∷ ms) k) ≡ true
+some_by m ms some k true h ih =
+    ⊎_elim (first_readable (declared_by m k) (rights_of ms k)) (λ g. readable_more (declared_by m k) (rights_of ms k) (ih g))
+    (readable_cases (declared_by m k) (rights_of (map for_itself some) k) h)
+some_by m ms some k false h ih = readable_more (declared_by m k) (rights_of ms k) (ih h)
+
+written_for : (t : Target) (ms : List Mark) (k : List ℕ) → is_readable (rights_of (marks_for t ms) k) ≡ true → is_readable (rights_of ms k) ≡ true
+written_for t [] k h = h
+written_for t (m ∷ ms) k h = some_by m ms (filter (λ n. is_target t n.target) ms) k (is_target t m.target) h (written_for t ms k)
+
+-- a key that a node declares has a number
+known_by : (tree : List Row) (k : List ℕ) → list_any (bytes_eq k) (marked_keys tree) ≡ true → list_any (bytes_eq k) (keys tree) ≡ true
+known_by tree k h = all_have (marked_keys tree) (global_key ∷ []) k h
+
+keys_have : (tree : List Row) → IsTree tree → (j : ℕ) (k : List ℕ) → j < length tree → is_readable (rights_of (kind_marks (row_at tree j).kind) k) ≡ true → list_any (bytes_eq k) (keys tree) ≡ true
+keys_have tree t zero k less h =
+    let wrong : false ≡ true = sym (ap (λ (r : Row). is_readable (rights_of (kind_marks r.kind) k)) t.root_is) ∙ h in absurd (cc)
+keys_have tree t (suc j) k less h =
+    let above = (row_at tree (parent tree (suc j))).written in
+    let own = (row_at tree (suc j)).written in
+    let both = ap is_readable (sym (rights_of-append (marks_for Itself own) (marks_for Children above) k)) ∙ ap (λ (ms : List Mark). is_readable (rights_of ms k)) (sym (t.marked (suc j) (omega arith) less)) ∙ h in
+    ⊎_elim (λ g. known_by tree k (rows_name tree (suc j) k (written_for Itself own k g)))
+    (λ g. known_by tree k (rows_name tree (parent tree (suc j)) k (written_for Children above k g)))
+    (readable_cases (rights_of (marks_for Itself own) k) (rights_of (marks_for Children above) k) both)
 
 -- a node with a number below l that is m or stands in it, and declares the key
 record Declarer (tree : List Row) (m : ℕ) (k : List ℕ) (l : ℕ) : Type 0 where
@@ -312,10 +343,10 @@ takes-only tree m k h =
     ⊎_elim (λ g. or_last (is_locking tree m) (is_top tree m) g.0) (λ g. or_left (is_locking tree m) (is_top tree m) g.0) (takes-by tree m k h)
 
 -- a key that is taken has a number
-pub taken-known : (tree : List Row) (m : ℕ) (k : List ℕ) → is_readable (taken tree m k) ≡ true → list_any (bytes_eq k) (keys tree) ≡ true
-taken-known tree m k h =
+pub taken-known : (tree : List Row) → IsTree tree → (m : ℕ) (k : List ℕ) → is_readable (taken tree m k) ≡ true → list_any (bytes_eq k) (keys tree) ≡ true
+taken-known tree t m k h =
     ⊎_elim (λ g. ap (λ (j : List ℕ). list_any (bytes_eq j) (keys tree)) (sym g.1) ∙ global_known tree)
-    (λ g. let d = declarer tree m k g.1 in keys_have tree d.node k d.reads)
+    (λ g. let d = declarer tree m k g.1 in keys_have tree t d.node k d.less d.reads)
     (takes-by tree m k h)
 
 readable_of : (a : Option Access) → is_writable a ≡ true → is_readable a ≡ true
@@ -337,8 +368,8 @@ locks_write : (f : List ℕ → Option Access) (ks : List (List ℕ)) (k : List 
 locks_write f [] k i h w = h
 locks_write f (x ∷ ks) k i h w = writes_by f x ks k i w (bytes_eq k x) refl h (λ rest. locks_write f ks k (suc i) rest w)
 
-pub taken-writes : (tree : List Row) (m : ℕ) (k : List ℕ) → is_writable (taken tree m k) ≡ true → takes_write tree m ≡ true
-taken-writes tree m k w = locks_write (taken tree m) (keys tree) k 0 (taken-known tree m k (readable_of (taken tree m k) w)) w
+pub taken-writes : (tree : List Row) → IsTree tree → (m : ℕ) (k : List ℕ) → is_writable (taken tree m k) ≡ true → takes_write tree m ≡ true
+taken-writes tree t m k w = locks_write (taken tree m) (keys tree) k 0 (taken-known tree t m k (readable_of (taken tree m k) w)) w
 
 on_by : (test : ℕ → Bool) (n : ℕ) (ns : List ℕ) (m : ℕ) → test m ≡ true → (t : Bool) → (n == m) ≡ t → (t || is_on ns m) ≡ true → (is_on ns m ≡ true → list_any test ns ≡ true) → (test n || list_any test ns) ≡ true
 on_by test n ns m w true e h ih =
@@ -357,9 +388,9 @@ forced_mode tree s (suc n) f true h = ap (λ (b : Bool). cond (true && not false
 forced_mode tree s (suc n) f false h = refl
 
 -- what stands in a node that takes a key for READ_WRITE is on the same thread
-pub forced : (tree : List Row) (s : Settings) (m n : ℕ) (k : List ℕ) → is_under tree m (parent tree n) ≡ true → is_writable (taken tree m k) ≡ true → mode tree s n ≡ SameThread
-forced tree s m n k u w =
-    forced_mode tree s n (list_any (takes_write tree) (path tree (parent tree n))) s.parallel (on_path (takes_write tree) (path tree (parent tree n)) m u (taken-writes tree m k w))
+pub forced : (tree : List Row) → IsTree tree → (s : Settings) (m n : ℕ) (k : List ℕ) → is_under tree m (parent tree n) ≡ true → is_writable (taken tree m k) ≡ true → mode tree s n ≡ SameThread
+forced tree t s m n k u w =
+    forced_mode tree s n (list_any (takes_write tree) (path tree (parent tree n))) s.parallel (on_path (takes_write tree) (path tree (parent tree n)) m u (taken-writes tree t m k w))
 
 alone_by : (m n : ℕ) → (t : Bool) → (n == m) ≡ t → (t || false) ≡ true → m ≡ n
 alone_by m n true e h = sym (eq_from n m e)

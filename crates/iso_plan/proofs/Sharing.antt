@@ -1,7 +1,7 @@
 -- A plan may be shared by threads, as workers of one run do. The check finds this by itself for no type that holds a recursive one, as statements
 -- are; so it is told here, from expressions up to plans.
 use denote.Param.Send.{IsSend, IsSync, sendable}
-use denote.Param.SendFields.{as_row_send, as_row_sync, declared_send, declared_sync, variants_sync}
+use denote.Param.SendFields.{as_row_send, as_row_sync, declared_send, declared_sync, variants_send, variants_sync}
 use Rattle.std.proofs.Crossing.{Box-send, Box-sync, Vec-send, Vec-sync, crosses}
 use Rattle.iso_model.proofs.data.Data.TheSendSync as datum
 use Rattle.iso_model.proofs.heads.Mark.TheSendSync as marks
@@ -15,7 +15,9 @@ use Rattle.iso_model.proofs.tree.Form.TheLaws.TheKnot as form
 use Rattle.iso_model.proofs.tree.Function.TheSendSync as function
 use Rattle.iso_model.proofs.tree.Operator.TheSendSync as operator
 use Rattle.iso_model.specs.contracts.tree.Expr as expr
+use Rattle.iso_model.specs.contracts.heads.ClassContents as class_contents
 use Rattle.iso_model.specs.contracts.heads.ClassHead as class
+use Rattle.iso_model.specs.contracts.heads.TestContents as test_contents
 use Rattle.iso_model.specs.contracts.heads.TestHead as test
 use Rattle.iso_model.specs.contracts.tree.Stmt as stmt
 use Rattle.iso_plan.proofs.lock.Lock.TheSendSync as lock
@@ -31,6 +33,9 @@ use Rattle.iso_settings.proofs.settings.Settings.TheSendSync as settings
 pub option_shared : (T : RattleType) → IsSync T → IsSync (option.the_row T)
 option_shared T s = variants_sync (option.enum T) (tt, ((as_row_sync (row_field T) s, tt), tt))
 
+pub option_sent : (T : RattleType) → IsSend T → IsSend (option.the_row T)
+option_sent T s = variants_send (option.enum T) (tt, ((as_row_send (row_field T) s, tt), tt))
+
 pub expr_sent : IsSend (expr.the_field).row
 expr_sent = exprs.send-Expr datum.the_field_send text.the_send operator.the_field_send Box-send Vec-send comparison.the_field_send function.the_field_send
 
@@ -43,19 +48,33 @@ stmt_sent = as_row_send stmt.the_field (form.send-Stmt text.the_send expr_sent V
 pub stmt_shared : IsSync stmt.the_row
 stmt_shared = as_row_sync stmt.the_field (form.sync-Stmt text.the_sync expr_shared Vec-sync (search sendable))
 
-ruleset parts = (as_row_send, as_row_sync, option_shared, stmt_sent, stmt_shared, marks.the_send, marks.the_sync, variables.the_send, variables.the_sync, rights.the_sync, mode.the_sync, text.the_sync, lock.the_sync, settings.the_sync, crosses, sendable)
+ruleset parts = (as_row_send, as_row_sync, option_sent, option_shared, stmt_sent, stmt_shared, marks.the_send, marks.the_sync, variables.the_send, variables.the_sync, rights.the_sync, mode.the_sync, text.the_send, text.the_sync, lock.the_sync, settings.the_sync, crosses, sendable)
+
+pub class_contents_sent : IsSend class_contents.the_row
+class_contents_sent = declared_send class_contents.the_type (search parts, (search parts, (search parts, (search parts, (search parts, (search parts, (search parts, tt)))))))
+
+pub class_contents_shared : IsSync class_contents.the_row
+class_contents_shared = declared_sync class_contents.the_type (search parts, (search parts, (search parts, (search parts, (search parts, (search parts, (search parts, tt)))))))
+
+pub test_contents_sent : IsSend test_contents.the_row
+test_contents_sent = declared_send test_contents.the_type (search parts, (search parts, tt))
+
+pub test_contents_shared : IsSync test_contents.the_row
+test_contents_shared = declared_sync test_contents.the_type (search parts, (search parts, tt))
+
+ruleset contents = (class_contents_sent, class_contents_shared, test_contents_sent, test_contents_shared, parts)
 
 pub class_sent : IsSend class.the_row
-class_sent = declared_send class.the_type (search parts, (search parts, (search parts, (search parts, (search parts, (search parts, (search parts, tt)))))))
+class_sent = declared_send class.the_type (search contents, (search contents, tt))
 
 pub class_shared : IsSync class.the_row
-class_shared = declared_sync class.the_type (search parts, (search parts, (search parts, (search parts, (search parts, (search parts, (search parts, tt)))))))
+class_shared = declared_sync class.the_type (search contents, (search contents, tt))
 
 pub test_sent : IsSend test.the_row
-test_sent = declared_send test.the_type (search parts, (search parts, tt))
+test_sent = declared_send test.the_type (search contents, (search contents, tt))
 
 pub test_shared : IsSync test.the_row
-test_shared = declared_sync test.the_type (search parts, (search parts, tt))
+test_shared = declared_sync test.the_type (search contents, (search contents, tt))
 
 ruleset heads = (class_sent, class_shared, test_sent, test_shared, parts)
 
@@ -63,7 +82,7 @@ pub kind_shared : IsSync kind.the_row
 kind_shared = variants_sync kind.enum (tt, ((search heads, (search heads, tt)), ((search heads, tt), tt)))
 
 pub row_shared : IsSync row.the_row
-row_shared = declared_sync row.the_type (search parts, (kind_shared, (search parts, (search parts, (search parts, tt)))))
+row_shared = declared_sync row.the_type (search parts, (kind_shared, (search parts, (search parts, (search parts, (search parts, tt))))))
 
 ruleset rows = (row_shared, heads)
 

@@ -34,7 +34,7 @@ taken_below tree m k n =
 abbrev under_below : List Row → ℕ → ℕ → List ℕ
 under_below tree m n = filter (is_under tree m) (range_with_len 0 n)
 
-numbers_more : (n : ℕ) → range_with_len 0 (suc n) ≡ range_with_len 0 n ++ n ∷ []
+pub numbers_more : (n : ℕ) → range_with_len 0 (suc n) ≡ range_with_len 0 n ++ n ∷ []
 numbers_more n =
     ap (range_with_len 0) (sym (add-one n)) ∙ sym (map-id (range_with_len 0 (n + 1))) ∙ map-range_with_len_more (λ j. j) 0 n n (omega arith)
     ∙ ap (λ ns. ns ++ n ∷ []) (map-id (range_with_len 0 n))

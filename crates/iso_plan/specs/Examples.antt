@@ -5,6 +5,7 @@ use Rattle.iso_model.specs.Scripts.{Class, class, Member, class_member, test_mem
 use Rattle.iso_model.specs.Syntax.{no_acts}
 use Rattle.iso_model.specs.declared.access.Access.TheVariants.{Read, Write}
 use Rattle.iso_model.specs.declared.heads.Mark.{Mark}
+use Rattle.iso_model.specs.declared.heads.Target.TheVariants.{Itself, Children}
 use Rattle.iso_model.specs.declared.script.Mode.{Mode}
 use Rattle.iso_model.specs.declared.script.Mode.TheVariants.{SameThread, Concurrent}
 use Rattle.iso_plan.specs.Tree.{Row, tree}
@@ -16,18 +17,18 @@ abbrev pub key_k : List ℕ
 key_k = codes "K"
 
 abbrev pub reads : List ℕ → Mark
-reads k = record { access = Read; key = k }
+reads k = record { access = Read; target = Itself; key = k }
 
 abbrev pub writes : List ℕ → Mark
-writes k = record { access = Write; key = k }
+writes k = record { access = Write; target = Itself; key = k }
 
 -- a class's head with marks alone
 abbrev pub head_with : List Mark → ClassHead
-head_with marks = record { statics = []; fields = []; marks = marks; before_all = no_acts; after_all = no_acts; before_each = no_acts; after_each = no_acts }
+head_with marks = record { statics = []; fields = []; marks = marks; disabled = None; before_all = no_acts; after_all = no_acts; before_each = no_acts; after_each = no_acts }
 
 -- an empty test
 abbrev pub a_test : List ℕ → Option Mode → List Mark → Member
-a_test name mode marks = test_member (record { name = name; display = None; mode = mode; head = record { marks = marks; body = no_acts } })
+a_test name mode marks = test_member (record { name = name; display = None; mode = mode; head = record { marks = marks; disabled = None; body = no_acts } })
 
 abbrev pub a_class : List ℕ → Option Mode → Bool → List Mark → Members → Class
 a_class name mode isolated marks ms = class (record { name = name; display = None; mode = mode; isolated = isolated; head = head_with marks }) ms
@@ -126,3 +127,32 @@ plain name = a_class name None false [] (member (a_test (codes "t") None []) no_
 -- nodes 1 to 4 of class A { test t { } } class B { test t { } }: A, t, B, t
 abbrev pub two_classes : List Row
 two_classes = tree (shop (plain (codes "A") ∷ plain (codes "B") ∷ []) ∷ [])
+
+-- the same for the children of the class
+abbrev pub for_children : Mark → Mark
+for_children m = record m { target = Children }
+
+-- nodes 1 to 3 of write children "K" class C { test a { } test b { } }: C, a, b
+abbrev pub writing_children : List Row
+writing_children =
+    tree (shop (a_class (codes "C") None false (for_children (writes key_k) ∷ [])
+    (member (a_test (codes "a") None []) (member (a_test (codes "b") None []) no_members)) ∷ []) ∷ [])
+
+-- nodes 1 to 4 of read children "K" class Out { class In { test t { } write "K" test u { } } }: Out, In, t, u
+abbrev pub reading_children : List Row
+reading_children =
+    tree (shop (a_class (codes "Out") None false (for_children (reads key_k) ∷ [])
+    (member (class_member (a_class (codes "In") None false []
+    (member (a_test (codes "t") None []) (member (a_test (codes "u") None (writes key_k ∷ [])) no_members)))) no_members) ∷ []) ∷ [])
+
+-- nodes 1 and 2 of write children "K" read "L" class C { test a { } }: C, a
+abbrev pub keys_of_children : List Row
+keys_of_children =
+    tree (shop (a_class (codes "C") None false (for_children (writes key_k) ∷ reads key_l ∷ [])
+    (member (a_test (codes "a") None []) no_members) ∷ []) ∷ [])
+
+-- nodes 1 and 2 of class A "B" { test t "u" { } }: A, t
+abbrev pub titled : List Row
+titled =
+    tree (shop (class (record { name = codes "A"; display = Some (codes "B"); mode = None; isolated = false; head = head_with [] })
+    (member (test_member (record { name = codes "t"; display = Some (codes "u"); mode = None; head = record { marks = []; disabled = None; body = no_acts } })) no_members) ∷ []) ∷ [])

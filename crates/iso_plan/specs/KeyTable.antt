@@ -7,11 +7,11 @@ use Rattle.iso_model.specs.Keys.{global_key}
 use Rattle.iso_model.specs.declared.heads.Mark.{Mark}
 use Rattle.iso_plan.specs.Tree.{Kind, root, class_node, test_node, Row}
 
--- the marks that are written on a node
-abbrev pub written_marks : Kind → List Mark
-written_marks root = []
-written_marks (class_node isolated head) = head.marks
-written_marks (test_node head) = head.marks
+-- the marks of a node's head: in the tree, its effective marks
+abbrev pub kind_marks : Kind → List Mark
+kind_marks root = []
+kind_marks (class_node isolated head) = head.marks
+kind_marks (test_node head) = head.marks
 
 -- the keys that marks name
 abbrev pub mark_keys : List Mark → List (List ℕ)
@@ -19,7 +19,7 @@ mark_keys marks = map (λ (m : Mark). m.key) marks
 
 -- the keys that are marked on nodes, in the order in which they are written
 abbrev pub marked_keys : List Row → List (List ℕ)
-marked_keys rows = flat_map (λ (r : Row). mark_keys (written_marks r.kind)) rows
+marked_keys rows = flat_map (λ (r : Row). mark_keys r.written) rows
 
 -- the first of each of some texts
 abbrev pub firsts : List (List ℕ) → List (List ℕ)

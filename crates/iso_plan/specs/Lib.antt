@@ -7,10 +7,14 @@ pub mod Faults
 pub mod IsPlan
 pub mod KeyTable
 pub mod Locks
+pub mod Merged
 pub mod Modes
 pub mod NodeChains
+pub mod PathTexts
 pub mod Paths
 pub mod Planned
 pub mod RowView
+pub mod SameNodes
+pub mod Selections
 pub mod Tables
 pub mod Tree

@@ -7,14 +7,14 @@ use Rattle.iso_model.specs.Rights.{Rights, strongest, rights_of, is_writable}
 use Rattle.iso_model.specs.declared.access.Access.{Access}
 use Rattle.iso_model.specs.declared.access.Access.TheVariants.{Read, Write}
 use Rattle.iso_model.specs.declared.heads.Mark.{Mark}
-use Rattle.iso_plan.specs.KeyTable.{keys, written_marks}
+use Rattle.iso_plan.specs.KeyTable.{keys, kind_marks}
 use Rattle.iso_plan.specs.Paths.{row_at, path, is_top, nodes_under, outermost}
 use Rattle.iso_plan.specs.Tree.{Kind, root, class_node, test_node, Row}
 use Rattle.iso_plan.specs.declared.lock.Lock.{Lock}
 
 -- the marks that count for a node
 abbrev pub effective_marks : List Row → ℕ → List Mark
-effective_marks tree n = written_marks (row_at tree n).kind
+effective_marks tree n = kind_marks (row_at tree n).kind
 
 -- what a node declares of its own
 abbrev pub declared : List Row → ℕ → Rights

@@ -2,6 +2,8 @@
 use Rattle.std.specs.Prelude.{◌≡◌, ℕ, zero, suc, ◌<◌, List, [], ◌∷◌, Option, Some, None, Bool, true, false, ◌||◌, ◌&&◌, ◌==◌, ◌++◌, filter, length, not, cond, slice_index_or}
 use Rattle.std.specs.List.{range_with_len}
 use Rattle.std.specs.Option.{option_or}
+use Rattle.iso_model.specs.Targets.{effective}
+use Rattle.iso_plan.specs.KeyTable.{kind_marks}
 use Rattle.iso_plan.specs.Tree.{Kind, root, class_node, test_node, Row, root_row}
 
 -- the node with a number
@@ -75,13 +77,20 @@ children_below tree m (suc n) = cond (not (is_root n) && parent tree n == m) (ch
 abbrev pub children : List Row → ℕ → List ℕ
 children tree m = children_below tree m (length tree)
 
--- there is a root, and each other node is a class or a test and stands in one with a smaller number, which is no test
+-- the first node stands in itself, and each other one in one with a smaller number
+pub record StandEarlier (rows : List Row) : Type 0 where
+  pub first : parent rows 0 ≡ 0
+  pub below : (n : ℕ) → 0 < n → parent rows n < n
+
+-- there is a root, and each other node is a class or a test, stands in one with a smaller number, which is no test, and has as the
+-- marks of its head those that are effective for it
 pub record IsTree (tree : List Row) : Type 0 where
   pub rooted : 0 < length tree
   pub root_is : row_at tree 0 ≡ root_row
   pub below : (n : ℕ) → 0 < n → parent tree n < n
   pub inner : (n : ℕ) → 0 < n → is_test (row_at tree (parent tree n)).kind ≡ false
   pub full : (n : ℕ) → 0 < n → n < length tree → is_class_or_test (row_at tree n).kind ≡ true
+  pub marked : (n : ℕ) → 0 < n → n < length tree → kind_marks (row_at tree n).kind ≡ effective (row_at tree (parent tree n)).written (row_at tree n).written
 
 -- what each of the first n nodes has
 abbrev pub column : {A : Type 0} → (ℕ → A) → ℕ → List A

@@ -1,13 +1,18 @@
 //! Worked examples of the definitions, as public laws.
 
-ghost use Rattle.std.specs.Prelude.{◌≡◌, [], ◌∷◌, Some, None, false, true};
+ghost use Rattle.std.specs.Prelude.{◌≡◌, [], ◌∷◌, Some, None, codes, false, true};
 ghost use Rattle.iso_model.specs.Keys.{global_key};
 ghost use Rattle.iso_model.specs.declared.script.Mode.TheVariants.{SameThread, Concurrent};
-ghost use Rattle.iso_plan.specs.Examples.{cart_and_desk, concurrent_by_default, concurrent_classes, isolated_alone, isolated_deep, isolated_with_keys, key_k, key_l, loose, nested, one_thread, read_lock, two_classes, write_lock};
-ghost use Rattle.iso_plan.specs.KeyTable.{keys};
+ghost use Rattle.iso_plan.specs.Examples.{cart_and_desk, concurrent_by_default, concurrent_classes, keys_of_children, reading_children, writing_children, isolated_alone, isolated_deep, isolated_with_keys, for_children, key_k, key_l, loose, nested, one_thread, read_lock, reads, titled, two_classes, write_lock, writes};
+ghost use Rattle.iso_model.specs.Rights.{is_readable, is_writable};
+ghost use Rattle.iso_plan.specs.KeyTable.{keys, kind_marks};
 ghost use Rattle.iso_plan.specs.Locks.{conflict, locking_node, locks};
+ghost use Rattle.iso_plan.specs.Merged.{merged};
 ghost use Rattle.iso_plan.specs.Modes.{mode};
-ghost use Rattle.iso_plan.specs.Paths.{children, path};
+ghost use Rattle.iso_plan.specs.NodeChains.{node_rights};
+ghost use Rattle.iso_plan.specs.Paths.{children, path, row_at};
+ghost use Rattle.iso_plan.specs.PathTexts.{found, path_text};
+ghost use Rattle.iso_plan.specs.Selections.{first_unknown, is_kept, selection, those_below};
 
 /// Nodes are numbered in preorder, and a path leads up to the root, innermost first.
 #[tactic(auto, unfolding(crate::specs::Paths::path))]
@@ -61,6 +66,40 @@ pub fn isolation_gathers_at_the_top_level_class()
     ensures node { locking_node isolated_with_keys 4 ≡ Some 1 }
 {}
 
+/// A mark for children counts on each child and not on the class, which takes it for none of its own blocks.
+#[tactic(auto, unfolding(crate::specs::Paths::path))]
+pub fn children_take_what_is_marked_for_them()
+    ensures class { locks writing_children 1 ≡ read_lock 0 ∷ [] }
+    ensures first { locks writing_children 2 ≡ write_lock 1 ∷ [] }
+    ensures second { locks writing_children 3 ≡ write_lock 1 ∷ [] }
+    ensures siblings { conflict writing_children 2 3 ≡ true }
+    ensures modes { mode writing_children concurrent_by_default 3 ≡ Concurrent }
+    ensures rights { is_readable (node_rights writing_children 1 key_k) ≡ false }
+    ensures child { is_writable (node_rights writing_children 2 key_k) ≡ true }
+{}
+
+/// It isn't a grandchild's: that takes what it is marked with itself, gathered where its class takes the key.
+#[tactic(auto, unfolding(crate::specs::Paths::path))]
+pub fn grandchildren_are_no_children()
+    ensures class { locks reading_children 1 ≡ read_lock 0 ∷ [] }
+    ensures inner { locks reading_children 2 ≡ write_lock 1 ∷ [] }
+    ensures test { locks reading_children 3 ≡ [] }
+    ensures marks { kind_marks (row_at reading_children 3).kind ≡ [] }
+    ensures forced { mode reading_children concurrent_by_default 4 ≡ SameThread }
+{}
+
+/// Of marks of one key for one target the stronger counts, where the first of them stands.
+pub fn marks_of_one_key_are_one()
+    ensures stronger { merged (reads key_k ∷ reads key_l ∷ writes key_k ∷ []) ≡ writes key_k ∷ reads key_l ∷ [] }
+    ensures weaker { merged (writes key_k ∷ reads key_k ∷ []) ≡ writes key_k ∷ [] }
+    ensures apart { merged (reads key_k ∷ for_children (writes key_k) ∷ []) ≡ reads key_k ∷ for_children (writes key_k) ∷ [] }
+{}
+
+/// Keys are numbered where the mark is written.
+pub fn keys_are_numbered_where_they_are_written()
+    ensures { keys keys_of_children ≡ global_key ∷ key_k ∷ key_l ∷ [] }
+{}
+
 /// Nodes conflict where they take one key and one of them takes it for READ_WRITE.
 #[tactic(auto, unfolding(crate::specs::Paths::path))]
 pub fn writers_conflict()
@@ -93,4 +132,37 @@ pub fn nearest_mark_counts()
     ensures other { mode loose concurrent_by_default 2 ≡ Concurrent }
     ensures off { mode loose one_thread 1 ≡ SameThread }
     ensures root { mode loose concurrent_by_default 0 ≡ SameThread }
+{}
+
+/// A node's path is the names on the way down to it. A title is none, and neither is a part of a path.
+#[tactic(auto, unfolding(crate::specs::Paths::path))]
+pub fn paths_are_of_names()
+    ensures root { path_text two_classes 0 ≡ [] }
+    ensures class { path_text two_classes 3 ≡ codes "shop.B" }
+    ensures test { path_text cart_and_desk 7 ≡ codes "shop.Desk.Till.d" }
+    ensures found { found two_classes (codes "shop.B.t") ≡ Some 4 }
+    ensures name { found titled (codes "shop.A.t") ≡ Some 2 }
+    ensures title { found titled (codes "shop.B.u") ≡ None }
+    ensures part { found two_classes (codes "B.t") ≡ None }
+    ensures empty { found two_classes [] ≡ None }
+{}
+
+/// A named node is kept with what stands in it and the classes that it stands in, numbered anew. Keys are gathered of what is kept.
+#[tactic(auto, unfolding(crate::specs::Paths::path))]
+pub fn named_nodes_are_kept()
+    ensures test { those_below (is_kept cart_and_desk (codes "shop.Desk.Till.d" ∷ [])) 8 ≡ 0 ∷ 4 ∷ 6 ∷ 7 ∷ [] }
+    ensures class { those_below (is_kept cart_and_desk (codes "shop.Cart" ∷ [])) 8 ≡ 0 ∷ 1 ∷ 2 ∷ 3 ∷ [] }
+    ensures both { those_below (is_kept cart_and_desk (codes "shop.Desk.c" ∷ codes "shop.Cart.a" ∷ [])) 8 ≡ 0 ∷ 1 ∷ 2 ∷ 4 ∷ 5 ∷ [] }
+    ensures all { those_below (is_kept two_classes []) 5 ≡ 0 ∷ 1 ∷ 2 ∷ 3 ∷ 4 ∷ [] }
+    ensures numbers { children (selection cart_and_desk (codes "shop.Desk.Till.d" ∷ [])) 1 ≡ 2 ∷ [] }
+    ensures locks { locks (selection cart_and_desk (codes "shop.Cart.a" ∷ [])) 1 ≡ read_lock 0 ∷ read_lock 1 ∷ [] }
+    ensures mode { mode (selection cart_and_desk (codes "shop.Cart.a" ∷ [])) concurrent_by_default 2 ≡ Concurrent }
+{}
+
+/// The first path that names no node is told; an empty one names none.
+#[tactic(auto, unfolding(crate::specs::Paths::path))]
+pub fn first_unknown_path_is_told()
+    ensures first { first_unknown two_classes (codes "shop.A" ∷ codes "shop.C" ∷ codes "shop" ∷ []) ≡ Some 1 }
+    ensures empty { first_unknown two_classes ([] ∷ []) ≡ Some 0 }
+    ensures none { first_unknown two_classes (codes "shop.A.t" ∷ []) ≡ None }
 {}

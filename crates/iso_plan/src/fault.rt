@@ -2,7 +2,7 @@ use std::alloc::{AllocError, AllocFailed};
 use thiserror::Error;
 
 /// Why scripts have no plan. Where several hold, `TooManyScripts` is answered first, then `DoubleClass`,
-/// `TooManyNodes` and `TooManyKeys`. A fault shows as its kind.
+/// `NotSelected`, `TooManyNodes` and `TooManyKeys`; the last two count what is kept. A fault shows as its kind.
 #[derive(Clone, Copy, Debug, PartialEq, Eq, Error)]
 pub enum PlanFault {
     /// Two top-level classes of one team and name.
@@ -17,6 +17,9 @@ pub enum PlanFault {
     /// More than 64 scripts.
     #[error("TooManyScripts")]
     TooManyScripts,
+    /// The path at this place, counted from 0, names no node; it is the first such path.
+    #[error("NotSelected")]
+    NotSelected(usize),
 }
 
 /// Why a plan was not made.

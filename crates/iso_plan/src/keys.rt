@@ -4,7 +4,7 @@ ghost use Rattle.std.specs.Str.{bytes_eq};
 ghost use Rattle.indexmap.specs.IndexSet.{insert_all, keys as set_keys};
 ghost use Rattle.iso_model.specs.declared.limits.TheConstants.{KEYS};
 ghost use Rattle.iso_plan.specs.Faults.{IsCrowded};
-ghost use Rattle.iso_plan.specs.KeyTable.{keys, mark_keys, written_marks};
+ghost use Rattle.iso_plan.specs.KeyTable.{keys, mark_keys, kind_marks};
 ghost use Rattle.iso_plan.specs.RowView.{kind_of, nodes_in};
 
 use crate::fault::{PlanError, PlanFault};
@@ -31,7 +31,7 @@ pub(crate) fn number_keys<'a>(
 {
     table.insert(GLOBAL_KEY)?;
     'rows: for row in rows {
-        add_marks(table, row.kind.marks())?;
+        add_marks(table, &row.written)?;
     }
     if table.as_slice().len() > KEYS as usize + 1 {
         return Err(PlanError::Fault(PlanFault::TooManyKeys));
@@ -62,9 +62,9 @@ pub(crate) fn copied(alloc: Global, keys: &[&str]) -> Result<Vec<Text>, AllocErr
 }
 
 impl Kind {
-    /// The marks that are written on the node.
+    /// The marks of the node's head.
     pub(crate) fn marks(&self) -> &[Mark]
-        ensures { result.now ≡ written_marks (kind_of self.now) }
+        ensures { result.now ≡ kind_marks (kind_of self.now) }
     {
         match self {
             Kind::Root => &[],

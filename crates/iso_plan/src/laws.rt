@@ -11,6 +11,8 @@ ghost use Rattle.iso_plan.specs.Modes.{mode};
 ghost use Rattle.iso_plan.specs.NodeChains.{chain_classes, class_heads, depth, node_rights};
 ghost use Rattle.iso_plan.specs.Paths.{IsTree, children, is_test, is_top, is_under, parent, path, row_at};
 ghost use Rattle.iso_plan.specs.RowView.{tree_of};
+ghost use Rattle.iso_plan.specs.SameNodes.{IsSameNode};
+ghost use Rattle.iso_plan.specs.Selections.{is_kept, number_among, selection};
 
 use crate::plan::Plan;
 
@@ -95,7 +97,9 @@ pub fn rights_are_covered_by_locks(plan: &Plan)
 pub fn descendants_of_writers_are_forced(plan: &Plan)
     ensures { (m n : ℕ) (k : List ℕ) → is_under (tree_of plan.now) m (parent (tree_of plan.now) n) ≡ true
         → is_writable (taken (tree_of plan.now) m k) ≡ true → mode (tree_of plan.now) plan.now.settings n ≡ SameThread }
-{}
+{
+    plan.hold_a_tree();
+}
 
 /// A node takes keys only where it is a locking node or a top-level class.
 pub fn locking_nodes_alone_take_keys(plan: &Plan)
@@ -114,6 +118,14 @@ pub fn conflicting_nodes_stand_apart(plan: &Plan)
 pub fn holders_gather_what_stands_in_them(plan: &Plan)
     ensures { (m n d j : ℕ) → conflict (tree_of plan.now) m n ≡ true → is_top (tree_of plan.now) n ≡ false
         → is_under (tree_of plan.now) m d ≡ true → (m ≡ d → ⊥) → conflict (tree_of plan.now) j d ≡ false }
+{
+    plan.hold_a_tree();
+}
+
+/// A node of a plan that these paths keep has the path, the class chain and the rights that it has in the plan.
+pub fn selected_nodes_keep_their_chains(plan: &Plan)
+    ensures { (only : List (List ℕ)) (m : ℕ) → m < length (tree_of plan.now) → is_kept (tree_of plan.now) only m ≡ true
+        → IsSameNode (tree_of plan.now) m (selection (tree_of plan.now) only) (number_among (is_kept (tree_of plan.now) only) m) }
 {
     plan.hold_a_tree();
 }

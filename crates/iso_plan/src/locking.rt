@@ -1,7 +1,7 @@
 //! The locking node of each path.
 ghost use Rattle.std.specs.Prelude.{◌≡◌, ◌<◌, ◌≤◌, ◌||◌, ◌&&◌, ℕ, false, true, IfOk, IfSome, length, slice_index_or};
 ghost use Rattle.iso_model.specs.declared.limits.TheConstants.{NODES};
-ghost use Rattle.iso_plan.specs.KeyTable.{written_marks};
+ghost use Rattle.iso_plan.specs.KeyTable.{kind_marks};
 ghost use Rattle.iso_plan.specs.Locks.{declares, holds_isolated, is_isolated, is_that, locking_node, marks_global};
 ghost use Rattle.iso_plan.specs.Paths.{IsTree, column, outermost, path};
 ghost use Rattle.iso_plan.specs.RowView.{kind_of, nodes_in};
@@ -79,7 +79,7 @@ fn declaring(alloc: Global, rows: &[Row], isolated: &[bool]) -> Result<Vec<bool>
 impl Kind {
     /// Whether the node asks for isolation.
     fn isolates(&self) -> bool
-        ensures { result ≡ (is_isolated (kind_of self.now) || marks_global (written_marks (kind_of self.now))) }
+        ensures { result ≡ (is_isolated (kind_of self.now) || marks_global (kind_marks (kind_of self.now))) }
     {
         matches!(self, Kind::Class { isolated: true, .. }) || marks_global(self.marks())
     }

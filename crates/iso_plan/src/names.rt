@@ -1,17 +1,33 @@
-//! The names of top-level classes, which have to differ.
-ghost use Rattle.std.specs.Prelude.{◌≡◌, ◌++◌, IfOk, OnOk, map};
+//! What scripts have to keep by themselves: there are no more than so many, and the names of top-level classes differ.
+ghost use Rattle.std.specs.Prelude.{◌≡◌, ◌++◌, IfErr, IfOk, None, OnOk, map};
 ghost use Rattle.iso_model.specs.ScriptView.{class_of, script_of};
-ghost use Rattle.iso_plan.specs.Faults.{has_double, team_names, top_names};
+ghost use Rattle.iso_plan.specs.Faults.{IsFaultOf, has_double, scripts_fault, team_names, top_names};
 
+use crate::fault::{PlanError, PlanFault};
 use crate::tree::in_team;
 use iso_model::distinct::claim;
+use iso_model::limits::SCRIPTS;
 use iso_model::script::{Class, Script};
 use iso_model::text::Text;
 use std::alloc::{AllocError, Global};
 use std::collections::BTreeSet;
 
+/// Refuses too many scripts, and two top-level classes of one team and name.
+pub(crate) fn check_scripts(alloc: Global, scripts: &[Script]) -> Result<(), PlanError>
+    ensures ok { OnOk result (scripts_fault (map script_of scripts.now) ≡ None) }
+    ensures err { IfErr result (IsFaultOf (scripts_fault (map script_of scripts.now))) }
+{
+    if scripts.len() > SCRIPTS as usize {
+        return Err(PlanError::Fault(PlanFault::TooManyScripts));
+    }
+    if has_double_class(alloc, scripts)? {
+        return Err(PlanError::Fault(PlanFault::DoubleClass));
+    }
+    Ok(())
+}
+
 /// Whether two top-level classes have one team and name.
-pub(crate) fn has_double_class(alloc: Global, scripts: &[Script]) -> Result<bool, AllocError>
+fn has_double_class(alloc: Global, scripts: &[Script]) -> Result<bool, AllocError>
     ensures { IfOk result (λ b. b ≡ has_double (top_names (map script_of scripts.now))) }
 {
     let names = top_names(alloc, scripts)?;

@@ -1,29 +1,33 @@
 //! The plan of a run.
-ghost use Rattle.std.specs.Prelude.{◌≡◌, ◌<◌, ◌↔◌, [], IfErr, IfOk, IsTrue, None, length, map, slice_index_or};
+ghost use Rattle.std.specs.Prelude.{◌≡◌, ◌<◌, ◌≤◌, ◌↔◌, [], IfErr, IfOk, IsTrue, None, length, map, slice_index_or};
 ghost use Rattle.std.specs.List.{All};
 ghost use Rattle.std.specs.Option.{option_map};
 ghost use Rattle.iso_model.specs.ChainView.{innermost_first};
 ghost use Rattle.iso_model.specs.Rights.{access_in};
 ghost use Rattle.iso_model.specs.ScriptView.{script_of, test_head_of};
-ghost use Rattle.iso_plan.specs.Faults.{IsRefusal, plan_fault};
+ghost use Rattle.iso_model.specs.declared.limits.TheConstants.{NODES};
+ghost use Rattle.iso_plan.specs.Faults.{IsFaultOf, keys_fault, plan_fault};
 ghost use Rattle.iso_plan.specs.KeyTable.{keys};
 ghost use Rattle.iso_plan.specs.Locks.{locking_node, locks};
 ghost use Rattle.iso_plan.specs.Modes.{mode};
 ghost use Rattle.iso_plan.specs.NodeChains.{chain_classes, chain_test, depth, node_rights};
 ghost use Rattle.iso_plan.specs.Paths.{IsTree, children, is_test, parent_of, row_at};
-ghost use Rattle.iso_plan.specs.RowView.{tree_of};
+ghost use Rattle.iso_plan.specs.PathTexts.{found};
+ghost use Rattle.iso_plan.specs.RowView.{nodes_in, tree_of};
+ghost use Rattle.iso_plan.specs.SameNodes.{KeepsChains};
+ghost use Rattle.iso_plan.specs.Selections.{plan_tree, texts_of};
 ghost use Rattle.iso_plan.specs.Tree.{tree};
 
 use crate::columns::{chain_all, key_all};
-use crate::fault::{PlanError, PlanFault};
+use crate::fault::PlanError;
 use crate::lock::Lock;
-use crate::names::has_double_class;
+use crate::names::check_scripts;
+use crate::nodes::kept_rows;
+use crate::paths::is_path_of;
 use crate::row::{Kind, Row};
 use crate::same::same_rows;
-use crate::tree::tree;
 use iso_model::chain::Chain;
 use iso_model::heads::ClassHead;
-use iso_model::limits::SCRIPTS;
 use iso_model::rights::Rights;
 use iso_model::script::{Mode, Script};
 use iso_model::text::Text;
@@ -77,21 +81,52 @@ impl Model for Plan {
 pub fn build(alloc: Global, scripts: &[Script], settings: &Settings) -> Result<Plan, PlanError>
     ensures tree { IfOk result (λ p. tree_of p ≡ tree (map script_of scripts.now)) }
     ensures settings { IfOk result (λ p. p.settings ≡ settings.now) }
-    ensures accepted { IfOk result (λ p. plan_fault (map script_of scripts.now) ≡ None) }
-    ensures refused { IfErr result (IsRefusal (map script_of scripts.now)) }
+    ensures accepted { IfOk result (λ p. plan_fault (map script_of scripts.now) [] ≡ None) }
+    ensures refused { IfErr result (IsFaultOf (plan_fault (map script_of scripts.now) [])) }
 {
-    if scripts.len() > SCRIPTS as usize {
-        return Err(PlanError::Fault(PlanFault::TooManyScripts));
-    }
-    if has_double_class(alloc, scripts)? {
-        return Err(PlanError::Fault(PlanFault::DoubleClass));
-    }
-    let rows = tree(alloc, scripts)?;
-    let keyed = key_all(alloc, &rows, *settings)?;
+    build_only(alloc, scripts, settings, &[])
+}
+
+/// The plan of those nodes of scripts that these paths name, under settings: the paths are as `jtap plan` prints them, the names of the
+/// team, the enclosing classes and the node with dots between them. Kept are the named nodes, what stands in them, and the classes that
+/// they stand in, each with all its own marks and blocks; nodes and keys are numbered anew. Without paths all nodes are kept.
+///
+/// The chain of a kept node is the one that it has where all nodes are kept.
+///
+/// More than 64 scripts are `TooManyScripts`; two top-level classes of one team and name `DoubleClass`; a path that names no node, as an
+/// empty one does, `NotSelected`; more than 4,096 kept nodes, the root among them, `TooManyNodes`; more than 255 different keys that are
+/// declared on them `TooManyKeys`. They are tested in this order. Want of memory may be answered at each growth.
+pub fn build_only(
+    alloc: Global,
+    scripts: &[Script],
+    settings: &Settings,
+    only: &[&str],
+) -> Result<Plan, PlanError>
+    ensures tree { IfOk result (λ p. tree_of p ≡ plan_tree (map script_of scripts.now) (texts_of only.now)) }
+    ensures settings { IfOk result (λ p. p.settings ≡ settings.now) }
+    ensures accepted { IfOk result (λ p. plan_fault (map script_of scripts.now) (texts_of only.now) ≡ None) }
+    ensures refused { IfErr result (IsFaultOf (plan_fault (map script_of scripts.now) (texts_of only.now))) }
+    ensures chains { IfOk result (KeepsChains (tree (map script_of scripts.now)) (texts_of only.now)) }
+{
+    check_scripts(alloc, scripts)?;
+    let rows = kept_rows(alloc, scripts, only)?;
+    plan_of(alloc, rows, *settings)
+}
+
+/// The plan of nodes. More than 255 different declared keys are `TooManyKeys`.
+fn plan_of(alloc: Global, rows: Vec<Row>, settings: Settings) -> Result<Plan, PlanError>
+    requires tree { IsTree (nodes_in rows.items) }
+    requires fits { length rows.items ≤ NODES }
+    ensures tree { IfOk result (λ p. tree_of p ≡ nodes_in rows.items) }
+    ensures settings { IfOk result (λ p. p.settings ≡ settings) }
+    ensures accepted { IfOk result (λ p. keys_fault (nodes_in rows.items) ≡ None) }
+    ensures refused { IfErr result (IsFaultOf (keys_fault (nodes_in rows.items))) }
+{
+    let keyed = key_all(alloc, &rows, settings)?;
     let chained = chain_all(alloc, &rows)?;
     Ok(Plan {
         rows,
-        settings: *settings,
+        settings,
         children: chained.children,
         chains: chained.chains,
         rights: chained.rights,
@@ -127,6 +162,20 @@ impl Plan {
         ensures { result.now ≡ children (tree_of self.now) node }
     {
         &self.children[node as usize]
+    }
+
+    /// The node with this path, as `jtap plan` prints it: the names of the team, the enclosing classes and the node, with dots between
+    /// them. Of several the first. The root has no path. Takes no memory.
+    pub fn find(&self, path: &str) -> Option<u32>
+        ensures { result ≡ found (tree_of self.now) path.now }
+    {
+        let path = path.as_bytes();
+        'nodes: for node in 1..self.rows.len() {
+            if is_path_of(&self.rows, node, path) {
+                return Some(node as u32);
+            }
+        }
+        None
     }
 
     /// Whether a node is a test.

@@ -1,9 +1,9 @@
-use iso_model::heads::{ClassHead, TestHead};
+use iso_model::heads::{ClassHead, Mark, TestHead};
 use iso_model::script::Mode;
 use iso_model::text::Text;
 use std::sync::Arc;
 
-/// What a node is, with the head that it shares with the script.
+/// What a node is, with a head of its effective marks, which shares its contents with the script's.
 #[derive(Drop)]
 pub enum Kind {
     Root,
@@ -22,6 +22,8 @@ pub struct Row {
     /// The root has itself here, and so has each top-level class.
     pub parent: u32,
     pub kind: Kind,
+    /// The marks that are written on the node, each key once for each target, in the strongest access.
+    pub written: Vec<Mark>,
     /// A top-level class's with the team's name and `.` before it.
     pub name: Text,
     /// The display text, or the name where there is none; a top-level class's with the team's name and `.` before it.

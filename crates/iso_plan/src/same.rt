@@ -2,7 +2,7 @@ ghost use Rattle.std.specs.Prelude.{◌≡◌, ◌↔◌, IsTrue, map};
 ghost use Rattle.iso_plan.specs.RowView.{kind_of, row_of};
 
 use crate::row::{Kind, Row};
-use iso_model::same::heads::{same_class_head, same_test_head};
+use iso_model::same::heads::{same_class_head, same_marks, same_test_head};
 
 /// Whether two nodes are of one kind, with heads that say the same.
 fn same_kind(a: &Kind, b: &Kind) -> bool
@@ -40,7 +40,7 @@ fn same_place(a: &Row, b: &Row) -> bool
 fn same_row(a: &Row, b: &Row) -> bool
     ensures { IsTrue result ↔ (row_of a.now ≡ row_of b.now) }
 {
-    same_place(a, b) && same_kind(&a.kind, &b.kind)
+    same_place(a, b) && same_marks(&a.written, &b.written) && same_kind(&a.kind, &b.kind)
 }
 
 /// Whether two lists of nodes say the same.

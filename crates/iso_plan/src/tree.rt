@@ -1,29 +1,33 @@
 //! The nodes of scripts, in preorder.
-ghost use Rattle.std.specs.Prelude.{◌≡◌, ◌+◌, ◌≤◌, ◌++◌, ◌∷◌, [], ℕ, IfOk, IfErr, OnOk, length, map, vec_len, unwrap_or};
+ghost use Rattle.std.specs.Prelude.{◌≡◌, ◌<◌, ◌+◌, ◌≤◌, ◌++◌, ◌∷◌, [], ℕ, IfOk, IfErr, OnOk, length, map, vec_len, unwrap_or};
 ghost use Rattle.iso_model.specs.ScriptView.{class_of, member_of, members_of, script_of, test_of};
-ghost use Rattle.iso_model.specs.declared.limits.TheConstants.{NODES};
 ghost use Rattle.iso_plan.specs.Faults.{IsFull};
 ghost use Rattle.iso_plan.specs.RowView.{nodes_in, row_of, title_of};
-ghost use Rattle.iso_plan.specs.Tree.{in_team, class_row, class_rows, member_rows, members_rows, root_row, script_rows, team_rows, test_row, top_row, top_rows, tree};
+ghost use Rattle.iso_plan.specs.Tree.{in_team, class_row, class_rows, member_rows, members_rows, root_row, script_rows, team_rows, test_row, top_row, top_rows, written_tree};
 
 use crate::fault::{PlanError, PlanFault};
+use crate::merged::merged;
 use crate::row::{Kind, Row};
-use iso_model::limits::NODES;
 use iso_model::script::{Class, Member, Script, Test};
 use iso_model::text::Text;
 use std::alloc::{AllocError, Global};
 
-/// The nodes of scripts in preorder, after the root: scripts as handed in, members as written.
-/// More than 4,096 are `TooManyNodes`.
-pub(crate) fn tree(alloc: Global, scripts: &[Script]) -> Result<Vec<Row>, PlanError>
-    ensures tree { IfOk result (λ v. nodes_in v.items ≡ tree (map script_of scripts.now)) }
-    ensures fits { IfOk result (λ v. vec_len v ≤ NODES) }
-    ensures full { IfErr result (IsFull (length (tree (map script_of scripts.now)))) }
+/// The nodes of scripts as they are written, in preorder, after the root: scripts as handed in, members as written.
+/// More than so many, at least the root, are `TooManyNodes`.
+pub(crate) fn written_tree(
+    alloc: Global,
+    scripts: &[Script],
+    most: u32,
+) -> Result<Vec<Row>, PlanError>
+    requires { 0 < most }
+    ensures tree { IfOk result (λ v. nodes_in v.items ≡ written_tree (map script_of scripts.now)) }
+    ensures fits { IfOk result (λ v. vec_len v ≤ most) }
+    ensures full { IfErr result (IsFull most (length (written_tree (map script_of scripts.now)))) }
 {
     let mut rows = Vec::new(alloc);
     rows.push(root(alloc))?;
     'scripts: for script in scripts {
-        add_team(alloc, &mut rows, script)?;
+        add_team(alloc, &mut rows, script, most)?;
     }
     Ok(rows)
 }
@@ -35,6 +39,7 @@ fn root(alloc: Global) -> Row
     Row {
         parent: 0,
         kind: Kind::Root,
+        written: Vec::new(alloc),
         name: Text::new(String::new(alloc)),
         title: Text::new(String::new(alloc)),
         mode: None,
@@ -42,12 +47,12 @@ fn root(alloc: Global) -> Row
 }
 
 /// Adds a node.
-fn add(rows: &mut Vec<Row>, row: Row) -> Result<(), PlanError>
+fn add(rows: &mut Vec<Row>, row: Row, most: u32) -> Result<(), PlanError>
     ensures ok { OnOk result (nodes_in rows.new.items ≡ nodes_in rows.old.items ++ row_of row ∷ []) }
-    ensures fits { OnOk result (vec_len rows.new ≤ NODES) }
-    ensures full { IfErr result (IsFull (vec_len rows.old + 1)) }
+    ensures fits { OnOk result (vec_len rows.new ≤ most) }
+    ensures full { IfErr result (IsFull most (vec_len rows.old + 1)) }
 {
-    if rows.len() >= NODES as usize {
+    if rows.len() >= most as usize {
         return Err(PlanError::Fault(PlanFault::TooManyNodes));
     }
     rows.push(row)?;
@@ -55,32 +60,38 @@ fn add(rows: &mut Vec<Row>, row: Row) -> Result<(), PlanError>
 }
 
 /// Adds the nodes of a team's classes.
-fn add_team(alloc: Global, rows: &mut Vec<Row>, script: &Script) -> Result<(), PlanError>
-    requires { vec_len rows.old ≤ NODES }
+fn add_team(alloc: Global, rows: &mut Vec<Row>, script: &Script, most: u32) -> Result<(), PlanError>
+    requires { vec_len rows.old ≤ most }
     ensures ok { OnOk result (nodes_in rows.new.items ≡ nodes_in rows.old.items
         ++ team_rows script.now.team (vec_len rows.old) (map class_of script.now.classes.items)) }
-    ensures fits { OnOk result (vec_len rows.new ≤ NODES) }
-    ensures full { IfErr result (IsFull (vec_len rows.old
+    ensures fits { OnOk result (vec_len rows.new ≤ most) }
+    ensures full { IfErr result (IsFull most (vec_len rows.old
         + length (team_rows script.now.team (vec_len rows.old) (map class_of script.now.classes.items)))) }
 {
     'classes: for class in &script.classes {
-        add_top(alloc, rows, &script.team, class)?;
+        add_top(alloc, rows, &script.team, class, most)?;
     }
     Ok(())
 }
 
 /// Adds the nodes of a top-level class of a team.
-fn add_top(alloc: Global, rows: &mut Vec<Row>, team: &Text, class: &Class) -> Result<(), PlanError>
-    requires { vec_len rows.old ≤ NODES }
+fn add_top(
+    alloc: Global,
+    rows: &mut Vec<Row>,
+    team: &Text,
+    class: &Class,
+    most: u32,
+) -> Result<(), PlanError>
+    requires { vec_len rows.old ≤ most }
     ensures ok { OnOk result (nodes_in rows.new.items ≡ nodes_in rows.old.items
         ++ top_rows team.now (vec_len rows.old) (class_of class.now)) }
-    ensures fits { OnOk result (vec_len rows.new ≤ NODES) }
-    ensures full { IfErr result (IsFull (vec_len rows.old
+    ensures fits { OnOk result (vec_len rows.new ≤ most) }
+    ensures full { IfErr result (IsFull most (vec_len rows.old
         + length (top_rows team.now (vec_len rows.old) (class_of class.now)))) }
 {
     let number = rows.len() as u32;
-    add(rows, top_row(alloc, team, class)?)?;
-    add_members(alloc, rows, number, &class.members)
+    add(rows, top_row(alloc, team, class)?, most)?;
+    add_members(alloc, rows, number, &class.members, most)
 }
 
 /// Adds the nodes of a class that stands in the class with this number.
@@ -90,17 +101,18 @@ fn add_class(
     rows: &mut Vec<Row>,
     parent: u32,
     class: &Class,
+    most: u32,
 ) -> Result<(), PlanError>
-    requires { vec_len rows.old ≤ NODES }
+    requires { vec_len rows.old ≤ most }
     ensures ok { OnOk result (nodes_in rows.new.items ≡ nodes_in rows.old.items
         ++ class_rows parent (vec_len rows.old) (class_of class.now)) }
-    ensures fits { OnOk result (vec_len rows.new ≤ NODES) }
-    ensures full { IfErr result (IsFull (vec_len rows.old
+    ensures fits { OnOk result (vec_len rows.new ≤ most) }
+    ensures full { IfErr result (IsFull most (vec_len rows.old
         + length (class_rows parent (vec_len rows.old) (class_of class.now)))) }
 {
     let number = rows.len() as u32;
-    add(rows, class_row(alloc, parent, class)?)?;
-    add_members(alloc, rows, number, &class.members)
+    add(rows, class_row(alloc, parent, class)?, most)?;
+    add_members(alloc, rows, number, &class.members, most)
 }
 
 /// Adds the nodes of the members of the class with this number.
@@ -110,16 +122,17 @@ fn add_members(
     rows: &mut Vec<Row>,
     parent: u32,
     members: &[Member],
+    most: u32,
 ) -> Result<(), PlanError>
-    requires { vec_len rows.old ≤ NODES }
+    requires { vec_len rows.old ≤ most }
     ensures ok { OnOk result (nodes_in rows.new.items ≡ nodes_in rows.old.items
         ++ members_rows parent (vec_len rows.old) (members_of (map member_of members.now))) }
-    ensures fits { OnOk result (vec_len rows.new ≤ NODES) }
-    ensures full { IfErr result (IsFull (vec_len rows.old
+    ensures fits { OnOk result (vec_len rows.new ≤ most) }
+    ensures full { IfErr result (IsFull most (vec_len rows.old
         + length (members_rows parent (vec_len rows.old) (members_of (map member_of members.now))))) }
 {
     'members: for member in members {
-        add_member(alloc, rows, parent, member)?;
+        add_member(alloc, rows, parent, member, most)?;
     }
     Ok(())
 }
@@ -131,17 +144,18 @@ fn add_member(
     rows: &mut Vec<Row>,
     parent: u32,
     member: &Member,
+    most: u32,
 ) -> Result<(), PlanError>
-    requires { vec_len rows.old ≤ NODES }
+    requires { vec_len rows.old ≤ most }
     ensures ok { OnOk result (nodes_in rows.new.items ≡ nodes_in rows.old.items
         ++ member_rows parent (vec_len rows.old) (member_of member.now)) }
-    ensures fits { OnOk result (vec_len rows.new ≤ NODES) }
-    ensures full { IfErr result (IsFull (vec_len rows.old
+    ensures fits { OnOk result (vec_len rows.new ≤ most) }
+    ensures full { IfErr result (IsFull most (vec_len rows.old
         + length (member_rows parent (vec_len rows.old) (member_of member.now)))) }
 {
     match member {
-        Member::Class(class) => add_class(alloc, rows, parent, class),
-        Member::Test(test) => add(rows, test_row(alloc, parent, test)?),
+        Member::Class(class) => add_class(alloc, rows, parent, class, most),
+        Member::Test(test) => add(rows, test_row(alloc, parent, test)?, most),
     }
 }
 
@@ -154,6 +168,7 @@ fn test_row(alloc: Global, parent: u32, test: &Test) -> Result<Row, AllocError>
         name: test.name.copy(alloc)?,
         title: shown(&test.display, &test.name).copy(alloc)?,
         mode: test.mode,
+        written: merged(alloc, &test.head.marks)?,
         kind: Kind::Test {
             head: test.head.clone()?,
         },
@@ -169,6 +184,7 @@ fn class_row(alloc: Global, parent: u32, class: &Class) -> Result<Row, AllocErro
         name: class.name.copy(alloc)?,
         title: shown(&class.display, &class.name).copy(alloc)?,
         mode: class.mode,
+        written: merged(alloc, &class.head.marks)?,
         kind: Kind::Class {
             isolated: class.isolated,
             head: class.head.clone()?,
@@ -185,6 +201,7 @@ fn top_row(alloc: Global, team: &Text, class: &Class) -> Result<Row, AllocError>
         name: in_team(alloc, team, &class.name)?,
         title: in_team(alloc, team, shown(&class.display, &class.name))?,
         mode: class.mode,
+        written: merged(alloc, &class.head.marks)?,
         kind: Kind::Class {
             isolated: class.isolated,
             head: class.head.clone()?,

@@ -6,7 +6,7 @@ use Rattle.iso_arguments.specs.declared.request.InputFiles.{InputFiles}
 use Rattle.iso_arguments.specs.declared.request.Request.{Request}
 use Rattle.iso_arguments.specs.declared.request.Request.TheVariants.{Replay, Run}
 use Rattle.iso_run.specs.CommandFaults.{Answers, Flushed, IsRefusal, NotAnswered, command_aftermath}
-use Rattle.iso_run.specs.Commands.{Answered, Did, OfBytes, OfFiles, Reports, WereRead, script_texts}
+use Rattle.iso_run.specs.Commands.{Answered, AreAsked, Did, OfBytes, OfFiles, Reports, WereRead, script_texts}
 use Rattle.iso_run.specs.Faults.{Aftermath, Refuses, GivesUp, BreaksOff, Leaves, Untouched, aftermath}
 use Rattle.iso_run.specs.Replays.{IsPlayed}
 use Rattle.iso_run.specs.Runs.{NotWritten, Reported, Shown, suite_plan, suite_report}
@@ -38,15 +38,15 @@ unflushed old mid new text fault status wrote end = subst (NotAnswered old new) 
 abbrev pub AnswersRun : Result Summary RunFault → Account → Account → Result ℕ CommandFault → Type 0
 AnswersRun ran old new answer = MatchResult ran (λ s. Flushed (cond s.all_ok 0 1) old new answer) (λ fault. IsRefusal fault answer × Untouched old new)
 
-module _ (bytes : InputBytes) (processors : ℕ) (inputs : Inputs) (scripts_are : texts inputs.scripts.now ≡ script_texts bytes) (settings_are : inputs.settings.now ≡ bytes.settings.items)
-    (world_is : inputs.world.now ≡ bytes.world.items) (processors_are : inputs.processors ≡ processors) (old mid new : Account) where
+module _ (bytes : InputBytes) (files : InputFiles) (inputs : Inputs) (scripts_are : texts inputs.scripts.now ≡ script_texts bytes) (settings_are : inputs.settings.now ≡ bytes.settings.items)
+    (world_is : inputs.world.now ≡ bytes.world.items) (are_asked : AreAsked files inputs) (old mid new : Account) where
   -- what is true of the inputs is true of inputs of these bytes
-  of-bytes : (P : Inputs → Type 0) → P inputs → OfBytes bytes processors P
-  of-bytes P holds = record { inputs = inputs; scripts_are = scripts_are; settings_are = settings_are; world_is = world_is; processors_are = processors_are; holds = holds }
+  of-bytes : (P : Inputs → Type 0) → P inputs → OfBytes bytes files P
+  of-bytes P holds = record { inputs = inputs; scripts_are = scripts_are; settings_are = settings_are; world_is = world_is; are_asked = are_asked; holds = holds }
 
   pub answered : (way : Way) (result : Result Summary RunFault) (answer : Result ℕ CommandFault)
       → MatchResult result (λ s. IsPlayed inputs way true × Reported inputs old mid s.all_ok) (NotWritten suite_report inputs way old mid)
-      → AnswersRun result mid new answer → Answers (λ s. OfBytes bytes processors (λ i. Reports i way old new s)) old new answer
+      → AnswersRun result mid new answer → Answers (λ s. OfBytes bytes files (λ i. Reports i way old new s)) old new answer
   answered way (Ok summary) (Ok status) ran end = of-bytes (λ i. Reports i way old new status) (record {
     ok = summary.all_ok;
     played = ran.0;
@@ -57,27 +57,27 @@ module _ (bytes : InputBytes) (processors : ℕ) (inputs : Inputs) (scripts_are 
   answered way (Err fault) (Ok status) unwritten end = absurd end.0
   answered way (Err fault) (Err of) unwritten end = subst (λ (a : Account). NotAnswered old a of) (sym end.1) (refused suite_report inputs way old mid fault of unwritten end.0)
 
-  pub shown : (answer : Result ℕ CommandFault) → Shown inputs old mid → Flushed 0 mid new answer → Answers (λ s. (s ≡ 0) × OfBytes bytes processors (λ i. Shown i old new)) old new answer
+  pub shown : (answer : Result ℕ CommandFault) → Shown inputs old mid → Flushed 0 mid new answer → Answers (λ s. (s ≡ 0) × OfBytes bytes files (λ i. Shown i old new)) old new answer
   shown (Ok status) h end = (end.0, of-bytes (λ i. Shown i old new) (subst (λ (a : Account). Shown inputs old a) (sym end.1) h))
   shown (Err fault) h end = unflushed old mid new (suite_plan h.suite) fault 0 h.wrote end
 
 -- what is true of inputs of the bytes that were read for files is true of inputs of these files
-pub of-files : (files : InputFiles) (input : Option (List ℕ)) (bytes : InputBytes) (P : Inputs → Type 0) → WereRead files input bytes → OfBytes bytes files.processors P → OfFiles files input P
+pub of-files : (files : InputFiles) (input : Option (List ℕ)) (bytes : InputBytes) (P : Inputs → Type 0) → WereRead files input bytes → OfBytes bytes files P → OfFiles files input P
 of-files files input bytes P read h = record {
   inputs = h.inputs;
   are_of = rw (h.settings_are, h.world_is, h.scripts_are) read;
-  processors_are = h.processors_are;
+  are_asked = h.are_asked;
   holds = h.holds;
 }
 
 -- what is answered of the inputs of a run, or of a replay, is answered of its request
 pub did-run : (files : InputFiles) (input : Option (List ℕ)) (bytes : InputBytes) → WereRead files input bytes → (old new : Account) (serial : Bool) (result : Result ℕ CommandFault)
-    → Answers (λ s. OfBytes bytes files.processors (λ i. Reports i (way_of serial) old new s)) old new result → Answers (Did (Run serial files) input old new) old new result
+    → Answers (λ s. OfBytes bytes files (λ i. Reports i (way_of serial) old new s)) old new result → Answers (Did (Run serial files) input old new) old new result
 did-run files input bytes read old new serial (Ok status) h = of-files files input bytes (λ i. Reports i (way_of serial) old new status) read h
 did-run files input bytes read old new serial (Err fault) h = h
 
 pub did-replay : (files : InputFiles) (input : Option (List ℕ)) (bytes : InputBytes) → WereRead files input bytes → (old new : Account) (name : Bor (List ℕ)) (schedule : List ℕ) (result : Result ℕ CommandFault)
-    → Answers (λ s. OfBytes bytes files.processors (λ i. Reports i (BySchedule schedule) old new s)) old new result → Answers (Did (Replay name files) input old new) old new result
+    → Answers (λ s. OfBytes bytes files (λ i. Reports i (BySchedule schedule) old new s)) old new result → Answers (Did (Replay name files) input old new) old new result
 did-replay files input bytes read old new name schedule (Ok status) h = (schedule, of-files files input bytes (λ i. Reports i (BySchedule schedule) old new status) read h)
 did-replay files input bytes read old new name schedule (Err fault) h = h
 

@@ -19,12 +19,12 @@ use Rattle.iso_tap.specs.Sinks.{Account}
 
 pub unread : (inputs : Inputs) (schedule : List ℕ) (a : Account) (suite : ReadSuite) (error : ScheduleError) → IsRead inputs suite → IfAnswered (AreRead schedule) (Err error)
     → NotWritten suite_report inputs (BySchedule schedule) a a (schedule_fault error)
-unread inputs schedule a suite (S.Fault fault) is wrong = record { cause = record { suite = suite_of suite; is_suite = is.is_suite; wrong = wrong }; leaves = refl }
+unread inputs schedule a suite (S.Fault fault) is wrong = record { cause = record { suite = suite_of inputs suite; is_suite = is.is_suite; wrong = wrong }; leaves = refl }
 unread inputs schedule a suite S.OutOfMemory is wrong = record { cause = tt; leaves = refl }
 
 abbrev pub replay-of : (inputs : Inputs) (schedule : List ℕ) (suite : ReadSuite) (events : List Event) → IsRead inputs suite → AreRead schedule (Ok events) → Replay inputs schedule
 replay-of inputs schedule suite events is read =
-    record { suite = suite_of suite; is_suite = is.is_suite; plan = suite.plan; planned = is.planned; planned_by = is.planned_by; events = events; read = read }
+    record { suite = suite_of inputs suite; is_suite = is.is_suite; plan = suite.plan; planned = is.planned; planned_by = is.planned_by; events = events; read = read }
 
 module _ (inputs : Inputs) (schedule : List ℕ) (r : Replay inputs schedule) where
   pub stopped : (a : Account) (index : ℕ) (fault : CoreFault) → EndedBy fault r.plan r.suite.start r.suite.settings.worker_count r.events index

@@ -1,12 +1,12 @@
 -- The report of results is that of their suite.
 use Rattle.std.proofs.Common.{◌≡◌, ℕ, List, Bool, true, Result, Ok, Err, MatchResult, refl, subst, sym, ap, ap₂, ◌∙◌}
-use Rattle.iso_run.specs.Suites.{IsSuite, Suite}
+use Rattle.iso_run.specs.Suites.{IsSuite, Suite, suite_tree}
 use Rattle.iso_run.specs.declared.inputs.Inputs.{Inputs}
 use Rattle.iso_lifecycle.specs.ResultViews.{ResultsView, outcome_in}
 use Rattle.iso_lifecycle.specs.Subjects.{outcome_alone, started}
 use Rattle.iso_plan.specs.Planned.{Planned}
 use Rattle.iso_plan.specs.RowView.{tree_of}
-use Rattle.iso_plan.specs.Tree.{Row, tree}
+use Rattle.iso_plan.specs.Tree.{Row}
 use Rattle.iso_settings.specs.Worlds.{Start}
 use Rattle.iso_tap.specs.Reports.{all_ok, report}
 use Rattle.iso_tap.specs.Sinks.{Account, Wrote}
@@ -17,12 +17,12 @@ use Rattle.iso_run.specs.declared.fault.RunFault.{RunFault}
 use Rattle.iso_run.specs.declared.fault.RunFault.TheVariants.{Write}
 use Rattle.iso_run.specs.declared.report.Summary.{Summary}
 
-pub report-is : (suite : Suite) (plan : Planned) (v : ResultsView) → tree_of plan ≡ tree suite.scripts → v.plan ≡ plan → v.start ≡ suite.start → report (tree_of plan) (outcome_in v) ≡ suite_report suite
+pub report-is : (suite : Suite) (plan : Planned) (v : ResultsView) → tree_of plan ≡ suite_tree suite → v.plan ≡ plan → v.start ≡ suite.start → report (tree_of plan) (outcome_in v) ≡ suite_report suite
 report-is suite plan v made of on =
     ap₂ (λ (pl : Planned) (s : Start). report (tree_of plan) (outcome_alone (tree_of pl) (started s))) of on
     ∙ ap (λ (rows : List Row). report rows (outcome_alone rows (started suite.start))) made
 
-pub ok-is : (suite : Suite) (plan : Planned) (v : ResultsView) → tree_of plan ≡ tree suite.scripts → v.plan ≡ plan → v.start ≡ suite.start → all_ok (tree_of plan) (outcome_in v) ≡ suite_ok suite
+pub ok-is : (suite : Suite) (plan : Planned) (v : ResultsView) → tree_of plan ≡ suite_tree suite → v.plan ≡ plan → v.start ≡ suite.start → all_ok (tree_of plan) (outcome_in v) ≡ suite_ok suite
 ok-is suite plan v made of on =
     ap₂ (λ (pl : Planned) (s : Start). all_ok (tree_of plan) (outcome_alone (tree_of pl) (started s))) of on
     ∙ ap (λ (rows : List Row). all_ok rows (outcome_alone rows (started suite.start))) made
@@ -34,7 +34,7 @@ cut-short text inputs way suite is played old new fault broken =
     let whole : IsBroken (text suite) old new (Write broken.written) = record { written = broken.written; is = refl; broken = broken.broken } in
     subst (λ (f : RunFault). NotWritten text inputs way old new f) (sym broken.is) (record { cause = played; leaves = record { suite = suite; is_suite = is; broken = whole } })
 
-module _ (inputs : Inputs) (old new : Account) (suite : Suite) (plan : Planned) (v : ResultsView) (is : IsSuite inputs suite) (made : tree_of plan ≡ tree suite.scripts) (of : v.plan ≡ plan) (on : v.start ≡ suite.start) where
+module _ (inputs : Inputs) (old new : Account) (suite : Suite) (plan : Planned) (v : ResultsView) (is : IsSuite inputs suite) (made : tree_of plan ≡ suite_tree suite) (of : v.plan ≡ plan) (on : v.start ≡ suite.start) where
   pub reported-whole : (ok : Bool) → ReportedOf (tree_of plan) (outcome_in v) old new ok → Reported inputs old new ok
   reported-whole ok whole = record {
     suite = suite;

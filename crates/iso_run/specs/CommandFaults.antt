@@ -15,7 +15,7 @@ command_aftermath (Words text) = Refuses
 command_aftermath (Unreadable name) = GivesUp
 command_aftermath (TooLarge name) = Refuses
 command_aftermath Unwritten = BreaksOff
-command_aftermath (Run fault script) = aftermath fault
+command_aftermath (Run fault word) = aftermath fault
 
 -- the fault comes before anything is asked of the output
 abbrev pub ComesEarly : CommandFault → Type 0

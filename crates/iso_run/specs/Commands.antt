@@ -34,20 +34,25 @@ script_texts bytes = map (λ v. v.items) bytes.scripts.items
 abbrev pub WereRead : InputFiles → Option (List ℕ) → InputBytes → Type 0
 WereRead files input bytes = AreOf files input bytes.settings.items bytes.world.items (script_texts bytes)
 
--- Something is true of inputs of these bytes and this number of processors.
-pub record OfBytes (bytes : InputBytes) (processors : ℕ) (P : Inputs → Type 0) : Type 0 where
+-- Inputs keep what is asked for with these files, and count with their number of processors.
+pub record AreAsked (files : InputFiles) (inputs : Inputs) : Type 0 where
+  pub only : inputs.only.now ≡ files.only.items
+  pub processors : inputs.processors ≡ files.processors
+
+-- Something is true of inputs of these bytes, as they are asked for with these files.
+pub record OfBytes (bytes : InputBytes) (files : InputFiles) (P : Inputs → Type 0) : Type 0 where
   pub inputs : Inputs
   pub scripts_are : texts inputs.scripts.now ≡ script_texts bytes
   pub settings_are : inputs.settings.now ≡ bytes.settings.items
   pub world_is : inputs.world.now ≡ bytes.world.items
-  pub processors_are : inputs.processors ≡ processors
+  pub are_asked : AreAsked files inputs
   pub holds : P inputs
 
--- Something is true of inputs that were read for these files, and count with their number of processors.
+-- Something is true of inputs that were read for these files, as they are asked for with them.
 pub record OfFiles (files : InputFiles) (input : Option (List ℕ)) (P : Inputs → Type 0) : Type 0 where
   pub inputs : Inputs
   pub are_of : AreOf files input inputs.settings.now inputs.world.now (texts inputs.scripts.now)
-  pub processors_are : inputs.processors ≡ files.processors
+  pub are_asked : AreAsked files inputs
   pub holds : P inputs
 
 -- The report of inputs was written, whole, after they were run in this way. The status is 0 where every top-level point is ok, and
@@ -81,12 +86,13 @@ Ended words input old new (suc (suc zero)) = Untouched old new
 Ended words input old new (suc (suc (suc zero))) = Untouched old new ⊎ HasFailed old.failures new.failures
 Ended words input old new (suc (suc (suc (suc n)))) = ⊥
 
--- The report of these bytes was written, whole, and the status is 0 where every top-level point is ok, and else 1.
+-- The report of all of these bytes was written, whole, and the status is 0 where every top-level point is ok, and else 1.
 pub record RanOn (scripts : List (List ℕ)) (settings world : List ℕ) (processors : ℕ) (old new : Account) (answer : ℕ) : Type 0 where
   pub inputs : Inputs
   pub scripts_are : texts inputs.scripts.now ≡ scripts
   pub settings_are : inputs.settings.now ≡ settings
   pub world_is : inputs.world.now ≡ world
+  pub all_kept : inputs.only.now ≡ []
   pub processors_are : inputs.processors ≡ processors
   pub ok : Bool
   pub reported : Reported inputs old new ok

@@ -8,9 +8,8 @@ use Rattle.iso_standing.specs.declared.refused.Refused.{Refused as Why}
 use Rattle.iso_core.specs.declared.run_events.EventsFault.{EventsFault}
 use Rattle.iso_plan.specs.Planned.{Planned}
 use Rattle.iso_plan.specs.RowView.{tree_of}
-use Rattle.iso_plan.specs.Tree.{tree}
 use Rattle.iso_run.specs.Faults.{IsEarly, aftermath}
-use Rattle.iso_run.specs.Suites.{Suite, AreSet, FirstUnread, HasNoPlan, IsSuite, settings_from, world_from}
+use Rattle.iso_run.specs.Suites.{Suite, AreSet, FirstUnread, HasNoPlan, IsSuite, settings_from, suite_tree, world_from}
 use Rattle.iso_run.specs.Ways.{Way, Serial, ByWorkers, BySchedule, IsByScheduleAnd, IsByWorkers}
 use Rattle.iso_run.specs.declared.fault.RunFault.{RunFault}
 use Rattle.iso_run.specs.declared.fault.RunFault.TheVariants.{Settings, World, Script, Plan, Schedule, Refused, Unfinished, Start, Lost, Memory, Write}
@@ -38,7 +37,7 @@ pub record Replay (inputs : Inputs) (schedule : List ℕ) : Type 0 where
   pub suite : Suite
   pub is_suite : IsSuite inputs suite
   pub plan : Planned
-  pub planned : tree_of plan ≡ tree suite.scripts
+  pub planned : tree_of plan ≡ suite_tree suite
   pub planned_by : plan.settings ≡ suite.settings
   pub events : List Event
   pub read : AreRead schedule (Ok events)

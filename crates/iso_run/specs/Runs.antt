@@ -1,8 +1,8 @@
 -- What a run, a replay and a printed plan answer, and what the sink took.
-use Rattle.std.specs.Prelude.{◌≡◌, ℕ, ◌<◌, List, Bool, true, length, map, take}
+use Rattle.std.specs.Prelude.{◌≡◌, ℕ, ◌<◌, List, Bool, true, length, take}
 use Rattle.iso_run.specs.Faults.{Leaves, aftermath}
 use Rattle.iso_run.specs.Replays.{Cause, IsAccepted}
-use Rattle.iso_run.specs.Suites.{Suite, IsSuite, suite_of}
+use Rattle.iso_run.specs.Suites.{Suite, IsSuite, suite_of, suite_tree}
 use Rattle.iso_run.specs.Ways.{Way}
 use Rattle.iso_run.specs.declared.fault.RunFault.{RunFault}
 use Rattle.iso_run.specs.declared.fault.RunFault.TheVariants.{Write}
@@ -10,32 +10,31 @@ use Rattle.iso_run.specs.declared.inputs.Inputs.{Inputs}
 use Rattle.iso_run.specs.declared.inputs.Suite.{Suite as ReadSuite}
 use Rattle.iso_lifecycle.specs.Subjects.{outcome_alone, started}
 use Rattle.iso_model.specs.declared.outcome.Outcome.{Outcome}
-use Rattle.iso_model.specs.ScriptView.{script_of}
 use Rattle.iso_plan.specs.RowView.{tree_of}
-use Rattle.iso_plan.specs.Tree.{Row, tree}
+use Rattle.iso_plan.specs.Tree.{Row}
 use Rattle.iso_tap.specs.PlanText.{plan_text}
 use Rattle.iso_tap.specs.Reports.{all_ok, report}
 use Rattle.iso_tap.specs.Sinks.{Account, HasFailed, Took, Wrote}
 
 -- the outcome of each node of a suite, by its number: that of the node run alone on what the world starts with
 abbrev pub suite_outcome : Suite → ℕ → Outcome
-suite_outcome suite = outcome_alone (tree suite.scripts) (started suite.start)
+suite_outcome suite = outcome_alone (suite_tree suite) (started suite.start)
 
 -- the report of a suite, and whether all its top-level points are ok
 abbrev pub suite_report : Suite → List ℕ
-suite_report suite = report (tree suite.scripts) (suite_outcome suite)
+suite_report suite = report (suite_tree suite) (suite_outcome suite)
 
 abbrev pub suite_ok : Suite → Bool
-suite_ok suite = all_ok (tree suite.scripts) (suite_outcome suite)
+suite_ok suite = all_ok (suite_tree suite) (suite_outcome suite)
 
 -- the plan of a suite, as text, with the number of workers that its settings give
 abbrev pub suite_plan : Suite → List ℕ
-suite_plan suite = plan_text (tree suite.scripts) suite.settings suite.settings.worker_count
+suite_plan suite = plan_text (suite_tree suite) suite.settings suite.settings.worker_count
 
--- The inputs are the suite that was read, with the plan of its scripts under its settings.
+-- The inputs are the suite that was read, with the plan of its nodes under its settings.
 pub record IsRead (inputs : Inputs) (suite : ReadSuite) : Type 0 where
-  pub is_suite : IsSuite inputs (suite_of suite)
-  pub planned : tree_of suite.plan ≡ tree (map script_of suite.scripts.items)
+  pub is_suite : IsSuite inputs (suite_of inputs suite)
+  pub planned : tree_of suite.plan ≡ suite_tree (suite_of inputs suite)
   pub planned_by : suite.plan.settings ≡ suite.settings
 
 -- The report of these outcomes was written, whole, and this tells whether every top-level point is ok.

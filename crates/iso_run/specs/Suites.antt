@@ -7,6 +7,8 @@ use Rattle.toml.specs.Parse.{parse_document}
 use Rattle.iso_model.specs.Scripts.{Script}
 use Rattle.iso_model.specs.ScriptView.{script_of}
 use Rattle.iso_plan.specs.Faults.{plan_fault}
+use Rattle.iso_plan.specs.Selections.{plan_tree, texts_of}
+use Rattle.iso_plan.specs.Tree.{Row}
 use Rattle.iso_plan.specs.declared.fault.PlanFault.{PlanFault}
 use Rattle.iso_script.specs.Faults.{HasScriptFault}
 use Rattle.iso_script.specs.Grammar.{Reads}
@@ -20,15 +22,20 @@ use Rattle.iso_run.specs.declared.fault.RunFault.TheVariants as F
 use Rattle.iso_run.specs.declared.inputs.Inputs.{Inputs}
 use Rattle.iso_run.specs.declared.inputs.Suite.{Suite as ReadSuite}
 
--- a suite: its scripts in order, the settings, and what the world says that resources start with
+-- a suite: its scripts in order, the paths of what is kept of them, the settings, and what the world says that resources start with
 pub record Suite : Type 0 where
   pub scripts : List Script
+  pub only : List (List ℕ)
   pub settings : Settings
   pub start : Start
 
--- what a suite that was read stands for
-abbrev pub suite_of : ReadSuite → Suite
-suite_of s = record { scripts = map script_of s.scripts.items; settings = s.settings; start = s.world }
+-- what a suite that was read of inputs stands for
+abbrev pub suite_of : Inputs → ReadSuite → Suite
+suite_of inputs s = record { scripts = map script_of s.scripts.items; only = texts_of inputs.only.now; settings = s.settings; start = s.world }
+
+-- the nodes of a suite: those of its scripts that are kept
+abbrev pub suite_tree : Suite → List Row
+suite_tree suite = plan_tree suite.scripts suite.only
 
 -- the TOML document that bytes are, if they are one; a document is UTF-8 (TOML, spec)
 abbrev pub document : List ℕ → Option Members
@@ -59,22 +66,23 @@ pub record FirstUnread (scripts : List (Bor (List ℕ))) (index : ℕ) (fault : 
   pub earlier : (ss : List Script) × AreRead (texts (take index scripts)) ss
   pub unread : HasScriptFault (get_or (texts scripts) index []) fault
 
--- The inputs are this suite: each is read, and the scripts have a plan.
+-- The inputs are this suite: each is read, and what is kept of the scripts has a plan.
 pub record IsSuite (inputs : Inputs) (suite : Suite) : Type 0 where
   pub settings : settings_from inputs.settings.now inputs.processors ≡ Ok suite.settings
   pub world : world_from inputs.world.now ≡ Ok suite.start
   pub scripts : AreRead (texts inputs.scripts.now) suite.scripts
-  pub planned : plan_fault suite.scripts ≡ None
+  pub only : texts_of inputs.only.now ≡ suite.only
+  pub planned : plan_fault suite.scripts suite.only ≡ None
 
 -- settings and world are read
 abbrev pub AreSet : Inputs → Type 0
 AreSet inputs = IsOk (settings_from inputs.settings.now inputs.processors) × IsOk (world_from inputs.world.now)
 
--- the inputs are scripts whose plan has this fault
+-- the inputs are scripts and paths whose plan has this fault
 pub record HasNoPlan (inputs : Inputs) (fault : PlanFault) : Type 0 where
   pub scripts : List Script
   pub read : AreRead (texts inputs.scripts.now) scripts
-  pub unplanned : plan_fault scripts ≡ Some fault
+  pub unplanned : plan_fault scripts (texts_of inputs.only.now) ≡ Some fault
 
 -- the fault is the first of the scripts that is none, or want of memory
 abbrev pub IsFirstUnread : List (Bor (List ℕ)) → RunFault → Type 0

@@ -3,11 +3,12 @@ ghost use Rattle.std.specs.Prelude.{◌≡◌, ◌≤◌, ◌+◌, [], ◌∷◌
 ghost use Rattle.iso_arguments.specs.Requests.{AsksForSomeProcessors, IsCount};
 ghost use Rattle.iso_model.specs.declared.limits.TheConstants.{FILE_BYTES};
 ghost use Rattle.iso_run.specs.CommandFaults.{Answers, Flushed, IsRefusal, command_aftermath, words_status};
-ghost use Rattle.iso_run.specs.Commands.{Answered, Did, Ended, OfBytes, RanOn, Reports};
+ghost use Rattle.iso_run.specs.Commands.{Answered, AreAsked, Did, Ended, OfBytes, RanOn, Reports, script_texts};
 ghost use Rattle.iso_run.specs.Faults.{Untouched, aftermath};
 ghost use Rattle.iso_run.specs.Replays.{IsPlayed};
-ghost use Rattle.iso_run.specs.Runs.{NotWritten, Reported, Shown, suite_report};
-ghost use Rattle.iso_run.specs.Ways.{way_in, way_of};
+ghost use Rattle.iso_run.specs.Runs.{NotWritten, Reported, Shown, suite_plan, suite_report};
+ghost use Rattle.iso_run.specs.Suites.{texts};
+ghost use Rattle.iso_run.specs.Ways.{Serial, way_in, way_of};
 ghost use Rattle.iso_tap.specs.Sinks.{Wrote};
 
 use crate::command_fault::CommandFault;
@@ -24,6 +25,7 @@ use crate::way::Way;
 use crate::workers::run_workers;
 use iso_arguments::request::{InputFiles, Request, WordsFault, read_words};
 use iso_lifecycle::gate::OpenGate;
+use iso_plan::fault::PlanFault;
 use iso_tap::sink::Sink;
 use iso_tap::text::write_text;
 use std::alloc::{AllocGlobal, Global};
@@ -138,14 +140,33 @@ fn run<'a, G: AllocGlobal + Threads + Wait + Sync, W: Sink>(
     output: &mut W,
 ) -> Result<u8, CommandFault<'a>>
     requires { IsCount files.now.processors }
-    ensures { Answers (λ s. OfBytes bytes.now files.now.processors (λ inputs.
+    ensures { Answers (λ s. OfBytes bytes.now files.now (λ inputs.
         Reports inputs (way_in way.entry) (W.account output.old) (W.account output.new) s))
         (W.account output.old) (W.account output.new) result }
 {
     let scripts = lent(rt.alloc(), &bytes.scripts)?;
-    let inputs = inputs_of(bytes, &scripts, files.processors);
-    let ran = run_by(rt, inputs, way, output);
+    let ran = run_asked(rt, &*bytes, &scripts, &*files, way, output);
     answer_run(ran, files, output)
+}
+
+/// Runs in some way what these bytes are, whose scripts are lent, as it is asked for with these files.
+fn run_asked<'b, G: AllocGlobal + Threads + Wait + Sync, W: Sink>(
+    rt: &G,
+    bytes: &'b InputBytes,
+    scripts: &'b [&'b [u8]],
+    files: &'b InputFiles<'b>,
+    way: Way<'_>,
+    output: &mut W,
+) -> Result<Summary, RunFault>
+    requires count { IsCount files.now.processors }
+    requires scripts { texts scripts.now ≡ script_texts bytes.now }
+    ensures { OfBytes bytes.now files.now (λ inputs. MatchResult result
+        (λ s. IsPlayed inputs (way_in way.entry) true
+        × Reported inputs (W.account output.old) (W.account output.new) s.all_ok)
+        (NotWritten suite_report inputs (way_in way.entry) (W.account output.old) (W.account output.new))) }
+{
+    let inputs = inputs_of(bytes, scripts, files);
+    run_by(rt, inputs, way, output)
 }
 
 /// Runs a suite in some way.
@@ -176,30 +197,52 @@ fn plan<'a, W: Sink>(
     output: &mut W,
 ) -> Result<u8, CommandFault<'a>>
     requires { IsCount files.now.processors }
-    ensures { Answers (λ s. (s ≡ 0) × OfBytes bytes.now files.now.processors (λ inputs.
+    ensures { Answers (λ s. (s ≡ 0) × OfBytes bytes.now files.now (λ inputs.
         Shown inputs (W.account output.old) (W.account output.new)))
         (W.account output.old) (W.account output.new) result }
 {
     let scripts = lent(alloc, &bytes.scripts)?;
-    let inputs = inputs_of(bytes, &scripts, files.processors);
-    match show_plan(alloc, inputs, output) {
+    match show_asked(alloc, &*bytes, &scripts, &*files, output) {
         Ok(()) => flush(ALL_OK, output),
         Err(fault) => Err(named(fault, files)),
     }
 }
 
-/// The inputs that these bytes are, whose scripts are lent.
-fn inputs_of<'b>(bytes: &'b InputBytes, scripts: &'b [&'b [u8]], processors: u32) -> Inputs<'b>
+/// Prints the plan of what these bytes are, whose scripts are lent, as it is asked for with these files.
+fn show_asked<'b, W: Sink>(
+    alloc: Global,
+    bytes: &'b InputBytes,
+    scripts: &'b [&'b [u8]],
+    files: &'b InputFiles<'b>,
+    output: &mut W,
+) -> Result<(), RunFault>
+    requires count { IsCount files.now.processors }
+    requires scripts { texts scripts.now ≡ script_texts bytes.now }
+    ensures { OfBytes bytes.now files.now (λ inputs. MatchResult result
+        (λ _. Shown inputs (W.account output.old) (W.account output.new))
+        (NotWritten suite_plan inputs Serial (W.account output.old) (W.account output.new))) }
+{
+    let inputs = inputs_of(bytes, scripts, files);
+    show_plan(alloc, inputs, output)
+}
+
+/// The inputs that these bytes are, whose scripts are lent, as they are asked for with these files.
+fn inputs_of<'b>(
+    bytes: &'b InputBytes,
+    scripts: &'b [&'b [u8]],
+    files: &'b InputFiles<'b>,
+) -> Inputs<'b>
     ensures scripts { result.scripts.now ≡ scripts.now }
     ensures settings { result.settings.now ≡ bytes.now.settings.items }
     ensures world { result.world.now ≡ bytes.now.world.items }
-    ensures processors { result.processors ≡ processors }
+    ensures asked { AreAsked files.now result }
 {
     Inputs {
         scripts,
         settings: &bytes.settings,
         world: &bytes.world,
-        processors,
+        only: &files.only,
+        processors: files.processors,
     }
 }
 
@@ -229,13 +272,14 @@ fn flush<W: Sink>(status: u8, output: &mut W) -> Result<u8, CommandFault<'static
     Ok(status)
 }
 
-/// A fault of a run, with the name of the script that it is of, where that is named.
+/// A fault of a run, with the word that it is of: the name of a script, where one is named, or a path.
 fn named<'a>(fault: RunFault, files: &InputFiles<'a>) -> CommandFault<'a>
     ensures { command_aftermath result ≡ aftermath fault }
 {
-    let script = match &fault {
+    let word = match &fault {
         RunFault::Script(index, _) => files.scripts.get(*index).copied(),
+        RunFault::Plan(PlanFault::NotSelected(index)) => files.only.get(*index).copied(),
         _ => None,
     };
-    CommandFault::Run(fault, script)
+    CommandFault::Run(fault, word)
 }

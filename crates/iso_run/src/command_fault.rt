@@ -19,7 +19,7 @@ pub(crate) enum CommandFault<'a> {
     TooLarge(&'a str),
     /// The output failed.
     Unwritten,
-    /// A fault of the run, and where it is of a script that was named, the script's name.
+    /// A fault of the run, and the word that it is of: the name of a script, where one was named, or a path.
     Run(RunFault, Option<&'a str>),
 }
 

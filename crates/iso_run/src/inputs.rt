@@ -1,16 +1,15 @@
 //! What a run is given, read as a suite.
 ghost use Rattle.std.specs.Prelude.{◌≡◌, ◌≤◌, IfOk, MatchResult, map};
 ghost use Rattle.iso_run.specs.Replays.{NotRead};
-ghost use Rattle.iso_run.specs.Suites.{IsFirstUnread, IsSuite, AreRead, settings_from, suite_of, texts, world_from};
+ghost use Rattle.iso_run.specs.Suites.{IsFirstUnread, IsSuite, AreRead, settings_from, suite_of, suite_tree, texts, world_from};
 ghost use Rattle.iso_model.specs.ScriptView.{script_of};
 ghost use Rattle.iso_plan.specs.RowView.{tree_of};
-ghost use Rattle.iso_plan.specs.Tree.{tree};
 ghost use Rattle.iso_settings.specs.Readings.{Gives};
 
 use crate::fault::RunFault;
 use iso_model::script::Script;
 use iso_plan::fault::PlanError;
-use iso_plan::plan::{Plan, build};
+use iso_plan::plan::{Plan, build_only};
 use iso_script::fault::ScriptError;
 use iso_script::reader::read_script;
 use iso_settings::fault::{SettingsError, SettingsFault};
@@ -18,18 +17,19 @@ use iso_settings::settings::{Settings, read_settings};
 use iso_settings::world::{World, read_world};
 use std::alloc::Global;
 
-/// What a run is given: the bytes of each script, of the settings and of the world, and how many processors there
-/// are, at least 1.
+/// What a run is given: the bytes of each script, of the settings and of the world, the paths of the classes and tests
+/// that are kept, or none where all are, and how many processors there are, at least 1.
 #[derive(Clone, Copy)]
 pub struct Inputs<'a> {
     pub scripts: &'a [&'a [u8]],
     pub settings: &'a [u8],
     pub world: &'a [u8],
+    pub only: &'a [&'a str],
     pub processors: u32,
 }
 
-/// What inputs are: scripts, settings, the values that resources start with, and the plan of the scripts under the
-/// settings.
+/// What inputs are: scripts, settings, the values that resources start with, and the plan of what is kept of the scripts
+/// under the settings.
 #[derive(Drop)]
 pub struct Suite {
     pub scripts: Vec<Script>,
@@ -38,13 +38,13 @@ pub struct Suite {
     pub plan: Plan,
 }
 
-/// Reads inputs as a suite: the settings, the world and the scripts in turn, and plans the scripts. The first fault
-/// in this order is answered. Settings or a world that isn't UTF-8 is `NotToml`. Want of memory may be answered at each
+/// Reads inputs as a suite: the settings, the world and the scripts in turn, and plans what is kept of the scripts. The first
+/// fault in this order is answered. Settings or a world that isn't UTF-8 is `NotToml`. Want of memory may be answered at each
 /// growth.
 pub fn read_inputs(alloc: Global, inputs: Inputs<'_>) -> Result<Suite, RunFault>
     requires { 1 ≤ inputs.processors }
-    ensures suite { MatchResult result (λ s. IsSuite inputs.entry (suite_of s)) (NotRead inputs.entry) }
-    ensures plan { IfOk result (λ s. tree_of s.plan ≡ tree (map script_of s.scripts.items)) }
+    ensures suite { MatchResult result (λ s. IsSuite inputs.entry (suite_of inputs.entry s)) (NotRead inputs.entry) }
+    ensures plan { IfOk result (λ s. tree_of s.plan ≡ suite_tree (suite_of inputs.entry s)) }
     ensures planned_by { IfOk result (λ s. s.plan.settings ≡ s.settings) }
 {
     let settings = match settings_from(alloc, inputs.settings, inputs.processors) {
@@ -62,7 +62,7 @@ pub fn read_inputs(alloc: Global, inputs: Inputs<'_>) -> Result<Suite, RunFault>
         Err(SettingsError::OutOfMemory) => return Err(RunFault::Memory),
     };
     let scripts = read_scripts(alloc, inputs.scripts)?;
-    match build(alloc, &scripts, &settings) {
+    match build_only(alloc, &scripts, &settings, inputs.only) {
         Ok(plan) => Ok(Suite {
             scripts,
             settings,

@@ -1,6 +1,7 @@
 //! The line that the program writes of a fault.
 use crate::command_fault::CommandFault;
 use crate::fault::RunFault;
+use iso_plan::fault::PlanFault;
 use iso_schedule::fault::ScheduleFault;
 use iso_script::fault::ScriptFault;
 use iso_settings::fault::SettingsFault;
@@ -23,30 +24,33 @@ impl fmt::Display for CommandFault<'_> {
             }
             CommandFault::TooLarge(name) => write!(f, "jtap: {}: too large", Escaped(*name)),
             CommandFault::Unwritten => f.write_str(WRITE_FAILED),
-            CommandFault::Run(fault, script) => {
-                let name = script.unwrap_or(STDIN);
-                let line = RunFaultLine { fault, name };
+            CommandFault::Run(fault, word) => {
+                let line = RunFaultLine { fault, word: *word };
                 write!(f, "{line}")
             }
         }
     }
 }
 
-/// The line of a fault of a run. The name is that of the script, where the fault is of one.
+/// The line of a fault of a run. The word is the name of the script that the fault is of, where one was named, or the path.
 #[derive(Clone, Copy)]
 struct RunFaultLine<'a> {
     fault: &'a RunFault,
-    name: &'a str,
+    word: Option<&'a str>,
 }
 
 impl fmt::Display for RunFaultLine<'_> {
     fn fmt<W: fmt::Write>(&self, f: &mut fmt::Formatter<W>) -> fmt::Result {
-        let name = Escaped(self.name);
         match self.fault {
             RunFault::Settings(fault) => write!(f, "jtap: settings: {}", Escaped(fault)),
             RunFault::World(fault) => write!(f, "jtap: world: {}", Escaped(fault)),
             RunFault::Script(_, ScriptFault { kind, line, column }) => {
+                let name = Escaped(self.word.unwrap_or(STDIN));
                 write!(f, "jtap: {name}:{line}:{column}: {kind}")
+            }
+            RunFault::Plan(fault @ PlanFault::NotSelected(_)) => {
+                let path = Escaped(self.word.unwrap_or(""));
+                write!(f, "jtap: plan: {fault} {path}")
             }
             RunFault::Plan(fault) => write!(f, "jtap: plan: {fault}"),
             RunFault::Schedule(ScheduleFault { kind, line }) => {

@@ -2,7 +2,7 @@
 ghost use Rattle.std.specs.Prelude.{◌≡◌, length};
 
 use crate::expect::expect;
-use crate::suites::{Check, SERIAL, check_script, widest_script};
+use crate::suites::{Check, LATER, SERIAL, check_script, widest_script};
 use crate::told::{ending, expect_told, push_output};
 use iso_lifecycle::results::Results;
 use iso_lifecycle::view::{View, ViewVerdict};
@@ -19,7 +19,7 @@ struct Row {
     nodes: &'static [(u32, &'static str)],
 }
 
-static ROWS: [Row; 13] = [
+static ROWS: [Row; 18] = [
     Row {
         script: "team shop\nclass Out { before_each { print \"ob\"; } after_each { print \"oa\"; }
         class In { before_each { print \"ib\"; } after_each { print \"ia\"; } test t { print \"t\"; } } }",
@@ -91,6 +91,45 @@ static ROWS: [Row; 13] = [
     Row {
         script: "team shop\nclass Out { before_each { n = 2; } class In { field n = 1; test t { } } }",
         nodes: &[(3, "fault: unknown name n at class 1 before_each row 1")],
+    },
+    Row {
+        script: LATER,
+        nodes: &[
+            (1, "pass | x"),
+            (2, "skipped: later at disabled"),
+            (3, "pass"),
+        ],
+    },
+    Row {
+        script: "team shop\nclass C { after_all { fail \"late\"; } disabled \"later\" test t { } }",
+        nodes: &[
+            (1, "fail: late at class 1 after_all row 1"),
+            (2, "skipped: later at disabled"),
+        ],
+    },
+    // What stands in a disabled class has its reason, also where it has one of its own.
+    Row {
+        script: "team shop\ndisabled \"soon\" class Out { disabled \"later\" class In { before_all { print \"never\"; } test t { } } disabled \"no\" test u { } }",
+        nodes: &[
+            (1, "skipped: soon at disabled"),
+            (2, "skipped: soon at disabled"),
+            (3, "skipped: soon at disabled"),
+            (4, "skipped: soon at disabled"),
+        ],
+    },
+    // A class further out that wasn't opened comes first.
+    Row {
+        script: "team shop\nclass C { before_all { fail \"no db\"; } disabled \"later\" test t { } disabled \"soon\" class D { test u { } } }",
+        nodes: &[
+            (1, "fail: no db at class 1 before_all row 1"),
+            (2, "blocked: no db at class 1 before_all row 1"),
+            (3, "blocked: no db at class 1 before_all row 1"),
+            (4, "blocked: no db at class 1 before_all row 1"),
+        ],
+    },
+    Row {
+        script: "team shop\nclass C { before_all { assume false, \"no #1\"; } disabled \"later\" test t { } }",
+        nodes: &[(2, "skipped: no #1 at class 1 before_all row 1")],
     },
 ];
 

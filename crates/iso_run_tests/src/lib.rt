@@ -34,6 +34,8 @@ mod schedules;
 #[cfg(test)]
 mod scripts;
 #[cfg(test)]
+mod selection;
+#[cfg(test)]
 mod sinks;
 #[cfg(test)]
 mod statements;

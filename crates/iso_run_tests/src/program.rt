@@ -6,7 +6,7 @@ use crate::folder::{answers, new_folder_of, put, remove, run, words_of};
 use crate::host::Host;
 use crate::ran::{Answer, Ran, run_words};
 use crate::refusal::{Refusal, first_other_refusal};
-use crate::suites::{CART_AND_DESK, CART_AND_DESK_PLAN, TWO_WORKERS};
+use crate::suites::{CART_AND_DESK, CART_AND_DESK_PLAN, CHILDREN, TWO_WORKERS};
 use iso_arguments::request::WordsFault;
 use iso_run::command::{command, refuse_words};
 use iso_tap::memory::MemorySink;
@@ -243,8 +243,36 @@ fn scripts_run_under_settings_and_a_world(rt: HostRuntime) -> Result<(), Fail> {
     remove(&rt, folder.as_str())
 }
 
-static PLAN_FILES: [(&str, &str); 4] = [
+static PLAN_FILES: [(&str, &str); 11] = [
     ("script", CART_AND_DESK),
+    ("children", CHILDREN),
+    (
+        "nested",
+        "team shop\nread children \"K\" class Out { class In { test t { } write \"K\" test u { } } }\n",
+    ),
+    (
+        "report",
+        "team shop
+write children \"file:report\" class Report { test header { } test total { } }
+class Cart { test adds { } read \"file:report\" test looks { } }
+",
+    ),
+    (
+        "readers",
+        "team shop\nread children \"K\" class Cart { test a { } test b { } write \"K\" test c { } }\n",
+    ),
+    (
+        "marked",
+        "team shop\nwrite children \"K\" class C { read \"L\" test a { } read \"K\" test b { } }\n",
+    ),
+    (
+        "both",
+        "team shop\nread \"K\" write children \"K\" class C { test a { } }\n",
+    ),
+    (
+        "disabled",
+        "team shop\nclass C { disabled \"x\" write \"K\" test t { } }\n",
+    ),
     ("settings", TWO_WORKERS),
     ("cart", CART),
     (
@@ -254,8 +282,54 @@ static PLAN_FILES: [(&str, &str); 4] = [
 ];
 
 /// Words, and the plan that is printed.
-static PLANS: [(&str, &str); 4] = [
+static PLANS: [(&str, &str); 11] = [
     ("plan --settings @settings @script", CART_AND_DESK_PLAN),
+    // What a class marks for its children each of them takes for itself, and the class doesn't.
+    (
+        "plan --settings @settings @children",
+        "workers 2\n1 class concurrent [r:iso:global] shop.C\n2 test concurrent [w:K] shop.C.a\n3 test concurrent [w:K] shop.C.b\n",
+    ),
+    // A child that is a class locks for all that stands in it.
+    (
+        "plan --settings @settings @nested",
+        "workers 2\n1 class concurrent [r:iso:global] shop.Out\n2 class concurrent [w:K] shop.Out.In\n3 test same_thread [] shop.Out.In.t\n4 test same_thread [] shop.Out.In.u\n",
+    ),
+    // The examples of `LOCKS.md`.
+    (
+        "plan --settings @settings @report",
+        "workers 2
+1 class concurrent [r:iso:global] shop.Report
+2 test concurrent [w:file:report] shop.Report.header
+3 test concurrent [w:file:report] shop.Report.total
+4 class concurrent [r:iso:global] shop.Cart
+5 test concurrent [] shop.Cart.adds
+6 test concurrent [r:file:report] shop.Cart.looks
+",
+    ),
+    (
+        "plan --settings @settings @readers",
+        "workers 2
+1 class concurrent [r:iso:global] shop.Cart
+2 test concurrent [r:K] shop.Cart.a
+3 test concurrent [r:K] shop.Cart.b
+4 test concurrent [w:K] shop.Cart.c
+",
+    ),
+    // Keys are numbered as the marks are written, and of two marks the stronger counts.
+    (
+        "plan --settings @settings @marked",
+        "workers 2\n1 class concurrent [r:iso:global] shop.C\n2 test concurrent [w:K,r:L] shop.C.a\n3 test concurrent [w:K] shop.C.b\n",
+    ),
+    // A class with a mark for itself gathers those of its children.
+    (
+        "plan --settings @settings @both",
+        "workers 2\n1 class concurrent [r:iso:global,w:K] shop.C\n2 test same_thread [] shop.C.a\n",
+    ),
+    // A disabled node locks as others do.
+    (
+        "plan --settings @settings @disabled",
+        "workers 2\n1 class concurrent [r:iso:global] shop.C\n2 test concurrent [w:K] shop.C.t\n",
+    ),
     (
         "plan @cart",
         "workers 1\n1 class same_thread [r:iso:global] shop.Cart\n2 test same_thread [] shop.Cart.adds\n",

@@ -143,6 +143,7 @@ fn schedules_at_random_give_the_report_of_the_serial_run(rt: HostRuntime) -> Res
         scripts: &scripts,
         settings: SETTINGS.as_bytes(),
         world: WORLD.as_bytes(),
+        only: &[],
         processors: 1,
     };
     let mut serial = MemorySink::new(rt.alloc());

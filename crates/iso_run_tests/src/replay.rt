@@ -4,7 +4,7 @@ use crate::folder::{answers, new_folder_of, put, put_all, remove, run};
 use crate::host::Host;
 use crate::ran::{Answer, Ran};
 use crate::refusal::{Refusal, first_other_refusal};
-use crate::suites::{TWO_FILES, TWO_WORKERS};
+use crate::suites::{SOON, SOON_REPORT, TWO_FILES, TWO_WORKERS};
 use std::alloc::AllocError;
 use std::test::Fail;
 
@@ -41,7 +41,7 @@ const WHOLE: &str =
 enter 1 4\nenter 0 5\nstep 1\nstep 0\nstep 1\nstep 0\nleave 1\nleave 0\nshut 0 1\nleave 0\n";
 
 /// What the words below name besides the schedule.
-static FILES: [(&str, &str); 7] = [
+static FILES: [(&str, &str); 10] = [
     ("settings", TWO_WORKERS),
     ("world", "files.a = \"s\"\n"),
     ("script", TWO_FILES),
@@ -49,6 +49,9 @@ static FILES: [(&str, &str); 7] = [
     ("bad", "team shop\nclass C { }\n"),
     ("wrong", "junit.jupiter.execution.parallel.enabled = 1\n"),
     ("siblings", "enter 0 1\nleave 0\nenter 0 3\n"),
+    ("soon", SOON),
+    ("into_soon", "enter 0 1\nleave 0\nenter 0 2\n"),
+    ("past_soon", "enter 0 1\nleave 0\nshut 0 1\nleave 0\n"),
 ];
 
 const REPLAY: &str = "replay --schedule @schedule --settings @settings --world @world @script";
@@ -197,6 +200,23 @@ static ORDER: [Refusal; 7] = [
 fn schedule_is_read_last(rt: HostRuntime) -> Result<(), Fail> {
     let folder = new_folder_of(&rt, &FILES)?;
     expect_no_other(&rt, first_other_refusal(&rt, folder.as_str(), &ORDER)?);
+    remove(&rt, folder.as_str())
+}
+
+/// A disabled class is entered, left and shut on one worker, and what stands in it is not entered.
+#[test]
+fn disabled_class_is_replayed(rt: HostRuntime) -> Result<(), Fail> {
+    let folder = new_folder_of(&rt, &FILES)?;
+    let refused = Answer::refused(2, "jtap: schedule: event 2: ParentClosed\n");
+    let into = "replay --schedule @into_soon @soon";
+    assert!(rt; answers(&rt, folder.as_str(), into, "", refused)?);
+    let reported = Answer {
+        status: 0,
+        output: SOON_REPORT,
+        errors: "",
+    };
+    let past = "replay --schedule @past_soon @soon";
+    assert!(rt; answers(&rt, folder.as_str(), past, "", reported)?);
     remove(&rt, folder.as_str())
 }
 

@@ -201,6 +201,7 @@ fn failed_write_tells_how_much_was_taken(rt: HostRuntime) {
         scripts: &[script],
         settings: &[],
         world: &[],
+        only: &[],
         processors: 1,
     };
     let is_told = matches!(

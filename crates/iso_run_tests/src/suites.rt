@@ -59,6 +59,42 @@ write \"file:a\" test w1 { write_file \"a\", \"n\"; assert_equal \"n\", file(\"a
 write \"file:b\" test w2 { write_file \"b\", \"m\"; print file(\"b\"); } }
 ";
 
+/// Two tests that each take the key which their class marks for them.
+pub(crate) const CHILDREN: &str = "team shop
+write children \"K\" class C { test a { } test b { } }
+";
+
+/// A disabled class, of which no block may run.
+pub(crate) const SOON: &str = "team shop
+disabled \"soon\" class C { before_all { fail \"no\"; } after_all { fail \"late\"; } test t { } }
+";
+
+/// Its report.
+pub(crate) const SOON_REPORT: &str = "TAP version 14
+1..1
+# Subtest: shop.C
+    1..1
+    ok 1 - t # SKIP soon
+      ---
+      verdict: skipped
+      message: \"soon\"
+      at: \"disabled\"
+      output: []
+      ...
+ok 1 - shop.C # SKIP soon
+  ---
+  verdict: skipped
+  message: \"soon\"
+  at: \"disabled\"
+  output: []
+  ...
+";
+
+/// A disabled test beside another.
+pub(crate) const LATER: &str = "team shop
+class C { before_all { print \"x\"; } disabled \"later\" test t { fail \"no\"; } test u { } }
+";
+
 impl Surroundings {
     /// These scripts under them.
     pub(crate) fn inputs<'a>(self, scripts: &'a [&'a [u8]]) -> Inputs<'a>
@@ -68,6 +104,7 @@ impl Surroundings {
             scripts,
             settings: self.settings.as_bytes(),
             world: self.world.as_bytes(),
+            only: &[],
             processors: 1,
         }
     }

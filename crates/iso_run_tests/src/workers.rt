@@ -43,6 +43,7 @@ impl<'a> Scripts<'a> {
             scripts: self.scripts,
             settings: settings.as_bytes(),
             world: self.world.as_bytes(),
+            only: &[],
             processors: 1,
         }
     }

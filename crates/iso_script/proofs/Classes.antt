@@ -1,5 +1,5 @@
 -- Tests and classes by their rules, with what stands where as equations.
-use Rattle.std.proofs.Common.{◌≡◌, ℕ, suc, List, ◌∷◌, ◌++◌, Bool, true, false, not, ◌&&◌, Option, Some, None, is_some, refl, ap, subst, sym, ◌∙◌}
+use Rattle.std.proofs.Common.{◌≡◌, ℕ, suc, List, ◌∷◌, ◌++◌, Bool, true, false, ◌&&◌, Option, Some, None, is_some, refl, ap, subst, sym, ◌∙◌}
 use Rattle.std.proofs.lemmas.Option.{some_pair_parts}
 use Rattle.iso_script_lexer.specs.Piece.{Piece, name_at, word_at, symbol_at, tail}
 use Rattle.iso_script_lexer.specs.Tokens.{after, after_word}
@@ -15,7 +15,7 @@ use Rattle.iso_script_statements.specs.Statements.{IsBlock}
 use Rattle.iso_script_statements.proofs.Taken.{name_is}
 use Rattle.iso_script.specs.Blocks.{Blocks, IsBlocks}
 use Rattle.iso_script.specs.Displays.{IsDisplayed}
-use Rattle.iso_script.specs.Marks.{Marks, IsMarks}
+use Rattle.iso_script.specs.Marks.{Marks, IsMarks, fits_test}
 use Rattle.iso_script.specs.Variables.{Variables, IsVariables}
 use Rattle.iso_script.specs.Variables as V
 use Rattle.iso_script.proofs.Blocks.{one_blocks}
@@ -34,17 +34,17 @@ word_in_front w ps h = go (after_word w ps) refl h
     go None e h = cc
 
 -- what it means that a test may be next, and that none may
-pub may_test : (a b : Bool) → true ≡ (not a && b) → (a ≡ false) × (true ≡ b)
-may_test false b h = (refl, h)
-may_test true b h = cc
+pub may_test : (a b : Bool) → true ≡ (a && b) → (a ≡ true) × (true ≡ b)
+may_test true b h = (refl, h)
+may_test false b h = cc
 
-may_no_test : (a b : Bool) → false ≡ (not a && b) → a ≡ false → b ≡ true → ⊥
-may_no_test false true h e f = cc
-may_no_test false false h e f = cc
-may_no_test true b h e f = cc
+may_no_test : (a b : Bool) → false ≡ (a && b) → a ≡ true → b ≡ true → ⊥
+may_no_test true true h e f = cc
+may_no_test true false h e f = cc
+may_no_test false b h e f = cc
 
-pub no_test : (isolated : Bool) (ps : List Piece) → false ≡ (not isolated && is_some (after_word W.Test ps)) → (r : ℕ) (qs : List Piece) → isolated ≡ false → ps ≡ word_at r W.Test ∷ qs → ⊥
-no_test isolated ps h r qs plain is = may_no_test isolated (is_some (after_word W.Test ps)) h plain (ap (λ xs. is_some (after_word W.Test xs)) is ∙ ap is_some (after_word-word_at r W.Test qs))
+pub no_test : (fits : Bool) (ps : List Piece) → false ≡ (fits && is_some (after_word W.Test ps)) → (r : ℕ) (qs : List Piece) → fits ≡ true → ps ≡ word_at r W.Test ∷ qs → ⊥
+no_test fits ps h r qs fit is = may_no_test fits (is_some (after_word W.Test ps)) h fit (ap (λ xs. is_some (after_word W.Test xs)) is ∙ ap is_some (after_word-word_at r W.Test qs))
 
 -- a word and a name that are next stand in front
 pub named_in_front : (w : Word) (n : List ℕ) (old ps rest : List Piece) → true ≡ is_some (after_word w old) → ps ≡ tail old → name_next ps ≡ Some (n, rest) → (r : ℕ) × (q : ℕ) × (old ≡ word_at r w ∷ name_at q n ∷ rest)
@@ -119,14 +119,14 @@ class_name (a_class h k l m) = refl
 
 -- the marks of a member are next
 pub marks_next : {d : ℕ} {taken : List (List ℕ)} {m : Member} {ps rest : List Piece} → IsMember d taken m ps rest → (marks : Marks) × (qs : List Piece) × IsMarks marks ps qs
-marks_next (as_test {r = r} {q = q} {marks = marks} {n = n} {qs = qs} h plain k) = (marks, word_at r W.Test ∷ name_at q n ∷ qs, h)
+marks_next (as_test {r = r} {q = q} {marks = marks} {n = n} {qs = qs} h fit k) = (marks, word_at r W.Test ∷ name_at q n ∷ qs, h)
 marks_next (as_class {r = r} {q = q} {marks = marks} {n = n} {qs = qs} h k) = (marks, word_at r W.Class ∷ name_at q n ∷ qs, h)
 
-pub is_test : {d : ℕ} {taken : List (List ℕ)} {marks : Marks} {n : List ℕ} {t : Test} {old mid ps qs rest : List Piece} → IsMarks marks old mid → marks.isolated ≡ false → true ≡ is_some (after_word W.Test mid) → ps ≡ tail mid → name_next ps ≡ Some (n, qs)
+pub is_test : {d : ℕ} {taken : List (List ℕ)} {marks : Marks} {n : List ℕ} {t : Test} {old mid ps qs rest : List Piece} → IsMarks marks old mid → fits_test marks ≡ true → true ≡ is_some (after_word W.Test mid) → ps ≡ tail mid → name_next ps ≡ Some (n, qs)
     → IsTest marks n t qs rest → IsMember d taken (test_member t) old rest
-is_test {marks = marks} {n = n} {old = old} {mid = mid} {ps = ps} {qs = qs} h plain word ahead name k =
+is_test {marks = marks} {n = n} {old = old} {mid = mid} {ps = ps} {qs = qs} h fit word ahead name k =
     let s = named_in_front W.Test n mid ps qs word ahead name in
-    as_test (subst (IsMarks marks old) s.2 h) plain k
+    as_test (subst (IsMarks marks old) s.2 h) fit k
 
 -- a test after its marks and its word
 pub record TestNext (marks : Marks) (m : Member) (ps rest : List Piece) : Type 0 where
@@ -139,7 +139,7 @@ pub record TestNext (marks : Marks) (m : Member) (ps rest : List Piece) : Type 0
   pub called : name_of m ≡ name
 
 pub test_next : {d : ℕ} {taken : List (List ℕ)} {marks : Marks} {m : Member} {old mid ps rest : List Piece} → IsMarks marks old mid → true ≡ is_some (after_word W.Test mid) → ps ≡ tail mid → IsMember d taken m old rest → TestNext marks m ps rest
-test_next {mid = mid} h word ahead (as_test {r = r} {q = q} {n = n} {t = t} {qs = qs} i plain k) =
+test_next {mid = mid} h word ahead (as_test {r = r} {q = q} {n = n} {t = t} {qs = qs} i fit k) =
     let u = one_marks _ _ _ _ _ h i in
     record { name = n; test = t; left = qs; is = refl; named = ap name_next (ahead ∙ ap tail u.1); read = told_test u.0 refl refl k; called = test_name k }
 test_next {mid = mid} h word ahead (as_class {r = r} {q = q} {n = n} {qs = qs} i k) =
@@ -170,11 +170,11 @@ pub record ClassNext (d : ℕ) (taken : List (List ℕ)) (marks : Marks) (m : Me
   pub read : IsClass more taken marks name class left rest
   pub called : name_of m ≡ name
 
--- What comes after the marks of a member is a class where no test can be: the marks isolate it, or no test is next.
-pub class_next : {d : ℕ} {taken : List (List ℕ)} {marks : Marks} {m : Member} {old mid rest : List Piece} → IsMarks marks old mid → ((r : ℕ) (ps : List Piece) → marks.isolated ≡ false → mid ≡ word_at r W.Test ∷ ps → ⊥) → IsMember d taken m old rest → ClassNext d taken marks m mid rest
-class_next {marks = marks} h no_test (as_test {r = r} {q = q} {marks = others} {n = n} {qs = qs} i plain k) =
+-- What comes after the marks of a member is a class where no test can be: the marks fit none, or no test is next.
+pub class_next : {d : ℕ} {taken : List (List ℕ)} {marks : Marks} {m : Member} {old mid rest : List Piece} → IsMarks marks old mid → ((r : ℕ) (ps : List Piece) → fits_test marks ≡ true → mid ≡ word_at r W.Test ∷ ps → ⊥) → IsMember d taken m old rest → ClassNext d taken marks m mid rest
+class_next {marks = marks} h no_test (as_test {r = r} {q = q} {marks = others} {n = n} {qs = qs} i fit k) =
     let u = one_marks _ _ _ _ _ h i in
-    absurd (no_test r (name_at q n ∷ qs) (ap (λ (x : Marks). x.isolated) u.0 ∙ plain) u.1)
+    absurd (no_test r (name_at q n ∷ qs) (ap fits_test u.0 ∙ fit) u.1)
 class_next {mid = mid} h no_test (as_class {d = more} {r = r} {q = q} {n = n} {c = c} {qs = qs} i k) =
     let u = one_marks _ _ _ _ _ h i in
     record {

@@ -38,7 +38,7 @@ test_shorter (a_test h k) = omega (arith, displayed_within h, block_shorter k)
 
 mutual
   pub member_shorter : {d : ℕ} {taken : List (List ℕ)} {m : Member} {ps qs : List Piece} → IsMember d taken m ps qs → length qs < length ps
-  member_shorter (as_test h plain k) = omega (arith, marks_within h, test_shorter k)
+  member_shorter (as_test h fit k) = omega (arith, marks_within h, test_shorter k)
   member_shorter (as_class h k) = omega (arith, marks_within h, class_shorter k)
 
   class_shorter : {d : ℕ} {taken : List (List ℕ)} {marks : Marks} {n : List ℕ} {c : Class} {ps qs : List Piece} → IsClass d taken marks n c ps qs → length qs < length ps

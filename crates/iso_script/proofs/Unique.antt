@@ -36,11 +36,11 @@ none_marked_left q w qs [] h = cc
 none_marked_left q w qs (x ∷ xs) h = no_mark_left h.1
 
 pub no_member : {d r : ℕ} {taken : List (List ℕ)} {s : Symbol} {m : Member} {ps qs : List Piece} → IsMember d taken m (symbol_at r s ∷ ps) qs → ⊥
-no_member {r = r} {s = s} {ps = ps} (as_test {r = q} {q = l} {n = n} {qs = qs} h plain k) = none_marked r q s W.Test ps (name_at l n ∷ qs) h.written h.read
+no_member {r = r} {s = s} {ps = ps} (as_test {r = q} {q = l} {n = n} {qs = qs} h fit k) = none_marked r q s W.Test ps (name_at l n ∷ qs) h.written h.read
 no_member {r = r} {s = s} {ps = ps} (as_class {r = q} {q = l} {n = n} {qs = qs} h k) = none_marked r q s W.Class ps (name_at l n ∷ qs) h.written h.read
 
 no_member_left : {d : ℕ} {taken : List (List ℕ)} {m : Member} {qs : List Piece} → IsMember d taken m [] qs → ⊥
-no_member_left (as_test {r = q} {q = l} {n = n} {qs = qs} h plain k) = none_marked_left q W.Test (name_at l n ∷ qs) h.written h.read
+no_member_left (as_test {r = q} {q = l} {n = n} {qs = qs} h fit k) = none_marked_left q W.Test (name_at l n ∷ qs) h.written h.read
 no_member_left (as_class {r = q} {q = l} {n = n} {qs = qs} h k) = none_marked_left q W.Class (name_at l n ∷ qs) h.written h.read
 
 -- what stands in front is the same
@@ -69,7 +69,7 @@ one_test {marks = marks} {n = n} (a_test {body = body} h k) (a_test {display = d
 
 mutual
   pub one_member : {d : ℕ} {taken : List (List ℕ)} {m n : Member} {ps qs rs : List Piece} → IsMember d taken m ps qs → IsMember d taken n ps rs → (m ≡ n) × (qs ≡ rs)
-  one_member (as_test h plain k) (as_test i also j) =
+  one_member (as_test h fit k) (as_test i also j) =
       let u = one_marks _ _ _ _ _ h i in
       let e = same_named u.1 in
       let v = one_test k (told_test u.0 e.1 e.2 j) in
@@ -79,8 +79,8 @@ mutual
       let e = same_named u.1 in
       let v = one_class k (told_class u.0 e.1 e.2 j) in
       (ap class_member v.0, v.1)
-  one_member (as_test h plain k) (as_class i j) = absurd (not_one_word (same_named (one_marks _ _ _ _ _ h i).1).0)
-  one_member (as_class h k) (as_test i plain j) = absurd (not_one_word (sym (same_named (one_marks _ _ _ _ _ h i).1).0))
+  one_member (as_test h fit k) (as_class i j) = absurd (not_one_word (same_named (one_marks _ _ _ _ _ h i).1).0)
+  one_member (as_class h k) (as_test i fit j) = absurd (not_one_word (sym (same_named (one_marks _ _ _ _ _ h i).1).0))
 
   pub one_class : {d : ℕ} {taken : List (List ℕ)} {marks : Marks} {n : List ℕ} {c b : Class} {ps qs rs : List Piece} → IsClass d taken marks n c ps qs → IsClass d taken marks n b ps rs → (c ≡ b) × (qs ≡ rs)
   one_class {d = d} {taken = taken} {marks = marks} {n = n} (a_class {variables = variables} {blocks = blocks} {ms = ms} h k l m) (a_class {display = t} {variables = vs} {blocks = bs} {ms = ns} {rs = rs} {ss = ss} {ts = ts} a b c e) =

@@ -2,7 +2,7 @@
 -- A number d among the arguments says how many more classes may be opened, and taken are the names of the statics and
 -- fields of the enclosing classes.
 use Rattle.std.specs.Global.{Global}
-use Rattle.std.specs.Prelude.{ℕ, suc, ◌≤◌, List, [], ◌∷◌, ◌++◌, ◌≡◌, ◌≢◌, Option, Some, None, Vec, false, length, map}
+use Rattle.std.specs.Prelude.{ℕ, suc, ◌≤◌, List, [], ◌∷◌, ◌++◌, ◌≡◌, ◌≢◌, Option, Some, None, Vec, true, false, length, map}
 use Rattle.std.specs.List.{IsDistinct}
 use Rattle.std.specs.Str.{bytes_eq}
 use Rattle.iso_script_lexer.specs.Lexical.{HasPieces}
@@ -21,14 +21,14 @@ use Rattle.iso_model.specs.NameSets.{is_among}
 use Rattle.iso_script_statements.specs.Statements.{IsBlock}
 use Rattle.iso_script.specs.Blocks.{Blocks, IsBlocks}
 use Rattle.iso_script.specs.Displays.{IsDisplayed}
-use Rattle.iso_script.specs.Marks.{Marks, IsMarks}
+use Rattle.iso_script.specs.Marks.{Marks, IsMarks, fits_test}
 use Rattle.iso_script.specs.Readings.{AreRead}
 use Rattle.iso_script.specs.Variables.{Variables, IsVariables}
 use Rattle.iso_script.specs.Variables as V
 
 -- a test, from its marks, its name, its display text and its body
 abbrev pub test : Marks → List ℕ → Option (List ℕ) → Acts → Test
-test marks n display body = record { name = n; display = display; mode = marks.mode; head = record { marks = marks.keys; body = body } }
+test marks n display body = record { name = n; display = display; mode = marks.mode; head = record { marks = marks.keys; disabled = marks.disabled; body = body } }
 
 -- a test after its name
 pub data IsTest : (marks : Marks) (n : List ℕ) → Test → List Piece → List Piece → Type 0 where
@@ -40,13 +40,14 @@ abbrev pub statements_in : Option Acts → Acts
 statements_in None = no_acts
 statements_in (Some body) = body
 
--- what a class gives to its tests, from its keys, its statics and fields, and its lifecycle blocks
-abbrev pub class_head : List Mark → Variables → Blocks → ClassHead
-class_head keys variables blocks =
+-- what a class gives to its tests, from its keys, why it is disabled, its statics and fields, and its lifecycle blocks
+abbrev pub class_head : List Mark → Option (List ℕ) → Variables → Blocks → ClassHead
+class_head keys reason variables blocks =
     record {
       statics = variables.statics;
       fields = variables.fields;
       marks = keys;
+      disabled = reason;
       before_all = statements_in (blocks BeforeAll);
       after_all = statements_in (blocks AfterAll);
       before_each = statements_in (blocks BeforeEach);
@@ -56,7 +57,13 @@ class_head keys variables blocks =
 -- what stands before the members of a class
 abbrev pub title : Marks → List ℕ → Option (List ℕ) → Variables → Blocks → ClassTitle
 title marks n display variables blocks =
-    record { name = n; display = display; mode = marks.mode; isolated = marks.isolated; head = class_head marks.keys variables blocks }
+    record {
+      name = n;
+      display = display;
+      mode = marks.mode;
+      isolated = marks.isolated;
+      head = class_head marks.keys marks.disabled variables blocks;
+    }
 
 -- the name of a member
 abbrev pub name_of : Member → List ℕ
@@ -69,10 +76,10 @@ names_of no_members = []
 names_of (member m ms) = name_of m ∷ names_of ms
 
 mutual
-  -- A test or a class: marks, its word, its name, and what follows. A test cannot be isolated.
+  -- A test or a class: marks, its word, its name, and what follows. The marks of a test have to fit one.
   pub data IsMember : (d : ℕ) (taken : List (List ℕ)) → Member → List Piece → List Piece → Type 0 where
     as_test : {d r q : ℕ} {taken : List (List ℕ)} {marks : Marks} {n : List ℕ} {t : Test} {ps qs rs : List Piece}
-        → IsMarks marks ps (word_at r W.Test ∷ name_at q n ∷ qs) → marks.isolated ≡ false → IsTest marks n t qs rs
+        → IsMarks marks ps (word_at r W.Test ∷ name_at q n ∷ qs) → fits_test marks ≡ true → IsTest marks n t qs rs
         → IsMember d taken (test_member t) ps rs
     as_class : {d r q : ℕ} {taken : List (List ℕ)} {marks : Marks} {n : List ℕ} {c : Class} {ps qs rs : List Piece}
         → IsMarks marks ps (word_at r W.Class ∷ name_at q n ∷ qs) → IsClass d taken marks n c qs rs

@@ -1,6 +1,6 @@
 //! Classes and their members.
-ghost use Rattle.std.specs.Prelude.{◌≡◌, ℕ, suc, List, [], ◌∷◌, ◌++◌, IfOk, MatchResult, Some, None, is_some, not, ◌&&◌};
-ghost use Rattle.iso_script.specs.Marks.{marks_of};
+ghost use Rattle.std.specs.Prelude.{◌≡◌, ℕ, suc, List, [], ◌∷◌, ◌++◌, IfOk, MatchResult, Some, None, is_some, ◌&&◌};
+ghost use Rattle.iso_script.specs.Marks.{fits_test, marks_of};
 ghost use Rattle.iso_script.specs.Variables.{KnowAll};
 ghost use Rattle.iso_script_lexer.specs.Tokens.{after_word};
 ghost use Rattle.iso_script_lexer.specs.declared.word.Word.TheVariants as W;
@@ -36,11 +36,11 @@ pub(crate) fn read_top_class(parser: &mut Parser<'_>) -> Result<Class, ScriptErr
     read_class(parser, marks, name, &mut scopes, more)
 }
 
-/// Whether a test of these marks may be next: its word is, and the marks do not isolate it.
+/// Whether a test of these marks may be next: its word is, and the marks fit one.
 fn is_at_test(parser: &Parser<'_>, marks: &Marks) -> bool
-    ensures { result ≡ (not marks.now.isolated && is_some (after_word W.Test parser.now.lexer)) }
+    ensures { result ≡ (fits_test (marks_of marks.now) && is_some (after_word W.Test parser.now.lexer)) }
 {
-    !marks.isolated && parser.is_at_word(Word::Test)
+    marks.fits_test() && parser.is_at_word(Word::Test)
 }
 
 /// Goes past the word `class`, which has to be next, where so many classes may be opened. Answers how many more
@@ -81,10 +81,11 @@ fn read_class<'a>(
     let head = class_head(
         parser.alloc,
         marks.keys,
+        marks.disabled,
         variables.statics,
         variables.fields,
         blocks,
-    );
+    )?;
     let head = Arc::new(parser.alloc, head)?;
     scopes.push(variables.names)?;
     let name = Text::copied(parser.alloc, name)?;
@@ -123,7 +124,7 @@ fn read_members<'a>(
     Ok(members)
 }
 
-/// A member of a class, whose name is none of those seen and is added to them. A test cannot be isolated.
+/// A member of a class, whose name is none of those seen and is added to them. The marks of a test have to fit one.
 #[cycle(class)]
 fn read_member<'a>(
     parser: &mut Parser<'a>,

@@ -1,13 +1,15 @@
 //! Marks.
+ghost use Rattle.std.specs.List.{list_any};
 ghost use Rattle.std.specs.Prelude.{◌≡◌, ℕ, List, MatchResult, Some};
+ghost use Rattle.iso_model.specs.Targets.{is_for_children};
 ghost use Rattle.iso_script.specs.Marks as S;
-ghost use Rattle.iso_script.specs.Marks.{Adds, IsKeyText, IsMarking, IsMarks, Marking, key_fault, mark_next, mark_word, marks_of};
+ghost use Rattle.iso_script.specs.Marks.{Adds, IsKeyText, IsMarking, IsMarks, IsTarget, Marking, fits_test, key_fault, mark_next, mark_word, marks_of};
 ghost use Rattle.iso_script_lexer.specs.Piece.{Piece};
 ghost use Rattle.iso_script_statements.specs.Faults.{IsMemory};
 ghost use Rattle.iso_script_statements.specs.Parsing.{Parses};
 
 use iso_model::access::Access;
-use iso_model::heads::Mark;
+use iso_model::heads::{Mark, Target};
 use iso_model::key::Key;
 use iso_model::limits::KEY_BYTES;
 use iso_model::script::Mode;
@@ -22,8 +24,19 @@ use iso_script_statements::parser::Parser;
 pub(crate) struct Marks {
     pub mode: Option<Mode>,
     pub isolated: bool,
+    /// Why it is disabled, if it is.
+    pub disabled: Option<Text>,
     /// The keys that are declared, as they are written.
     pub keys: Vec<Mark>,
+}
+
+impl Marks {
+    /// Whether a test may have these marks: none isolates it, and none is for the children of a class.
+    pub fn fits_test(&self) -> bool
+        ensures { result ≡ fits_test (marks_of self.now) }
+    {
+        !self.isolated && !any_for_children(&self.keys)
+    }
 }
 
 /// What a mark is, by its word.
@@ -31,7 +44,20 @@ pub(crate) struct Marks {
 pub(crate) enum MarkWord {
     Mode(Mode),
     Isolated,
+    Disabled,
     Access(Access),
+}
+
+/// Whether one of the marks is for the children of a class.
+fn any_for_children(marks: &[Mark]) -> bool
+    ensures { result ≡ list_any is_for_children marks.now }
+{
+    'marks: for mark in marks {
+        if mark.target.is(Target::Children) {
+            return true;
+        }
+    }
+    false
 }
 
 /// What a word marks.
@@ -42,6 +68,7 @@ fn mark_word(word: Word) -> Option<MarkWord>
         Word::SameThread => Some(MarkWord::Mode(Mode::SameThread)),
         Word::Concurrent => Some(MarkWord::Mode(Mode::Concurrent)),
         Word::Isolated => Some(MarkWord::Isolated),
+        Word::Disabled => Some(MarkWord::Disabled),
         Word::Read => Some(MarkWord::Access(Access::Read)),
         Word::Write => Some(MarkWord::Access(Access::Write)),
         _ => None,
@@ -58,13 +85,14 @@ fn mark_next(parser: &Parser<'_>) -> Option<MarkWord>
     }
 }
 
-/// The marks that come next. A second mode, and a second `isolated`, is `DoubleMember` at its word.
+/// The marks that come next. A second mode, `isolated` or `disabled` is `DoubleMember` at its word.
 pub(crate) fn read_marks(parser: &mut Parser<'_>) -> Result<Marks, ScriptError>
     ensures { Parses marks_of IsMarks result parser.old.lexer parser.new.lexer }
 {
     let mut marks = Marks {
         mode: None,
         isolated: false,
+        disabled: None,
         keys: Vec::new(parser.alloc),
     };
     'marks: while let Some(word) = mark_next(parser) {
@@ -90,14 +118,35 @@ fn add_mark(parser: &mut Parser<'_>, word: MarkWord, marks: &mut Marks) -> Resul
             parser.lexer.advance();
             marks.isolated = true;
         }
+        MarkWord::Disabled if marks.disabled.is_none() => {
+            parser.lexer.advance();
+            let reason = parser.display()?;
+            marks.disabled = Some(reason);
+        }
         MarkWord::Access(access) => {
             parser.lexer.advance();
+            let target = target(parser);
             let key = key(parser)?;
-            marks.keys.push(Mark { access, key })?;
+            marks.keys.push(Mark {
+                access,
+                target,
+                key,
+            })?;
         }
         _ => return Err(parser.fault_here(ScriptFaultKind::DoubleMember)),
     }
     Ok(())
+}
+
+/// What a key is declared for: the children of a class, where their word is next.
+fn target(parser: &mut Parser<'_>) -> Target
+    ensures { IsTarget result parser.old.lexer parser.new.lexer }
+{
+    if parser.lexer.takes_word(Word::Children) {
+        Target::Children
+    } else {
+        Target::Itself
+    }
 }
 
 /// The key of a mark. One that may not be declared is a fault at its quote.
@@ -107,7 +156,7 @@ fn key(parser: &mut Parser<'_>) -> Result<Key, ScriptError>
     let Token::Text(text) = parser.lexer.peek().0 else {
         return Err(parser.unexpected());
     };
-    let key = Key::new(Text::new(text.decode(parser.alloc)?));
+    let key = Key::new(parser.alloc, Text::new(text.decode(parser.alloc)?))?;
     if let Some(kind) = key_fault(key.as_str()) {
         return Err(parser.fault_here(kind));
     }

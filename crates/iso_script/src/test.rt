@@ -7,7 +7,7 @@ ghost use Rattle.iso_script_statements.specs.Parsing.{Parses};
 
 use crate::display::read_display;
 use crate::mark::Marks;
-use iso_model::heads::TestHead;
+use iso_model::heads::{TestContents, TestHead};
 use iso_model::script::Test;
 use iso_model::text::Text;
 use iso_script_statements::fault::ScriptError;
@@ -24,9 +24,13 @@ pub(crate) fn read_test(
 {
     let display = read_display(parser)?;
     let body = parser.block()?;
+    let contents = TestContents {
+        disabled: marks.disabled,
+        body,
+    };
     let head = TestHead {
         marks: marks.keys,
-        body,
+        contents: Arc::new(parser.alloc, contents)?,
     };
     let head = Arc::new(parser.alloc, head)?;
     Ok(Test {

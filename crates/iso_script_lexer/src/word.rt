@@ -1,7 +1,7 @@
 ghost use Rattle.std.specs.Prelude.{◌≡◌, ◌↔◌, IsTrue};
 ghost use Rattle.iso_script_lexer.specs.Spelling.{same_word, word_of};
 
-/// A reserved word of the script language. `Children` and `Disabled` are reserved for later use.
+/// A reserved word of the script language.
 #[derive(Clone, Copy, PartialEq, Eq)]
 pub enum Word {
     Team,

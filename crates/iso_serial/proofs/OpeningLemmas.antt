@@ -1,5 +1,5 @@
 -- What openings leave, by the node that they are of.
-use Rattle.std.proofs.Common.{◌≡◌, ℕ, ◌<◌, List, [], ◌∷◌, ◌++◌, Some, Bool, true, false, cond, bytes_eq, nat_eq, refl, sym, ap, ◌∙◌, subst, length}
+use Rattle.std.proofs.Common.{◌≡◌, ℕ, ◌<◌, List, [], ◌∷◌, ◌++◌, Option, None, Some, Bool, true, false, cond, bytes_eq, nat_eq, refl, sym, ap, ◌∙◌, subst, length}
 use Rattle.std.specs.List.{starts_with}
 use Rattle.iso_lifecycle.specs.Subjects.{begun, begun_opening, first_frame, opening_of, own_frame, rights_of_subject, started, subject}
 use Rattle.iso_lifecycle.specs.declared.kind.BodyKind.TheVariants.{BeforeAll}
@@ -11,7 +11,10 @@ use Rattle.iso_model.specs.Changes.{kind_at}
 use Rattle.iso_model.specs.Chains.{ClassHead, class_rights}
 use Rattle.iso_model.specs.Keys.{file_prefix, locale_key, properties_key}
 use Rattle.iso_model.specs.Openings.{Opening, before_all, opened, opening, statics_of, words_of}
-use Rattle.iso_model.specs.Environments.{environment}
+use Rattle.iso_model.specs.Disabled.{block_unless}
+use Rattle.iso_model.specs.Environments.{Environment, environment}
+use Rattle.iso_model.specs.Resources.{Resources}
+use Rattle.iso_model.specs.Syntax.{Acts}
 use Rattle.iso_model.specs.Names.{at_literals}
 use Rattle.iso_model.specs.declared.names.Sort.TheVariants.{Static}
 use Rattle.iso_model.specs.declared.place.Lifecycle.TheVariants as Lifecycle
@@ -107,13 +110,18 @@ start-by world k false false false ea eb ec = rw (ea, eb, ec) refl
 pub start-kind : (world : Start) (k : List ℕ) → kind_of_value (starting_value_in world k) ≡ kind_of_key k
 start-kind world k = start-by world k (bytes_eq k properties_key) (bytes_eq k locale_key) (starts_with nat_eq k file_prefix) refl refl refl
 
+-- a block keeps the kinds of resources, also where it is left out
+kinds-unless : (d : Option (List ℕ)) (r : Rights) (k : List ℕ) (acts : Acts) (env : Environment) (m : Resources) → kind_at (block_unless d r acts env m).resources k ≡ kind_at m k
+kinds-unless None r k acts env m = block-kinds r k acts env m
+kinds-unless (Some reason) r k acts env m = refl
+
 opening-kinds : (world : Start) (k : List ℕ) (cs : List ClassHead) → kind_at (opening cs (started world)).resources k ≡ Some (kind_of_key k)
 opening-kinds world k [] = ap Some (start-kind world k)
 opening-kinds world k (c ∷ cs) =
     let o = opening cs (started world) in
     let ih = opening-kinds world k cs in
     elim o.well as (λ b. kind_at (cond b (opened o (before_all c cs o)) o).resources k ≡ Some (kind_of_key k)) [
-      | true ↦ block-kinds (class_rights (c ∷ cs)) k c.before_all (environment (statics_of o.frames ++ at_literals Static c.statics) 0 (words_of (c ∷ cs) Lifecycle.BeforeAll)) o.resources ∙ ih
+      | true ↦ kinds-unless c.disabled (class_rights (c ∷ cs)) k c.before_all (environment (statics_of o.frames ++ at_literals Static c.statics) 0 (words_of (c ∷ cs) Lifecycle.BeforeAll)) o.resources ∙ ih
       | false ↦ ih
     ]
 

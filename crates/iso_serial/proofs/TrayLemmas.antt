@@ -130,7 +130,7 @@ module _ (plan : Planned) (world : Start) (t : IsTree (tree_of plan)) where
   pub write-covered : (n : ℕ) (k : List ℕ) (i : ℕ) → 0 < n → n < length tr → is_writable (node_rights tr n k) ≡ true → number_of tr k ≡ Some i → IsWrittenOn tr n i
   write-covered n k i pos within w e =
       let c = covered tr t n k pos within (readable-of (node_rights tr n k) w) in
-      let num = has-number tr c.taker k c.reads in
+      let num = has-number tr t c.taker k c.reads in
       let whole : Some num.number ≡ Some i = sym num.is ∙ e in
       let same : num.number ≡ i = cc in
       record {
@@ -186,7 +186,7 @@ module _ (plan : Planned) (world : Start) (t : IsTree (tree_of plan)) where
   covered-held : (u : TrayView) (n : ℕ) (k : List ℕ) → 0 < n → n < length tr → is_lent u.lent n ≡ true → HoldsAlong plan world n u → is_readable (node_rights tr n k) ≡ true → is_some (held plan world u k) ≡ true
   covered-held u n k pos within lent h r =
       let c = covered tr t n k pos within r in
-      let num = has-number tr c.taker k c.reads in
+      let num = has-number tr t c.taker k c.reads in
       elim (true-or-false (is_writable (taken tr c.taker k))) [
         | inl w ↦
             let writes : is_written (locks tr c.taker) num.number ≡ true = written-is tr c.taker num.number num.within ∙ ap (λ (j : List ℕ). is_writable (taken tr c.taker j)) num.key_is ∙ w in
@@ -212,7 +212,7 @@ module _ (plan : Planned) (world : Start) (t : IsTree (tree_of plan)) where
     changes = λ k w.
         let h = s.holds in
         let c = covered tr t n k pos within (readable-of (node_rights tr n k) w) in
-        let num = has-number tr c.taker k c.reads in
+        let num = has-number tr t c.taker k c.reads in
         ap (λ (pl : Planned). has_at u.values (number_of (tree_of pl) k)) h.plan_is ∙ ap (has_at u.values) num.is ∙ h.there num.number (write-covered n k num.number pos within w num.is);
   }
 

@@ -2,7 +2,7 @@
 use Rattle.std.proofs.Common.{◌≡◌, List, [], ◌∷◌, Bool, true, false, ◌&&◌, not, refl}
 use Rattle.iso_suites.specs.ScriptLanguage.{Head, of_class, of_test, chain_rights, classes_in, entering, closing, scripts}
 use Rattle.iso_isolation.specs.Histories.{EndLaws}
-use Rattle.iso_model.proofs.BodyRuns.{from-ready, body-step-ready, body-step-distance}
+use Rattle.iso_model.proofs.BodyRuns.{from-ready, unless-ready, body-step-ready, body-step-distance}
 use Rattle.iso_model.specs.Bodies.{Stage, during, ended, IsReadyStage, going, fresh_account, opening_stage, test_stage, closing_stage}
 use Rattle.iso_model.specs.Jobs.{opening_names, before_all_jobs, after_all_jobs, test_jobs}
 use Rattle.iso_model.specs.Openings.{Frame, statics_of}
@@ -37,9 +37,9 @@ known (ended a) e = tt
 begins : (hs : List Head) (fs : List Frame) → is_ready_stage (entering hs fs) ≡ true
 begins [] fs = refl
 begins (of_class c ∷ hs) fs =
-    told (opening_stage c (classes_in hs) fs) (from-ready (before_all_jobs c (classes_in hs) fs) (fresh_account (opening_names c fs)))
+    told (opening_stage c (classes_in hs) fs) (unless-ready c.disabled (opening_names c fs) (before_all_jobs c (classes_in hs) fs))
 begins (of_test t ∷ hs) fs =
-    told (test_stage t (classes_in hs) fs) (from-ready (test_jobs t (classes_in hs)) (fresh_account (test_names (classes_in hs) fs)))
+    told (test_stage t (classes_in hs) fs) (unless-ready t.disabled (test_names (classes_in hs) fs) (test_jobs t (classes_in hs)))
 
 begins_closing : (hs : List Head) (fs : List Frame) → is_ready_stage (closing hs fs) ≡ true
 begins_closing [] fs = refl

@@ -14,24 +14,30 @@ use Rattle.iso_model.specs.Agreement.{TestsAgree, ClassesAgree}
 use Rattle.iso_model.specs.Alone.{test_alone, class_alone}
 use Rattle.iso_model.specs.Chains.{ClassHead, TestHead}
 use Rattle.iso_model.specs.declared.outcome.Outcome.{Outcome}
+use Rattle.iso_plan.proofs.SelectionLemmas.{selection-is-tree}
 use Rattle.iso_plan.proofs.TreeLemmas.{tree-is}
 use Rattle.iso_plan.specs.NodeChains.{chain_classes}
+use Rattle.iso_plan.specs.Paths.{IsTree}
+use Rattle.iso_plan.specs.Tree.{tree}
+
+nodes-are : (l : Launch) → IsTree (nodes_of l)
+nodes-are l = selection-is-tree (tree l.written) (tree-is l.written) l.only
 
 pub launched-laws : (l : Launch) → SuiteLaws scripts (launched l)
-launched-laws l = suite-laws (nodes_of l) (tree-is l.written) l.settings l.start
+launched-laws l = suite-laws (nodes_of l) (nodes-are l) l.settings l.start
 
 -- the outcome of a finished test, and of a finished class, is that of its chain run alone
 pub tests-isolated : (l : Launch) (n : ℕ) (t : TestHead) (cs : List ClassHead) (r : Outcome) → MayEnd l n r → IsTestAt l n t cs → r ≡ test_alone t cs l.start
 tests-isolated l n t cs r g is =
     isolation scripts scripts-laws (launched l) (launched-laws l) n r g
-    ∙ ap (λ (hs : List Head). run_alone scripts hs l.start) (test-chain (nodes_of l) (tree-is l.written) l.settings l.start n t g.nonzero is.test)
+    ∙ ap (λ (hs : List Head). run_alone scripts hs l.start) (test-chain (nodes_of l) (nodes-are l) l.settings l.start n t g.nonzero is.test)
     ∙ test-alone t (chain_classes (nodes_of l) n) l.start
     ∙ ap (λ (ds : List ClassHead). test_alone t ds l.start) is.classes
 
 pub classes-isolated : (l : Launch) (n : ℕ) (c : ClassHead) (cs : List ClassHead) (r : Outcome) → MayEnd l n r → IsClassAt l n c cs → r ≡ class_alone c cs l.start
 classes-isolated l n c cs r g is =
     isolation scripts scripts-laws (launched l) (launched-laws l) n r g
-    ∙ ap (λ (hs : List Head). run_alone scripts hs l.start) (class-chain (nodes_of l) (tree-is l.written) l.settings l.start n c cs g.nonzero is.test is.classes)
+    ∙ ap (λ (hs : List Head). run_alone scripts hs l.start) (class-chain (nodes_of l) (nodes-are l) l.settings l.start n c cs g.nonzero is.test is.classes)
     ∙ class-alone c cs l.start
 
 -- what agrees ends alike

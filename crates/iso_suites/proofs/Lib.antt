@@ -6,5 +6,6 @@ pub mod LanguageLaws
 pub mod PlanChains
 pub mod PlanOpenings
 pub mod Progressing
+mod SelectedRuns
 pub mod StateRuns
 pub mod SuiteLaws

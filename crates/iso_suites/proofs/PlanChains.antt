@@ -27,6 +27,12 @@ test-head root t cs e = let wrong : None ≡ Some t = e in absurd (cc)
 test-head (class_node isolated head) t cs e = let wrong : None ≡ Some t = e in absurd (cc)
 test-head (test_node head) t cs e = let whole : Some head ≡ Some t = e in let equal : head ≡ t = cc in ap (λ (h : TestHead). of_test h ∷ heads cs) equal
 
+-- a class has its head on its chain
+has-head : (kind : Kind) (cs : List ClassHead) → own_test kind ≡ None → is_class_or_test kind ≡ true → class_heads kind ++ cs ≡ [] → ⊥
+has-head root cs e w h = let wrong : false ≡ true = w in absurd (cc)
+has-head (class_node isolated head) cs e w h = let wrong : head ∷ cs ≡ [] = h in absurd (cc)
+has-head (test_node head) cs e w h = let wrong : Some head ≡ None = e in absurd (cc)
+
 no-test : (kind : Kind) → own_test kind ≡ None → is_test kind ≡ false
 no-test root e = refl
 no-test (class_node isolated head) e = refl
@@ -78,6 +84,11 @@ module _ (rows : List Row) (t : IsTree rows) (settings : Settings) (start : Reso
       let past : length rows ≤ n = grind (arith, nat_tests) in
       let wrong : None ≡ Some h = sym (no-tests n past) ∙ e in
       absurd (cc)
+
+  -- a node that is no test is a class of its chain
+  pub class-there : (n : ℕ) → 0 < n → n < length rows → chain_test rows n ≡ None → chain_classes rows n ≡ [] → ⊥
+  class-there n pos inside e h =
+      has-head (row_at rows n).kind (chain_classes rows (parent rows n)) e (t.full n pos inside) (sym (chain-step rows t.below n pos) ∙ h)
 
   -- the chain of a test, and that of a class
   pub test-chain : (n : ℕ) (h : TestHead) → 0 < n → chain_test rows n ≡ Some h → chain x n ≡ of_test h ∷ heads (chain_classes rows n)

@@ -1,11 +1,10 @@
 -- The suite of every tree keeps what a run needs so that it never comes to a stand.
-use Rattle.std.proofs.Common.{◌≡◌, ℕ, zero, suc, ◌<◌, List, Bool, true, false, ◌&&◌, refl, sym, ◌∙◌, arith}
-use Rattle.iso_isolation.specs.Suites.{On, Suite}
+use Rattle.std.proofs.Common.{◌≡◌, ℕ, zero, suc, List, Bool, true, false, ◌&&◌, refl, sym, ◌∙◌, arith}
+use Rattle.iso_isolation.specs.Suites.{Suite}
 use Rattle.iso_model.specs.Resources.{Resources}
 use Rattle.iso_model.specs.declared.resource.Resource.{Resource}
 use Rattle.iso_plan.proofs.Gathering.{conflict-from-none, holders-gather}
-use Rattle.iso_plan.specs.Locks.{conflict}
-use Rattle.iso_plan.specs.Paths.{IsTree, is_root, is_test, is_top, parent, row_at}
+use Rattle.iso_plan.specs.Paths.{IsTree, is_root, is_test, parent, row_at}
 use Rattle.iso_plan.specs.Tree.{Kind, root, class_node, test_node, Row}
 use Rattle.iso_progress.specs.ProgressLaws.{HoldersGather, ProgressLaws, RootIsFree, TestsHoldNone}
 use Rattle.iso_settings.specs.declared.settings.Settings.{Settings}

@@ -16,7 +16,7 @@ use Rattle.iso_model.specs.declared.resource.Resource.{Resource}
 use Rattle.iso_model.specs.declared.heads.Mark.{Mark}
 use Rattle.iso_plan.proofs.LawLemmas.{rights-step, root-unreadable, covered, forced, taken-known, takes-only}
 use Rattle.iso_plan.proofs.PathLemmas.{along, eq_from, path-root, path-step, under-self, under-step}
-use Rattle.iso_plan.specs.KeyTable.{keys, written_marks}
+use Rattle.iso_plan.specs.KeyTable.{keys, kind_marks}
 use Rattle.iso_plan.specs.Locks.{conflict, declared, declares, exclude, is_locking, is_that, taken}
 use Rattle.iso_plan.specs.NodeChains.{heads_on, node_rights, rights_with}
 use Rattle.iso_plan.specs.Paths.{IsTree, is_on, is_top, is_under, outermost, parent, path, row_at}
@@ -30,7 +30,7 @@ positive (suc n) nz = omega arith
 nonzero : (n : ℕ) → 0 < n → n ≡ 0 → ⊥
 nonzero n pos e = absurd (omega arith)
 
-marks-written : (kind : Kind) → marks_on (head_of kind) ≡ written_marks kind
+marks-written : (kind : Kind) → marks_on (head_of kind) ≡ kind_marks kind
 marks-written root = refl
 marks-written (class_node isolated head) = refl
 marks-written (test_node head) = refl
@@ -110,7 +110,7 @@ module _ (tree : List Row) (t : IsTree tree) (settings : Settings) (start : Reso
   past-rights n k pos past =
       let here : row_at tree n ≡ root_row = get_or_past tree n root_row past in
       ap is_readable (rights-step tree t n k pos)
-      ∙ ap (λ (r : Row). is_readable (strongest (rights_of (written_marks r.kind) k) (node_rights tree r.parent k))) here
+      ∙ ap (λ (r : Row). is_readable (strongest (rights_of (kind_marks r.kind) k) (node_rights tree r.parent k))) here
       ∙ root-unreadable tree t k
 
   covered-in : (n : ℕ) (k : List ℕ) → 0 < n → n < length tree → is_readable (node_rights tree n k) ≡ true → Covered scripts x n k
@@ -137,12 +137,12 @@ module _ (tree : List Row) (t : IsTree tree) (settings : Settings) (start : Reso
   forced-by : (m n : ℕ) (k : List ℕ) → is_writable (taken tree m k) ≡ true → (m ≡ n) ⊎ ((n ≡ 0 → ⊥) × On x m (parent tree n)) → (m ≡ n → ⊥) → x.is_same_thread n ≡ true
   forced-by m n k w (inl e) ne = absurd (ne e)
   forced-by zero n k w (inr on) ne = absurd (root-takes k (readable-of (taken tree 0 k) w))
-  forced-by (suc m) n k w (inr on) ne = ap is_same_thread (forced tree settings (suc m) n k (on-under (suc m) (omega arith) on.1) w)
+  forced-by (suc m) n k w (inr on) ne = ap is_same_thread (forced tree t settings (suc m) n k (on-under (suc m) (omega arith) on.1) w)
 
   shared : (m n : ℕ) → Shared x m n → conflict tree m n ≡ true
   shared m n s =
       has (λ (k : List ℕ). exclude (taken tree m k) (taken tree n k)) s.key (keys tree)
-      (excludes (taken tree m s.key) (taken tree n s.key) s.left s.right s.write) (taken-known tree m s.key s.left)
+      (excludes (taken tree m s.key) (taken tree n s.key) s.left s.right s.write) (taken-known tree t m s.key s.left)
 
   pub suite-laws : SuiteLaws scripts x
   suite-laws = record {

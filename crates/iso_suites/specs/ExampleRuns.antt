@@ -14,18 +14,19 @@ use Rattle.iso_model.specs.Scripts.{Class, class, Member, test_member, Members, 
 use Rattle.iso_model.specs.Syntax.{Act}
 use Rattle.iso_model.specs.declared.access.Access.TheVariants.{Read, Write}
 use Rattle.iso_model.specs.declared.heads.Mark.{Mark}
+use Rattle.iso_model.specs.declared.heads.Target.TheVariants.{Itself}
 use Rattle.iso_model.specs.declared.outcome.Outcome.{Outcome}
 use Rattle.iso_model.specs.declared.resource.Resource.TheVariants.{File}
 use Rattle.iso_plan.specs.Examples.{concurrent_by_default}
 
 abbrev reads : Mark
-reads = record { access = Read; key = file_a }
+reads = record { access = Read; target = Itself; key = file_a }
 
 abbrev writes : Mark
-writes = record { access = Write; key = file_a }
+writes = record { access = Write; target = Itself; key = file_a }
 
 abbrev test : String → List Mark → List Act → Member
-test title marks acts = test_member (record { name = codes title; display = None; mode = None; head = record { marks = marks; body = body acts } })
+test title marks acts = test_member (record { name = codes title; display = None; mode = None; head = record { marks = marks; disabled = None; body = body acts } })
 
 abbrev a_class : String → ClassHead → Members → Class
 a_class title head members = class (record { name = codes title; display = None; mode = None; isolated = false; head = head }) members
@@ -50,6 +51,7 @@ a_is_1 k = cond (bytes_eq k file_a) (Some (File (Some (codes "1")))) (empty_worl
 abbrev pub cart : Launch
 cart = record {
   written = record { team = codes "shop"; classes = a_class "Cart" cart_head (member looks (member writes_it (member looks no_members))) ∷ [] } ∷ [];
+  only = [];
   settings = concurrent_by_default;
   start = a_is_1;
 }

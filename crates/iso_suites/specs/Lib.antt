@@ -1,4 +1,5 @@
 pub mod ExampleRuns
 pub mod PlanSuites
 pub mod ScriptLanguage
+pub mod Selected
 pub mod SuiteStates

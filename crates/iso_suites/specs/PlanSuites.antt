@@ -15,7 +15,8 @@ use Rattle.iso_plan.specs.Locks.{taken, conflict}
 use Rattle.iso_plan.specs.Modes.{mode}
 use Rattle.iso_plan.specs.NodeChains.{chain_classes, chain_test}
 use Rattle.iso_plan.specs.Paths.{row_at, parent, path}
-use Rattle.iso_plan.specs.Tree.{Kind, root, class_node, test_node, Row, tree}
+use Rattle.iso_plan.specs.Selections.{plan_tree}
+use Rattle.iso_plan.specs.Tree.{Kind, root, class_node, test_node, Row}
 use Rattle.iso_settings.specs.declared.settings.Settings.{Settings}
 
 -- the head of a node; that of the root, which is on no path, is a class without marks or blocks
@@ -42,18 +43,19 @@ suite_of tree settings start = record {
   start = start;
 }
 
--- what is run: scripts, under settings, where the resources start so
+-- what is run: those nodes of scripts that some paths keep, or all, under settings, where the resources start so
 pub record Launch : Type 0 where
   pub written : List Script
+  pub only : List (List ℕ)
   pub settings : Settings
   pub start : Resources
 
-abbrev pub launch : List Script → Settings → Resources → Launch
-launch written settings start = record { written = written; settings = settings; start = start }
+abbrev pub launch : List Script → List (List ℕ) → Settings → Resources → Launch
+launch written only settings start = record { written = written; only = only; settings = settings; start = start }
 
 -- the nodes of what is run, and its suite
 abbrev pub nodes_of : Launch → List Row
-nodes_of l = tree l.written
+nodes_of l = plan_tree l.written l.only
 
 abbrev pub launched : Launch → Suite Head (List ℕ) Resource
 launched l = suite_of (nodes_of l) l.settings l.start

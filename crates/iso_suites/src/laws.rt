@@ -2,6 +2,7 @@
 ghost use Rattle.std.specs.Prelude.{◌≡◌, ◌∷◌, [], ℕ, List, None, Some, false, map, true};
 ghost use Rattle.iso_suites.specs.PlanSuites.{IsClassAt, IsTestAt, Launch, MayEnd, launch, launched, suite_of};
 ghost use Rattle.iso_suites.specs.ScriptLanguage.{of_class, of_test, scripts};
+ghost use Rattle.iso_suites.specs.Selected.{KeepsResults};
 ghost use Rattle.iso_suites.specs.SuiteStates.{GoesOnByLeave, booking_refusal, suite_at};
 ghost use Rattle.iso_isolation.specs.Alone.{run_alone};
 ghost use Rattle.iso_isolation.specs.Events.{Event, Leave};
@@ -19,14 +20,14 @@ ghost use Rattle.iso_model.specs.Resources.{Resources, restricted};
 ghost use Rattle.iso_model.specs.Scripts.{Script};
 ghost use Rattle.iso_model.specs.declared.outcome.Outcome.{Outcome};
 ghost use Rattle.iso_plan.specs.RowView.{tree_of};
-ghost use Rattle.iso_plan.specs.Tree.{tree};
+ghost use Rattle.iso_plan.specs.Selections.{plan_tree, selection};
 ghost use Rattle.iso_progress.specs.ProgressLaws.{ProgressLaws};
 ghost use Rattle.iso_settings.specs.Worlds.{Start};
 
-use iso_plan::laws::nodes_are_a_tree;
+use iso_plan::laws::{nodes_are_a_tree, selected_nodes_keep_their_chains};
 use iso_plan::plan::Plan;
 
-/// The isolation theorem: whatever scripts, settings and starting values are run, on any number of workers and in any order of
+/// The isolation theorem: whatever scripts, or what some paths keep of them, settings and starting values are run, on any number of workers and in any order of
 /// events that the locks allow, the outcome of each finished test is that of the test run alone on the starting values of the
 /// keys that it and its classes are marked with; and so is the outcome of each finished class.
 pub fn outcomes_are_those_of_tests_and_classes_run_alone()
@@ -36,11 +37,24 @@ pub fn outcomes_are_those_of_tests_and_classes_run_alone()
         → MayEnd l n r → IsClassAt l n c cs → r ≡ class_alone c cs l.start }
 {}
 
-/// The suite of a plan with the tree of some scripts, as `iso_plan::plan::build` answers it, is that of their launch.
+/// The suite of a plan with the nodes that some paths keep of scripts, as `iso_plan::plan::build_only` answers it, is that of their
+/// launch.
 pub fn plan_of_scripts_has_the_suite_of_their_launch(plan: &Plan)
-    ensures { (written : List Script) (start : Resources) → tree_of plan.now ≡ tree written
-        → suite_of (tree_of plan.now) plan.now.settings start ≡ launched (launch written plan.now.settings start) }
+    ensures { (written : List Script) (only : List (List ℕ)) (start : Resources) → tree_of plan.now ≡ plan_tree written only
+        → suite_of (tree_of plan.now) plan.now.settings start ≡ launched (launch written only plan.now.settings start) }
 {}
+
+/// Running a few tests gives what they give in the whole run: a node that some paths keep of a plan has in each run of the selected plan
+/// the outcome that it has in each run of the whole, on any numbers of workers, in any orders of events that the locks allow and
+/// under whatever settings, where the resources start alike at the keys that the node and the classes around it are marked with.
+pub fn selected_nodes_have_the_results_of_the_whole_run(whole: &Plan, selected: &Plan)
+    ensures { (only : List (List ℕ)) → tree_of selected.now ≡ selection (tree_of whole.now) only
+        → KeepsResults whole.now selected.now only }
+{
+    nodes_are_a_tree(whole);
+    nodes_are_a_tree(selected);
+    selected_nodes_keep_their_chains(whole);
+}
 
 /// Tests, and classes, that agree on their heads, on those of the classes around them and on the starting values of the keys that
 /// these are marked with have equal outcomes, whatever else is run beside them, under whatever settings and in whatever order.

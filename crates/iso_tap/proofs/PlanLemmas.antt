@@ -1,35 +1,31 @@
 -- The lines of a plan, piece by piece.
-use Rattle.std.proofs.Common.{◌≡◌, ◌<◌, ℕ, zero, suc, ◌+◌, ◌-◌, List, [], ◌∷◌, ◌++◌, length, get_or, map, codes, reverse, Option, None, Some, unwrap_or, refl, sym, ap, ◌∙◌, arith, append_assoc, append-nil}
-use Rattle.std.proofs.lemmas.Grind.{flat_map-append}
-use Rattle.std.proofs.lemmas.List.{length-map, length-reverse, reverse-append}
-use Rattle.std.specs.List.{flat_map, join_by}
+use Rattle.std.proofs.Common.{◌≡◌, ◌<◌, ℕ, zero, suc, ◌+◌, ◌-◌, List, [], ◌∷◌, ◌++◌, length, get_or, map, codes, cond, Bool, true, false, ◌==◌, Option, None, Some, unwrap_or, refl, sym, ap, ◌∙◌, arith, append_assoc, append-nil}
+use Rattle.std.proofs.lemmas.Bool.Decides.{nat_tests}
+use Rattle.std.proofs.lemmas.List.{length-map}
+use Rattle.std.specs.List.{flat_map}
 use Rattle.iso_model.specs.declared.access.Access.{Access}
+use Rattle.iso_plan.proofs.PathLemmas.{IsBelow}
+use Rattle.iso_plan.proofs.PathTextLemmas.{path_text-step, text_in}
 use Rattle.iso_plan.specs.KeyTable.{keys}
 use Rattle.iso_plan.specs.Locks.{locks, locks_from, taken}
-use Rattle.iso_plan.specs.Paths.{parent, parent_of, path, row_at}
+use Rattle.iso_plan.specs.Paths.{parent, parent_of, row_at}
+use Rattle.iso_plan.specs.PathTexts.{path_text}
 use Rattle.iso_plan.specs.Tree.{Row}
 use Rattle.iso_plan.specs.declared.lock.Lock.{Lock}
 use Rattle.iso_settings.specs.declared.settings.Settings.{Settings}
 use Rattle.std.specs.Fmt.{decimal}
-use Rattle.iso_tap.specs.PlanText.{lock_text, locks_text, place_text, node_line, node_lines}
+use Rattle.iso_tap.specs.PlanText.{lock_text, locks_text, node_line, node_lines}
 
--- one piece more after others
-join_by-last : {X : Type 0} (f : X → List ℕ) (sep : List ℕ) (xs : List X) (y : X) → 0 < length xs → join_by f sep (xs ++ y ∷ []) ≡ join_by f sep xs ++ (sep ++ f y)
-join_by-last f sep [] y h = absurd (omega arith)
-join_by-last f sep (x ∷ xs) y h =
-    ap (λ (t : List ℕ). f x ++ t) (flat_map-append (λ z. sep ++ f z) xs (y ∷ []) ∙ ap (λ (t : List ℕ). flat_map (λ z. sep ++ f z) xs ++ t) (append-nil (sep ++ f y)))
-    ∙ sym (append_assoc (f x) (flat_map (λ z. sep ++ f z) xs) (sep ++ f y))
+inside : (class : ℕ) (above name : List ℕ) → 0 < class → (t : Bool) → (class == 0) ≡ t → text_in class above name ≡ above ++ (codes "." ++ name)
+inside class above name h true e = let top : class ≡ 0 = grind (arith, nat_tests) in absurd (omega arith)
+inside class above name h false e = ap (λ (t : Bool). cond t name (above ++ (codes "." ++ name))) e
 
-abbrev names : List Row → List ℕ → List ℕ
-names tree ns = join_by (λ m. (row_at tree m).name) (codes ".") ns
-
--- a node that stands in a class
-pub place-inside : (tree : List Row) (n p : ℕ) → path tree n ≡ n ∷ path tree p → 0 < length (path tree p) → place_text tree n ≡ place_text tree p ++ (codes "." ++ (row_at tree n).name)
-place-inside tree n p e h =
-    let more : 0 < length (reverse (path tree p)) = rw (length-reverse (path tree p)) h in
-    ap (λ (q : List ℕ). names tree (reverse q)) e
-    ∙ ap (names tree) (reverse-append (n ∷ []) (path tree p))
-    ∙ join_by-last (λ m. (row_at tree m).name) (codes ".") (reverse (path tree p)) n more
+-- the path of a node that stands in a class
+pub path-inside : (tree : List Row) → IsBelow tree → (n class : ℕ) → 0 < n → class ≡ parent tree n → 0 < class → path_text tree n ≡ path_text tree class ++ (codes "." ++ (row_at tree n).name)
+path-inside tree below n class pos is above =
+    path_text-step tree below n pos
+    ∙ ap (λ (p : ℕ). text_in p (path_text tree p) (row_at tree n).name) (sym is)
+    ∙ inside class (path_text tree class) (row_at tree n).name above (class == 0) refl
 
 -- the class that a node stands in
 pub parent-is : (tree : List Row) (n p : ℕ) → 0 < n → Some p ≡ parent_of tree n → p ≡ parent tree n

@@ -1,6 +1,6 @@
 -- The plan as it is printed: the number of workers, then a line for each node: its number, its kind, its execution mode,
--- the locks that it takes, and where it stands.
-use Rattle.std.specs.Prelude.{ℕ, zero, suc, ◌-◌, List, [], ◌++◌, cond, codes, length, reverse, slice_index_or}
+-- the locks that it takes, and its path.
+use Rattle.std.specs.Prelude.{ℕ, zero, suc, ◌-◌, List, [], ◌++◌, cond, codes, length, slice_index_or}
 use Rattle.std.specs.Fmt.{decimal}
 use Rattle.std.specs.List.{join_by}
 use Rattle.iso_model.specs.declared.access.Access.{Access}
@@ -10,7 +10,8 @@ use Rattle.iso_model.specs.declared.script.Mode.TheVariants.{SameThread, Concurr
 use Rattle.iso_plan.specs.KeyTable.{keys}
 use Rattle.iso_plan.specs.Locks.{locks}
 use Rattle.iso_plan.specs.Modes.{mode}
-use Rattle.iso_plan.specs.Paths.{is_test, path, row_at}
+use Rattle.iso_plan.specs.Paths.{is_test, row_at}
+use Rattle.iso_plan.specs.PathTexts.{path_text}
 use Rattle.iso_plan.specs.Tree.{Kind, Row}
 use Rattle.iso_plan.specs.declared.lock.Lock.{Lock}
 use Rattle.iso_settings.specs.declared.settings.Settings.{Settings}
@@ -37,15 +38,11 @@ lock_text keys l = access_word l.access ++ slice_index_or keys l.key []
 abbrev pub locks_text : (keys : List (List ℕ)) → List Lock → List ℕ
 locks_text keys ls = join_by (lock_text keys) (codes ",") ls
 
--- where a node stands: the names on its path from the top-level class down, with dots between them. A top-level class's name begins with its team's.
-abbrev pub place_text : List Row → ℕ → List ℕ
-place_text tree n = join_by (λ m. (row_at tree m).name) (codes ".") (reverse (path tree n))
-
 -- the line of a node
 abbrev pub node_line : List Row → Settings → ℕ → List ℕ
 node_line tree s n =
     decimal n ++ codes " " ++ kind_word (row_at tree n).kind ++ codes " " ++ mode_word (mode tree s n) ++ codes " ["
-    ++ locks_text (keys tree) (locks tree n) ++ codes "] " ++ place_text tree n ++ codes "\n"
+    ++ locks_text (keys tree) (locks tree n) ++ codes "] " ++ path_text tree n ++ codes "\n"
 
 -- the lines of so many nodes, of which the first has number n
 abbrev pub node_lines : List Row → Settings → (count n : ℕ) → List ℕ

@@ -14,6 +14,7 @@ impl<'a, W: Sink> Printer<'a, W> {
     {
         match place {
             Place::Row(block, row) => self.row(block, row),
+            Place::Disabled => self.bytes(b"disabled"),
         }
     }
 

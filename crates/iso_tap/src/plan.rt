@@ -2,8 +2,9 @@
 ghost use Rattle.std.specs.Prelude.{◌≡◌, ◌<◌, ◌-◌, cond, codes, length};
 ghost use Rattle.iso_plan.specs.KeyTable.{keys};
 ghost use Rattle.iso_plan.specs.Locks.{locks};
+ghost use Rattle.iso_plan.specs.PathTexts.{path_text};
 ghost use Rattle.iso_plan.specs.RowView.{tree_of};
-ghost use Rattle.iso_tap.specs.PlanText.{access_word, locks_text, mode_word, node_line, node_lines, place_text, plan_text};
+ghost use Rattle.iso_tap.specs.PlanText.{access_word, locks_text, mode_word, node_line, node_lines, plan_text};
 ghost use Rattle.iso_tap.specs.Printers.{Writes};
 
 use crate::fault::TapFault;
@@ -74,7 +75,7 @@ impl<'a, W: Sink> Printer<'a, W> {
         ])?;
         self.locks(plan, node)?;
         self.bytes(b"] ")?;
-        self.place(plan, node)?;
+        self.path(plan, node)?;
         self.bytes(b"\n")
     }
 
@@ -96,20 +97,20 @@ impl<'a, W: Sink> Printer<'a, W> {
         Ok(())
     }
 
-    /// Writes the names on a node's path, from the top-level class down, with dots between them. It calls itself once
+    /// Writes a node's path: the names on it from the top-level class down, with dots between them. It calls itself once
     /// for each class that the node stands in.
-    #[cycle(place)]
-    fn place(&mut self, plan: &Plan, node: u32) -> Result<(), SinkFailed>
+    #[cycle(path)]
+    fn path(&mut self, plan: &Plan, node: u32) -> Result<(), SinkFailed>
         requires above { 0 < node }
         requires within { node < length plan.now.rows }
-        ensures { Prints self.old self.new (place_text (tree_of plan.now) node) result }
+        ensures { Prints self.old self.new (path_text (tree_of plan.now) node) result }
     {
         laws::parents_come_first(plan);
         laws::paths_lead_up(plan);
         let name = plan.name(node).as_bytes();
         match plan.parent(node) {
             Some(class) if class > 0 => {
-                self.place(plan, class)?;
+                self.path(plan, class)?;
                 self.pieces(&[Piece::Plain(b"."), Piece::Plain(name)])
             }
             _ => self.bytes(name),

@@ -56,6 +56,7 @@ impl<'a> BlockRun<'a> {
         ensures block { SameBlock self.old self.new }
         ensures goes_on { T.goes_on touch.old touch.new }
     {
+        self.count_looks(first)?;
         self.top = Some(Pending::Rest(names, rest));
         self.begin(touch, first)?;
         self.reach_next_point();

@@ -1,5 +1,5 @@
 -- Example scripts on the order of lifecycle blocks, and on what one that doesn't end well does to the others.
-use Rattle.std.specs.Prelude.{[], ◌∷◌, false}
+use Rattle.std.specs.Prelude.{Some, [], ◌∷◌, false, codes}
 use Rattle.iso_model.specs.Chains.{ClassHead, TestHead, empty_head}
 use Rattle.iso_model.specs.Examples.Words.{body, a_test, quoted, flag, print, fail, assume}
 
@@ -59,3 +59,13 @@ assumes_false_first = record empty_head { before_all = body (assume (flag false)
 -- Of two false assumptions the first counts.
 abbrev pub assumes_twice : ClassHead
 assumes_twice = record assumes_false_first { after_all = body (assume (flag false) "late" ∷ []) }
+
+-- class C { before_each { print "ob"; } after_each { print "oa"; } disabled "later" test t { print "t"; } }
+-- None of a disabled test's blocks runs, and it is skipped with its reason.
+abbrev pub disabled_test : TestHead
+disabled_test = record prints_t { disabled = Some (codes "later") }
+
+-- disabled "soon" class C { before_all { print "open"; fail "no db"; } after_all { print "close"; fail "still no db"; } test t { } }
+-- None of a disabled class's blocks runs, and all in it is skipped with its reason.
+abbrev pub disabled_class : ClassHead
+disabled_class = record no_database { disabled = Some (codes "soon") }

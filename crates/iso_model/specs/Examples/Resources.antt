@@ -1,5 +1,5 @@
 -- Example scripts on resources and access rights. P stands for `java.lang.System.properties`, L for `java.util.Locale.default`.
-use Rattle.std.specs.Prelude.{[], ◌∷◌}
+use Rattle.std.specs.Prelude.{[], ◌∷◌, None}
 use Rattle.iso_model.specs.Chains.{ClassHead, TestHead, empty_head}
 use Rattle.iso_model.specs.Keys.{properties_key, locale_key}
 use Rattle.iso_model.specs.Syntax.{locale}
@@ -50,6 +50,7 @@ abbrev pub closes_file : ClassHead
 closes_file =
     record empty_head {
       marks = writes file_a ∷ [];
+      disabled = None;
       statics = variable "n" 1 ∷ [];
       before_all = body (print (quoted "in") ∷ write_file (quoted "a") (quoted "m") ∷ assign "n" (number 2) ∷ []);
       after_all = body (append_file (quoted "a") (quoted "n") ∷ print (join (file (quoted "a")) (text (name "n") ∷ text (name "s") ∷ [])) ∷ assign "n" (number 3) ∷ []);
@@ -58,7 +59,7 @@ closes_file =
 -- class Env { write "P" test one { assert_equal "1", prop("a"); set_prop "a", "2"; } .. }
 -- A test's own mark gives it rights.
 abbrev pub sets_2 : TestHead
-sets_2 = record { marks = writes properties_key ∷ []; body = body (assert_equal (quoted "1") (prop (quoted "a")) ∷ set_prop (quoted "a") (quoted "2") ∷ []) }
+sets_2 = record { marks = writes properties_key ∷ []; disabled = None; body = body (assert_equal (quoted "1") (prop (quoted "a")) ∷ set_prop (quoted "a") (quoted "2") ∷ []) }
 
 -- write "P" class Out { class In { test t { set_prop "a", "1"; } } }, and the same with read "P" before the test
 -- The marks of all enclosing classes count, and of two on one key the stronger.
@@ -105,6 +106,7 @@ abbrev pub writes_and_deletes : TestHead
 writes_and_deletes =
     record {
       marks = writes file_a ∷ [];
+      disabled = None;
       body = body (write_file (quoted "a") (quoted "m") ∷ append_file (quoted "a") (quoted "n") ∷ print (file (quoted "a")) ∷
           print (has_file (quoted "a")) ∷ delete_file (quoted "a") ∷ print (has_file (quoted "a")) ∷ []);
     }
@@ -112,4 +114,4 @@ writes_and_deletes =
 -- class C { read "L" test t { print locale(); } }
 -- The locale starts as "en".
 abbrev pub prints_locale : TestHead
-prints_locale = record { marks = reads locale_key ∷ []; body = body (print locale ∷ []) }
+prints_locale = record { marks = reads locale_key ∷ []; disabled = None; body = body (print locale ∷ []) }

@@ -1,7 +1,7 @@
 -- The words in which example scripts are written and their outcomes said. Most are spelled as in a script.
 -- All of a script stands on one line, so every row is 1 where none is given.
 use Prim.Native.String.{String}
-use Rattle.std.specs.Prelude.{ℕ, zero, suc, List, [], ◌∷◌, Bool, Some, codes, true, map, pos, negsuc, cond, bytes_eq, replicate}
+use Rattle.std.specs.Prelude.{ℕ, zero, suc, List, [], ◌∷◌, Bool, None, Some, codes, true, map, pos, negsuc, cond, bytes_eq, replicate}
 use Rattle.std.specs.FinMap.{empty, insert}
 use Rattle.iso_model.specs.Rights.{rights_of}
 use Rattle.iso_model.specs.Chains.{TestHead}
@@ -18,6 +18,7 @@ use Rattle.iso_model.specs.declared.access.Access.TheVariants.{Read, Write}
 use Rattle.iso_model.specs.declared.data.Data.TheVariants.{Whole, Flag, Text}
 use Rattle.iso_model.specs.declared.fault.FaultKind.{FaultKind}
 use Rattle.iso_model.specs.declared.heads.Mark.{Mark}
+use Rattle.iso_model.specs.declared.heads.Target.TheVariants.{Itself, Children}
 use Rattle.iso_model.specs.declared.heads.Variable.{Variable}
 use Rattle.iso_model.specs.declared.outcome.Ending.{Ending}
 use Rattle.iso_model.specs.declared.outcome.Ending.TheVariants as E
@@ -168,10 +169,14 @@ repeats_twice = repeat (number 2) (let_name "x" (number 1) ∷ print (name "x") 
 
 -- marks, statics and fields
 abbrev pub reads : List ℕ → Mark
-reads key = record { access = Read; key = key }
+reads key = record { access = Read; target = Itself; key = key }
 
 abbrev pub writes : List ℕ → Mark
-writes key = record { access = Write; key = key }
+writes key = record { access = Write; target = Itself; key = key }
+
+-- the same for the children of the class
+abbrev pub for_children : Mark → Mark
+for_children m = record m { target = Children }
 
 abbrev pub variable : String → ℕ → Variable
 variable x n = record { name = codes x; value = Whole (pos n) }
@@ -182,7 +187,7 @@ file_a = file_key (codes "a")
 
 -- a test without marks
 abbrev pub a_test : List Act → TestHead
-a_test acts = record { marks = []; body = body acts }
+a_test acts = record { marks = []; disabled = None; body = body acts }
 
 -- the starting resources of a world that says that property a is "1"
 abbrev pub property_a_is_1 : Resources

@@ -133,7 +133,7 @@ fn one_other_declaration_or_block_is_another_plan(rt: HostRuntime) -> Result<(),
     check_pieces(&rt, rt.alloc(), frame, &DECLARATIONS)
 }
 
-static CLASSES: [&str; 23] = [
+static CLASSES: [&str; 30] = [
     "class C { test t { } }",
     "class D { test t { } }",
     "class C \"D\" { test t { } }",
@@ -147,6 +147,13 @@ static CLASSES: [&str; 23] = [
     "read \"L\" class C { test t { } }",
     "read \"K\" read \"L\" class C { test t { } }",
     "read \"L\" read \"K\" class C { test t { } }",
+    "read children \"K\" class C { test t { } }",
+    "write children \"K\" class C { test t { } }",
+    "read children \"K\" read \"L\" class C { test t { } }",
+    "disabled \"K\" class C { test t { } }",
+    "disabled \"L\" class C { test t { } }",
+    "class C { disabled \"K\" test t { } }",
+    "class C { disabled \"L\" test t { } }",
     "class C { concurrent test t { } }",
     "class C { same_thread test t { } }",
     "class C { read \"K\" test t { } }",

@@ -15,7 +15,7 @@ const AFTER: &str = " } }";
 /// The statements of the first test of the first class.
 fn body_of(script: &Script) -> Option<&[Stmt]> {
     match script.classes.get(0)?.members.get(0)? {
-        Member::Test(test) => Some(&test.head.body),
+        Member::Test(test) => Some(&test.head.contents.body),
         Member::Class(_) => None,
     }
 }

@@ -1,9 +1,10 @@
 //! Classes: what is read, the place of each fault, and every limit.
 use crate::script::made::{Faulty, Row, check_rows, check_script, check_texts, fault_of};
+use crate::script::marks::is_marked;
 use crate::shared::{add, check_changes, check_fronts, made};
 use iso_model::access::Access;
 use iso_model::data::Data;
-use iso_model::heads::{ClassHead, Mark, Variable};
+use iso_model::heads::{ClassHead, Target, Variable};
 use iso_model::script::{Class, Member, Mode, Script, Test};
 use iso_script::fault::ScriptError;
 use iso_script::fault::ScriptFaultKind::{
@@ -30,19 +31,6 @@ class Cart \"The cart\" {
 }
 ";
 
-/// Whether these are the marks, in this order.
-fn is_marked(marks: &[Mark], expected: &[(Access, &str)]) -> bool {
-    for (index, (access, key)) in expected.iter().enumerate() {
-        let Some(mark) = marks.get(index) else {
-            return false;
-        };
-        if mark.access != *access || mark.key.as_str() != *key {
-            return false;
-        }
-    }
-    marks.len() == expected.len()
-}
-
 /// Whether this variable has this name and starts with this number.
 fn is_number(variable: Option<&Variable>, name: &str, number: i64) -> bool {
     match variable {
@@ -58,18 +46,20 @@ fn is_number(variable: Option<&Variable>, name: &str, number: i64) -> bool {
 
 /// Whether a head is that of `Cart`.
 fn is_head_of_cart(head: &ClassHead) -> bool {
+    let contents = &head.contents;
     is_marked(
         &head.marks,
         &[
-            (Access::Read, "a"),
-            (Access::Write, "b"),
-            (Access::Read, "a"),
+            (Access::Read, Target::Itself, "a"),
+            (Access::Write, Target::Itself, "b"),
+            (Access::Read, Target::Itself, "a"),
         ],
-    ) && (head.statics.len(), head.fields.len()) == (2, 2)
-        && is_number(head.statics.get(0), "price", 7)
-        && is_number(head.fields.get(0), "count", -3)
-        && is_number(head.fields.get(1), "size", 4)
-        && (head.before_all.len(), head.after_each.len()) == (2, 0)
+    ) && contents.disabled.is_none()
+        && (contents.statics.len(), contents.fields.len()) == (2, 2)
+        && is_number(contents.statics.get(0), "price", 7)
+        && is_number(contents.fields.get(0), "count", -3)
+        && is_number(contents.fields.get(1), "size", 4)
+        && (contents.before_all.len(), contents.after_each.len()) == (2, 0)
 }
 
 /// Whether a class is `Cart`, its members aside.
@@ -95,7 +85,7 @@ fn member_of_full(class: &Class) -> Option<&Member> {
 fn is_total(test: &Test) -> bool {
     test.name.as_str() == "total"
         && test.mode == Some(Mode::Concurrent)
-        && (test.head.marks.len(), test.head.body.len()) == (1, 1)
+        && (test.head.marks.len(), test.head.contents.body.len()) == (1, 1)
 }
 
 /// Whether the first member of `Cart` is `Full`, with its test.
@@ -148,7 +138,7 @@ static FAULTS: [Faulty<'static>; 48] = [
     ("test t { }", Expected, 2, 1),
     ("isolated test t { }", Expected, 2, 10),
     ("class team { }", Expected, 2, 7),
-    ("disabled class C { }", Expected, 2, 1),
+    ("disabled class C { }", Expected, 2, 10),
     ("class C { children; }", Expected, 2, 11),
     ("class C { isolated test t { } }", Expected, 2, 20),
     (
@@ -418,8 +408,8 @@ fn sizes(class: &Class) -> (usize, usize, usize, usize) {
     let head = &class.head;
     (
         head.marks.len(),
-        head.statics.len(),
-        head.fields.len(),
+        head.contents.statics.len(),
+        head.contents.fields.len(),
         class.members.len(),
     )
 }

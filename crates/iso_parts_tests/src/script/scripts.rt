@@ -18,18 +18,22 @@ fn class<'a>(script: &'a Script, index: usize, name: &str) -> Option<&'a Class> 
         .filter(|class| class.name.as_str() == name)
 }
 
+/// Whether a test has this name and so many statements.
+fn is_named(test: &Test, name: &str, statements: usize) -> bool {
+    test.name.as_str() == name && test.head.contents.body.len() == statements
+}
+
 /// A test by its place and its name, with so many statements.
 fn test<'a>(class: &'a Class, index: usize, name: &str, statements: usize) -> Option<&'a Test> {
     match class.members.get(index)? {
-        Member::Test(test) if test.name.as_str() == name && test.head.body.len() == statements =>
-            Some(test),
+        Member::Test(test) if is_named(test, name, statements) => Some(test),
         _ => None,
     }
 }
 
 /// What a statement does, where it has this row.
 fn statement(test: &Test, index: usize, row: u32) -> Option<&Form> {
-    let statement = test.head.body.get(index)?;
+    let statement = test.head.contents.body.get(index)?;
     (statement.row == row).then_some(&statement.form)
 }
 

@@ -29,7 +29,7 @@ pub(crate) fn fault_of_pieces(
 
 /// What a key starts with.
 fn start(alloc: Global, world: &World, key: &str) -> Result<Resource, AllocError> {
-    world.copy(alloc, &Key::new(Text::copied(alloc, key)?))
+    world.copy(alloc, &Key::new(alloc, Text::copied(alloc, key)?)?)
 }
 
 /// The text of a file or of the locale. A missing file and any other value have none.
@@ -172,7 +172,7 @@ fn other_keys_have_no_value(rt: HostRuntime) -> Result<(), SettingsError> {
 
 /// What a key starts with, shared.
 fn shared(alloc: Global, world: &World, key: &str) -> Result<Arc<Resource>, AllocError> {
-    world.share(alloc, &Key::new(Text::copied(alloc, key)?))
+    world.share(alloc, &Key::new(alloc, Text::copied(alloc, key)?)?)
 }
 
 /// Whether two values are of one kind.

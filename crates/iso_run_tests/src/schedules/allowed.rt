@@ -2,13 +2,15 @@
 use super::runs::{OF_TWO_FILES, Row, compare_core};
 use crate::random::gives_report;
 use crate::suites::{
-    CONCURRENT, Check, SERIAL, Surroundings, TWO_FILES, TWO_WORKERS, check_inputs, check_script,
+    CONCURRENT, Check, LATER, SERIAL, SOON, Surroundings, TWO_FILES, TWO_WORKERS, check_inputs,
+    check_script,
 };
 use crate::workers::generated::{WORLD, script_of};
 use iso_core::machine::Core;
 use iso_core::run_events::run_events;
 use iso_plan::plan::Plan;
 use iso_run::run::run_serial;
+use iso_schedule::reader::read_schedule;
 use iso_settings::world::World;
 use iso_standing::event::Event;
 use iso_tap::memory::MemorySink;
@@ -72,6 +74,39 @@ impl Check for EndsIn {
 #[test]
 fn allowed_events_lead_to_the_end(rt: HostRuntime) -> Result<(), Fail> {
     check_script(&rt, rt.alloc(), TWO_FILES, CONCURRENT, &EndsIn(19))
+}
+
+/// On one worker these events are allowed, in turn, and none after them.
+#[derive(Clone, Copy)]
+struct Allows(&'static str);
+
+impl Check for Allows {
+    fn check<R: Abort>(
+        &self,
+        rt: &R,
+        alloc: Global,
+        plan: &Plan,
+        world: &World,
+    ) -> Result<(), Fail> {
+        let want = read_schedule(alloc, self.0.as_bytes())?;
+        let events = allowed_events_of(alloc, plan, world, 1)?;
+        assert!(rt; events == want, "not {}", self.0);
+        Ok(())
+    }
+}
+
+#[test]
+fn disabled_class_is_entered_left_and_shut(rt: HostRuntime) -> Result<(), Fail> {
+    let allows = &Allows("enter 0 1\nleave 0\nshut 0 1\nleave 0");
+    check_script(&rt, rt.alloc(), SOON, SERIAL, allows)
+}
+
+#[test]
+fn disabled_test_is_entered_and_left(rt: HostRuntime) -> Result<(), Fail> {
+    let allows = &Allows(
+        "enter 0 1\nstep 0\nleave 0\nenter 0 2\nleave 0\nenter 0 3\nleave 0\nshut 0 1\nleave 0",
+    );
+    check_script(&rt, rt.alloc(), LATER, SERIAL, allows)
 }
 
 /// No event is allowed.

@@ -1,5 +1,7 @@
 //! Schedules whose last event is refused.
-use crate::suites::{CART_AND_DESK, CONCURRENT, Check, TWO_FILES, check_script};
+use crate::suites::{
+    CART_AND_DESK, CHILDREN, CONCURRENT, Check, LATER, SOON, TWO_FILES, check_script,
+};
 use iso_core::run_events::{EventsFault, run_events};
 use iso_plan::plan::Plan;
 use iso_schedule::reader::read_schedule;
@@ -106,6 +108,52 @@ static ON_ONE_THREAD: AreRefused = AreRefused(&[
 #[test]
 fn siblings_on_one_thread_keep_their_order(rt: HostRuntime) -> Result<(), Fail> {
     check_script(&rt, rt.alloc(), CART_AND_DESK, CONCURRENT, &ON_ONE_THREAD)
+}
+
+/// Children of one class that each take its key.
+static BESIDE_CHILDREN: AreRefused = AreRefused(&[
+    ("enter 0 1\nleave 0\nenter 0 2\nenter 1 3", LockHeld(2)),
+    ("enter 0 1\nleave 0\nenter 1 3\nenter 0 2", LockHeld(3)),
+]);
+
+#[test]
+fn children_lock_beside_one_another(rt: HostRuntime) -> Result<(), Fail> {
+    check_script(&rt, rt.alloc(), CHILDREN, CONCURRENT, &BESIDE_CHILDREN)
+}
+
+/// A disabled class: its children are not entered, and its bodies have ended where they begin.
+static IN_DISABLED: AreRefused = AreRefused(&[
+    ("enter 0 1\nstep 0", BodyEnded),
+    ("enter 0 1\nenter 1 2", ParentClosed),
+    ("enter 0 1\nleave 0\nenter 0 2", ParentClosed),
+    ("enter 0 1\nleave 0\nshut 0 1\nstep 0", BodyEnded),
+    (
+        "enter 0 1\nleave 0\nshut 0 1\nleave 0\nenter 0 2",
+        ParentClosed,
+    ),
+]);
+
+#[test]
+fn disabled_class_is_not_opened(rt: HostRuntime) -> Result<(), Fail> {
+    check_script(&rt, rt.alloc(), SOON, CONCURRENT, &IN_DISABLED)
+}
+
+/// A disabled test, which is entered once as others are.
+static OF_DISABLED_TEST: AreRefused = AreRefused(&[
+    ("enter 0 1\nstep 0\nleave 0\nenter 0 2\nstep 0", BodyEnded),
+    (
+        "enter 0 1\nstep 0\nleave 0\nenter 0 2\nleave 0\nenter 0 2",
+        AlreadyEntered,
+    ),
+    (
+        "enter 0 1\nstep 0\nleave 0\nenter 0 3\nleave 0\nshut 0 1",
+        ChildrenLeft,
+    ),
+]);
+
+#[test]
+fn disabled_test_is_entered_once(rt: HostRuntime) -> Result<(), Fail> {
+    check_script(&rt, rt.alloc(), LATER, CONCURRENT, &OF_DISABLED_TEST)
 }
 
 /// Every two kinds that an event can be refused for at once.

@@ -1,7 +1,7 @@
 //! Schedules whose events are all accepted, and what the nodes have come to after them.
 ghost use Rattle.std.specs.Prelude.{◌≡◌, IfOk};
 
-use crate::suites::{CONCURRENT, Check, TWO_FILES, check_script, widest_script};
+use crate::suites::{CONCURRENT, Check, LATER, SOON, TWO_FILES, check_script, widest_script};
 use crate::told::expect_told;
 use iso_core::machine::Core;
 use iso_core::run_events::run_events;
@@ -55,7 +55,7 @@ test one { set_prop \"a\", \"y\"; } test two { assert_equal \"x\", prop(\"a\"); 
 read \"java.lang.System.properties\" class B { test three { assert_equal \"1\", prop(\"a\"); } }
 ";
 
-static ROWS: [Row; 11] = [
+static ROWS: [Row; 14] = [
     Row {
         script: TWO_FILES,
         schedule: READERS_FIRST,
@@ -139,6 +139,32 @@ static ROWS: [Row; 11] = [
 enter 1 4\nleave 1\nenter 0 5\nstep 0\nleave 0\nshut 1 4\nleave 1",
         whole: true,
         nodes: &[(2, "pass"), (3, "pass"), (5, "pass")],
+    },
+    // The bodies of disabled nodes have ended where they begin.
+    Row {
+        script: LATER,
+        schedule: "enter 0 1\nstep 0\nleave 0\nenter 0 2\nenter 1 3\nleave 1\nleave 0\nshut 0 1\nleave 0",
+        whole: true,
+        nodes: &[
+            (1, "pass | x"),
+            (2, "skipped: later at disabled"),
+            (3, "pass"),
+        ],
+    },
+    Row {
+        script: SOON,
+        schedule: "enter 0 1\nleave 0",
+        whole: false,
+        nodes: &[(1, "none"), (2, "skipped: soon at disabled")],
+    },
+    Row {
+        script: SOON,
+        schedule: "enter 1 1\nleave 1\nshut 1 1\nleave 1",
+        whole: true,
+        nodes: &[
+            (1, "skipped: soon at disabled"),
+            (2, "skipped: soon at disabled"),
+        ],
     },
 ];
 

@@ -17,6 +17,12 @@ static KEYS: [&str; 4] = [
     "K",
 ];
 
+/// What a class may declare them for: itself, or its children.
+static CLASS_TARGETS: [&str; 2] = ["", "children "];
+
+/// And what a test may.
+static TEST_TARGETS: [&str; 1] = [""];
+
 /// Statements of bodies. Some end the body, where the world or the declared keys are not as they want.
 static STATEMENTS: [&str; 14] = [
     "print \"x\";",
@@ -61,24 +67,28 @@ impl Draft {
         }
     }
 
-    /// Writes declarations of keys.
-    fn push_keys(&mut self) -> Result<(), AllocError> {
+    /// Writes declarations of keys, each for one of these targets.
+    fn push_keys(&mut self, targets: &[&'static str]) -> Result<(), AllocError> {
         for key in &KEYS {
             if self.once_in(3) {
                 let access = self.one_of(&["read", "write"]);
-                write!(self.text, "{access} \"{key}\" ")?;
+                let target = self.one_of(targets);
+                write!(self.text, "{access} {target}\"{key}\" ")?;
             }
         }
         Ok(())
     }
 
-    /// Writes the marks of a node.
-    fn push_marks(&mut self) -> Result<(), AllocError> {
+    /// Writes the marks of a node, whose keys are for one of these targets each. At times it is disabled.
+    fn push_marks(&mut self, targets: &[&'static str]) -> Result<(), AllocError> {
         if self.once_in(3) {
             let mode = self.one_of(&["same_thread ", "concurrent "]);
             self.text.push_str(mode)?;
         }
-        self.push_keys()
+        if self.once_in(12) {
+            self.text.push_str("disabled \"later\" ")?;
+        }
+        self.push_keys(targets)
     }
 
     /// Writes a body.
@@ -95,7 +105,7 @@ impl Draft {
 
     /// Opens a class, and writes its blocks.
     fn open_class(&mut self, number: u32) -> Result<(), AllocError> {
-        self.push_marks()?;
+        self.push_marks(&CLASS_TARGETS)?;
         if self.once_in(12) {
             self.text.push_str("isolated ")?;
         }
@@ -115,7 +125,7 @@ impl Draft {
         if self.open == 0 || self.open < 4 && self.once_in(3) {
             self.open_class(number)?;
         }
-        self.push_marks()?;
+        self.push_marks(&TEST_TARGETS)?;
         write!(self.text, "test t{number}")?;
         self.push_body()?;
         if self.once_in(3) {

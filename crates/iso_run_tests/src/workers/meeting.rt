@@ -97,6 +97,7 @@ fn two_bodies_are_under_way_at_once(rt: HostRuntime) -> Result<(), Fail> {
         scripts: &[SCRIPT.as_bytes()],
         settings: TWO_WORKERS.as_bytes(),
         world: &[],
+        only: &[],
         processors: 1,
     };
     let mut sink = MemorySink::new(rt.alloc());

@@ -66,6 +66,7 @@ fn three_teams_are_reported_by_two_who_take_turns(rt: HostRuntime) -> Result<(),
         scripts: &[SHOP.as_bytes(), ORDERS.as_bytes(), OPS.as_bytes()],
         settings: TWO_WORKERS.as_bytes(),
         world: WORLD.as_bytes(),
+        only: &[],
         processors: 1,
     };
     let mut sink = MemorySink::new(rt.alloc());

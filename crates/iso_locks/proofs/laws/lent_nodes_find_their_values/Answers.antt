@@ -13,7 +13,10 @@ returns-clause-read c =
     let own = c.keep_owners.ensures in
     let is_tree = subst (λ (p : Planned). IsTree (tree_of p)) c.plan.ensures c.nodes_are_a_tree.ensures in
     let count : length t.lent ≡ length (tree_of t.plan) = own.lent in
-    λ flat n k l h. finds-start t is_tree.below count own.owned flat n k (lent-within t.lent n l) l h
+    λ flat n k l h. finds-start t is_tree count own.owned flat n k (lent-within t.lent n l) l h
 
 pub returns-clause-written : goal.returns-clause-written
-returns-clause-written c = finds-value c.args.tray.now c.keep_owners.ensures.owned
+returns-clause-written c =
+    let t : TrayView = c.args.tray.now in
+    let is_tree = subst (λ (p : Planned). IsTree (tree_of p)) c.plan.ensures c.nodes_are_a_tree.ensures in
+    finds-value t is_tree c.keep_owners.ensures.owned

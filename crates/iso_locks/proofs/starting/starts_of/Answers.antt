@@ -12,8 +12,8 @@ keys-preserved c =
     let start = start_at c.args.world.now in
     let ks = keys (tree_of c.args.plan.now) in
     let n = c.keys.number in
-    let key : c.new-key.result ≡ get_or ks n [] = c.new-key.ensures ∙ c.in_ok-copied.ensures ∙ c.key.ensures in
-    let with_value : Resource → Starting = λ v. record { key = c.new-key.result; value = v } in
+    let key : c.in_ok-key.key ≡ get_or ks n [] = c.in_ok-key.ensures ∙ c.in_ok-copied.ensures ∙ c.key.ensures in
+    let with_value : Resource → Starting = λ v. record { key = c.in_ok-key.key; value = v } in
     c.in_ok-push.ensures.items ∙ ap₂ (λ (ss : List Starting) (s : Starting). ss ++ s ∷ []) c.keys.invariant (ap with_value (c.new-value.ensures ∙ c.in_ok-share.ensures) ∙ ap start key)
     ∙ sym (map_push start (take n ks) (get_or ks n [])) ∙ ap (map start) (sym (take_more ks n [] (omega arith)))
 

@@ -5,7 +5,7 @@ use Rattle.std.specs.Str.{bytes_eq}
 use Rattle.indexmap.specs.IndexSet.{insert_all, insert_key}
 use Rattle.iso_model.specs.declared.heads.Mark.{Mark}
 use Rattle.iso_plan.proofs.Growth.{drop_next}
-use Rattle.iso_plan.specs.KeyTable.{mark_keys, marked_keys, written_marks}
+use Rattle.iso_plan.specs.KeyTable.{mark_keys, marked_keys}
 use Rattle.iso_plan.specs.RowView.{row_of}
 use Rattle.iso_plan.proofs.keys.number_keys.Goals as goal
 
@@ -22,8 +22,8 @@ rows-preserved c =
     let next = drop_next c.row-item.result rs i (omega arith) c.row-item.is in
     let old = map text c.rows.table.keys in
     let rest = marked_keys (map row_of (drop (i + 1) rs)) in
-    let own = mark_keys (written_marks (row_of c.row-item.result).kind) in
-    ap (λ (ks : List (List ℕ)). insert_all bytes_eq ks rest) (c.in_ok-add_marks.ensures ∙ ap (λ (ms : List Mark). insert_all bytes_eq old (mark_keys ms)) c.marks.ensures)
+    let own = mark_keys (row_of c.row-item.result).written in
+    ap (λ (ks : List (List ℕ)). insert_all bytes_eq ks rest) (c.in_ok-add_marks.ensures ∙ ap (λ (ms : List Mark). insert_all bytes_eq old (mark_keys ms)) c.deref.ensures.value)
     ∙ sym (fold-append (insert_key bytes_eq) old own rest) ∙ rw next at c.rows.invariant
 
 pub returns-then-as_slice-clause-crowded : goal.returns-then-as_slice-clause-crowded

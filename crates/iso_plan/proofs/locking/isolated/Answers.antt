@@ -3,7 +3,7 @@ use Rattle.std.proofs.lemmas.List.{length-map, get_or_default}
 use Rattle.iso_plan.proofs.ColumnLemmas.{length-column, column-read, column-from, row-at}
 use Rattle.iso_plan.proofs.SoFar.{all-isolate, isolates_below}
 use Rattle.iso_plan.proofs.TopLemmas.{top, top-le, isolates-next}
-use Rattle.iso_plan.specs.KeyTable.{written_marks}
+use Rattle.iso_plan.specs.KeyTable.{kind_marks}
 use Rattle.iso_plan.specs.Locks.{holds_isolated, is_isolated, is_that, isolates, marks_global}
 use Rattle.iso_plan.specs.Paths.{is_top}
 use Rattle.iso_plan.specs.RowView.{row_of}
@@ -39,7 +39,7 @@ nodes-preserved c =
     let n = c.nodes.n in
     let own : c.index.result.now ≡ top tree n = c.index.ensures ∙ column-read (top tree) c.in_ok-tops.tops.items (length rows) n c.index.result.now c.in_ok-tops.ensures (omega arith) in
     let asks : c.isolates.result ≡ isolates tree n = c.isolates.ensures
-    ∙ ap (λ (r : T.Row). is_isolated r.kind || marks_global (written_marks r.kind)) (sym (row-at rows n c.index-rows-n.result (omega arith))) in
+    ∙ ap (λ (r : T.Row). is_isolated r.kind || marks_global (kind_marks r.kind)) (sym (row-at rows n c.index-rows-n.result (omega arith))) in
     record {
       each = c.note_isolation.ensures.fits ∙ c.nodes.invariant.each;
       so_far = λ m h.

@@ -10,7 +10,7 @@ use Rattle.iso_model.specs.declared.heads.Mark.{Mark}
 use Rattle.iso_plan.proofs.ColumnLemmas.{length-column, column-read, column-from, row-at}
 use Rattle.iso_plan.proofs.KeyLemmas.{keys-distinct}
 use Rattle.iso_plan.proofs.LockLemmas.{TablesAre, locking-le, locking-size, table-fits, tables-start, tables-skip, tables-gather, tables-end}
-use Rattle.iso_plan.specs.KeyTable.{keys, written_marks}
+use Rattle.iso_plan.specs.KeyTable.{keys, kind_marks}
 use Rattle.iso_plan.specs.Locks.{declared, effective_marks, locking_node, locks, locks_from}
 use Rattle.iso_plan.specs.Paths.{column}
 use Rattle.iso_plan.specs.RowView.{row_of}
@@ -91,7 +91,7 @@ nodes-preserved c =
           let each : length v.items ≡ length rows = sym (length-map v.items accesses) ∙ c.nodes.invariant.each in
           let stored : m < length v.items = omega arith in
           let old : w.index_mut.result.now.items ≡ get_or (map accesses v.items) m [] = ap accesses w.index_mut.ensures.value ∙ sym (get_or-map accesses v.items m w.index_mut.result.now [] stored) in
-          let marks : w.marks.result.now ≡ effective_marks tree n = w.marks.ensures ∙ ap (λ (r : T.Row). written_marks r.kind) (sym (row-at rows n w.index-rows-n.result (omega arith))) in
+          let marks : w.marks.result.now ≡ effective_marks tree n = w.marks.ensures ∙ ap (λ (r : T.Row). kind_marks r.kind) (sym (row-at rows n w.index-rows-n.result (omega arith))) in
           let done : TablesAre tree (length rows) (set (map accesses v.items) m (accesses w.gather.new.table)) (n + 1) =
           tables-gather tree c.requires.tree.below (length rows) (map accesses v.items) n m (accesses w.gather.new.table) c.nodes.invariant own (omega arith) (w.gather.ensures.fits ∙ ap length old)
           (λ i h. w.gather.ensures.gathered i (omega arith)

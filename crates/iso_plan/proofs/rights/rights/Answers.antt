@@ -1,4 +1,4 @@
-use Rattle.std.proofs.Common.{◌≡◌, [], ◌<◌, ℕ, List, length, map, get_or, Option, None, ap, ap₂, sym, ◌∙◌, arith}
+use Rattle.std.proofs.Common.{◌≡◌, ◌<◌, ℕ, List, length, map, get_or, Option, None, ap, ap₂, sym, ◌∙◌, arith}
 use Rattle.std.proofs.lemmas.List.{length-map, map_push}
 use Rattle.iso_model.specs.Chains.{marks_of}
 use Rattle.iso_model.specs.Rights.{access_in, rights_of, strongest}
@@ -7,10 +7,10 @@ use Rattle.iso_model.specs.declared.heads.Mark.{Mark}
 use Rattle.iso_plan.proofs.ColumnLemmas.{length-column, column-push, parent-at, row-at, view-read}
 use Rattle.iso_plan.proofs.LawLemmas.{rights-step}
 use Rattle.iso_plan.proofs.PathLemmas.{path-root}
-use Rattle.iso_plan.specs.KeyTable.{written_marks}
+use Rattle.iso_plan.specs.KeyTable.{kind_marks}
 use Rattle.iso_plan.specs.Locks.{declared}
 use Rattle.iso_plan.specs.NodeChains.{chain_classes, heads_on, node_rights, rights_with}
-use Rattle.iso_plan.specs.Paths.{column, parent, row_at}
+use Rattle.iso_plan.specs.Paths.{parent, row_at}
 use Rattle.iso_plan.specs.RowView.{kind_of, row_of}
 use Rattle.iso_plan.specs.Tree as T
 use Rattle.iso_plan.specs.declared.row.Row.{Row}
@@ -45,7 +45,7 @@ nodes-preserved c =
           let up : p ≡ parent tree n = ap (λ (x : Row). x.parent) c.index-rows-n.is ∙ sym (ap (λ (x : T.Row). x.parent) at) in
           let below : parent tree n < n = c.requires.below n pos in
           let kind : kind_of r.kind ≡ (row_at tree n).kind = ap (λ (x : Row). kind_of x.kind) c.index-rows-n.is ∙ sym (ap (λ (x : T.Row). x.kind) at) in
-          let own : rights_of w.marks.result.now k ≡ declared tree n k = ap (λ (ms : List Mark). rights_of ms k) (w.marks.ensures ∙ ap written_marks kind) in
+          let own : rights_of w.marks.result.now k ≡ declared tree n k = ap (λ (ms : List Mark). rights_of ms k) (w.marks.ensures ∙ ap kind_marks kind) in
           let above : access_in w.index.result.now k ≡ node_rights tree (parent tree n) k =
           ap (λ (es : List (List ℕ × Access)). access_in es k) w.index.ensures
           ∙ ap (λ (f : List ℕ → Option Access). f k) (view-read access_in (node_rights tree) c.nodes.rights.items n p w.index.result.now (λ _. None) c.nodes.invariant (omega arith))

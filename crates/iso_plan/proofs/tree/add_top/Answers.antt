@@ -12,7 +12,7 @@ returns-in_err-add-clause-full c =
     let class = c.args.class.now in
     let p = err_from_is_err_and c.from_residual-in_err-add.result c.from_residual-in_err-add.ensures.1 in
     rw (p.1, p.2, class-is class)
-    (full-first n (top_row c.args.team.now (title_of class)) (members_rows n (n + 1) (members_of (map member_of class.members.items))) c.in_err-add.field-0.0 c.in_err-add.ensures.full)
+    (full-first c.args.most n (top_row c.args.team.now (title_of class)) (members_rows n (n + 1) (members_of (map member_of class.members.items))) c.in_err-add.field-0.0 c.in_err-add.ensures.full)
 
 pub returns-clause-ok : goal.returns-clause-ok
 returns-clause-ok c =
@@ -33,4 +33,4 @@ returns-clause-full c =
     let class = c.args.class.now in
     let row = row_of c.in_ok-top_row.field-0 in
     rw (class-is class)
-    (full-rest c.add_members.result (top_row c.args.team.now (title_of class)) c.len-number.result (vec_len old) (vec_len mid) c.deref.result.now class.members.items c.len-number.ensures (counted old mid (row ∷ []) c.in_ok-add.ensures.ok) c.deref.ensures.value c.add_members.ensures.full)
+    (full-rest c.args.most c.add_members.result (top_row c.args.team.now (title_of class)) c.len-number.result (vec_len old) (vec_len mid) c.deref.result.now class.members.items c.len-number.ensures (counted old mid (row ∷ []) c.in_ok-add.ensures.ok) c.deref.ensures.value c.add_members.ensures.full)

@@ -15,7 +15,7 @@ returns-in_err-suite g c =
 pub returns-in-Ok : goal.returns-in-Ok
 returns-in-Ok g c =
     record {
-      suite = suite_of c.in_ok-suite.suite;
+      suite = suite_of c.args.inputs c.in_ok-suite.suite;
       is_suite = c.in_ok-suite.ensures.suite;
       wrote = rw (c.in_ok-suite.ensures.plan, c.in_ok-suite.ensures.planned_by, c.workers.ensures) at c.in-Ok.ensures.wrote;
     }
@@ -24,5 +24,5 @@ pub returns : goal.returns
 returns g c =
     let took = rw (c.in_ok-suite.ensures.plan, c.in_ok-suite.ensures.planned_by, c.workers.ensures) at c.in-Err.ensures.took in
     let cut = rw (c.in_ok-suite.ensures.plan, c.in_ok-suite.ensures.planned_by, c.workers.ensures) at c.in-Err.ensures.cut in
-    cut-short suite_plan c.args.inputs Serial (suite_of c.in_ok-suite.suite) c.in_ok-suite.ensures.suite refl (g.W.Sink.account c.args.sink.now) (g.W.Sink.account c.write_plan.new.sink) _
+    cut-short suite_plan c.args.inputs Serial (suite_of c.args.inputs c.in_ok-suite.suite) c.in_ok-suite.ensures.suite refl (g.W.Sink.account c.args.sink.now) (g.W.Sink.account c.write_plan.new.sink) _
     (record { written = c.in-Err.fault.written; is = refl; broken = record { took = took; within = cut; failed = c.in-Err.ensures.failed } })

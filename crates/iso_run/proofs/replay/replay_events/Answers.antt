@@ -26,6 +26,6 @@ returns g c = λ inputs schedule is read.
     let ran = rw c.workers-workers.ensures at c.in_ok-core.ensures in
     let whole : is_complete c.in_ok-core.core ≡ true = sym c.is_complete.ensures ∙ c.if-not-is_complete.false in
     let results = c.results.result.now in
-    replay-reported inputs (g.W.Sink.account c.args.sink.now) (g.W.Sink.account c.write_results.new.sink) (suite_of suite) suite.plan results is.is_suite is.planned
+    replay-reported inputs (g.W.Sink.account c.args.sink.now) (g.W.Sink.account c.write_results.new.sink) (suite_of inputs suite) suite.plan results is.is_suite is.planned
     (results-plan inputs schedule r c.in_ok-core.core results ran c.results.ensures.plan) (results-start inputs schedule r c.in_ok-core.core results ran c.results.ensures.start)
     schedule (ended inputs schedule r c.in_ok-core.core true ran whole) c.write_results.result c.write_results.ensures

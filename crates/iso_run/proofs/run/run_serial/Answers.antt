@@ -14,5 +14,5 @@ returns-in_err-suite g c =
 
 pub returns-in-Ok : goal.returns-in-Ok
 returns-in-Ok g c =
-    reported c.args.inputs (g.W.Sink.account c.args.sink.now) (g.W.Sink.account c.write_results.new.sink) (suite_of c.in_ok-suite.suite) c.in_ok-suite.suite.plan c.in-Ok.results
+    reported c.args.inputs (g.W.Sink.account c.args.sink.now) (g.W.Sink.account c.write_results.new.sink) (suite_of c.args.inputs c.in_ok-suite.suite) c.in_ok-suite.suite.plan c.in-Ok.results
     c.in_ok-suite.ensures.suite c.in_ok-suite.ensures.plan c.in-Ok.ensures.plan c.in-Ok.ensures.start Serial refl c.write_results.result c.write_results.ensures

@@ -16,6 +16,6 @@ pub returns : goal.returns
 returns g c = λ inputs is.
     let suite = c.args.suite.now in
     let on = c.in_ok-book.ensures.book in
-    reported inputs (g.W.Sink.account c.args.sink.now) (g.W.Sink.account c.write_results.new.sink) (suite_of suite) suite.plan c.results.result.now is.is_suite is.planned
+    reported inputs (g.W.Sink.account c.args.sink.now) (g.W.Sink.account c.write_results.new.sink) (suite_of inputs suite) suite.plan c.results.result.now is.is_suite is.planned
     (c.results.ensures.plan ∙ on.plan_is ∙ sym c.requires.plan) (c.results.ensures.start ∙ on.world_is ∙ sym c.requires.start) ByWorkers tt
     c.write_results.result c.write_results.ensures

@@ -57,7 +57,7 @@ read_class-returns-in_err-members-clause-read t c = λ taken all.
 pub read_class-returns-clause-read : goal.read_class-returns-clause-read
 read_class-returns-clause-read t c = λ taken all.
     let v = c.in_ok-variables.ensures in
-    rw (class_of-parts, c.in_ok-name.ensures, c.in_ok-head.ensures.ok, c.class_head-head.ensures)
+    rw (class_of-parts, c.in_ok-name.ensures, c.in_ok-head-2.ensures.ok, c.in_ok-head.ensures)
     (is_class c.in_ok-display.ensures c.in_ok-expect.ensures (v.read taken (rw c.as_slice.ensures.value all)) c.in_ok-blocks.ensures
     (c.in_ok-members.ensures.read (names_of (variables_of c.in_ok-variables.variables) ++ taken) (rw c.in_ok-push.ensures.items (know_more c.args.scopes.now.items c.in_ok-variables.variables.names taken _ all v.names))))
 

@@ -9,4 +9,4 @@ returns-in_err-body c =
     rw (p.1, p.2) (λ t rest h. let b = test_body c.in_ok-display.ensures h in c.in_err-body.ensures b.0 rest b.1)
 
 pub returns : goal.returns
-returns c = rw (c.in_ok-copied.ensures, c.in_ok-head.ensures.ok) (a_test c.in_ok-display.ensures c.in_ok-body.ensures)
+returns c = rw (c.in_ok-copied.ensures, c.in_ok-head.ensures.ok, c.in_ok-new.ensures.ok) (a_test c.in_ok-display.ensures c.in_ok-body.ensures)

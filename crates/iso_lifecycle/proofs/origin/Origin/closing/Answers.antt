@@ -3,6 +3,8 @@ use Rattle.iso_model.specs.Openings.{statics_of}
 use Rattle.iso_model.specs.Rights.{Rights}
 use Rattle.iso_model.specs.ScriptView.{class_head_of}
 use Rattle.iso_model.specs.SyntaxView.{block_of}
+use Rattle.iso_model.specs.Disabled.{acts_unless}
+use Rattle.iso_model.specs.declared.heads.ClassContents.{ClassContents}
 use Rattle.iso_lifecycle.specs.OriginViews.{subject_of_origin}
 use Rattle.iso_lifecycle.specs.Subjects.{begun, classes_of, enclosing, is_kind_of, opened_before}
 use Rattle.iso_lifecycle.specs.declared.kind.BodyKind.{BodyKind}
@@ -23,8 +25,8 @@ with_frame-requires-clause-begun c =
     let s = subject_of_origin c.args.self.now in
     let chain = c.class-depth.ensures.class in
     let count = c.class-depth.ensures.depth ∙ ap length chain in
-    let block = ap block_of c.deref.ensures.value in
+    let block = c.closing_statements-block.ensures ∙ ap (λ (d : ClassContents). acts_unless d.disabled (block_of d.after_all.items)) c.deref.ensures in
     let names = c.in_ok-names.ensures ∙ ap (λ (k : BodyKind). statics_of (opened_before k s).frames) c.requires.kind in
     c.in_ok-run.ensures.stage
-    ∙ closing-begins s (class_head_of c.class-depth.result.0.now) (classes_of (enclosing s)) c.class-depth.result.1 (block_of c.deref.result.now) c.in_ok-names.names.items chain count block names
+    ∙ closing-begins s (class_head_of c.class-depth.result.0.now) (classes_of (enclosing s)) c.class-depth.result.1 (block_of c.closing_statements-block.result.now) c.in_ok-names.names.items chain count block names
     ∙ ap (λ (k : BodyKind). (begun k s).stage) (sym c.requires.kind)

@@ -4,6 +4,7 @@ use Rattle.iso_model.specs.Openings.{statics_of}
 use Rattle.iso_model.specs.Rights.{Rights}
 use Rattle.iso_model.specs.ScriptView.{class_head_of}
 use Rattle.iso_model.specs.SyntaxView.{block_of}
+use Rattle.iso_model.specs.declared.heads.ClassContents.{ClassContents}
 use Rattle.iso_model.specs.declared.names.Sort.TheVariants.{Static}
 use Rattle.iso_lifecycle.specs.OriginViews.{subject_of_origin}
 use Rattle.iso_lifecycle.specs.Origins.{outer_names}
@@ -32,10 +33,11 @@ with_frame-requires-clause-begun c =
     let s = subject_of_origin c.args.self.now in
     let chain = c.class-depth.ensures.class in
     let count = c.class-depth.ensures.depth ∙ ap length chain in
-    let block = ap block_of c.deref-2.ensures.value in
-    let fields = ap (at_literals Static) c.deref.ensures.value in
+    let contents = c.deref-contents.ensures in
+    let fields = ap (at_literals Static) (c.deref.ensures.value ∙ ap (λ (d : ClassContents). d.statics.items) contents) in
     let before = c.in_ok-names.ensures ∙ ap (λ (k : BodyKind). statics_of (opened_before k s).frames) c.requires.kind in
     let names = c.in_ok-add_variables.ensures ∙ (λ i. before i ++ fields i) in
     c.in_ok-run.ensures.stage
-    ∙ opening-begins s (class_head_of c.class-depth.result.0.now) (classes_of (enclosing s)) c.class-depth.result.1 (block_of c.deref-2.result.now) c.add_variables.new.names.items chain count block names
+    ∙ opening-begins s (class_head_of c.class-depth.result.0.now) (classes_of (enclosing s)) c.class-depth.result.1 c.deref-contents.result.now.disabled (block_of c.deref-contents.result.now.before_all.items) c.add_variables.new.names.items chain count
+    (ap (λ (d : ClassContents). d.disabled) contents) (ap (λ (d : ClassContents). block_of d.before_all.items) contents) names
     ∙ ap (λ (k : BodyKind). (begun k s).stage) (sym c.requires.kind)

@@ -1,7 +1,8 @@
 use Rattle.std.proofs.Common.{Bool, Ok, codes, cond, ap, ◌∙◌}
 use Rattle.std.proofs.lemmas.Result.{err_from_is_err_and}
 use Rattle.iso_plan.specs.RowView.{tree_of}
-use Rattle.iso_tap.specs.PlanText.{mode_word, place_text}
+use Rattle.iso_plan.specs.PathTexts.{path_text}
+use Rattle.iso_tap.specs.PlanText.{mode_word}
 use Rattle.iso_tap.proofs.PlanLemmas.{line-head}
 use Rattle.iso_tap.proofs.PrinterLemmas.{prints_as, prints_then, prints_cut}
 use Rattle.iso_tap.proofs.printer.Printer.node.Goals as goal
@@ -15,7 +16,7 @@ returns-in_err-pieces g c =
     let is_word = c.as_bytes-2.ensures.value ∙ c.mode_word.ensures ∙ ap mode_word c.mode.ensures in
     let head = prints_as c.in_err-pieces.ensures _ (line-head c.from.ensures is_kind is_word) in
     let p = err_from_is_err_and c.from_residual.result c.from_residual.ensures.1 in
-    rw p.1 (prints_cut (codes "\n") _ p.0 (prints_cut (place_text tree n) _ _ (prints_cut (codes "] ") _ _ (prints_cut _ _ _ head))))
+    rw p.1 (prints_cut (codes "\n") _ p.0 (prints_cut (path_text tree n) _ _ (prints_cut (codes "] ") _ _ (prints_cut _ _ _ head))))
 
 pub returns-in_err-locks : goal.returns-in_err-locks
 returns-in_err-locks g c =
@@ -26,7 +27,7 @@ returns-in_err-locks g c =
     let is_word = c.as_bytes-2.ensures.value ∙ c.mode_word.ensures ∙ ap mode_word c.mode.ensures in
     let head = prints_as c.in_ok-pieces.ensures _ (line-head c.from.ensures is_kind is_word) in
     let p = err_from_is_err_and c.from_residual-in_err-locks.result c.from_residual-in_err-locks.ensures.1 in
-    rw p.1 (prints_cut (codes "\n") _ p.0 (prints_cut (place_text tree n) _ _ (prints_cut (codes "] ") _ _ (prints_then _ head c.in_err-locks.ensures))))
+    rw p.1 (prints_cut (codes "\n") _ p.0 (prints_cut (path_text tree n) _ _ (prints_cut (codes "] ") _ _ (prints_then _ head c.in_err-locks.ensures))))
 
 pub returns-in_err-bytes : goal.returns-in_err-bytes
 returns-in_err-bytes g c =
@@ -38,19 +39,19 @@ returns-in_err-bytes g c =
     let head = prints_as c.in_ok-pieces.ensures _ (line-head c.from.ensures is_kind is_word) in
     let p = err_from_is_err_and c.from_residual-in_err-bytes.result c.from_residual-in_err-bytes.ensures.1 in
     let locked = prints_then (Ok tt) head c.in_ok-locks.ensures in
-    rw p.1 (prints_cut (codes "\n") _ p.0 (prints_cut (place_text tree n) _ _ (prints_then _ locked c.in_err-bytes.ensures)))
+    rw p.1 (prints_cut (codes "\n") _ p.0 (prints_cut (path_text tree n) _ _ (prints_then _ locked c.in_err-bytes.ensures)))
 
-pub returns-in_err-place : goal.returns-in_err-place
-returns-in_err-place g c =
+pub returns-in_err-path : goal.returns-in_err-path
+returns-in_err-path g c =
     let plan = c.args.plan.now in
     let tree = tree_of plan in
     let n = c.args.node in
     let is_kind = c.as_bytes.ensures.value ∙ c.kind_word.ensures ∙ ap (λ (b : Bool). cond b (codes "test") (codes "class")) c.is_test.ensures in
     let is_word = c.as_bytes-2.ensures.value ∙ c.mode_word.ensures ∙ ap mode_word c.mode.ensures in
     let head = prints_as c.in_ok-pieces.ensures _ (line-head c.from.ensures is_kind is_word) in
-    let p = err_from_is_err_and c.from_residual-in_err-place.result c.from_residual-in_err-place.ensures.1 in
+    let p = err_from_is_err_and c.from_residual-in_err-path.result c.from_residual-in_err-path.ensures.1 in
     let locked = prints_then (Ok tt) (prints_then (Ok tt) head c.in_ok-locks.ensures) c.in_ok-bytes.ensures in
-    rw p.1 (prints_cut (codes "\n") _ p.0 (prints_then _ locked c.in_err-place.ensures))
+    rw p.1 (prints_cut (codes "\n") _ p.0 (prints_then _ locked c.in_err-path.ensures))
 
 pub returns : goal.returns
 returns g c =
@@ -61,4 +62,4 @@ returns g c =
     let is_word = c.as_bytes-2.ensures.value ∙ c.mode_word.ensures ∙ ap mode_word c.mode.ensures in
     let head = prints_as c.in_ok-pieces.ensures _ (line-head c.from.ensures is_kind is_word) in
     let locked = prints_then (Ok tt) (prints_then (Ok tt) head c.in_ok-locks.ensures) c.in_ok-bytes.ensures in
-    prints_then c.bytes-2.result (prints_then (Ok tt) locked c.in_ok-place.ensures) c.bytes-2.ensures
+    prints_then c.bytes-2.result (prints_then (Ok tt) locked c.in_ok-path.ensures) c.bytes-2.ensures

@@ -1,0 +1,19 @@
+-- Where the visible names stand, as a map from their texts.
+use Rattle.std.specs.Prelude.{◌≡◌, ℕ, ◌<◌, List, length, Option, Some, None}
+use Rattle.std.specs.BTreeMap.{BTreeMap, get_by_text}
+use Rattle.std.specs.declared.alloc.Global.{Global}
+use Rattle.std.specs.declared.string.String.{String}
+use Rattle.iso_model.specs.Names.{place_of}
+use Rattle.iso_model.specs.declared.names.Binding.{Binding}
+
+abbrev pub Places : Type 0
+Places = BTreeMap (String Global) ℕ
+
+-- at each visible name, the map has the place where it stands first; at any other it may have anything
+abbrev pub Tells : Places → List Binding → Type 0
+Tells places names = (x : List ℕ) → place_of names x < length names → get_by_text places x ≡ Some (place_of names x)
+
+-- the same, if there is a map
+abbrev pub TellsWhereMade : Option Places → List Binding → Type 0
+TellsWhereMade None names = Unit {0}
+TellsWhereMade (Some places) names = Tells places names

@@ -1,0 +1,81 @@
+-- Nodes that get their effective marks one after another.
+use Rattle.std.proofs.Common.{◌≡◌, ℕ, zero, suc, ◌+◌, ◌<◌, ◌≤◌, List, [], ◌∷◌, ◌++◌, length, map, filter, set, get_or, Bool, true, false, cond, nat_lt, ◌==◌, refl, sym, ap, ◌∙◌, arith, append-nil}
+use Rattle.std.proofs.lemmas.Bool.Decides.{nat_tests}
+use Rattle.std.proofs.lemmas.List.{get_or-map, get_or-set_same, get_or-set_other, get_or_default, length-map, length-set, same_lists}
+use Rattle.iso_model.specs.Targets.{effective, for_itself, is_target, marks_for}
+use Rattle.iso_model.specs.declared.heads.Mark.{Mark}
+use Rattle.iso_model.specs.declared.heads.Target.{Target}
+use Rattle.iso_plan.proofs.PathLemmas.{eq_from, eq_same}
+use Rattle.iso_plan.specs.Paths.{StandEarlier, parent, row_at}
+use Rattle.iso_plan.specs.Tree.{Kind, Row, root_row, effective_row, with_marks}
+
+-- of one list of marks after another
+pub marks_for-next : (t : Target) (m : Mark) (ms : List Mark) → marks_for t (m ∷ ms) ≡ marks_for t (m ∷ []) ++ marks_for t ms
+marks_for-next t m ms =
+    elim (is_target t m.target) as (λ (b : Bool). let some = filter (λ n. is_target t n.target) ms in map for_itself (cond b (m ∷ some) some) ≡ map for_itself (cond b (m ∷ []) []) ++ map for_itself some) [ true ↦ refl | false ↦ refl ]
+
+-- the first n of these nodes have their effective marks, and the others those that are written on them
+pub record IsPartly (old new : List Row) (n : ℕ) : Type 0 where
+  pub count : length new ≡ length old
+  pub done : (m : ℕ) → m < n → m < length old → row_at new m ≡ effective_row old (row_at old m)
+  pub rest : (m : ℕ) → n ≤ m → row_at new m ≡ row_at old m
+
+pub none-effective : (rows : List Row) → IsPartly rows rows 0
+none-effective rows = record { count = refl; done = λ m less within. absurd (omega arith); rest = λ m h. refl }
+
+-- no written mark is changed
+pub written-kept : (old new : List Row) (n m : ℕ) → IsPartly old new n → m < length old → (row_at new m).written ≡ (row_at old m).written
+written-kept old new n m p within =
+    elim (nat_lt m n) as (λ t. (nat_lt m n) ≡ t → (row_at new m).written ≡ (row_at old m).written) [
+      | true ↦ λ e. let less : m < n = grind (arith, nat_tests) in ap (λ (r : Row). r.written) (p.done m less within)
+      | false ↦ λ e. let past : n ≤ m = grind (arith, nat_tests) in ap (λ (r : Row). r.written) (p.rest m past)
+    ] refl
+
+parent-within : (rows : List Row) (n : ℕ) → StandEarlier rows → n < length rows → parent rows n < length rows
+parent-within rows zero s less = let first = s.first in omega arith
+parent-within rows (suc n) s less = let below = s.below (suc n) (omega arith) in omega arith
+
+-- a node whose class is there has it there still
+pub parent-there : (old new : List Row) (n : ℕ) → IsPartly old new n → StandEarlier old → n < length old → parent new n < length new
+parent-there old new n p s less =
+    let same : parent new n ≡ parent old n = ap (λ (r : Row). r.parent) (p.rest n (omega arith)) in
+    let within = parent-within old n s less in
+    let count = p.count in
+    omega arith
+
+same-number : (m n : ℕ) → (m == n) ≡ true → m ≡ n
+same-number m n e = eq_from m n e
+
+-- a node more
+pub next-effective : (old new : List Row) (n : ℕ) (k : Kind) (r : Row) → IsPartly old new n → StandEarlier old → n < length old → r ≡ row_at new n
+    → k ≡ with_marks (effective (row_at new r.parent).written r.written) r.kind → IsPartly old (set new n (record r { kind = k })) (n + 1)
+next-effective old new n k r p s less is kind =
+    let here : r ≡ row_at old n = is ∙ p.rest n (omega arith) in
+    let class : (row_at new r.parent).written ≡ (row_at old (parent old n)).written =
+    ap (λ (q : Row). (row_at new q.parent).written) here ∙ written-kept old new n (parent old n) p (parent-within old n s less) in
+    let made : k ≡ with_marks (effective (row_at old (parent old n)).written (row_at old n).written) (row_at old n).kind =
+    kind ∙ (λ i. with_marks (effective (class i) (here i).written) (here i).kind) in
+    let value : record r { kind = k } ≡ effective_row old (row_at old n) = λ i. record (here i) { kind = made i } in
+    let count = p.count in
+    record {
+      count = length-set new n (record r { kind = k }) ∙ p.count;
+      done = λ m before within.
+          elim (m == n) as (λ t. (m == n) ≡ t → row_at (set new n (record r { kind = k })) m ≡ effective_row old (row_at old m)) [
+            | true ↦ λ e.
+                let same = same-number m n e in
+                ap (row_at (set new n (record r { kind = k }))) same ∙ get_or-set_same new n (record r { kind = k }) root_row (omega arith) ∙ value ∙ ap (λ (j : ℕ). effective_row old (row_at old j)) (sym same)
+            | false ↦ λ e.
+                get_or-set_other new n m (record r { kind = k }) root_row (λ same. let yes : (m == n) ≡ true = ap (λ j. m == j) (sym same) ∙ eq_same m in absurd (cc))
+                ∙ p.done m (grind (arith, nat_tests)) within
+          ] refl;
+      rest = λ m past. get_or-set_other new n m (record r { kind = k }) root_row (λ same. absurd (omega arith)) ∙ p.rest m (omega arith);
+    }
+
+-- all nodes
+pub all-effective : (old new : List Row) (n : ℕ) → IsPartly old new n → length old ≤ n → new ≡ map (effective_row old) old
+all-effective old new n p last =
+    same_lists new (map (effective_row old) old) (p.count ∙ sym (length-map old (effective_row old)))
+    (λ m d within.
+    let count = p.count in
+    let less : m < length old = omega arith in
+    get_or_default new m d root_row within ∙ p.done m (omega arith) less ∙ sym (get_or-map (effective_row old) old m root_row d less))

@@ -1,0 +1,83 @@
+//! The effective marks of nodes (JUnit 5, `ResourceLockTarget`).
+ghost use Rattle.std.specs.Prelude.{◌≡◌, ◌++◌, ◌∷◌, [], IfOk, OnOk, map};
+ghost use Rattle.iso_model.specs.Targets.{effective, marks_for};
+ghost use Rattle.iso_plan.specs.Paths.{StandEarlier};
+ghost use Rattle.iso_plan.specs.RowView.{kind_of, nodes_in};
+ghost use Rattle.iso_plan.specs.Tree.{effective_row, with_marks};
+
+use crate::row::{Kind, Row};
+use iso_model::heads::{ClassHead, Mark, Target, TestHead};
+use std::alloc::{AllocError, Global};
+use std::sync::Arc;
+
+/// Gives each node its effective marks, where the nodes have those that are written on them.
+pub(crate) fn make_effective(alloc: Global, rows: &mut Vec<Row>) -> Result<(), AllocError>
+    requires { StandEarlier (nodes_in rows.old.items) }
+    ensures { OnOk result (nodes_in rows.new.items ≡ map (effective_row (nodes_in rows.old.items)) (nodes_in rows.old.items)) }
+{
+    'nodes: for n in 0..rows.len() {
+        let above = rows[n].parent as usize;
+        let kind = effective_kind(alloc, &rows[n].kind, &rows[above].written, &rows[n].written)?;
+        rows[n].kind = kind;
+    }
+    Ok(())
+}
+
+/// A node of this kind with its effective marks, where these are written on the class that it stands in and on itself.
+fn effective_kind(
+    alloc: Global,
+    kind: &Kind,
+    above: &[Mark],
+    written: &[Mark],
+) -> Result<Kind, AllocError>
+    ensures { IfOk result (λ k. kind_of k ≡ with_marks (effective above.now written.now) (kind_of kind.now)) }
+{
+    match kind {
+        Kind::Root => Ok(Kind::Root),
+        Kind::Class { isolated, head } => {
+            let marks = effective(alloc, above, written)?;
+            let contents = head.contents.clone()?;
+            let head = Arc::new(alloc, ClassHead { marks, contents })?;
+            Ok(Kind::Class {
+                isolated: *isolated,
+                head,
+            })
+        }
+        Kind::Test { head } => {
+            let marks = effective(alloc, above, written)?;
+            let contents = head.contents.clone()?;
+            let head = Arc::new(alloc, TestHead { marks, contents })?;
+            Ok(Kind::Test { head })
+        }
+    }
+}
+
+/// The effective marks of a node, where these are written on the class that it stands in and on itself.
+fn effective(alloc: Global, above: &[Mark], written: &[Mark]) -> Result<Vec<Mark>, AllocError>
+    ensures { IfOk result (λ v. v.items ≡ effective above.now written.now) }
+{
+    let mut marks = Vec::new(alloc);
+    add_marks(&mut marks, written, Target::Itself)?;
+    add_marks(&mut marks, above, Target::Children)?;
+    Ok(marks)
+}
+
+/// Adds those of the written marks that are for a target, as marks of the node for which they are.
+fn add_marks(marks: &mut Vec<Mark>, written: &[Mark], target: Target) -> Result<(), AllocError>
+    ensures { OnOk result (marks.new.items ≡ marks.old.items ++ marks_for target written.now) }
+{
+    'marks: for mark in written {
+        add_mark(marks, mark, target)?;
+    }
+    Ok(())
+}
+
+/// Adds a written mark, if it is for a target, as a mark of the node for which it is.
+fn add_mark(marks: &mut Vec<Mark>, mark: &Mark, target: Target) -> Result<(), AllocError>
+    ensures { OnOk result (marks.new.items ≡ marks.old.items ++ marks_for target (mark.now ∷ [])) }
+{
+    if mark.target.is(target) {
+        marks.push(mark.for_itself()?)?;
+    }
+    Ok(())
+}
