@@ -17,6 +17,7 @@ COMMANDS = {
     "run --serial": ["run", "--serial"],
     "plan": ["plan"],
     "replay": ["replay", "--schedule", "schedule"],
+    "run --only": ["run", "--only"],
 }
 SECONDS = 10
 TRIES = 60
@@ -66,7 +67,8 @@ class Driver:
 
     def words(self, command, files):
         scripts = [name for name in files if name.endswith(".jtap")]
-        return [*COMMANDS[command], "--settings", "settings.toml", "--world", "world.toml", *scripts]
+        only = [files["only"]] if command == "run --only" else []
+        return [*COMMANDS[command], *only, "--settings", "settings.toml", "--world", "world.toml", *scripts]
 
     def run(self, command, files):
         ran = self.call(self.words(command, files))
@@ -95,6 +97,21 @@ class Driver:
             if rng.random() < 0.3:
                 files["schedule"] = tables.mutated_schedule(rng, files["schedule"], 8)
         self.replay(files, plan, serial, rng)
+        if plan.status == 0 and rng.random() < 0.3:
+            self.select(files, plan, serial, rng)
+
+    def select(self, files, plan, serial, rng):
+        """One of the top-level classes alone: its part of the report is that of the whole run."""
+        paths = [line.rsplit(" ", 1)[1] for line in plan.output.split("\n")[1:-1]]
+        classes = [path for path in paths if path.count(".") == 1]
+        if not classes:
+            return
+        place = rng.randrange(len(classes))
+        files["only"] = classes[place]
+        alone = self.run("run --only", files)
+        parts = parts_of(alone.output)
+        if len(parts) != 1 or renumbered(parts[0]) != renumbered(parts_of(serial.output)[place]):
+            self.finding("run --only", "its report isn't its part of the whole one", files)
 
     def replay(self, files, plan, serial, rng):
         """A replay; now and then the schedule's steps are put right, as far as some tries go, so that whole ones come out."""
@@ -115,6 +132,16 @@ class Driver:
             if mended is None:
                 return
             files["schedule"] = mended
+
+
+def parts_of(report):
+    """What a report says of each top-level class."""
+    return re.split(r"^(?=# Subtest: )", report, flags=re.MULTILINE)[1:]
+
+
+def renumbered(part):
+    """The same with a class's point as the first."""
+    return re.sub(r"^(not ok|ok) [0-9]+ - ", r"\1 1 - ", part, flags=re.MULTILINE)
 
 
 def put_right(schedule, line):

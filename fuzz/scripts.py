@@ -49,11 +49,19 @@ def after_semicolon(parts, start):
     return len(parts)
 
 
+def after_text(parts, start):
+    """The place after the text of a mark, or some places on."""
+    for place in range(start, min(start + 5, len(parts))):
+        if parts[place][0] == '"':
+            return place + 1
+    return min(start + 3, len(parts))
+
+
 def with_marks(parts, start):
     """The place at which the marks before `start` begin."""
     place = start
     while place > 0 and (is_blank(parts[place - 1]) or parts[place - 1][0] == '"'
-                         or parts[place - 1] in ("same_thread", "concurrent", "isolated", "read", "write")):
+                         or parts[place - 1] in ("same_thread", "concurrent", "isolated", "read", "write", "children", "disabled")):
         place -= 1
     while place < start and (is_blank(parts[place]) or parts[place][0] == '"'):
         place += 1
@@ -70,8 +78,8 @@ def members(parts):
             found.append(("block", place, after_braces(parts, place)))
         elif part in ("same_thread", "concurrent", "isolated"):
             found.append(("mark", place, place + 1))
-        elif part in ("read", "write"):
-            found.append(("mark", place, min(place + 3, len(parts))))
+        elif part in ("read", "write", "disabled"):
+            found.append(("mark", place, after_text(parts, place)))
         elif part in ("static", "field"):
             found.append(("static", place, after_semicolon(parts, place)))
         elif part in ("if", "repeat"):
@@ -197,6 +205,16 @@ def change_members(rng, script, others):
     return put_in(rng, parts, found)
 
 
+def mark(rng):
+    """A mark of any kind, mostly as the grammar has it."""
+    form = rng.randrange(4)
+    if form == 0:
+        return rng.choice(["same_thread", "concurrent", "isolated"])
+    if form == 1:
+        return "disabled " + rng.choice(ODD_TEXTS[1:2] * 4 + ODD_TEXTS)
+    return rng.choice(["read ", "write "]) + rng.choice(["", "children "]) + rng.choice(KEYS)
+
+
 def put_in(rng, parts, found):
     """A mark before a class or test, a block into a class, or a statement into a body."""
     classes = [member for member in found if member[0] in ("class", "test")]
@@ -204,8 +222,7 @@ def put_in(rng, parts, found):
     form = rng.randrange(5)
     if form == 0 and classes:
         place = rng.choice(classes)[1]
-        mark = rng.choice(["same_thread", "concurrent", "isolated", "read " + rng.choice(KEYS), "write " + rng.choice(KEYS)])
-        return "".join(parts[:place]) + mark + " " + "".join(parts[place:])
+        return "".join(parts[:place]) + mark(rng) + " " + "".join(parts[place:])
     holders = [member for member in found if member[0] == "class"] if form == 1 else bodies
     if not holders:
         return "".join(parts)

@@ -86,7 +86,7 @@ class Reader:
                 self.fail(f"the verdict {verdict}")
             if verdict != "pass":
                 message = self.quoted(self.key(indent, "message"))
-                self.place(self.quoted(self.key(indent, "at")))
+                self.place(self.quoted(self.key(indent, "at")), verdict)
             lines = self.output(indent)
             if self.take(indent) != "...":
                 self.fail("a block that isn't closed")
@@ -111,7 +111,9 @@ class Reader:
             self.fail("no quoted text")
         return re.sub(r'\\(["\\])', r"\1", text[1:-1])
 
-    def place(self, text):
+    def place(self, text, verdict):
+        if text == "disabled" and verdict == "skipped":
+            return
         if not re.fullmatch(r"test row [1-9][0-9]*|class [1-8] (before_all|after_all|before_each|after_each) row [1-9][0-9]*", text):
             self.fail("no place")
 
@@ -200,7 +202,8 @@ WRONG_CHANGES = [
     ("SKIP no \\#", "SKIP no #"), ("- u", "- u#"), ("- u", "- u\\n"), ("- u", "- u # SKIP x"), ("- u", "-"), ("- u", "- u "),
     ("      ---\n      verdict: skipped", "    ---\n    verdict: skipped"), ("verdict: fail", "verdict: pass"),
     ("verdict: fail", "verdict: bad"), ("verdict: skipped", "verdict: fail"), ('"a \\"b\\""', '"a "b""'), ('"a \\"b\\""', "a"),
-    ('    at: "test row 1"\n', ""), ("class 1 after_each", "class 9 after_each"), ("row 2", "row 0"), ('        - "x"\n', ""),
+    ('    at: "test row 1"\n', ""), ("class 1 after_each", "class 9 after_each"), ("row 2", "row 0"), ("class 1 after_each row 2", "disabled"),
+    ('        - "x"\n', ""),
     ('- "x"', "- x"), ('- "x"', '- "\x1b"'), ("output: []", "output:"), ("      ...\n    not", "    not"), ("ok 2 - a.C\n", "ok 2 - a.C"),
     ("ok 2 - a.C\n", "ok 2 - a.C\n\n"), ("ok 2 - a.C\n", "ok 2 - a.C\nok 3 - x\n"), ("ok 2 - a.C\n", ""), ('message: "no #"', 'message: "yes"'),
 ]
