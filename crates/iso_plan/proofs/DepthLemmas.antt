@@ -1,6 +1,6 @@
 -- How deep a tree is: as deep as its longest class chain, so that no path of a class is longer.
 use Prim.Native.Nat.max as M
-use Rattle.std.proofs.Common.{◌≡◌, ℕ, zero, suc, ◌<◌, ◌≤◌, List, [], ◌∷◌, ◌++◌, length, map, get_or, max, Bool, true, false, ap, ap₂, sym, ◌∙◌, inl, inr, refl, arith}
+use Rattle.std.proofs.Common.{◌≡◌, ℕ, zero, suc, ◌<◌, ◌≤◌, List, [], ◌∷◌, ◌++◌, length, map, get_or, max, true, false, ap, ap₂, sym, ◌∙◌, inl, inr, refl, arith}
 use Rattle.std.proofs.lemmas.Bool.{cases_lt}
 use Rattle.std.proofs.lemmas.List.{get_or_past, length-map, length-reverse, map-append}
 use Rattle.std.proofs.lemmas.List.Recursion.{max_bounds}

@@ -1,12 +1,11 @@
 -- What makes scripts no plan, test by test.
-use Rattle.std.proofs.Common.{◌≡◌, ◌+◌, ◌≤◌, ℕ, List, Option, None, Some, Bool, true, false, cond, nat_lt, length, ap, sym, refl, ◌∙◌}
+use Rattle.std.proofs.Common.{◌≡◌, ◌+◌, ◌≤◌, List, Option, None, Some, Bool, true, false, cond, length, ap, ◌∙◌}
 use Rattle.std.proofs.lemmas.Bool.{le-ltb, lt-ltb}
 use Rattle.std.specs.Option.{option_or}
 use Rattle.iso_model.specs.Scripts.{Script}
 use Rattle.iso_model.specs.declared.limits.TheConstants.{SCRIPTS, NODES, KEYS}
-use Rattle.iso_plan.specs.Faults.{IsCrowded, IsFaultOf, IsFull, full_fault, has_double, keys_fault, nodes_fault, not_selected, plan_fault, scripts_fault, top_names}
+use Rattle.iso_plan.specs.Faults.{IsCrowded, IsFaultOf, IsFull, full_fault, has_double, keys_fault, scripts_fault, top_names}
 use Rattle.iso_plan.specs.KeyTable.{keys}
-use Rattle.iso_plan.specs.Selections.{first_unknown, plan_tree}
 use Rattle.iso_plan.specs.Tree.{Row, tree}
 use Rattle.iso_plan.specs.declared.fault.PlanError.{PlanError}
 use Rattle.iso_plan.specs.declared.fault.PlanError.TheVariants.{Fault, OutOfMemory}

@@ -1,7 +1,7 @@
 -- Who is in the way of a node that is no top-level class has gathered the locks of all that stands in it.
-use Rattle.std.proofs.Common.{◌≡◌, ◌⊎◌, ℕ, List, [], ◌∷◌, Option, Some, None, Bool, true, false, ◌||◌, ⊎_elim, refl, sym, ap, ◌∙◌}
+use Rattle.std.proofs.Common.{◌≡◌, ℕ, List, [], ◌∷◌, Option, Some, None, Bool, true, false, ◌||◌, ⊎_elim, refl, sym, ap, ◌∙◌}
 use Rattle.std.specs.List.{list_any}
-use Rattle.iso_model.specs.Rights.{is_readable, is_writable}
+use Rattle.iso_model.specs.Rights.{is_readable}
 use Rattle.iso_model.specs.declared.access.Access.{Access}
 use Rattle.iso_plan.proofs.LawLemmas.{both_lock, excluded, gathers_global, takes-by, top_alone}
 use Rattle.iso_plan.proofs.PathLemmas.{IsBelow}

@@ -1,5 +1,5 @@
 -- Which nodes are chosen and kept, node by node.
-use Rattle.std.proofs.Common.{◌≡◌, ℕ, zero, suc, ◌+◌, ◌<◌, List, Option, Some, [], ◌∷◌, ◌++◌, Bor, drop, map, filter, length, get_or, set, replicate, Bool, true, false, not, ◌||◌, ◌&&◌, ◌==◌, nat_lt, cond, refl, sym, ap, ap₂, ◌∙◌, arith, add-one, append-nil}
+use Rattle.std.proofs.Common.{◌≡◌, ℕ, zero, suc, ◌+◌, ◌<◌, List, Some, [], ◌∷◌, Bor, drop, filter, length, get_or, set, replicate, Bool, true, false, not, ◌||◌, ◌&&◌, ◌==◌, cond, refl, sym, ap, ◌∙◌, arith, add-one}
 use Rattle.std.proofs.lemmas.Bool.Decides.{nat_tests}
 use Rattle.std.proofs.lemmas.List.{drop_more, get_or-map, get_or-set_same, get_or-set_other, length-map}
 use Rattle.std.proofs.lemmas.List.Elements.{filter-append}

@@ -1,5 +1,5 @@
 -- Paths as texts, by way of the node that each node stands in.
-use Rattle.std.proofs.Common.{◌≡◌, ℕ, zero, suc, ◌+◌, ◌-◌, ◌<◌, ◌≤◌, Option, Some, List, [], ◌∷◌, ◌++◌, length, reverse, codes, Bool, true, false, ◌≢◌, ◌==◌, cond, refl, sym, ap, ◌∙◌, arith, append_assoc, append-nil, bytes_eq}
+use Rattle.std.proofs.Common.{◌≡◌, ℕ, zero, suc, ◌+◌, ◌-◌, ◌<◌, Some, List, [], ◌∷◌, ◌++◌, length, reverse, codes, Bool, true, false, ◌≢◌, ◌==◌, cond, refl, sym, ap, ◌∙◌, arith, append_assoc, append-nil, bytes_eq}
 use Rattle.std.proofs.lemmas.Bool.Decides.{nat_tests}
 use Rattle.std.proofs.lemmas.Grind.{flat_map-append}
 use Rattle.std.proofs.lemmas.List.{append_cancel_right, length-reverse, reverse-append}

@@ -1,16 +1,16 @@
 -- The tree of the nodes that are kept of a tree, where what a kept node stands in is kept.
-use Rattle.std.proofs.Common.{◌≡◌, ℕ, zero, suc, ◌+◌, ◌<◌, ◌≤◌, List, [], ◌∷◌, ◌++◌, codes, filter, length, map, get_or, Option, Bool, true, false, ◌||◌, nat_lt, ◌==◌, cond, refl, sym, ap, ap₂, ◌∙◌, subst, arith}
+use Rattle.std.proofs.Common.{◌≡◌, ℕ, zero, suc, ◌<◌, ◌≤◌, List, [], ◌∷◌, ◌++◌, codes, filter, length, map, get_or, Bool, true, false, ◌||◌, nat_lt, ◌==◌, cond, refl, sym, ap, ap₂, ◌∙◌, subst, arith}
 use Rattle.std.proofs.lemmas.Bool.Decides.{nat_tests}
 use Rattle.std.proofs.lemmas.List.{get_or-map, get_or_past, length-map}
 use Rattle.std.specs.List.{list_any, range_with_len}
-use Rattle.iso_model.specs.Chains.{ClassHead, TestHead}
+use Rattle.iso_model.specs.Chains.{ClassHead}
 use Rattle.iso_model.specs.Targets.{effective}
-use Rattle.iso_plan.proofs.NumberLemmas.{IsAmong, map-agree, number-all, number-less, those-agree, those-are, those-at}
-use Rattle.iso_plan.proofs.PathLemmas.{IsBelow, along, chain-step, eq_from, not-root, path-root, path-step, under-self, under-step}
+use Rattle.iso_plan.proofs.NumberLemmas.{map-agree, number-all, number-less, those-agree, those-are, those-at}
+use Rattle.iso_plan.proofs.PathLemmas.{IsBelow, along, chain-step, eq_from, not-root, path-root, under-self, under-step}
 use Rattle.iso_plan.proofs.PathTextLemmas.{path_text-root, path_text-step, text_in}
 use Rattle.iso_plan.specs.KeyTable.{kind_marks}
-use Rattle.iso_plan.specs.NodeChains.{chain_classes, chain_test, class_heads, node_rights, own_test, rights_with}
-use Rattle.iso_plan.specs.Paths.{IsTree, is_class_or_test, is_root, is_test, is_under, nodes_under, parent, row_at}
+use Rattle.iso_plan.specs.NodeChains.{chain_classes, class_heads, own_test, rights_with}
+use Rattle.iso_plan.specs.Paths.{IsTree, is_class_or_test, is_test, is_under, nodes_under, parent, row_at}
 use Rattle.iso_plan.specs.PathTexts.{path_text}
 use Rattle.iso_plan.specs.SameNodes.{IsSameNode}
 use Rattle.iso_plan.specs.Selections.{is_chosen, is_kept, is_kept_by, number_among, renumbered, selection, those_below, those_of}

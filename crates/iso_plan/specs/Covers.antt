@@ -1,5 +1,5 @@
 -- That the rights of a node are covered by locks.
-use Rattle.std.specs.Prelude.{◌≡◌, ℕ, List, Option, Some, true}
+use Rattle.std.specs.Prelude.{◌≡◌, ℕ, List, Some, true}
 use Rattle.iso_model.specs.Rights.{is_readable, is_writable}
 use Rattle.iso_plan.specs.Locks.{locking_node, taken}
 use Rattle.iso_plan.specs.NodeChains.{node_rights}

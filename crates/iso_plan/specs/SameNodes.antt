@@ -1,10 +1,8 @@
 -- A node of one tree as a node of another.
 use Rattle.std.specs.Prelude.{◌≡◌, ℕ, ◌<◌, List, true, length}
 use Rattle.iso_plan.specs.NodeChains.{chain_classes, chain_test, node_rights}
-use Rattle.iso_plan.specs.Paths.{row_at}
 use Rattle.iso_plan.specs.PathTexts.{path_text}
 use Rattle.iso_plan.specs.Planned.{Planned}
-use Rattle.iso_plan.specs.RowView.{tree_of}
 use Rattle.iso_plan.specs.Selections.{is_kept, number_among}
 use Rattle.iso_plan.specs.Tree.{Row}
 

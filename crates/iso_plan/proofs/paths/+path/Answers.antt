@@ -1,4 +1,4 @@
-use Rattle.std.proofs.Common.{◌≡◌, ◌≢◌, ◌<◌, ◌++◌, ◌==◌, [], ℕ, List, None, Some, Bool, true, false, bytes_eq, codes, cond, get_or, length, map, ap, ap₂, refl, sym, ◌∙◌, arith}
+use Rattle.std.proofs.Common.{◌≡◌, ◌≢◌, ◌<◌, ◌++◌, ◌==◌, [], ℕ, List, None, Some, Bool, false, bytes_eq, codes, cond, get_or, length, map, ap, ap₂, refl, sym, ◌∙◌, arith}
 use Rattle.std.proofs.lemmas.Bool.Decides.{Decides-eqb, nat_tests}
 use Rattle.std.proofs.lemmas.Slice.Eq.{strip_suffix_is}
 use Rattle.iso_plan.proofs.ColumnLemmas.{parent-at, row-at}

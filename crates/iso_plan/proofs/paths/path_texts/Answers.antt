@@ -1,8 +1,8 @@
-use Rattle.std.proofs.Common.{◌≡◌, ◌<◌, ◌+◌, ◌∷◌, [], ◌++◌, ◌==◌, ℕ, List, codes, cond, get_or, length, map, ap, ap₂, sym, ◌∙◌, arith}
+use Rattle.std.proofs.Common.{◌≡◌, ◌<◌, ◌∷◌, [], ◌++◌, ℕ, List, get_or, length, map, ap, ap₂, sym, ◌∙◌, arith}
 use Rattle.std.proofs.lemmas.List.{length-map}
 use Rattle.iso_plan.proofs.ColumnLemmas.{column-read, column-push, length-column, parent-at, row-at}
 use Rattle.iso_plan.proofs.PathTextLemmas.{path_text-root, path_text-step, text_in}
-use Rattle.iso_plan.specs.Paths.{column, parent, row_at}
+use Rattle.iso_plan.specs.Paths.{column, parent}
 use Rattle.iso_plan.specs.PathTexts.{path_text}
 use Rattle.iso_plan.specs.RowView.{row_of}
 use Rattle.iso_plan.specs.Tree as T

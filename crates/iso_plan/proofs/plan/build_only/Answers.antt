@@ -1,14 +1,11 @@
-use Rattle.std.proofs.Common.{◌≡◌, List, IfOk, Ok, Err, map, ap, sym, subst, ◌∙◌}
-use Rattle.std.proofs.lemmas.Result.{err_from_is_err_and}
+use Rattle.std.proofs.Common.{◌≡◌, List, IfOk, Ok, Err, map, sym, subst, ◌∙◌}
 use Rattle.iso_model.specs.ScriptView.{script_of}
-use Rattle.iso_plan.proofs.FaultLemmas.{later, none-of, sooner}
 use Rattle.iso_plan.proofs.SelectionLemmas.{selection-is-tree, selection-same}
 use Rattle.iso_plan.proofs.TreeLemmas.{tree-is}
-use Rattle.iso_plan.specs.Faults.{IsFaultOf, keys_fault, nodes_fault, scripts_fault}
 use Rattle.iso_plan.specs.Paths.{IsTree}
 use Rattle.iso_plan.specs.RowView.{row_of, tree_of}
 use Rattle.iso_plan.specs.SameNodes.{IsSameNode, KeepsChains}
-use Rattle.iso_plan.specs.Selections.{is_kept, number_among, plan_tree, texts_of}
+use Rattle.iso_plan.specs.Selections.{is_kept, number_among, texts_of}
 use Rattle.iso_plan.specs.Tree as T
 use Rattle.iso_plan.specs.Tree.{tree}
 use Rattle.iso_plan.proofs.plan.build_only.Goals as goal

@@ -1,10 +1,8 @@
-use Rattle.std.proofs.Common.{◌≡◌, ◌<◌, ◌+◌, ◌∷◌, ℕ, List, Option, Some, Bool, true, false, not, drop, get_or, length, map, cond, ap, sym, ◌∙◌, arith}
-use Rattle.std.specs.List.{position_from}
-use Rattle.iso_model.specs.NameSets.{is_among}
+use Rattle.std.proofs.Common.{map, ap, sym, ◌∙◌, arith}
 use Rattle.iso_plan.proofs.KeptLemmas.{unknown-here, unknown-later}
 use Rattle.iso_plan.specs.Faults.{not_selected}
 use Rattle.iso_plan.specs.RowView.{row_of}
-use Rattle.iso_plan.specs.Selections.{first_unknown, node_paths, texts_of}
+use Rattle.iso_plan.specs.Selections.{node_paths}
 use Rattle.iso_plan.proofs.selection.check_known.Goals as goal
 
 pub returns-then-not-contains-clause-err : goal.returns-then-not-contains-clause-err

@@ -1,4 +1,4 @@
-use Rattle.std.proofs.Common.{rules, ◌≡◌, ◌<◌, ◌+◌, ◌||◌, ℕ, List, Vec, Global, Bool, true, false, filter, get_or, length, map, ap, sym, ◌∙◌, arith}
+use Rattle.std.proofs.Common.{rules, ◌≡◌, ◌<◌, ◌||◌, ℕ, Vec, Global, Bool, true, false, filter, get_or, length, map, ap, sym, ◌∙◌, arith}
 use Rattle.std.proofs.lemmas.List.{get_or_default, length-map, length-set}
 use Rattle.std.specs.List.{list_any, range_with_len}
 use Rattle.iso_plan.proofs.ColumnLemmas.{column-from, column-read}

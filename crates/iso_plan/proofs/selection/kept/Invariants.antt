@@ -1,4 +1,4 @@
-use Rattle.std.proofs.Common.{◌≡◌, ◌<◌, ◌||◌, ℕ, List, false, filter, get_or, length, map}
+use Rattle.std.proofs.Common.{◌≡◌, ◌||◌, ℕ, List, false, filter, get_or, length, map}
 use Rattle.std.specs.List.{list_any, range_with_len}
 use Rattle.iso_plan.specs.Paths.{column, is_root, is_under}
 use Rattle.iso_plan.specs.RowView.{row_of}

@@ -1,4 +1,4 @@
-use Rattle.std.proofs.Common.{◌≡◌, ◌<◌, ◌==◌, ℕ, List, Bor, Bool, false, get_or, length, map, ap, sym, ◌∙◌, arith}
+use Rattle.std.proofs.Common.{◌≡◌, ◌==◌, ℕ, List, Bor, false, get_or, length, map, ap, sym, ◌∙◌, arith}
 use Rattle.iso_plan.proofs.ColumnLemmas.{column-read, length-column}
 use Rattle.iso_plan.proofs.SelectionLemmas.{selection-by, those_of-agree}
 use Rattle.std.proofs.lemmas.List.{length-map}

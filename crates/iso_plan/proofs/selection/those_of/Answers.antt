@@ -1,11 +1,11 @@
 use Rattle.std.proofs.Common.{◌≡◌, ◌<◌, ◌≤◌, ◌+◌, ◌∷◌, [], ◌++◌, ℕ, zero, suc, List, Vec, Global, vec_len, Bool, true, false, drop, get_or, length, map, refl, ap, ap₂, sym, ◌∙◌, add-one, arith}
-use Rattle.std.proofs.lemmas.List.{append-nil, drop_all, length-map, length_push, map_push}
+use Rattle.std.proofs.lemmas.List.{length-map, length_push, map_push}
 use Rattle.std.specs.Vec.Iter.{into_iter_items}
-use Rattle.iso_plan.proofs.ColumnLemmas.{column-push, column-read, length-column, parent-at, row-at}
+use Rattle.iso_plan.proofs.ColumnLemmas.{column-push, parent-at, row-at}
 use Rattle.iso_plan.proofs.NumberLemmas.{all-taken, left-first, left-rest, left-some, number-small, those-next, those-skip}
 use Rattle.iso_plan.specs.Paths.{IsTree, column, parent, row_at}
 use Rattle.iso_plan.specs.RowView.{row_of}
-use Rattle.iso_plan.specs.Selections.{number_among, renumbered, those_below, those_of}
+use Rattle.iso_plan.specs.Selections.{number_among, renumbered, those_below}
 use Rattle.iso_plan.specs.Tree as T
 use Rattle.iso_plan.specs.declared.row.Row.{Row}
 use Rattle.iso_plan.proofs.selection.those_of.Goals as goal
