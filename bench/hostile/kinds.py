@@ -191,6 +191,21 @@ def statics_of_tests(share):
 
 
 @kind("run", "--serial")
+def statics_of_blocks(share):
+    """Statics of the innermost of eight classes, each of which has blocks around the tests in it."""
+    outer = "".join(f"class C{depth} {{ before_each {{ }} after_each {{ }} " for depth in range(7))
+    inside = "before_each { } after_each { } " + tests(int(4000 * share)) + "}" * 8
+    return one(filled(outer + "class C7 { ", "static s#=1;", inside, int((MEBIBYTE - 7) * share)))
+
+
+@kind("run", "--serial")
+def looked_up_statics_of_tests(share):
+    """Statics of a class, and tests in it, each of which looks up 60 names."""
+    inside = tests(int(4000 * share), "", " repeat 60 { let x=s0; } ") + "}"
+    return one(filled("class C { ", "static s#=1;", inside, int((MEBIBYTE - 7) * share)))
+
+
+@kind("run", "--serial")
 def looked_up_locals(share):
     """5,000 locals in a body, the first of which is named again and again."""
     count = int(4900 * share)
