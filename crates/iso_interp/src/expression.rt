@@ -166,7 +166,7 @@ fn named<'a>(alloc: Global, names: &'a Names, name: &Text) -> Result<Value<'a>, 
     ensures { Answers data_of result (or_fault (option_map (λ (b : Binding). b.value) (binding_of names.now.names name.now)) (Faults.UnknownName name.now)) }
 {
     match names.get(name.as_str()) {
-        Some(binding) => Ok(Value::lent(&binding.value)),
+        Some(binding) => Ok(Value::lent(binding.value)),
         None => Err(Interrupt::Fault(Fault::UnknownName(name.copy(alloc)?))),
     }
 }
@@ -207,10 +207,34 @@ fn call_on_text<'a, T: Touch>(
     match function {
         Function::Text => Ok(Value::Text(TextValue::Made(Text::copied(alloc, text)?))),
         Function::Len => Ok(Value::Whole(length(alloc, text)?)),
-        Function::Prop => property(alloc, rights, touch, text),
-        Function::HasProp => has_property(alloc, rights, touch, text),
-        Function::File => file(alloc, rights, touch, text),
-        Function::HasFile => has_file(alloc, rights, touch, text),
+        Function::Prop => match looked(
+            alloc,
+            rights,
+            touch,
+            ResourceKey::Properties,
+            Ask::Prop(text),
+        )? {
+            Some(found) => Ok(Value::Text(TextValue::Lent(found))),
+            None => Err(Interrupt::Fault(Fault::MissingProperty(Text::copied(alloc, text)?))),
+        },
+        Function::HasProp => {
+            let found = looked(
+                alloc,
+                rights,
+                touch,
+                ResourceKey::Properties,
+                Ask::Prop(text),
+            )?;
+            Ok(Value::Flag(found.is_some()))
+        },
+        Function::File => match looked(alloc, rights, touch, ResourceKey::File(text), Ask::File)? {
+            Some(found) => Ok(Value::Text(TextValue::Lent(found))),
+            None => Err(Interrupt::Fault(Fault::MissingFile(Text::copied(alloc, text)?))),
+        },
+        Function::HasFile => {
+            let found = looked(alloc, rights, touch, ResourceKey::File(text), Ask::File)?;
+            Ok(Value::Flag(found.is_some()))
+        },
     }
 }
 
@@ -231,68 +255,6 @@ fn looked<'a, T: Touch>(
         return Ok(touch.look(key, ask));
     }
     Err(Interrupt::Fault(Fault::Undeclared(Access::Read, key.key(alloc)?)))
-}
-
-/// The text of a property.
-fn property<'a, T: Touch>(
-    alloc: Global,
-    rights: &Rights,
-    touch: &'a T,
-    name: &str,
-) -> Result<Value<'a>, Interrupt>
-    requires { HasKeys (access_in rights.now) (T.content touch.now) (T.writes touch.now) }
-    ensures { Answers data_of result (called (T.content touch.now) (access_in rights.now) Functions.Prop (Kinds.Text name.now)) }
-{
-    let key = ResourceKey::Properties;
-    match looked(alloc, rights, touch, key, Ask::Prop(name))? {
-        Some(text) => Ok(Value::Text(TextValue::Lent(text))),
-        None => Err(Interrupt::Fault(Fault::MissingProperty(Text::copied(alloc, name)?))),
-    }
-}
-
-/// Whether a property is there.
-fn has_property<'a, T: Touch>(
-    alloc: Global,
-    rights: &Rights,
-    touch: &'a T,
-    name: &str,
-) -> Result<Value<'a>, Interrupt>
-    requires { HasKeys (access_in rights.now) (T.content touch.now) (T.writes touch.now) }
-    ensures { Answers data_of result (called (T.content touch.now) (access_in rights.now) Functions.HasProp (Kinds.Text name.now)) }
-{
-    let key = ResourceKey::Properties;
-    let found = looked(alloc, rights, touch, key, Ask::Prop(name))?;
-    Ok(Value::Flag(found.is_some()))
-}
-
-/// The text of the file at a path.
-fn file<'a, T: Touch>(
-    alloc: Global,
-    rights: &Rights,
-    touch: &'a T,
-    path: &str,
-) -> Result<Value<'a>, Interrupt>
-    requires { HasKeys (access_in rights.now) (T.content touch.now) (T.writes touch.now) }
-    ensures { Answers data_of result (called (T.content touch.now) (access_in rights.now) Functions.File (Kinds.Text path.now)) }
-{
-    match looked(alloc, rights, touch, ResourceKey::File(path), Ask::File)? {
-        Some(text) => Ok(Value::Text(TextValue::Lent(text))),
-        None => Err(Interrupt::Fault(Fault::MissingFile(Text::copied(alloc, path)?))),
-    }
-}
-
-/// Whether the file at a path is there.
-fn has_file<'a, T: Touch>(
-    alloc: Global,
-    rights: &Rights,
-    touch: &'a T,
-    path: &str,
-) -> Result<Value<'a>, Interrupt>
-    requires { HasKeys (access_in rights.now) (T.content touch.now) (T.writes touch.now) }
-    ensures { Answers data_of result (called (T.content touch.now) (access_in rights.now) Functions.HasFile (Kinds.Text path.now)) }
-{
-    let found = looked(alloc, rights, touch, ResourceKey::File(path), Ask::File)?;
-    Ok(Value::Flag(found.is_some()))
 }
 
 /// The locale.

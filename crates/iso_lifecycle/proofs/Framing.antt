@@ -1,18 +1,22 @@
 -- The frames that a body begins with are those that the opening of its classes left.
-use Rattle.std.proofs.Common.{◌≡◌, ℕ, zero, suc, ◌<◌, ◌≤◌, List, [], ◌∷◌, ◌++◌, length, map, reverse, Bool, true, false, cond, refl, sym, ap, ◌∙◌, arith, subst, true≢false}
+use Rattle.std.proofs.Common.{◌≡◌, ℕ, zero, suc, ◌<◌, ◌≤◌, List, [], ◌∷◌, ◌++◌, length, map, reverse, Bool, true, false, cond, refl, sym, ap, ap₂, append_assoc, append-nil, ◌∙◌, arith, subst, true≢false}
 use Rattle.std.proofs.lemmas.List.{length-map, length-reverse, map-append, reverse-append, reverse-reverse}
 use Rattle.std.proofs.lemmas.List.Elements.{recursion_from_All}
 use Rattle.std.specs.List.{All, AllByRecursion}
 use Rattle.iso_model.specs.Chains.{ClassHead}
+use Rattle.iso_model.specs.Names.{at_literals}
 use Rattle.iso_model.specs.Openings.{Frame, before_all, opened, opening}
 use Rattle.iso_model.specs.Resources.{Resources}
+use Rattle.iso_model.specs.Tests.{test_names}
+use Rattle.iso_model.specs.declared.names.Binding.{Binding}
+use Rattle.iso_model.specs.declared.names.Sort.TheVariants.{Field}
 use Rattle.iso_plan.specs.NodeChains.{chain_classes, class_heads, heads_on}
 use Rattle.iso_plan.specs.Paths.{parent, path, row_at, up}
 use Rattle.iso_plan.specs.Planned.{Planned}
 use Rattle.iso_plan.specs.RowView.{tree_of}
 use Rattle.iso_plan.specs.Tree.{Kind, root, class_node, test_node, Row}
 use Rattle.iso_settings.specs.Worlds.{Start}
-use Rattle.iso_lifecycle.specs.Subjects.{IsOfClass, Subject, classes_of, enclosing, framed, frames_of, is_kind_of, opened_before, opening_of, own_frame, started, subject}
+use Rattle.iso_lifecycle.specs.Subjects.{IsOfClass, Subject, classes_of, enclosing, first_fields, framed, frames_of, is_kind_of, names_seen, opened_before, opening_of, own_fields, own_frame, started, subject}
 use Rattle.iso_lifecycle.specs.declared.kind.BodyKind.{BodyKind}
 use Rattle.iso_lifecycle.specs.declared.kind.BodyKind.TheVariants.{BeforeAll, Test, AfterAll}
 use Rattle.iso_lifecycle.proofs.Comings.{InClass, closes-class, frames-are, in-class, in-test, node_kind}
@@ -135,6 +139,45 @@ frames-before Test s frames l pos fits are all well =
     frames-along s.plan s.start (parent (tree_of s.plan) s.node) frames l are all well
     ∙ ap (λ (ds : List ClassHead). (opening ds (started s.start)).frames) (sym (in-test s (l.grows s.node pos) fits).chain)
 frames-before AfterAll s frames l pos fits are all well = frames-with-own s frames l pos (closes-class (node_kind s) fits) are all well
+
+seen-both : (xs ys : List Subject) → names_seen (xs ++ ys) ≡ names_seen xs ++ names_seen ys
+seen-both [] ys = refl
+seen-both (x ∷ xs) ys =
+    ap (λ ns. ((own_frame x).statics ++ own_fields x) ++ ns) (seen-both xs ys)
+    ∙ sym (append_assoc ((own_frame x).statics ++ own_fields x) (names_seen xs) (names_seen ys))
+
+-- the names that a test begins with in the classes on a path
+seen-along : (p : Planned) (start : Start) → Leads (tree_of p) → (n : ℕ) (ns : List ℕ) → path (tree_of p) n ≡ ns → AreClasses p start ns
+    → names_seen (map (subject p start) (reverse ns)) ≡ test_names (classes_of (subject p start n)) (map own_frame (map (subject p start) ns))
+seen-along p start l n [] e classes = ap (λ (ks : List ℕ). test_names (heads_on (tree_of p) ks) []) (sym e)
+seen-along p start l n (k ∷ ks) e classes =
+    let tree = tree_of p in
+    let f = subject p start in
+    let s = f n in
+    let pos = some-path tree l n k ks e in
+    let both : n ∷ path tree (parent tree n) ≡ k ∷ ks = sym (l.step n pos) ∙ e in
+    let same : n ≡ k = ap (first 0) both in
+    let up : path tree (parent tree n) ≡ ks = ap rest both in
+    let class : IsOfClass s = subst (λ (j : ℕ). IsOfClass (f j)) (sym same) classes.0 in
+    let w = in-class s (l.grows n pos) class in
+    let outer = map own_frame (map f ks) in
+    let fields : own_fields (f k) ≡ at_literals Field w.head.fields = ap (λ (j : ℕ). own_fields (f j)) (sym same) ∙ ap first_fields w.chain in
+    let here = (own_frame (f k)).statics in
+    ap names_seen (ap (map f) (reverse-append (k ∷ []) ks) ∙ map-append f (reverse ks) (k ∷ []))
+    ∙ seen-both (map f (reverse ks)) (f k ∷ [])
+    ∙ ap₂ (λ (xs ys : List Binding). xs ++ ys) (seen-along p start l (parent tree n) ks up classes.1) (append-nil (here ++ own_fields (f k)) ∙ ap (λ ys. here ++ ys) fields)
+    ∙ sym (append_assoc (test_names (classes_of (enclosing s)) outer) here (at_literals Field w.head.fields))
+    ∙ ap (λ (cs : List ClassHead). test_names cs (own_frame (f k) ∷ outer)) (sym w.chain)
+
+-- what a test begins with is what its classes' frames give
+pub names-before : (s : Subject) (frames : List Subject) → Leads (tree_of s.plan) → 0 < s.node → is_kind_of Test (node_kind s) ≡ true
+    → frames ≡ map (subject s.plan s.start) (framed Test s) → All IsOfClass frames → names_seen frames ≡ test_names (classes_of s) (frames_of frames)
+names-before s frames l pos fits are all =
+    let p = s.plan in
+    let up = parent (tree_of p) s.node in
+    let ks = path (tree_of p) up in
+    ap names_seen are ∙ seen-along p s.start l up ks refl (classes_there p s.start ks frames are all)
+    ∙ ap₂ test_names (sym (in-test s (l.grows s.node pos) fits).chain) (sym (turned p s.start ks frames are))
 
 one_head : (k : Kind) (cs : List ClassHead) → is_kind_of BeforeAll k ≡ true → length (class_heads k ++ cs) ≡ suc (length cs)
 one_head root cs fits = absurd (true≢false (sym fits))

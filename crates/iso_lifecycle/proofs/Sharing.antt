@@ -4,9 +4,9 @@ use denote.Param.SendFields.{as_row_send, as_row_sync, declared_send, declared_s
 use denote.Ref.{NamedLft}
 use Rattle.std.proofs.Crossing.{crosses}
 use Rattle.iso_model.proofs.lines.Lines.TheSendSync as lines
-use Rattle.iso_model.proofs.names.Binding.TheSendSync as bindings
 use Rattle.iso_model.proofs.outcome.Ending.TheSendSync as ending
 use Rattle.iso_model.proofs.outcome.Outcome.TheSendSync as outcome
+use Rattle.iso_model.proofs.shared_names.SharedNames.TheSendSync as names
 use Rattle.iso_plan.proofs.Sharing.{plan_shared}
 use Rattle.iso_lifecycle.proofs.done.Closed.TheSendSync as closed
 use Rattle.iso_lifecycle.specs.contracts.done.Done as done
@@ -21,13 +21,13 @@ use Rattle.iso_lifecycle.specs.contracts.frame.Statics.TheInside as statics_insi
 use Rattle.iso_lifecycle.specs.contracts.results.Results as results
 use Rattle.iso_lifecycle.specs.contracts.results.Results.TheInside as results_inside
 
-ruleset static = (bindings.the_send, bindings.the_sync, as_row_send, as_row_sync, crosses, sendable)
+ruleset static = (names.the_send, names.the_sync, as_row_send, as_row_sync, crosses, sendable)
 
 pub statics_sent : IsSend statics.the_row
-statics_sent = search (declared_send statics_inside.the_type (search static, (search static, (search static, (search static, tt)))), sendable)
+statics_sent = search (declared_send statics_inside.the_type (search static, (search static, (search static, (search static, (search static, tt))))), sendable)
 
 pub statics_shared : IsSync statics.the_row
-statics_shared = search (declared_sync statics_inside.the_type (search static, (search static, (search static, (search static, tt)))), sendable)
+statics_shared = search (declared_sync statics_inside.the_type (search static, (search static, (search static, (search static, (search static, tt))))), sendable)
 
 pub frame_sent : IsSend frame.the_row
 frame_sent = search (declared_send frame_inside.the_type (search (statics_sent, statics_shared, crosses, as_row_send), tt), sendable)

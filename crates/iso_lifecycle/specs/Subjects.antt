@@ -1,13 +1,15 @@
 -- What a frame, a body or a done is for: a node of a plan, on starting values; and what the definitions say of it.
-use Rattle.std.specs.Prelude.{◌≡◌, ℕ, List, [], ◌∷◌, map, reverse, Option, Some, None, Bool, true, false, refl}
+use Rattle.std.specs.Prelude.{◌≡◌, ℕ, List, [], ◌∷◌, ◌++◌, map, reverse, Option, Some, None, Bool, true, false, refl}
 use Rattle.std.specs.Coded.{Coded, code_by, coded×, coded_ℕ}
 use Rattle.iso_model.specs.Alone.{class_alone, test_alone}
 use Rattle.iso_model.specs.Bodies.{Going, body_steps, ended, fresh_account, going, closing_stage, opening_stage, test_stage}
 use Rattle.iso_model.specs.Chains.{ClassHead, TestHead}
+use Rattle.iso_model.specs.Names.{at_literals}
 use Rattle.iso_model.specs.Openings.{Frame, Opening, opening}
 use Rattle.iso_model.specs.Resources.{Resources}
 use Rattle.iso_model.specs.Rights.{Rights}
 use Rattle.iso_model.specs.declared.names.Binding.{Binding}
+use Rattle.iso_model.specs.declared.names.Sort.TheVariants.{Field}
 use Rattle.iso_model.specs.declared.outcome.Ending.TheVariants.{Well}
 use Rattle.iso_model.specs.declared.outcome.Outcome.{Outcome}
 use Rattle.iso_model.specs.declared.outcome.Verdict.TheVariants.{Pass}
@@ -62,6 +64,20 @@ first_frame (f ∷ fs) = f
 -- what the `before_all` of a class leaves of it
 abbrev pub own_frame : Subject → Frame
 own_frame s = first_frame (opening_of s).frames
+
+-- the fields of the innermost of some classes, at their literals
+abbrev pub first_fields : List ClassHead → List Binding
+first_fields [] = []
+first_fields (c ∷ cs) = at_literals Field c.fields
+
+-- the fields of a class, with which each test in it begins
+abbrev pub own_fields : Subject → List Binding
+own_fields s = first_fields (classes_of s)
+
+-- the names that a test begins with in classes that are given outermost first: of each its statics, and its fields
+abbrev pub names_seen : List Subject → List Binding
+names_seen [] = []
+names_seen (s ∷ ss) = ((own_frame s).statics ++ own_fields s) ++ names_seen ss
 
 -- the frames of classes that are given outermost first, as they stand in an opening
 abbrev pub frames_of : List Subject → List Frame

@@ -14,8 +14,9 @@ use crate::frame::{Frame, are_of_classes};
 use crate::kind::BodyKind;
 use crate::names::{add_variables, statics_of, test_names};
 use crate::origin::Origin;
+use iso_model::bindings::Bindings;
 use iso_model::heads::ClassContents;
-use iso_model::names::{Binding, Sort};
+use iso_model::names::Sort;
 use iso_model::place::{BlockName, Lifecycle};
 use iso_plan::laws::{chains_grow_down, paths_lead_up};
 use std::alloc::{AllocError, Global};
@@ -68,12 +69,13 @@ impl<'a> Origin<'a> {
         ensures { IfOk result (IsBeginning self.now) }
     {
         self.frames_are_left_before(frames);
+        paths_lead_up(self.plan);
         chains_grow_down(self.plan);
         let chain = self.plan.chain(self.node);
         let Some(test) = chain.test else {
             unreachable!();
         };
-        let names = test_names(alloc, chain.classes, frames)?;
+        let names = test_names(alloc, frames)?;
         let run = BodyRun::of_test(alloc, chain.classes, test, names, self.rights())?;
         self.with_frame(alloc, run, 0)
     }
@@ -93,9 +95,9 @@ impl<'a> Origin<'a> {
     }
 
     /// The statics that the openings before the body left, outermost first.
-    fn statics_before(&self, alloc: Global, frames: &[Frame]) -> Result<Vec<Binding>, AllocError>
+    fn statics_before(&self, alloc: Global, frames: &[Frame]) -> Result<Bindings, AllocError>
         requires { AreFrames self.now frames.now }
-        ensures { IfOk result (λ names. names.items
+        ensures { IfOk result (λ names. names
             ≡ statics_of (opened_before (kind_of_origin self.now) (subject_of_origin self.now)).frames) }
     {
         self.frames_are_left_before(frames);

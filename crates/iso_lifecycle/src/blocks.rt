@@ -8,10 +8,10 @@ ghost use Rattle.iso_lifecycle.specs.JobPlaces.{IsPlaced, head_at, job_at, outsi
 ghost use Rattle.iso_lifecycle.specs.Heads.{heads_in};
 
 use crate::job::Job;
+use iso_model::bindings::Bindings;
 use iso_model::heads::{ClassContents, ClassHead};
-use iso_model::names::Binding;
 use iso_model::tree::Stmt;
-use std::alloc::AllocError;
+use std::alloc::{AllocError, Global};
 use std::mem;
 use std::sync::Arc;
 
@@ -84,11 +84,15 @@ fn sum(count: usize, by: usize, most: usize) -> usize
 }
 
 /// Takes the first so many names, and leaves the others.
-pub(crate) fn part(names: &mut Vec<Binding>, count: usize) -> Result<Vec<Binding>, AllocError>
-    requires { count ≤ length names.old.items }
-    ensures taken { IfOk result (λ taken. taken.items ≡ take count names.old.items) }
-    ensures left { OnOk result (names.new.items ≡ drop count names.old.items) }
+pub(crate) fn part(
+    alloc: Global,
+    names: &mut Bindings,
+    count: usize,
+) -> Result<Bindings, AllocError>
+    requires { count ≤ length names.old }
+    ensures taken { IfOk result (λ taken. taken ≡ take count names.old) }
+    ensures left { OnOk result (names.new ≡ drop count names.old) }
 {
-    let left = names.split_off(count)?;
+    let left = names.split_off(alloc, count)?;
     Ok(mem::replace(names, left))
 }

@@ -12,9 +12,10 @@ ghost use Rattle.iso_lifecycle.specs.Works.{HaveRights, HaveRights-prop};
 use crate::job::Job;
 use crate::work::Rest;
 use iso_interp::run::{BlockRun, Progress};
+use iso_model::bindings::Bindings;
 use iso_model::heads::{ClassContents, ClassHead, TestHead};
 use iso_model::lines::Lines;
-use iso_model::names::{Binding, Names};
+use iso_model::names::Names;
 use iso_model::outcome::{Ending, Note};
 use iso_model::place::{BlockName, Place};
 use iso_model::rights::Rights;
@@ -30,7 +31,7 @@ use std::sync::Arc;
 pub(crate) struct BodyEnd {
     pub endings: Vec<Ending>,
     pub output: Lines,
-    pub names: Vec<Binding>,
+    pub names: Bindings,
 }
 
 /// A run of a body (JUnit 5, test lifecycle), one step at a time. Once out of memory it is only to be dropped.
@@ -50,11 +51,11 @@ impl<'a> BodyRun<'a> {
         alloc: Global,
         classes: &'a [Arc<ClassHead>],
         test: &'a TestHead,
-        names: Vec<Binding>,
+        names: Bindings,
         rights: &'a Rights,
     ) -> Result<BodyRun<'a>, AllocError>
         requires { length classes.now < 2 ^ 32 }
-        ensures stage { IfOk result (λ run. stage_of run ≡ stage_unless (test_head_of test.now).disabled names.items (test_jobs (test_head_of test.now) (innermost_first classes.now))) }
+        ensures stage { IfOk result (λ run. stage_of run ≡ stage_unless (test_head_of test.now).disabled names (test_jobs (test_head_of test.now) (innermost_first classes.now))) }
         ensures rights { IfOk result (λ run. rights_of run ≡ access_in rights.now) }
     {
         match &test.contents.disabled {
@@ -68,10 +69,10 @@ impl<'a> BodyRun<'a> {
         alloc: Global,
         class: &'a ClassContents,
         words: BlockName,
-        names: Vec<Binding>,
+        names: Bindings,
         rights: &'a Rights,
     ) -> Result<BodyRun<'a>, AllocError>
-        ensures stage { IfOk result (λ run. stage_of run ≡ stage_unless class.now.disabled names.items (job words (block_of class.now.before_all.items) (length names.items) false ∷ [])) }
+        ensures stage { IfOk result (λ run. stage_of run ≡ stage_unless class.now.disabled names (job words (block_of class.now.before_all.items) (length names) false ∷ [])) }
         ensures rights { IfOk result (λ run. rights_of run ≡ access_in rights.now) }
     {
         match &class.disabled {
@@ -84,10 +85,10 @@ impl<'a> BodyRun<'a> {
     fn of_disabled(
         alloc: Global,
         reason: &Text,
-        names: Vec<Binding>,
+        names: Bindings,
         rights: &'a Rights,
     ) -> Result<BodyRun<'a>, AllocError>
-        ensures stage { IfOk result (λ run. stage_of run ≡ ended (disabled_account reason.now names.items)) }
+        ensures stage { IfOk result (λ run. stage_of run ≡ ended (disabled_account reason.now names)) }
         ensures rights { IfOk result (λ run. rights_of run ≡ access_in rights.now) }
     {
         let note = Note {
@@ -116,11 +117,11 @@ impl<'a> BodyRun<'a> {
         alloc: Global,
         classes: &'a [Arc<ClassHead>],
         test: &'a TestHead,
-        names: Vec<Binding>,
+        names: Bindings,
         rights: &'a Rights,
     ) -> Result<BodyRun<'a>, AllocError>
         requires { length classes.now < 2 ^ 32 }
-        ensures stage { IfOk result (λ run. stage_of run ≡ stage_from (test_jobs (test_head_of test.now) (innermost_first classes.now)) (fresh_account names.items)) }
+        ensures stage { IfOk result (λ run. stage_of run ≡ stage_from (test_jobs (test_head_of test.now) (innermost_first classes.now)) (fresh_account names)) }
         ensures rights { IfOk result (λ run. rights_of run ≡ access_in rights.now) }
     {
         let mut rest = Rest {
@@ -148,10 +149,10 @@ impl<'a> BodyRun<'a> {
         alloc: Global,
         block: &'a [Stmt],
         words: BlockName,
-        names: Vec<Binding>,
+        names: Bindings,
         rights: &'a Rights,
     ) -> Result<BodyRun<'a>, AllocError>
-        ensures stage { IfOk result (λ run. stage_of run ≡ stage_from (job words (block_of block.now) (length names.items) false ∷ []) (fresh_account names.items)) }
+        ensures stage { IfOk result (λ run. stage_of run ≡ stage_from (job words (block_of block.now) (length names) false ∷ []) (fresh_account names)) }
         ensures rights { IfOk result (λ run. rights_of run ≡ access_in rights.now) }
     {
         let run = BlockRun::new(alloc, block, Names::new(names, 0, words), rights);
@@ -161,7 +162,7 @@ impl<'a> BodyRun<'a> {
             classes: &[],
             test: block,
             next: None,
-            names: Vec::new(alloc),
+            names: Bindings::new(alloc, Vec::new(alloc)),
             printed: 0,
             lines: Lines::new(alloc),
             endings: Vec::new(alloc),
@@ -206,10 +207,10 @@ impl<'a> BodyRun<'a> {
     }
 
     /// Its names, while no block is under way.
-    pub(crate) fn names(&self) -> &[Binding]
+    pub(crate) fn names(&self) -> &Bindings
         ensures { result.now ≡ (account_in_run self.now).names }
     {
-        self.rest.names.as_slice()
+        &self.rest.names
     }
 
     /// Whether nothing is left to do.

@@ -3,7 +3,7 @@ ghost use Rattle.std.specs.Prelude.{◌≡◌, IfOk};
 ghost use Rattle.std.specs.List.{All};
 ghost use Rattle.iso_lifecycle.specs.Subjects.{IsOfClass};
 
-use iso_model::names::Binding;
+use iso_model::shared_names::SharedNames;
 use iso_plan::plan::Plan;
 use iso_settings::world::World;
 use std::alloc::{AllocError, Global};
@@ -11,17 +11,19 @@ use std::marker::Model;
 use std::snapshot::Snapshot;
 use std::sync::Arc;
 
-/// The frozen statics of a class. The start is a snapshot of its body's, since one makes no second snapshot of a world.
+/// The frozen statics of a class, and its fields at their literals. The start is a snapshot of its body's, since one makes no second snapshot of a world.
 #[derive(Drop)]
 pub(crate) struct Statics {
     pub(crate) plan: Snapshot<Plan>,
     pub(crate) start: Snapshot<Snapshot<World>>,
     pub(crate) node: u32,
-    pub(crate) bindings: Vec<Binding>,
+    pub(crate) names: SharedNames,
+    pub(crate) fields: SharedNames,
 }
 
 impl Model for Statics {
-    ghost use Rattle.iso_lifecycle.specs.Subjects.{IsFrame, Subject, subject, subject_code};
+    ghost use Rattle.std.specs.Prelude.{◌≡◌};
+    ghost use Rattle.iso_lifecycle.specs.Subjects.{IsFrame, Subject, own_fields, subject, subject_code};
 
     ghost Value = { Subject };
 
@@ -29,7 +31,7 @@ impl Model for Statics {
 
     ghost view = { λ s. subject s.plan.value s.start.value.value s.node };
 
-    ghost invariant = { λ s. IsFrame (subject s.plan.value s.start.value.value s.node) s.bindings.items };
+    ghost invariant = { λ s. IsFrame (subject s.plan.value s.start.value.value s.node) s.names × (s.fields ≡ own_fields (subject s.plan.value s.start.value.value s.node)) };
 }
 
 /// The statics of a class whose `before_all` has ended, which nothing assigns from then on. All its owners share them.
@@ -52,24 +54,27 @@ impl Model for Frame {
 }
 
 impl Frame {
-    ghost use Rattle.iso_lifecycle.specs.Subjects.{IsFrame, own_frame, subject};
+    ghost use Rattle.iso_lifecycle.specs.Subjects.{IsFrame, own_fields, own_frame, subject};
 
-    /// The frame of a class, with these statics.
+    /// The frame of a class, with these statics and fields.
     pub(crate) fn new(
         alloc: Global,
         plan: &Plan,
         start: &Snapshot<World>,
         node: u32,
-        bindings: Vec<Binding>,
+        names: SharedNames,
+        fields: SharedNames,
     ) -> Result<Frame, AllocError>
-        requires { IsFrame (subject plan.now start.now.value node) bindings.items }
+        requires frame { IsFrame (subject plan.now start.now.value node) names }
+        requires fields { fields ≡ own_fields (subject plan.now start.now.value node) }
         ensures { IfOk result (λ f. f ≡ subject plan.now start.now.value node) }
     {
         let statics = Statics {
             plan: Snapshot::of(plan),
             start: Snapshot::of(start),
             node,
-            bindings,
+            names,
+            fields,
         };
         Ok(Frame {
             statics: Arc::new(alloc, statics)?,
@@ -85,11 +90,19 @@ impl Frame {
     }
 
     /// The statics, as nothing may assign them.
-    pub(crate) fn bindings(&self) -> &[Binding]
+    pub(crate) fn names(&self) -> &SharedNames
         ensures { result.now ≡ (own_frame self.now).statics }
     {
         let statics: &Statics = &self.statics;
-        statics.bindings.as_slice()
+        &statics.names
+    }
+
+    /// The fields at their literals, with which each test in the class begins.
+    pub(crate) fn fields(&self) -> &SharedNames
+        ensures { result.now ≡ own_fields self.now }
+    {
+        let statics: &Statics = &self.statics;
+        &statics.fields
     }
 
     /// A further owner of the same statics. Refused where `Arc` refuses one.

@@ -7,17 +7,18 @@ ghost use Rattle.iso_plan.specs.Paths.{row_at};
 ghost use Rattle.iso_plan.specs.RowView.{tree_of};
 ghost use Rattle.iso_lifecycle.specs.BodyRuns.{stage_of};
 ghost use Rattle.iso_lifecycle.specs.Origins.{HasCome, HasLeft, outer_names};
-ghost use Rattle.iso_lifecycle.specs.Subjects.{IsFrame, IsOfClass, classes_of, enclosing, is_kind_of, opening_of, rights_of_subject, subject};
+ghost use Rattle.iso_lifecycle.specs.Subjects.{IsFrame, IsOfClass, classes_of, enclosing, is_kind_of, opening_of, own_fields, rights_of_subject, subject};
 
 use crate::blocks::head;
 use crate::body_run::BodyRun;
 use crate::done::{Done, What};
 use crate::frame::Frame;
 use crate::kind::BodyKind;
-use crate::names::frozen_past;
+use crate::names::{at_literals, frozen_past};
 use iso_model::heads::ClassHead;
-use iso_model::names::Binding;
+use iso_model::names::Sort;
 use iso_model::rights::Rights;
+use iso_model::shared_names::SharedNames;
 use iso_plan::laws::chains_grow_down;
 use iso_plan::plan::Plan;
 use iso_settings::world::World;
@@ -79,7 +80,8 @@ impl<'a> Origin<'a> {
                     return Ok(None);
                 }
                 let statics = self.statics(alloc, run, outer)?;
-                let frame = Frame::new(alloc, self.plan, &self.start, self.node, statics)?;
+                let fields = self.fields(alloc)?;
+                let frame = Frame::new(alloc, self.plan, &self.start, self.node, statics, fields)?;
                 Ok(Some(frame))
             }
         }
@@ -91,15 +93,27 @@ impl<'a> Origin<'a> {
         alloc: Global,
         run: &BodyRun<'_>,
         outer: usize,
-    ) -> Result<Vec<Binding>, AllocError>
+    ) -> Result<SharedNames, AllocError>
         requires kind { kind_of_origin self.now ≡ BodyKind.BeforeAll }
         requires ended { is_ended (stage_of run.now) ≡ true }
         requires outer { outer ≡ outer_names (kind_of_origin self.now) (subject_of_origin self.now) }
         requires come { HasCome (kind_of_origin self.now) (subject_of_origin self.now) (stage_of run.now) }
-        ensures { IfOk result (λ statics. IsFrame (subject_of_origin self.now) statics.items) }
+        ensures { IfOk result (λ statics. IsFrame (subject_of_origin self.now) statics) }
     {
         chains_grow_down(self.plan);
-        frozen_past(alloc, run.names(), outer)
+        SharedNames::new(alloc, frozen_past(alloc, run.names(), outer)?)
+    }
+
+    /// The fields of the class that the body is of, at their literals.
+    fn fields(&self, alloc: Global) -> Result<SharedNames, AllocError>
+        requires { IsOfClass (subject_of_origin self.now) }
+        ensures { IfOk result (λ fields. fields ≡ own_fields (subject_of_origin self.now)) }
+    {
+        let (class, _) = self.class();
+        SharedNames::new(
+            alloc,
+            at_literals(alloc, &class.contents.fields, Sort::Field)?,
+        )
     }
 
     /// The body's end, which it came to.

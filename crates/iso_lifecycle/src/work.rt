@@ -5,14 +5,16 @@ ghost use Rattle.iso_lifecycle.specs.JobPlaces.{IsPlaced, IsPlaced-prop};
 use crate::blocks::{names_of, part, statements};
 use crate::job::Job;
 use iso_interp::run::{BlockEnd, BlockRun};
+use iso_model::bindings::Bindings;
 use iso_model::heads::ClassHead;
 use iso_model::lines::Lines;
-use iso_model::names::{Binding, Names};
+use iso_model::names::Names;
 use iso_model::outcome::Ending;
 use iso_model::place::BlockName;
 use iso_model::rights::Rights;
 use iso_model::tree::Stmt;
 use std::alloc::{AllocError, Global};
+use std::mem;
 use std::sync::Arc;
 
 /// The jobs that are left of a body, the names that its block under way doesn't see, and what the blocks before it left.
@@ -23,7 +25,7 @@ pub struct Rest<'a> {
     pub(crate) classes: &'a [Arc<ClassHead>],
     pub(crate) test: &'a [Stmt],
     pub(crate) next: Option<Job>,
-    pub(crate) names: Vec<Binding>,
+    pub(crate) names: Bindings,
     pub(crate) printed: u32,
     pub(crate) lines: Lines,
     pub(crate) endings: Vec<Ending>,
@@ -58,7 +60,7 @@ impl<'a> Rest<'a> {
         let ended = add_ending(&mut self.endings, ending);
         let printed = self.lines.append(output);
         self.printed = names.printed();
-        put_before(&mut self.names, names.into_bindings())?;
+        put_before(self.alloc, &mut self.names, names.into_bindings())?;
         printed?;
         ended
     }
@@ -87,7 +89,7 @@ impl<'a> Rest<'a> {
     {
         let classes = job.classes_seen(self.classes.len());
         let seen = names_of(self.classes, classes, self.names.len());
-        let bindings = part(&mut self.names, seen)?;
+        let bindings = part(self.alloc, &mut self.names, seen)?;
         Ok(Names::new(bindings, self.printed, job.words()))
     }
 
@@ -110,7 +112,8 @@ impl<'a> Rest<'a> {
     pub(crate) fn idle(&self) -> BlockRun<'a>
         ensures { run_rights result ≡ access_in self.now.rights.now }
     {
-        let names = Names::new(Vec::new(self.alloc), 0, BlockName::Test);
+        let none = Bindings::new(self.alloc, Vec::new(self.alloc));
+        let names = Names::new(none, 0, BlockName::Test);
         BlockRun::new(self.alloc, &[], names, self.rights)
     }
 
@@ -187,11 +190,9 @@ fn add_ending(endings: &mut Vec<Ending>, ending: Ending) -> Result<(), AllocErro
 }
 
 /// Puts names before others.
-fn put_before(names: &mut Vec<Binding>, first: Vec<Binding>) -> Result<(), AllocError>
-    ensures { OnOk result (names.new.items ≡ first.items ++ names.old.items) }
+fn put_before(alloc: Global, names: &mut Bindings, first: Bindings) -> Result<(), AllocError>
+    ensures { OnOk result (names.new ≡ first ++ names.old) }
 {
-    let mut first = first;
-    first.append(names)?;
-    *names = first;
-    Ok(())
+    let behind = mem::replace(names, first);
+    names.append(alloc, behind)
 }

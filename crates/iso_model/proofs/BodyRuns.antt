@@ -13,7 +13,7 @@ use Rattle.iso_model.specs.Syntax.{Acts}
 use Rattle.iso_model.specs.Openings.{Opening, statics_of, words_of, before_all, opened}
 use Rattle.iso_model.specs.Alone.{after_all}
 use Rattle.iso_model.specs.Tests.{Body, before_each, after_each, begun_test, blocks_of_test, blocks_unless, test, test_names}
-use Rattle.iso_model.specs.Jobs.{Job, job, is_due, with_job, with_due, with_jobs, body_of_block, opening_names, before_all_jobs, after_all_jobs, before_each_job, test_job, before_each_jobs, after_each_jobs, test_jobs}
+use Rattle.iso_model.specs.Jobs.{Job, job, is_due, with_job, with_due, with_jobs, body_of_block, opening_names, after_all_jobs, before_each_job, test_job, before_each_jobs, after_each_jobs, test_jobs}
 use Rattle.iso_model.specs.Bodies.{Account, body_at, fresh_account, Beside, Stage, during, ended, Going, job_environment, beside_job, account_after, stage_at, stage_if, stage_from, stage_unless, opening_stage, test_stage, closing_stage, stage_step, body_step, body_steps, body_finish, body_finished, is_ended, jobs_distance, body_distance, IsReadyStage, frame_left}
 use Rattle.iso_model.specs.declared.limits.TheConstants.{BLOCK_STEPS}
 use Rattle.iso_model.specs.declared.names.Binding.{Binding}

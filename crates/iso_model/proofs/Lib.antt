@@ -1,4 +1,5 @@
 pub mod Agreement
+pub mod BindingLemmas
 pub mod BodyKeys
 pub mod BodyRuns
 pub mod ChainLemmas
@@ -10,6 +11,7 @@ pub mod Effects
 pub mod Ends
 pub mod ExampleLemmas
 pub mod Finishing
+pub mod GivenLemmas
 pub mod Keeps
 pub mod LastingNames
 pub mod LawLemmas

@@ -1,18 +1,15 @@
 -- A map that tells where names stand goes on doing so as names are added, dropped and assigned.
-use Rattle.std.proofs.Common.{◌≡◌, ℕ, zero, suc, ◌+◌, ◌<◌, ◌≤◌, List, [], ◌∷◌, ◌++◌, take, length, slice_index_or, slice_set, Option, Some, None, Bool, true, false, cond, bytes_eq, string_bytes, refl, sym, ap, ◌∙◌, arith, inl, inr, ◌⊎◌, Bor}
+use Rattle.std.proofs.Common.{◌≡◌, ℕ, zero, suc, ◌+◌, ◌<◌, ◌≤◌, List, [], ◌∷◌, ◌++◌, take, length, slice_index_or, slice_set, Option, Some, None, Bool, true, false, cond, bytes_eq, string_bytes, refl, sym, ap, ◌∙◌, arith, inl, inr, ◌⊎◌}
 use Rattle.std.proofs.lemmas.Bool.{cases_Bool}
 use Rattle.std.proofs.lemmas.List.{length-append, length-set}
 use Rattle.std.proofs.lemmas.Map.Text.{btree_map_updates_text}
-use Rattle.std.proofs.lemmas.Option.{slice_get-get_or, slice_get_past}
 use Rattle.std.proofs.lemmas.Slice.Eq.{bytes_eq-Decides}
 use Rattle.std.specs.BTreeMap.{UpdatesBy, get_by_text}
 use Rattle.std.specs.Cmp.Lexicographic.{slice_cmp}
-use Rattle.std.specs.List.{slice_get, HoldsAt}
-use Rattle.std.specs.Option.{option_copied, MatchOption}
 use Rattle.std.specs.Ordering.{nat_cmp}
 use Rattle.std.specs.String.{string_cmp}
 use Rattle.iso_model.specs.NamePlaces.{Places, Tells, TellsWhereMade}
-use Rattle.iso_model.specs.Names.{binding_of, place_of}
+use Rattle.iso_model.specs.Names.{place_of}
 use Rattle.iso_model.specs.declared.data.Data.{Data}
 use Rattle.iso_model.specs.declared.names.Binding.{Binding}
 use Rattle.iso_model.proofs.NameLemmas.{place_of-le, with_value}
@@ -181,13 +178,3 @@ made-take (Some m) bs n tells = tells-take m bs n tells
 pub made-set : (o : Option Places) (bs : List Binding) (i : ℕ) (c : Binding) (v : Data) → i < length bs → c ≡ slice_index_or bs i c → TellsWhereMade o bs → TellsWhereMade o (slice_set bs i (with_value c v))
 made-set None bs i c v h e tells = tt
 made-set (Some m) bs i c v h e tells = tells-set m bs i c v h e tells
-
--- what stands at the place of a name is what it stands for
-pub slice_get-place : (bs : List Binding) (x : List ℕ) → slice_get bs (place_of bs x) ≡ binding_of bs x
-slice_get-place [] x = refl
-slice_get-place (b ∷ bs) x = elim (bytes_eq x b.name) as (λ t. slice_get (b ∷ bs) (cond t 0 (suc (place_of bs x))) ≡ cond t (Some b) (binding_of bs x)) [ true ↦ refl | false ↦ slice_get-place bs x ]
-
--- what `get` gives of the bindings
-pub get-is : (r : Option (Bor Binding)) (bs : List Binding) (i : ℕ) → MatchOption r (length bs ≤ i) (λ x. (i < length bs) × HoldsAt (λ y. x.now ≡ y) bs i) → option_copied r ≡ slice_get bs i
-get-is None bs i past = sym (slice_get_past bs i past)
-get-is (Some x) bs i (within, here) = ap Some (here x.now) ∙ sym (slice_get-get_or bs i x.now within)

@@ -16,6 +16,7 @@ pub mod Layers
 pub mod Lines
 pub mod LinesView
 pub mod Memory
+pub mod NameLayers
 pub mod Names
 pub mod NamePlaces
 pub mod NameSets

@@ -1,5 +1,5 @@
 -- The names that a block sees, and which of them it may assign.
-use Rattle.std.specs.Prelude.{ℕ, suc, List, [], ◌∷◌, Option, Some, None, Result, Ok, Err, Bool, true, false, cond, bytes_eq, map}
+use Rattle.std.specs.Prelude.{ℕ, zero, suc, List, [], ◌∷◌, Option, Some, None, Result, Ok, Err, Bool, true, false, cond, bytes_eq, map}
 use Rattle.iso_model.specs.declared.data.Data.{Data}
 use Rattle.iso_model.specs.declared.heads.Variable.{Variable}
 use Rattle.iso_model.specs.declared.names.Sort.{Sort}
@@ -7,6 +7,7 @@ use Rattle.iso_model.specs.declared.names.Sort.TheVariants.{Static, Frozen, Fiel
 use Rattle.iso_model.specs.declared.names.AssignFault.{AssignFault}
 use Rattle.iso_model.specs.declared.names.AssignFault.TheVariants as A
 use Rattle.iso_model.specs.declared.names.Binding.{Binding}
+use Rattle.iso_model.specs.declared.names.LentBinding.{LentBinding}
 use Rattle.iso_model.specs.declared.fault.Fault.{Fault}
 use Rattle.iso_model.specs.declared.fault.Fault.TheVariants as F
 
@@ -22,6 +23,16 @@ binding_of (b ∷ bs) x = cond (bytes_eq x b.name) (Some b) (binding_of bs x)
 abbrev pub rebound : List Binding → List ℕ → Data → List Binding
 rebound [] x d = []
 rebound (b ∷ bs) x d = cond (bytes_eq x b.name) (bound b.sort b.name d ∷ bs) (b ∷ rebound bs x d)
+
+-- the names, with another value at a place
+abbrev pub revalued : List Binding → ℕ → Data → List Binding
+revalued [] i d = []
+revalued (b ∷ bs) zero d = bound b.sort b.name d ∷ bs
+revalued (b ∷ bs) (suc i) d = b ∷ revalued bs i d
+
+-- a name that is lent
+abbrev pub lent : LentBinding → Binding
+lent b = bound b.sort b.name.now b.value.now
 
 -- where a name stands first, or the number of names
 abbrev pub place_of : List Binding → List ℕ → ℕ

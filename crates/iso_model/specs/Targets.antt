@@ -1,5 +1,5 @@
 -- Marks of a class for itself and for its children (JUnit 5 User Guide, `ResourceLockTarget`).
-use Rattle.std.specs.Prelude.{List, [], ◌++◌, Bool, true, false, filter, map}
+use Rattle.std.specs.Prelude.{List, ◌++◌, Bool, true, false, filter, map}
 use Rattle.iso_model.specs.declared.heads.Mark.{Mark}
 use Rattle.iso_model.specs.declared.heads.Target.{Target}
 use Rattle.iso_model.specs.declared.heads.Target.TheVariants.{Itself, Children}

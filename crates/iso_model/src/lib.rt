@@ -2,6 +2,7 @@
 #![tactic(auto)]
 
 pub mod access;
+pub mod bindings;
 pub mod body_examples;
 pub mod body_laws;
 pub mod chain;
@@ -15,6 +16,8 @@ pub mod laws;
 pub mod limits;
 pub mod lines;
 pub mod memory;
+mod name_layer;
+mod name_list;
 pub mod names;
 pub mod outcome;
 pub mod place;
@@ -24,6 +27,7 @@ pub mod resource_key;
 pub mod rights;
 pub mod same;
 pub mod script;
+pub mod shared_names;
 pub mod text;
 pub mod touch;
 pub mod touch_laws;

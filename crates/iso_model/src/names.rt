@@ -1,17 +1,15 @@
-ghost use Rattle.std.specs.Prelude.{◌≡◌, ◌∷◌, ◌++◌, [], length, take, option_copied, nat_le, IfOk, OnOk, OnErr, ◌+◌};
+ghost use Rattle.std.specs.Prelude.{◌≡◌, ◌∷◌, ◌++◌, [], length, take, option_map, nat_le, IfOk, OnOk, OnErr, ◌+◌};
 ghost use Rattle.std.specs.Bool.{OnTrue, OnFalse};
 ghost use Rattle.iso_model.specs.declared.names.Sort.TheVariants.{Local};
-ghost use Rattle.iso_model.specs.declared.names.Binding.{Binding};
-ghost use Rattle.iso_model.specs.NamePlaces.{Tells};
-ghost use Rattle.iso_model.specs.Names.{bound, binding_of, assigned, assignment, is_frozen, place_of};
+ghost use Rattle.iso_model.specs.Names.{bound, binding_of, assigned, assignment, is_frozen, lent};
 ghost use Rattle.iso_model.specs.Environments.{environment};
 
+use crate::bindings::Bindings;
 use crate::data::Data;
 use crate::limits::{BLOCK_STEPS, OUTPUT_BYTES};
 use crate::place::BlockName;
 use crate::text::Text;
 use std::alloc::{AllocError, Global};
-use std::collections::BTreeMap;
 use std::marker::Model;
 
 /// So many visible names are few: they are looked up one after another.
@@ -48,6 +46,27 @@ pub struct Binding {
     pub sort: Sort,
 }
 
+/// A visible name with its value, lent.
+#[derive(Clone, Copy)]
+pub struct LentBinding<'a> {
+    pub name: &'a str,
+    pub value: &'a Data,
+    pub sort: Sort,
+}
+
+impl<'a> LentBinding<'a> {
+    /// An equal name with an equal value.
+    pub fn copy(self, alloc: Global) -> Result<Binding, AllocError>
+        ensures { IfOk result (λ b. b ≡ lent self.entry) }
+    {
+        Ok(Binding {
+            name: Text::copied(alloc, self.name)?,
+            value: self.value.copy(alloc)?,
+            sort: self.sort,
+        })
+    }
+}
+
 /// Why a name can't be assigned.
 #[derive(Clone, Copy, PartialEq, Eq)]
 pub enum AssignFault {
@@ -61,9 +80,7 @@ pub enum AssignFault {
 /// body has printed so far, and the words that name the block in a place.
 #[derive(Drop)]
 pub struct Names {
-    bindings: Vec<Binding>,
-    /// Where each visible name stands first, once `index` has found it out. Names that were dropped stay in it.
-    places: Option<BTreeMap<String, usize>>,
+    bindings: Bindings,
     steps: u32,
     printed: u32,
     block: BlockName,
@@ -71,23 +88,19 @@ pub struct Names {
 
 impl Model for Names {
     ghost use Rattle.iso_model.specs.Environments.{Environment};
-    ghost use Rattle.iso_model.specs.NamePlaces.{TellsWhereMade};
 
     ghost Value = { Environment };
 
-    ghost view = { λ n. record { names = n.bindings.items; steps = n.steps; printed = n.printed; block = n.block } };
-
-    ghost invariant = { λ n. TellsWhereMade n.places n.bindings.items };
+    ghost view = { λ n. record { names = n.bindings; steps = n.steps; printed = n.printed; block = n.block } };
 }
 
 impl Names {
     /// The environment of a block at its beginning, with all its steps left.
-    pub fn new(bindings: Vec<Binding>, printed: u32, block: BlockName) -> Names
-        ensures { result ≡ environment bindings.items printed block }
+    pub fn new(bindings: Bindings, printed: u32, block: BlockName) -> Names
+        ensures { result ≡ environment bindings printed block }
     {
         Names {
             bindings,
-            places: None,
             steps: BLOCK_STEPS,
             printed,
             block,
@@ -102,30 +115,20 @@ impl Names {
     }
 
     /// What a name stands for, or `None` where it isn't visible.
-    pub fn get(&self, name: &str) -> Option<&Binding>
-        ensures { option_copied result ≡ binding_of self.now.names name.now }
+    pub fn get(&self, name: &str) -> Option<LentBinding<'_>>
+        ensures { option_map lent result ≡ binding_of self.now.names name.now }
     {
-        self.bindings.get(self.place(name))
-    }
-
-    /// Where a name stands first, or the number of names.
-    fn place(&self, name: &str) -> usize
-        ensures { result ≡ place_of self.now.names name.now }
-    {
-        match &self.places {
-            None => place_of(&self.bindings, name),
-            Some(places) => place_in(places, &self.bindings, name),
-        }
+        self.bindings.at(self.bindings.place_of(name))
     }
 
     /// Makes later look-ups quick, unless few names are visible: then nothing is done, and no memory is taken.
-    /// The first time it takes as long as some 50 look-ups of the last name.
+    /// The first time it takes as long as some 50 look-ups of the last of the block's own names. Shared names were indexed when they
+    /// were made.
     pub fn index(&mut self) -> Result<(), AllocError>
         ensures { self.new ≡ self.old }
     {
-        if self.places.is_none() && self.bindings.len() > FEW_NAMES {
-            let alloc = *self.bindings.allocator();
-            self.places = Some(places_of(alloc, &self.bindings)?);
+        if self.bindings.len() > FEW_NAMES {
+            self.bindings.index()?;
         }
         Ok(())
     }
@@ -135,42 +138,37 @@ impl Names {
         ensures ok { OnOk result (self.new ≡ record self.old { names = self.old.names ++ bound Local name value ∷ [] }) }
         ensures err { OnErr result (self.new ≡ self.old) }
     {
-        if let Some(places) = &mut self.places {
-            let alloc = *self.bindings.allocator();
-            add_place(alloc, places, &self.bindings, name.as_str())?;
-        }
         self.bindings.push(Binding {
             name,
             value,
             sort: Sort::Local,
-        })?;
-        Ok(())
+        })
     }
 
     /// Drops the names past the first `count`.
     pub fn keep(&mut self, count: usize)
         ensures { self.new ≡ record self.old { names = take count self.old.names } }
     {
-        self.bindings.truncate(count);
+        self.bindings.keep(count);
     }
 
     /// Gives a visible name another value, which may be of another kind.
-    /// `UnknownName` where it isn't visible, before `Frozen` where it may not be assigned.
-    pub fn assign(&mut self, name: &str, value: Data) -> Result<(), AssignFault>
-        ensures answer { assigned self.old.names name.now value ≡ assignment result name.now self.new.names }
+    /// `UnknownName` where it isn't visible, before `Frozen` where it may not be assigned. Memory is taken for a shared name alone.
+    pub fn assign(&mut self, name: &str, value: Data) -> Result<Result<(), AssignFault>, AllocError>
+        ensures answer { IfOk result (λ answer. assigned self.old.names name.now value ≡ assignment answer name.now self.new.names) }
         ensures rest { self.new ≡ record self.old { names = self.new.names } }
+        ensures fault { IfOk result (λ answer. OnErr answer (self.new ≡ self.old)) }
         ensures err { OnErr result (self.new ≡ self.old) }
     {
-        let place = self.place(name);
-        if place == self.bindings.len() {
-            return Err(AssignFault::UnknownName);
-        }
-        let binding = &mut self.bindings[place];
+        let place = self.bindings.place_of(name);
+        let Some(binding) = self.bindings.at(place) else {
+            return Ok(Err(AssignFault::UnknownName));
+        };
         if binding.sort.is_frozen() {
-            return Err(AssignFault::Frozen);
+            return Ok(Err(AssignFault::Frozen));
         }
-        binding.value = value;
-        Ok(())
+        self.bindings.set_value(place, value)?;
+        Ok(Ok(()))
     }
 
     /// The steps that are left in the block.
@@ -209,8 +207,8 @@ impl Names {
     }
 
     /// The visible names with their values, for the next block. Takes no memory.
-    pub fn into_bindings(self) -> Vec<Binding>
-        ensures { result.items ≡ self.names }
+    pub fn into_bindings(self) -> Bindings
+        ensures { result ≡ self.names }
     {
         self.bindings
     }
@@ -226,65 +224,4 @@ impl Names {
         self.steps -= 1;
         true
     }
-}
-
-/// Where a name stands first, or the number of names.
-fn place_of(bindings: &[Binding], name: &str) -> usize
-    ensures { result ≡ place_of bindings.now name.now }
-{
-    let mut place = 0;
-    for binding in bindings {
-        if name == binding.name.as_str() {
-            return place;
-        }
-        place += 1;
-    }
-    place
-}
-
-/// The same, by what was found out of these bindings. A name that was dropped may have left a place.
-fn place_in(places: &BTreeMap<String, usize>, bindings: &[Binding], name: &str) -> usize
-    ensures { Tells places.now bindings.now → result ≡ place_of bindings.now name.now }
-{
-    let Some(place) = places.get(name) else {
-        return bindings.len();
-    };
-    let place = *place;
-    if place < bindings.len() && name == bindings[place].name.as_str() {
-        return place;
-    }
-    bindings.len()
-}
-
-/// Adds the place of a name that is to stand after these bindings, unless it stands among them.
-fn add_place(
-    alloc: Global,
-    places: &mut BTreeMap<String, usize>,
-    bindings: &[Binding],
-    name: &str,
-) -> Result<(), AllocError>
-    ensures same { Tells places.old bindings.now → Tells places.new bindings.now }
-    ensures added { OnOk result ((b : Binding) → b.name ≡ name.now
-        → Tells places.old bindings.now → Tells places.new (bindings.now ++ b ∷ [])) }
-{
-    if place_in(places, bindings, name) == bindings.len() {
-        places.insert(String::from_str(alloc, name)?, bindings.len())?;
-    }
-    Ok(())
-}
-
-/// Where each name of these bindings stands first.
-fn places_of(alloc: Global, bindings: &[Binding]) -> Result<BTreeMap<String, usize>, AllocError>
-    ensures { IfOk result (λ places. Tells places bindings.now) }
-{
-    let mut places = BTreeMap::new(alloc);
-    for place in 0..bindings.len() {
-        add_place(
-            alloc,
-            &mut places,
-            &bindings[..place],
-            bindings[place].name.as_str(),
-        )?;
-    }
-    Ok(places)
 }

@@ -74,7 +74,7 @@ impl<'a> BlockRun<'a> {
         ensures done { OnOk result ((m : Resources) → state_of self.new m ≡ upon row (assigned self.old.names.names name.now value) (state_of self.old m) (λ names. locally (with_names names) (state_of self.old m))) }
         ensures work { SameWork self.old self.new }
     {
-        match self.names.assign(name.as_str(), value) {
+        match self.names.assign(name.as_str(), value)? {
             Ok(()) => Ok(()),
             Err(fault) => {
                 let name = name.copy(self.alloc)?;

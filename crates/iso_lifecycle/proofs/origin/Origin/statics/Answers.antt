@@ -37,4 +37,4 @@ returns c =
     let outer = c.requires.outer ∙ ap (λ (k : BodyKind). outer_names k s) c.requires.kind in
     let names = c.names.ensures ∙ ap (λ (a : Account). a.names) come in
     let statics = (λ i. frozen (drop (outer i) (names i))) ∙ statics-are s grows fits o.enclosed in
-    IfOk-weaker c.frozen_past.result _ _ (λ x is. record { class = fits; enclosed = o.enclosed; statics = is ∙ statics }) c.frozen_past.ensures
+    IfOk-weaker c.new.result _ _ (λ x is. record { class = fits; enclosed = o.enclosed; statics = is ∙ c.in_ok-frozen_past.ensures ∙ statics }) c.new.ensures

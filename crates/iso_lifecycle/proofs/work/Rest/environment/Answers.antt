@@ -16,10 +16,10 @@ returns-clause-names c =
     let os = heads_in old.classes.now in
     let body = block_of old.test.now in
     let j = c.args.job in
-    let xs = old.names.items in
+    let xs = old.names in
     let count : length os ≡ length old.classes.now = length-map old.classes.now (λ h. class_head_of (arc_value h)) in
     let placed : IsPlaced (length os) (Some j) = subst (λ (n : ℕ). IsPlaced n (Some j)) (sym count) c.requires in
-    let len : c.len.result ≡ length xs = omega (arith, old.names.ok.0) in
+    let len : c.len.result ≡ length xs = c.len.ensures in
     let seen : c.names_of-seen.result ≡ min (job_at os body j).seen (length xs) =
     c.names_of-seen.ensures ∙ ap₂ min (ap (λ n. names_in (outside os n)) (c.classes_seen-classes.ensures.seen ∙ ap (λ n. classes_seen n j) (sym count)) ∙ job-seen os body j placed) len in
     let taken = c.in_ok-bindings.ensures.taken ∙ ap (λ n. take n xs) seen ∙ take_min (job_at os body j).seen xs in
@@ -32,10 +32,10 @@ returns-clause-beside c =
     let os = heads_in old.classes.now in
     let body = block_of old.test.now in
     let j = c.args.job in
-    let xs = old.names.items in
+    let xs = old.names in
     let count : length os ≡ length old.classes.now = length-map old.classes.now (λ h. class_head_of (arc_value h)) in
     let placed : IsPlaced (length os) (Some j) = subst (λ (n : ℕ). IsPlaced n (Some j)) (sym count) c.requires in
-    let len : c.len.result ≡ length xs = omega (arith, old.names.ok.0) in
+    let len : c.len.result ≡ length xs = c.len.ensures in
     let seen : c.names_of-seen.result ≡ min (job_at os body j).seen (length xs) =
     c.names_of-seen.ensures ∙ ap₂ min (ap (λ n. names_in (outside os n)) (c.classes_seen-classes.ensures.seen ∙ ap (λ n. classes_seen n j) (sym count)) ∙ job-seen os body j placed) len in
     let left = c.in_ok-bindings.ensures.left ∙ ap (λ n. drop n xs) seen ∙ drop_min (job_at os body j).seen xs in

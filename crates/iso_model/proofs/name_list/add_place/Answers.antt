@@ -2,7 +2,7 @@ use Rattle.std.proofs.Common.{◌≡◌, ◌<◌, length, string_bytes, sym, ap,
 use Rattle.iso_model.specs.Names.{place_of}
 use Rattle.iso_model.proofs.NameLemmas.{place_of-le}
 use Rattle.iso_model.proofs.PlaceLemmas.{tells-known, tells-put, tells-added}
-use Rattle.iso_model.proofs.names.add_place.Goals as goal
+use Rattle.iso_model.proofs.name_list.add_place.Goals as goal
 
 pub returns-in_ok-insert-clause-same : goal.returns-in_ok-insert-clause-same
 returns-in_ok-insert-clause-same c = λ tells.

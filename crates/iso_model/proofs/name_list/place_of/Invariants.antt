@@ -1,6 +1,6 @@
 use Rattle.std.proofs.Common.{◌≡◌, ◌+◌, drop}
 use Rattle.iso_model.specs.Names.{place_of}
-use Rattle.iso_model.proofs.names.place_of.Given as goal
+use Rattle.iso_model.proofs.name_list.place_of.Given as goal
 
 abbrev pub invariant-loop-binding : goal.invariant-loop-binding
 invariant-loop-binding l = record {

@@ -1,7 +1,7 @@
 use Rattle.std.proofs.Common.{◌≤◌, length, bytes_eq, sym, ap, ◌∙◌, arith}
 use Rattle.iso_model.proofs.PlaceLemmas.{place-absent, place-found, place-dropped, place-other}
-use Rattle.iso_model.proofs.names.place_in.Goals as goal
-use Rattle.iso_model.proofs.names.place_in.Goals.{else-place-bindings-via-then-place-bindings+else-eq, else-place-bindings-via-else-place-bindings}
+use Rattle.iso_model.proofs.name_list.place_in.Goals as goal
+use Rattle.iso_model.proofs.name_list.place_in.Goals.{else-place-bindings-via-then-place-bindings+else-eq, else-place-bindings-via-else-place-bindings}
 
 pub returns-in_default : goal.returns-in_default
 returns-in_default c = λ tells. place-absent c.args.places.now c.args.bindings.now c.args.name.now tells (sym c.in_default.ensures.value)

@@ -1,0 +1,6 @@
+use Rattle.std.proofs.Common.{◌≡◌, ◌++◌, drop}
+use Rattle.iso_model.specs.Names.{at_literals}
+use Rattle.iso_lifecycle.proofs.names.at_literals.Given as goal
+
+abbrev pub invariant-variables : goal.invariant-variables
+invariant-variables l = l.names.items ++ at_literals l.sort (drop l.variable-index l.variables) ≡ at_literals l.sort l.variables
