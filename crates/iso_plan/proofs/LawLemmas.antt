@@ -231,7 +231,7 @@ key_has x xs ks k true e h ih =
 key_has x xs ks k false e h ih = ih h
 
 -- what is inserted is there
-all_have : (xs ks : List (List ℕ)) (k : List ℕ) → list_any (bytes_eq k) xs ≡ true → list_any (bytes_eq k) (insert_all bytes_eq ks xs) ≡ true
+pub all_have : (xs ks : List (List ℕ)) (k : List ℕ) → list_any (bytes_eq k) xs ≡ true → list_any (bytes_eq k) (insert_all bytes_eq ks xs) ≡ true
 all_have [] ks k h = let wrong : false ≡ true = h in absurd (cc)
 all_have (x ∷ xs) ks k h = key_has x xs ks k (bytes_eq k x) refl h (all_have xs (insert_key bytes_eq ks x) k)
 

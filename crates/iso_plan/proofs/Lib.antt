@@ -1,3 +1,4 @@
+pub mod BoundLemmas
 pub mod ChildLemmas
 pub mod ColumnLemmas
 pub mod ConflictLemmas

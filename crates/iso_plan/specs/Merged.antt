@@ -14,9 +14,10 @@ is_same_key m n = bytes_eq m.key n.key && is_target m.target n.target
 abbrev pub as_one : Mark → Mark → Mark
 as_one m n = record m { access = stronger m.access n.access }
 
--- so many marks are kept of a node: one more than a node of a plan can have, which are two targets of each key
+-- so many marks are kept of a node: one more than a node of a plan can have, which are two targets of each key, the global one with them
+-- (`laws::no_mark_is_left_out`)
 abbrev pub most_marks : ℕ
-most_marks = suc (KEYS + KEYS)
+most_marks = suc ((KEYS + 1) + (KEYS + 1))
 
 -- a mark more, where so many are kept: one with the mark of its key and target, else after all others
 abbrev pub with_mark : ℕ → List Mark → Mark → List Mark
@@ -32,3 +33,15 @@ with_marks ns (m ∷ ms) = with_marks (with_mark most_marks ns m) ms
 -- marks as they count. A node with more than are kept has too many keys by those that are.
 abbrev pub merged : List Mark → List Mark
 merged marks = with_marks [] marks
+
+-- the same without a bound: a mark more, further marks, and all marks as they count
+abbrev pub with_any_mark : List Mark → Mark → List Mark
+with_any_mark [] m = m ∷ []
+with_any_mark (n ∷ ns) m = cond (is_same_key n m) (as_one n m ∷ ns) (n ∷ with_any_mark ns m)
+
+abbrev pub with_all_marks : List Mark → List Mark → List Mark
+with_all_marks ns [] = ns
+with_all_marks ns (m ∷ ms) = with_all_marks (with_any_mark ns m) ms
+
+abbrev pub all_merged : List Mark → List Mark
+all_merged marks = with_all_marks [] marks

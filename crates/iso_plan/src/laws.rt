@@ -1,20 +1,26 @@
 //! Laws of every plan: what the proofs of its runs rest on.
-ghost use Rattle.std.specs.Prelude.{◌≡◌, ◌<◌, ◌≤◌, ◌||◌, ◌++◌, ◌∷◌, [], ℕ, List, false, length, slice_index_or, true};
+ghost use Rattle.std.specs.Prelude.{◌≡◌, ◌<◌, ◌≤◌, ◌||◌, ◌++◌, ◌∷◌, [], ℕ, List, None, false, length, map, slice_index_or, true};
 ghost use Rattle.iso_model.specs.Keys.{global_key};
+ghost use Rattle.iso_model.specs.NameSets.{is_among};
 ghost use Rattle.iso_model.specs.Rights.{is_readable, is_writable};
+ghost use Rattle.iso_model.specs.ScriptView.{script_of};
 ghost use Rattle.iso_model.specs.declared.script.Mode.TheVariants.{SameThread};
 ghost use Rattle.iso_plan.specs.Children.{IsChild, IsListed};
 ghost use Rattle.iso_plan.specs.Covers.{IsCovered};
-ghost use Rattle.iso_plan.specs.KeyTable.{firsts, keys, marked_keys};
+ghost use Rattle.iso_plan.specs.KeyTable.{firsts, keys, mark_keys, marked_keys};
 ghost use Rattle.iso_plan.specs.Locks.{conflict, is_locking, taken};
+ghost use Rattle.iso_plan.specs.Faults.{plan_fault};
+ghost use Rattle.iso_plan.specs.Merged.{all_merged, merged, most_marks};
 ghost use Rattle.iso_plan.specs.Modes.{mode};
 ghost use Rattle.iso_plan.specs.NodeChains.{chain_classes, class_heads, depth, node_rights};
 ghost use Rattle.iso_plan.specs.Paths.{IsTree, children, is_test, is_top, is_under, parent, path, row_at};
 ghost use Rattle.iso_plan.specs.RowView.{tree_of};
 ghost use Rattle.iso_plan.specs.SameNodes.{IsSameNode};
-ghost use Rattle.iso_plan.specs.Selections.{is_kept, number_among, selection};
+ghost use Rattle.iso_plan.specs.Selections.{is_kept, number_among, plan_tree, selection, texts_of};
 
 use crate::plan::Plan;
+use iso_model::heads::Mark;
+use iso_model::script::Script;
 
 /// The nodes are a tree: node 0 is the root, and each other one is a class or a test that stands in the root or in a class with a
 /// smaller number. What the laws below say of plans is proved of all such trees.
@@ -129,3 +135,15 @@ pub fn selected_nodes_keep_their_chains(plan: &Plan)
 {
     plan.hold_a_tree();
 }
+
+/// In scripts that make a plan no node has as many marks as are kept of one: so the bound on them changes no plan.
+pub fn no_mark_is_left_out(scripts: &[Script], only: &[&str])
+    ensures { plan_fault (map script_of scripts.now) (texts_of only.now) ≡ None
+        → (n : ℕ) → length (row_at (plan_tree (map script_of scripts.now) (texts_of only.now)) n).written < most_marks }
+{}
+
+/// Marks of which fewer are kept than may be are all kept. Those that are kept of more have keys that are written.
+pub fn fewer_marks_are_all_kept(marks: &[Mark])
+    ensures all { length (merged marks.now) < most_marks → merged marks.now ≡ all_merged marks.now }
+    ensures written { (k : List ℕ) → is_among (mark_keys (merged marks.now)) k ≡ true → is_among (mark_keys marks.now) k ≡ true }
+{}

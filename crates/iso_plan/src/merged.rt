@@ -7,8 +7,8 @@ use iso_model::heads::Mark;
 use iso_model::limits::KEYS;
 use std::alloc::{AllocError, Global};
 
-/// So many marks are kept of a node: one more than a node of a plan can have.
-const MOST_MARKS: usize = 2 * KEYS as usize + 1;
+/// So many marks are kept of a node: one more than a node of a plan can have, which are two targets of each key, the global one with them.
+const MOST_MARKS: usize = 2 * (KEYS as usize + 1) + 1;
 
 /// The marks that are written on a node, each key once for each target, in the strongest access. Of more than a plan may have, so many
 /// are kept that the node has too many keys: so neither time nor memory grows as the marks times the nodes that they count for.
