@@ -21,10 +21,9 @@ mod values;
 use crate::answer::Answer;
 use crate::calls::Calls;
 use crate::host::Host;
-use iso_arguments::request::words_of;
 use iso_plan::plan::Plan;
 use iso_settings::world::World;
-use std::env::Env;
+use std::env::{self, Env};
 use std::io;
 
 /// The calls that the program makes, by their names.
@@ -114,13 +113,12 @@ fn tell<H: Host + Print>(rt: &H, name: &str) -> io::Result<()> {
 
 /// Tells of the calls that the words name, or of each.
 fn tell_words<H: Host + Env + Print>(rt: &H) -> io::Result<()> {
-    let Ok(words) = words_of(rt) else {
-        return println!(rt; "no words");
-    };
-    for word in &words {
+    let mut is_asked = false;
+    for word in env::args(rt)?.skip(1) {
         tell(rt, word.as_str())?;
+        is_asked = true;
     }
-    if words.is_empty() {
+    if !is_asked {
         for name in NAMES.as_slice() {
             tell(rt, name)?;
         }

@@ -1,8 +1,7 @@
-//! What words ask for, and what is said of words that ask for nothing.
+//! What words ask for.
 use crate::shared::check_text;
-use iso_arguments::request::{InputFiles, Request, WordsFault, read_words, words_of};
+use iso_arguments::request::{InputFiles, Request, WordsFault, read_words};
 use std::alloc::{AllocError, Global};
-use std::env::{Env, FillError};
 use std::process::Abort;
 
 /// A line of words as a list.
@@ -108,98 +107,4 @@ fn paths_stand_in_the_order_of_their_options(rt: HostRuntime) -> Result<(), Allo
         assert!(rt; found.as_str().ends_with(want), "of {line}: {found}");
     }
     Ok(())
-}
-
-/// Lines of words that ask for nothing.
-static REFUSED: [&str; 15] = [
-    "plan --serial",
-    "run --processors 0",
-    "run --processors 1025",
-    "run --processors many",
-    "run --processors",
-    "run --setings s.toml",
-    "run --schedule steps",
-    "run a.jtap --only",
-    "replay a.jtap",
-    "replay --schedule",
-    "replay --schedule steps --serial",
-    "replay --schedule steps --schedule steps",
-    "replay --schedule steps --processors 0",
-    "walk",
-    "a.jtap",
-];
-
-/// Whether words are refused, with lines that say what is wrong.
-fn is_error(text: &str) -> bool {
-    text.starts_with("refused:\nerror: ") && text.ends_with('\n')
-}
-
-#[test]
-fn other_words_are_refused(rt: HostRuntime) -> Result<(), AllocError> {
-    for line in &REFUSED {
-        let found = asked(rt.alloc(), line)?;
-        assert!(rt; is_error(found.as_str()), "of {line}: {found}");
-    }
-    Ok(())
-}
-
-/// Lines of words that ask for a text.
-static SHOWN: [&str; 5] = [
-    "--help",
-    "run --help",
-    "plan --help",
-    "replay --help",
-    "--version",
-];
-
-/// Whether a text is shown, in 80 columns at most.
-fn is_narrow_page(text: &str) -> bool {
-    text.starts_with("shown:\n") && text.lines().all(|row| row.len() <= 80)
-}
-
-#[test]
-fn help_and_version_are_shown_in_80_columns(rt: HostRuntime) -> Result<(), AllocError> {
-    for line in &SHOWN {
-        let found = asked(rt.alloc(), line)?;
-        assert!(rt; is_narrow_page(found.as_str()), "of {line}: {found}");
-    }
-    Ok(())
-}
-
-/// An environment whose second word isn't UTF-8.
-#[derive(Clone, Copy)]
-struct BrokenWord;
-
-impl Env for BrokenWord {
-    fn arg(&self, i: usize, buf: &mut [u8]) -> Result<usize, FillError> {
-        let word: &[u8] = match i {
-            0 => b"jtap",
-            1 => b"run",
-            2 => b"\xFF",
-            _ => return Err(FillError::NotPresent),
-        };
-        if buf.len() < word.len() {
-            return Err(FillError::TooLong);
-        }
-        buf[..word.len()].copy_from_slice(word);
-        Ok(word.len())
-    }
-
-    fn var(&self, _name: &str, _buf: &mut [u8]) -> Result<usize, FillError> {
-        Err(FillError::NotPresent)
-    }
-
-    fn var_at(&self, _i: usize, _buf: &mut [u8]) -> Result<usize, FillError> {
-        Err(FillError::NotPresent)
-    }
-}
-
-#[test]
-fn word_that_is_not_utf_8_is_wrong(rt: HostRuntime) {
-    match words_of(&(BrokenWord, rt.alloc())) {
-        Err(WordsFault::Wrong(text)) => {
-            assert!(rt; text.starts_with("error: a word isn't UTF-8\n"));
-        }
-        _ => panic!(rt; "it is taken"),
-    }
 }

@@ -1,6 +1,7 @@
 //! Each call once with memory at hand, on the texts that the language gives.
 use crate::shared::{check_text, push_lines, set_property};
 use iso_model::access::Access;
+use iso_model::bindings::Bindings;
 use iso_model::data::Data;
 use iso_model::fault::Fault;
 use iso_model::heads::{Mark, Target};
@@ -221,7 +222,7 @@ fn cleared_property_is_absent(rt: HostRuntime) -> Result<(), AllocError> {
 /// Names of which the only one is the local x, which is 1.
 fn x_is_1(alloc: Global) -> Result<Names, AllocError> {
     let name = Text::copied(alloc, "x")?;
-    let mut names = Names::new(Vec::new(alloc), 0, BlockName::Test);
+    let mut names = Names::new(Bindings::new(alloc, Vec::new(alloc)), 0, BlockName::Test);
     names.declare(name, Data::Whole(1))?;
     Ok(names)
 }
@@ -245,8 +246,8 @@ fn local_is_visible_until_it_is_dropped(rt: HostRuntime) -> Result<(), AllocErro
 #[test]
 fn visible_name_is_assigned(rt: HostRuntime) -> Result<(), AllocError> {
     let mut names = x_is_1(rt.alloc())?;
-    assert!(rt; names.assign("y", Data::Whole(2)) == Err(AssignFault::UnknownName));
-    assert!(rt; names.assign("x", Data::Flag(true)).is_ok());
+    assert!(rt; names.assign("y", Data::Whole(2))? == Err(AssignFault::UnknownName));
+    assert!(rt; names.assign("x", Data::Flag(true))?.is_ok());
     assert!(rt; names.take_step());
     Ok(())
 }
@@ -266,7 +267,7 @@ fn declare_again(alloc: Global, names: &mut Names, turn: i64) -> Result<(), Allo
 
 /// The names of so many turns.
 fn turned(alloc: Global, turns: i64) -> Result<Names, AllocError> {
-    let mut names = Names::new(Vec::new(alloc), 0, BlockName::Test);
+    let mut names = Names::new(Bindings::new(alloc, Vec::new(alloc)), 0, BlockName::Test);
     for turn in 0..turns {
         declare_again(alloc, &mut names, turn)?;
     }
@@ -276,7 +277,7 @@ fn turned(alloc: Global, turns: i64) -> Result<Names, AllocError> {
 /// Whether a name stands for this number.
 fn is_whole(names: &Names, name: &str, want: i64) -> bool {
     names.get(name).is_some_and(
-        |binding| matches!(binding.value, Data::Whole(number) if number == want),
+        |binding| matches!(binding.value, Data::Whole(number) if *number == want),
     )
 }
 
@@ -288,7 +289,7 @@ fn check_first_of_each(
 ) -> Result<(), AllocError> {
     names.index()?;
     assert!(rt; is_whole(names, "k", 0));
-    assert!(rt; names.assign("k", Data::Whole(-1)).is_ok());
+    assert!(rt; names.assign("k", Data::Whole(-1))?.is_ok());
     assert!(rt; is_whole(names, "k", -1));
     names.declare(Text::copied(alloc, "z")?, Data::Whole(-2))?;
     assert!(rt; is_whole(names, "z", -2));

@@ -2,7 +2,6 @@
 mod bodies;
 mod classes;
 mod made;
-mod manual;
 mod marks;
 mod scripts;
 mod tokens;

@@ -1,7 +1,4 @@
-//! Settings and worlds.
+//! Settings and worlds, where no answer of the program shows it: what it shows is in `tests/rows`.
 mod changes;
-mod depth;
-mod fault;
-mod limits;
 mod values;
 mod world;

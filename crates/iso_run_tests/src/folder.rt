@@ -1,6 +1,5 @@
 //! A folder of files that the program's words name.
 use crate::host::Host;
-use crate::ran::{Answer, Ran, run_words};
 use std::alloc::{AllocError, Global};
 use std::fs;
 use std::test::Fail;
@@ -23,21 +22,6 @@ pub(crate) fn put(rt: &impl Host, folder: &str, name: &str, bytes: &[u8]) -> Res
     Ok(())
 }
 
-/// Writes files of this folder: a name and a text each.
-pub(crate) fn put_all(rt: &impl Host, folder: &str, files: &[(&str, &str)]) -> Result<(), Fail> {
-    for (name, text) in files {
-        put(rt, folder, name, text.as_bytes())?;
-    }
-    Ok(())
-}
-
-/// A new folder with these files.
-pub(crate) fn new_folder_of(rt: &impl Host, files: &[(&str, &str)]) -> Result<String, Fail> {
-    let folder = new_folder(rt)?;
-    put_all(rt, folder.as_str(), files)?;
-    Ok(folder)
-}
-
 /// Removes a folder with its files.
 pub(crate) fn remove(rt: &impl Host, folder: &str) -> Result<(), Fail> {
     fs::remove_dir_all(rt, folder)?;
@@ -54,31 +38,7 @@ pub(crate) fn words_of(alloc: Global, folder: &str, line: &str) -> Result<Vec<St
 }
 
 /// A text in which the folder and a slash stand in place of each `@`.
-pub(crate) fn in_folder(alloc: Global, folder: &str, text: &str) -> Result<String, AllocError> {
+fn in_folder(alloc: Global, folder: &str, text: &str) -> Result<String, AllocError> {
     let prefix = format!(in alloc; "{folder}/")?;
     text.replace(alloc, '@', prefix.as_str())
-}
-
-/// Runs the program with a line of words, and a text on standard input.
-pub(crate) fn run(
-    rt: &impl Host,
-    folder: &str,
-    line: &str,
-    input: &str,
-) -> Result<Ran, AllocError> {
-    let words = words_of(rt.alloc(), folder, line)?;
-    let mut input = input.as_bytes();
-    Ok(run_words(rt, &words, &mut input))
-}
-
-/// Whether the program, run so, answers this.
-pub(crate) fn answers(
-    rt: &impl Host,
-    folder: &str,
-    line: &str,
-    input: &str,
-    answer: Answer<'_>,
-) -> Result<bool, AllocError> {
-    let ran = run(rt, folder, line, input)?;
-    Ok(answer.is_of(&ran))
 }

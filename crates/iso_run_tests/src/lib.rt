@@ -1,4 +1,4 @@
-//! Worked examples through the program's `command`, and tests of bodies, schedules and sinks over whole suites.
+//! Tests of bodies, books, floors, schedules, workers and sinks over whole suites, and of `command` over readers and sinks that fail.
 #![tactic(auto)]
 
 #[cfg(test)]
@@ -8,37 +8,21 @@ mod books;
 #[cfg(test)]
 mod expect;
 #[cfg(test)]
+mod floor;
+#[cfg(test)]
 mod folder;
 #[cfg(test)]
 mod host;
 #[cfg(test)]
-mod lifecycle;
-#[cfg(test)]
 mod program;
-#[cfg(test)]
-mod ran;
 #[cfg(test)]
 mod random;
 #[cfg(test)]
-mod refusal;
-#[cfg(test)]
-mod replay;
-#[cfg(test)]
-mod restoring;
-#[cfg(test)]
-mod rights;
-#[cfg(test)]
-mod row;
-#[cfg(test)]
 mod schedules;
-#[cfg(test)]
-mod scripts;
 #[cfg(test)]
 mod selection;
 #[cfg(test)]
 mod sinks;
-#[cfg(test)]
-mod statements;
 #[cfg(test)]
 mod suites;
 #[cfg(test)]

@@ -1,6 +1,7 @@
 //! What writes to sinks.
 mod escape;
 mod failing;
+mod narrow;
 mod output;
 mod plan;
 mod report;

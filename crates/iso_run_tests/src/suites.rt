@@ -69,27 +69,6 @@ pub(crate) const SOON: &str = "team shop
 disabled \"soon\" class C { before_all { fail \"no\"; } after_all { fail \"late\"; } test t { } }
 ";
 
-/// Its report.
-pub(crate) const SOON_REPORT: &str = "TAP version 14
-1..1
-# Subtest: shop.C
-    1..1
-    ok 1 - t # SKIP soon
-      ---
-      verdict: skipped
-      message: \"soon\"
-      at: \"disabled\"
-      output: []
-      ...
-ok 1 - shop.C # SKIP soon
-  ---
-  verdict: skipped
-  message: \"soon\"
-  at: \"disabled\"
-  output: []
-  ...
-";
-
 /// A disabled test beside another.
 pub(crate) const LATER: &str = "team shop
 class C { before_all { print \"x\"; } disabled \"later\" test t { fail \"no\"; } test u { } }

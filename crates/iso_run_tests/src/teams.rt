@@ -1,7 +1,4 @@
 //! The example of three teams: properties, a locale, files, a class that isn't opened, a skipped test, an isolated class.
-use crate::folder::{answers, new_folder_of, remove};
-use crate::ran::Answer;
-use std::test::Fail;
 
 pub(crate) const SETTINGS: &str = r#"[junit.jupiter.execution.parallel]
 enabled = true
@@ -258,24 +255,3 @@ not ok 5 - ops.migration "v2"
     ok 2 - ready
 ok 6 - ops.Health
 "#;
-
-static FILES: [(&str, &str); 5] = [
-    ("settings", SETTINGS),
-    ("world", WORLD),
-    ("shop", SHOP),
-    ("orders", ORDERS),
-    ("ops", OPS),
-];
-
-#[test]
-fn three_teams_are_reported(rt: HostRuntime) -> Result<(), Fail> {
-    let folder = new_folder_of(&rt, &FILES)?;
-    let words = "run --settings @settings --world @world @shop @orders @ops";
-    let answer = Answer {
-        status: 1,
-        output: REPORT,
-        errors: "",
-    };
-    assert!(rt; answers(&rt, folder.as_str(), words, "", answer)?);
-    remove(&rt, folder.as_str())
-}

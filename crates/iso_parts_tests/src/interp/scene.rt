@@ -9,6 +9,7 @@ use crate::shared::{check_text, push_lines, set_property};
 use iso_interp::run::{BlockEnd, BlockRun};
 use iso_interp::whole::run_block;
 use iso_model::access::Access;
+use iso_model::bindings::Bindings;
 use iso_model::limits::FILE_BYTES;
 use iso_model::memory::Memory;
 use iso_model::names::{Binding, Names};
@@ -80,7 +81,8 @@ impl Scene {
 
 /// The environment of a test's block that sees these names, before which nothing was printed.
 pub fn seeing(bindings: Vec<Binding>) -> Names {
-    Names::new(bindings, 0, BlockName::Test)
+    let alloc = *bindings.allocator();
+    Names::new(Bindings::new(alloc, bindings), 0, BlockName::Test)
 }
 
 /// The statements of a block.

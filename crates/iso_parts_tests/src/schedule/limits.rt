@@ -1,9 +1,8 @@
 //! The longest schedules.
-use crate::schedule::schedules::check_refusal;
 use crate::shared::made;
 use iso_schedule::fault::ScheduleError;
 use iso_schedule::reader::read_schedule;
-use std::alloc::{AllocError, Global};
+use std::alloc::Global;
 use std::process::Abort;
 
 /// The most bytes of a schedule.
@@ -39,32 +38,4 @@ fn schedules_of_a_mebibyte_are_read(rt: HostRuntime) -> Result<(), ScheduleError
     check_events(&rt, rt.alloc(), "\n\n\n\n\n\n\n\n", 0)?;
     let most = made(rt.alloc(), &[("step 0\n", MOST / 7), ("\n", MOST % 7)])?;
     check_count(&rt, rt.alloc(), most.as_bytes(), 149_796)
-}
-
-/// A piece again and again, and then this, is refused so.
-fn check_longer(
-    rt: &impl Abort,
-    alloc: Global,
-    filling: (&str, usize),
-    last: &str,
-    want: &str,
-) -> Result<(), AllocError> {
-    let text = made(alloc, &[filling, (last, 1)])?;
-    check_refusal(rt, alloc, text.as_bytes(), want)
-}
-
-/// The limit comes before all else, and a wrong last line has its number.
-#[test]
-fn longer_schedules_are_refused(rt: HostRuntime) -> Result<(), AllocError> {
-    let alloc = rt.alloc();
-    let lines = ("\n", MOST - 1);
-    check_longer(
-        &rt,
-        alloc,
-        ("step 10\n", MOST / 8),
-        "\n",
-        "TooLong at line 1",
-    )?;
-    check_longer(&rt, alloc, lines, "x", "BadLine at line 1048576")?;
-    check_longer(&rt, alloc, lines, "xx", "TooLong at line 1")
 }

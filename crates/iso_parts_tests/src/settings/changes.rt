@@ -1,8 +1,8 @@
 //! Each text with one byte changed is read or refused.
-use crate::settings::{fault, world};
-use crate::shared::{check_changes, check_text};
+use crate::shared::check_changes;
 use iso_settings::fault::SettingsError;
 use iso_settings::settings::read_settings;
+use iso_settings::world::read_world;
 use std::alloc::{AllocError, Global};
 
 const SETTINGS: &str = "[junit.jupiter]
@@ -40,27 +40,33 @@ fn are_settings_answered(alloc: Global, bytes: &[u8]) -> bool {
     }
 }
 
-/// Whether a world is read or has a fault.
+/// Whether a fault of a world shows.
+fn is_shown(alloc: Global, error: &SettingsError) -> bool {
+    match error {
+        SettingsError::Fault(fault) => format!(in alloc; "{fault}").is_ok(),
+        SettingsError::OutOfMemory => false,
+    }
+}
+
+/// Whether a world is read, or has a fault that shows.
 fn is_world_answered(alloc: Global, bytes: &[u8]) -> bool {
-    match str::from_utf8(bytes) {
-        Ok(text) => world::fault(alloc, text).is_ok(),
-        Err(_) => true,
+    let Ok(text) = str::from_utf8(bytes) else {
+        return true;
+    };
+    match read_world(alloc, text) {
+        Ok(_) => true,
+        Err(error) => is_shown(alloc, &error),
     }
 }
 
 #[test]
 fn changed_settings_are_read_or_refused(rt: HostRuntime) -> Result<(), AllocError> {
-    check_text(
-        &rt,
-        SETTINGS,
-        fault::fault(rt.alloc(), SETTINGS)?.as_str(),
-        "",
-    );
+    assert!(rt; read_settings(rt.alloc(), SETTINGS, 4).is_ok());
     check_changes(&rt, rt.alloc(), SETTINGS.as_bytes(), are_settings_answered)
 }
 
 #[test]
 fn changed_worlds_are_read_or_refused(rt: HostRuntime) -> Result<(), AllocError> {
-    check_text(&rt, WORLD, world::fault(rt.alloc(), WORLD)?.as_str(), "");
+    assert!(rt; read_world(rt.alloc(), WORLD).is_ok());
     check_changes(&rt, rt.alloc(), WORLD.as_bytes(), is_world_answered)
 }

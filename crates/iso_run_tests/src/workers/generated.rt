@@ -174,22 +174,21 @@ pub(crate) fn script_of(alloc: Global, seed: u64) -> Result<String, AllocError> 
     Ok(text)
 }
 
-/// The first of these numbers of workers that report the script of a seed otherwise than one thread.
-fn first_other(rt: &impl Host, seed: u64, workers: &[u32]) -> Result<Option<u32>, AllocError> {
+/// Whether so many workers report the script of a seed as one thread does.
+fn is_same_at(rt: &impl Host, seed: u64, workers: u32) -> Result<bool, AllocError> {
     let script = script_of(rt.alloc(), seed)?;
     let suite = Scripts {
         scripts: &[script.as_bytes()],
         world: WORLD,
     };
-    suite.first_other(rt, workers)
+    suite.is_same_by(rt, workers)
 }
 
 /// Asserts that so many workers report the scripts of 250 seeds as one thread does: of the first of 500, or of the others.
 fn expect_half(rt: &(impl Host + Abort), half: u64, workers: u32) -> Result<(), AllocError> {
     for place in 0..250u64 {
         let seed = half % 2 * 250 + place;
-        let other = first_other(rt, seed, &[workers])?;
-        assert_eq!(rt; other, None, "at seed {seed}");
+        assert!(rt; is_same_at(rt, seed, workers)?, "at seed {seed}");
     }
     Ok(())
 }
