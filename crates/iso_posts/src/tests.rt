@@ -23,34 +23,50 @@ fn steal_on(thief: &mut Thief) -> Option<u32> {
     None
 }
 
+/// Whether an owner posts the nodes 4, 5 and 6.
+fn posts_three(owner: &mut Owner) -> bool {
+    owner.post(4).is_ok() && owner.post(5).is_ok() && owner.post(6).is_ok()
+}
+
+/// What an owner takes before each of some steals and after the last, and what these steal.
+fn turns(owner: &mut Owner, thief: &mut Thief) -> [Option<u32>; 5] {
+    [
+        owner.take(),
+        steal_on(thief),
+        owner.take(),
+        steal_on(thief),
+        owner.take(),
+    ]
+}
+
 #[test]
 fn owner_and_thief_get_each_node_once(rt: HostRuntime) -> Result<(), Fail> {
     let (mut owner, mut thief) = pair(rt.alloc())?;
-    for node in 4..7 {
-        assert!(&rt; owner.post(node).is_ok());
-    }
-    assert_eq!(&rt; owner.balance(), 3);
-    assert_eq!(&rt; owner.take(), Some(4));
-    assert_eq!(&rt; steal_on(&mut thief), Some(5));
-    assert_eq!(&rt; owner.take(), Some(6));
-    assert_eq!(&rt; steal_on(&mut thief), None);
-    assert_eq!(&rt; owner.take(), None);
+    assert!(&rt; posts_three(&mut owner) && owner.balance() == 3);
+    let told = turns(&mut owner, &mut thief);
+    assert_eq!(&rt; told, [Some(4), Some(5), Some(6), None, None]);
     assert_eq!(&rt; owner.balance(), 0);
     Ok(())
+}
+
+/// What two thieves steal in turns, and what their owner takes then.
+fn steals(owner: &mut Owner, first: &mut Thief, second: &mut Thief) -> [Option<u32>; 5] {
+    [
+        steal_on(first),
+        steal_on(second),
+        steal_on(first),
+        steal_on(second),
+        owner.take(),
+    ]
 }
 
 #[test]
 fn thieves_alone_get_each_node_once(rt: HostRuntime) -> Result<(), Fail> {
     let (mut owner, mut first) = pair(rt.alloc())?;
     let mut second = owner.thief()?;
-    for node in 4..7 {
-        assert!(&rt; owner.post(node).is_ok());
-    }
-    assert_eq!(&rt; steal_on(&mut first), Some(4));
-    assert_eq!(&rt; steal_on(&mut second), Some(5));
-    assert_eq!(&rt; steal_on(&mut first), Some(6));
-    assert_eq!(&rt; steal_on(&mut second), None);
-    assert_eq!(&rt; owner.take(), None);
+    assert!(&rt; posts_three(&mut owner));
+    let told = steals(&mut owner, &mut first, &mut second);
+    assert_eq!(&rt; told, [Some(4), Some(5), Some(6), None, None]);
     Ok(())
 }
 
