@@ -1,4 +1,5 @@
 pub mod Assertions
+pub mod Blocks
 pub mod Chains
 pub mod Completion
 pub mod Forms

@@ -1,15 +1,14 @@
 -- The stack of the pieces that are still to be done.
-use Rattle.std.proofs.Common.{◌≡◌, ◌==◌, ◌<◌, ◌≤◌, ◌+◌, ◌-◌, drop, take, length-drop, get_or, map, sym, true, false, Bor, true≢false, length, ℕ, zero, suc, arith, List, [], ◌∷◌, ◌++◌, reverse, Option, Some, None, option_to_list, append-nil, refl, ap, ◌∙◌, add-one}
-use Rattle.std.proofs.lemmas.List.{reverse-append, take_all}
+use Rattle.std.proofs.Common.{◌≡◌, ◌<◌, ◌+◌, map, sym, true, false, true≢false, ℕ, zero, suc, arith, List, [], ◌∷◌, ◌++◌, reverse, Option, Some, None, option_to_list, append-nil, refl, ap, ◌∙◌, add-one}
+use Rattle.std.proofs.lemmas.List.{reverse-append}
 use Rattle.iso_model.specs.Rights.{Rights}
 use Rattle.iso_model.specs.Environments.{Environment}
 use Rattle.iso_model.specs.Resources.{Resources}
 use Rattle.iso_model.specs.Statements.{Local, State}
 use Rattle.iso_model.specs.Steps.{Piece, rest, turning, leave_done, point, begin, followed_by, step_at, some_left, is_done}
-use Rattle.iso_model.specs.Syntax.{Acts}
-use Rattle.iso_model.specs.SyntaxView.{block_of, stmt_of}
+use Rattle.iso_model.specs.Syntax.{Act, Acts, act, no_acts}
 use Rattle.iso_model.specs.declared.outcome.Ending.{Ending}
-use Rattle.iso_model.specs.declared.tree.Stmt.{Stmt}
+use Rattle.iso_interp.specs.Blocks.{is_empty}
 use Rattle.iso_interp.specs.Runs.{piece_of, pieces_in}
 use Rattle.iso_interp.specs.declared.run.Pending.{Pending}
 use Rattle.iso_interp.specs.declared.run.Pending.TheVariants.{Rest}
@@ -19,33 +18,27 @@ reverse-pop xs None = rw append-nil
 reverse-pop xs (Some x) = reverse-append xs (x ∷ [])
 
 -- a body with a statement left, and turns that are left, stay
-pub leave-rest : (k : ℕ) (ss : List Stmt) (ps : List Piece) (l : Local) → (length ss == 0) ≡ false → leave_done (rest k (block_of ss) ∷ ps) l ≡ point (rest k (block_of ss) ∷ ps) l
-leave-rest k [] ps l some = absurd (true≢false some)
-leave-rest k (x ∷ xs) ps l some = refl
+pub leave-rest : (k : ℕ) (acts : Acts) (ps : List Piece) (l : Local) → is_empty acts ≡ false → leave_done (rest k acts ∷ ps) l ≡ point (rest k acts ∷ ps) l
+leave-rest k no_acts ps l some = absurd (true≢false some)
+leave-rest k (act row a acts) ps l some = refl
 
 pub leave-turning : (row n : ℕ) (a : Acts) (ps : List Piece) (l : Local) → 0 < n → leave_done (turning row n a ∷ ps) l ≡ point (turning row n a ∷ ps) l
 leave-turning row zero a ps l some = absurd (omega arith)
 leave-turning row (suc n) a ps l some = refl
 
-pub leave-top_rest : (top : Option Pending) (p : Pending) (k : ℕ) (ss : Bor (List Stmt)) (below : List Pending) (l : Local) → top ≡ Some p → p ≡ Rest k ss → (length ss.now == 0) ≡ false → leave_done (pieces_in top below) l ≡ point (pieces_in top below) l
-leave-top_rest top p k ss below l is_some is_rest some = rw (is_some, is_rest) (leave-rest k ss.now (map piece_of (reverse below)) l some)
+pub leave-top_rest : (top : Option Pending) (p : Pending) (k : ℕ) (acts : Acts) (below : List Pending) (l : Local) → top ≡ Some p → p ≡ Rest k acts → is_empty acts ≡ false → leave_done (pieces_in top below) l ≡ point (pieces_in top below) l
+leave-top_rest top p k acts below l is_some is_rest some = rw (is_some, is_rest) (leave-rest k acts (map piece_of (reverse below)) l some)
 
 -- a state, by its environment
 abbrev pub in_env : List (List ℕ) → Ending → Resources → Environment → State
 in_env lines ending m env = record { here = record { env = env; lines = lines; ending = ending }; resources = m }
 
 -- the step of a body does its first statement, in the environment that has a step less
-pub first-act : (r : Rights) (k : ℕ) (ss : List Stmt) (first : Stmt) (ps : List Piece) (env new : Environment) (lines : List (List ℕ)) (ending : Ending) (m : Resources) → 1 ≤ length ss → first ≡ get_or ss 0 first → env ≡ record new { steps = new.steps + 1 }
-    → step_at r (rest k (block_of ss) ∷ ps) env.steps (in_env lines ending m env) ≡ followed_by (begin r (stmt_of first).0 (stmt_of first).1 (in_env lines ending m new)) (rest k (block_of (drop 1 ss)) ∷ ps)
-first-act r k [] first ps env new lines ending m some is taken = absurd (omega arith)
-first-act r k (x ∷ xs) first ps env new lines ending m some is taken =
-    ap (λ (e : Environment). step_at r (rest k (block_of (x ∷ xs)) ∷ ps) e.steps (in_env lines ending m e)) taken
-    ∙ ap (λ (n : ℕ). step_at r (rest k (block_of (x ∷ xs)) ∷ ps) n (in_env lines ending m (record new { steps = new.steps + 1 }))) (add-one new.steps)
-    ∙ ap (λ (s : Stmt). followed_by (begin r (stmt_of s).0 (stmt_of s).1 (in_env lines ending m new)) (rest k (block_of xs) ∷ ps)) (sym is)
-
--- the slice of all but the first is that
-pub rest-all : (ss : List Stmt) → take (length ss - 1) (drop 1 ss) ≡ drop 1 ss
-rest-all ss = take_all (length ss - 1) (drop 1 ss) (omega (arith, length-drop 1 ss))
+pub first-act : (r : Rights) (k row : ℕ) (a : Act) (acts : Acts) (ps : List Piece) (env new : Environment) (lines : List (List ℕ)) (ending : Ending) (m : Resources) → env ≡ record new { steps = new.steps + 1 }
+    → step_at r (rest k (act row a acts) ∷ ps) env.steps (in_env lines ending m env) ≡ followed_by (begin r row a (in_env lines ending m new)) (rest k acts ∷ ps)
+first-act r k row a acts ps env new lines ending m taken =
+    ap (λ (e : Environment). step_at r (rest k (act row a acts) ∷ ps) e.steps (in_env lines ending m e)) taken
+    ∙ ap (λ (n : ℕ). step_at r (rest k (act row a acts) ∷ ps) n (in_env lines ending m (record new { steps = new.steps + 1 }))) (add-one new.steps)
 
 -- whether pieces are left, and how many
 pub some-left : (ps : List Piece) → is_done ps ≡ false → some_left ps ≡ 1

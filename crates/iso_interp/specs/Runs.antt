@@ -6,7 +6,6 @@ use Rattle.iso_model.specs.Rights.{Rights, access_in}
 use Rattle.iso_model.specs.Statements.{Local, State, fails, note, performed, with_ending}
 use Rattle.iso_model.specs.Steps.{Piece, rest, turning, Point, point, Machine, machine_at, begin}
 use Rattle.iso_model.specs.Syntax.{Act, Plain}
-use Rattle.iso_model.specs.SyntaxView.{block_of}
 use Rattle.iso_model.specs.Texts.{fault_message, kind_of}
 use Rattle.iso_model.specs.declared.fault.Fault.{Fault}
 use Rattle.iso_model.specs.declared.outcome.Ending.TheVariants as Endings
@@ -19,8 +18,8 @@ use Rattle.iso_interp.specs.declared.run.Progress.TheVariants.{More, Ended}
 
 -- what a piece of work stands for
 abbrev pub piece_of : Pending → Piece
-piece_of (Rest k stmts) = rest k (block_of stmts.now)
-piece_of (Turning row n stmts) = turning row n (block_of stmts.now)
+piece_of (Rest k acts) = rest k acts
+piece_of (Turning row n acts) = turning row n acts
 
 -- the first piece, and those below it, of which the last comes next
 abbrev pub pieces_in : Option Pending → List Pending → List Piece

@@ -1,6 +1,7 @@
 //! The block interpreter: a block of the test language, run step by step over any resources.
 #![tactic(auto)]
 
+pub mod block;
 mod expression;
 mod interrupt;
 mod operators;

@@ -9,6 +9,7 @@ mod looks;
 mod resources;
 mod values;
 
+use crate::block::Block;
 use crate::expression::evaluate;
 use crate::interrupt::Interrupt;
 use crate::run::looks::LOOKS;
@@ -35,12 +36,12 @@ fn restarted(names: Names) -> Names
 }
 
 /// A piece of work, borrowed from the block.
-#[derive(Clone, Copy)]
+#[derive(Drop)]
 enum Pending<'a> {
     /// The rest of a body, after which so many names are kept.
-    Rest(usize, &'a [Stmt]),
+    Rest(usize, Block<'a>),
     /// The turns that are left of a `repeat`, with its row and its body.
-    Turning(u32, u64, &'a [Stmt]),
+    Turning(u32, u64, Block<'a>),
 }
 
 /// Whether something is left to do.
@@ -107,7 +108,7 @@ impl<'a> BlockRun<'a> {
             ending: Ending::Well,
             before,
             looks: LOOKS,
-            top: Some(Pending::Rest(before, block)),
+            top: Some(Pending::Rest(before, Block::of(block))),
             below: Vec::new(alloc),
         };
         run.reach_next_point();
@@ -164,7 +165,7 @@ impl<'a> BlockRun<'a> {
     fn progress(&self) -> Progress
         ensures { result ≡ progress_of (pieces_of self.now) }
     {
-        match self.top {
+        match &self.top {
             None => Progress::Ended,
             Some(_) => Progress::More,
         }
@@ -198,16 +199,17 @@ impl<'a> BlockRun<'a> {
         ensures block { SameBlock self.old self.new }
     {
         loop {
-            match self.top {
+            match &self.top {
                 None => return,
                 Some(Pending::Rest(names, statements)) => {
                     if !statements.is_empty() {
                         return;
                     }
+                    let names = *names;
                     self.keep_names(names);
                 }
                 Some(Pending::Turning(_, turns, _)) => {
-                    if turns > 0 {
+                    if *turns > 0 {
                         return;
                     }
                 }
@@ -242,10 +244,9 @@ impl<'a> BlockRun<'a> {
         ensures local { local_of self.new ≡ local_of self.old }
         ensures block { SameBlock self.old self.new }
     {
-        if let Some(top) = self.top {
+        if let Some(top) = self.top.replace(piece) {
             self.below.push(top)?;
         }
-        self.top = Some(piece);
         Ok(())
     }
 
@@ -256,10 +257,19 @@ impl<'a> BlockRun<'a> {
         ensures block { SameBlock self.old self.new }
         ensures goes_on { T.goes_on touch.old touch.new }
     {
-        match self.top {
+        match &self.top {
             None => Ok(()),
-            Some(Pending::Rest(names, statements)) => self.first_of(touch, names, statements),
-            Some(Pending::Turning(row, turns, body)) => self.turn_of(row, turns, body),
+            Some(Pending::Rest(names, statements)) => {
+                let names = *names;
+                match statements.split_first() {
+                    None => Ok(()),
+                    Some((first, rest)) => self.first_of(touch, names, first, rest),
+                }
+            }
+            Some(Pending::Turning(row, turns, body)) => {
+                let (row, turns, body) = (*row, *turns, body.again());
+                self.turn_of(row, turns, body)
+            }
         }
     }
 

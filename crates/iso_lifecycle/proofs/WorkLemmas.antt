@@ -7,7 +7,6 @@ use Rattle.iso_model.specs.Steps.{is_done}
 use Rattle.iso_interp.specs.Runs.{local_of, names_before, pieces_of, run_rights}
 use Rattle.iso_interp.specs.declared.run.BlockRun.{BlockRun}
 use Rattle.iso_lifecycle.specs.BodyRuns.{settled_with}
-use Rattle.iso_model.specs.SyntaxView.{block_of}
 use Rattle.iso_lifecycle.specs.Heads.{heads_in}
 use Rattle.iso_lifecycle.specs.JobPlaces.{jobs_from}
 use Rattle.iso_lifecycle.specs.Works.{HaveRights, SameChain, account_in, begun_with, beside_in, jobs_left}
@@ -15,7 +14,7 @@ use Rattle.iso_lifecycle.specs.declared.work.Rest.{Rest}
 use Rattle.iso_lifecycle.proofs.Following.{passes}
 
 pub same-jobs : {r s : Rest} → SameChain r s → s.next ≡ r.next → jobs_left s ≡ jobs_left r
-same-jobs {r} {s} chain next = λ i. jobs_from (heads_in (chain.classes i).now) (block_of (chain.test i).now) (next i)
+same-jobs {r} {s} chain next = λ i. jobs_from (heads_in (chain.classes i).now) (chain.test i) (next i)
 
 pub shorter : {A : Type 0} (x : A) (xs ys : List A) → xs ≡ x ∷ ys → length ys < length xs
 shorter x xs ys e = let h : length xs ≡ length ys + 1 = ap length e ∙ sym (add-one (length ys)) in omega arith

@@ -5,7 +5,6 @@ use Rattle.iso_model.specs.contracts.access.Access.{the_row}
 use Rattle.iso_model.specs.Bodies.{Account, Beside, Stage, during, ended, stage_from}
 use Rattle.iso_model.specs.Jobs as J
 use Rattle.iso_model.specs.Rights.{access_in}
-use Rattle.iso_model.specs.SyntaxView.{block_of}
 use Rattle.iso_interp.specs.Runs.{names_before, point_of_run, run_rights}
 use Rattle.iso_interp.specs.declared.run.BlockRun.{BlockRun}
 use Rattle.iso_lifecycle.specs.Heads.{heads_in}
@@ -23,10 +22,10 @@ beside_in r = record { unseen = r.names; lines = r.lines; endings = r.endings.it
 
 -- a job of its chain, and the jobs that are left
 abbrev pub job_in : Rest → Job → J.Job
-job_in r j = job_at (heads_in r.classes.now) (block_of r.test.now) j
+job_in r j = job_at (heads_in r.classes.now) r.test j
 
 abbrev pub jobs_in : Rest → Option Job → List J.Job
-jobs_in r next = jobs_from (heads_in r.classes.now) (block_of r.test.now) next
+jobs_in r next = jobs_from (heads_in r.classes.now) r.test next
 
 abbrev pub jobs_left : Rest → List J.Job
 jobs_left r = jobs_in r r.next

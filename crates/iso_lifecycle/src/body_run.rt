@@ -11,6 +11,7 @@ ghost use Rattle.iso_lifecycle.specs.Works.{HaveRights, HaveRights-prop};
 
 use crate::job::Job;
 use crate::work::Rest;
+use iso_interp::block::Block;
 use iso_interp::run::{BlockRun, Progress};
 use iso_model::bindings::Bindings;
 use iso_model::heads::{ClassContents, ClassHead, TestHead};
@@ -101,7 +102,7 @@ impl<'a> BodyRun<'a> {
             alloc,
             rights,
             classes: &[],
-            test: &[],
+            test: Block::of(&[]),
             next: None,
             names,
             printed: 0,
@@ -128,7 +129,7 @@ impl<'a> BodyRun<'a> {
             alloc,
             rights,
             classes,
-            test: &test.contents.body,
+            test: Block::of(&test.contents.body),
             next: Some(Job::first(classes.len())),
             names,
             printed: 0,
@@ -160,7 +161,7 @@ impl<'a> BodyRun<'a> {
             alloc,
             rights,
             classes: &[],
-            test: block,
+            test: Block::of(block),
             next: None,
             names: Bindings::new(alloc, Vec::new(alloc)),
             printed: 0,

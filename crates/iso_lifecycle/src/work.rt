@@ -4,6 +4,7 @@ ghost use Rattle.iso_lifecycle.specs.JobPlaces.{IsPlaced, IsPlaced-prop};
 
 use crate::blocks::{names_of, part, statements};
 use crate::job::Job;
+use iso_interp::block::Block;
 use iso_interp::run::{BlockEnd, BlockRun};
 use iso_model::bindings::Bindings;
 use iso_model::heads::ClassHead;
@@ -12,7 +13,6 @@ use iso_model::names::Names;
 use iso_model::outcome::Ending;
 use iso_model::place::BlockName;
 use iso_model::rights::Rights;
-use iso_model::tree::Stmt;
 use std::alloc::{AllocError, Global};
 use std::mem;
 use std::sync::Arc;
@@ -23,7 +23,7 @@ pub struct Rest<'a> {
     pub(crate) alloc: Global,
     pub(crate) rights: &'a Rights,
     pub(crate) classes: &'a [Arc<ClassHead>],
-    pub(crate) test: &'a [Stmt],
+    pub(crate) test: Block<'a>,
     pub(crate) next: Option<Job>,
     pub(crate) names: Bindings,
     pub(crate) printed: u32,
@@ -104,7 +104,7 @@ impl<'a> Rest<'a> {
         ensures next { self.new.next ≡ self.old.next }
     {
         let names = self.environment(job)?;
-        let block = statements(self.classes, self.test, job);
+        let block = statements(self.classes, self.test.statements(), job);
         Ok(BlockRun::new(self.alloc, block, names, self.rights))
     }
 

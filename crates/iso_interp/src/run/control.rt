@@ -3,40 +3,37 @@ ghost use Rattle.std.specs.Prelude.{◌≡◌, ◌∷◌, ℕ, Some, None, lengt
 ghost use Rattle.iso_model.specs.Resources.{Resources};
 ghost use Rattle.iso_model.specs.Rights.{Rights};
 ghost use Rattle.iso_model.specs.Steps.{begin, followed_by, machine, machine_at, next_point, point, rest as rest_of, step_at, turning};
-ghost use Rattle.iso_model.specs.Syntax.{choice, repeat};
-ghost use Rattle.iso_model.specs.SyntaxView.{block_of, stmt_of, term_of};
+ghost use Rattle.iso_model.specs.Syntax.{act, choice, repeat};
+ghost use Rattle.iso_model.specs.SyntaxView.{stmt_of, term_of};
 ghost use Rattle.iso_model.specs.Touch.{HasKeys};
 ghost use Rattle.iso_interp.specs.Runs.{Begins, SameBlock, local_of, machine_of, pieces_in, pieces_of, point_of_run, run_rights, state_of};
 ghost use Rattle.iso_interp.specs.declared.run.Pending.TheVariants.{Rest, Turning};
 
+use crate::block::Block;
 use crate::run::{BlockRun, Pending};
 use iso_model::touch::Touch;
 use iso_model::tree::{Expr, Form, Stmt};
 use std::alloc::AllocError;
 
 impl<'a> BlockRun<'a> {
-    /// Does the first statement of a body.
+    /// Does the first statement of a body, and leaves the rest of it.
     pub(super) fn first_of<T: Touch>(
         &mut self,
         touch: &mut T,
         names: usize,
-        statements: &'a [Stmt],
+        first: &'a Stmt,
+        rest: Block<'a>,
     ) -> Result<(), AllocError>
-        requires top { self.old.top ≡ Some (Rest names statements) }
+        requires top { self.old.top ≡ Some (Rest names (act (stmt_of first.now).0 (stmt_of first.now).1 rest)) }
         requires keys { HasKeys (run_rights self.old) (T.content touch.old) (T.writes touch.old) }
         ensures done { OnOk result (machine_of self.new (T.content touch.new) ≡ step_at (run_rights self.old) (pieces_of self.old) (local_of self.old).env.steps (state_of self.old (T.content touch.old))) }
         ensures block { SameBlock self.old self.new }
         ensures goes_on { T.goes_on touch.old touch.new }
     {
-        match statements {
-            [] => Ok(()),
-            [first, rest @ ..] => {
-                if !self.names.take_step() {
-                    return self.run_out(first.row);
-                }
-                self.statement(touch, names, first, rest)
-            }
+        if !self.names.take_step() {
+            return self.run_out(first.row);
         }
+        self.statement(touch, names, first, rest)
     }
 
     /// Does a statement whose step is taken, and puts the rest of its body behind it.
@@ -45,14 +42,14 @@ impl<'a> BlockRun<'a> {
         touch: &mut T,
         names: usize,
         first: &'a Stmt,
-        rest: &'a [Stmt],
+        rest: Block<'a>,
     ) -> Result<(), AllocError>
         requires { HasKeys (run_rights self.old) (T.content touch.old) (T.writes touch.old) }
         ensures done { OnOk result
             (let s = stmt_of first.now in
             machine_of self.new (T.content touch.new) ≡ followed_by
             (begin (run_rights self.old) s.0 s.1 (state_of self.old (T.content touch.old)))
-            (rest_of names (block_of rest.now) ∷ pieces_in None self.old.below.items)) }
+            (rest_of names rest.entry ∷ pieces_in None self.old.below.items)) }
         ensures block { SameBlock self.old self.new }
         ensures goes_on { T.goes_on touch.old touch.new }
     {
@@ -87,9 +84,9 @@ impl<'a> BlockRun<'a> {
             Form::AppendFile(path, text) => self.append_file(touch, row, path, text),
             Form::DeleteFile(path) => self.delete_file(touch, row, path),
             Form::If(condition, first, second) => {
-                self.choose(touch, row, condition, first, second)
+                self.choose(touch, row, condition, Block::of(first), Block::of(second))
             }
-            Form::Repeat(count, body) => self.repeat(touch, row, count, body),
+            Form::Repeat(count, body) => self.repeat(touch, row, count, Block::of(body)),
         }
     }
 
@@ -99,12 +96,12 @@ impl<'a> BlockRun<'a> {
         touch: &T,
         row: u32,
         condition: &Expr,
-        first: &'a [Stmt],
-        second: &'a [Stmt],
+        first: Block<'a>,
+        second: Block<'a>,
     ) -> Result<(), AllocError>
         requires { HasKeys (run_rights self.old) (T.content touch.now) (T.writes touch.now) }
         ensures begun { Begins self.old self.new (T.content touch.now) (T.content touch.now) row
-            (choice (term_of condition.now) (block_of first.now) (block_of second.now)) result }
+            (choice (term_of condition.now) first.entry second.entry) result }
         ensures block { SameBlock self.old self.new }
     {
         match self.flag(touch, condition)? {
@@ -122,11 +119,11 @@ impl<'a> BlockRun<'a> {
         touch: &T,
         row: u32,
         count: &Expr,
-        body: &'a [Stmt],
+        body: Block<'a>,
     ) -> Result<(), AllocError>
         requires { HasKeys (run_rights self.old) (T.content touch.now) (T.writes touch.now) }
         ensures begun { Begins self.old self.new (T.content touch.now) (T.content touch.now) row
-            (repeat (term_of count.now) (block_of body.now)) result }
+            (repeat (term_of count.now) body.entry) result }
         ensures block { SameBlock self.old self.new }
     {
         match self.count(touch, count)? {
@@ -140,7 +137,7 @@ impl<'a> BlockRun<'a> {
         &mut self,
         row: u32,
         turns: u64,
-        body: &'a [Stmt],
+        body: Block<'a>,
     ) -> Result<(), AllocError>
         requires top { self.old.top ≡ Some (Turning row turns body) }
         ensures done { OnOk result ((r : Rights) (m : Resources) → machine_of self.new m ≡ step_at r (pieces_of self.old) (local_of self.old).env.steps (state_of self.old m)) }
@@ -156,13 +153,13 @@ impl<'a> BlockRun<'a> {
     }
 
     /// Does a turn whose step is taken: its body, and behind it the turns that are left.
-    fn turn(&mut self, row: u32, left: u64, body: &'a [Stmt]) -> Result<(), AllocError>
+    fn turn(&mut self, row: u32, left: u64, body: Block<'a>) -> Result<(), AllocError>
         ensures done { OnOk result (point_of_run self.new ≡ next_point
-            (rest_of (length self.old.names.names) (block_of body.now) ∷ turning row left (block_of body.now) ∷ pieces_in None self.old.below.items)
+            (rest_of (length self.old.names.names) body.entry ∷ turning row left body.entry ∷ pieces_in None self.old.below.items)
             (local_of self.old)) }
         ensures block { SameBlock self.old self.new }
     {
-        self.top = Some(Pending::Turning(row, left, body));
+        self.top = Some(Pending::Turning(row, left, body.again()));
         let names = self.names.len();
         self.push(Pending::Rest(names, body))?;
         self.reach_next_point();

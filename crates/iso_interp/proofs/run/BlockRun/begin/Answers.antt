@@ -1,7 +1,7 @@
-use Rattle.std.proofs.Common.{◌∙◌, sym, ap, ap₂, List}
+use Rattle.std.proofs.Common.{◌∙◌, sym, ap, ap₂}
 use Rattle.iso_model.specs.Syntax as S
+use Rattle.iso_model.specs.Syntax.{Acts}
 use Rattle.iso_model.specs.SyntaxView.{term_of, block_of}
-use Rattle.iso_model.specs.declared.tree.Stmt.{Stmt}
 use Rattle.iso_interp.specs.Runs.{pieces_of, run_rights, state_of}
 use Rattle.iso_interp.proofs.Forms.{begun-as, begun-plain, same-pieces, stmt_of-let, stmt_of-assign, stmt_of-print, stmt_of-assert, stmt_of-assert_equal, stmt_of-assume, stmt_of-set_prop, stmt_of-clear_prop, stmt_of-set_locale, stmt_of-write_file, stmt_of-append_file, stmt_of-delete_file, stmt_of-if, stmt_of-repeat}
 use Rattle.iso_interp.proofs.run.BlockRun.begin.Goals as goal
@@ -45,11 +45,11 @@ returns-in-DeleteFile-clause-begun g c = begun-plain c.delete_file.result (run_r
 pub returns-in-If-clause-begun : goal.returns-in-If-clause-begun
 returns-in-If-clause-begun g c =
     let s = c.args.statement.now in
-    let is = stmt_of-if s _ _ _ c.in-If.is ∙ ap₂ (λ (a b : List Stmt). (s.row, S.choice (term_of c.in-If.condition) (block_of a) (block_of b))) (sym c.deref.ensures.value) (sym c.deref-in-If.ensures.value) in
-    begun-as c.choose.result (run_rights c.args.self.now) s (S.choice (term_of c.in-If.condition) (block_of c.deref.result.now) (block_of c.deref-in-If.result.now)) (state_of c.args.self.now (g.T.Touch.content c.args.touch.now)) (state_of c.choose.new.self (g.T.Touch.content c.args.touch.now)) (pieces_of c.args.self.now) (pieces_of c.choose.new.self) is c.choose.ensures.begun
+    let is = stmt_of-if s _ _ _ c.in-If.is ∙ ap₂ (λ (a b : Acts). (s.row, S.choice (term_of c.in-If.condition) a b)) (ap block_of (sym c.deref.ensures.value) ∙ sym c.of.ensures) (ap block_of (sym c.deref-in-If.ensures.value) ∙ sym c.of-in-If.ensures) in
+    begun-as c.choose.result (run_rights c.args.self.now) s (S.choice (term_of c.in-If.condition) c.of.result c.of-in-If.result) (state_of c.args.self.now (g.T.Touch.content c.args.touch.now)) (state_of c.choose.new.self (g.T.Touch.content c.args.touch.now)) (pieces_of c.args.self.now) (pieces_of c.choose.new.self) is c.choose.ensures.begun
 
 pub returns-in-Repeat-clause-begun : goal.returns-in-Repeat-clause-begun
 returns-in-Repeat-clause-begun g c =
     let s = c.args.statement.now in
-    let is = stmt_of-repeat s _ _ c.in-Repeat.is ∙ ap (λ (a : List Stmt). (s.row, S.repeat (term_of c.in-Repeat.count) (block_of a))) (sym c.deref-in-Repeat.ensures.value) in
-    begun-as c.repeat.result (run_rights c.args.self.now) s (S.repeat (term_of c.in-Repeat.count) (block_of c.deref-in-Repeat.result.now)) (state_of c.args.self.now (g.T.Touch.content c.args.touch.now)) (state_of c.repeat.new.self (g.T.Touch.content c.args.touch.now)) (pieces_of c.args.self.now) (pieces_of c.repeat.new.self) is c.repeat.ensures.begun
+    let is = stmt_of-repeat s _ _ c.in-Repeat.is ∙ ap (λ (a : Acts). (s.row, S.repeat (term_of c.in-Repeat.count) a)) (ap block_of (sym c.deref-in-Repeat.ensures.value) ∙ sym c.of-in-Repeat.ensures) in
+    begun-as c.repeat.result (run_rights c.args.self.now) s (S.repeat (term_of c.in-Repeat.count) c.of-in-Repeat.result) (state_of c.args.self.now (g.T.Touch.content c.args.touch.now)) (state_of c.repeat.new.self (g.T.Touch.content c.args.touch.now)) (pieces_of c.args.self.now) (pieces_of c.repeat.new.self) is c.repeat.ensures.begun

@@ -7,7 +7,6 @@ use Rattle.std.specs.declared.sync.Arc.{Arc}
 use Rattle.iso_model.specs.Bodies.{stage_at, stage_from}
 use Rattle.iso_model.specs.ScriptView.{class_head_of}
 use Rattle.iso_model.specs.Syntax.{Acts}
-use Rattle.iso_model.specs.SyntaxView.{block_of}
 use Rattle.iso_model.specs.declared.heads.ClassHead.{ClassHead}
 use Rattle.iso_interp.specs.Runs.{local_of, names_before, pieces_of, point_of_run}
 use Rattle.iso_lifecycle.specs.Heads.{heads_in}
@@ -33,7 +32,7 @@ first-job classes body next after j placed is follows =
 pub returns-then-not-is_due-clause-begun : goal.returns-then-not-is_due-clause-begun
 returns-then-not-is_due-clause-begun c =
     let old = c.args.self.now in
-    let body = block_of old.test.now in
+    let body = old.test in
     let job = job_at (heads_in old.classes.now) body c.args.job in
     let js = jobs_from (heads_in old.classes.now) body c.after-self.result in
     let jobs : jobs_left old ≡ job ∷ js = first-job old.classes.now body old.next c.after-self.result c.args.job old.placed c.requires c.after-self.ensures.next in
@@ -43,7 +42,7 @@ returns-then-not-is_due-clause-begun c =
 pub returns-then-not-is_due-clause-jobs : goal.returns-then-not-is_due-clause-jobs
 returns-then-not-is_due-clause-jobs c =
     let old = c.args.self.now in
-    let body = block_of old.test.now in
+    let body = old.test in
     let job = job_at (heads_in old.classes.now) body c.args.job in
     let js = jobs_from (heads_in old.classes.now) body c.after-self.result in
     let jobs : jobs_left old ≡ job ∷ js = first-job old.classes.now body old.next c.after-self.result c.args.job old.placed c.requires c.after-self.ensures.next in
@@ -52,7 +51,7 @@ returns-then-not-is_due-clause-jobs c =
 pub returns-in_err-run-clause-jobs : goal.returns-in_err-run-clause-jobs
 returns-in_err-run-clause-jobs c =
     let old = c.args.self.now in
-    let body = block_of old.test.now in
+    let body = old.test in
     let job = job_at (heads_in old.classes.now) body c.args.job in
     let js = jobs_from (heads_in old.classes.now) body c.after-self.result in
     let jobs : jobs_left old ≡ job ∷ js = first-job old.classes.now body old.next c.after-self.result c.args.job old.placed c.requires c.after-self.ensures.next in
@@ -62,7 +61,7 @@ returns-in_err-run-clause-jobs c =
 pub returns-clause-begun : goal.returns-clause-begun
 returns-clause-begun c =
     let old = c.args.self.now in
-    let body = block_of old.test.now in
+    let body = old.test in
     let job = job_at (heads_in old.classes.now) body c.args.job in
     let js = jobs_from (heads_in old.classes.now) body c.after-self.result in
     let jobs : jobs_left old ≡ job ∷ js = first-job old.classes.now body old.next c.after-self.result c.args.job old.placed c.requires c.after-self.ensures.next in
@@ -82,7 +81,7 @@ returns-clause-rights c = IfOk-weaker c.end_block_if_done.result _ _ (λ block s
 pub returns-clause-jobs : goal.returns-clause-jobs
 returns-clause-jobs c =
     let old = c.args.self.now in
-    let body = block_of old.test.now in
+    let body = old.test in
     let job = job_at (heads_in old.classes.now) body c.args.job in
     let js = jobs_from (heads_in old.classes.now) body c.after-self.result in
     let jobs : jobs_left old ≡ job ∷ js = first-job old.classes.now body old.next c.after-self.result c.args.job old.placed c.requires c.after-self.ensures.next in

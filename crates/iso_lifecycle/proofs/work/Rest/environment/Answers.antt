@@ -3,7 +3,6 @@ use Rattle.std.proofs.lemmas.List.{length-map, take_min, drop_min}
 use Rattle.std.specs.Arc.{arc_value}
 use Rattle.iso_model.specs.Environments.{environment}
 use Rattle.iso_model.specs.ScriptView.{class_head_of}
-use Rattle.iso_model.specs.SyntaxView.{block_of}
 use Rattle.iso_model.specs.Tests.{names_in}
 use Rattle.iso_lifecycle.specs.Heads.{heads_in}
 use Rattle.iso_lifecycle.specs.JobPlaces.{IsPlaced, classes_seen, job_at, outside}
@@ -14,7 +13,7 @@ pub returns-clause-names : goal.returns-clause-names
 returns-clause-names c =
     let old = c.args.self.now in
     let os = heads_in old.classes.now in
-    let body = block_of old.test.now in
+    let body = old.test in
     let j = c.args.job in
     let xs = old.names in
     let count : length os ≡ length old.classes.now = length-map old.classes.now (λ h. class_head_of (arc_value h)) in
@@ -30,7 +29,7 @@ pub returns-clause-beside : goal.returns-clause-beside
 returns-clause-beside c =
     let old = c.args.self.now in
     let os = heads_in old.classes.now in
-    let body = block_of old.test.now in
+    let body = old.test in
     let j = c.args.job in
     let xs = old.names in
     let count : length os ≡ length old.classes.now = length-map old.classes.now (λ h. class_head_of (arc_value h)) in

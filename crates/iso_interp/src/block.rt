@@ -1,0 +1,60 @@
+//! The statements of a body, lent. Contracts see what they stand for, and so does whatever holds them: the tree itself is spelled out
+//! in the proof of each function that meets it.
+ghost use Rattle.std.specs.Prelude.{◌≡◌, MatchOption};
+ghost use Rattle.iso_model.specs.Syntax.{act, no_acts};
+ghost use Rattle.iso_model.specs.SyntaxView.{block_of, stmt_of};
+ghost use Rattle.iso_interp.specs.Blocks.{is_empty};
+
+use iso_model::tree::Stmt;
+use std::marker::Model;
+
+/// The statements of a body, lent: all of them, or those that are left.
+#[derive(Drop)]
+pub struct Block<'a> {
+    statements: &'a [Stmt],
+}
+
+impl<'a> Model for Block<'a> {
+    ghost use Rattle.iso_model.specs.Syntax.{Acts};
+    ghost use Rattle.iso_model.specs.SyntaxCodes.{acts_code};
+    ghost use Rattle.iso_model.specs.SyntaxView.{block_of};
+
+    ghost Value = { Acts };
+
+    ghost coded = { acts_code };
+
+    ghost view = { λ b. block_of b.statements.now };
+}
+
+impl<'a> Block<'a> {
+    /// All of these statements.
+    pub fn of(statements: &'a [Stmt]) -> Block<'a>
+        ensures { result ≡ block_of statements.now }
+    {
+        Block { statements }
+    }
+
+    /// The same statements, lent once more.
+    pub fn again(&self) -> Block<'a>
+        ensures { result ≡ self.now }
+    {
+        Block {
+            statements: self.statements,
+        }
+    }
+
+    /// Whether there is no statement.
+    pub fn is_empty(&self) -> bool
+        ensures { result ≡ is_empty self.now }
+    {
+        self.statements.is_empty()
+    }
+
+    /// The first statement, and the block of those after it.
+    pub fn split_first(&self) -> Option<(&'a Stmt, Block<'a>)>
+        ensures { MatchOption result (self.now ≡ no_acts) (λ p. self.now ≡ act (stmt_of p.0.now).0 (stmt_of p.0.now).1 p.1) }
+    {
+        let (first, rest) = self.statements.split_first()?;
+        Some((first, Block { statements: rest }))
+    }
+}
