@@ -43,6 +43,13 @@ impl<'a> Block<'a> {
         }
     }
 
+    /// The statements themselves.
+    pub fn statements(&self) -> &'a [Stmt]
+        ensures { block_of result.now ≡ self.now }
+    {
+        self.statements
+    }
+
     /// Whether there is no statement.
     pub fn is_empty(&self) -> bool
         ensures { result ≡ is_empty self.now }
