@@ -1,5 +1,5 @@
 //! The core of a run: events of several workers on one map of resources, each accepted or refused.
-ghost use Rattle.std.specs.Prelude.{◌≡◌, ◌<◌, ℕ, IfOk, IfSome, MatchResult, None, OnErr, OnOk, Some, false, is_some, length, map, replicate, reverse, set, true};
+ghost use Rattle.std.specs.Prelude.{◌≡◌, ◌<◌, ◌++◌, ◌∷◌, [], ℕ, IfOk, IfSome, MatchResult, None, OnErr, OnOk, Some, false, is_some, length, map, replicate, reverse, set, true};
 ghost use Rattle.std.specs.Option.{option_map};
 ghost use Rattle.std.specs.Vec.{vec_capacity, vec_len};
 ghost use Rattle.iso_standing.specs.CodeEvents.{events_of, refused_of, worker_of};
@@ -141,9 +141,17 @@ fn no_bodies<'a>(alloc: Global, workers: usize) -> Result<Vec<Option<Body<'a>>>,
 {
     let mut bodies = Vec::new(alloc);
     'workers: for _worker in 0..workers {
-        bodies.push(None)?;
+        add_worker(&mut bodies)?;
     }
     Ok(bodies)
+}
+
+/// No body for one worker more.
+fn add_worker(bodies: &mut Vec<Option<Body<'_>>>) -> Result<(), AllocError>
+    ensures { OnOk result (bodies.new.items ≡ bodies.old.items ++ None ∷ []) }
+{
+    bodies.push(None)?;
+    Ok(())
 }
 
 /// Gives a worker a body.
@@ -151,7 +159,7 @@ fn give_body<'a>(bodies: &mut Vec<Option<Body<'a>>>, worker: u32, body: Body<'a>
     requires { worker < length bodies.old.items }
     ensures { bodies.new.items ≡ set bodies.old.items worker (Some body.entry) }
 {
-    bodies[worker as usize] = Some(body);
+    drop(bodies[worker as usize].replace(body));
 }
 
 /// Makes room for one event more, and saves the values that a node may change, as it is entered. After want of memory nothing has

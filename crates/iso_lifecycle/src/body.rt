@@ -121,11 +121,35 @@ impl<'a> Body<'a> {
         ensures values { OnOk result (IsAfterBody (subject_of self.entry) (kind_of_body self.entry) (T.content touch.old) (T.content touch.new)) }
     {
         let mut body = self;
-        'steps: while !body.is_ended() {
-            body.step(touch)?;
-            gate.at_body(worker, body.origin.node);
+        match body.go_to_end(worker, gate, touch) {
+            Ok(()) => Ok(body.into_done()),
+            Err(error) => {
+                drop(body);
+                Err(error)
+            }
         }
-        Ok(body.into_done())
+    }
+
+    /// Does all steps that are left. After each the worker meets the gate.
+    fn go_to_end<T: Touch, G: Gate>(
+        &mut self,
+        worker: u32,
+        gate: &G,
+        touch: &mut T,
+    ) -> Result<(), AllocError>
+        requires keys { HasKeys (rights_of_subject (subject_of self.old)) (T.content touch.old) (T.writes touch.old) }
+        requires stands { Stands self.old (T.content touch.old) }
+        ensures subject { subject_of self.new ≡ subject_of self.old }
+        ensures kind { kind_of_body self.new ≡ kind_of_body self.old }
+        ensures ended { OnOk result (is_ended (stage_of_body self.new) ≡ true) }
+        ensures goes_on { T.goes_on touch.old touch.new }
+        ensures values { OnOk result (IsAfterBody (subject_of self.old) (kind_of_body self.old) (T.content touch.old) (T.content touch.new)) }
+    {
+        'steps: while !self.is_ended() {
+            self.step(touch)?;
+            gate.at_body(worker, self.origin.node);
+        }
+        Ok(())
     }
 
     /// Whether nothing is left to do.
@@ -149,6 +173,8 @@ impl<'a> Body<'a> {
         } = self;
         chains_grow_down(origin.plan);
         let end = run.finish();
+        // What no end keeps is dropped by calls: its parts then stand in the proofs of those alone.
+        drop(end.names);
         match origin.kind {
             BodyKind::BeforeAll => {
                 let Some(frame) = frame else {
@@ -160,14 +186,20 @@ impl<'a> Body<'a> {
                     lines: end.output,
                 }))
             }
-            BodyKind::Test => origin.done(What::Tested(Outcome {
-                verdict: verdict(end.endings),
-                output: end.output,
-            })),
-            BodyKind::AfterAll => origin.done(What::Closed(Closed {
-                ending: first_ending(end.endings),
-                lines: end.output,
-            })),
+            BodyKind::Test => {
+                drop(frame);
+                origin.done(What::Tested(Outcome {
+                    verdict: verdict(end.endings),
+                    output: end.output,
+                }))
+            }
+            BodyKind::AfterAll => {
+                drop(frame);
+                origin.done(What::Closed(Closed {
+                    ending: first_ending(end.endings),
+                    lines: end.output,
+                }))
+            }
         }
     }
 }

@@ -1,6 +1,7 @@
 //! A run of a whole body, one step at a time: its blocks, in the order of their jobs.
 ghost use Rattle.std.specs.Prelude.{◌≡◌, ◌<◌, ◌∷◌, ◌^◌, [], length, true, false, OnOk, OnErr, IfOk};
 ghost use Rattle.iso_model.specs.Bodies.{account_after, body_step, disabled_account, ended, fresh_account, going, is_ended, stage_from, stage_unless};
+ghost use Rattle.iso_model.specs.Disabled.{disabled_ending};
 ghost use Rattle.iso_model.specs.ChainView.{innermost_first};
 ghost use Rattle.iso_model.specs.Jobs.{job, test_jobs};
 ghost use Rattle.iso_model.specs.Rights.{access_in};
@@ -92,12 +93,13 @@ impl<'a> BodyRun<'a> {
         ensures stage { IfOk result (λ run. stage_of run ≡ ended (disabled_account reason.now names)) }
         ensures rights { IfOk result (λ run. rights_of run ≡ access_in rights.now) }
     {
-        let note = Note {
-            message: reason.copy(alloc)?,
-            place: Place::Disabled,
+        let endings = match endings_of_disabled(alloc, reason) {
+            Ok(endings) => endings,
+            Err(error) => {
+                drop(names);
+                return Err(error);
+            }
         };
-        let mut endings = Vec::new(alloc);
-        endings.push(Ending::Assumed(note))?;
         let rest = Rest {
             alloc,
             rights,
@@ -252,4 +254,17 @@ impl<'a> BodyRun<'a> {
         drop(mem::replace(&mut self.block, next));
         Ok(())
     }
+}
+
+/// The endings of a disabled body: one, as by a false assumption of this reason.
+fn endings_of_disabled(alloc: Global, reason: &Text) -> Result<Vec<Ending>, AllocError>
+    ensures { IfOk result (λ endings. endings.items ≡ disabled_ending reason.now ∷ []) }
+{
+    let note = Note {
+        message: reason.copy(alloc)?,
+        place: Place::Disabled,
+    };
+    let mut endings = Vec::new(alloc);
+    endings.push(Ending::Assumed(note))?;
+    Ok(endings)
 }

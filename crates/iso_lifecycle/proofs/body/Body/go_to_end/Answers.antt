@@ -4,7 +4,7 @@ use Rattle.iso_lifecycle.specs.BodyViews.{kind_of_body, stage_of_body, subject_o
 use Rattle.iso_lifecycle.specs.Subjects.{Subject, rights_of_subject}
 use Rattle.iso_model.specs.Bodies.{body_step, going, is_ended}
 use Rattle.iso_model.specs.Touch.{HasKeys}
-use Rattle.iso_lifecycle.proofs.body.Body.run.Goals as goal
+use Rattle.iso_lifecycle.proofs.body.Body.go_to_end.Goals as goal
 
 pub steps-init : goal.steps-init
 steps-init g c = record {
@@ -12,7 +12,7 @@ steps-init g c = record {
   kind = refl;
   stands = c.requires.stands;
   keys = c.requires.keys;
-  ready = stands-ready c.args.self (g.T.Touch.content c.args.touch.now) c.requires.stands;
+  ready = stands-ready c.args.self.now (g.T.Touch.content c.args.touch.now) c.requires.stands;
   goes_on = g.met.T.Touch.still _;
   others = λ k locked. refl;
 }
@@ -28,7 +28,7 @@ step-requires-clause-stands g c = c.steps.invariant.stands
 pub steps-smaller : goal.steps-smaller
 steps-smaller g c =
     let content = g.T.Touch.content in
-    let old = c.steps.body in
+    let old = c.steps.self in
     let on : is_ended (stage_of_body old) ≡ false = sym c.is_ended.ensures ∙ c.steps-test.true in
     step-nearer (rights_of_subject (subject_of old)) (stage_of_body old) (stage_of_body c.step.new.self) (content c.steps.touch) (content c.step.new.touch) c.in_ok-step.ensures.step c.steps.invariant.ready on
 
@@ -36,9 +36,9 @@ pub steps-preserved : goal.steps-preserved
 steps-preserved g c =
     let i = c.steps.invariant in
     let content = g.T.Touch.content in
-    let old = stage_of_body c.steps.body in
+    let old = stage_of_body c.steps.self in
     let new = stage_of_body c.step.new.self in
-    let s = subject_of c.args.self in
+    let s = subject_of c.args.self.now in
     let stepped : going new (content c.step.new.touch) ≡ body_step (rights_of_subject s) (going old (content c.steps.touch)) =
     subst (λ (t : Subject). going new (content c.step.new.touch) ≡ body_step (rights_of_subject t) (going old (content c.steps.touch))) i.subject c.in_ok-step.ensures.step in
     record {
@@ -54,17 +54,14 @@ steps-preserved g c =
 pub returns-in_err-step-clause-goes_on : goal.returns-in_err-step-clause-goes_on
 returns-in_err-step-clause-goes_on g c = g.met.T.Touch.further _ _ _ c.steps.invariant.goes_on c.step.ensures.goes_on
 
-pub returns-clause-subject : goal.returns-clause-subject
-returns-clause-subject g c = c.into_done.ensures.subject ∙ c.steps.invariant.subject
-
-pub returns-clause-kind : goal.returns-clause-kind
-returns-clause-kind g c = c.into_done.ensures.kind ∙ c.steps.invariant.kind
+pub returns-clause-ended : goal.returns-clause-ended
+returns-clause-ended g c = sym c.is_ended.ensures ∙ c.steps-test.false
 
 pub returns-clause-values : goal.returns-clause-values
 returns-clause-values g c =
     let i = c.steps.invariant in
-    let off : is_ended (stage_of_body c.steps.body) ≡ true = sym c.is_ended.ensures ∙ c.steps-test.false in
+    let off : is_ended (stage_of_body c.steps.self) ≡ true = sym c.is_ended.ensures ∙ c.steps-test.false in
     record {
       others = i.others;
-      whole = stands-last c.steps.body (kind_of_body c.args.self) (subject_of c.args.self) (g.T.Touch.content c.steps.touch) i.subject i.kind i.stands off;
+      whole = stands-last c.steps.self (kind_of_body c.args.self.now) (subject_of c.args.self.now) (g.T.Touch.content c.steps.touch) i.subject i.kind i.stands off;
     }
