@@ -37,10 +37,13 @@ pub(crate) fn test_names(alloc: Global, frames: &[Frame]) -> Result<Bindings, Al
     Ok(names)
 }
 
-/// Adds shared names.
+/// Adds shared names. Where there is none, no layer is made.
 fn add_shared(alloc: Global, names: &mut Bindings, shared: &SharedNames) -> Result<(), AllocError>
     ensures { OnOk result (names.new ≡ names.old ++ shared.now) }
 {
+    if shared.is_empty() {
+        return Ok(());
+    }
     names.append(alloc, Bindings::shared(alloc, shared.share()?)?)
 }
 

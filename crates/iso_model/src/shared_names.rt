@@ -1,5 +1,5 @@
 //! Names that several owners share.
-ghost use Rattle.std.specs.Prelude.{◌≡◌, IfOk};
+ghost use Rattle.std.specs.Prelude.{◌≡◌, ◌==◌, length, IfOk};
 
 use crate::name_list::NameList;
 use crate::names::{Binding, FEW_NAMES};
@@ -44,6 +44,13 @@ impl SharedNames {
         Ok(SharedNames {
             names: Arc::try_clone(&self.names)?,
         })
+    }
+
+    /// Whether there is no name.
+    pub fn is_empty(&self) -> bool
+        ensures { result ≡ (length self.now == 0) }
+    {
+        self.names.len() == 0
     }
 
     /// The names.
