@@ -1,5 +1,6 @@
 pub mod Assertions
 pub mod Blocks
+pub mod ByTexts
 pub mod Chains
 pub mod Completion
 pub mod Forms

@@ -1,3 +1,4 @@
 pub mod Blocks
+pub mod ByTexts
 pub mod Runs
 pub mod Values

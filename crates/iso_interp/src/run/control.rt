@@ -10,6 +10,7 @@ ghost use Rattle.iso_interp.specs.Runs.{Begins, SameBlock, local_of, machine_of,
 ghost use Rattle.iso_interp.specs.declared.run.Pending.TheVariants.{Rest, Turning};
 
 use crate::block::Block;
+use crate::run::resources::ByText;
 use crate::run::{BlockRun, Pending};
 use iso_model::touch::Touch;
 use iso_model::tree::{Expr, Form, Stmt};
@@ -78,11 +79,11 @@ impl<'a> BlockRun<'a> {
             Form::Assume(condition, reason) => self.assume(touch, row, condition, reason),
             Form::Fail(message) => self.fail_with(row, message),
             Form::SetProp(name, text) => self.set_prop(touch, row, name, text),
-            Form::ClearProp(name) => self.clear_prop(touch, row, name),
-            Form::SetLocale(text) => self.set_locale(touch, row, text),
+            Form::ClearProp(name) => self.change_by(touch, row, ByText::ClearProp, name),
+            Form::SetLocale(text) => self.change_by(touch, row, ByText::SetLocale, text),
             Form::WriteFile(path, text) => self.write_file(touch, row, path, text),
             Form::AppendFile(path, text) => self.append_file(touch, row, path, text),
-            Form::DeleteFile(path) => self.delete_file(touch, row, path),
+            Form::DeleteFile(path) => self.change_by(touch, row, ByText::DeleteFile, path),
             Form::If(condition, first, second) => {
                 self.choose(touch, row, condition, Block::of(first), Block::of(second))
             }

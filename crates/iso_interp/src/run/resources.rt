@@ -4,10 +4,11 @@ ghost use Rattle.iso_model.specs.Keys.{file_key};
 ghost use Rattle.iso_model.specs.ResourceKeys.{spelling};
 ghost use Rattle.iso_model.specs.Resources.{text_in};
 ghost use Rattle.iso_model.specs.Statements.{allowed, appending, changes, deleting};
-ghost use Rattle.iso_model.specs.Syntax.{append_file, clear_prop, delete_file, set_locale, set_prop, write_file};
+ghost use Rattle.iso_model.specs.Syntax.{append_file, set_prop, write_file};
 ghost use Rattle.iso_model.specs.SyntaxView.{term_of};
 ghost use Rattle.iso_model.specs.Touch.{HasKeys, HasKind, file, kind_of_change, kind_of_key};
 ghost use Rattle.iso_model.specs.declared.fault.Fault.TheVariants as Faults;
+ghost use Rattle.iso_interp.specs.ByTexts.{by_text};
 ghost use Rattle.iso_interp.specs.Runs.{Performs, SameWork, faulted, local_of, run_rights, state_of};
 ghost use Rattle.iso_interp.specs.Values.{appended};
 
@@ -21,6 +22,17 @@ use iso_model::text::Text;
 use iso_model::touch::Touch;
 use iso_model::tree::Expr;
 use std::alloc::AllocError;
+
+/// The statements that change a resource by one text.
+#[derive(Clone, Copy)]
+pub(super) enum ByText {
+    /// `clear_prop NAME;`
+    ClearProp,
+    /// `set_locale TEXT;`
+    SetLocale,
+    /// `delete_file PATH;`
+    DeleteFile,
+}
 
 impl<'a> BlockRun<'a> {
     /// `set_prop NAME, TEXT;`
@@ -46,47 +58,34 @@ impl<'a> BlockRun<'a> {
         }
     }
 
-    /// `clear_prop NAME;`
-    pub(super) fn clear_prop<T: Touch>(
+    /// Does a statement that changes a resource by one text.
+    pub(super) fn change_by<T: Touch>(
         &mut self,
         touch: &mut T,
         row: u32,
-        name: &Expr,
-    ) -> Result<(), AllocError>
-        requires { HasKeys (run_rights self.old) (T.content touch.old) (T.writes touch.old) }
-        ensures done { Performs self.old self.new (T.content touch.old) (T.content touch.new) row
-            (clear_prop (term_of name.now)) result }
-        ensures work { SameWork self.old self.new }
-        ensures goes_on { T.goes_on touch.old touch.new }
-    {
-        match self.own_text(touch, name)? {
-            Ok(name) => {
-                let change = Change::ClearProp(name);
-                self.change(touch, row, ResourceKey::Properties, change)
-            }
-            Err(fault) => self.fault(row, fault),
-        }
-    }
-
-    /// `set_locale TEXT;`
-    pub(super) fn set_locale<T: Touch>(
-        &mut self,
-        touch: &mut T,
-        row: u32,
+        what: ByText,
         text: &Expr,
     ) -> Result<(), AllocError>
         requires { HasKeys (run_rights self.old) (T.content touch.old) (T.writes touch.old) }
         ensures done { Performs self.old self.new (T.content touch.old) (T.content touch.new) row
-            (set_locale (term_of text.now)) result }
+            (by_text what (term_of text.now)) result }
         ensures work { SameWork self.old self.new }
         ensures goes_on { T.goes_on touch.old touch.new }
     {
-        match self.own_text(touch, text)? {
-            Ok(text) => {
+        let text = match self.own_text(touch, text)? {
+            Ok(text) => text,
+            Err(fault) => return self.fault(row, fault),
+        };
+        match what {
+            ByText::ClearProp => {
+                let change = Change::ClearProp(text);
+                self.change(touch, row, ResourceKey::Properties, change)
+            }
+            ByText::SetLocale => {
                 let change = Change::SetLocale(text);
                 self.change(touch, row, ResourceKey::Locale, change)
             }
-            Err(fault) => self.fault(row, fault),
+            ByText::DeleteFile => self.delete(touch, row, &text),
         }
     }
 
@@ -174,25 +173,6 @@ impl<'a> BlockRun<'a> {
         match joined_text(self.alloc, before, text.as_str())? {
             Some(joined) => Ok(Ok(joined)),
             None => Ok(Err(Fault::TextTooLong)),
-        }
-    }
-
-    /// `delete_file PATH;`
-    pub(super) fn delete_file<T: Touch>(
-        &mut self,
-        touch: &mut T,
-        row: u32,
-        path: &Expr,
-    ) -> Result<(), AllocError>
-        requires { HasKeys (run_rights self.old) (T.content touch.old) (T.writes touch.old) }
-        ensures done { Performs self.old self.new (T.content touch.old) (T.content touch.new) row
-            (delete_file (term_of path.now)) result }
-        ensures work { SameWork self.old self.new }
-        ensures goes_on { T.goes_on touch.old touch.new }
-    {
-        match self.own_text(touch, path)? {
-            Ok(path) => self.delete(touch, row, &path),
-            Err(fault) => self.fault(row, fault),
         }
     }
 
