@@ -1,5 +1,4 @@
 //! What words ask for.
-use crate::shared::check_text;
 use iso_arguments::request::{InputFiles, Request, WordsFault, read_words};
 use std::alloc::{AllocError, Global};
 use std::process::Abort;
@@ -63,7 +62,7 @@ fn asked(alloc: Global, line: &str) -> Result<String, AllocError> {
 /// A line of words asks for this.
 fn check_asked(rt: &impl Abort, alloc: Global, line: &str, want: &str) -> Result<(), AllocError> {
     let found = asked(alloc, line)?;
-    check_text(rt, line, found.as_str(), want);
+    assert_eq!(rt; found.as_str(), want, "of {line}");
     Ok(())
 }
 
