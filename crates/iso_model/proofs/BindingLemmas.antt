@@ -22,7 +22,7 @@ get-front [] ys j h = absurd (omega arith)
 get-front (x ∷ xs) ys zero h = refl
 get-front (x ∷ xs) ys (suc j) h = get-front xs ys j (omega arith)
 
-get-behind : (xs ys : Bindings) (n m : ℕ) → n ≡ length xs + m → slice_get (xs ++ ys) n ≡ slice_get ys m
+pub get-behind : (xs ys : Bindings) (n m : ℕ) → n ≡ length xs + m → slice_get (xs ++ ys) n ≡ slice_get ys m
 get-behind [] ys n m e = let same : n ≡ m = omega arith in ap (slice_get ys) same
 get-behind (x ∷ xs) ys zero m e = absurd (omega arith)
 get-behind (x ∷ xs) ys (suc n) m e = get-behind xs ys n m (omega arith)

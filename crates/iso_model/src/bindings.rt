@@ -84,7 +84,19 @@ impl Bindings {
     }
 
     /// The name at a place, or `None` past the last.
+    #[inline(always)]
     pub fn at(&self, place: usize) -> Option<LentBinding<'_>>
+        ensures { option_map lent result ≡ slice_get self.now place }
+    {
+        if place >= self.outer {
+            return self.own.at(place - self.outer);
+        }
+        self.shared_at(place)
+    }
+
+    /// The same, over the layers too. Few look-ups are of shared names, so this stays out of what each look-up does.
+    #[inline(never)]
+    fn shared_at(&self, place: usize) -> Option<LentBinding<'_>>
         ensures { option_map lent result ≡ slice_get self.now place }
     {
         let (layer, place) = layer_at(&self.layers, place);
@@ -114,6 +126,19 @@ impl Bindings {
 
     /// Gives the name at a place another value, where there is one. Memory is taken for a shared name alone.
     pub fn set_value(&mut self, place: usize, value: Data) -> Result<(), AllocError>
+        ensures ok { OnOk result (self.new ≡ revalued self.old place value) }
+        ensures err { OnErr result (self.new ≡ self.old) }
+    {
+        if place >= self.outer {
+            self.own.set_value(place - self.outer, value);
+            return Ok(());
+        }
+        self.set_shared_value(place, value)
+    }
+
+    /// The same, over the layers too.
+    #[inline(never)]
+    fn set_shared_value(&mut self, place: usize, value: Data) -> Result<(), AllocError>
         ensures ok { OnOk result (self.new ≡ revalued self.old place value) }
         ensures err { OnErr result (self.new ≡ self.old) }
     {

@@ -62,6 +62,7 @@ impl NameList {
     }
 
     /// The name at a place, or `None` past the last.
+    #[inline(always)]
     pub fn at(&self, place: usize) -> Option<LentBinding<'_>>
         ensures { option_map lent result ≡ slice_get self.now place }
     {

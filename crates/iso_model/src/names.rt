@@ -115,6 +115,7 @@ impl Names {
     }
 
     /// What a name stands for, or `None` where it isn't visible.
+    #[inline(always)]
     pub fn get(&self, name: &str) -> Option<LentBinding<'_>>
         ensures { option_map lent result ≡ binding_of self.now.names name.now }
     {
