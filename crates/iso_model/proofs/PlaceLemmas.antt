@@ -1,10 +1,11 @@
 -- A map that tells where names stand goes on doing so as names are added, dropped and assigned.
-use Rattle.std.proofs.Common.{◌≡◌, ℕ, zero, suc, ◌+◌, ◌<◌, ◌≤◌, List, [], ◌∷◌, ◌++◌, take, length, slice_index_or, slice_set, Option, Some, None, Bool, true, false, cond, bytes_eq, string_bytes, refl, sym, ap, ◌∙◌, arith, inl, inr, ◌⊎◌}
+use Rattle.std.proofs.Common.{◌≡◌, Box, Global, ℕ, zero, suc, ◌+◌, ◌<◌, ◌≤◌, List, [], ◌∷◌, ◌++◌, take, length, slice_index_or, slice_set, Option, Some, None, Bool, true, false, cond, bytes_eq, string_bytes, refl, sym, ap, ◌∙◌, arith, inl, inr, ◌⊎◌}
 use Rattle.std.proofs.lemmas.Bool.{cases_Bool}
 use Rattle.std.proofs.lemmas.List.{length-append, length-set}
 use Rattle.std.proofs.lemmas.Map.Text.{btree_map_updates_text}
 use Rattle.std.proofs.lemmas.Slice.Eq.{bytes_eq-Decides}
 use Rattle.std.specs.BTreeMap.{UpdatesBy, get_by_text}
+use Rattle.std.specs.Box.{box_value}
 use Rattle.std.specs.Cmp.Lexicographic.{slice_cmp}
 use Rattle.std.specs.Ordering.{nat_cmp}
 use Rattle.std.specs.String.{string_cmp}
@@ -171,10 +172,10 @@ module _ (m n : Places) (bs : List Binding) (x : List ℕ) (new : place_of bs x 
       ]
 
 -- the same, if there is a map
-pub made-take : (o : Option Places) (bs : List Binding) (n : ℕ) → TellsWhereMade o bs → TellsWhereMade o (take n bs)
+pub made-take : (o : Option (Box Places Global)) (bs : List Binding) (n : ℕ) → TellsWhereMade o bs → TellsWhereMade o (take n bs)
 made-take None bs n tells = tt
-made-take (Some m) bs n tells = tells-take m bs n tells
+made-take (Some m) bs n tells = tells-take (box_value m) bs n tells
 
-pub made-set : (o : Option Places) (bs : List Binding) (i : ℕ) (c : Binding) (v : Data) → i < length bs → c ≡ slice_index_or bs i c → TellsWhereMade o bs → TellsWhereMade o (slice_set bs i (with_value c v))
+pub made-set : (o : Option (Box Places Global)) (bs : List Binding) (i : ℕ) (c : Binding) (v : Data) → i < length bs → c ≡ slice_index_or bs i c → TellsWhereMade o bs → TellsWhereMade o (slice_set bs i (with_value c v))
 made-set None bs i c v h e tells = tt
-made-set (Some m) bs i c v h e tells = tells-set m bs i c v h e tells
+made-set (Some m) bs i c v h e tells = tells-set (box_value m) bs i c v h e tells

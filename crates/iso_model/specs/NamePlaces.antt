@@ -1,6 +1,7 @@
 -- Where the visible names stand, as a map from their texts.
-use Rattle.std.specs.Prelude.{◌≡◌, ℕ, ◌<◌, List, length, Option, Some, None}
+use Rattle.std.specs.Prelude.{◌≡◌, ℕ, ◌<◌, Box, List, length, Option, Some, None}
 use Rattle.std.specs.BTreeMap.{BTreeMap, get_by_text}
+use Rattle.std.specs.Box.{box_value}
 use Rattle.std.specs.declared.alloc.Global.{Global}
 use Rattle.std.specs.declared.string.String.{String}
 use Rattle.iso_model.specs.Names.{place_of}
@@ -14,6 +15,6 @@ abbrev pub Tells : Places → List Binding → Type 0
 Tells places names = (x : List ℕ) → place_of names x < length names → get_by_text places x ≡ Some (place_of names x)
 
 -- the same, if there is a map
-abbrev pub TellsWhereMade : Option Places → List Binding → Type 0
+abbrev pub TellsWhereMade : Option (Box Places Global) → List Binding → Type 0
 TellsWhereMade None names = Unit {0}
-TellsWhereMade (Some places) names = Tells places names
+TellsWhereMade (Some places) names = Tells (box_value places) names

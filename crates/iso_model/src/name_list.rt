@@ -16,8 +16,9 @@ use std::mem;
 #[derive(Drop)]
 pub(crate) struct NameList {
     bindings: Vec<Binding>,
-    /// Where each name stands first, once `index` has found it out. Names that were dropped stay in it.
-    places: Option<BTreeMap<String, usize>>,
+    /// Where each name stands first, once `index` has found it out. Names that were dropped stay in it. It's boxed, since most lists have
+    /// none, and a block is moved with its names.
+    places: Option<Box<BTreeMap<String, usize>>>,
 }
 
 impl Model for NameList {
@@ -82,7 +83,7 @@ impl NameList {
     {
         if self.places.is_none() {
             let alloc = *self.bindings.allocator();
-            self.places = Some(places_of(alloc, &self.bindings)?);
+            self.places = Some(Box::new(alloc, places_of(alloc, &self.bindings)?)?);
         }
         Ok(())
     }
