@@ -169,10 +169,16 @@ impl Bindings {
 
     /// Adds names after these.
     pub fn append(&mut self, alloc: Global, more: Bindings) -> Result<(), AllocError>
-        ensures { OnOk result (self.new ≡ self.old ++ more) }
+        ensures ok { OnOk result (self.new ≡ self.old ++ more) }
+        ensures err { OnErr result (self.new ≡ self.old) }
     {
         if self.own.len() > 0 {
-            return self.append_copies(alloc, &more);
+            let count = self.len();
+            let added = self.append_copies(alloc, &more);
+            if added.is_err() {
+                self.keep(count);
+            }
+            return added;
         }
         if self.outer.checked_add(more.len()).is_none() {
             return Err(AllocError);
@@ -185,9 +191,10 @@ impl Bindings {
         Ok(())
     }
 
-    /// Adds names that are equal to these.
+    /// Adds names that are equal to these, or some of them where memory is wanting.
     fn append_copies(&mut self, alloc: Global, more: &Bindings) -> Result<(), AllocError>
-        ensures { OnOk result (self.new ≡ self.old ++ more.now) }
+        ensures ok { OnOk result (self.new ≡ self.old ++ more.now) }
+        ensures first { take (length self.old) self.new ≡ self.old }
     {
         for place in 0..more.len() {
             self.push(more.copy_at(alloc, place)?)?;
@@ -222,6 +229,7 @@ impl Bindings {
     pub fn split_off(&mut self, alloc: Global, count: usize) -> Result<Bindings, AllocError>
         requires { count ≤ length self.old }
         ensures first { OnOk result (self.new ≡ take count self.old) }
+        ensures err { OnErr result (self.new ≡ self.old) }
         ensures past { IfOk result (λ past. past ≡ drop count self.old) }
     {
         let (layer, inside) = layer_at(&self.layers, count);

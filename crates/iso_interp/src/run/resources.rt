@@ -4,11 +4,10 @@ ghost use Rattle.iso_model.specs.Keys.{file_key};
 ghost use Rattle.iso_model.specs.ResourceKeys.{spelling};
 ghost use Rattle.iso_model.specs.Resources.{text_in};
 ghost use Rattle.iso_model.specs.Statements.{allowed, appending, changes, deleting};
-ghost use Rattle.iso_model.specs.Syntax.{append_file, set_prop, write_file};
 ghost use Rattle.iso_model.specs.SyntaxView.{term_of};
 ghost use Rattle.iso_model.specs.Touch.{HasKeys, HasKind, file, kind_of_change, kind_of_key};
 ghost use Rattle.iso_model.specs.declared.fault.Fault.TheVariants as Faults;
-ghost use Rattle.iso_interp.specs.ByTexts.{by_text};
+ghost use Rattle.iso_interp.specs.ByTexts.{by_text, by_texts};
 ghost use Rattle.iso_interp.specs.Runs.{Performs, SameWork, faulted, local_of, run_rights, state_of};
 ghost use Rattle.iso_interp.specs.Values.{appended};
 
@@ -34,30 +33,18 @@ pub(super) enum ByText {
     DeleteFile,
 }
 
-impl<'a> BlockRun<'a> {
+/// The statements that change a resource by two texts.
+#[derive(Clone, Copy)]
+pub(super) enum ByTexts {
     /// `set_prop NAME, TEXT;`
-    pub(super) fn set_prop<T: Touch>(
-        &mut self,
-        touch: &mut T,
-        row: u32,
-        name: &Expr,
-        text: &Expr,
-    ) -> Result<(), AllocError>
-        requires { HasKeys (run_rights self.old) (T.content touch.old) (T.writes touch.old) }
-        ensures done { Performs self.old self.new (T.content touch.old) (T.content touch.new) row
-            (set_prop (term_of name.now) (term_of text.now)) result }
-        ensures work { SameWork self.old self.new }
-        ensures goes_on { T.goes_on touch.old touch.new }
-    {
-        match self.own_texts(touch, name, text)? {
-            Ok((name, text)) => {
-                let change = Change::SetProp(name, text);
-                self.change(touch, row, ResourceKey::Properties, change)
-            }
-            Err(fault) => self.fault(row, fault),
-        }
-    }
+    SetProp,
+    /// `write_file PATH, TEXT;`
+    WriteFile,
+    /// `append_file PATH, TEXT;`
+    AppendFile,
+}
 
+impl<'a> BlockRun<'a> {
     /// Does a statement that changes a resource by one text.
     pub(super) fn change_by<T: Touch>(
         &mut self,
@@ -89,46 +76,35 @@ impl<'a> BlockRun<'a> {
         }
     }
 
-    /// `write_file PATH, TEXT;`
-    pub(super) fn write_file<T: Touch>(
+    /// Does a statement that changes a resource by two texts.
+    pub(super) fn change_by_two<T: Touch>(
         &mut self,
         touch: &mut T,
         row: u32,
-        path: &Expr,
-        text: &Expr,
+        what: ByTexts,
+        first: &Expr,
+        second: &Expr,
     ) -> Result<(), AllocError>
         requires { HasKeys (run_rights self.old) (T.content touch.old) (T.writes touch.old) }
         ensures done { Performs self.old self.new (T.content touch.old) (T.content touch.new) row
-            (write_file (term_of path.now) (term_of text.now)) result }
+            (by_texts what (term_of first.now) (term_of second.now)) result }
         ensures work { SameWork self.old self.new }
         ensures goes_on { T.goes_on touch.old touch.new }
     {
-        match self.own_texts(touch, path, text)? {
-            Ok((path, text)) => {
-                let key = ResourceKey::File(path.as_str());
-                self.change(touch, row, key, Change::WriteFile(text))
+        let (first, second) = match self.own_texts(touch, first, second)? {
+            Ok(texts) => texts,
+            Err(fault) => return self.fault(row, fault),
+        };
+        match what {
+            ByTexts::SetProp => {
+                let change = Change::SetProp(first, second);
+                self.change(touch, row, ResourceKey::Properties, change)
             }
-            Err(fault) => self.fault(row, fault),
-        }
-    }
-
-    /// `append_file PATH, TEXT;`
-    pub(super) fn append_file<T: Touch>(
-        &mut self,
-        touch: &mut T,
-        row: u32,
-        path: &Expr,
-        text: &Expr,
-    ) -> Result<(), AllocError>
-        requires { HasKeys (run_rights self.old) (T.content touch.old) (T.writes touch.old) }
-        ensures done { Performs self.old self.new (T.content touch.old) (T.content touch.new) row
-            (append_file (term_of path.now) (term_of text.now)) result }
-        ensures work { SameWork self.old self.new }
-        ensures goes_on { T.goes_on touch.old touch.new }
-    {
-        match self.own_texts(touch, path, text)? {
-            Ok((path, text)) => self.append(touch, row, &path, &text),
-            Err(fault) => self.fault(row, fault),
+            ByTexts::WriteFile => {
+                let key = ResourceKey::File(first.as_str());
+                self.change(touch, row, key, Change::WriteFile(second))
+            }
+            ByTexts::AppendFile => self.append(touch, row, &first, &second),
         }
     }
 

@@ -25,7 +25,7 @@ pub returns-in-Assume-clause-begun : goal.returns-in-Assume-clause-begun
 returns-in-Assume-clause-begun g c = begun-plain c.assume.result (run_rights c.args.self.now) c.args.statement.now (S.assume (term_of c.in-Assume.condition) c.in-Assume.reason) (state_of c.args.self.now (g.T.Touch.content c.args.touch.now)) (state_of c.assume.new.self (g.T.Touch.content c.args.touch.now)) (pieces_of c.args.self.now) (pieces_of c.assume.new.self) (stmt_of-assume c.args.statement.now _ _ c.in-Assume.is) (same-pieces c.args.self.now c.assume.new.self c.assume.ensures.work) c.assume.ensures.done
 
 pub returns-in-SetProp-clause-begun : goal.returns-in-SetProp-clause-begun
-returns-in-SetProp-clause-begun g c = begun-plain c.set_prop.result (run_rights c.args.self.now) c.args.statement.now (S.set_prop (term_of c.in-SetProp.name) (term_of c.in-SetProp.text)) (state_of c.args.self.now (g.T.Touch.content c.args.touch.now)) (state_of c.set_prop.new.self (g.T.Touch.content c.set_prop.new.touch)) (pieces_of c.args.self.now) (pieces_of c.set_prop.new.self) (stmt_of-set_prop c.args.statement.now _ _ c.in-SetProp.is) (same-pieces c.args.self.now c.set_prop.new.self c.set_prop.ensures.work) c.set_prop.ensures.done
+returns-in-SetProp-clause-begun g c = begun-plain c.change_by_two.result (run_rights c.args.self.now) c.args.statement.now (S.set_prop (term_of c.in-SetProp.name) (term_of c.in-SetProp.text)) (state_of c.args.self.now (g.T.Touch.content c.args.touch.now)) (state_of c.change_by_two.new.self (g.T.Touch.content c.change_by_two.new.touch)) (pieces_of c.args.self.now) (pieces_of c.change_by_two.new.self) (stmt_of-set_prop c.args.statement.now _ _ c.in-SetProp.is) (same-pieces c.args.self.now c.change_by_two.new.self c.change_by_two.ensures.work) c.change_by_two.ensures.done
 
 pub returns-in-ClearProp-clause-begun : goal.returns-in-ClearProp-clause-begun
 returns-in-ClearProp-clause-begun g c = begun-plain c.change_by.result (run_rights c.args.self.now) c.args.statement.now (S.clear_prop (term_of c.in-ClearProp.name)) (state_of c.args.self.now (g.T.Touch.content c.args.touch.now)) (state_of c.change_by.new.self (g.T.Touch.content c.change_by.new.touch)) (pieces_of c.args.self.now) (pieces_of c.change_by.new.self) (stmt_of-clear_prop c.args.statement.now _ c.in-ClearProp.is) (same-pieces c.args.self.now c.change_by.new.self c.change_by.ensures.work) c.change_by.ensures.done
@@ -34,10 +34,10 @@ pub returns-in-SetLocale-clause-begun : goal.returns-in-SetLocale-clause-begun
 returns-in-SetLocale-clause-begun g c = begun-plain c.change_by-in-SetLocale.result (run_rights c.args.self.now) c.args.statement.now (S.set_locale (term_of c.in-SetLocale.text)) (state_of c.args.self.now (g.T.Touch.content c.args.touch.now)) (state_of c.change_by-in-SetLocale.new.self (g.T.Touch.content c.change_by-in-SetLocale.new.touch)) (pieces_of c.args.self.now) (pieces_of c.change_by-in-SetLocale.new.self) (stmt_of-set_locale c.args.statement.now _ c.in-SetLocale.is) (same-pieces c.args.self.now c.change_by-in-SetLocale.new.self c.change_by-in-SetLocale.ensures.work) c.change_by-in-SetLocale.ensures.done
 
 pub returns-in-WriteFile-clause-begun : goal.returns-in-WriteFile-clause-begun
-returns-in-WriteFile-clause-begun g c = begun-plain c.write_file.result (run_rights c.args.self.now) c.args.statement.now (S.write_file (term_of c.in-WriteFile.path) (term_of c.in-WriteFile.text)) (state_of c.args.self.now (g.T.Touch.content c.args.touch.now)) (state_of c.write_file.new.self (g.T.Touch.content c.write_file.new.touch)) (pieces_of c.args.self.now) (pieces_of c.write_file.new.self) (stmt_of-write_file c.args.statement.now _ _ c.in-WriteFile.is) (same-pieces c.args.self.now c.write_file.new.self c.write_file.ensures.work) c.write_file.ensures.done
+returns-in-WriteFile-clause-begun g c = begun-plain c.change_by_two-in-WriteFile.result (run_rights c.args.self.now) c.args.statement.now (S.write_file (term_of c.in-WriteFile.path) (term_of c.in-WriteFile.text)) (state_of c.args.self.now (g.T.Touch.content c.args.touch.now)) (state_of c.change_by_two-in-WriteFile.new.self (g.T.Touch.content c.change_by_two-in-WriteFile.new.touch)) (pieces_of c.args.self.now) (pieces_of c.change_by_two-in-WriteFile.new.self) (stmt_of-write_file c.args.statement.now _ _ c.in-WriteFile.is) (same-pieces c.args.self.now c.change_by_two-in-WriteFile.new.self c.change_by_two-in-WriteFile.ensures.work) c.change_by_two-in-WriteFile.ensures.done
 
 pub returns-in-AppendFile-clause-begun : goal.returns-in-AppendFile-clause-begun
-returns-in-AppendFile-clause-begun g c = begun-plain c.append_file.result (run_rights c.args.self.now) c.args.statement.now (S.append_file (term_of c.in-AppendFile.path) (term_of c.in-AppendFile.text)) (state_of c.args.self.now (g.T.Touch.content c.args.touch.now)) (state_of c.append_file.new.self (g.T.Touch.content c.append_file.new.touch)) (pieces_of c.args.self.now) (pieces_of c.append_file.new.self) (stmt_of-append_file c.args.statement.now _ _ c.in-AppendFile.is) (same-pieces c.args.self.now c.append_file.new.self c.append_file.ensures.work) c.append_file.ensures.done
+returns-in-AppendFile-clause-begun g c = begun-plain c.change_by_two-in-AppendFile.result (run_rights c.args.self.now) c.args.statement.now (S.append_file (term_of c.in-AppendFile.path) (term_of c.in-AppendFile.text)) (state_of c.args.self.now (g.T.Touch.content c.args.touch.now)) (state_of c.change_by_two-in-AppendFile.new.self (g.T.Touch.content c.change_by_two-in-AppendFile.new.touch)) (pieces_of c.args.self.now) (pieces_of c.change_by_two-in-AppendFile.new.self) (stmt_of-append_file c.args.statement.now _ _ c.in-AppendFile.is) (same-pieces c.args.self.now c.change_by_two-in-AppendFile.new.self c.change_by_two-in-AppendFile.ensures.work) c.change_by_two-in-AppendFile.ensures.done
 
 pub returns-in-DeleteFile-clause-begun : goal.returns-in-DeleteFile-clause-begun
 returns-in-DeleteFile-clause-begun g c = begun-plain c.change_by-in-DeleteFile.result (run_rights c.args.self.now) c.args.statement.now (S.delete_file (term_of c.in-DeleteFile.path)) (state_of c.args.self.now (g.T.Touch.content c.args.touch.now)) (state_of c.change_by-in-DeleteFile.new.self (g.T.Touch.content c.change_by-in-DeleteFile.new.touch)) (pieces_of c.args.self.now) (pieces_of c.change_by-in-DeleteFile.new.self) (stmt_of-delete_file c.args.statement.now _ c.in-DeleteFile.is) (same-pieces c.args.self.now c.change_by-in-DeleteFile.new.self c.change_by-in-DeleteFile.ensures.work) c.change_by-in-DeleteFile.ensures.done
