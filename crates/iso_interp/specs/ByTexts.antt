@@ -2,8 +2,8 @@
 use Rattle.iso_model.specs.Syntax.{Term, Plain, append_file, clear_prop, delete_file, set_locale, set_prop, write_file}
 use Rattle.iso_interp.specs.declared.run.resources.ByText.{ByText}
 use Rattle.iso_interp.specs.declared.run.resources.ByText.TheVariants.{ClearProp, SetLocale, DeleteFile}
-use Rattle.iso_interp.specs.declared.run.resources.ByTexts.{ByTexts}
-use Rattle.iso_interp.specs.declared.run.resources.ByTexts.TheVariants.{SetProp, WriteFile, AppendFile}
+use Rattle.iso_interp.specs.declared.run.resources.ByTwoTexts.{ByTwoTexts}
+use Rattle.iso_interp.specs.declared.run.resources.ByTwoTexts.TheVariants.{SetProp, WriteFile, AppendFile}
 
 -- the statement with its text
 abbrev pub by_text : ByText → Term → Plain
@@ -12,7 +12,7 @@ by_text SetLocale text = set_locale text
 by_text DeleteFile text = delete_file text
 
 -- the statement with its two texts
-abbrev pub by_texts : ByTexts → Term → Term → Plain
-by_texts SetProp name text = set_prop name text
-by_texts WriteFile path text = write_file path text
-by_texts AppendFile path text = append_file path text
+abbrev pub by_two_texts : ByTwoTexts → Term → Term → Plain
+by_two_texts SetProp property text = set_prop property text
+by_two_texts WriteFile path text = write_file path text
+by_two_texts AppendFile path text = append_file path text

@@ -10,7 +10,7 @@ ghost use Rattle.iso_interp.specs.Runs.{Begins, SameBlock, local_of, machine_of,
 ghost use Rattle.iso_interp.specs.declared.run.Pending.TheVariants.{Rest, Turning};
 
 use crate::block::Block;
-use crate::run::resources::{ByText, ByTexts};
+use crate::run::resources::{ByText, ByTwoTexts};
 use crate::run::{BlockRun, Pending};
 use iso_model::touch::Touch;
 use iso_model::tree::{Expr, Form, Stmt};
@@ -79,15 +79,15 @@ impl<'a> BlockRun<'a> {
             Form::Assume(condition, reason) => self.assume(touch, row, condition, reason),
             Form::Fail(message) => self.fail_with(row, message),
             Form::SetProp(name, text) => {
-                self.change_by_two(touch, row, ByTexts::SetProp, name, text)
+                self.change_by_two(touch, row, ByTwoTexts::SetProp, name, text)
             }
             Form::ClearProp(name) => self.change_by(touch, row, ByText::ClearProp, name),
             Form::SetLocale(text) => self.change_by(touch, row, ByText::SetLocale, text),
             Form::WriteFile(path, text) => {
-                self.change_by_two(touch, row, ByTexts::WriteFile, path, text)
+                self.change_by_two(touch, row, ByTwoTexts::WriteFile, path, text)
             }
             Form::AppendFile(path, text) => {
-                self.change_by_two(touch, row, ByTexts::AppendFile, path, text)
+                self.change_by_two(touch, row, ByTwoTexts::AppendFile, path, text)
             }
             Form::DeleteFile(path) => self.change_by(touch, row, ByText::DeleteFile, path),
             Form::If(condition, first, second) => {

@@ -7,7 +7,7 @@ ghost use Rattle.iso_model.specs.Statements.{allowed, appending, changes, deleti
 ghost use Rattle.iso_model.specs.SyntaxView.{term_of};
 ghost use Rattle.iso_model.specs.Touch.{HasKeys, HasKind, file, kind_of_change, kind_of_key};
 ghost use Rattle.iso_model.specs.declared.fault.Fault.TheVariants as Faults;
-ghost use Rattle.iso_interp.specs.ByTexts.{by_text, by_texts};
+ghost use Rattle.iso_interp.specs.ByTexts.{by_text, by_two_texts};
 ghost use Rattle.iso_interp.specs.Runs.{Performs, SameWork, faulted, local_of, run_rights, state_of};
 ghost use Rattle.iso_interp.specs.Values.{appended};
 
@@ -35,7 +35,7 @@ pub(super) enum ByText {
 
 /// The statements that change a resource by two texts.
 #[derive(Clone, Copy)]
-pub(super) enum ByTexts {
+pub(super) enum ByTwoTexts {
     /// `set_prop NAME, TEXT;`
     SetProp,
     /// `write_file PATH, TEXT;`
@@ -81,13 +81,13 @@ impl<'a> BlockRun<'a> {
         &mut self,
         touch: &mut T,
         row: u32,
-        what: ByTexts,
+        what: ByTwoTexts,
         first: &Expr,
         second: &Expr,
     ) -> Result<(), AllocError>
         requires { HasKeys (run_rights self.old) (T.content touch.old) (T.writes touch.old) }
         ensures done { Performs self.old self.new (T.content touch.old) (T.content touch.new) row
-            (by_texts what (term_of first.now) (term_of second.now)) result }
+            (by_two_texts what (term_of first.now) (term_of second.now)) result }
         ensures work { SameWork self.old self.new }
         ensures goes_on { T.goes_on touch.old touch.new }
     {
@@ -96,15 +96,15 @@ impl<'a> BlockRun<'a> {
             Err(fault) => return self.fault(row, fault),
         };
         match what {
-            ByTexts::SetProp => {
+            ByTwoTexts::SetProp => {
                 let change = Change::SetProp(first, second);
                 self.change(touch, row, ResourceKey::Properties, change)
             }
-            ByTexts::WriteFile => {
+            ByTwoTexts::WriteFile => {
                 let key = ResourceKey::File(first.as_str());
                 self.change(touch, row, key, Change::WriteFile(second))
             }
-            ByTexts::AppendFile => self.append(touch, row, &first, &second),
+            ByTwoTexts::AppendFile => self.append(touch, row, &first, &second),
         }
     }
 
