@@ -23,8 +23,6 @@ mod random;
 #[cfg(test)]
 mod schedules;
 #[cfg(test)]
-mod selection;
-#[cfg(test)]
 mod sinks;
 #[cfg(test)]
 mod suites;

@@ -1,11 +1,11 @@
 //! Schedules of the events that a core allows, one after another.
+use super::generated::{WORLD, script_of};
 use super::runs::{OF_TWO_FILES, Row, compare_core};
 use crate::random::gives_report;
 use crate::suites::{
     CONCURRENT, Check, LATER, SERIAL, SOON, Surroundings, TWO_FILES, TWO_WORKERS, check_inputs,
     check_script,
 };
-use crate::workers::generated::{WORLD, script_of};
 use iso_core::machine::Core;
 use iso_core::run_events::run_events;
 use iso_plan::plan::Plan;

@@ -1,13 +1,9 @@
-//! Suites that are picked at random, by 1, 2, 8 and 64 workers.
-use crate::host::Host;
+//! Suites that are picked at random. The script of a seed is the one that `tests/suites SEED` prints.
 use crate::random::Numbers;
-use crate::workers::Scripts;
 use std::alloc::{AllocError, Global};
-use std::process::Abort;
-use std::test::Fail;
 
 /// What all of them start with.
-pub(crate) const WORLD: &str = "locale = \"de\"\nfiles.a = \"s\"\nproperties.p = \"1\"\n";
+pub(super) const WORLD: &str = "locale = \"de\"\nfiles.a = \"s\"\nproperties.p = \"1\"\n";
 
 /// Keys that nodes may declare.
 static KEYS: [&str; 4] = [
@@ -162,7 +158,7 @@ impl Draft {
 }
 
 /// The script of a seed.
-pub(crate) fn script_of(alloc: Global, seed: u64) -> Result<String, AllocError> {
+pub(super) fn script_of(alloc: Global, seed: u64) -> Result<String, AllocError> {
     let mut draft = Draft {
         numbers: Numbers::of_seed(seed),
         text: String::from_str(alloc, "team shop\n")?,
@@ -172,87 +168,4 @@ pub(crate) fn script_of(alloc: Global, seed: u64) -> Result<String, AllocError> 
     draft.close_all()?;
     let Draft { text, .. } = draft;
     Ok(text)
-}
-
-/// Whether so many workers report the script of a seed as one thread does.
-fn is_same_at(rt: &impl Host, seed: u64, workers: u32) -> Result<bool, AllocError> {
-    let script = script_of(rt.alloc(), seed)?;
-    let suite = Scripts {
-        scripts: &[script.as_bytes()],
-        world: WORLD,
-    };
-    suite.is_same_by(rt, workers)
-}
-
-/// Asserts that so many workers report the scripts of 250 seeds as one thread does: of the first of 500, or of the others.
-fn expect_half(rt: &(impl Host + Abort), half: u64, workers: u32) -> Result<(), AllocError> {
-    for place in 0..250u64 {
-        let seed = half % 2 * 250 + place;
-        assert!(rt; is_same_at(rt, seed, workers)?, "at seed {seed}");
-    }
-    Ok(())
-}
-
-#[test]
-fn one_worker_reports_the_first_suites_at_random_as_one_thread_does(
-    rt: HostRuntime,
-) -> Result<(), Fail> {
-    expect_half(&rt, 0, 1)?;
-    Ok(())
-}
-
-#[test]
-fn one_worker_reports_further_suites_at_random_as_one_thread_does(
-    rt: HostRuntime,
-) -> Result<(), Fail> {
-    expect_half(&rt, 1, 1)?;
-    Ok(())
-}
-
-#[test]
-fn two_workers_report_the_first_suites_at_random_as_one_thread_does(
-    rt: HostRuntime,
-) -> Result<(), Fail> {
-    expect_half(&rt, 0, 2)?;
-    Ok(())
-}
-
-#[test]
-fn two_workers_report_further_suites_at_random_as_one_thread_does(
-    rt: HostRuntime,
-) -> Result<(), Fail> {
-    expect_half(&rt, 1, 2)?;
-    Ok(())
-}
-
-#[test]
-fn eight_workers_report_the_first_suites_at_random_as_one_thread_does(
-    rt: HostRuntime,
-) -> Result<(), Fail> {
-    expect_half(&rt, 0, 8)?;
-    Ok(())
-}
-
-#[test]
-fn eight_workers_report_further_suites_at_random_as_one_thread_does(
-    rt: HostRuntime,
-) -> Result<(), Fail> {
-    expect_half(&rt, 1, 8)?;
-    Ok(())
-}
-
-#[test]
-fn many_workers_report_the_first_suites_at_random_as_one_thread_does(
-    rt: HostRuntime,
-) -> Result<(), Fail> {
-    expect_half(&rt, 0, 64)?;
-    Ok(())
-}
-
-#[test]
-fn many_workers_report_further_suites_at_random_as_one_thread_does(
-    rt: HostRuntime,
-) -> Result<(), Fail> {
-    expect_half(&rt, 1, 64)?;
-    Ok(())
 }

@@ -1,2 +1,0 @@
-//! Selections.
-mod generated;
