@@ -2,8 +2,6 @@
 #![tactic(auto)]
 
 #[cfg(test)]
-mod interp;
-#[cfg(test)]
 mod locks;
 #[cfg(test)]
 mod model;

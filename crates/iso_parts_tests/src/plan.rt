@@ -1,6 +1,5 @@
 //! Plans, read through their calls.
 mod limits;
-mod locks;
+mod numbers;
 pub(crate) mod scripts;
 mod selected;
-mod shown;

@@ -1,4 +1,3 @@
-//! Schedules: whole texts, limits and changed bytes. Each rule of a line is a worked example of `iso_schedule`.
+//! Schedules: how a fault shows, and changed bytes. Each rule of a line is a worked example of `iso_schedule`.
 mod changes;
-mod limits;
 mod schedules;

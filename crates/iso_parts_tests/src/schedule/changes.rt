@@ -1,5 +1,5 @@
-//! Each front of a schedule, and each schedule with one byte changed, is answered.
-use crate::shared::{check_changes, check_fronts};
+//! Each schedule with one byte changed is answered.
+use crate::shared::check_changes;
 use iso_schedule::fault::ScheduleError;
 use iso_schedule::reader::read_schedule;
 use std::alloc::{AllocError, Global};
@@ -10,11 +10,6 @@ const SCHEDULE: &[u8] =
 /// Whether bytes are read, or have a fault.
 fn is_answered(alloc: Global, bytes: &[u8]) -> bool {
     !matches!(read_schedule(alloc, bytes), Err(ScheduleError::OutOfMemory))
-}
-
-#[test]
-fn fronts_of_a_schedule_are_answered(rt: HostRuntime) {
-    check_fronts(&rt, rt.alloc(), SCHEDULE, is_answered);
 }
 
 #[test]
