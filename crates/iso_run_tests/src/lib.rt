@@ -1,11 +1,9 @@
-//! Tests of bodies, books, floors, schedules, workers and sinks over whole suites, of `command` over readers and sinks that fail, and of
+//! Tests of books, floors, schedules, workers and sinks over whole suites, of `command` over readers and sinks that fail, and of
 //! what words ask for.
 #![tactic(auto)]
 
 #[cfg(test)]
 mod arguments;
-#[cfg(test)]
-mod bodies;
 #[cfg(test)]
 mod books;
 #[cfg(test)]

@@ -4,7 +4,7 @@ ghost use Rattle.std.specs.Prelude.{◌≤◌};
 use iso_plan::plan::Plan;
 use iso_run::inputs::{Inputs, read_inputs};
 use iso_settings::world::World;
-use std::alloc::{AllocError, Global};
+use std::alloc::Global;
 use std::process::Abort;
 use std::test::Fail;
 
@@ -57,11 +57,6 @@ pub(crate) const TWO_FILES: &str = "team shop
 class A { read \"file:a\" test r1 { print file(\"a\"); print \"x\"; } read \"file:a\" test r2 { print file(\"a\"); }
 write \"file:a\" test w1 { write_file \"a\", \"n\"; assert_equal \"n\", file(\"a\"); }
 write \"file:b\" test w2 { write_file \"b\", \"m\"; print file(\"b\"); } }
-";
-
-/// Two tests that each take the key which their class marks for them.
-pub(crate) const CHILDREN: &str = "team shop
-write children \"K\" class C { test a { } test b { } }
 ";
 
 /// A disabled class, of which no block may run.
@@ -126,15 +121,4 @@ pub(crate) fn check_script<R: Abort, C: Check>(
 ) -> Result<(), Fail> {
     let scripts = [script.as_bytes()];
     check_inputs(rt, alloc, surroundings.inputs(&scripts), check)
-}
-
-/// A class of 4,094 tests, as many as there may be.
-pub(crate) fn widest_script(alloc: Global) -> Result<String, AllocError> {
-    let mut script = String::from_str(alloc, "team shop\nclass C {\n")?;
-    for node in 2..4_096u32 {
-        let test = format!(in alloc; "test t{node} {{ }}\n")?;
-        script.push_str(test.as_str())?;
-    }
-    script.push_str("}\n")?;
-    Ok(script)
 }

@@ -6,7 +6,7 @@ use std::alloc::{AllocError, Global};
 use std::process::Abort;
 
 /// How a result ended, in words.
-pub(crate) fn ending(alloc: Global, verdict: ViewVerdict<'_>) -> Result<String, AllocError> {
+fn ending(alloc: Global, verdict: ViewVerdict<'_>) -> Result<String, AllocError> {
     match verdict {
         ViewVerdict::Pass => String::from_str(alloc, "pass"),
         ViewVerdict::Fail(note) => noted(alloc, "fail", note),
@@ -39,11 +39,7 @@ fn push_lines(alloc: Global, told: &mut String, lines: LineSlice<'_>) -> Result<
 }
 
 /// Adds all lines of a result to a text.
-pub(crate) fn push_output(
-    alloc: Global,
-    told: &mut String,
-    view: View<'_>,
-) -> Result<(), AllocError> {
+fn push_output(alloc: Global, told: &mut String, view: View<'_>) -> Result<(), AllocError> {
     push_lines(alloc, told, view.lines)?;
     push_lines(alloc, told, view.more)
 }
