@@ -1,9 +1,6 @@
-//! Tests of bodies, books, floors, schedules, workers and sinks over whole suites, of `command` over readers and sinks that fail, and of
-//! what words ask for.
+//! Tests of bodies, books, floors, schedules and workers over whole suites.
 #![tactic(auto)]
 
-#[cfg(test)]
-mod arguments;
 #[cfg(test)]
 mod bodies;
 #[cfg(test)]
@@ -13,19 +10,13 @@ mod expect;
 #[cfg(test)]
 mod floor;
 #[cfg(test)]
-mod folder;
-#[cfg(test)]
 mod host;
-#[cfg(test)]
-mod program;
 #[cfg(test)]
 mod random;
 #[cfg(test)]
 mod schedules;
 #[cfg(test)]
 mod selection;
-#[cfg(test)]
-mod sinks;
 #[cfg(test)]
 mod suites;
 #[cfg(test)]
