@@ -123,8 +123,29 @@ pub fn read_words<'a>(alloc: Global, words: &'a [String]) -> Result<Request<'a>,
     let command = command_line(alloc)?;
     match command.try_get_matches_from(words) {
         Ok(matches) => requested(alloc, &matches),
+        Err(error) => told(alloc, words, &error),
+    }
+}
+
+/// What words come to that `clap` answers with an error. It tells of them as they stand, so it is asked again with each of them on one
+/// line: no word can forge a line of its own.
+fn told<'a>(alloc: Global, words: &[String], error: &Error) -> Result<Request<'a>, WordsFault>
+    ensures processors { IfOk result AsksForSomeProcessors }
+{
+    let told = on_one_line(alloc, words)?;
+    match command_line(alloc)?.try_get_matches_from(told.as_slice()) {
+        Ok(_) => shown(alloc, error),
         Err(error) => shown(alloc, &error),
     }
+}
+
+/// The words, in which `\n` stands for each line feed.
+fn on_one_line(alloc: Global, words: &[String]) -> Result<Vec<String>, AllocError> {
+    let mut told = Vec::new(alloc);
+    for word in words {
+        told.push(word.replace(alloc, '\n', "\\n")?)?;
+    }
+    Ok(told)
 }
 
 /// What an error of `clap` comes to: help and the version are no faults.

@@ -1,27 +1,14 @@
-//! Tests of books, floors, schedules, workers and sinks over whole suites, of `command` over readers and sinks that fail, and of
-//! what words ask for.
+//! Tests of books, floors, schedules and workers over whole suites.
 #![tactic(auto)]
 
 #[cfg(test)]
-mod arguments;
-#[cfg(test)]
 mod books;
 #[cfg(test)]
-mod expect;
-#[cfg(test)]
 mod floor;
-#[cfg(test)]
-mod folder;
-#[cfg(test)]
-mod host;
-#[cfg(test)]
-mod program;
 #[cfg(test)]
 mod random;
 #[cfg(test)]
 mod schedules;
-#[cfg(test)]
-mod sinks;
 #[cfg(test)]
 mod suites;
 #[cfg(test)]

@@ -35,23 +35,6 @@ pub(crate) const CONCURRENT: Surroundings = Surroundings {
     world: "files.a = \"s\"\nproperties.a = \"1\"\n",
 };
 
-/// Two classes: one that reads a key which a test in it writes, and one that holds an isolated class.
-pub(crate) const CART_AND_DESK: &str = "team shop
-concurrent read \"K\" class Cart { concurrent test a { } write \"K\" test b { } }
-class Desk { test c { } isolated class Till { test d { } } }
-";
-
-/// Its plan under two workers, as it is printed.
-pub(crate) const CART_AND_DESK_PLAN: &str = "workers 2
-1 class concurrent [r:iso:global,w:K] shop.Cart
-2 test same_thread [] shop.Cart.a
-3 test same_thread [] shop.Cart.b
-4 class concurrent [w:iso:global] shop.Desk
-5 test same_thread [] shop.Desk.c
-6 class same_thread [] shop.Desk.Till
-7 test same_thread [] shop.Desk.Till.d
-";
-
 /// Four concurrent tests on two files.
 pub(crate) const TWO_FILES: &str = "team shop
 class A { read \"file:a\" test r1 { print file(\"a\"); print \"x\"; } read \"file:a\" test r2 { print file(\"a\"); }
