@@ -1,5 +1,5 @@
 //! Each call once with memory at hand, on the texts that the language gives.
-use crate::shared::{check_text, push_lines, set_property};
+use crate::shared::{check_text, expect, push_lines, set_property};
 use iso_model::access::Access;
 use iso_model::bindings::Bindings;
 use iso_model::data::Data;
@@ -204,12 +204,12 @@ fn check_cleared(
 ) -> Result<(), AllocError> {
     set_property(alloc, properties, "a", "1")?;
     set_property(alloc, properties, "b", "")?;
-    assert!(rt; is_set(properties, "a", Some("1")));
+    expect(rt, is_set(properties, "a", Some("1")), "a");
     properties.clear("a");
     properties.clear("c");
-    assert!(rt; is_set(properties, "a", None));
-    assert!(rt; is_set(properties, "b", Some("")));
-    assert!(rt; is_set(properties, "c", None));
+    expect(rt, is_set(properties, "a", None), "a, cleared");
+    expect(rt, is_set(properties, "b", Some("")), "b");
+    expect(rt, is_set(properties, "c", None), "c");
     Ok(())
 }
 
@@ -246,9 +246,11 @@ fn local_is_visible_until_it_is_dropped(rt: HostRuntime) -> Result<(), AllocErro
 #[test]
 fn visible_name_is_assigned(rt: HostRuntime) -> Result<(), AllocError> {
     let mut names = x_is_1(rt.alloc())?;
-    assert!(rt; names.assign("y", Data::Whole(2))? == Err(AssignFault::UnknownName));
-    assert!(rt; names.assign("x", Data::Flag(true))?.is_ok());
-    assert!(rt; names.take_step());
+    let unknown = names.assign("y", Data::Whole(2)).expect(&rt, "memory");
+    expect(&rt, unknown == Err(AssignFault::UnknownName), "y");
+    let visible = names.assign("x", Data::Flag(true)).expect(&rt, "memory");
+    expect(&rt, visible.is_ok(), "x");
+    expect(&rt, names.take_step(), "a step");
     Ok(())
 }
 
@@ -288,15 +290,18 @@ fn check_first_of_each(
     names: &mut Names,
 ) -> Result<(), AllocError> {
     names.index()?;
-    assert!(rt; is_whole(names, "k", 0));
-    assert!(rt; names.assign("k", Data::Whole(-1))?.is_ok());
-    assert!(rt; is_whole(names, "k", -1));
+    expect(rt, is_whole(names, "k", 0), "k");
+    let assigned = names.assign("k", Data::Whole(-1))?;
+    expect(rt, assigned.is_ok(), "k may be assigned");
+    expect(rt, is_whole(names, "k", -1), "k as it is assigned");
     names.declare(Text::copied(alloc, "z")?, Data::Whole(-2))?;
-    assert!(rt; is_whole(names, "z", -2));
+    expect(rt, is_whole(names, "z", -2), "z");
     names.keep(8);
-    assert!(rt; names.get("z").is_none() && names.get("k").is_none());
+    expect(rt, names.get("z").is_none(), "z is dropped");
+    expect(rt, names.get("k").is_none(), "k is dropped");
     names.declare(Text::copied(alloc, "k")?, Data::Whole(-3))?;
-    assert!(rt; is_whole(names, "k", -3) && is_whole(names, "h", 0));
+    expect(rt, is_whole(names, "k", -3), "k as it is declared again");
+    expect(rt, is_whole(names, "h", 0), "h");
     Ok(())
 }
 

@@ -54,6 +54,11 @@ pub fn set_property(
     properties.set(name, Text::copied(alloc, text)?)
 }
 
+/// Asserts a fact, which is named: an assertion in a function of its own is no way out of the caller's.
+pub fn expect(rt: &impl Abort, holds: bool, of: &str) {
+    assert!(rt; holds, "{of}");
+}
+
 /// What was found of this is the wanted text.
 pub fn check_text(rt: &impl Abort, of: &str, found: &str, want: &str) {
     assert_eq!(rt; found, want, "of {of}");

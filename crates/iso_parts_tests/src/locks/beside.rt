@@ -9,7 +9,7 @@ use crate::locks::suite::{CART_AND_DESK, READERS_AND_WRITERS, Suite};
 use iso_locks::laws::{lent_nodes_may_be_taken_back, other_nodes_may_still_be_taken_back};
 use iso_locks::tray::Tray;
 use iso_locks::vault::{Busy, Vault};
-use std::alloc::{AllocError, Global};
+use std::alloc::Global;
 use std::process::Abort;
 use std::test::Fail;
 
@@ -47,20 +47,34 @@ fn in_the_way(rt: &impl Abort, vault: &mut Vault<'_>, tray: &mut Tray<'_>, node:
 }
 
 /// A class and a test of it are lent to one tray. An isolated class waits for the class, and is lent after both came home.
+fn lend_after_two(rt: &impl Abort, vault: &mut Vault<'_>, cart: &mut Tray<'_>, desk: &mut Tray<'_>)
+    requires cart_plan { cart.old.plan ≡ vault.old.plan }
+    requires cart_world { cart.old.world ≡ vault.old.world }
+    requires desk_plan { desk.old.plan ≡ vault.old.plan }
+    requires desk_world { desk.old.world ≡ vault.old.world }
+{
+    other_nodes_may_still_be_taken_back();
+    lend(rt, vault, cart, 1);
+    lend(rt, vault, cart, 2);
+    assert_eq!(rt; in_the_way(rt, vault, desk, 4), 1);
+    vault.take_back(2, cart);
+    vault.take_back(1, cart);
+    lend(rt, vault, desk, 4);
+}
+
+/// The same with a vault and trays of a suite. It is lent, and want of memory ends the test here: what is dropped on each way out makes a
+/// proof dear.
+fn check_isolated(rt: &impl Abort, alloc: Global, suite: &Suite) {
+    let mut vault = Vault::new(alloc, &suite.plan, &suite.world).expect(rt, "memory");
+    let mut cart = Tray::new(alloc, &suite.plan, &suite.world).expect(rt, "memory");
+    let mut desk = Tray::new(alloc, &suite.plan, &suite.world).expect(rt, "memory");
+    lend_after_two(rt, &mut vault, &mut cart, &mut desk);
+}
+
 #[test]
 fn isolated_class_is_lent_after_two_nodes_came_home(rt: HostRuntime) -> Result<(), Fail> {
-    other_nodes_may_still_be_taken_back();
-    let alloc = rt.alloc();
-    let suite = Suite::of(alloc, CART_AND_DESK)?;
-    let mut vault = Vault::new(alloc, &suite.plan, &suite.world)?;
-    let mut cart = Tray::new(alloc, &suite.plan, &suite.world)?;
-    let mut desk = Tray::new(alloc, &suite.plan, &suite.world)?;
-    lend(&rt, &mut vault, &mut cart, 1);
-    lend(&rt, &mut vault, &mut cart, 2);
-    assert_eq!(rt; in_the_way(&rt, &mut vault, &mut desk, 4), 1);
-    vault.take_back(2, &mut cart);
-    vault.take_back(1, &mut cart);
-    lend(&rt, &mut vault, &mut desk, 4);
+    let suite = Suite::of(rt.alloc(), CART_AND_DESK)?;
+    check_isolated(&rt, rt.alloc(), &suite);
     Ok(())
 }
 
@@ -90,20 +104,19 @@ fn lend_to_three(
     assert!(rt; vault.home(1) && vault.home(2));
 }
 
-/// The same with a vault and trays of a suite. It is lent: a suite that is dropped on each way out makes a proof dear.
-fn check_three(rt: &impl Abort, alloc: Global, suite: &Suite) -> Result<(), AllocError> {
+/// The same with a vault and trays of a suite.
+fn check_three(rt: &impl Abort, alloc: Global, suite: &Suite) {
     assert_eq!(rt; suite.plan.key_count(), 3);
-    let mut vault = Vault::new(alloc, &suite.plan, &suite.world)?;
-    let mut first = Tray::new(alloc, &suite.plan, &suite.world)?;
-    let mut second = Tray::new(alloc, &suite.plan, &suite.world)?;
-    let mut third = Tray::new(alloc, &suite.plan, &suite.world)?;
+    let mut vault = Vault::new(alloc, &suite.plan, &suite.world).expect(rt, "memory");
+    let mut first = Tray::new(alloc, &suite.plan, &suite.world).expect(rt, "memory");
+    let mut second = Tray::new(alloc, &suite.plan, &suite.world).expect(rt, "memory");
+    let mut third = Tray::new(alloc, &suite.plan, &suite.world).expect(rt, "memory");
     lend_to_three(rt, &mut vault, &mut first, &mut second, &mut third);
-    Ok(())
 }
 
 #[test]
 fn writer_waits_for_readers_and_takes_its_value_away(rt: HostRuntime) -> Result<(), Fail> {
-    let alloc = rt.alloc();
-    let suite = Suite::of(alloc, READERS_AND_WRITERS)?;
-    Ok(check_three(&rt, alloc, &suite)?)
+    let suite = Suite::of(rt.alloc(), READERS_AND_WRITERS)?;
+    check_three(&rt, rt.alloc(), &suite);
+    Ok(())
 }

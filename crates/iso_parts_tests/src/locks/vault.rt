@@ -171,10 +171,10 @@ fn lend_both(
 }
 
 /// Lends the two nodes of a row to two trays.
-fn check_row(rt: &impl Abort, alloc: Global, suite: &Suite, row: &Row) -> Result<(), Fail> {
-    let mut vault = Vault::new(alloc, &suite.plan, &suite.world)?;
-    let mut here = Tray::new(alloc, &suite.plan, &suite.world)?;
-    let mut there = Tray::new(alloc, &suite.plan, &suite.world)?;
+fn check_row(rt: &impl Abort, alloc: Global, suite: &Suite, row: &Row) {
+    let mut vault = Vault::new(alloc, &suite.plan, &suite.world).expect(rt, "memory");
+    let mut here = Tray::new(alloc, &suite.plan, &suite.world).expect(rt, "memory");
+    let mut there = Tray::new(alloc, &suite.plan, &suite.world).expect(rt, "memory");
     let (first, second) = (row.first, row.second);
     let beside = lend_both(
         rt,
@@ -186,14 +186,13 @@ fn check_row(rt: &impl Abort, alloc: Global, suite: &Suite, row: &Row) -> Result
         second,
     );
     assert_eq!(rt; beside, row.want, "{second} beside {first}");
-    Ok(())
 }
 
 #[test]
 fn conflicting_nodes_wait_and_readers_share(rt: HostRuntime) -> Result<(), Fail> {
     let alloc = rt.alloc();
     for row in &ROWS {
-        check_row(&rt, alloc, &Suite::of(alloc, row.script)?, row)?;
+        check_row(&rt, alloc, &Suite::of(alloc, row.script)?, row);
     }
     Ok(())
 }
@@ -219,15 +218,23 @@ fn most_keys(alloc: Global) -> Result<String, AllocError> {
     Ok(text)
 }
 
-/// The value of each of the most keys is home in a new vault.
+/// The value of each of a suite's 256 keys is home in a new vault.
+fn check_home(rt: &impl Abort, alloc: Global, suite: &Suite) {
+    assert_eq!(rt; suite.plan.key_count(), 256);
+    let vault = Vault::new(alloc, &suite.plan, &suite.world).expect(rt, "memory");
+    let _tray = Tray::new(alloc, &suite.plan, &suite.world).expect(rt, "memory");
+    assert_eq!(rt; away(&vault, &suite.plan), 0);
+}
+
+/// The suite with as many keys as there may be.
+fn largest_suite(alloc: Global) -> Result<Suite, Fail> {
+    let script = most_keys(alloc)?;
+    Suite::of(alloc, script.as_str())
+}
+
 #[test]
 fn every_value_is_home_in_a_new_vault(rt: HostRuntime) -> Result<(), Fail> {
-    let alloc = rt.alloc();
-    let script = most_keys(alloc)?;
-    let suite = Suite::of(alloc, script.as_str())?;
-    assert_eq!(rt; suite.plan.key_count(), 256);
-    let vault = Vault::new(alloc, &suite.plan, &suite.world)?;
-    let _tray = Tray::new(alloc, &suite.plan, &suite.world)?;
-    assert_eq!(rt; away(&vault, &suite.plan), 0);
+    let suite = largest_suite(rt.alloc())?;
+    check_home(&rt, rt.alloc(), &suite);
     Ok(())
 }

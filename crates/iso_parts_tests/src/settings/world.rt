@@ -93,26 +93,20 @@ static OWNERS: [(&str, usize); 6] = [
 ];
 
 /// A key's value is the same shared as copied, and what the world names is kept once.
-fn check_shared(
-    rt: &impl Abort,
-    alloc: Global,
-    world: &World,
-    row: &(&str, usize),
-) -> Result<(), AllocError> {
-    let copy = start(alloc, world, row.0)?;
-    let one = shared(alloc, world, row.0)?;
-    let other = shared(alloc, world, row.0)?;
+fn check_shared(rt: &impl Abort, alloc: Global, world: &World, row: &(&str, usize)) {
+    let copy = start(alloc, world, row.0).expect(rt, "memory");
+    let one = shared(alloc, world, row.0).expect(rt, "memory");
+    let other = shared(alloc, world, row.0).expect(rt, "memory");
     check_alike(rt, row.0, &copy, &one);
     check_alike(rt, row.0, &copy, &other);
     assert!(rt; Arc::strong_count(&one) == row.1, "{}", row.0);
-    Ok(())
 }
 
 #[test]
 fn shared_values_are_the_copied_ones(rt: HostRuntime) -> Result<(), SettingsError> {
     let world = read_world(rt.alloc(), SHOP)?;
     for row in &OWNERS {
-        check_shared(&rt, rt.alloc(), &world, row)?;
+        check_shared(&rt, rt.alloc(), &world, row);
     }
     Ok(())
 }
@@ -140,14 +134,18 @@ fn starts_with(alloc: Global, world: &World, key: &str, want: &str) -> Result<bo
     Ok(text_of(&value) == Some(want))
 }
 
+/// Whether a world keeps the longest text at the longest key.
+fn keeps_longest(alloc: Global, world: &World) -> Result<bool, AllocError> {
+    let key = made(alloc, &[("file:", 1), ("a", 4096)])?;
+    let want = made(alloc, &[("b", 4096)])?;
+    starts_with(alloc, world, key.as_str(), want.as_str())
+}
+
 /// No script can declare a key as long.
 #[test]
 fn longest_text_at_the_longest_key_is_kept(rt: HostRuntime) -> Result<(), SettingsError> {
-    let alloc = rt.alloc();
-    let text = made(alloc, &LONGEST)?;
-    let key = made(alloc, &[("file:", 1), ("a", 4096)])?;
-    let want = made(alloc, &[("b", 4096)])?;
-    let world = read_world(alloc, text.as_str())?;
-    assert!(rt; starts_with(alloc, &world, key.as_str(), want.as_str())?);
+    let text = made(rt.alloc(), &LONGEST)?;
+    let world = read_world(rt.alloc(), text.as_str())?;
+    assert!(rt; keeps_longest(rt.alloc(), &world)?);
     Ok(())
 }
