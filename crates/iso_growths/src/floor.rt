@@ -244,8 +244,17 @@ fn is_handed_back<'a, G: Ground, H: Host>(
     calls.begin("Floor::leave");
     let left = floor.leave(calls.rt, seat, done);
     calls.end("Floor::leave");
-    match left {
-        Err((Refused::Stopped, back)) => expect(back.node() == AWAY, "another body came back"),
-        _ => Err(Answer::Wrong("a Leave that isn't refused as Stopped")),
-    }
+    let Err((why, back)) = left else {
+        return Err(Answer::Wrong("a Leave that isn't refused"));
+    };
+    is_own(why, &back)
+}
+
+/// Whether a body that came back is that of the class, refused since the floor is stopped.
+fn is_own(why: Refused, back: &Done) -> Result<(), Answer> {
+    expect(
+        why == Refused::Stopped,
+        "a Leave that isn't refused as Stopped",
+    )?;
+    expect(back.node() == AWAY, "another body came back")
 }
