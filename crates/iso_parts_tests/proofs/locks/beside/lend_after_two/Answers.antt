@@ -4,7 +4,7 @@ use Rattle.iso_locks.specs.Trays.{TrayView}
 use Rattle.iso_locks.specs.Vaults.{CanTakeBack, VaultView, giving_back, regaining}
 use Rattle.iso_plan.specs.Planned.{Planned}
 use Rattle.iso_plan.specs.RowView.{tree_of}
-use Rattle.iso_parts_tests.proofs.locks.beside.isolated_class_is_lent_after_two_nodes_came_home.Goals as goal
+use Rattle.iso_parts_tests.proofs.locks.beside.lend_after_two.Goals as goal
 
 pub take_back-requires-2 : goal.take_back-requires-2
 take_back-requires-2 g c =
