@@ -1,10 +1,6 @@
-//! Tests of books, floors, schedules and workers over whole suites.
+//! Tests of schedules and workers over whole suites.
 #![tactic(auto)]
 
-#[cfg(test)]
-mod books;
-#[cfg(test)]
-mod floor;
 #[cfg(test)]
 mod random;
 #[cfg(test)]

@@ -1,8 +1,10 @@
 //! Schedules of the three teams' example that are picked at random, on 1 to 8 workers.
-use crate::suites::{Check, check_inputs};
-use crate::teams::{OPS, ORDERS, SETTINGS, SHOP, WORLD};
+ghost use Rattle.std.specs.Prelude.{◌≡◌};
+
+use crate::suites::{Check, TWO_WORKERS, check_inputs, expect};
+use crate::teams::{OPS, ORDERS, SHOP, WORLD};
 use iso_core::machine::Core;
-use iso_core::run_events::{EventsFault, run_events};
+use iso_core::run_events::run_events;
 use iso_plan::plan::Plan;
 use iso_run::inputs::Inputs;
 use iso_run::run::run_serial;
@@ -13,7 +15,6 @@ use iso_tap::memory::MemorySink;
 use iso_tap::report::write_report;
 use std::alloc::{AllocError, Global};
 use std::process::Abort;
-use std::test::Fail;
 
 /// Numbers that look random (xorshift), the same from each seed.
 #[derive(Clone, Copy)]
@@ -83,35 +84,44 @@ fn schedule_of(
     schedule(alloc, &mut core, numbers)
 }
 
+/// Whether a core's run is whole and gives this report.
+fn reports(alloc: Global, plan: &Plan, core: &Core<'_>, report: &[u8]) -> bool
+    requires { core.now.plan ≡ plan.now }
+{
+    let mut sink = MemorySink::new(alloc);
+    core.is_complete()
+        && write_report(plan, core.results(), &mut sink).is_ok()
+        && sink.bytes() == report
+}
+
 /// Whether a schedule is whole and gives this report.
-pub(crate) fn gives_report(
+pub(crate) fn gives_report<R: Abort>(
+    rt: &R,
     alloc: Global,
     plan: &Plan,
     world: &World,
     workers: u32,
     events: &[Event],
     report: &[u8],
-) -> Result<bool, EventsFault> {
-    let core = run_events(alloc, plan, world, workers, events)?;
-    let mut sink = MemorySink::new(alloc);
-    Ok(
-        core.is_complete()
-            && write_report(plan, core.results(), &mut sink).is_ok()
-            && sink.bytes() == report,
-    )
+) -> bool {
+    let core = run_events(alloc, plan, world, workers, events).expect(rt, "accepted events");
+    reports(alloc, plan, &core, report)
 }
 
 /// Whether the schedule that is picked from a seed gives this report.
-fn seed_gives_report(
+fn seed_gives_report<R: Abort>(
+    rt: &R,
     alloc: Global,
     plan: &Plan,
     world: &World,
     seed: u64,
     report: &[u8],
-) -> Result<bool, Fail> {
+) -> bool {
     let workers = (1 + seed % 8) as u32;
-    let events = schedule_of(alloc, plan, world, workers, Numbers::of_seed(seed))?;
-    Ok(gives_report(alloc, plan, world, workers, &events, report)?)
+    let events = schedule_of(alloc, plan, world, workers, Numbers::of_seed(seed)).expect(
+        rt, "memory",
+    );
+    gives_report(rt, alloc, plan, world, workers, &events, report)
 }
 
 /// 200 schedules give this report.
@@ -119,34 +129,31 @@ fn seed_gives_report(
 struct GiveReport<'a>(&'a [u8]);
 
 impl<'a> Check for GiveReport<'a> {
-    fn check<R: Abort>(
-        &self,
-        rt: &R,
-        alloc: Global,
-        plan: &Plan,
-        world: &World,
-    ) -> Result<(), Fail> {
+    fn check<R: Abort>(&self, rt: &R, alloc: Global, plan: &Plan, world: &World) {
         for seed in 0..200u64 {
             assert!(rt;
-                seed_gives_report(alloc, plan, world, seed, self.0)?,
+                seed_gives_report(rt, alloc, plan, world, seed, self.0),
                 "at seed {seed}"
             );
         }
-        Ok(())
     }
 }
 
 #[test]
-fn schedules_at_random_give_the_report_of_the_serial_run(rt: HostRuntime) -> Result<(), Fail> {
+fn schedules_at_random_give_the_report_of_the_serial_run(rt: HostRuntime) {
     let scripts = [SHOP.as_bytes(), ORDERS.as_bytes(), OPS.as_bytes()];
     let inputs = Inputs {
         scripts: &scripts,
-        settings: SETTINGS.as_bytes(),
+        settings: TWO_WORKERS.as_bytes(),
         world: WORLD.as_bytes(),
         only: &[],
         processors: 1,
     };
     let mut serial = MemorySink::new(rt.alloc());
-    assert!(rt; run_serial(rt.alloc(), inputs, &mut serial).is_ok());
-    check_inputs(&rt, rt.alloc(), inputs, &GiveReport(serial.bytes()))
+    expect(
+        &rt,
+        run_serial(rt.alloc(), inputs, &mut serial).is_ok(),
+        "the serial run fails",
+    );
+    check_inputs(&rt, rt.alloc(), inputs, &GiveReport(serial.bytes()));
 }

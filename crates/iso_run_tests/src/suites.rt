@@ -6,7 +6,6 @@ use iso_run::inputs::{Inputs, read_inputs};
 use iso_settings::world::World;
 use std::alloc::Global;
 use std::process::Abort;
-use std::test::Fail;
 
 /// The texts of the settings and of the world that a script is run under.
 #[derive(Clone, Copy)]
@@ -67,31 +66,25 @@ impl Surroundings {
     }
 }
 
+/// Asserts what holds, and tells what else there is.
+pub(crate) fn expect(rt: &impl Abort, is_so: bool, otherwise: &str) {
+    assert!(rt; is_so, "{otherwise}");
+}
+
 /// What is asserted of a suite.
 pub(crate) trait Check {
     /// Asserts it of the suite's plan and world.
-    fn check<R: Abort>(
-        &self,
-        rt: &R,
-        alloc: Global,
-        plan: &Plan,
-        world: &World,
-    ) -> Result<(), Fail>;
+    fn check<R: Abort>(&self, rt: &R, alloc: Global, plan: &Plan, world: &World);
 }
 
 /// Checks the suite of inputs that are right.
-pub(crate) fn check_inputs<R: Abort, C: Check>(
-    rt: &R,
-    alloc: Global,
-    inputs: Inputs<'_>,
-    check: &C,
-) -> Result<(), Fail>
+pub(crate) fn check_inputs<R: Abort, C: Check>(rt: &R, alloc: Global, inputs: Inputs<'_>, check: &C)
     requires { 1 ≤ inputs.processors }
 {
-    match read_inputs(alloc, inputs) {
-        Ok(suite) => check.check(rt, alloc, &suite.plan, &suite.world),
-        Err(_) => Err(Fail::new("the scripts weren't planned")),
-    }
+    let Ok(suite) = read_inputs(alloc, inputs) else {
+        panic!(rt; "the scripts weren't planned");
+    };
+    check.check(rt, alloc, &suite.plan, &suite.world);
 }
 
 /// Checks the suite of a script.
@@ -101,7 +94,7 @@ pub(crate) fn check_script<R: Abort, C: Check>(
     script: &str,
     surroundings: Surroundings,
     check: &C,
-) -> Result<(), Fail> {
+) {
     let scripts = [script.as_bytes()];
-    check_inputs(rt, alloc, surroundings.inputs(&scripts), check)
+    check_inputs(rt, alloc, surroundings.inputs(&scripts), check);
 }

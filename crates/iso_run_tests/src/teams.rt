@@ -1,12 +1,5 @@
 //! The example of three teams: properties, a locale, files, a class that isn't opened, a skipped test, an isolated class.
 
-pub(crate) const SETTINGS: &str = r#"[junit.jupiter.execution.parallel]
-enabled = true
-mode.default = "concurrent"
-config.strategy = "fixed"
-config.fixed.parallelism = 2
-"#;
-
 pub(crate) const WORLD: &str = r#"locale = "de"
 
 [files]

@@ -60,15 +60,14 @@ fn told_if(alloc: Global, view: Option<View<'_>>) -> Result<String, AllocError> 
 }
 
 /// Asserts what a node has come to after what is named.
-pub(crate) fn expect_told(
-    rt: &impl Abort,
+pub(crate) fn expect_told<R: Abort>(
+    rt: &R,
     alloc: Global,
     node: u32,
     view: Option<View<'_>>,
     want: &str,
     name: &str,
-) -> Result<(), AllocError> {
-    let told = told_if(alloc, view)?;
+) {
+    let told = told_if(alloc, view).expect(rt, "memory");
     assert_eq!(rt; told.as_str(), want, "node {node} after {name}");
-    Ok(())
 }

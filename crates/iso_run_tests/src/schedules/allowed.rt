@@ -1,13 +1,12 @@
 //! Schedules of the events that a core allows, one after another.
 use super::generated::{WORLD, script_of};
-use super::runs::{OF_TWO_FILES, Row, compare_core};
+use super::runs::{OF_TWO_FILES, Row, compare_events};
 use crate::random::gives_report;
 use crate::suites::{
     CONCURRENT, Check, LATER, SERIAL, SOON, Surroundings, TWO_FILES, TWO_WORKERS, check_inputs,
-    check_script,
+    check_script, expect,
 };
 use iso_core::machine::Core;
-use iso_core::run_events::run_events;
 use iso_plan::plan::Plan;
 use iso_run::run::run_serial;
 use iso_schedule::reader::read_schedule;
@@ -16,7 +15,6 @@ use iso_standing::event::Event;
 use iso_tap::memory::MemorySink;
 use std::alloc::{AllocError, Global};
 use std::process::Abort;
-use std::test::Fail;
 
 /// The events that a core allows and takes, until it allows none.
 fn allowed_events(alloc: Global, core: &mut Core<'_>) -> Result<Vec<Event>, AllocError> {
@@ -34,14 +32,15 @@ fn allowed_events(alloc: Global, core: &mut Core<'_>) -> Result<Vec<Event>, Allo
 }
 
 /// Those of a new core on so many workers.
-fn allowed_events_of(
+fn allowed_events_of<R: Abort>(
+    rt: &R,
     alloc: Global,
     plan: &Plan,
     world: &World,
     workers: u32,
-) -> Result<Vec<Event>, AllocError> {
-    let mut core = Core::new(alloc, plan, world, workers)?;
-    allowed_events(alloc, &mut core)
+) -> Vec<Event> {
+    let mut core = Core::new(alloc, plan, world, workers).expect(rt, "memory");
+    allowed_events(alloc, &mut core).expect(rt, "allowed events are taken")
 }
 
 /// What the nodes of the suite of two files come to.
@@ -57,23 +56,16 @@ static WHOLE: Row = Row {
 struct EndsIn(usize);
 
 impl Check for EndsIn {
-    fn check<R: Abort>(
-        &self,
-        rt: &R,
-        alloc: Global,
-        plan: &Plan,
-        world: &World,
-    ) -> Result<(), Fail> {
-        let events = allowed_events_of(alloc, plan, world, 2)?;
+    fn check<R: Abort>(&self, rt: &R, alloc: Global, plan: &Plan, world: &World) {
+        let events = allowed_events_of(rt, alloc, plan, world, 2);
         assert_eq!(rt; events.len(), self.0);
-        let core = run_events(alloc, plan, world, 2, &events)?;
-        Ok(compare_core(rt, alloc, plan, &core, &WHOLE)?)
+        compare_events(rt, alloc, plan, world, &events, &WHOLE);
     }
 }
 
 #[test]
-fn allowed_events_lead_to_the_end(rt: HostRuntime) -> Result<(), Fail> {
-    check_script(&rt, rt.alloc(), TWO_FILES, CONCURRENT, &EndsIn(19))
+fn allowed_events_lead_to_the_end(rt: HostRuntime) {
+    check_script(&rt, rt.alloc(), TWO_FILES, CONCURRENT, &EndsIn(19));
 }
 
 /// On one worker these events are allowed, in turn, and none after them.
@@ -81,55 +73,30 @@ fn allowed_events_lead_to_the_end(rt: HostRuntime) -> Result<(), Fail> {
 struct Allows(&'static str);
 
 impl Check for Allows {
-    fn check<R: Abort>(
-        &self,
-        rt: &R,
-        alloc: Global,
-        plan: &Plan,
-        world: &World,
-    ) -> Result<(), Fail> {
-        let want = read_schedule(alloc, self.0.as_bytes())?;
-        let events = allowed_events_of(alloc, plan, world, 1)?;
-        assert!(rt; events == want, "not {}", self.0);
-        Ok(())
+    fn check<R: Abort>(&self, rt: &R, alloc: Global, plan: &Plan, world: &World) {
+        let want = read_schedule(alloc, self.0.as_bytes()).expect(rt, "a schedule");
+        let events = allowed_events_of(rt, alloc, plan, world, 1);
+        expect(rt, events == want, self.0);
     }
 }
 
 #[test]
-fn disabled_class_is_entered_left_and_shut(rt: HostRuntime) -> Result<(), Fail> {
+fn disabled_class_is_entered_left_and_shut(rt: HostRuntime) {
     let allows = &Allows("enter 0 1\nleave 0\nshut 0 1\nleave 0");
-    check_script(&rt, rt.alloc(), SOON, SERIAL, allows)
+    check_script(&rt, rt.alloc(), SOON, SERIAL, allows);
 }
 
 #[test]
-fn disabled_test_is_entered_and_left(rt: HostRuntime) -> Result<(), Fail> {
+fn disabled_test_is_entered_and_left(rt: HostRuntime) {
     let allows = &Allows(
         "enter 0 1\nstep 0\nleave 0\nenter 0 2\nleave 0\nenter 0 3\nleave 0\nshut 0 1\nleave 0",
     );
-    check_script(&rt, rt.alloc(), LATER, SERIAL, allows)
-}
-
-/// No event is allowed.
-#[derive(Clone, Copy)]
-struct AllowsNone;
-
-impl Check for AllowsNone {
-    fn check<R: Abort>(
-        &self,
-        rt: &R,
-        alloc: Global,
-        plan: &Plan,
-        world: &World,
-    ) -> Result<(), Fail> {
-        let core = Core::new(alloc, plan, world, 1)?;
-        assert!(rt; core.allowed_event().is_none());
-        Ok(())
-    }
+    check_script(&rt, rt.alloc(), LATER, SERIAL, allows);
 }
 
 #[test]
-fn plan_without_classes_allows_no_event(rt: HostRuntime) -> Result<(), Fail> {
-    check_script(&rt, rt.alloc(), "team shop\n", SERIAL, &AllowsNone)
+fn plan_without_classes_allows_no_event(rt: HostRuntime) {
+    check_script(&rt, rt.alloc(), "team shop\n", SERIAL, &Allows(""));
 }
 
 /// The events that are allowed on so many workers give this report.
@@ -140,26 +107,15 @@ struct Give<'a> {
 }
 
 impl Check for Give<'_> {
-    fn check<R: Abort>(
-        &self,
-        rt: &R,
-        alloc: Global,
-        plan: &Plan,
-        world: &World,
-    ) -> Result<(), Fail> {
-        let events = allowed_events_of(alloc, plan, world, self.workers)?;
-        assert!(rt; gives_report(alloc, plan, world, self.workers, &events, self.report)?);
-        Ok(())
+    fn check<R: Abort>(&self, rt: &R, alloc: Global, plan: &Plan, world: &World) {
+        let events = allowed_events_of(rt, alloc, plan, world, self.workers);
+        let gives = gives_report(rt, alloc, plan, world, self.workers, &events, self.report);
+        expect(rt, gives, "another report");
     }
 }
 
 /// Asserts that what is allowed on so many workers leads to the serial run's report of a script.
-fn expect_serial_report(
-    rt: &impl Abort,
-    alloc: Global,
-    script: &str,
-    workers: u32,
-) -> Result<(), Fail> {
+fn expect_serial_report<R: Abort>(rt: &R, alloc: Global, script: &str, workers: u32) {
     let scripts = [script.as_bytes()];
     let surroundings = Surroundings {
         settings: TWO_WORKERS,
@@ -167,17 +123,16 @@ fn expect_serial_report(
     };
     let inputs = surroundings.inputs(&scripts);
     let mut serial = MemorySink::new(alloc);
-    assert!(rt; run_serial(alloc, inputs, &mut serial).is_ok());
+    expect(rt, run_serial(alloc, inputs, &mut serial).is_ok(), script);
     let report = serial.bytes();
-    check_inputs(rt, alloc, inputs, &Give { workers, report })
+    check_inputs(rt, alloc, inputs, &Give { workers, report });
 }
 
 #[test]
-fn allowed_events_give_the_report_of_the_serial_run(rt: HostRuntime) -> Result<(), Fail> {
+fn allowed_events_give_the_report_of_the_serial_run(rt: HostRuntime) {
     for seed in 0..500u64 {
-        let script = script_of(rt.alloc(), seed)?;
+        let script = script_of(rt.alloc(), seed).expect(&rt, "memory");
         let workers = (1 + seed % 8) as u32;
-        expect_serial_report(&rt, rt.alloc(), script.as_str(), workers)?;
+        expect_serial_report(&rt, rt.alloc(), script.as_str(), workers);
     }
-    Ok(())
 }

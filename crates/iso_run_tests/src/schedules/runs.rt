@@ -1,7 +1,7 @@
 //! Schedules whose events are all accepted, and what the nodes have come to after them.
-ghost use Rattle.std.specs.Prelude.{◌≡◌, IfOk};
+ghost use Rattle.std.specs.Prelude.{◌≡◌};
 
-use crate::suites::{CONCURRENT, Check, SOON, TWO_FILES, check_script};
+use crate::suites::{CONCURRENT, Check, SOON, TWO_FILES, check_script, expect};
 use crate::told::expect_told;
 use iso_core::machine::Core;
 use iso_core::run_events::run_events;
@@ -12,9 +12,8 @@ use iso_settings::world::World;
 use iso_standing::core_fault::CoreFault;
 use iso_standing::event::Event;
 use iso_standing::refused::Refused;
-use std::alloc::{AllocError, Global};
+use std::alloc::Global;
 use std::process::Abort;
-use std::test::Fail;
 
 /// A schedule on two workers: whether it is whole, and what some nodes have come to after it.
 pub(super) struct Row {
@@ -80,56 +79,42 @@ static ROWS: [Row; 4] = [
     },
 ];
 
-/// The core of a plan on two workers once it has taken a schedule.
-fn core_after<'a>(
-    alloc: Global,
-    plan: &'a Plan,
-    world: &'a World,
-    schedule: &str,
-) -> Result<Core<'a>, Fail>
-    ensures { IfOk result (λ c. c.plan ≡ plan.now) }
-{
-    let events = read_schedule(alloc, schedule.as_bytes())?;
-    Ok(run_events(alloc, plan, world, 2, &events)?)
-}
-
 /// Compares whether a run is whole, and what nodes have come to.
-pub(super) fn compare_core(
-    rt: &impl Abort,
-    alloc: Global,
-    plan: &Plan,
-    core: &Core<'_>,
-    row: &Row,
-) -> Result<(), AllocError>
+fn compare_core<R: Abort>(rt: &R, alloc: Global, plan: &Plan, core: &Core<'_>, row: &Row)
     requires { core.now.plan ≡ plan.now }
 {
     assert!(rt; core.is_complete() == row.whole, "after {}", row.schedule);
     for (node, want) in row.nodes {
         assert!(rt; *node < plan.len());
-        expect_told(rt, alloc, *node, core.outcome(*node), want, row.schedule)?;
+        expect_told(rt, alloc, *node, core.outcome(*node), want, row.schedule);
     }
-    Ok(())
+}
+
+/// Compares a core on two workers that has taken these events.
+pub(super) fn compare_events<R: Abort>(
+    rt: &R,
+    alloc: Global,
+    plan: &Plan,
+    world: &World,
+    events: &[Event],
+    row: &Row,
+) {
+    let core = run_events(alloc, plan, world, 2, events).expect(rt, "accepted events");
+    compare_core(rt, alloc, plan, &core, row);
 }
 
 impl Check for Row {
-    fn check<R: Abort>(
-        &self,
-        rt: &R,
-        alloc: Global,
-        plan: &Plan,
-        world: &World,
-    ) -> Result<(), Fail> {
-        let core = core_after(alloc, plan, world, self.schedule)?;
-        Ok(compare_core(rt, alloc, plan, &core, self)?)
+    fn check<R: Abort>(&self, rt: &R, alloc: Global, plan: &Plan, world: &World) {
+        let events = read_schedule(alloc, self.schedule.as_bytes()).expect(rt, "a schedule");
+        compare_events(rt, alloc, plan, world, &events, self);
     }
 }
 
 #[test]
-fn nodes_come_to_what_they_come_to_alone(rt: HostRuntime) -> Result<(), Fail> {
+fn nodes_come_to_what_they_come_to_alone(rt: HostRuntime) {
     for row in &ROWS {
-        check_script(&rt, rt.alloc(), row.script, CONCURRENT, row)?;
+        check_script(&rt, rt.alloc(), row.script, CONCURRENT, row);
     }
-    Ok(())
 }
 
 /// Whether a core refuses every event since it was stopped, before it looks at the worker, and so allows none.
@@ -179,6 +164,7 @@ fn refused_growth_stops_a_step_alone(rt: HostRuntime) {
     if let Ok(events) = read_schedule(rt.alloc(), READERS_FIRST.as_bytes())
         && let Ok(suite) = read_inputs(rt.alloc(), CONCURRENT.inputs(&scripts))
     {
-        assert!(rt; new_core_takes_or_stops(rt.alloc(), &suite, &events));
+        let is_so = new_core_takes_or_stops(rt.alloc(), &suite, &events);
+        expect(&rt, is_so, "an event is refused");
     }
 }

@@ -7,7 +7,6 @@ use iso_standing::refused::Refused;
 use iso_standing::standing::Standing;
 use std::alloc::Global;
 use std::process::Abort;
-use std::test::Fail;
 
 /// Whatever else there is to refuse, and where there is nothing.
 fn expect_stopped(rt: &impl Abort, standing: &mut Standing<'_>) {
@@ -29,19 +28,13 @@ fn expect_stopped(rt: &impl Abort, standing: &mut Standing<'_>) {
 struct Stops;
 
 impl Check for Stops {
-    fn check<R: Abort>(
-        &self,
-        rt: &R,
-        alloc: Global,
-        plan: &Plan,
-        _world: &World,
-    ) -> Result<(), Fail> {
-        expect_stopped(rt, &mut Standing::new(alloc, plan, 2)?);
-        Ok(())
+    fn check<R: Abort>(&self, rt: &R, alloc: Global, plan: &Plan, _world: &World) {
+        let mut standing = Standing::new(alloc, plan, 2).expect(rt, "memory");
+        expect_stopped(rt, &mut standing);
     }
 }
 
 #[test]
-fn every_event_is_refused_once_a_run_was_stopped(rt: HostRuntime) -> Result<(), Fail> {
-    check_script(&rt, rt.alloc(), TWO_FILES, CONCURRENT, &Stops)
+fn every_event_is_refused_once_a_run_was_stopped(rt: HostRuntime) {
+    check_script(&rt, rt.alloc(), TWO_FILES, CONCURRENT, &Stops);
 }

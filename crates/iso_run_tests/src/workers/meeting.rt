@@ -1,12 +1,10 @@
 //! Two tests whose bodies are under way at once.
-use crate::suites::TWO_WORKERS;
+use super::expect_report;
+use crate::suites::{TWO_WORKERS, expect};
 use iso_lifecycle::gate::Gate;
 use iso_run::inputs::Inputs;
-use iso_run::workers::run_workers;
-use iso_tap::memory::MemorySink;
 use std::rt::Clock;
 use std::sync::atomic::{AtomicU64, Ordering};
-use std::test::Fail;
 use std::thread;
 use std::time::Duration;
 
@@ -91,7 +89,7 @@ ok 1 - shop.C
 "#;
 
 #[test]
-fn two_bodies_are_under_way_at_once(rt: HostRuntime) -> Result<(), Fail> {
+fn two_bodies_are_under_way_at_once(rt: HostRuntime) {
     let gate = Meeting::new(&rt);
     let inputs = Inputs {
         scripts: &[SCRIPT.as_bytes()],
@@ -100,10 +98,6 @@ fn two_bodies_are_under_way_at_once(rt: HostRuntime) -> Result<(), Fail> {
         only: &[],
         processors: 1,
     };
-    let mut sink = MemorySink::new(rt.alloc());
-    let ran = run_workers(&rt, rt.alloc(), inputs, &gate, &mut sink);
-    assert!(rt; matches!(ran, Ok(summary) if summary.all_ok));
-    assert_eq!(rt; gate.told(), [2, 2, 0]);
-    assert!(rt; sink.bytes() == REPORT.as_bytes());
-    Ok(())
+    expect_report(&rt, rt.alloc(), inputs, &gate, REPORT, true);
+    expect(&rt, gate.told() == [2, 2, 0], "they didn't meet twice");
 }

@@ -1,13 +1,11 @@
 //! The three teams by two workers who take turns, step by step.
-use crate::suites::TWO_WORKERS;
+use super::expect_report;
+use crate::suites::{TWO_WORKERS, expect};
 use crate::teams::{OPS, ORDERS, REPORT, SHOP, WORLD};
 use iso_lifecycle::gate::Gate;
 use iso_run::inputs::Inputs;
-use iso_run::workers::run_workers;
-use iso_tap::memory::MemorySink;
 use std::rt::Clock;
 use std::sync::atomic::{AtomicU64, Ordering};
-use std::test::Fail;
 use std::thread;
 use std::time::Duration;
 
@@ -60,7 +58,7 @@ impl<C: Clock> Gate for Turns<'_, C> {
 }
 
 #[test]
-fn three_teams_are_reported_by_two_who_take_turns(rt: HostRuntime) -> Result<(), Fail> {
+fn three_teams_are_reported_by_two_who_take_turns(rt: HostRuntime) {
     let gate = Turns::new(&rt);
     let inputs = Inputs {
         scripts: &[SHOP.as_bytes(), ORDERS.as_bytes(), OPS.as_bytes()],
@@ -69,11 +67,7 @@ fn three_teams_are_reported_by_two_who_take_turns(rt: HostRuntime) -> Result<(),
         only: &[],
         processors: 1,
     };
-    let mut sink = MemorySink::new(rt.alloc());
-    let ran = run_workers(&rt, rt.alloc(), inputs, &gate, &mut sink);
-    assert!(rt; matches!(ran, Ok(summary) if !summary.all_ok));
-    assert!(rt; sink.bytes() == REPORT.as_bytes());
+    expect_report(&rt, rt.alloc(), inputs, &gate, REPORT, false);
     // The first two classes of the first team don't conflict, and take some ten calls each.
-    assert!(rt; gate.taken() >= 8, "{}", gate.taken());
-    Ok(())
+    expect(&rt, gate.taken() >= 8, "too few turns");
 }
