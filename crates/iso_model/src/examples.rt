@@ -20,9 +20,9 @@ ghost use Rattle.iso_model.specs.declared.place.Lifecycle.TheVariants.{BeforeAll
 ghost use Rattle.iso_model.specs.declared.place.Place.TheVariants.{Disabled};
 ghost use Rattle.iso_model.specs.Examples.Words.{quoted, number, minus, flag, name, add, subtract, multiply, join, equal, not_equal, less, text, len, prop, has_prop, file, has_file};
 ghost use Rattle.iso_model.specs.Examples.Words.{body, for_children, reads, on_row, let_name, assign, print, assert, assert_equal, assume, fail, if_then, if_else, set_prop, clear_prop, set_locale, append_file, write_file, delete_file, repeats, repeats_twice, takes_name_twice, long, writes, file_a};
-ghost use Rattle.iso_model.specs.Examples.Words.{property_a_is_1, values_of, endings_of, block_with, by_itself, ending_on_row_3, by_single_steps, steps_left};
+ghost use Rattle.iso_model.specs.Examples.Words.{property_a_is_1, values_of, endings_of, endings_crowded, endings_without_steps, block_with, beside_a_long_file, by_itself, ending_on_row_3, by_single_steps, steps_left};
 ghost use Rattle.iso_model.specs.Examples.Words.{in_test, in_class, note, lines, passed, failed, faulted, skipped, blocked, fault_here};
-ghost use Rattle.iso_model.specs.Examples.Resources.{sets_x_first, sets_y, expects_x, marks_locale, marks_locale_inside, prints_all, closes_file};
+ghost use Rattle.iso_model.specs.Examples.Resources.{sets_x_first, sets_y, expects_x, marks_locale, marks_locale_inside, prints_all, closes_file, fails_with_a_file};
 ghost use Rattle.iso_model.specs.Examples.Resources.{changes_b, sets_2, writes_properties, sets_1, reads_and_sets_1, prints_a, reads_and_prints_a, reads_properties, looks_around, clears_a, writes_and_deletes, prints_locale};
 ghost use Rattle.iso_model.specs.Examples.Lifecycles.{outer, inner, prints_t, no_database, does_nothing, opens_inside, assumes_before_each, fails_before_each};
 ghost use Rattle.iso_model.specs.Examples.Lifecycles.{assumes_false, assumes_twice, disabled_class, disabled_test, fails_late, assumes_false_first};
@@ -53,6 +53,8 @@ pub fn after_all_goes_on_from_before_all()
         ≡ faulted K.Frozen "n is frozen" (in_class 2 AfterAll) ("in" ∷ "mn23" ∷ []) }
     ensures bytes { let opened = opening (closes_file ∷ marks_locale ∷ []) empty_world in
         (after_all closes_file (marks_locale ∷ []) opened).here.env.printed ≡ 5 }
+    ensures failed { class_alone fails_with_a_file [] empty_world
+        ≡ failed "no db" (in_class 1 BeforeAll) ("m" ∷ []) }
 {}
 
 /// A test has the rights of its own marks and of those of all enclosing classes.
@@ -243,13 +245,49 @@ pub fn numbers_have_64_bits()
 /// Operands come from the left, all of them before the first pair and before what the form itself
 /// tests. Chains group to the left.
 pub fn operands_come_first()
-    ensures faults { values_of (add (number 1) (quoted "a" ∷ name "x" ∷ name "y" ∷ []) ∷ equal (name "x") (name "y") ∷ [])
-        ≡ replicate 2 (Err (F.UnknownName (codes "x"))) }
+    ensures faults { values_of (add (number 1) (quoted "a" ∷ name "x" ∷ name "y" ∷ []) ∷ equal (name "x") (name "y")
+        ∷ add (flag true) (name "x" ∷ []) ∷ join (number 1) (name "x" ∷ []) ∷ less (quoted "a") (name "x") ∷ [])
+        ≡ replicate 5 (Err (F.UnknownName (codes "x"))) }
     ensures statements { endings_of (assert_equal (name "x") (name "y") ∷ set_prop (name "x") (name "y") ∷ write_file (name "x") (name "y") ∷ append_file (name "x") (name "y") ∷ assign "y" (name "x") ∷ [])
         ≡ replicate 5 (fault_here K.UnknownName "unknown name x") }
     ensures pairs { values_of (subtract (number 2) (number 3 ∷ number 4 ∷ [])
         ∷ multiply (add (number 2) (number 3 ∷ [])) (number 4 ∷ []) ∷ [])
         ≡ Ok (Whole (negsuc 4)) ∷ Ok (Whole (pos 20)) ∷ [] }
+{}
+
+/// The pairs of a chain are tested one after another: each has both its tests before the next one.
+pub fn pairs_come_one_after_another()
+    ensures kinds { values_of (add (number 9223372036854775807) (number 1 ∷ quoted "a" ∷ [])
+        ∷ subtract (minus 9223372036854775808) (number 1 ∷ quoted "a" ∷ [])
+        ∷ multiply (number 9223372036854775807) (number 2 ∷ quoted "a" ∷ []) ∷ [])
+        ≡ replicate 3 (Err F.Overflow) }
+    ensures numbers { values_of (add (number 9223372036854775807) (number 1 ∷ minus 1 ∷ [])
+        ∷ subtract (minus 9223372036854775808) (number 1 ∷ minus 1 ∷ [])
+        ∷ multiply (number 9223372036854775807) (number 2 ∷ number 0 ∷ []) ∷ [])
+        ≡ replicate 3 (Err F.Overflow) }
+{}
+
+/// What a statement tests comes after the values of all its operands: whether a name is taken or frozen, whether a line fits, and
+/// whether the first of two values is a text.
+pub fn operands_come_before_what_is_tested()
+    ensures faults { endings_crowded (let_name "x" (name "y") ∷ assign "n" (name "y") ∷ print (name "y")
+        ∷ set_prop (number 1) (name "y") ∷ write_file (number 1) (name "y") ∷ append_file (number 1) (name "y") ∷ [])
+        ≡ replicate 6 (fault_here K.UnknownName "unknown name y") }
+    ensures tested { endings_crowded (let_name "f" (number 1) ∷ let_name "x" (number 1)
+        ∷ assign "n" (number 1) ∷ print (quoted "") ∷ [])
+        ≡ fault_here K.DoubleName "name f is taken" ∷ fault_here K.DoubleName "name x is taken"
+        ∷ fault_here K.Frozen "n is frozen" ∷ fault_here K.OutputFull "output is full" ∷ [] }
+{}
+
+/// An assignment may give a name a value of another kind. It stays where the body or the turn around it ends.
+pub fn assignments_stay()
+    ensures kind { (by_itself (let_name "x" (number 1) ∷ assign "x" (quoted "a") ∷ print (name "x") ∷ [])).here.lines
+        ≡ lines ("a" ∷ []) }
+    ensures body { (by_itself (let_name "x" (quoted "a") ∷ if_then (flag true) (assign "x" (quoted "b") ∷ []) ∷ print (name "x") ∷ [])).here.lines
+        ≡ lines ("b" ∷ []) }
+    ensures turns { (by_itself (let_name "x" (quoted "a")
+        ∷ repeat (number 2) (body (assign "x" (join (name "x") (quoted "b" ∷ [])) ∷ [])) ∷ print (name "x") ∷ [])).here.lines
+        ≡ lines ("abb" ∷ []) }
 {}
 
 /// Values of one kind are compared.
@@ -278,6 +316,11 @@ pub fn kinds_come_first()
         ∷ equal (number 1) (quoted "1") ∷ less (quoted "a") (quoted "b")
         ∷ len (number 1) ∷ prop (number 1) ∷ has_prop (number 1) ∷ file (number 1) ∷ has_file (number 1) ∷ [])
         ≡ replicate 9 (Err F.WrongKind) }
+    ensures operators { values_of (add (quoted "a") (quoted "b" ∷ []) ∷ subtract (flag true) (flag true ∷ [])
+        ∷ multiply (flag true) (number 1 ∷ []) ∷ join (number 1) (number 2 ∷ [])
+        ∷ equal (flag true) (number 1) ∷ equal (flag true) (quoted "true")
+        ∷ not_equal (number 1) (quoted "1") ∷ less (flag false) (flag true) ∷ [])
+        ≡ replicate 8 (Err F.WrongKind) }
     ensures statements { endings_of (assert (number 1) ∷ assume (number 1) "no" ∷ if_then (number 1) [] ∷ repeat (flag true) no_acts
         ∷ assert_equal (number 1) (quoted "1") ∷ set_prop (number 1) (quoted "x") ∷ set_prop (quoted "x") (number 1) ∷ clear_prop (number 1) ∷ set_locale (number 1)
         ∷ write_file (quoted "a") (number 1) ∷ append_file (quoted "a") (number 1) ∷ delete_file (number 1) ∷ [])
@@ -331,6 +374,16 @@ pub fn steps_are_limited()
         s.here.ending ≡ Fault K.OutOfSteps (note "out of steps" (in_test 2)) }
 {}
 
+/// With no step left each statement ends the block, before any of its operands is evaluated.
+pub fn steps_come_first()
+    ensures { endings_without_steps (let_name "x" (name "y") ∷ assign "n" (name "y") ∷ print (name "y") ∷ assert (flag false)
+        ∷ assert_equal (name "y") (name "z") ∷ assume (flag false) "no" ∷ fail "no"
+        ∷ if_then (name "y") [] ∷ repeat (name "y") no_acts
+        ∷ set_prop (number 1) (name "y") ∷ clear_prop (number 1) ∷ set_locale (number 1)
+        ∷ write_file (number 1) (name "y") ∷ append_file (number 1) (name "y") ∷ delete_file (number 1) ∷ [])
+        ≡ replicate 15 (fault_here K.OutOfSteps "out of steps") }
+{}
+
 /// A body prints 65,536 bytes at most, each line with its end.
 pub fn output_is_limited()
     ensures last { (block_with [] 65535 (body (print (quoted "") ∷ []))).here.ending ≡ Well }
@@ -338,19 +391,23 @@ pub fn output_is_limited()
         ≡ fault_here K.OutputFull "output is full" }
 {}
 
-/// A text has 4,096 bytes at most, and so has a file.
+/// A text has 4,096 bytes at most, and so has a file. Whether a file may be changed is tested first.
 pub fn texts_are_limited()
     ensures last { (by_itself (let_name "x" (join (long 4095) (quoted "b" ∷ [])) ∷ [])).here.ending ≡ Well }
     ensures past { (by_itself (let_name "x" (join (long 4096) (quoted "b" ∷ [])) ∷ [])).here.ending
         ≡ fault_here K.TextTooLong "text is too long" }
     ensures file { (block_with (writes file_a ∷ []) 0 (body (write_file (quoted "a") (long 4096) ∷ append_file (quoted "a") (quoted "b") ∷ []))).here.ending
         ≡ fault_here K.TextTooLong "text is too long" }
+    ensures undeclared { (beside_a_long_file (append_file (quoted "a") (quoted "b") ∷ [])).here.ending
+        ≡ fault_here K.Undeclared "undeclared READ_WRITE of file:a" }
 {}
 
 /// A file is made or replaced, grows, and is missing once it is deleted.
 pub fn files_are_written_and_deleted()
-    ensures { test_alone writes_and_deletes (empty_head ∷ []) empty_world
+    ensures grows { test_alone writes_and_deletes (empty_head ∷ []) empty_world
         ≡ passed ("mn" ∷ "true" ∷ "false" ∷ []) }
+    ensures replaced { (block_with (writes file_a ∷ []) 0 (body (write_file (quoted "a") (quoted "m") ∷ write_file (quoted "a") (quoted "n") ∷ print (file (quoted "a")) ∷ []))).here.lines
+        ≡ lines ("n" ∷ []) }
 {}
 
 /// What isn't there is missing, by its name.

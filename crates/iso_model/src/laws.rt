@@ -14,8 +14,14 @@ ghost use Rattle.iso_model.specs.Statements.{State, is_live, kept, run, runs_out
 ghost use Rattle.iso_model.specs.Steps.{IsReady, Machine, Piece, Point, distance, finish, finished, first_point, is_done, is_ready, machine, machine_at, point_of, step, steps, steps_left, steps_to};
 ghost use Rattle.iso_model.specs.Syntax.{Acts, Term};
 ghost use Rattle.iso_model.specs.Tests.{seen_from, test, test_names};
+ghost use Rattle.iso_model.specs.Verdicts.{verdict};
+ghost use Rattle.iso_model.specs.declared.fault.FaultKind.{FaultKind};
 ghost use Rattle.iso_model.specs.declared.limits.TheConstants.{BLOCK_STEPS};
 ghost use Rattle.iso_model.specs.declared.names.Binding.{Binding};
+ghost use Rattle.iso_model.specs.declared.outcome.Ending.{Ending};
+ghost use Rattle.iso_model.specs.declared.outcome.Ending.TheVariants.{Assumed, Fail, Fault, Well};
+ghost use Rattle.iso_model.specs.declared.outcome.Note.{Note};
+ghost use Rattle.iso_model.specs.declared.outcome.Verdict.TheVariants as Verdicts;
 
 /// What is left, done, is the same before and after a step, and from the beginning it is the block.
 pub fn step_keeps_what_a_block_comes_to()
@@ -85,6 +91,15 @@ pub fn block_keeps_the_kinds_of_resources()
         → kind_at (block r acts env m).resources k ≡ kind_at m k }
     ensures finish { (r : Rights) (ps : List Piece) (s : State) (k : List ℕ) → kind_at (finish r ps s).resources k ≡ kind_at s.resources k }
     ensures step { (r : Rights) (m : Machine) (k : List ℕ) → kind_at (step r m).state.resources k ≡ kind_at m.state.resources k }
+{}
+
+/// The first fail or fault of a body's blocks is its verdict, whatever comes after it. A false assumption before it is weaker.
+pub fn first_fail_or_fault_is_the_verdict()
+    ensures fail { (n : Note) (es : List Ending) → verdict (Fail n ∷ es) ≡ Verdicts.Fail n }
+    ensures fault { (k : FaultKind) (n : Note) (es : List Ending) → verdict (Fault k n ∷ es) ≡ Verdicts.Fault k n }
+    ensures well { (es : List Ending) → verdict (Well ∷ es) ≡ verdict es }
+    ensures assumed { (m n : Note) (k : FaultKind) (es : List Ending)
+        → (verdict (Assumed m ∷ Fail n ∷ es) ≡ Verdicts.Fail n) × (verdict (Assumed m ∷ Fault k n ∷ es) ≡ Verdicts.Fault k n) }
 {}
 
 /// The bytes that are counted as printed are those of the lines, with one for the end of each.

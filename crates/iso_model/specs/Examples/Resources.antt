@@ -3,7 +3,7 @@ use Rattle.std.specs.Prelude.{[], ◌∷◌, None}
 use Rattle.iso_model.specs.Chains.{ClassHead, TestHead, empty_head}
 use Rattle.iso_model.specs.Keys.{properties_key, locale_key}
 use Rattle.iso_model.specs.Syntax.{locale}
-use Rattle.iso_model.specs.Examples.Words.{body, a_test, reads, writes, file_a, quoted, number, name, join, text, prop, has_prop, file, has_file, variable, let_name, assign, print, assert_equal, set_prop, clear_prop, set_locale, write_file, append_file, delete_file}
+use Rattle.iso_model.specs.Examples.Words.{body, a_test, reads, writes, file_a, quoted, number, name, join, text, prop, has_prop, file, has_file, variable, let_name, assign, print, assert_equal, fail, set_prop, clear_prop, set_locale, write_file, append_file, delete_file}
 
 -- write "P" class A { before_all { set_prop "a", "x"; } test one { set_prop "a", "y"; } test two { assert_equal "x", prop("a"); } }
 -- A test sees what `before_all` left, and nothing that another test changed.
@@ -54,6 +54,16 @@ closes_file =
       statics = variable "n" 1 ∷ [];
       before_all = body (print (quoted "in") ∷ write_file (quoted "a") (quoted "m") ∷ assign "n" (number 2) ∷ []);
       after_all = body (append_file (quoted "a") (quoted "n") ∷ print (join (file (quoted "a")) (text (name "n") ∷ text (name "s") ∷ [])) ∷ assign "n" (number 3) ∷ []);
+    }
+
+-- write "file:a" class C { before_all { write_file "a", "m"; fail "no db"; } after_all { print file("a"); } .. }
+-- So it does where `before_all` didn't end well.
+abbrev pub fails_with_a_file : ClassHead
+fails_with_a_file =
+    record empty_head {
+      marks = writes file_a ∷ [];
+      before_all = body (write_file (quoted "a") (quoted "m") ∷ fail "no db" ∷ []);
+      after_all = body (print (file (quoted "a")) ∷ []);
     }
 
 -- class Env { write "P" test one { assert_equal "1", prop("a"); set_prop "a", "2"; } .. }

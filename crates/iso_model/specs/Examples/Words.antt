@@ -5,21 +5,24 @@ use Rattle.std.specs.Prelude.{ℕ, zero, suc, List, [], ◌∷◌, Bool, None, S
 use Rattle.std.specs.FinMap.{empty, insert}
 use Rattle.iso_model.specs.Rights.{rights_of}
 use Rattle.iso_model.specs.Chains.{TestHead}
-use Rattle.iso_model.specs.Blocks.{block}
-use Rattle.iso_model.specs.Environments.{environment}
+use Rattle.iso_model.specs.Blocks.{begun, block}
+use Rattle.iso_model.specs.Environments.{Environment, environment}
 use Rattle.iso_model.specs.Evaluation.{Given, evaluated}
 use Rattle.iso_model.specs.Keys.{properties_key, file_key}
-use Rattle.iso_model.specs.Resources.{Resources, empty_world}
-use Rattle.iso_model.specs.Statements.{State}
+use Rattle.iso_model.specs.Names.{bound}
+use Rattle.iso_model.specs.Resources.{Resources, empty_world, changed_at}
+use Rattle.iso_model.specs.Statements.{State, ran, with_steps}
 use Rattle.iso_model.specs.Steps.{Machine, first_point, machine_at, steps}
 use Rattle.iso_model.specs.Syntax as S
 use Rattle.iso_model.specs.Syntax.{Term, literal, chain, compare, call, Terms, no_terms, term, Act, plain, choice, Acts, no_acts, act}
 use Rattle.iso_model.specs.declared.access.Access.TheVariants.{Read, Write}
+use Rattle.iso_model.specs.declared.data.Data.{Data}
 use Rattle.iso_model.specs.declared.data.Data.TheVariants.{Whole, Flag, Text}
 use Rattle.iso_model.specs.declared.fault.FaultKind.{FaultKind}
 use Rattle.iso_model.specs.declared.heads.Mark.{Mark}
 use Rattle.iso_model.specs.declared.heads.Target.TheVariants.{Itself, Children}
 use Rattle.iso_model.specs.declared.heads.Variable.{Variable}
+use Rattle.iso_model.specs.declared.names.Sort.TheVariants.{Frozen, Field, Local}
 use Rattle.iso_model.specs.declared.outcome.Ending.{Ending}
 use Rattle.iso_model.specs.declared.outcome.Ending.TheVariants as E
 use Rattle.iso_model.specs.declared.outcome.Note.{Note}
@@ -29,6 +32,7 @@ use Rattle.iso_model.specs.declared.place.Place.{Place}
 use Rattle.iso_model.specs.declared.place.Place.TheVariants.{Row}
 use Rattle.iso_model.specs.declared.place.BlockName.TheVariants.{Test, Class}
 use Rattle.iso_model.specs.declared.place.Lifecycle.{Lifecycle}
+use Rattle.iso_model.specs.declared.resource.Change.TheVariants.{WriteFile}
 use Rattle.iso_model.specs.declared.resource.Resource.TheVariants.{Props}
 use Rattle.iso_model.specs.declared.tree.Operator.TheVariants.{Add, Subtract, Multiply, Join}
 use Rattle.iso_model.specs.declared.tree.Comparison.TheVariants.{Equal, NotEqual, Less}
@@ -204,9 +208,30 @@ block_with marks printed acts = block (rights_of marks) acts (environment [] pri
 abbrev pub by_itself : List Act → State
 by_itself acts = block_with [] 0 (body acts)
 
+-- the same where the marks let it look at file a, which has 4,096 bytes
+abbrev pub beside_a_long_file : List Act → State
+beside_a_long_file acts = block (rights_of (reads file_a ∷ [])) (body acts) (environment [] 0 Test) (changed_at empty_world file_a (WriteFile (replicate 4096 97)))
+
 -- statements by themselves: how each ends
 abbrev pub endings_of : List Act → List Ending
 endings_of = map (λ a. (by_itself (a ∷ [])).here.ending)
+
+-- a block of a test in which n is a frozen static, f a field and x a local, and which may print no further line
+abbrev pub crowded : Environment
+crowded =
+    let one : Data = Whole (pos 1) in
+    environment (bound Frozen (codes "n") one ∷ bound Field (codes "f") one ∷ bound Local (codes "x") one ∷ []) 65536 Test
+
+-- the same where no step is left either
+abbrev pub without_steps : State
+without_steps = record { here = with_steps 0 (begun crowded); resources = empty_world }
+
+-- statements by themselves in these: how each ends
+abbrev pub endings_crowded : List Act → List Ending
+endings_crowded = map (λ a. (block (rights_of []) (body (a ∷ [])) crowded empty_world).here.ending)
+
+abbrev pub endings_without_steps : List Act → List Ending
+endings_without_steps = map (λ a. (ran (rights_of []) 1 a without_steps).here.ending)
 
 -- how a statement on row 3 ends, in an `if` on row 2 in a `repeat` on row 1
 abbrev pub ending_on_row_3 : Act → Ending
