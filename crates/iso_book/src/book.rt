@@ -1,10 +1,13 @@
 //! The book of a run.
 ghost use Rattle.std.specs.Prelude.{◌≡◌, ◌<◌, ◌≤◌, ◌↔◌, ◌*◌, ℕ, IfOk, IfSome, IsTrue, length, true};
 ghost use Rattle.std.specs.Option.{option_map};
-ghost use Rattle.iso_book.specs.Books.{is_complete, new_book, outcome_in};
+ghost use Rattle.iso_book.specs.Books.{is_complete, new_book, outcome_in, suite_in};
+ghost use Rattle.iso_isolation.specs.Histories.{IsHistory};
 ghost use Rattle.iso_lifecycle.specs.ResultViews.{AreComplete, outcome_of_view, result_in};
 ghost use Rattle.iso_lifecycle.specs.Subjects.{outcome_alone, started};
 ghost use Rattle.iso_plan.specs.RowView.{tree_of};
+ghost use Rattle.iso_standing.specs.CodeEvents.{events_of};
+ghost use Rattle.iso_suites.specs.ScriptLanguage.{scripts};
 
 mod entering;
 mod leaving;
@@ -101,9 +104,10 @@ impl<'a> Book<'a> {
         self.workers
     }
 
-    /// The Enters, Leaves and Shuts that it has taken, in order: four of each node at most.
+    /// The Enters, Leaves and Shuts that it has taken, in order: four of each node at most. In full they are a run.
     pub fn history(&self) -> &[Event]
         ensures events { result.now ≡ self.now.history }
+        ensures run { IsHistory scripts (suite_in self.now) self.now.workers (events_of self.now.history) }
         ensures bounded { length result.now ≤ 4 * length self.now.plan.rows }
     {
         &self.history
