@@ -1,5 +1,5 @@
 -- What a core stands in after an event that nothing refuses, and after it was stopped.
-use Rattle.std.proofs.Common.{◌≡◌, ℕ, ◌<◌, List, [], ◌∷◌, ◌++◌, Option, Some, None, Bool, true, false, length, replicate, is_some, refl, sym, ap, ◌∙◌, subst, arith}
+use Rattle.std.proofs.Common.{◌≡◌, ℕ, ◌<◌, ◌^◌, List, [], ◌∷◌, ◌++◌, Option, Some, None, Bool, true, false, length, replicate, is_some, refl, sym, ap, ◌∙◌, subst, arith}
 use Rattle.std.proofs.lemmas.List.{length-replicate}
 use Rattle.iso_core.proofs.CoreRefusals.{BodyTold}
 use Rattle.iso_suites.proofs.StateRuns.{stopped-after}
@@ -56,6 +56,7 @@ module _ (c : CoreView) (v : Standing) (flat : FlatView) (bodies : List (Option 
         let state = sym (next c e (unstopped c e h)) in
         record {
           run = goes-on c e is.run h;
+          few = is.few;
           standing_plan = a.standing.plan ∙ is.standing_plan;
           workers = a.standing.workers ∙ is.workers;
           stands = subst (λ (s : RunState). LooksLike u s) state a.stands;
@@ -85,6 +86,7 @@ module _ (c : CoreView) (v : Standing) (flat : FlatView) (bodies : List (Option 
     pub core-stopped : OfSame v u → ((s : RunState) → LooksLike v s → LooksLike u (stop s)) → OfSameMap flat map → length now ≡ length bodies → IsCore (record c { stopped = true }) u map now r
     core-stopped same stands of_map fit = record {
       run = is.run;
+      few = is.few;
       standing_plan = same.plan ∙ is.standing_plan;
       workers = same.workers ∙ is.workers;
       stands = stands (state_in c) is.stands;
@@ -227,17 +229,18 @@ module _ (c : CoreView) (v : Standing) (flat : FlatView) (bodies : List (Option 
 
 -- a new core
 pub core-begins : (plan : Planned) (world : Start) (workers : ℕ) (v : Standing) (flat : FlatView) (bodies : List (Option Body)) (r : ResultsView)
-    → v.plan ≡ plan → workers_in v ≡ workers → ((start : Resources) → LooksLike v (first_in v start))
+    → workers < 2 ^ 32 → v.plan ≡ plan → workers_in v ≡ workers → ((start : Resources) → LooksLike v (first_in v start))
     → flat.tray.plan ≡ plan → flat.tray.world ≡ world → IsFlatOf flat (first scripts (suite_at plan world)).nodes
     → bodies ≡ replicate workers None → AreBodiesOf plan world (replicate workers None) (first scripts (suite_at plan world))
     → r ≡ no_results plan world → AreResultsOf (no_results plan world) (first scripts (suite_at plan world)).nodes
     → IsCore (core_of plan world v []) v flat bodies r
-core-begins plan world workers v flat bodies r of_plan count stands map_plan map_world values none under empty are =
+core-begins plan world workers v flat bodies r small of_plan count stands map_plan map_world values none under empty are =
     let s = first scripts (suite_at plan world) in
     let like : LooksLike v s = subst (λ (p : Planned). LooksLike v (first scripts (suite_of (tree_of p) p.settings (started world)))) of_plan (stands (started world)) in
     let state : state_in (core_of plan world v []) ≡ s = going-on (core_of plan world v []) (sym like.stopped) in
     record {
       run = refl;
+      few = subst (λ (m : ℕ). m < 2 ^ 32) (sym count) small;
       standing_plan = of_plan;
       workers = refl;
       stands = subst (λ (t : RunState). LooksLike v t) (sym state) like;

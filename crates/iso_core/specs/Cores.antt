@@ -1,5 +1,5 @@
 -- What contracts see of the core of a run, and the state that it stands in.
-use Rattle.std.specs.Prelude.{◌≡◌, ℕ, List, [], ◌∷◌, ◌++◌, Option, Some, None, Bool, true, false, length, refl}
+use Rattle.std.specs.Prelude.{◌≡◌, ◌<◌, ◌^◌, ℕ, List, [], ◌∷◌, ◌++◌, Option, Some, None, Bool, true, false, length, refl}
 use Rattle.std.specs.Coded.{Coded, code_by, coded×, coded_list, coded_bool, coded_ℕ}
 use Rattle.iso_core.specs.FlatMaps.{FlatView, IsFlatOf}
 use Rattle.iso_standing.specs.ResultStates.{AreResultsOf}
@@ -99,10 +99,11 @@ outcome_in c n = result_of (state_in c) n
 abbrev pub is_complete : CoreView → Bool
 is_complete c = Runs.is_complete (suite_in c) (state_in c)
 
--- What every core is: its events are a run of its suite; where its nodes and workers stand and its results are those of its state, and so are
--- its flat map and its bodies, until it is stopped.
+-- What every core is: its events are a run of its suite; its workers have numbers of 32 bits; where its nodes and workers stand and its
+-- results are those of its state, and so are its flat map and its bodies, until it is stopped.
 pub record IsCore (c : CoreView) (standing : Standing) (flat : FlatView) (bodies : List (Option Body)) (results : ResultsView) : Type 0 where
   pub run : is_run scripts (suite_in c) c.workers (first scripts (suite_in c)) (events_of c.events) ≡ true
+  pub few : c.workers < 2 ^ 32
   pub standing_plan : standing.plan ≡ c.plan
   pub workers : workers_in standing ≡ c.workers
   pub stands : LooksLike standing (state_in c)

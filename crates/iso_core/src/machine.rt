@@ -398,10 +398,10 @@ impl<'a> Core<'a> {
     }
 
     /// The number of its workers.
-    pub(crate) fn workers(&self) -> usize
+    pub(crate) fn workers(&self) -> u32
         ensures { result ≡ self.now.workers }
     {
-        self.standing.workers()
+        self.standing.workers() as u32
     }
 
     /// The worker that owns a node.

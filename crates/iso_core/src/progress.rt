@@ -1,5 +1,5 @@
 //! How a run goes on: an event that is accepted.
-ghost use Rattle.std.specs.Prelude.{◌≡◌, ◌<◌, ◌^◌, ◌||◌, ℕ, IfSome, None, is_some, length, not};
+ghost use Rattle.std.specs.Prelude.{◌≡◌, ◌<◌, ◌||◌, ℕ, IfSome, None, is_some, length, not};
 ghost use Rattle.iso_core.specs.Cores.{is_complete, refusal_in};
 ghost use Rattle.iso_core.specs.Progress.{Refuses, entered_by_owner, shut_by_owner};
 
@@ -12,7 +12,7 @@ impl Core<'_> {
     /// and the core isn't stopped. Takes no memory. It goes over the workers, and where none has a body over all nodes.
     pub fn allowed_event(&self) -> Option<Event>
         ensures allowed { IfSome result (λ e. refusal_in self.now e ≡ None) }
-        ensures some { 0 < self.now.workers → self.now.workers < 2 ^ 32 → is_some result ≡ not (self.now.stopped || is_complete self.now) }
+        ensures some { 0 < self.now.workers → is_some result ≡ not (self.now.stopped || is_complete self.now) }
     {
         self.is_of_a_run();
         if let Some(event) = self.going_on() {
@@ -27,13 +27,10 @@ impl Core<'_> {
     /// The event by which the body of the lowest worker goes on that has one.
     fn going_on(&self) -> Option<Event>
         ensures allowed { IfSome result (λ e. refusal_in self.now e ≡ None) }
-        ensures none { result ≡ None → self.now.workers < 2 ^ 32 → (w : ℕ) → w < self.now.workers
+        ensures none { result ≡ None → (w : ℕ) → w < self.now.workers
             → Refuses self.now (Event.Step w) × Refuses self.now (Event.Leave w) }
     {
-        let Ok(workers) = u32::try_from(self.workers()) else {
-            return None;
-        };
-        'workers: for worker in 0..workers {
+        'workers: for worker in 0..self.workers() {
             let step = Event::Step { worker };
             if self.refusal(step).is_none() {
                 return Some(step);

@@ -1,4 +1,4 @@
-use Rattle.std.proofs.Common.{ℕ, Bool, List, ap, sym, ◌∙◌, subst}
+use Rattle.std.proofs.Common.{ℕ, ◌<◌, ◌^◌, Bool, List, ap, sym, ◌∙◌, subst, arith}
 use Rattle.iso_core.proofs.CoreRuns.{core_of}
 use Rattle.iso_core.proofs.CoreSteps.{core-begins}
 use Rattle.iso_core.specs.Cores.{IsCore, new_core}
@@ -16,8 +16,9 @@ invariant_of-result c =
     let flat = c.in_ok-new-2.field-0 in
     let bodies = c.in_ok-no_bodies.field-0.items in
     let results = c.in_ok-new-3.field-0 in
+    let small : c.args.workers < 2 ^ 32 = let range = c.ranges.workers in omega arith in
     subst (λ (es : List Event). IsCore (core_of plan world v es) v flat bodies results) (sym c.new-4.ensures.items)
-    (core-begins plan world c.args.workers v flat bodies results c.in_ok-new.ensures.plan c.in_ok-new.ensures.workers c.in_ok-new.ensures.state
+    (core-begins plan world c.args.workers v flat bodies results small c.in_ok-new.ensures.plan c.in_ok-new.ensures.workers c.in_ok-new.ensures.state
     c.in_ok-new-2.ensures.plan c.in_ok-new-2.ensures.world c.in_ok-new-2.ensures.state c.in_ok-no_bodies.ensures (c.bodies_follow_events.ensures.begin world c.args.workers)
     (c.in_ok-new-3.ensures ∙ ap (λ (s : Start). no_results plan s) c.of.ensures) (c.results_follow_nodes.ensures.begin world))
 
