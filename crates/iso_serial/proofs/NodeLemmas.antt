@@ -5,6 +5,7 @@ use Rattle.iso_lifecycle.specs.ResultViews.{AreComplete, AreOpen, ResultsView, h
 use Rattle.iso_lifecycle.specs.Subjects.{opening_of, own_frame, started, subject}
 use Rattle.iso_locks.proofs.LawLemmas.{own-mark}
 use Rattle.iso_locks.specs.Onward.{on-further, on-still}
+use Rattle.iso_locks.specs.Slots.{slot}
 use Rattle.iso_locks.specs.Trays.{CanUndo, GoesOn, SavepointView, TrayView, any_lent, empty_tray, holds_read, is_lent, marked, number_of, seen, seen_at, undone}
 use Rattle.iso_locks.specs.Vaults.{CanLend, CanTakeBack, IsLentTo, VaultView, busy, giving_back, lending, regaining, whole_vault}
 use Rattle.iso_model.specs.Openings.{opening}
@@ -24,8 +25,8 @@ use Rattle.iso_serial.proofs.LeaveLemmas.{at-start, back-holds, home-further, ho
 use Rattle.iso_serial.proofs.OpeningLemmas.{opened-by, opened-well}
 use Rattle.iso_serial.proofs.ResultLemmas.{all-done, open-above, root-or-not}
 use Rattle.iso_serial.proofs.StepLemmas.{inside-tree, parent-at, tree-at}
-use Rattle.iso_serial.proofs.TrayLemmas.{lent-less, lent-more, lent-stands}
-use Rattle.iso_serial.proofs.VaultLemmas.{can-lend, can-take-back, free, vault-back, vault-lent}
+use Rattle.iso_serial.proofs.TrayLemmas.{lent-less, lent-more, lent-stands, some-or-none}
+use Rattle.iso_serial.proofs.VaultLemmas.{can-lend, can-take-back, free, same-vault, vault-back, vault-lent}
 use Rattle.iso_serial.specs.OpenedTrays.{AreLentAlong, StandsAsOpened}
 use Rattle.iso_serial.specs.Walks.{AreDone, AreResultsAlong, AtEntry, AtExit, BetweenNodes, GoesFurther, IsEntered, IsLentAlong}
 use Rattle.iso_serial.specs.declared.run.Walk.{Walk}
@@ -176,6 +177,24 @@ module _ (plan : Planned) (world : Start) where
       ap₂ (λ (h : Option History) (b : Bool). seen h b (starting_value_in world k)) (none-there (length (keys tr)) i)
       (any-none (replicate (length plan.rows) false) (none-lent (length plan.rows)) (holds_read tr k) (length tr))
 
+  all-home : (c i : ℕ) → i < c → get_or (replicate c true) i false ≡ true
+  all-home zero i less = absurd (omega arith)
+  all-home (suc c) zero less = refl
+  all-home (suc c) (suc i) less = all-home c i (omega arith)
+
+  -- a whole vault is what a vault is between two nodes of the root
+  pub whole-along : IsLentAlong plan world 0 (whole_vault plan world)
+  whole-along = record {
+    plan_is = refl;
+    world_is = refl;
+    lent = none-along (replicate (length plan.rows) false) refl;
+    home = record {
+      fits = length-replicate (length (keys tr)) true;
+      away = λ i on. let wrong : false ≡ true = sym (nothing-under-root on.node) ∙ on.above in absurd (cc);
+      only = λ i less e. let wrong : true ≡ false = sym (all-home (length (keys tr)) i less) ∙ e in absurd (cc);
+    };
+  }
+
   -- at the beginning nothing is lent, and nothing has a result
   pub first-stands : (s : Walk) → IsTree tr → s.vault ≡ whole_vault plan world → s.tray ≡ empty_tray plan world → s.results ≡ no_results plan world → BetweenNodes plan world 0 s
   first-stands s t ve te re =
@@ -186,7 +205,7 @@ module _ (plan : Planned) (world : Start) where
           within = omega arith;
           well = ap (λ (ns : List ℕ). (opening (heads_on tr ns) (started world)).well) (root-path t);
         };
-        vault = subst (λ x. IsLentAlong plan world 0 x) (sym ve) (record { plan_is = refl; world_is = refl; lent = none-along (replicate (length plan.rows) false) refl });
+        vault = subst (λ x. IsLentAlong plan world 0 x) (sym ve) whole-along;
         lent = subst (λ (x : TrayView). AreLentAlong plan 0 x.lent) (sym te) (none-along (replicate (length plan.rows) false) refl);
         tray = subst (λ (x : TrayView). StandsAsOpened plan world 0 0 x) (sym te) (record {
           holds = record {
@@ -209,6 +228,22 @@ module _ (plan : Planned) (world : Start) where
           closed = λ m mp mw e. let wrong : false ≡ true = sym (none-lent (length plan.rows) (parent tr m)) ∙ e in absurd (cc);
         });
       }
+
+  -- between two nodes of the root every value is home, and the tray has none and nothing is lent to it
+  pub root-whole : (s : Walk) → BetweenNodes plan world 0 s → s.vault ≡ whole_vault plan world
+  root-whole s st = same-vault plan world 0 s.vault (whole_vault plan world) st.vault whole-along
+
+  pub root-lent : (s : Walk) → BetweenNodes plan world 0 s → (m : ℕ) → is_lent s.tray.lent m ≡ false
+  root-lent s st m = st.lent.along m ∙ nothing-under-root m
+
+  pub root-empty : (s : Walk) → BetweenNodes plan world 0 s → (i : ℕ) → slot s.tray.values i ≡ None
+  root-empty s st i = elim (some-or-none (slot s.tray.values i)) [
+    | inl x ↦
+        let on = st.tray.holds.only i (ap is_some x.is) in
+        let wrong : false ≡ true = sym (nothing-under-root on.node) ∙ on.above in
+        absurd (cc)
+    | inr none ↦ none
+  ]
 
   -- at the end all nodes have results
   pub last-complete : (s : Walk) → BetweenNodes plan world 0 s → AreDone plan 0 s.results → AreComplete s.results

@@ -1,25 +1,33 @@
 -- A run depth first: how its vault, its tray and its results stand between two nodes, and at a node's entry and exit.
-use Rattle.std.specs.Prelude.{◌≡◌, ℕ, ◌<◌, List, true, false, length, slice_index_or}
+use Rattle.std.specs.Prelude.{◌≡◌, ℕ, ◌<◌, List, Bool, true, false, length, slice_index_or}
 use Rattle.iso_lifecycle.specs.ResultViews.{AreOpen, AreOpened, CanPut, ResultsView, has_result, is_ended, is_opened}
 use Rattle.iso_lifecycle.specs.Subjects.{opening_of, subject}
 use Rattle.iso_lifecycle.specs.WholeBodies.{CanBegin, IsReadyFor}
 use Rattle.iso_lifecycle.specs.declared.kind.BodyKind.{BodyKind}
 use Rattle.iso_lifecycle.specs.declared.kind.BodyKind.TheVariants.{BeforeAll, Test, AfterAll}
 use Rattle.iso_locks.specs.Trays.{GoesOn, content, frames_on, has_value}
-use Rattle.iso_locks.specs.Vaults.{VaultView}
+use Rattle.iso_locks.specs.Vaults.{VaultView, is_home}
+use Rattle.iso_plan.specs.KeyTable.{keys}
 use Rattle.iso_plan.specs.Paths.{IsTree, children, is_under, parent, path}
 use Rattle.iso_plan.specs.Planned.{Planned}
 use Rattle.iso_plan.specs.RowView.{tree_of}
 use Rattle.iso_plan.specs.Tree.{Row}
 use Rattle.iso_settings.specs.Worlds.{Start}
-use Rattle.iso_serial.specs.OpenedTrays.{AreLentAlong, StandsApart, StandsAsOpened}
+use Rattle.iso_serial.specs.OpenedTrays.{AreLentAlong, IsWrittenOn, StandsApart, StandsAsOpened}
 use Rattle.iso_serial.specs.declared.run.Walk.{Walk}
 
--- exactly the nodes on the path of p are lent from a vault
+-- exactly the values that some node on the path of p takes for READ_WRITE are away
+pub record AreAwayAlong (plan : Planned) (p : ℕ) (home : List Bool) : Type 0 where
+  pub fits : length home ≡ length (keys (tree_of plan))
+  pub away : (i : ℕ) → IsWrittenOn (tree_of plan) p i → is_home home i ≡ false
+  pub only : (i : ℕ) → i < length (keys (tree_of plan)) → is_home home i ≡ false → IsWrittenOn (tree_of plan) p i
+
+-- exactly the nodes on the path of p are lent from a vault, and what they take for READ_WRITE is away
 pub record IsLentAlong (plan : Planned) (world : Start) (p : ℕ) (v : VaultView) : Type 0 where
   pub plan_is : v.plan ≡ plan
   pub world_is : v.world ≡ world
   pub lent : AreLentAlong plan p v.lent
+  pub home : AreAwayAlong plan p v.home
 
 -- The results while the nodes on the path of p are under way: their `before_all`s were put and not their ends, the
 -- classes that p stands in were opened well, each other opened class has ended, and what stands in an ended class has a

@@ -1,7 +1,10 @@
 //! A plan run on one thread.
-ghost use Rattle.std.specs.Prelude.{◌≡◌, ◌<◌, IfOk, OnOk, false, length, true};
-ghost use Rattle.iso_lifecycle.specs.ResultViews.{AreComplete, has_result, with_done_of};
+ghost use Rattle.std.specs.Prelude.{◌≡◌, ◌<◌, ℕ, IfOk, None, OnOk, false, length, true};
+ghost use Rattle.iso_lifecycle.specs.ResultViews.{AreComplete, has_result, no_results, with_done_of};
 ghost use Rattle.iso_lifecycle.specs.Subjects.{is_kind_of};
+ghost use Rattle.iso_locks.specs.Slots.{slot};
+ghost use Rattle.iso_locks.specs.Trays.{empty_tray, is_lent};
+ghost use Rattle.iso_locks.specs.Vaults.{whole_vault};
 ghost use Rattle.iso_plan.specs.Paths.{is_test, parent, row_at};
 ghost use Rattle.iso_plan.specs.RowView.{tree_of};
 ghost use Rattle.iso_serial.specs.OpenedTrays.{IsTrayAfter};
@@ -26,37 +29,60 @@ pub fn run<'a>(alloc: Global, plan: &'a Plan, world: &'a World) -> Result<Result
     ensures start { IfOk result (λ r. r.start ≡ world.now) }
     ensures complete { IfOk result (λ r. AreComplete r) }
 {
-    nodes_are_a_tree(plan);
     let serial = Serial { alloc, plan, world };
-    let mut walk = Walk {
-        vault: Vault::new(alloc, plan, world)?,
-        tray: Tray::new(alloc, plan, world)?,
-        results: Results::new(alloc, plan, Snapshot::of(world))?,
-    };
-    serial.children(&mut walk, 0)?;
+    let walk = serial.to_end()?;
     Ok(walk.results)
 }
 
 /// The number of the one worker.
 const WORKER: u32 = 0;
 
-/// What is run.
+/// What is run: a plan, over the starting values of a world.
 #[derive(Clone, Copy)]
-struct Serial<'a> {
-    alloc: Global,
-    plan: &'a Plan,
-    world: &'a World,
+pub struct Serial<'a> {
+    pub alloc: Global,
+    pub plan: &'a Plan,
+    pub world: &'a World,
 }
 
-/// How far a run is: where the values are, and the results so far.
+/// How far a run is: where the values are, and the results so far. After want of memory it is only dropped.
 #[derive(Drop)]
-pub(crate) struct Walk<'a> {
-    pub(crate) vault: Vault<'a>,
-    pub(crate) tray: Tray<'a>,
-    pub(crate) results: Results<'a>,
+pub struct Walk<'a> {
+    pub vault: Vault<'a>,
+    pub tray: Tray<'a>,
+    pub results: Results<'a>,
 }
 
 impl<'a> Serial<'a> {
+    /// A run before its first node: every value is home, nothing is lent, and nothing has a result.
+    pub fn begin(&self) -> Result<Walk<'a>, AllocError>
+        ensures vault { IfOk result (λ w. w.vault ≡ whole_vault self.now.plan.now self.now.world.now) }
+        ensures tray { IfOk result (λ w. w.tray ≡ empty_tray self.now.plan.now self.now.world.now) }
+        ensures results { IfOk result (λ w. w.results ≡ no_results self.now.plan.now self.now.world.now) }
+        ensures between { IfOk result (λ w. BetweenNodes self.now.plan.now self.now.world.now 0 w) }
+    {
+        nodes_are_a_tree(self.plan);
+        Ok(Walk {
+            vault: Vault::new(self.alloc, self.plan, self.world)?,
+            tray: Tray::new(self.alloc, self.plan, self.world)?,
+            results: Results::new(self.alloc, self.plan, Snapshot::of(self.world))?,
+        })
+    }
+
+    /// A whole run: every class and test, depth first. At its end every value is home, and the tray has none.
+    pub fn to_end(&self) -> Result<Walk<'a>, AllocError>
+        ensures vault { IfOk result (λ w. w.vault ≡ whole_vault self.now.plan.now self.now.world.now) }
+        ensures lent { IfOk result (λ w. (n : ℕ) → is_lent w.tray.lent n ≡ false) }
+        ensures empty { IfOk result (λ w. (i : ℕ) → slot w.tray.values i ≡ None) }
+        ensures plan { IfOk result (λ w. w.results.plan ≡ self.now.plan.now) }
+        ensures start { IfOk result (λ w. w.results.start ≡ self.now.world.now) }
+        ensures complete { IfOk result (λ w. AreComplete w.results) }
+    {
+        let mut walk = self.begin()?;
+        self.children(&mut walk, 0)?;
+        Ok(walk)
+    }
+
     /// Runs what stands directly in a class that was opened, or in the root. Of a class whose `before_all` didn't end
     /// well each such node has its result, and isn't entered.
     #[cycle(depth)]
@@ -74,14 +100,16 @@ impl<'a> Serial<'a> {
         Ok(())
     }
 
-    /// Runs a node: lends it, does its bodies and what stands in it, lets the values that it may change stand as they
-    /// stood, and takes it back.
+    /// Runs a node that has no result, between two nodes of the root or of a class that was opened: lends it, does its bodies and
+    /// what stands in it, lets the values that it may change stand as they stood, and takes it back. Then the vault is as it was, and
+    /// what the tray holds stands as the opening of that class left it again, for the next node to begin on.
     #[cycle(depth)]
-    fn node(&self, walk: &mut Walk<'a>, node: u32) -> Result<(), AllocError>
+    pub fn node(&self, walk: &mut Walk<'a>, node: u32) -> Result<(), AllocError>
         requires positive { 0 < node }
         requires within { node < length self.now.plan.now.rows }
         requires between { BetweenNodes self.now.plan.now self.now.world.now (parent (tree_of self.now.plan.now) node) walk.old }
         requires waits { has_result walk.old.results node ≡ false }
+        ensures vault { OnOk result (walk.new.vault ≡ walk.old.vault) }
         ensures between { OnOk result (BetweenNodes self.now.plan.now self.now.world.now (parent (tree_of self.now.plan.now) node) walk.new) }
         ensures done { OnOk result (has_result walk.new.results node ≡ true) }
         ensures further { OnOk result (GoesFurther walk.old walk.new) }

@@ -7,6 +7,7 @@ use Rattle.iso_plan.specs.Planned.{Planned}
 use Rattle.iso_plan.specs.RowView.{tree_of}
 use Rattle.iso_settings.specs.Worlds.{Start}
 use Rattle.iso_serial.proofs.NodeLemmas.{child-at, done-by, entry, further-on, further-still, left-further, left-stands, lends, may-lend, may-take, may-undo, ok-by, on-ok-is, on-one, waits-by}
+use Rattle.iso_serial.proofs.VaultLemmas.{same-vault}
 use Rattle.iso_serial.specs.Walks.{BetweenNodes, GoesFurther}
 use Rattle.iso_serial.specs.declared.run.Walk.{Walk}
 use Rattle.iso_serial.proofs.run.Serial.+depth.Goals as goal
@@ -113,6 +114,15 @@ node-returns-clause-between t c =
     let lent = on-ok-is c.lend.result c.unwrap.result c.unwrap.ensures c.lend.ensures.tray in
     left-stands c.args.self.now.plan.now c.args.self.now.world.now c.args.node c.args.walk.now c.requires.positive c.requires.within c.requires.between c.requires.waits c.lend.new.self c.lend.new.tray c.in_ok-mark.mark c.bodies.new.walk lent c.in_ok-mark.ensures c.in_ok-bodies.ensures.exit c.in_ok-bodies.ensures.further
     c.take_back.new.self c.undo.new.self c.take_back.new.tray c.take_back.ensures.vault c.undo.ensures c.take_back.ensures.tray
+
+pub node-returns-clause-vault : goal.node-returns-clause-vault
+node-returns-clause-vault t c =
+    let plan : Planned = c.args.self.now.plan.now in
+    let world : Start = c.args.self.now.world.now in
+    let lent = on-ok-is c.lend.result c.unwrap.result c.unwrap.ensures c.lend.ensures.tray in
+    let between = left-stands plan world c.args.node c.args.walk.now c.requires.positive c.requires.within c.requires.between c.requires.waits c.lend.new.self c.lend.new.tray c.in_ok-mark.mark c.bodies.new.walk lent c.in_ok-mark.ensures c.in_ok-bodies.ensures.exit c.in_ok-bodies.ensures.further
+    c.take_back.new.self c.undo.new.self c.take_back.new.tray c.take_back.ensures.vault c.undo.ensures c.take_back.ensures.tray in
+    same-vault plan world (parent (tree_of plan) c.args.node) c.take_back.new.self c.args.walk.now.vault between.vault c.requires.between.vault
 
 pub node-returns-clause-further : goal.node-returns-clause-further
 node-returns-clause-further t c =
