@@ -1,5 +1,5 @@
 //! Laws of runs, over any language of bodies and any suite. Each function does nothing: its contract is the law, and is proved.
-ghost use Rattle.std.specs.Prelude.{◌≡◌, ℕ, None};
+ghost use Rattle.std.specs.Prelude.{◌≡◌, ℕ, ⊥, None};
 ghost use Rattle.iso_isolation.specs.Events.{stop};
 ghost use Rattle.iso_isolation.specs.Examples.{counting};
 ghost use Rattle.iso_isolation.specs.Languages.{BodyLaws, Language};
@@ -7,7 +7,7 @@ ghost use Rattle.iso_isolation.specs.States.{State};
 ghost use Rattle.iso_isolation.specs.Suites.{Suite, SuiteLaws};
 ghost use Rattle.iso_progress.specs.Candidates.{candidate};
 ghost use Rattle.iso_progress.specs.Examples.{mall};
-ghost use Rattle.iso_progress.specs.NeverStuck.{CandidateServes, NeverStuck, IsReached, IsStuck, SearchServes};
+ghost use Rattle.iso_progress.specs.NeverStuck.{Accepts, CandidateServes, NeverStuck, IsReached, IsStuck, SearchServes};
 ghost use Rattle.iso_progress.specs.ProgressLaws.{ProgressLaws};
 
 /// Never stuck: in every state that accepted events reach, on any number of workers but none, an event is accepted while a node but
@@ -33,6 +33,12 @@ pub fn candidate_is_accepted<H, K, V, B, F, R>()
 pub fn state_without_candidate_is_stuck<H, K, V, B, F, R>()
     ensures { (l : Language H K V B F R) (x : Suite H K V) (workers : ℕ) (s : State K V B F R)
         → candidate l x workers s ≡ None → IsStuck l x workers s }
+{}
+
+/// Where no event is accepted, none of any kind is.
+pub fn stuck_state_accepts_no_event<H, K, V, B, F, R>()
+    ensures { (l : Language H K V B F R) (x : Suite H K V) (workers : ℕ) (s : State K V B F R)
+        → IsStuck l x workers s → Accepts l x workers s → ⊥ }
 {}
 
 /// A run that was stopped has no candidate.
