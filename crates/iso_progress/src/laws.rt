@@ -1,5 +1,5 @@
 //! Laws of runs, over any language of bodies and any suite. Each function does nothing: its contract is the law, and is proved.
-ghost use Rattle.std.specs.Prelude.{◌≡◌, ℕ, ⊥, None};
+ghost use Rattle.std.specs.Prelude.{◌≡◌, ℕ, None};
 ghost use Rattle.iso_isolation.specs.Events.{stop};
 ghost use Rattle.iso_isolation.specs.Examples.{counting};
 ghost use Rattle.iso_isolation.specs.Languages.{BodyLaws, Language};
@@ -35,7 +35,7 @@ pub fn state_without_candidate_is_stuck<H, K, V, B, F, R>()
         → candidate l x workers s ≡ None → IsStuck l x workers s }
 {}
 
-/// Where no event is accepted, none of any kind is.
+/// A stuck state accepts no event, of whatever kind.
 pub fn stuck_state_accepts_no_event<H, K, V, B, F, R>()
     ensures { (l : Language H K V B F R) (x : Suite H K V) (workers : ℕ) (s : State K V B F R)
         → IsStuck l x workers s → Accepts l x workers s → ⊥ }
