@@ -6,3 +6,4 @@ pub mod Lexical
 pub mod Tokens
 pub mod Scan
 pub mod Scanned
+pub mod Examples

@@ -2,6 +2,7 @@
 #![tactic(auto)]
 
 mod cursor;
+pub mod examples;
 mod gap;
 pub mod laws;
 pub mod lexer;

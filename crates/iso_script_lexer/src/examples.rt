@@ -1,0 +1,63 @@
+//! Worked examples of the lexical grammar, as public laws.
+ghost use Rattle.std.specs.Prelude.{[], ◌∷◌, map};
+ghost use Rattle.iso_script_lexer.specs.Examples.{Has, IsRefused, name_at, text_at, symbols, words_text};
+ghost use Rattle.iso_script_lexer.specs.Lexical.{HasPieces};
+ghost use Rattle.iso_script_lexer.specs.Piece.{bad_at, number_at, symbol_at, word_at};
+ghost use Rattle.iso_script_lexer.specs.Spelling.{all_words};
+ghost use Rattle.iso_script_lexer.specs.declared.symbol.Symbol.TheVariants.{OpenBrace, CloseBrace, OpenParen, CloseParen, Semicolon, Comma};
+ghost use Rattle.iso_script_lexer.specs.declared.symbol.Symbol.TheVariants.{Equals, Plus, Minus, Star, PlusPlus, EqualsEquals, NotEquals, Less};
+ghost use Rattle.iso_script_lexer.specs.declared.token.TokenFault.TheVariants.{BadByte, BadToken, NumberTooBig, OpenText, TooLong};
+
+/// Space, tab, carriage return and line feed stand between tokens, and so do comments, which may have
+/// all of them but the line feed: it ends them, as the end of the text does. Lines are counted.
+pub fn gaps_stand_between_tokens()
+    ensures blanks { Has " a\tb\r\n\nc" (name_at 1 "a" ∷ name_at 1 "b" ∷ name_at 3 "c" ∷ []) }
+    ensures comments { Has "a// \"b\" // @\tc\r\n//\n//d\r\nb // c"
+        (name_at 1 "a" ∷ name_at 4 "b" ∷ []) }
+    ensures none { Has "\r\n// a" [] }
+    ensures one_slash { Has "a / b" (name_at 1 "a" ∷ bad_at 1 BadToken ∷ []) }
+    ensures other_bytes { IsRefused "// \u{7f}" BadByte }
+{}
+
+/// A name goes on as far as it can, and is one only if it is no reserved word.
+pub fn names_are_no_reserved_words()
+    ensures words { HasPieces 1 words_text (map (word_at 1) all_words) }
+    ensures names { Has "Test tests test1 test_ a9Z_"
+        (map (name_at 1) ("Test" ∷ "tests" ∷ "test1" ∷ "test_" ∷ "a9Z_" ∷ [])) }
+    ensures of_64_bytes { Has "abcdefghijklmnopqrstuvwxyzABCDEFGHIJKLMNOPQRSTUVWXYZ0123456789__"
+        (name_at 1 "abcdefghijklmnopqrstuvwxyzABCDEFGHIJKLMNOPQRSTUVWXYZ0123456789__" ∷ []) }
+    ensures of_65_bytes { IsRefused
+        "abcdefghijklmnopqrstuvwxyzABCDEFGHIJKLMNOPQRSTUVWXYZ0123456789___" TooLong }
+    ensures underscore { IsRefused "_a" BadToken }
+{}
+
+/// Leading zeros count for nothing. A number is at most 2^63, and neither a letter nor an underscore follows it.
+pub fn numbers_are_digits()
+    ensures zeros { Has "0 007 10" (number_at 1 0 ∷ number_at 1 7 ∷ number_at 1 10 ∷ []) }
+    ensures largest { Has "9223372036854775808" (number_at 1 9223372036854775808 ∷ []) }
+    ensures too_big { IsRefused "9223372036854775809" NumberTooBig }
+    ensures letter { IsRefused "1a" BadToken }
+    ensures underscore { IsRefused "1_0" BadToken }
+    ensures both { IsRefused "9223372036854775809a" BadToken }
+    ensures sign { Has "-1" (symbol_at 1 Minus ∷ number_at 1 1 ∷ []) }
+{}
+
+/// In a text quotes and backslashes are escaped, and nothing else is. It ends on its line.
+pub fn texts_are_quoted()
+    ensures escapes { Has "\"\" \"a \\\"b\\\" \\\\ // ~\"" (text_at 1 "" ∷ text_at 1 "a \"b\" \\ // ~" ∷ []) }
+    ensures line_feed { IsRefused "\"a\n\"" OpenText }
+    ensures end { IsRefused "\"a" OpenText }
+    ensures after_backslash { IsRefused "\"\\\n\"" OpenText }
+    ensures other_escape { IsRefused "\"\\n\"" BadToken }
+    ensures tab { IsRefused "\"\t\"" BadByte }
+{}
+
+/// A symbol is the longest that fits.
+pub fn symbols_are_the_longest_that_fit()
+    ensures each { Has "{}();,=+-*++==!=<"
+        (symbols (OpenBrace ∷ CloseBrace ∷ OpenParen ∷ CloseParen ∷ Semicolon ∷ Comma ∷ Equals ∷ Plus ∷ Minus ∷ Star
+        ∷ PlusPlus ∷ EqualsEquals ∷ NotEquals ∷ Less ∷ [])) }
+    ensures three { Has "+++ === <= - -"
+        (symbols (PlusPlus ∷ Plus ∷ EqualsEquals ∷ Equals ∷ Less ∷ Equals ∷ Minus ∷ Minus ∷ [])) }
+    ensures no_symbol { IsRefused "! =" BadToken }
+{}
