@@ -8,3 +8,4 @@ pub mod Literals
 pub mod Expressions
 pub mod Statements
 pub mod Views
+pub mod ExampleLemmas

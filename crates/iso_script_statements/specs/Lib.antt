@@ -4,3 +4,4 @@ pub mod Parsing
 pub mod Pieces
 pub mod Expressions
 pub mod Statements
+pub mod Examples
