@@ -28,7 +28,7 @@ use Rattle.iso_plan.specs.declared.fault.PlanFault.TheVariants.{TooManyKeys}
 use Rattle.iso_plan.specs.Tree.{Row, class_row, class_rows, effective_row, member_rows, members_rows, script_rows, team_rows, top_row, top_rows, tree, written_tree}
 
 -- no two marks are alike
-abbrev AreApart : List Mark → Type 0
+abbrev pub AreApart : List Mark → Type 0
 AreApart ns = IsDistinct is_same_key ns
 
 -- a mark that is like none of these is like none with one more that it isn't like
@@ -60,7 +60,7 @@ unfolding IsDistinct
 none_apart = tt
 
 -- the marks as they count are of different keys or targets
-merged_apart : (ms : List Mark) → AreApart (merged ms)
+pub merged_apart : (ms : List Mark) → AreApart (merged ms)
 merged_apart ms = apart_all ms [] none_apart
 
 -- marks of one key and target are alike
@@ -83,11 +83,11 @@ target_congr Children Children v h = refl
 both_true : (a b : Bool) → a ≡ true → b ≡ true → (a && b) ≡ true
 both_true a b ha hb = rw (ha, hb) refl
 
-first_true : (a b : Bool) → (a && b) ≡ true → a ≡ true
+pub first_true : (a b : Bool) → (a && b) ≡ true → a ≡ true
 first_true true b h = refl
 first_true false b h = h
 
-second_true : (a b : Bool) → (a && b) ≡ true → b ≡ true
+pub second_true : (a b : Bool) → (a && b) ≡ true → b ≡ true
 second_true true b h = h
 second_true false b h = let wrong : false ≡ true = h in absurd (cc)
 
@@ -215,7 +215,7 @@ selection_apart rs [] h = h
 selection_apart rs (p ∷ ps) h = kept_apart (is_kept_by rs (p ∷ ps)) rs (those_below (is_kept_by rs (p ∷ ps)) (length rs)) h
 
 -- what is written on a node is among the keys of its tree
-row_keys : (rs : List Row) (n : ℕ) (k : List ℕ) → list_any (bytes_eq k) (mark_keys (row_at rs n).written) ≡ true → list_any (bytes_eq k) (marked_keys rs) ≡ true
+pub row_keys : (rs : List Row) (n : ℕ) (k : List ℕ) → list_any (bytes_eq k) (mark_keys (row_at rs n).written) ≡ true → list_any (bytes_eq k) (marked_keys rs) ≡ true
 row_keys [] zero k h = h
 row_keys [] (suc n) k h = h
 row_keys (r ∷ rs) zero k h =

@@ -68,6 +68,9 @@ all_new : (xs : List (List ℕ)) → filter (is_new []) xs ≡ xs
 all_new [] = refl
 all_new (x ∷ xs) = ap (λ ys. x ∷ ys) (all_new xs)
 
+pub inserted-firsts : (ks : List (List ℕ)) → insert_all bytes_eq [] ks ≡ firsts ks
+inserted-firsts ks = inserted ks [] ∙ all_new (firsts ks)
+
 -- the keys of a tree are the first of each of the global key and all marked keys
 pub keys-firsts : (tree : List Row) → keys tree ≡ firsts (global_key ∷ marked_keys tree)
 keys-firsts tree = inserted (marked_keys tree) (global_key ∷ []) ∙ ap (λ ks. global_key ∷ ks) (one_more [] global_key (firsts (marked_keys tree)) ∙ all_new (filter (differs global_key) (firsts (marked_keys tree))))

@@ -215,11 +215,11 @@ insert_keeps : (ks : List (List ℕ)) (x k : List ℕ) → list_any (bytes_eq k)
 insert_keeps ks x k h true = h
 insert_keeps ks x k h false = list_any-append (bytes_eq k) ks (x ∷ []) ∙ or_left (list_any (bytes_eq k) ks) (bytes_eq k x || false) h
 
-insert_has : (ks : List (List ℕ)) (x : List ℕ) → (t : Bool) → list_any (bytes_eq x) ks ≡ t → list_any (bytes_eq x) (if t then ks else ks ++ x ∷ []) ≡ true
+pub insert_has : (ks : List (List ℕ)) (x : List ℕ) → (t : Bool) → list_any (bytes_eq x) ks ≡ t → list_any (bytes_eq x) (if t then ks else ks ++ x ∷ []) ≡ true
 insert_has ks x true e = e
 insert_has ks x false e = list_any-append (bytes_eq x) ks (x ∷ []) ∙ or_last (list_any (bytes_eq x) ks) (bytes_eq x x || false) (or_left (bytes_eq x x) false (nat_list_eq_equiv.refl x))
 
-all_keep : (xs ks : List (List ℕ)) (k : List ℕ) → list_any (bytes_eq k) ks ≡ true → list_any (bytes_eq k) (insert_all bytes_eq ks xs) ≡ true
+pub all_keep : (xs ks : List (List ℕ)) (k : List ℕ) → list_any (bytes_eq k) ks ≡ true → list_any (bytes_eq k) (insert_all bytes_eq ks xs) ≡ true
 all_keep [] ks k h = h
 all_keep (x ∷ xs) ks k h = all_keep xs (insert_key bytes_eq ks x) k (insert_keeps ks x k h (list_any (bytes_eq x) ks))
 

@@ -19,8 +19,11 @@ pub mod ModeLemmas
 pub mod NumberLemmas
 pub mod PathLemmas
 pub mod PathTextLemmas
+pub mod SameMarks
+pub mod SameTrees
 pub mod SelectionLemmas
 pub mod Sharing
 pub mod SoFar
 pub mod TopLemmas
 pub mod TreeLemmas
+pub mod WrittenLemmas

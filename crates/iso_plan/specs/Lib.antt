@@ -18,3 +18,4 @@ pub mod SameNodes
 pub mod Selections
 pub mod Tables
 pub mod Tree
+pub mod WrittenMarks

@@ -2,13 +2,16 @@
 ghost use Rattle.std.specs.Prelude.{◌≡◌, ◌<◌, ◌≤◌, ◌||◌, ◌++◌, ◌∷◌, [], ℕ, List, None, false, length, map, slice_index_or, true};
 ghost use Rattle.iso_model.specs.Keys.{global_key};
 ghost use Rattle.iso_model.specs.NameSets.{is_among};
-ghost use Rattle.iso_model.specs.Rights.{is_readable, is_writable};
+ghost use Rattle.iso_model.specs.Rights.{is_readable, is_writable, rights_of};
 ghost use Rattle.iso_model.specs.ScriptView.{script_of};
+ghost use Rattle.iso_model.specs.Targets.{marks_for};
+ghost use Rattle.iso_model.specs.declared.heads.Mark.{Mark};
+ghost use Rattle.iso_model.specs.declared.heads.Target.{Target};
 ghost use Rattle.iso_model.specs.declared.script.Mode.TheVariants.{SameThread};
 ghost use Rattle.iso_plan.specs.Children.{IsChild, IsListed};
 ghost use Rattle.iso_plan.specs.Covers.{IsCovered};
 ghost use Rattle.iso_plan.specs.KeyTable.{firsts, keys, mark_keys, marked_keys};
-ghost use Rattle.iso_plan.specs.Locks.{conflict, is_locking, taken};
+ghost use Rattle.iso_plan.specs.Locks.{conflict, is_locking, locks, taken};
 ghost use Rattle.iso_plan.specs.Faults.{plan_fault};
 ghost use Rattle.iso_plan.specs.Merged.{all_merged, merged, most_marks};
 ghost use Rattle.iso_plan.specs.Modes.{mode};
@@ -17,6 +20,7 @@ ghost use Rattle.iso_plan.specs.Paths.{IsTree, children, is_test, is_top, is_und
 ghost use Rattle.iso_plan.specs.RowView.{tree_of};
 ghost use Rattle.iso_plan.specs.SameNodes.{IsSameNode};
 ghost use Rattle.iso_plan.specs.Selections.{is_kept, number_among, plan_tree, selection, texts_of};
+ghost use Rattle.iso_plan.specs.WrittenMarks.{AreWritten, tree_with};
 
 use crate::plan::Plan;
 use iso_model::heads::Mark;
@@ -147,3 +151,27 @@ pub fn fewer_marks_are_all_kept(marks: &[Mark])
     ensures all { length (merged marks.now) < most_marks → merged marks.now ≡ all_merged marks.now }
     ensures written { (k : List ℕ) → is_among (mark_keys (merged marks.now)) k ≡ true → is_among (mark_keys marks.now) k ≡ true }
 {}
+
+/// Merged marks give each key the access that they give it as they are written, to each target by itself. They name the same keys, the
+/// first of each in the same order.
+pub fn merged_marks_declare_the_same(marks: &[Mark])
+    ensures rights { (t : Target) (k : List ℕ)
+        → rights_of (marks_for t (all_merged marks.now)) k ≡ rights_of (marks_for t marks.now) k }
+    ensures keys { firsts (mark_keys (all_merged marks.now)) ≡ firsts (mark_keys marks.now) }
+{}
+
+/// The keys of a plan with their numbers, and the locks, modes and rights of its nodes are those of the tree by the marks as they are
+/// written: of any marks of which those of its rows are merged.
+pub fn written_marks_make_the_same_plan(plan: &Plan)
+    ensures keys { (marks : ℕ → List Mark) → AreWritten (tree_of plan.now) marks
+        → keys (tree_with (tree_of plan.now) marks) ≡ keys (tree_of plan.now) }
+    ensures locks { (marks : ℕ → List Mark) → AreWritten (tree_of plan.now) marks
+        → (n : ℕ) → locks (tree_with (tree_of plan.now) marks) n ≡ locks (tree_of plan.now) n }
+    ensures modes { (marks : ℕ → List Mark) → AreWritten (tree_of plan.now) marks → (n : ℕ)
+        → mode (tree_with (tree_of plan.now) marks) plan.now.settings n ≡ mode (tree_of plan.now) plan.now.settings n }
+    ensures rights { (marks : ℕ → List Mark) → AreWritten (tree_of plan.now) marks → (n : ℕ) (k : List ℕ)
+        → node_rights (tree_with (tree_of plan.now) marks) n k ≡ node_rights (tree_of plan.now) n k }
+{
+    plan.hold_a_tree();
+    plan.hold_few_keys();
+}

@@ -1,11 +1,11 @@
 //! The plan of a run.
-ghost use Rattle.std.specs.Prelude.{◌≡◌, ◌<◌, ◌≤◌, ◌↔◌, [], IfErr, IfOk, IsTrue, None, length, map, slice_index_or};
+ghost use Rattle.std.specs.Prelude.{◌≡◌, ◌<◌, ◌≤◌, ◌↔◌, ◌+◌, [], IfErr, IfOk, IsTrue, None, length, map, slice_index_or};
 ghost use Rattle.std.specs.List.{All};
 ghost use Rattle.std.specs.Option.{option_map};
 ghost use Rattle.iso_model.specs.ChainView.{innermost_first};
 ghost use Rattle.iso_model.specs.Rights.{access_in};
 ghost use Rattle.iso_model.specs.ScriptView.{script_of, test_head_of};
-ghost use Rattle.iso_model.specs.declared.limits.TheConstants.{NODES};
+ghost use Rattle.iso_model.specs.declared.limits.TheConstants.{KEYS, NODES};
 ghost use Rattle.iso_plan.specs.Faults.{IsFaultOf, keys_fault, plan_fault};
 ghost use Rattle.iso_plan.specs.KeyTable.{keys};
 ghost use Rattle.iso_plan.specs.Locks.{locking_node, locks};
@@ -300,5 +300,12 @@ impl Plan {
         ensures { IsTree (tree_of self.now) }
     {
         let _rows = &self.rows;
+    }
+
+    /// It has no more keys than a plan may have, the global key among them.
+    pub(crate) fn hold_few_keys(&self)
+        ensures { length (keys (tree_of self.now)) ≤ KEYS + 1 }
+    {
+        let _keys = &self.keys;
     }
 }
