@@ -11,3 +11,4 @@ pub mod Shorter
 pub mod Unique
 pub mod Variables
 pub mod Views
+pub mod ExampleLemmas

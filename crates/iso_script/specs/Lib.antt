@@ -5,3 +5,4 @@ pub mod Grammar
 pub mod Marks
 pub mod Readings
 pub mod Variables
+pub mod Examples

@@ -5,6 +5,7 @@
 mod block;
 mod class;
 mod display;
+pub mod examples;
 pub mod fault;
 mod head;
 pub mod laws;

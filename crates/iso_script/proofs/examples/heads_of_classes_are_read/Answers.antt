@@ -1,0 +1,80 @@
+use Rattle.std.proofs.Common.{List, [], ◌∷◌, codes, refl, negsuc, arith}
+use Rattle.std.specs.List.{IsDistinct}
+use Rattle.iso_model.specs.Examples.Words.{variable}
+use Rattle.iso_model.specs.declared.data.Data.TheVariants.{Text, Whole}
+use Rattle.iso_model.specs.declared.place.Lifecycle.TheVariants.{BeforeAll, AfterAll, BeforeEach, AfterEach}
+use Rattle.iso_script_lexer.specs.Piece.{Piece, name_at, number_at, text_at, word_at, symbol_at}
+use Rattle.iso_script_lexer.specs.Scan.{after_gap, front_of, pieces, pieces_of, quoted_length, symbol_front}
+use Rattle.iso_script_lexer.specs.Spelling.{word_of}
+use Rattle.iso_script_lexer.specs.Text.{decoded}
+use Rattle.iso_script_lexer.specs.declared.symbol.Symbol.TheVariants.{CloseBrace, Equals, Minus, OpenBrace, Semicolon}
+use Rattle.iso_script_lexer.specs.declared.word.Word.TheVariants as W
+use Rattle.iso_script_statements.specs.Expressions.{a_number, a_negative, a_text}
+use Rattle.iso_script.specs.Blocks.{Blocks, a_block}
+use Rattle.iso_script.specs.Displays.{none_displayed}
+use Rattle.iso_script.specs.Examples.{variable_of, with_blocks, with_variables}
+use Rattle.iso_script.specs.Grammar.{as_class, a_class}
+use Rattle.iso_script.specs.Variables.{Variables, a_variable}
+use Rattle.iso_script.specs.declared.variable.VariableWord.TheVariants.{Static, Field}
+use Rattle.iso_script.proofs.ExampleLemmas.{are_read, none_declared, no_marks, no_variables, alone, an_empty_test, a_plain_class, fails, each_block, written, each_body}
+use Rattle.iso_script.proofs.examples.heads_of_classes_are_read.Goals as goal
+
+abbrev head_variables : Variables
+head_variables = record { statics = with_variables.statics; fields = with_variables.fields }
+
+abbrev variables : List Piece
+variables =
+    word_at 2 W.Class ∷ name_at 2 (codes "C") ∷ symbol_at 2 OpenBrace ∷ word_at 2 W.Static ∷ name_at 2 (codes "a") ∷ symbol_at 2 Equals
+    ∷ number_at 2 7 ∷ symbol_at 2 Semicolon ∷ word_at 2 W.Field ∷ name_at 2 (codes "b") ∷ symbol_at 2 Equals ∷ symbol_at 2 Minus ∷ number_at 2 1
+    ∷ symbol_at 2 Semicolon ∷ word_at 2 W.Static ∷ name_at 2 (codes "c") ∷ symbol_at 2 Equals ∷ text_at 2 (codes "x") ∷ symbol_at 2 Semicolon
+    ∷ word_at 2 W.Test ∷ name_at 2 (codes "t") ∷ symbol_at 2 OpenBrace ∷ symbol_at 2 CloseBrace ∷ symbol_at 2 CloseBrace ∷ []
+
+pub returns-clause-variables : goal.returns-clause-variables
+unfolding pieces_of pieces after_gap front_of symbol_front quoted_length decoded word_of IsDistinct
+returns-clause-variables c =
+    are_read {ps = variables} refl refl (
+      _,
+      a_plain_class {variables = head_variables}
+          (record {
+            written = record { word = Static; variable = variable "a" 7 } ∷ record { word = Field; variable = variable_of "b" (Whole (negsuc 0)) }
+                ∷ record { word = Static; variable = variable_of "c" (Text (codes "x")) } ∷ [];
+            read = (_, a_variable refl (a_number (omega arith)), (_, a_variable refl (a_negative (omega arith)), (_, a_variable refl a_text, refl)));
+            ends = refl;
+            distinct = ((refl, (refl, tt)), ((refl, tt), (tt, tt)));
+            free = (refl, (refl, (refl, tt)));
+            statics = refl;
+            fields = refl;
+          })
+          refl (alone an_empty_test),
+      refl,
+    )
+
+abbrev head_blocks : Blocks
+head_blocks = each_block with_blocks.before_all with_blocks.after_all with_blocks.before_each with_blocks.after_each
+
+abbrev blocks : List Piece
+blocks =
+    word_at 2 W.Class ∷ name_at 2 (codes "C") ∷ symbol_at 2 OpenBrace ∷ word_at 2 W.AfterEach ∷ symbol_at 2 OpenBrace ∷ word_at 3 W.Fail
+    ∷ text_at 3 (codes "a") ∷ symbol_at 3 Semicolon ∷ symbol_at 3 CloseBrace ∷ word_at 3 W.BeforeAll ∷ symbol_at 3 OpenBrace ∷ word_at 3 W.Fail
+    ∷ text_at 3 (codes "b") ∷ symbol_at 3 Semicolon ∷ symbol_at 3 CloseBrace ∷ word_at 3 W.AfterAll ∷ symbol_at 3 OpenBrace ∷ word_at 5 W.Fail
+    ∷ text_at 5 (codes "c") ∷ symbol_at 5 Semicolon ∷ symbol_at 5 CloseBrace ∷ word_at 5 W.BeforeEach ∷ symbol_at 5 OpenBrace ∷ word_at 5 W.Fail
+    ∷ text_at 5 (codes "d") ∷ symbol_at 5 Semicolon ∷ symbol_at 5 CloseBrace ∷ word_at 5 W.Test ∷ name_at 5 (codes "t") ∷ symbol_at 5 OpenBrace
+    ∷ symbol_at 5 CloseBrace ∷ symbol_at 5 CloseBrace ∷ []
+
+pub returns-clause-blocks : goal.returns-clause-blocks
+unfolding pieces_of pieces after_gap front_of symbol_front quoted_length decoded word_of
+returns-clause-blocks c =
+    are_read {ps = blocks} refl refl (
+      _,
+      as_class (no_marks refl)
+          (a_class {variables = none_declared} {blocks = head_blocks} (none_displayed refl) (no_variables refl)
+          (record {
+            written = written AfterEach with_blocks.after_each ∷ written BeforeAll with_blocks.before_all ∷ written AfterAll with_blocks.after_all
+                ∷ written BeforeEach with_blocks.before_each ∷ [];
+            read = (_, a_block refl fails, (_, a_block refl fails, (_, a_block refl fails, (_, a_block refl fails, refl))));
+            ends = refl;
+            bodies = each_body with_blocks.before_all with_blocks.after_all with_blocks.before_each with_blocks.after_each;
+          })
+          (alone an_empty_test)),
+      refl,
+    )
