@@ -1,4 +1,4 @@
--- The words of the example scripts, and these. That each text is its script, the source module `examples` states and proves.
+-- Example scripts: texts, and what they say. That each text is its script, the source module `examples` states and proves.
 use Prim.Native.String.{String}
 use Rattle.std.specs.Prelude.{List, [], ◌∷◌, ◌++◌, Some, None, true, false, codes, negsuc}
 use Rattle.std.specs.List.{flat_map}
@@ -40,7 +40,7 @@ a_class n head ms = class (a_title n head) (members_of ms)
 abbrev pub empty_test : String → Member
 empty_test n = test_member (a_test n no_acts)
 
--- every mark of a class, its display text, and the marks of a test and its own; and what they are
+-- every mark, and display texts, of a class and of its test
 abbrev pub marked_text : List String
 marked_text =
     "write \"d\" read children \"c\" read \"d\" isolated write children \"c\" concurrent"
@@ -100,7 +100,7 @@ with_blocks =
       after_each = on 2 (fail "a");
     }
 
--- Tests and classes in a class. One name is that of several nodes, and that of fields of two classes, none of which is in the other.
+-- Tests and classes in a class. Nodes that stand in different classes have one name, and so have fields of classes beside each other.
 abbrev pub members_text : List String
 members_text =
     "class C { test C { } class D { field x = 1; test C { } }"
@@ -115,4 +115,6 @@ abbrev pub commented_text : List String
 commented_text = "// by hand:\ta comment" ∷ "class C { // \"" ∷ "\tstatic n = 1; //" ∷ "\ttest t {" ∷ "\t\tprint n; // n" ∷ "} }" ∷ []
 
 abbrev pub commented_class : Class
-commented_class = a_class "C" (record empty_head { statics = variable "n" 1 ∷ [] }) (test_member (a_test "t" (on 2 (print (name "n")))) ∷ [])
+commented_class =
+    a_class "C" (record empty_head { statics = variable "n" 1 ∷ [] })
+    (test_member (a_test "t" (on 2 (print (name "n")))) ∷ [])
