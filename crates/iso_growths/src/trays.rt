@@ -8,7 +8,8 @@ use iso_locks::laws::lent_nodes_may_be_taken_back;
 use iso_locks::tray::Tray;
 use iso_locks::vault::Vault;
 use iso_plan::plan::Plan;
-use iso_settings::world::World;
+use iso_settings::world::{World, read_world};
+use std::alloc::Global;
 
 /// Makes a tray and a vault, lends a class, and takes it back.
 pub(crate) fn lend<H: Host>(
@@ -16,10 +17,61 @@ pub(crate) fn lend<H: Host>(
     plan: &Plan,
     world: &World,
 ) -> Result<(), Answer> {
+    over_worlds(calls, plan)?;
     calls.begin("Tray::new");
     let made = Tray::new(calls.alloc(), plan, world);
     calls.end("Tray::new");
     with_tray(calls, plan, world, &mut made?)
+}
+
+/// The names by which trays are made over worlds, and how many properties each world has. `tests/refuse-calls` counts that a tray takes as
+/// many growths over each.
+static WORLDS: [(&str, u32); 2] = [
+    ("Tray::new over an empty world", 0),
+    ("Tray::new over 1,000 properties", 1_000),
+];
+
+/// Makes a tray over the world of the name that is asked for, if it is one of these.
+fn over_worlds<H: Host>(calls: &Calls<'_, H>, plan: &Plan) -> Result<(), Answer> {
+    for (name, properties) in WORLDS.as_slice() {
+        if calls.asked == *name {
+            over_properties(calls, name, plan, *properties)?;
+        }
+    }
+    Ok(())
+}
+
+/// Makes a tray over a world of so many properties.
+fn over_properties<H: Host>(
+    calls: &Calls<'_, H>,
+    name: &str,
+    plan: &Plan,
+    properties: u32,
+) -> Result<(), Answer> {
+    over_world(calls, name, plan, &world_of(calls.alloc(), properties)?)
+}
+
+/// Makes a tray over a world, by this name.
+fn over_world<H: Host>(
+    calls: &Calls<'_, H>,
+    name: &str,
+    plan: &Plan,
+    world: &World,
+) -> Result<(), Answer> {
+    calls.begin(name);
+    let made = Tray::new(calls.alloc(), plan, world);
+    calls.end(name);
+    made?;
+    Ok(())
+}
+
+/// The world of so many properties.
+fn world_of(alloc: Global, properties: u32) -> Result<World, Answer> {
+    let mut text = String::new(alloc);
+    for number in 0..properties {
+        text.push_str(format!(in alloc; "properties.p{number} = \"v\"\n")?.as_str())?;
+    }
+    Ok(read_world(alloc, text.as_str())?)
 }
 
 /// Goes back on a tray, and has a new vault lend to it.
