@@ -1,6 +1,7 @@
 //! What lies under the lock of a floor.
-ghost use Rattle.std.specs.Prelude.{◌≡◌, ℕ, IfOk, length, true};
+ghost use Rattle.std.specs.Prelude.{◌≡◌, ℕ, IfOk, length, not, true};
 ghost use Rattle.iso_book.specs.Books.{new_book};
+ghost use Rattle.iso_floor.specs.Answering.{has_changed};
 ghost use Rattle.iso_floor.specs.Grounds.{IsBookOf};
 
 use crate::agenda::{Agenda, Source};
@@ -234,12 +235,16 @@ impl<'a, G: Ground> Desk<'a, G> {
     }
 
     /// How many events the history has.
-    pub(crate) fn length(&self) -> u64 {
+    pub(crate) fn length(&self) -> u64
+        ensures { result ≡ length self.now.history }
+    {
         self.book.history().len() as u64
     }
 
     /// Whether the history is no longer than `seen`, and the run neither stopped nor complete.
-    pub(crate) fn is_unchanged(&self, seen: u64) -> bool {
+    pub(crate) fn is_unchanged(&self, seen: u64) -> bool
+        ensures { result ≡ not (has_changed seen self.now) }
+    {
         self.length() <= seen && !self.book.is_stopped() && !self.book.complete()
     }
 

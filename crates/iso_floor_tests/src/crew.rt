@@ -61,7 +61,7 @@ impl Crew {
 /// What a run on a floor has come to.
 #[derive(Drop)]
 pub(crate) struct Ran {
-    /// How long the history is after all have ended.
+    /// How long the history is after all have ended, when no wait for more goes on.
     pub events: u64,
     /// How many receipts are in the seats that were handed in.
     pub receipts: usize,
@@ -110,7 +110,7 @@ fn run_on_floor<
     let floor: Floor<'_, G> = Floor::new(alloc, plan, world, crew.workers).expect(rt, "memory");
     let seats = seats_on(rt, alloc, &floor, crew.working);
     let mut seats = work_all(rt, alloc, &floor, seats, crew.cause, gate, beside);
-    let events = floor.wait_change(rt, 0);
+    let events = floor.wait_change(rt, u64::MAX);
     let kept = keep_back(&mut seats, crew.kept);
     Ran {
         events,
