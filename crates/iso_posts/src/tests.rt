@@ -3,6 +3,7 @@ use crate::posts::Posts;
 use crate::thief::{Stolen, Thief};
 use std::alloc::Global;
 use std::test::Fail;
+use std::thread;
 
 /// The owner of one deque and its only thief.
 fn pair(alloc: Global) -> Result<(Owner, Thief), Fail> {
@@ -82,6 +83,66 @@ fn nodes_come_first_in_first_out(rt: HostRuntime) -> Result<(), Fail> {
         assert_eq!(&rt; owner.take(), Some(node));
     }
     assert_eq!(&rt; owner.take(), None);
+    Ok(())
+}
+
+/// So many that two thieves are in each other's way, on one processor too.
+const MANY: u32 = 200_000;
+
+/// Whether an owner posts so many nodes.
+fn posts_many(owner: &mut Owner) -> bool {
+    for node in 0..MANY {
+        if owner.post(node).is_err() {
+            return false;
+        }
+    }
+    true
+}
+
+/// How often a thief asks again who was told that the deque is empty.
+const ASKED_AGAIN: u32 = 100;
+
+/// Whether a thief finds the deque empty each time that it asks again.
+fn stays_empty(thief: &mut Thief) -> bool {
+    for _ in 0..ASKED_AGAIN {
+        if thief.steal() != Stolen::Empty {
+            return false;
+        }
+    }
+    true
+}
+
+/// How many nodes a thief steals until it is told that the deque is empty, or nothing where it isn't from then on.
+fn count_stolen(mut thief: Thief) -> Option<u32> {
+    let mut count: u32 = 0;
+    for _ in 0..u64::MAX {
+        match thief.steal() {
+            Stolen::Node(_) => count = count.saturating_add(1),
+            Stolen::Empty => break,
+            Stolen::Again => {}
+        }
+    }
+    stays_empty(&mut thief).then_some(count)
+}
+
+/// Both thieves' nodes.
+fn sum(first: Option<u32>, second: Option<u32>) -> Option<u32> {
+    Some(first?.saturating_add(second?))
+}
+
+/// Two thieves steal at once, and nobody posts any more: who is told that the deque is empty finds it so for ever, and who is told to try
+/// again isn't told that.
+#[test]
+fn thief_is_told_of_an_empty_deque_when_it_is_empty(rt: HostRuntime) -> Result<(), Fail> {
+    let (mut owner, first) = pair(rt.alloc())?;
+    let second = owner.thief()?;
+    assert!(&rt; posts_many(&mut owner));
+    let (one, other) = thread::join(
+        &rt,
+        move || count_stolen(first),
+        move || count_stolen(second),
+    );
+    assert_eq!(&rt; sum(one, other), Some(MANY));
     Ok(())
 }
 
