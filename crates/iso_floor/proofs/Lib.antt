@@ -1,3 +1,4 @@
+pub mod Answered
 pub mod AuditLemmas
 pub mod Begun
 pub mod FreeSeats

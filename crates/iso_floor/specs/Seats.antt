@@ -1,5 +1,5 @@
 -- What contracts see of a seat, and how it stands after a worker's call.
-use Rattle.std.specs.Prelude.{◌≡◌, ℕ, Bool, List, [], ◌∷◌, ◌++◌, map, refl}
+use Rattle.std.specs.Prelude.{◌≡◌, ◌*◌, ℕ, Bool, List, [], ◌∷◌, ◌++◌, length, map, refl}
 use Rattle.std.proofs.Common.{◌∙◌}
 use Rattle.std.specs.Coded.{Coded, code_by, coded×, coded_list, coded_ℕ}
 use Rattle.iso_book.specs.Leaves.{ReceiptView, after_leave, receipt_code}
@@ -10,20 +10,21 @@ use Rattle.iso_model.specs.Resources.{Resources}
 use Rattle.iso_plan.specs.Planned.{Planned}
 use Rattle.iso_settings.specs.Worlds.{Start}
 
--- a worker's number, its tray, and the receipts of its Leaves, in the order of its calls
+-- a worker's number, its tray, the receipts of its Leaves, in the order of its calls, and how many of them it has room for
 pub record SeatView : Type 0 where
   pub worker : ℕ
   pub tray : TrayView
   pub receipts : List ReceiptView
+  pub room : ℕ
 
 abbrev pub seat_code : Coded SeatView
 seat_code =
-    code_by (ℕ × (TrayView × List ReceiptView)) (coded× coded_ℕ (coded× tray_code (coded_list receipt_code)))
-    (λ s. (s.worker, (s.tray, s.receipts))) (λ p. record { worker = p.0; tray = p.1.0; receipts = p.1.1 }) (λ _. refl)
+    code_by (ℕ × (TrayView × (List ReceiptView × ℕ))) (coded× coded_ℕ (coded× tray_code (coded× (coded_list receipt_code) coded_ℕ)))
+    (λ s. (s.worker, (s.tray, (s.receipts, s.room)))) (λ p. record { worker = p.0; tray = p.1.0; receipts = p.1.1.0; room = p.1.1.1 }) (λ _. refl)
 
--- a seat to whose tray nothing is lent, and which has no receipt
+-- a seat to whose tray nothing is lent, and which has no receipt, and room for two Leaves of each node
 abbrev pub new_seat : Planned → Start → ℕ → SeatView
-new_seat plan start worker = record { worker = worker; tray = empty_tray plan start; receipts = [] }
+new_seat plan start worker = record { worker = worker; tray = empty_tray plan start; receipts = []; room = 2 * length plan.rows }
 
 -- the receipts of seats, list by list
 abbrev pub lists_of : List SeatView → List (List ReceiptView)
@@ -35,6 +36,7 @@ pub record HasLeft (d : DoneView) (old new : SeatView) : Type 0 where
   pub worker : new.worker ≡ old.worker
   pub tray : new.tray ≡ after_leave d.kind d.subject.node old.tray
   pub receipts : new.receipts ≡ old.receipts ++ record { number = number; worker = old.worker; node = d.subject.node } ∷ []
+  pub room : new.room ≡ old.room
 
 -- the resources that a seat holds, and whether it may change one: its tray's
 abbrev pub seat_content : SeatView → Resources
@@ -48,15 +50,17 @@ pub record SeatGoesOn (old new : SeatView) : Type 0 where
   pub worker : new.worker ≡ old.worker
   pub tray : IsOnward old.tray new.tray
   pub receipts : new.receipts ≡ old.receipts
+  pub room : new.room ≡ old.room
 
 pub seat-still : (s : SeatView) → SeatGoesOn s s
-seat-still s = record { worker = refl; tray = onward-still s.tray; receipts = refl }
+seat-still s = record { worker = refl; tray = onward-still s.tray; receipts = refl; room = refl }
 
 pub seat-further : (s t u : SeatView) → SeatGoesOn s t → SeatGoesOn t u → SeatGoesOn s u
 seat-further s t u a b = record {
   worker = b.worker ∙ a.worker;
   tray = onward-further s.tray t.tray u.tray a.tray b.tray;
   receipts = b.receipts ∙ a.receipts;
+  room = b.room ∙ a.room;
 }
 
 pub seat-writes : (s t : SeatView) → SeatGoesOn s t → seat_has_value t ≡ seat_has_value s

@@ -1,7 +1,7 @@
 //! What lies under the lock of a floor.
 ghost use Rattle.std.specs.Prelude.{◌≡◌, ℕ, IfOk, length, not, true};
 ghost use Rattle.iso_book.specs.Books.{new_book};
-ghost use Rattle.iso_floor.specs.Answering.{has_changed};
+ghost use Rattle.iso_floor.specs.Answering.{HasRun, has_changed};
 ghost use Rattle.iso_floor.specs.Grounds.{IsBookOf};
 
 use crate::agenda::{Agenda, Source};
@@ -248,11 +248,20 @@ impl<'a, G: Ground> Desk<'a, G> {
         self.length() <= seen && !self.book.is_stopped() && !self.book.complete()
     }
 
+    /// The history of its book in full is a run.
+    pub(crate) fn keep_run(&self)
+        ensures { HasRun self.now }
+    {
+        let _history = self.book.history();
+    }
+
     /// Its book.
     pub(crate) fn into_book(self) -> Book<'a>
-        ensures { IsBookOf G.plan G.start G.workers result }
+        ensures ground { IsBookOf G.plan G.start G.workers result }
+        ensures run { HasRun result }
     {
         let Desk { book, .. } = self;
+        let _history = book.history();
         book
     }
 }

@@ -2,7 +2,8 @@
 ghost use Rattle.std.specs.Prelude.{◌≡◌, ◌<◌, ℕ, IfErr, IfOk, OnErr, OnOk, true};
 ghost use Rattle.iso_book.specs.Leaves.{MayBring};
 ghost use Rattle.iso_book.specs.Turns.{IsEntered, IsShut, ReadsStart};
-ghost use Rattle.iso_floor.specs.Closing.{IsSeatFault, IsWhole};
+ghost use Rattle.iso_floor.specs.Answering.{HasRoom, IsFull, OfSomeBook, RefusesEnter, RefusesLeave, RefusesShut, TakesEnter, TakesLeave, TakesShut};
+ghost use Rattle.iso_floor.specs.Closing.{IsCloseFault, IsSeatFault, IsWhole};
 ghost use Rattle.iso_floor.specs.Grounds.{IsBookOf};
 ghost use Rattle.iso_floor.specs.Seats.{HasLeft, SeatView, lists_of, new_seat};
 ghost use Rattle.iso_floor.specs.Turning.{IsTurn};
@@ -99,19 +100,15 @@ impl<'a, G: Ground> Floor<'a, G> {
         }
         let desk = &mut *desk;
         let place = &mut desk.places[worker as usize];
-        if place.is_none() {
-            return Err(SeatFault::Taken);
-        }
-        match Seat::new(alloc, self.plan, self.world, worker, place)? {
-            Some(seat) => Ok(seat),
-            None => Err(SeatFault::Taken),
-        }
+        Seat::new(alloc, self.plan, self.world, worker, place)
     }
 
     /// A seat's worker enters a node, as `Book::enter` does with the seat's tray. A refusal and want of memory change nothing. It may wait
     /// for the lock.
     pub fn enter<R: Wait>(&self, rt: &R, seat: &mut Seat<'a, G>, node: u32) -> Result<(), CoreFault>
         ensures entered { OnOk result (IsEntered node seat.old.tray seat.new.tray) }
+        ensures taken { OnOk result (OfSomeBook G.plan G.start G.workers (TakesEnter seat.old node)) }
+        ensures refused { IfErr result (λ fault. OfSomeBook G.plan G.start G.workers (RefusesEnter seat.old node fault)) }
         ensures seat { seat.new ≡ record seat.old { tray = seat.new.tray } }
         ensures same { OnErr result (seat.new ≡ seat.old) }
     {
@@ -128,6 +125,8 @@ impl<'a, G: Ground> Floor<'a, G> {
     /// nothing. It may wait for the lock.
     pub fn shut<R: Wait>(&self, rt: &R, seat: &mut Seat<'a, G>, node: u32) -> Result<(), CoreFault>
         ensures shut { OnOk result (IsShut node seat.old.tray seat.new.tray) }
+        ensures taken { OnOk result (OfSomeBook G.plan G.start G.workers (TakesShut seat.old node)) }
+        ensures refused { IfErr result (λ fault. OfSomeBook G.plan G.start G.workers (RefusesShut seat.old node fault)) }
         ensures seat { seat.new ≡ record seat.old { tray = seat.new.tray } }
         ensures same { OnErr result (seat.new ≡ seat.old) }
     {
@@ -152,6 +151,10 @@ impl<'a, G: Ground> Floor<'a, G> {
         requires { MayBring done seat.old.tray }
         ensures left { OnOk result (HasLeft done seat.old seat.new) }
         ensures reads { OnOk result ((n : ℕ) → is_lent seat.new.tray.lent n ≡ true → ReadsStart n seat.new.tray) }
+        ensures room { OnOk result (HasRoom seat.old) }
+        ensures taken { OnOk result (OfSomeBook G.plan G.start G.workers (TakesLeave seat.old done)) }
+        ensures full { IfErr result (λ refusal. IsFull seat.old → refusal.0 ≡ Refused.Stranger) }
+        ensures refused { IfErr result (λ refusal. HasRoom seat.old → OfSomeBook G.plan G.start G.workers (RefusesLeave seat.old done refusal.0)) }
         ensures same { OnErr result (seat.new ≡ seat.old) }
         ensures done { IfErr result (λ refusal. refusal.1 ≡ done) }
     {
@@ -190,6 +193,7 @@ impl<'a, G: Ground> Floor<'a, G> {
     pub fn close(self, seats: Vec<Seat<'a, G>>) -> Result<Book<'a>, CloseFault>
         ensures ground { IfOk result (IsBookOf G.plan G.start G.workers) }
         ensures whole { IfOk result (λ b. IsWhole b (lists_of seats.entry.items)) }
+        ensures fault { IfErr result (λ fault. OfSomeBook G.plan G.start G.workers (λ b. IsCloseFault b (lists_of seats.entry.items) fault)) }
     {
         let Floor {
             desk,

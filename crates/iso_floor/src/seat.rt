@@ -1,12 +1,15 @@
 //! A worker's place on a floor.
-ghost use Rattle.std.specs.Prelude.{◌≡◌, ◌<◌, ℕ, IfErr, IfOk, IfSome, OnErr, OnOk, length, true};
+ghost use Rattle.std.specs.Prelude.{◌≡◌, ◌<◌, ℕ, IfErr, IfOk, None, OnErr, OnOk, length, true};
 ghost use Rattle.iso_book.specs.Leaves.{MayBring, ReceiptView};
 ghost use Rattle.iso_book.specs.Turns.{IsEntered, IsShut, ReadsStart};
+ghost use Rattle.iso_floor.specs.Answering.{HasRoom, IsFull, OfSomeBook, RefusesEnter, RefusesLeave, RefusesShut, TakesEnter, TakesLeave, TakesShut};
+ghost use Rattle.iso_floor.specs.Closing.{IsPlaceFault};
 ghost use Rattle.iso_floor.specs.Grounds.{IsTrayOf};
 ghost use Rattle.iso_floor.specs.Seats.{HasLeft, SeatView, new_seat};
 ghost use Rattle.iso_locks.specs.Trays.{CanUndo, is_lent, marked, undone};
 
 use crate::desk::Desk;
+use crate::fault::SeatFault;
 use crate::ground::Ground;
 use crate::steal::{Look, steal_from};
 use iso_book::receipt::Receipt;
@@ -40,6 +43,7 @@ pub struct Seat<'a, G: Ground> {
 }
 
 impl<'a, G: Ground> Model for Seat<'a, G> {
+    ghost use Rattle.std.specs.Vec.{vec_capacity};
     ghost use Rattle.iso_floor.specs.Grounds.{IsTrayOf};
     ghost use Rattle.iso_floor.specs.Seats.{SeatView, seat_code};
 
@@ -47,38 +51,44 @@ impl<'a, G: Ground> Model for Seat<'a, G> {
 
     ghost coded = { seat_code };
 
-    ghost view = { λ s. record { worker = s.worker; tray = s.tray; receipts = s.receipts.items } };
+    ghost view = { λ s. record { worker = s.worker; tray = s.tray; receipts = s.receipts.items; room = vec_capacity s.receipts } };
 
     ghost invariant = { λ s. IsTrayOf G.plan G.start s.tray };
 }
 
 impl<'a, G: Ground> Seat<'a, G> {
-    /// The seat of a worker, to whose tray nothing is lent, if the worker's place has its deques still: it takes them. It takes all memory
-    /// that the worker's Leaves need, and where that can't be had the place is as it was.
+    /// The seat of a worker, to whose tray nothing is lent, if the worker's place has its deques still: it takes them, and all memory
+    /// that the worker's Leaves need. Else the place is as it was.
     pub(crate) fn new(
         alloc: Global,
         plan: &'a Plan,
         world: &'a World,
         worker: u32,
         place: &mut Option<PostSeat>,
-    ) -> Result<Option<Seat<'a, G>>, AllocError>
+    ) -> Result<Seat<'a, G>, SeatFault>
         requires plan { plan.now ≡ G.plan }
         requires start { world.now ≡ G.start }
-        ensures { IfOk result (λ seat. IfSome seat (λ s. s ≡ new_seat G.plan G.start worker)) }
+        ensures seat { IfOk result (λ s. s ≡ new_seat G.plan G.start worker) }
+        ensures taken { OnOk result (place.new ≡ None) }
+        ensures fault { IfErr result (IsPlaceFault place.old) }
+        ensures same { OnErr result (place.new ≡ place.old) }
     {
+        if place.is_none() {
+            return Err(SeatFault::Taken);
+        }
         let leaves = plan.len() as usize * 2;
         let tray = Tray::new(alloc, plan, world)?;
         let receipts = Vec::with_capacity(alloc, leaves)?;
         match place.take() {
-            Some(posts) => Ok(Some(Seat {
+            Some(posts) => Ok(Seat {
                 worker,
                 tray,
                 receipts,
                 posts,
                 is_called: false,
                 of: PhantomData,
-            })),
-            None => Ok(None),
+            }),
+            None => Err(SeatFault::Taken),
         }
     }
 
@@ -137,18 +147,24 @@ impl<'a, G: Ground> Seat<'a, G> {
     // Enters a node at a desk.
     pub(crate) fn enter_at(&mut self, desk: &mut Desk<'a, G>, node: u32) -> Result<(), CoreFault>
         ensures entered { OnOk result (IsEntered node self.old.tray self.new.tray) }
+        ensures taken { OnOk result (OfSomeBook G.plan G.start G.workers (TakesEnter self.old node)) }
+        ensures refused { IfErr result (λ fault. OfSomeBook G.plan G.start G.workers (RefusesEnter self.old node fault)) }
         ensures seat { self.new ≡ record self.old { tray = self.new.tray } }
         ensures same { OnErr result (self.new ≡ self.old) }
     {
+        desk.keep_run();
         desk.book.enter_own(self.worker, node, &mut self.tray)
     }
 
     // Shuts a class at a desk.
     pub(crate) fn shut_at(&mut self, desk: &mut Desk<'a, G>, node: u32) -> Result<(), CoreFault>
         ensures shut { OnOk result (IsShut node self.old.tray self.new.tray) }
+        ensures taken { OnOk result (OfSomeBook G.plan G.start G.workers (TakesShut self.old node)) }
+        ensures refused { IfErr result (λ fault. OfSomeBook G.plan G.start G.workers (RefusesShut self.old node fault)) }
         ensures seat { self.new ≡ record self.old { tray = self.new.tray } }
         ensures same { OnErr result (self.new ≡ self.old) }
     {
+        desk.keep_run();
         desk.book.shut_own(self.worker, node, &mut self.tray)
     }
 
@@ -161,6 +177,10 @@ impl<'a, G: Ground> Seat<'a, G> {
         requires { MayBring done self.old.tray }
         ensures left { OnOk result (HasLeft done self.old self.new) }
         ensures reads { OnOk result ((n : ℕ) → is_lent self.new.tray.lent n ≡ true → ReadsStart n self.new.tray) }
+        ensures room { OnOk result (HasRoom self.old) }
+        ensures taken { OnOk result (OfSomeBook G.plan G.start G.workers (TakesLeave self.old done)) }
+        ensures full { IfErr result (λ refusal. IsFull self.old → refusal.0 ≡ Refused.Stranger) }
+        ensures refused { IfErr result (λ refusal. HasRoom self.old → OfSomeBook G.plan G.start G.workers (RefusesLeave self.old done refusal.0)) }
         ensures same { OnErr result (self.new ≡ self.old) }
         ensures done { IfErr result (λ refusal. refusal.1 ≡ done) }
     {
@@ -168,6 +188,7 @@ impl<'a, G: Ground> Seat<'a, G> {
             return Err((Refused::Stranger, done));
         }
         let (kind, node) = (done.kind(), done.node());
+        desk.keep_run();
         let receipt = desk.book.leave_own(self.worker, done, &mut self.tray)?;
         self.receipts.push_reserved(receipt);
         desk.note_leave(kind, node, self.worker);

@@ -1,5 +1,7 @@
-use Rattle.std.proofs.Common.{◌∷◌, ◌++◌, [], length, refl, ap, ◌∙◌}
+use Rattle.std.proofs.Common.{◌∷◌, ◌++◌, [], length, refl, ap, ◌∙◌, subst, sym}
+use Rattle.std.proofs.lemmas.Result.{err_from_is_err_and}
 use Rattle.iso_book.specs.Leaves.{ReceiptView}
+use Rattle.iso_floor.specs.Answering.{HasRun}
 use Rattle.iso_floor.proofs.seat.Seat.leave_at.Goals as goal
 
 pub returns-clause-left : goal.returns-clause-left
@@ -8,4 +10,25 @@ returns-clause-left g c = rw (← c.self.view_is) (record {
   worker = refl;
   tray = c.in_ok-receipt.ensures.tray;
   receipts = c.push_reserved.ensures.items ∙ ap (λ (r : ReceiptView). c.self.inside.receipts.items ++ r ∷ []) c.in_ok-receipt.ensures.event.receipt;
+  room = c.push_reserved.ensures.capacity;
 })
+
+pub returns-clause-taken : goal.returns-clause-taken
+returns-clause-taken g c =
+    let left = c.in_ok-receipt.ensures.event in
+    rw (← c.self.view_is) (record {
+      book = c.desk.inside.book;
+      ground = c.desk.invariant.book;
+      run = subst HasRun (sym c.desk.view_is) c.keep_run.ensures;
+      answer = record { allowed = left.allowed; tray = left.tray };
+    })
+
+pub returns-in_err-receipt-clause-refused : goal.returns-in_err-receipt-clause-refused
+returns-in_err-receipt-clause-refused g c =
+    let p = err_from_is_err_and c.from_residual.result c.from_residual.ensures.1 in
+    rw (p.1, p.2, ← c.self.view_is) (λ room. record {
+      book = c.desk.inside.book;
+      ground = c.desk.invariant.book;
+      run = subst HasRun (sym c.desk.view_is) c.keep_run.ensures;
+      answer = c.in_err-receipt.ensures.event.why;
+    })
