@@ -12,7 +12,7 @@ use Rattle.iso_tap.specs.Reports.{all_ok, report}
 use Rattle.iso_tap.specs.Sinks.{Account, Wrote}
 use Rattle.iso_run.specs.Replays.{IsAccepted, IsPlayed}
 use Rattle.iso_run.specs.Runs.{IsBroken, NotWritten, Replayed, Reported, ReportedOf, suite_ok, suite_report}
-use Rattle.iso_run.specs.Ways.{Way, BySchedule}
+use Rattle.iso_run.specs.Ways.{Way, BySchedule, ByWorkers}
 use Rattle.iso_run.specs.declared.fault.RunFault.{RunFault}
 use Rattle.iso_run.specs.declared.fault.RunFault.TheVariants.{Write}
 use Rattle.iso_run.specs.declared.report.Summary.{Summary}
@@ -56,3 +56,10 @@ module _ (inputs : Inputs) (old new : Account) (suite : Suite) (plan : Planned) 
       → MatchResult result (λ s. Replayed inputs schedule old new s.all_ok) (NotWritten suite_report inputs (BySchedule schedule) old new)
   replay-reported schedule accepted (Ok summary) whole = (accepted, reported (BySchedule schedule) accepted (Ok summary) whole)
   replay-reported schedule accepted (Err fault) broken = reported (BySchedule schedule) accepted (Err fault) broken
+
+-- what is answered of a run by workers tells that there is a suite
+pub worked : (inputs : Inputs) (old new : Account) (result : Result Summary RunFault)
+    → MatchResult result (λ s. Reported inputs old new s.all_ok) (NotWritten suite_report inputs ByWorkers old new)
+    → MatchResult result (λ s. IsPlayed inputs ByWorkers true × Reported inputs old new s.all_ok) (NotWritten suite_report inputs ByWorkers old new)
+worked inputs old new (Ok summary) reported = ((reported.suite, reported.is_suite), reported)
+worked inputs old new (Err fault) unwritten = unwritten

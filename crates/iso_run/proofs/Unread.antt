@@ -40,8 +40,8 @@ cause-in inputs way (F.Plan fault) h = h.0
 cause-in inputs way (F.Schedule fault) h = absurd h.0
 cause-in inputs way (F.Refused index why) h = absurd h.0
 cause-in inputs way F.Unfinished h = absurd (false≢true h.0)
-cause-in inputs way F.Start h = absurd h.0
-cause-in inputs way F.Lost h = absurd h.0
+cause-in inputs way F.Start h = absurd h.0.0
+cause-in inputs way F.Lost h = absurd h.0.0
 cause-in inputs way F.Memory h = tt
 cause-in inputs way (F.Write written) h = absurd h.1
 

@@ -9,7 +9,7 @@ use Rattle.iso_core.specs.declared.run_events.EventsFault.{EventsFault}
 use Rattle.iso_plan.specs.Planned.{Planned}
 use Rattle.iso_plan.specs.RowView.{tree_of}
 use Rattle.iso_run.specs.Faults.{IsEarly, aftermath}
-use Rattle.iso_run.specs.Suites.{Suite, AreSet, FirstUnread, HasNoPlan, IsSuite, settings_from, suite_tree, world_from}
+use Rattle.iso_run.specs.Suites.{Suite, AreSet, AreSuite, AreSuiteFor, FirstUnread, HasNoPlan, IsSuite, settings_from, suite_tree, world_from}
 use Rattle.iso_run.specs.Ways.{Way, Serial, ByWorkers, BySchedule, IsByScheduleAnd, IsByWorkers}
 use Rattle.iso_run.specs.declared.fault.RunFault.{RunFault}
 use Rattle.iso_run.specs.declared.fault.RunFault.TheVariants.{Settings, World, Script, Plan, Schedule, Refused, Unfinished, Start, Lost, Memory, Write}
@@ -60,14 +60,15 @@ pub record IsAccepted (inputs : Inputs) (schedule : List ℕ) (whole : Bool) : T
   pub ends : is_complete (core_after replay.plan replay.suite.start replay.suite.settings.worker_count replay.events) ≡ whole
 
 -- What a way came to, and whether every node but the root is finished then: a run on one thread is whole, and a schedule is accepted
--- to its end. Of workers it isn't told what they came to.
+-- to its end. Of workers it is told that the inputs are a suite, and not what they came to.
 abbrev pub IsPlayed : Inputs → Way → Bool → Type 0
 IsPlayed inputs Serial whole = whole ≡ true
-IsPlayed inputs ByWorkers whole = ⊤
+IsPlayed inputs ByWorkers whole = AreSuite inputs
 IsPlayed inputs (BySchedule schedule) whole = IsAccepted inputs schedule whole
 
 -- Why a text of a suite wasn't written whole: the first fault in the order settings, world, scripts in turn, plan, and where
--- there is a schedule, its lines and events. What stops workers isn't told.
+-- there is a schedule, its lines and events. Of what stops workers it is told that the inputs are a suite, and where a thread wasn't
+-- started, that there are two workers at least: the first has none of its own.
 abbrev pub Cause : Inputs → Way → RunFault → Type 0
 Cause inputs way (Settings fault) = settings_from inputs.settings.now inputs.processors ≡ Err fault
 Cause inputs way (World fault) = IsOk (settings_from inputs.settings.now inputs.processors) × (world_from inputs.world.now ≡ Err fault)
@@ -76,8 +77,8 @@ Cause inputs way (Plan fault) = AreSet inputs × HasNoPlan inputs fault
 Cause inputs way (Schedule fault) = IsByScheduleAnd way (λ bytes. HasWrongLine inputs bytes fault)
 Cause inputs way (Refused index why) = IsByScheduleAnd way (λ bytes. IsRefused inputs bytes index why)
 Cause inputs way Unfinished = IsPlayed inputs way false
-Cause inputs way Start = IsByWorkers way
-Cause inputs way Lost = IsByWorkers way
+Cause inputs way Start = IsByWorkers way × AreSuiteFor 2 inputs
+Cause inputs way Lost = IsByWorkers way × AreSuite inputs
 Cause inputs way Memory = ⊤
 Cause inputs way (Write written) = IsPlayed inputs way true
 

@@ -1,5 +1,5 @@
 -- The suite that inputs are, and which of the scripts is the first that is none.
-use Rattle.std.specs.Prelude.{◌≡◌, ⊤, ℕ, ◌<◌, if◌then◌else◌, List, [], ◌∷◌, map, take, length, get_or, Option, None, Some, Ok, IsOk}
+use Rattle.std.specs.Prelude.{◌≡◌, ⊤, ℕ, ◌<◌, ◌≤◌, if◌then◌else◌, List, [], ◌∷◌, map, take, length, get_or, Option, None, Some, Ok, IsOk}
 use Rattle.std.specs.Borrow.{Bor}
 use Rattle.std.specs.Str.{is_utf8}
 use Rattle.toml.specs.Data.{Members}
@@ -73,6 +73,13 @@ pub record IsSuite (inputs : Inputs) (suite : Suite) : Type 0 where
   pub scripts : AreRead (texts inputs.scripts.now) suite.scripts
   pub only : texts_of inputs.only.now ≡ suite.only
   pub planned : plan_fault suite.scripts suite.only ≡ None
+
+-- the inputs are a suite, and one whose settings give at least so many workers
+abbrev pub AreSuite : Inputs → Type 0
+AreSuite inputs = (suite : Suite) × IsSuite inputs suite
+
+abbrev pub AreSuiteFor : (workers : ℕ) → Inputs → Type 0
+AreSuiteFor workers inputs = (suite : Suite) × IsSuite inputs suite × (workers ≤ suite.settings.worker_count)
 
 -- settings and world are read
 abbrev pub AreSet : Inputs → Type 0

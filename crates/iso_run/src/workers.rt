@@ -1,8 +1,9 @@
 //! Runs of a suite by several workers, from its inputs to its report.
-ghost use Rattle.std.specs.Prelude.{◌≡◌, ◌≤◌, IfErr, IfOk, MatchResult, true};
+ghost use Rattle.std.specs.Prelude.{◌≡◌, ◌<◌, ◌≤◌, IfErr, IfOk, MatchResult, OnOk, length, true};
 ghost use denote.Param.Send.{IsSend, IsSync};
 ghost use Rattle.iso_book.specs.Books.{is_complete};
 ghost use Rattle.iso_floor.specs.Grounds.{IsBookOf};
+ghost use Rattle.iso_run.specs.declared.fault.RunFault.TheVariants.{Memory};
 ghost use Rattle.iso_run.specs.declared.inputs.Inputs.{Inputs};
 ghost use Rattle.iso_run.specs.Runs.{IsRead, NotWritten, Reported, suite_report};
 ghost use Rattle.iso_run.specs.Ways.{ByWorkers};
@@ -84,7 +85,7 @@ fn run_on_floor<'s, L: Ground + Send + Sync, R: Threads + Wait + Sync, G: Gate +
     requires workers { suite.now.settings.worker_count ≡ L.workers }
     ensures book { IfOk result (IsBookOf L.plan L.start L.workers) }
     ensures complete { IfOk result (λ b. is_complete b ≡ true) }
-    ensures fault { IfErr result IsOfWorkers }
+    ensures fault { IfErr result (IsOfWorkers suite.now.settings.worker_count) }
 {
     let workers = suite.settings.workers();
     let floor: Floor<'s, L> = Floor::new(alloc, &suite.plan, &suite.world, workers)?;
@@ -102,7 +103,8 @@ fn seat_on<'a, L: Ground, R: Wait>(
     floor: &Floor<'a, L>,
     worker: u32,
 ) -> Result<Seat<'a, L>, RunFault>
-    ensures { IfErr result IsOfWorkers }
+    ensures worker { OnOk result (worker < floor.now) }
+    ensures fault { IfErr result (IsOfWorkers floor.now) }
 {
     match floor.seat(rt, alloc, worker) {
         Ok(seat) => Ok(seat),
@@ -119,7 +121,8 @@ fn seats_on<'a, L: Ground, R: Wait>(
     floor: &Floor<'a, L>,
     workers: u32,
 ) -> Result<Vec<Seat<'a, L>>, RunFault>
-    ensures { IfErr result IsOfWorkers }
+    ensures seats { IfOk result (λ seats. 0 < length seats.items → 2 ≤ floor.now) }
+    ensures fault { IfErr result (IsOfWorkers floor.now) }
 {
     let mut seats = Vec::new(alloc);
     for worker in 1..workers {
@@ -137,14 +140,16 @@ fn run_seats<'a, L: Ground + Send + Sync, R: Threads + Wait + Sync, G: Gate + Sy
     others: Vec<Seat<'a, L>>,
     gate: &G,
 ) -> Result<Vec<Seat<'a, L>>, RunFault>
-    ensures { IfErr result IsOfWorkers }
+    requires { 0 < length others.items → 2 ≤ floor.now }
+    ensures { IfErr result (IsOfWorkers floor.now) }
 {
     thread::scope(
         thread::scope_env(),
         rt,
         move |scope| -> Result<Vec<Seat<'_, L>>, RunFault>
-            requires { IsSync R.row × IsSync G.row × IsSend L.row × IsSync L.row }
-            ensures { IfErr result IsOfWorkers }
+            requires sent { IsSync R.row × IsSync G.row × IsSend L.row × IsSync L.row }
+            requires others { 0 < length others.items → 2 ≤ floor.now }
+            ensures { IfErr result (IsOfWorkers floor.entry.now) }
         {
             let mut handles = Vec::with_capacity(alloc, others.len())?;
             let mut started = true;
@@ -179,7 +184,7 @@ fn seats_of<'a, L: Ground, R: Threads>(
     own: WorkEnd<'a, L>,
     handles: Vec<JoinHandle<WorkEnd<'a, L>>>,
 ) -> Result<Vec<Seat<'a, L>>, RunFault>
-    ensures { IfErr result IsOfWorkers }
+    ensures { IfErr result (λ fault. fault ≡ Memory) }
 {
     let mut seats = Vec::new(alloc);
     let mut whole = keep(&mut seats, own);
@@ -203,7 +208,7 @@ fn keep<'a, L: Ground>(seats: &mut Vec<Seat<'a, L>>, end: WorkEnd<'a, L>) -> boo
 fn close<'a, L: Ground>(floor: Floor<'a, L>, seats: Vec<Seat<'a, L>>) -> Result<Book<'a>, RunFault>
     ensures book { IfOk result (IsBookOf L.plan L.start L.workers) }
     ensures complete { IfOk result (λ b. is_complete b ≡ true) }
-    ensures fault { IfErr result IsOfWorkers }
+    ensures fault { IfErr result (IsOfWorkers floor.entry) }
 {
     match floor.close(seats) {
         Ok(book) => Ok(book),
