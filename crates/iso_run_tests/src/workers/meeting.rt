@@ -65,8 +65,9 @@ impl<C: Clock> Gate for Meeting<'_, C> {
     }
 }
 
+/// Two bodies of two steps each.
 const SCRIPT: &str = r#"team shop
-class C { test a { print "1"; } test b { print "2"; } }
+class C { test a { print "1"; print "2"; } test b { print "3"; print "4"; } }
 "#;
 
 const REPORT: &str = r#"TAP version 14
@@ -78,16 +79,19 @@ const REPORT: &str = r#"TAP version 14
       verdict: pass
       output:
         - "1"
+        - "2"
       ...
     ok 2 - b
       ---
       verdict: pass
       output:
-        - "2"
+        - "3"
+        - "4"
       ...
 ok 1 - shop.C
 "#;
 
+/// Each worker comes to the gate before the first step of its body and after each of the two.
 #[test]
 fn two_bodies_are_under_way_at_once(rt: HostRuntime) {
     let gate = Meeting::new(&rt);
@@ -99,5 +103,9 @@ fn two_bodies_are_under_way_at_once(rt: HostRuntime) {
         processors: 1,
     };
     expect_report(&rt, rt.alloc(), inputs, &gate, REPORT, true);
-    expect(&rt, gate.told() == [2, 2, 0], "they didn't meet twice");
+    expect(
+        &rt,
+        gate.told() == [3, 3, 0],
+        "they didn't meet at each step",
+    );
 }
