@@ -2,6 +2,8 @@ mod Answering
 mod Captures
 mod Documents
 mod Ending
+mod Lending
+mod Plans
 mod Reading
 mod Replaying
 mod Reporting

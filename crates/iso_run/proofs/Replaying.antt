@@ -1,42 +1,48 @@
 -- Why a replay ends early, by what its parts answer, and how far a replay went that no event stopped.
-use Rattle.std.proofs.Common.{◌≡◌, ℕ, List, Bool, Err, Ok, refl, subst, ap, ◌∙◌}
+use Rattle.std.proofs.Common.{◌≡◌, ℕ, List, Bool, Some, Err, Ok, refl, subst, ap, ◌∙◌}
+use Rattle.std.specs.Borrow.{Bor}
 use Rattle.iso_core.specs.Cores.{CoreView, is_complete}
-use Rattle.iso_core.specs.EventRuns.{EndedBy, Ran}
+use Rattle.iso_core.specs.EventRuns.{AreAccepted, EndedBy, Ran, RefusedAt, core_after}
+use Rattle.iso_standing.specs.CodeEvents.{refused_of}
 use Rattle.iso_standing.specs.declared.core_fault.CoreFault.{CoreFault}
 use Rattle.iso_standing.specs.declared.core_fault.CoreFault.TheVariants as C
+use Rattle.iso_plan.specs.Planned.{Planned}
 use Rattle.iso_run.specs.Suites.{suite_of}
 use Rattle.iso_run.specs.declared.inputs.Inputs.{Inputs}
 use Rattle.iso_run.specs.declared.inputs.Suite.{Suite as ReadSuite}
+use Rattle.iso_run.specs.declared.report.Summary.{Summary}
+use Rattle.iso_run.specs.declared.way.Way.TheVariants.{BySchedule}
 use Rattle.iso_lifecycle.specs.ResultViews.{ResultsView}
-use Rattle.iso_run.specs.Replays.{IsAccepted, Replay, events_fault, schedule_fault}
-use Rattle.iso_run.specs.Runs.{IsRead, NotWritten, suite_report}
-use Rattle.iso_run.specs.Ways.{BySchedule}
+use Rattle.iso_run.specs.Replays.{IsPlayed, events_fault, schedule_fault}
+use Rattle.iso_run.specs.Runs.{IsRead, Writes, suite_report}
 use Rattle.iso_schedule.specs.Schedules.{AreRead, IfAnswered}
 use Rattle.iso_standing.specs.declared.event.Event.{Event}
 use Rattle.iso_schedule.specs.declared.fault.ScheduleError.{ScheduleError}
 use Rattle.iso_schedule.specs.declared.fault.ScheduleError.TheVariants as S
 use Rattle.iso_tap.specs.Sinks.{Account}
 
-pub unread : (inputs : Inputs) (schedule : List ℕ) (a : Account) (suite : ReadSuite) (error : ScheduleError) → IsRead inputs suite → IfAnswered (AreRead schedule) (Err error)
-    → NotWritten suite_report inputs (BySchedule schedule) a a (schedule_fault error)
-unread inputs schedule a suite (S.Fault fault) is wrong = record { cause = record { suite = suite_of inputs suite; is_suite = is.is_suite; wrong = wrong }; leaves = refl }
+pub unread : (inputs : Inputs) (schedule : Bor (List ℕ)) (a : Account) (suite : ReadSuite) (error : ScheduleError) → IsRead inputs suite → IfAnswered (AreRead schedule.now) (Err error)
+    → Writes (λ (s : Summary). s.all_ok) suite_report inputs (BySchedule schedule) a a (Err (schedule_fault error))
+unread inputs schedule a suite (S.Fault fault) is wrong = record { cause = (suite_of inputs suite, is.is_suite, wrong); leaves = refl }
 unread inputs schedule a suite S.OutOfMemory is wrong = record { cause = tt; leaves = refl }
 
-abbrev pub replay-of : (inputs : Inputs) (schedule : List ℕ) (suite : ReadSuite) (events : List Event) → IsRead inputs suite → AreRead schedule (Ok events) → Replay inputs schedule
-replay-of inputs schedule suite events is read =
-    record { suite = suite_of inputs suite; is_suite = is.is_suite; plan = suite.plan; planned = is.planned; planned_by = is.planned_by; events = events; read = read }
-
-module _ (inputs : Inputs) (schedule : List ℕ) (r : Replay inputs schedule) where
-  pub stopped : (a : Account) (index : ℕ) (fault : CoreFault) → EndedBy fault r.plan r.suite.start r.suite.settings.worker_count r.events index
-      → NotWritten suite_report inputs (BySchedule schedule) a a (events_fault (record { index = index; fault = fault }))
-  stopped a index (C.Refused why) by = record { cause = record { replay = r; refused = by }; leaves = refl }
+module _ (inputs : Inputs) (schedule : Bor (List ℕ)) (suite : ReadSuite) (events : List Event) (is : IsRead inputs suite) (read : AreRead schedule.now (Ok events)) where
+  pub stopped : (a : Account) (index : ℕ) (fault : CoreFault) → EndedBy fault suite.plan suite.world suite.settings.worker_count events index
+      → Writes (λ (s : Summary). s.all_ok) suite_report inputs (BySchedule schedule) a a (Err (events_fault (record { index = index; fault = fault })))
+  stopped a index (C.Refused why) by =
+      let refused = subst (λ (p : Planned). RefusedAt p suite.world suite.settings.worker_count events index (Some (refused_of why))) is.planned_as by in
+      record { cause = (suite_of inputs suite, is.is_suite, (events, read, refused)); leaves = refl }
   stopped a index C.OutOfMemory by = record { cause = tt; leaves = refl }
 
-  pub ended : (c : CoreView) (whole : Bool) → Ran r.plan r.suite.start r.suite.settings.worker_count r.events c → is_complete c ≡ whole → IsAccepted inputs schedule whole
-  ended c whole ran ends = record { replay = r; accepted = ran.accepted; ends = subst (λ (d : CoreView). is_complete d ≡ whole) ran.core ends }
+  pub played : (c : CoreView) (whole : Bool) → Ran suite.plan suite.world suite.settings.worker_count events c → is_complete c ≡ whole → IsPlayed inputs (BySchedule schedule) whole
+  played c whole ran ends =
+      let accepted = subst (λ (p : Planned). AreAccepted p suite.world suite.settings.worker_count events) is.planned_as ran.accepted in
+      let at_end = subst (λ (d : CoreView). is_complete d ≡ whole) ran.core ends in
+      (suite_of inputs suite, is.is_suite, (events, read, (accepted, subst (λ (p : Planned). is_complete (core_after p suite.world suite.settings.worker_count events) ≡ whole) is.planned_as at_end)))
 
-  pub results-plan : (c : CoreView) (v : ResultsView) → Ran r.plan r.suite.start r.suite.settings.worker_count r.events c → v.plan ≡ c.plan → v.plan ≡ r.plan
-  results-plan c v ran same = same ∙ ap (λ (d : CoreView). d.plan) ran.core
+module _ (suite : ReadSuite) (events : List Event) (c : CoreView) (v : ResultsView) (ran : Ran suite.plan suite.world suite.settings.worker_count events c) where
+  pub results-plan : v.plan ≡ c.plan → v.plan ≡ suite.plan
+  results-plan same = same ∙ ap (λ (d : CoreView). d.plan) ran.core
 
-  pub results-start : (c : CoreView) (v : ResultsView) → Ran r.plan r.suite.start r.suite.settings.worker_count r.events c → v.start ≡ c.world → v.start ≡ r.suite.start
-  results-start c v ran same = same ∙ ap (λ (d : CoreView). d.world) ran.core
+  pub results-start : v.start ≡ c.world → v.start ≡ suite.world
+  results-start same = same ∙ ap (λ (d : CoreView). d.world) ran.core

@@ -1,24 +1,20 @@
--- What a replay of a recorded schedule comes to, and why a run in some way has no whole report.
-use Rattle.std.specs.Prelude.{◌≡◌, ⊤, ℕ, List, Bool, true, false, Some, Ok, Err, IsOk}
+-- What ways of running a suite come to, and why one has no whole report.
+use Rattle.std.specs.Prelude.{◌≡◌, ℕ, ◌≤◌, List, Bool, true, false, ⊤, Some, Ok, Err}
 use Rattle.iso_standing.specs.CodeEvents.{refused_of}
 use Rattle.iso_core.specs.Cores.{is_complete}
 use Rattle.iso_core.specs.EventRuns.{AreAccepted, RefusedAt, core_after}
 use Rattle.iso_standing.specs.declared.core_fault.CoreFault.TheVariants as C
-use Rattle.iso_standing.specs.declared.refused.Refused.{Refused as Why}
 use Rattle.iso_core.specs.declared.run_events.EventsFault.{EventsFault}
-use Rattle.iso_plan.specs.Planned.{Planned}
-use Rattle.iso_plan.specs.RowView.{tree_of}
-use Rattle.iso_run.specs.Faults.{IsEarly, aftermath}
-use Rattle.iso_run.specs.Suites.{Suite, AreSet, AreSuite, AreSuiteFor, FirstUnread, HasNoPlan, IsSuite, settings_from, suite_tree, world_from}
-use Rattle.iso_run.specs.Ways.{Way, Serial, ByWorkers, BySchedule, IsByScheduleAnd, IsByWorkers}
+use Rattle.iso_run.specs.Suites.{NoSuite, OfSuite, Suite, planned}
 use Rattle.iso_run.specs.declared.fault.RunFault.{RunFault}
-use Rattle.iso_run.specs.declared.fault.RunFault.TheVariants.{Settings, World, Script, Plan, Schedule, Refused, Unfinished, Start, Lost, Memory, Write}
+use Rattle.iso_run.specs.declared.fault.RunFault.TheVariants.{Schedule, Refused, Unfinished, Start, Lost, Memory, Write}
 use Rattle.iso_run.specs.declared.inputs.Inputs.{Inputs}
+use Rattle.iso_run.specs.declared.way.Way.{Way}
+use Rattle.iso_run.specs.declared.way.Way.TheVariants.{Serial, ByWorkers, BySchedule}
 use Rattle.iso_schedule.specs.Schedules.{AreRead}
 use Rattle.iso_standing.specs.declared.event.Event.{Event}
 use Rattle.iso_schedule.specs.declared.fault.ScheduleError.{ScheduleError}
 use Rattle.iso_schedule.specs.declared.fault.ScheduleError.TheVariants as S
-use Rattle.iso_schedule.specs.declared.fault.ScheduleFault.{ScheduleFault}
 
 -- the fault of a replay whose schedule could not be read
 abbrev pub schedule_fault : ScheduleError → RunFault
@@ -32,56 +28,42 @@ events_fault stopped = elim stopped.fault [
   | C.OutOfMemory ↦ Memory
 ]
 
--- The inputs are this suite with this plan, and the schedule is these events.
-pub record Replay (inputs : Inputs) (schedule : List ℕ) : Type 0 where
-  pub suite : Suite
-  pub is_suite : IsSuite inputs suite
-  pub plan : Planned
-  pub planned : tree_of plan ≡ suite_tree suite
-  pub planned_by : plan.settings ≡ suite.settings
-  pub events : List Event
-  pub read : AreRead schedule (Ok events)
-
--- The inputs are a suite, and the schedule has this fault.
-pub record HasWrongLine (inputs : Inputs) (schedule : List ℕ) (fault : ScheduleFault) : Type 0 where
-  pub suite : Suite
-  pub is_suite : IsSuite inputs suite
-  pub wrong : AreRead schedule (Err fault)
-
--- The event with this index is refused for this reason by the workers of the settings, and those before it are accepted.
-pub record IsRefused (inputs : Inputs) (schedule : List ℕ) (index : ℕ) (why : Why) : Type 0 where
-  pub replay : Replay inputs schedule
-  pub refused : RefusedAt replay.plan replay.suite.start replay.suite.settings.worker_count replay.events index (Some (refused_of why))
+-- The inputs are a suite and the schedule is events, of both of which something is true.
+abbrev pub OfReplay : Inputs → List ℕ → (Suite → List Event → Type 0) → Type 0
+OfReplay inputs schedule Is = OfSuite inputs (λ suite. (events : List Event) × AreRead schedule (Ok events) × Is suite events)
 
 -- The workers of the settings have each event accepted, and this tells whether every node but the root is finished then.
-pub record IsAccepted (inputs : Inputs) (schedule : List ℕ) (whole : Bool) : Type 0 where
-  pub replay : Replay inputs schedule
-  pub accepted : AreAccepted replay.plan replay.suite.start replay.suite.settings.worker_count replay.events
-  pub ends : is_complete (core_after replay.plan replay.suite.start replay.suite.settings.worker_count replay.events) ≡ whole
+abbrev pub IsAccepted : Suite → List Event → (whole : Bool) → Type 0
+IsAccepted suite events whole = AreAccepted (planned suite) suite.start suite.settings.worker_count events
+    × (is_complete (core_after (planned suite) suite.start suite.settings.worker_count events) ≡ whole)
 
--- What a way came to, and whether every node but the root is finished then: a run on one thread is whole, and a schedule is accepted
--- to its end. Of workers it is told that the inputs are a suite, and not what they came to.
-abbrev pub IsPlayed : Inputs → Way → Bool → Type 0
+-- what a way came to, and whether every node but the root is finished then; of workers only that the inputs are a suite
+abbrev pub IsPlayed : Inputs → Way → (whole : Bool) → Type 0
 IsPlayed inputs Serial whole = whole ≡ true
-IsPlayed inputs ByWorkers whole = AreSuite inputs
-IsPlayed inputs (BySchedule schedule) whole = IsAccepted inputs schedule whole
+IsPlayed inputs ByWorkers whole = OfSuite inputs (λ suite. ⊤)
+IsPlayed inputs (BySchedule schedule) whole = OfReplay inputs schedule.now (λ suite events. IsAccepted suite events whole)
 
--- Why a text of a suite wasn't written whole: the first fault in the order settings, world, scripts in turn, plan, and where
--- there is a schedule, its lines and events. Of what stops workers it is told that the inputs are a suite, and where a thread wasn't
+-- the suite is run by a schedule of which something is true
+abbrev pub IsByScheduleAnd : Way → (List ℕ → Type 0) → Type 0
+IsByScheduleAnd (BySchedule schedule) Is = Is schedule.now
+IsByScheduleAnd _ Is = ⊥
+
+-- Why a text of a suite wasn't written whole. Of what stops workers it is told that the inputs are a suite, and where a thread wasn't
 -- started, that there are two workers at least: the first has none of its own.
 abbrev pub Cause : Inputs → Way → RunFault → Type 0
-Cause inputs way (Settings fault) = settings_from inputs.settings.now inputs.processors ≡ Err fault
-Cause inputs way (World fault) = IsOk (settings_from inputs.settings.now inputs.processors) × (world_from inputs.world.now ≡ Err fault)
-Cause inputs way (Script index fault) = AreSet inputs × FirstUnread inputs.scripts.now index fault
-Cause inputs way (Plan fault) = AreSet inputs × HasNoPlan inputs fault
-Cause inputs way (Schedule fault) = IsByScheduleAnd way (λ bytes. HasWrongLine inputs bytes fault)
-Cause inputs way (Refused index why) = IsByScheduleAnd way (λ bytes. IsRefused inputs bytes index why)
+Cause inputs way (Schedule fault) = IsByScheduleAnd way (λ schedule. OfSuite inputs (λ suite. AreRead schedule (Err fault)))
+Cause inputs way (Refused index why) = IsByScheduleAnd way (λ schedule. OfReplay inputs schedule (λ suite events.
+    RefusedAt (planned suite) suite.start suite.settings.worker_count events index (Some (refused_of why))))
 Cause inputs way Unfinished = IsPlayed inputs way false
-Cause inputs way Start = IsByWorkers way × AreSuiteFor 2 inputs
-Cause inputs way Lost = IsByWorkers way × AreSuite inputs
-Cause inputs way Memory = ⊤
+Cause inputs way Start = (way ≡ ByWorkers) × OfSuite inputs (λ suite. 2 ≤ suite.settings.worker_count)
+Cause inputs way Lost = (way ≡ ByWorkers) × OfSuite inputs (λ suite. ⊤)
 Cause inputs way (Write written) = IsPlayed inputs way true
+Cause inputs way fault = NoSuite inputs fault
 
--- why inputs aren't read as a suite, before anything is asked of a sink
-abbrev pub NotRead : Inputs → RunFault → Type 0
-NotRead inputs fault = Cause inputs Serial fault × IsEarly (aftermath fault)
+-- one of so many workers couldn't be started, memory ran out, a receipt is lost, or a node isn't finished
+abbrev pub IsOfWorkers : (workers : ℕ) → RunFault → Type 0
+IsOfWorkers workers Start = 2 ≤ workers
+IsOfWorkers workers Memory = ⊤
+IsOfWorkers workers Lost = ⊤
+IsOfWorkers workers Unfinished = ⊤
+IsOfWorkers workers _ = ⊥

@@ -1,5 +1,5 @@
--- The suite that inputs are, and which of the scripts is the first that is none.
-use Rattle.std.specs.Prelude.{◌≡◌, ⊤, ℕ, ◌<◌, ◌≤◌, if◌then◌else◌, List, [], ◌∷◌, map, take, length, get_or, Option, None, Some, Ok, IsOk}
+-- The suite that inputs are, and why they are none.
+use Rattle.std.specs.Prelude.{◌≡◌, ⊤, ℕ, ◌<◌, if◌then◌else◌, List, [], ◌∷◌, map, take, length, get_or, Option, None, Some, Ok, Err, IsOk}
 use Rattle.std.specs.Borrow.{Bor}
 use Rattle.std.specs.Str.{is_utf8}
 use Rattle.toml.specs.Data.{Members}
@@ -7,9 +7,9 @@ use Rattle.toml.specs.Parse.{parse_document}
 use Rattle.iso_model.specs.Scripts.{Script}
 use Rattle.iso_model.specs.ScriptView.{script_of}
 use Rattle.iso_plan.specs.Faults.{plan_fault}
+use Rattle.iso_plan.specs.Planned.{Planned}
 use Rattle.iso_plan.specs.Selections.{plan_tree, texts_of}
 use Rattle.iso_plan.specs.Tree.{Row}
-use Rattle.iso_plan.specs.declared.fault.PlanFault.{PlanFault}
 use Rattle.iso_script.specs.Faults.{HasScriptFault}
 use Rattle.iso_script.specs.Grammar.{Reads}
 use Rattle.iso_script_statements.specs.declared.fault.ScriptFault.{ScriptFault}
@@ -37,6 +37,10 @@ suite_of inputs s = record { scripts = map script_of s.scripts.items; only = tex
 abbrev pub suite_tree : Suite → List Row
 suite_tree suite = plan_tree suite.scripts suite.only
 
+-- the plan of a suite: its nodes under its settings
+abbrev pub planned : Suite → Planned
+planned suite = record { rows = suite_tree suite; settings = suite.settings }
+
 -- the TOML document that bytes are, if they are one; a document is UTF-8 (TOML, spec)
 abbrev pub document : List ℕ → Option Members
 document bytes = if is_utf8 bytes then parse_document bytes else None
@@ -60,12 +64,6 @@ AreRead [] (s ∷ ss) = ⊥
 AreRead (t ∷ ts) [] = ⊥
 AreRead (t ∷ ts) (s ∷ ss) = Reads t s × AreRead ts ss
 
--- The bytes at this place are no script and have this fault, and those before them are scripts.
-pub record FirstUnread (scripts : List (Bor (List ℕ))) (index : ℕ) (fault : ScriptFault) : Type 0 where
-  pub within : index < length scripts
-  pub earlier : (ss : List Script) × AreRead (texts (take index scripts)) ss
-  pub unread : HasScriptFault (get_or (texts scripts) index []) fault
-
 -- The inputs are this suite: each is read, and what is kept of the scripts has a plan.
 pub record IsSuite (inputs : Inputs) (suite : Suite) : Type 0 where
   pub settings : settings_from inputs.settings.now inputs.processors ≡ Ok suite.settings
@@ -74,25 +72,26 @@ pub record IsSuite (inputs : Inputs) (suite : Suite) : Type 0 where
   pub only : texts_of inputs.only.now ≡ suite.only
   pub planned : plan_fault suite.scripts suite.only ≡ None
 
--- the inputs are a suite, and one whose settings give at least so many workers
-abbrev pub AreSuite : Inputs → Type 0
-AreSuite inputs = (suite : Suite) × IsSuite inputs suite
-
-abbrev pub AreSuiteFor : (workers : ℕ) → Inputs → Type 0
-AreSuiteFor workers inputs = (suite : Suite) × IsSuite inputs suite × (workers ≤ suite.settings.worker_count)
+-- the inputs are a suite of which something is true
+abbrev pub OfSuite : Inputs → (Suite → Type 0) → Type 0
+OfSuite inputs Is = (suite : Suite) × IsSuite inputs suite × Is suite
 
 -- settings and world are read
 abbrev pub AreSet : Inputs → Type 0
 AreSet inputs = IsOk (settings_from inputs.settings.now inputs.processors) × IsOk (world_from inputs.world.now)
 
--- the inputs are scripts and paths whose plan has this fault
-pub record HasNoPlan (inputs : Inputs) (fault : PlanFault) : Type 0 where
-  pub scripts : List Script
-  pub read : AreRead (texts inputs.scripts.now) scripts
-  pub unplanned : plan_fault scripts (texts_of inputs.only.now) ≡ Some fault
+-- The bytes at this place are no script and have this fault, and those before them are scripts.
+pub record FirstUnread (scripts : List (Bor (List ℕ))) (index : ℕ) (fault : ScriptFault) : Type 0 where
+  pub within : index < length scripts
+  pub earlier : (ss : List Script) × AreRead (texts (take index scripts)) ss
+  pub unread : HasScriptFault (get_or (texts scripts) index []) fault
 
--- the fault is the first of the scripts that is none, or want of memory
-abbrev pub IsFirstUnread : List (Bor (List ℕ)) → RunFault → Type 0
-IsFirstUnread scripts (F.Script index fault) = FirstUnread scripts index fault
-IsFirstUnread scripts F.Memory = ⊤
-IsFirstUnread scripts _ = ⊥
+-- Why inputs are no suite: the first fault in the order settings, world, scripts in turn, plan; or memory ran out.
+abbrev pub NoSuite : Inputs → RunFault → Type 0
+NoSuite inputs (F.Settings fault) = settings_from inputs.settings.now inputs.processors ≡ Err fault
+NoSuite inputs (F.World fault) = IsOk (settings_from inputs.settings.now inputs.processors) × (world_from inputs.world.now ≡ Err fault)
+NoSuite inputs (F.Script index fault) = AreSet inputs × FirstUnread inputs.scripts.now index fault
+NoSuite inputs (F.Plan fault) = AreSet inputs
+    × ((ss : List Script) × AreRead (texts inputs.scripts.now) ss × (plan_fault ss (texts_of inputs.only.now) ≡ Some fault))
+NoSuite inputs F.Memory = ⊤
+NoSuite inputs _ = ⊥

@@ -1,14 +1,11 @@
 //! The program, over a reader and two sinks.
-ghost use Rattle.std.specs.Prelude.{◌≡◌, ◌≤◌, ◌+◌, [], ◌∷◌, IfSome, MatchResult, cond, true, take};
+ghost use Rattle.std.specs.Prelude.{◌≡◌, ◌≤◌, ℕ, List, Option, [], IfSome, IsErrAnd, MatchResult, true};
 ghost use Rattle.iso_arguments.specs.Requests.{AsksForSomeProcessors, IsCount};
-ghost use Rattle.iso_model.specs.declared.limits.TheConstants.{FILE_BYTES};
-ghost use Rattle.iso_run.specs.CommandFaults.{Answers, Flushed, IsRefusal, command_aftermath, words_status};
-ghost use Rattle.iso_run.specs.Commands.{Answered, AreAsked, Did, Ended, OfBytes, RanOn, Reports, script_texts};
-ghost use Rattle.iso_run.specs.Faults.{Untouched, aftermath};
-ghost use Rattle.iso_run.specs.Replays.{IsPlayed};
-ghost use Rattle.iso_run.specs.Runs.{NotWritten, Reported, Shown, suite_plan, suite_report};
-ghost use Rattle.iso_run.specs.Suites.{texts};
-ghost use Rattle.iso_run.specs.Ways.{Serial, way_in, way_of};
+ghost use Rattle.iso_run.specs.Commands.{Answered, AreFor, Did, Ended, RanOn, WereRead, way_of};
+ghost use Rattle.iso_run.specs.Ends.{Answers, IsFlushed, command_end, exit_status, run_end, words_end};
+ghost use Rattle.iso_run.specs.Runs.{Writes, suite_plan, suite_report};
+ghost use Rattle.iso_run.specs.declared.inputs.Inputs.{Inputs};
+ghost use Rattle.iso_run.specs.declared.way.Way.TheVariants.{Serial};
 ghost use Rattle.iso_tap.specs.Sinks.{Wrote};
 
 use crate::command_fault::CommandFault;
@@ -48,35 +45,35 @@ pub fn command<G: AllocGlobal + Files + Threads + Wait + Sync, R: Read, W: Sink,
 ) -> u8
     ensures ended { Ended words.now (R.remaining input.old) (W.account output.old) (W.account output.new) result }
     // Without words, what was run is the script on the input.
-    ensures no_word { words.now ≡ [] → IfSome (R.remaining input.old) (λ bytes. result ≤ 1
-        → RanOn (take (FILE_BYTES + 1) bytes ∷ []) [] [] 1 (W.account output.old) (W.account output.new) result) }
+    ensures no_word { words.now ≡ [] → IfSome (R.remaining input.old) (λ script. result ≤ 1
+        → RanOn script (W.account output.old) (W.account output.new) result) }
 {
     match answer(rt, words, input, output) {
-        Ok(status) => status,
+        Ok(true) => ALL_OK,
+        Ok(false) => NOT_ALL_OK,
         Err(fault) => {
-            let status = fault.status();
             say(errors, &fault);
-            status
+            fault.status()
         }
     }
 }
 
 /// Says that memory ran out before the program began, or that a word is wrong, and answers the status.
 pub fn refuse_words<E: Sink>(fault: WordsFault, errors: &mut E) -> u8
-    ensures { result ≡ words_status fault }
+    ensures { result ≡ exit_status (words_end fault) }
 {
     let fault = CommandFault::from(fault);
     say(errors, &fault);
     fault.status()
 }
 
-/// Does what the words ask for, and answers the status, 0 or 1.
+/// Does what the words ask for, and answers whether all is ok.
 fn answer<'a, G: AllocGlobal + Files + Threads + Wait + Sync, R: Read, W: Sink>(
     rt: &G,
     words: &'a [String],
     input: &mut R,
     output: &mut W,
-) -> Result<u8, CommandFault<'a>>
+) -> Result<bool, CommandFault<'a>>
     ensures { Answers (Answered words.now (R.remaining input.old) (W.account output.old) (W.account output.new))
         (W.account output.old) (W.account output.new) result }
 {
@@ -84,13 +81,13 @@ fn answer<'a, G: AllocGlobal + Files + Threads + Wait + Sync, R: Read, W: Sink>(
     answer_request(rt, &request, input, output)
 }
 
-/// Does what is asked for, and answers the status, 0 or 1.
+/// Does what is asked for, and answers whether all is ok.
 fn answer_request<'a, G: AllocGlobal + Files + Threads + Wait + Sync, R: Read, W: Sink>(
     rt: &G,
     request: &Request<'a>,
     input: &mut R,
     output: &mut W,
-) -> Result<u8, CommandFault<'a>>
+) -> Result<bool, CommandFault<'a>>
     requires { AsksForSomeProcessors request.now }
     ensures { Answers (Did request.now (R.remaining input.old) (W.account output.old) (W.account output.new))
         (W.account output.old) (W.account output.new) result }
@@ -99,89 +96,55 @@ fn answer_request<'a, G: AllocGlobal + Files + Threads + Wait + Sync, R: Read, W
         Request::Show(text) => show(text.as_str(), output),
         Request::Plan(files) => {
             let bytes = read_files(rt, files, input)?;
-            plan(rt.alloc(), &bytes, files, output)
+            let shown = plan(rt.alloc(), &bytes, &*files, output);
+            told(shown, files, output)
         }
         Request::Run { serial, files } => {
             let bytes = read_files(rt, files, input)?;
-            run(rt, &bytes, asked_way(*serial), files, output)
+            let ran = run(rt, &bytes, asked_way(*serial), &*files, output);
+            told(ran, files, output)
         }
         Request::Replay { schedule, files } => {
             let bytes = read_files(rt, files, input)?;
             let schedule = read_file(rt, *schedule)?;
-            run(rt, &bytes, Way::BySchedule(&schedule), files, output)
+            let ran = run(rt, &bytes, Way::BySchedule(&schedule), &*files, output);
+            told(ran, files, output)
         }
     }
 }
 
 /// Writes a text.
-fn show<W: Sink>(text: &str, output: &mut W) -> Result<u8, CommandFault<'static>>
-    ensures { Answers (λ s. (s ≡ 0) × Wrote (W.account output.old) (W.account output.new) text.now)
+fn show<W: Sink>(text: &str, output: &mut W) -> Result<bool, CommandFault<'static>>
+    ensures { Answers (λ ok. (ok ≡ true) × Wrote (W.account output.old) (W.account output.new) text.now)
         (W.account output.old) (W.account output.new) result }
 {
-    if write_text(text, output).is_err() || output.flush().is_err() {
+    if write_text(text, output).is_err() {
         return Err(CommandFault::Unwritten);
     }
-    Ok(ALL_OK)
+    flushed(true, output)
 }
 
 /// The way of a run, which is asked for with `--serial` or without.
 fn asked_way(serial: bool) -> Way<'static>
-    ensures { way_in result ≡ way_of serial }
+    ensures { result ≡ way_of serial }
 {
     if serial { Way::Serial } else { Way::ByWorkers }
 }
 
-/// Runs a suite, and writes its report.
-fn run<'a, G: AllocGlobal + Threads + Wait + Sync, W: Sink>(
-    rt: &G,
-    bytes: &InputBytes,
-    way: Way<'_>,
-    files: &InputFiles<'a>,
-    output: &mut W,
-) -> Result<u8, CommandFault<'a>>
-    requires { IsCount files.now.processors }
-    ensures { Answers (λ s. OfBytes bytes.now files.now (λ inputs.
-        Reports inputs (way_in way.entry) (W.account output.old) (W.account output.new) s))
-        (W.account output.old) (W.account output.new) result }
-{
-    let scripts = lent(rt.alloc(), &bytes.scripts)?;
-    let ran = run_asked(rt, &*bytes, &scripts, &*files, way, output);
-    answer_run(ran, files, output)
-}
-
-/// Runs in some way what these bytes are, whose scripts are lent, as it is asked for with these files.
-fn run_asked<'b, G: AllocGlobal + Threads + Wait + Sync, W: Sink>(
+/// Runs in some way what these bytes are, as it is asked for with these files, and writes its report.
+fn run<'b, G: AllocGlobal + Threads + Wait + Sync, W: Sink>(
     rt: &G,
     bytes: &'b InputBytes,
-    scripts: &'b [&'b [u8]],
+    way: Way<'_>,
     files: &'b InputFiles<'b>,
-    way: Way<'_>,
     output: &mut W,
 ) -> Result<Summary, RunFault>
-    requires count { IsCount files.now.processors }
-    requires scripts { texts scripts.now ≡ script_texts bytes.now }
-    ensures { OfBytes bytes.now files.now (λ inputs. MatchResult result
-        (λ s. IsPlayed inputs (way_in way.entry) true
-        × Reported inputs (W.account output.old) (W.account output.new) s.all_ok)
-        (NotWritten suite_report inputs (way_in way.entry) (W.account output.old) (W.account output.new))) }
+    requires { IsCount files.now.processors }
+    ensures { (input : Option (List ℕ)) → WereRead files.now input bytes.now → (inputs : Inputs) × AreFor files.now input inputs
+        × Writes (λ s. s.all_ok) suite_report inputs way.entry (W.account output.old) (W.account output.new) result }
 {
-    let inputs = inputs_of(bytes, scripts, files);
-    run_by(rt, inputs, way, output)
-}
-
-/// Runs a suite in some way.
-fn run_by<G: AllocGlobal + Threads + Wait + Sync, W: Sink>(
-    rt: &G,
-    inputs: Inputs<'_>,
-    way: Way<'_>,
-    output: &mut W,
-) -> Result<Summary, RunFault>
-    requires { 1 ≤ inputs.processors }
-    ensures { MatchResult result
-        (λ s. IsPlayed inputs.entry (way_in way.entry) true
-        × Reported inputs.entry (W.account output.old) (W.account output.new) s.all_ok)
-        (NotWritten suite_report inputs.entry (way_in way.entry) (W.account output.old) (W.account output.new)) }
-{
+    let scripts = lent(rt.alloc(), &bytes.scripts)?;
+    let inputs = inputs_of(bytes, &scripts, files);
     match way {
         Way::Serial => run_serial(rt.alloc(), inputs, output),
         Way::ByWorkers => run_workers(rt, rt.alloc(), inputs, &OpenGate, output),
@@ -189,41 +152,22 @@ fn run_by<G: AllocGlobal + Threads + Wait + Sync, W: Sink>(
     }
 }
 
-/// Prints a plan.
-fn plan<'a, W: Sink>(
-    alloc: Global,
-    bytes: &InputBytes,
-    files: &InputFiles<'a>,
-    output: &mut W,
-) -> Result<u8, CommandFault<'a>>
-    requires { IsCount files.now.processors }
-    ensures { Answers (λ s. (s ≡ 0) × OfBytes bytes.now files.now (λ inputs.
-        Shown inputs (W.account output.old) (W.account output.new)))
-        (W.account output.old) (W.account output.new) result }
-{
-    let scripts = lent(alloc, &bytes.scripts)?;
-    match show_asked(alloc, &*bytes, &scripts, &*files, output) {
-        Ok(()) => flush(ALL_OK, output),
-        Err(fault) => Err(named(fault, files)),
-    }
-}
-
-/// Prints the plan of what these bytes are, whose scripts are lent, as it is asked for with these files.
-fn show_asked<'b, W: Sink>(
+/// Prints the plan of what these bytes are, as it is asked for with these files.
+fn plan<'b, W: Sink>(
     alloc: Global,
     bytes: &'b InputBytes,
-    scripts: &'b [&'b [u8]],
     files: &'b InputFiles<'b>,
     output: &mut W,
-) -> Result<(), RunFault>
-    requires count { IsCount files.now.processors }
-    requires scripts { texts scripts.now ≡ script_texts bytes.now }
-    ensures { OfBytes bytes.now files.now (λ inputs. MatchResult result
-        (λ _. Shown inputs (W.account output.old) (W.account output.new))
-        (NotWritten suite_plan inputs Serial (W.account output.old) (W.account output.new))) }
+) -> Result<Summary, RunFault>
+    requires { IsCount files.now.processors }
+    ensures { (input : Option (List ℕ)) → WereRead files.now input bytes.now → (inputs : Inputs) × AreFor files.now input inputs
+        × Writes (λ s. s.all_ok) suite_plan inputs Serial (W.account output.old) (W.account output.new) result }
 {
-    let inputs = inputs_of(bytes, scripts, files);
-    show_plan(alloc, inputs, output)
+    let scripts = lent(alloc, &bytes.scripts)?;
+    match show_plan(alloc, inputs_of(bytes, &scripts, files), output) {
+        Ok(()) => Ok(Summary { all_ok: true }),
+        Err(fault) => Err(fault),
+    }
 }
 
 /// The inputs that these bytes are, whose scripts are lent, as they are asked for with these files.
@@ -235,7 +179,8 @@ fn inputs_of<'b>(
     ensures scripts { result.scripts.now ≡ scripts.now }
     ensures settings { result.settings.now ≡ bytes.now.settings.items }
     ensures world { result.world.now ≡ bytes.now.world.items }
-    ensures asked { AreAsked files.now result }
+    ensures only { result.only.now ≡ files.now.only.items }
+    ensures processors { result.processors ≡ files.now.processors }
 {
     Inputs {
         scripts,
@@ -246,35 +191,35 @@ fn inputs_of<'b>(
     }
 }
 
-/// Answers the status of a run whose report was written, or why it has none.
-fn answer_run<'a, W: Sink>(
+/// Answers a run whose report was written once the output is flushed, or why it has none.
+fn told<'a, W: Sink>(
     ran: Result<Summary, RunFault>,
     files: &InputFiles<'a>,
     output: &mut W,
-) -> Result<u8, CommandFault<'a>>
+) -> Result<bool, CommandFault<'a>>
     ensures { MatchResult ran
-        (λ s. Flushed (cond s.all_ok 0 1) (W.account output.old) (W.account output.new) result)
-        (λ fault. IsRefusal fault result × Untouched (W.account output.old) (W.account output.new)) }
+        (λ s. IsFlushed s.all_ok (W.account output.old) (W.account output.new) result)
+        (λ fault. (W.account output.new ≡ W.account output.old) × IsErrAnd result (λ told. command_end told ≡ run_end fault)) }
 {
     match ran {
-        Ok(summary) => flush(if summary.all_ok { ALL_OK } else { NOT_ALL_OK }, output),
+        Ok(summary) => flushed(summary.all_ok, output),
         Err(fault) => Err(named(fault, files)),
     }
 }
 
-/// Has the output pass on what it holds, and answers this status.
-fn flush<W: Sink>(status: u8, output: &mut W) -> Result<u8, CommandFault<'static>>
-    ensures { Flushed status (W.account output.old) (W.account output.new) result }
+/// Flushes the output, and answers whether all is ok.
+fn flushed<W: Sink>(ok: bool, output: &mut W) -> Result<bool, CommandFault<'static>>
+    ensures { IsFlushed ok (W.account output.old) (W.account output.new) result }
 {
     if output.flush().is_err() {
         return Err(CommandFault::Unwritten);
     }
-    Ok(status)
+    Ok(ok)
 }
 
 /// A fault of a run, with the word that it is of: the name of a script, where one is named, or a path.
 fn named<'a>(fault: RunFault, files: &InputFiles<'a>) -> CommandFault<'a>
-    ensures { command_aftermath result ≡ aftermath fault }
+    ensures { command_end result ≡ run_end fault }
 {
     let word = match &fault {
         RunFault::Script(index, _) => files.scripts.get(*index).copied(),

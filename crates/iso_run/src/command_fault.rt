@@ -1,7 +1,8 @@
 //! Why a command ends with status 2 or 3.
-ghost use Rattle.std.specs.Prelude.{◌≡◌};
-ghost use Rattle.iso_run.specs.CommandFaults.{IsOfWords, IsWantOfMemory, command_aftermath};
-ghost use Rattle.iso_run.specs.Faults.{exit_status};
+ghost use Rattle.std.specs.Prelude.{◌≡◌, None};
+ghost use Rattle.iso_run.specs.Ends.{command_end, exit_status, words_end};
+ghost use Rattle.iso_run.specs.declared.command_fault.CommandFault.TheVariants.{Run};
+ghost use Rattle.iso_run.specs.declared.fault.RunFault.TheVariants.{Memory};
 
 use crate::exit::{FAILED, WRONG_INPUT};
 use crate::fault::RunFault;
@@ -26,14 +27,14 @@ pub(crate) enum CommandFault<'a> {
 impl CommandFault<'_> {
     /// Memory ran out.
     pub fn out_of_memory() -> Self
-        ensures { IsWantOfMemory result }
+        ensures { result ≡ Run Memory None }
     {
         CommandFault::Run(RunFault::Memory, None)
     }
 
     /// The exit status: 2 where the input is refused, else 3.
     pub fn status(&self) -> u8
-        ensures { result ≡ exit_status (command_aftermath self.now) }
+        ensures { result ≡ exit_status (command_end self.now) }
     {
         match self {
             CommandFault::Words(_) | CommandFault::TooLarge(_) => WRONG_INPUT,
@@ -44,7 +45,7 @@ impl CommandFault<'_> {
 }
 
 impl From<WordsFault> for CommandFault<'_> {
-    ghost from_gives = { λ words fault. IsOfWords words fault };
+    ghost from_gives = { λ words fault. command_end fault ≡ words_end words };
 
     fn from(fault: WordsFault) -> Self {
         match fault {
@@ -55,7 +56,7 @@ impl From<WordsFault> for CommandFault<'_> {
 }
 
 impl From<AllocError> for CommandFault<'_> {
-    ghost from_gives = { λ _ fault. IsWantOfMemory fault };
+    ghost from_gives = { λ _ fault. fault ≡ Run Memory None };
 
     fn from(_error: AllocError) -> Self {
         CommandFault::out_of_memory()
@@ -63,7 +64,7 @@ impl From<AllocError> for CommandFault<'_> {
 }
 
 impl<T: Drop> From<AllocFailed<T>> for CommandFault<'_> {
-    ghost from_gives = { λ _ fault. IsWantOfMemory fault };
+    ghost from_gives = { λ _ fault. fault ≡ Run Memory None };
 
     fn from(_error: AllocFailed<T>) -> Self {
         CommandFault::out_of_memory()

@@ -1,6 +1,6 @@
 //! Why a run has no report, or only its beginning.
 ghost use Rattle.std.specs.Prelude.{◌≡◌};
-ghost use Rattle.iso_run.specs.Faults.{aftermath, exit_status};
+ghost use Rattle.iso_run.specs.Ends.{exit_status, run_end};
 ghost use Rattle.iso_run.specs.Replays.{events_fault, schedule_fault};
 ghost use Rattle.iso_run.specs.declared.fault.RunFault.TheVariants.{Memory};
 
@@ -41,7 +41,7 @@ pub enum RunFault {
 impl RunFault {
     /// The exit status of the program that meets this fault: 2 where its input is refused, else 3.
     pub fn status(&self) -> u8
-        ensures { result ≡ exit_status (aftermath self.now) }
+        ensures { result ≡ exit_status (run_end self.now) }
     {
         match self {
             RunFault::Settings(_)

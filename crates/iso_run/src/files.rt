@@ -4,15 +4,16 @@ ghost use Rattle.std.specs.IoError.{error_kind};
 ghost use Rattle.std.specs.declared.io.ErrorKind.TheVariants.{OutOfMemory};
 ghost use Rattle.iso_model.specs.declared.limits.TheConstants.{FILE_BYTES};
 ghost use Rattle.iso_run.specs.Suites.{texts};
-ghost use Rattle.iso_run.specs.CommandFaults.{ComesEarly, IsWantOfMemory};
-ghost use Rattle.iso_run.specs.Commands.{IsInput, WereRead};
-ghost use Rattle.iso_run.specs.declared.command_fault.CommandFault.TheVariants.{Unreadable};
+ghost use Rattle.iso_run.specs.Commands.{WereRead};
+ghost use Rattle.iso_run.specs.Ends.{ComesEarly};
+ghost use Rattle.iso_run.specs.declared.command_fault.CommandFault.TheVariants.{Run, Unreadable};
+ghost use Rattle.iso_run.specs.declared.fault.RunFault.TheVariants.{Memory};
 
 use crate::command_fault::CommandFault;
 use crate::lines::STDIN;
 use iso_arguments::request::InputFiles;
 use iso_model::limits::FILE_BYTES;
-use std::alloc::{AllocGlobal, Global};
+use std::alloc::{AllocError, AllocGlobal, Global};
 use std::fs::{File, Files};
 use std::io::{self, Read};
 
@@ -69,8 +70,8 @@ fn read_script_files<'a, G: AllocGlobal + Files, R: Read>(
     input: &mut R,
 ) -> Result<Vec<Vec<u8>>, CommandFault<'a>>
     ensures early { IfErr result ComesEarly }
-    ensures standard_input { names.now ≡ [] → IfOk result (λ scripts.
-        IsInput (R.remaining input.old) (map (λ v. v.items) scripts.items)) }
+    ensures standard_input { names.now ≡ [] → IfSome (R.remaining input.old) (λ bytes.
+        IfOk result (λ scripts. map (λ v. v.items) scripts.items ≡ take (FILE_BYTES + 1) bytes ∷ [])) }
     ensures each { (names.now ≡ [] → ⊥) → IfOk result (λ scripts. length scripts.items ≡ length names.now) }
 {
     if names.is_empty() {
@@ -126,7 +127,7 @@ fn read_limited<'a, R: Read>(
 
 /// Why a file was not read.
 fn unread<'a>(error: &io::Error, name: &'a str) -> CommandFault<'a>
-    ensures memory { error_kind error.now ≡ OutOfMemory → IsWantOfMemory result }
+    ensures memory { error_kind error.now ≡ OutOfMemory → result ≡ Run Memory None }
     ensures other { (error_kind error.now ≡ OutOfMemory → ⊥) → result ≡ Unreadable name.entry }
 {
     if error.kind() == io::ErrorKind::OutOfMemory {
@@ -137,12 +138,8 @@ fn unread<'a>(error: &io::Error, name: &'a str) -> CommandFault<'a>
 }
 
 /// The bytes of scripts, lent.
-pub(crate) fn lent<'a>(
-    alloc: Global,
-    scripts: &'a [Vec<u8>],
-) -> Result<Vec<&'a [u8]>, CommandFault<'static>>
-    ensures early { IfErr result ComesEarly }
-    ensures bytes { IfOk result (λ lent. texts lent.items ≡ map (λ v. v.items) scripts.now) }
+pub(crate) fn lent<'a>(alloc: Global, scripts: &'a [Vec<u8>]) -> Result<Vec<&'a [u8]>, AllocError>
+    ensures { IfOk result (λ lent. texts lent.items ≡ map (λ v. v.items) scripts.now) }
 {
     let mut lent = Vec::new(alloc);
     for script in scripts {

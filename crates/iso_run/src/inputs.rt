@@ -1,9 +1,8 @@
 //! What a run is given, read as a suite.
-ghost use Rattle.std.specs.Prelude.{◌≡◌, ◌≤◌, IfOk, MatchResult, map};
-ghost use Rattle.iso_run.specs.Replays.{NotRead};
-ghost use Rattle.iso_run.specs.Suites.{IsFirstUnread, IsSuite, AreRead, settings_from, suite_of, suite_tree, texts, world_from};
+ghost use Rattle.std.specs.Prelude.{◌≡◌, ◌≤◌, MatchResult, map};
 ghost use Rattle.iso_model.specs.ScriptView.{script_of};
-ghost use Rattle.iso_plan.specs.RowView.{tree_of};
+ghost use Rattle.iso_run.specs.Runs.{IsRead};
+ghost use Rattle.iso_run.specs.Suites.{AreRead, AreSet, NoSuite, settings_from, texts, world_from};
 ghost use Rattle.iso_settings.specs.Readings.{Gives};
 
 use crate::fault::RunFault;
@@ -43,9 +42,7 @@ pub struct Suite {
 /// growth.
 pub fn read_inputs(alloc: Global, inputs: Inputs<'_>) -> Result<Suite, RunFault>
     requires { 1 ≤ inputs.processors }
-    ensures suite { MatchResult result (λ s. IsSuite inputs.entry (suite_of inputs.entry s)) (NotRead inputs.entry) }
-    ensures plan { IfOk result (λ s. tree_of s.plan ≡ suite_tree (suite_of inputs.entry s)) }
-    ensures planned_by { IfOk result (λ s. s.plan.settings ≡ s.settings) }
+    ensures { MatchResult result (IsRead inputs.entry) (NoSuite inputs.entry) }
 {
     let settings = match settings_from(alloc, inputs.settings, inputs.processors) {
         Ok(settings) => settings,
@@ -61,7 +58,7 @@ pub fn read_inputs(alloc: Global, inputs: Inputs<'_>) -> Result<Suite, RunFault>
         }
         Err(SettingsError::OutOfMemory) => return Err(RunFault::Memory),
     };
-    let scripts = read_scripts(alloc, inputs.scripts)?;
+    let scripts = read_scripts(alloc, inputs)?;
     match build_only(alloc, &scripts, &settings, inputs.only) {
         Ok(plan) => Ok(Suite {
             scripts,
@@ -95,12 +92,13 @@ fn world_from(alloc: Global, bytes: &[u8]) -> Result<World, SettingsError>
     }
 }
 
-/// Reads scripts in turn, up to the first that is none.
-fn read_scripts(alloc: Global, scripts: &[&[u8]]) -> Result<Vec<Script>, RunFault>
-    ensures { MatchResult result (λ v. AreRead (texts scripts.now) (map script_of v.items)) (IsFirstUnread scripts.now) }
+/// Reads the scripts of inputs in turn, up to the first that is none. Settings and world are read before.
+fn read_scripts(alloc: Global, inputs: Inputs<'_>) -> Result<Vec<Script>, RunFault>
+    requires { AreSet inputs }
+    ensures { MatchResult result (λ v. AreRead (texts inputs.entry.scripts.now) (map script_of v.items)) (NoSuite inputs.entry) }
 {
     let mut read = Vec::new(alloc);
-    for (index, bytes) in scripts.iter().enumerate() {
+    for (index, bytes) in inputs.scripts.iter().enumerate() {
         match read_script(alloc, bytes) {
             Ok(script) => read.push(script)?,
             Err(ScriptError::Fault(fault)) => {

@@ -1,7 +1,7 @@
 //! The printed plan of inputs.
-ghost use Rattle.std.specs.Prelude.{◌≤◌, MatchResult};
-ghost use Rattle.iso_run.specs.Runs.{NotWritten, Shown, suite_plan};
-ghost use Rattle.iso_run.specs.Ways.{Serial};
+ghost use Rattle.std.specs.Prelude.{◌≤◌, true};
+ghost use Rattle.iso_run.specs.Runs.{Writes, suite_plan};
+ghost use Rattle.iso_run.specs.declared.way.Way.TheVariants.{Serial};
 
 use crate::fault::RunFault;
 use crate::inputs::{Inputs, read_inputs};
@@ -15,9 +15,7 @@ use std::alloc::Global;
 /// The first fault of the inputs is answered; with any but `Write` the sink is asked nothing.
 pub fn show_plan<W: Sink>(alloc: Global, inputs: Inputs<'_>, sink: &mut W) -> Result<(), RunFault>
     requires { 1 ≤ inputs.processors }
-    ensures { MatchResult result
-        (λ _. Shown inputs.entry (W.account sink.old) (W.account sink.new))
-        (NotWritten suite_plan inputs.entry Serial (W.account sink.old) (W.account sink.new)) }
+    ensures { Writes (λ _. true) suite_plan inputs.entry Serial (W.account sink.old) (W.account sink.new) result }
 {
     let suite = read_inputs(alloc, inputs)?;
     match write_plan(&suite.plan, suite.settings.workers(), sink) {

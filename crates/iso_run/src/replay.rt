@@ -1,8 +1,9 @@
 //! Replays of recorded schedules, from their inputs to the report.
-ghost use Rattle.std.specs.Prelude.{◌≤◌, List, MatchResult, Ok, ℕ};
+ghost use Rattle.std.specs.Borrow.{Bor};
+ghost use Rattle.std.specs.Prelude.{◌≤◌, List, Ok, ℕ};
 ghost use Rattle.iso_run.specs.declared.inputs.Inputs.{Inputs};
-ghost use Rattle.iso_run.specs.Runs.{IsRead, NotWritten, Replayed, suite_report};
-ghost use Rattle.iso_run.specs.Ways.{BySchedule};
+ghost use Rattle.iso_run.specs.declared.way.Way.TheVariants.{BySchedule};
+ghost use Rattle.iso_run.specs.Runs.{IsRead, Writes, suite_report};
 ghost use Rattle.iso_schedule.specs.Schedules.{AreRead};
 
 use crate::fault::RunFault;
@@ -27,9 +28,8 @@ pub fn run_schedule<W: Sink>(
     sink: &mut W,
 ) -> Result<Summary, RunFault>
     requires { 1 ≤ inputs.processors }
-    ensures { MatchResult result
-        (λ s. Replayed inputs.entry schedule.now (W.account sink.old) (W.account sink.new) s.all_ok)
-        (NotWritten suite_report inputs.entry (BySchedule schedule.now) (W.account sink.old) (W.account sink.new)) }
+    ensures { Writes (λ s. s.all_ok) suite_report inputs.entry (BySchedule schedule.entry)
+        (W.account sink.old) (W.account sink.new) result }
 {
     let suite = read_inputs(alloc, inputs)?;
     replay_on(alloc, &suite, schedule, sink)
@@ -42,9 +42,8 @@ fn replay_on<W: Sink>(
     schedule: &[u8],
     sink: &mut W,
 ) -> Result<Summary, RunFault>
-    ensures { (inputs : Inputs) → IsRead inputs suite.now → MatchResult result
-        (λ s. Replayed inputs schedule.now (W.account sink.old) (W.account sink.new) s.all_ok)
-        (NotWritten suite_report inputs (BySchedule schedule.now) (W.account sink.old) (W.account sink.new)) }
+    ensures { (inputs : Inputs) → IsRead inputs suite.now
+        → Writes (λ s. s.all_ok) suite_report inputs (BySchedule schedule.entry) (W.account sink.old) (W.account sink.new) result }
 {
     let events = read_schedule(alloc, schedule)?;
     replay_events(alloc, suite, &events, sink)
@@ -57,9 +56,8 @@ fn replay_events<W: Sink>(
     events: &[Event],
     sink: &mut W,
 ) -> Result<Summary, RunFault>
-    ensures { (inputs : Inputs) (schedule : List ℕ) → IsRead inputs suite.now → AreRead schedule (Ok events.now) → MatchResult result
-        (λ s. Replayed inputs schedule (W.account sink.old) (W.account sink.new) s.all_ok)
-        (NotWritten suite_report inputs (BySchedule schedule) (W.account sink.old) (W.account sink.new)) }
+    ensures { (inputs : Inputs) (schedule : Bor (List ℕ)) → IsRead inputs suite.now → AreRead schedule.now (Ok events.now)
+        → Writes (λ s. s.all_ok) suite_report inputs (BySchedule schedule) (W.account sink.old) (W.account sink.new) result }
 {
     let workers = suite.settings.workers();
     let core = run_events(alloc, &suite.plan, &suite.world, workers, events)?;

@@ -2,8 +2,9 @@
 ghost use Rattle.std.specs.Prelude.{◌≡◌, MatchResult};
 ghost use Rattle.iso_lifecycle.specs.ResultViews.{AreComplete, outcome_in};
 ghost use Rattle.iso_plan.specs.RowView.{tree_of};
-ghost use Rattle.iso_run.specs.Runs.{IsBroken, ReportedOf};
-ghost use Rattle.iso_tap.specs.Reports.{report};
+ghost use Rattle.iso_run.specs.Runs.{IsCutOff};
+ghost use Rattle.iso_tap.specs.Reports.{all_ok, report};
+ghost use Rattle.iso_tap.specs.Sinks.{Wrote};
 
 use crate::fault::RunFault;
 use iso_lifecycle::results::Results;
@@ -28,8 +29,9 @@ pub(crate) fn write_results<W: Sink>(
     requires plan { results.now.plan ≡ plan.now }
     requires complete { AreComplete results.now }
     ensures { MatchResult result
-        (λ s. ReportedOf (tree_of plan.now) (outcome_in results.now) (W.account sink.old) (W.account sink.new) s.all_ok)
-        (IsBroken (report (tree_of plan.now) (outcome_in results.now)) (W.account sink.old) (W.account sink.new)) }
+        (λ s. Wrote (W.account sink.old) (W.account sink.new) (report (tree_of plan.now) (outcome_in results.now))
+        × (s.all_ok ≡ all_ok (tree_of plan.now) (outcome_in results.now)))
+        (IsCutOff (report (tree_of plan.now) (outcome_in results.now)) (W.account sink.old) (W.account sink.new)) }
 {
     match write_report(plan, results, sink) {
         Ok(()) => Ok(Summary {

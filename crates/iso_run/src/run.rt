@@ -1,7 +1,7 @@
 //! Runs of a suite on one thread, from its inputs to its report.
-ghost use Rattle.std.specs.Prelude.{◌≤◌, MatchResult};
-ghost use Rattle.iso_run.specs.Runs.{NotWritten, Reported, suite_report};
-ghost use Rattle.iso_run.specs.Ways.{Serial};
+ghost use Rattle.std.specs.Prelude.{◌≤◌};
+ghost use Rattle.iso_run.specs.Runs.{Writes, suite_report};
+ghost use Rattle.iso_run.specs.declared.way.Way.TheVariants.{Serial};
 
 use crate::fault::RunFault;
 use crate::inputs::{Inputs, read_inputs};
@@ -20,9 +20,7 @@ pub fn run_serial<W: Sink>(
     sink: &mut W,
 ) -> Result<Summary, RunFault>
     requires { 1 ≤ inputs.processors }
-    ensures { MatchResult result
-        (λ s. Reported inputs.entry (W.account sink.old) (W.account sink.new) s.all_ok)
-        (NotWritten suite_report inputs.entry Serial (W.account sink.old) (W.account sink.new)) }
+    ensures { Writes (λ s. s.all_ok) suite_report inputs.entry Serial (W.account sink.old) (W.account sink.new) result }
 {
     let suite = read_inputs(alloc, inputs)?;
     match iso_serial::run::run(alloc, &suite.plan, &suite.world) {

@@ -1,13 +1,12 @@
 //! Runs of a suite by several workers, from its inputs to its report.
-ghost use Rattle.std.specs.Prelude.{◌≡◌, ◌<◌, ◌≤◌, IfErr, IfOk, MatchResult, OnOk, length, true};
+ghost use Rattle.std.specs.Prelude.{◌≡◌, ◌<◌, ◌≤◌, IfErr, IfOk, OnOk, length, true};
 ghost use denote.Param.Send.{IsSend, IsSync};
 ghost use Rattle.iso_book.specs.Books.{is_complete};
 ghost use Rattle.iso_floor.specs.Grounds.{IsBookOf};
 ghost use Rattle.iso_run.specs.declared.fault.RunFault.TheVariants.{Memory};
-ghost use Rattle.iso_run.specs.declared.inputs.Inputs.{Inputs};
-ghost use Rattle.iso_run.specs.Runs.{IsRead, NotWritten, Reported, suite_report};
-ghost use Rattle.iso_run.specs.Ways.{ByWorkers};
-ghost use Rattle.iso_run.specs.WorkerFaults.{IsOfWorkers};
+ghost use Rattle.iso_run.specs.declared.way.Way.TheVariants.{ByWorkers};
+ghost use Rattle.iso_run.specs.Replays.{IsOfWorkers};
+ghost use Rattle.iso_run.specs.Runs.{Writes, suite_report};
 
 use crate::fault::RunFault;
 use crate::inputs::{Inputs, Suite, read_inputs};
@@ -45,30 +44,10 @@ pub fn run_workers<R: Threads + Wait + Sync, G: Gate + Sync, W: Sink>(
     sink: &mut W,
 ) -> Result<Summary, RunFault>
     requires { 1 ≤ inputs.processors }
-    ensures { MatchResult result
-        (λ s. Reported inputs.entry (W.account sink.old) (W.account sink.new) s.all_ok)
-        (NotWritten suite_report inputs.entry ByWorkers (W.account sink.old) (W.account sink.new)) }
+    ensures { Writes (λ s. s.all_ok) suite_report inputs.entry ByWorkers (W.account sink.old) (W.account sink.new) result }
 {
     let suite = read_inputs(alloc, inputs)?;
-    run_suite::<Brand, R, G, W>(rt, alloc, &suite, gate, sink)
-}
-
-/// Runs a suite by its workers, on a floor of its plan and world.
-fn run_suite<L: Ground + Send + Sync, R: Threads + Wait + Sync, G: Gate + Sync, W: Sink>(
-    rt: &R,
-    alloc: Global,
-    suite: &Suite,
-    gate: &G,
-    sink: &mut W,
-) -> Result<Summary, RunFault>
-    requires plan { suite.now.plan ≡ L.plan }
-    requires start { suite.now.world ≡ L.start }
-    requires workers { suite.now.settings.worker_count ≡ L.workers }
-    ensures { (inputs : Inputs) → IsRead inputs suite.now → MatchResult result
-        (λ s. Reported inputs (W.account sink.old) (W.account sink.new) s.all_ok)
-        (NotWritten suite_report inputs ByWorkers (W.account sink.old) (W.account sink.new)) }
-{
-    let book = run_on_floor::<L, R, G>(rt, alloc, suite, gate)?;
+    let book = run_on_floor::<Brand, R, G>(rt, alloc, &suite, gate)?;
     write_results(&suite.plan, book.results(), sink)
 }
 

@@ -1,7 +1,37 @@
-use Rattle.iso_run.proofs.Answering.{did-replay}
+use Rattle.std.proofs.Common.{subst}
+use Rattle.iso_run.proofs.Answering.{answered-as, run-answered}
 use Rattle.iso_run.proofs.command.answer_request.Goals as goal
+use Rattle.iso_run.specs.Commands.{IsWrittenFor}
+use Rattle.iso_run.specs.Runs.{suite_plan, suite_report}
+use Rattle.iso_run.specs.declared.way.Way.{Way}
+use Rattle.iso_run.specs.declared.way.Way.TheVariants.{Serial, BySchedule}
+
+pub returns-in_ok-bytes-in-Plan : goal.returns-in_ok-bytes-in-Plan
+returns-in_ok-bytes-in-Plan g c =
+    let input = g.R.Read.remaining c.args.input.now in
+    let old = g.W.Sink.account c.args.output.now in
+    let new = g.W.Sink.account c.told.new.output in
+    let made = c.plan-shown.ensures input c.in_ok-bytes-in-Plan.ensures.read in
+    let answered = run-answered suite_plan c.in-Plan.files input made.0 Serial made.1 old (g.W.Sink.account c.plan-shown.new.output) new c.plan-shown.result made.2 c.told.result c.told.ensures in
+    rw c.in-Plan.is (answered-as (IsWrittenFor suite_plan c.in-Plan.files input Serial old new) _ (λ ok h. h) old new c.told.result answered)
+
+pub returns-in_ok-bytes-in-Run : goal.returns-in_ok-bytes-in-Run
+returns-in_ok-bytes-in-Run g c =
+    let input = g.R.Read.remaining c.args.input.now in
+    let old = g.W.Sink.account c.args.output.now in
+    let new = g.W.Sink.account c.told-in-Run.new.output in
+    let way = c.asked_way.result in
+    let made = c.run-ran.ensures input c.in_ok-bytes-in-Run.ensures.read in
+    let answered = run-answered suite_report c.in-Run.files input made.0 way made.1 old (g.W.Sink.account c.run-ran.new.output) new c.run-ran.result made.2 c.told-in-Run.result c.told-in-Run.ensures in
+    rw c.in-Run.is (answered-as (IsWrittenFor suite_report c.in-Run.files input way old new) _
+    (λ ok h. subst (λ (w : Way). IsWrittenFor suite_report c.in-Run.files input w old new ok) c.asked_way.ensures h) old new c.told-in-Run.result answered)
 
 pub returns-in_ok-schedule-in-Replay : goal.returns-in_ok-schedule-in-Replay
 returns-in_ok-schedule-in-Replay g c =
-    rw c.in-Replay.is (did-replay c.in-Replay.files (g.R.Read.remaining c.args.input.now) c.in_ok-bytes-in-Replay.bytes c.in_ok-bytes-in-Replay.ensures.read
-    (g.W.Sink.account c.args.output.now) (g.W.Sink.account c.run-in-Replay.new.output) c.in-Replay.schedule c.deref.result.now c.run-in-Replay.result c.run-in-Replay.ensures)
+    let input = g.R.Read.remaining c.args.input.now in
+    let old = g.W.Sink.account c.args.output.now in
+    let new = g.W.Sink.account c.told-in-Replay.new.output in
+    let way = BySchedule c.deref.result in
+    let made = c.run-ran-in-Replay.ensures input c.in_ok-bytes-in-Replay.ensures.read in
+    let answered = run-answered suite_report c.in-Replay.files input made.0 way made.1 old (g.W.Sink.account c.run-ran-in-Replay.new.output) new c.run-ran-in-Replay.result made.2 c.told-in-Replay.result c.told-in-Replay.ensures in
+    rw c.in-Replay.is (answered-as (IsWrittenFor suite_report c.in-Replay.files input way old new) _ (λ ok h. (c.deref.result, h)) old new c.told-in-Replay.result answered)

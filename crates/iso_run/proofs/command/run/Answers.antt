@@ -1,14 +1,20 @@
-use Rattle.std.proofs.Common.{List, ℕ}
-use Rattle.iso_run.specs.Ways.{way_in}
-use Rattle.iso_run.proofs.Answering.{answered}
+use Rattle.std.proofs.Common.{map, ap, ◌∙◌}
+use Rattle.std.proofs.lemmas.Result.{err_from_is_err_and}
+use Rattle.iso_run.specs.Runs.{suite_report}
+use Rattle.iso_run.specs.Suites.{texts}
+use Rattle.iso_run.specs.declared.report.Summary.{Summary}
+use Rattle.iso_run.proofs.Lending.{are-for, are-of-bytes, inputs-for, out-of-memory}
 use Rattle.iso_run.proofs.command.run.Goals as goal
 
-pub run_asked-ran-requires-clause-scripts : goal.run_asked-ran-requires-clause-scripts
-run_asked-ran-requires-clause-scripts g c = λ κs lives. rw (← c.deref-2.ensures.value, c.deref.ensures.value) at c.in_ok-scripts.ensures.bytes
+pub returns-in_err-scripts : goal.returns-in_err-scripts
+returns-in_err-scripts g c = λ input read.
+    let p = err_from_is_err_and c.from_residual.result c.from_residual.ensures.1 in
+    let files = c.args.files.now in
+    let bytes = c.args.bytes.now in
+    (inputs-for files bytes, are-of-bytes files input bytes read, rw (p.1, p.2) (out-of-memory (λ (s : Summary). s.all_ok) suite_report (inputs-for files bytes) c.args.way (g.W.Sink.account c.args.output.now)))
 
-pub returns : goal.returns
-returns g c =
-    let of = c.run_asked-ran.ensures in
-    answered c.args.bytes.now c.args.files.now of.inputs of.scripts_are of.settings_are of.world_is of.are_asked
-    (g.W.Sink.account c.args.output.now) (g.W.Sink.account c.run_asked-ran.new.output) (g.W.Sink.account c.answer_run.new.output)
-    (way_in c.args.way) c.run_asked-ran.result c.answer_run.result of.holds c.answer_run.ensures
+pub returns-in-ByWorkers : goal.returns-in-ByWorkers
+returns-in-ByWorkers g c = λ input read.
+    let is = c.inputs_of-inputs.ensures in
+    let scripts = ap texts (is.scripts ∙ c.deref-2.ensures.value) ∙ c.in_ok-scripts.ensures ∙ ap (map (λ v. v.items)) c.deref.ensures.value in
+    (c.inputs_of-inputs.result, are-for c.args.files.now input c.args.bytes.now c.inputs_of-inputs.result read scripts is.settings is.world is.only is.processors, rw c.in-ByWorkers.is c.run_workers.ensures)

@@ -12,16 +12,18 @@ none = record { ref_ptr = (0, 0); now = [] }
 
 pub returns-in-Err-Fault : goal.returns-in-Err-Fault
 returns-in-Err-Fault c =
-    let bytes = (get_or c.args.scripts.now c.loop-index.index none).now in
-    let here : HasScriptFault bytes c.in-Err-Fault.fault = subst (UnlessMemory (HasScriptFault bytes)) c.in-Err-Fault.field-0-is c.in-Err-Fault.ensures.fault in
-    record {
-      within = c.loop-index-test.true;
-      earlier = (map script_of c.loop-index.read.items, c.loop-index.invariant);
-      unread = rw c.in-Err-Fault.field-0-is (subst (λ (t : List ℕ). HasScriptFault t c.in-Err-Fault.fault) (sym (get_or-map (λ (b : Bor (List ℕ)). b.now) c.args.scripts.now c.loop-index.index none [] c.loop-index-test.true)) here);
-    }
+    let bytes = (get_or c.args.inputs.scripts.now c.loop-index.index none).now in
+    let here : HasScriptFault bytes c.in-Err-Fault.fault = subst (UnlessMemory (HasScriptFault bytes)) c.in-Err-Fault.field-0-is c.in-Err-Fault.ensures.fault in (
+      c.requires,
+      record {
+        within = c.loop-index-test.true;
+        earlier = (map script_of c.loop-index.read.items, c.loop-index.invariant);
+        unread = rw c.in-Err-Fault.field-0-is (subst (λ (t : List ℕ). HasScriptFault t c.in-Err-Fault.fault) (sym (get_or-map (λ (b : Bor (List ℕ)). b.now) c.args.inputs.scripts.now c.loop-index.index none [] c.loop-index-test.true)) here);
+      },
+    )
 
 pub loop-index-preserved : goal.loop-index-preserved
 loop-index-preserved c =
-    let more = texts_more c.args.scripts.now c.loop-index.index none c.loop-index-test.true in
+    let more = texts_more c.args.inputs.scripts.now c.loop-index.index none c.loop-index-test.true in
     let pushed = ap (map script_of) c.in_ok-push-in-Ok.ensures.items ∙ map-append script_of c.loop-index.read.items (c.in-Ok.script ∷ []) in
     rw (more, pushed) (read_more _ _ _ _ c.loop-index.invariant c.in-Ok.ensures.found)

@@ -4,4 +4,4 @@ use Rattle.iso_run.specs.Suites.{AreRead, texts}
 use Rattle.iso_run.proofs.inputs.read_scripts.Given as goal
 
 abbrev pub invariant-loop-index : goal.invariant-loop-index
-invariant-loop-index l = AreRead (texts (take l.index l.scripts)) (map script_of l.read.items)
+invariant-loop-index l = AreRead (texts (take l.index l.fn.inputs.scripts.now)) (map script_of l.read.items)

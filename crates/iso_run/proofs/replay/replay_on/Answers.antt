@@ -5,7 +5,7 @@ use Rattle.iso_run.proofs.replay.replay_on.Goals as goal
 pub returns-in_err-events : goal.returns-in_err-events
 returns-in_err-events g c = λ inputs is.
     let p = err_from_is_err_and c.from_residual.result c.from_residual.ensures.1 in
-    rw (p.1, p.2) (unread inputs c.args.schedule.now (g.W.Sink.account c.args.sink.now) c.args.suite.now c.in_err-events.field-0.0 is c.in_err-events.ensures.answered)
+    rw (p.1, p.2) (unread inputs c.args.schedule (g.W.Sink.account c.args.sink.now) c.args.suite.now c.in_err-events.field-0.0 is c.in_err-events.ensures.answered)
 
 pub returns : goal.returns
-returns g c = λ inputs is. c.replay_events.ensures inputs c.args.schedule.now is (rw (← c.deref.ensures.value) at c.in_ok-events.ensures.answered)
+returns g c = λ inputs is. c.replay_events.ensures inputs c.args.schedule is (rw (← c.deref.ensures.value) at c.in_ok-events.ensures.answered)

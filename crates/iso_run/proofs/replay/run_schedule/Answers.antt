@@ -1,13 +1,14 @@
 use Rattle.std.proofs.lemmas.Result.{err_from_is_err_and}
 use Rattle.iso_run.specs.Runs.{suite_report}
-use Rattle.iso_run.specs.Ways.{BySchedule}
+use Rattle.iso_run.specs.declared.report.Summary.{Summary}
+use Rattle.iso_run.specs.declared.way.Way.TheVariants.{BySchedule}
 use Rattle.iso_run.proofs.Unread.{unread-unwritten}
 use Rattle.iso_run.proofs.replay.run_schedule.Goals as goal
 
 pub returns-in_err-suite : goal.returns-in_err-suite
 returns-in_err-suite g c =
     let p = err_from_is_err_and c.from_residual.result c.from_residual.ensures.1 in
-    rw (p.1, p.2) (unread-unwritten suite_report c.args.inputs (BySchedule c.args.schedule.now) (g.W.Sink.account c.args.sink.now) c.in_err-suite.field-0.0 c.in_err-suite.ensures.suite)
+    rw (p.1, p.2) (unread-unwritten (λ (s : Summary). s.all_ok) suite_report c.args.inputs (BySchedule c.args.schedule) (g.W.Sink.account c.args.sink.now) c.in_err-suite.field-0.0 c.in_err-suite.ensures)
 
 pub returns : goal.returns
-returns g c = c.replay_on.ensures c.args.inputs (record { is_suite = c.in_ok-suite.ensures.suite; planned = c.in_ok-suite.ensures.plan; planned_by = c.in_ok-suite.ensures.planned_by })
+returns g c = c.replay_on.ensures c.args.inputs c.in_ok-suite.ensures

@@ -1,0 +1,69 @@
+-- How a run and a command end: with which exit status, and what that leaves of the output.
+use Rattle.std.specs.Prelude.{◌≡◌, ◌≢◌, ℕ, Bool, cond, Result, Ok, Err}
+use Rattle.iso_arguments.specs.declared.request.WordsFault.{WordsFault}
+use Rattle.iso_arguments.specs.declared.request.WordsFault.TheVariants as W
+use Rattle.iso_run.specs.declared.command_fault.CommandFault.{CommandFault}
+use Rattle.iso_run.specs.declared.command_fault.CommandFault.TheVariants.{Words, Unreadable, TooLarge, Unwritten, Run}
+use Rattle.iso_run.specs.declared.fault.RunFault.{RunFault}
+use Rattle.iso_run.specs.declared.fault.RunFault.TheVariants.{Start, Lost, Memory, Write}
+use Rattle.iso_tap.specs.Sinks.{Account, HasFailed}
+
+-- all was written, and whether it tells that all is ok; refused or given up before anything was written; or the output broke off
+pub data End : Type 0 where
+  Whole : (ok : Bool) → End
+  Refuses : End
+  GivesUp : End
+  BreaksOff : End
+
+-- the exit status
+abbrev pub exit_status : End → ℕ
+exit_status (Whole ok) = cond ok 0 1
+exit_status Refuses = 2
+exit_status GivesUp = 3
+exit_status BreaksOff = 3
+
+-- how a fault of a run ends it: all others are of the input
+abbrev pub run_end : RunFault → End
+run_end Start = GivesUp
+run_end Lost = GivesUp
+run_end Memory = GivesUp
+run_end (Write written) = BreaksOff
+run_end _ = Refuses
+
+-- how words end a command, where they are wrong, or where memory ran out as they were read
+abbrev pub words_end : WordsFault → End
+words_end (W.Wrong text) = Refuses
+words_end W.OutOfMemory = GivesUp
+
+-- how each fault of a command ends it
+abbrev pub command_end : CommandFault → End
+command_end (Words text) = Refuses
+command_end (Unreadable name) = GivesUp
+command_end (TooLarge name) = Refuses
+command_end Unwritten = BreaksOff
+command_end (Run fault word) = run_end fault
+
+-- the end that is answered
+abbrev pub end_of : {A F : Type 0} → (A → Bool) → (F → End) → Result A F → End
+end_of ok_of by (Ok answer) = Whole (ok_of answer)
+end_of ok_of by (Err fault) = by fault
+
+-- What an end leaves of the output: what is stated of the whole, or of an output that broke off; else it was asked nothing.
+abbrev pub Leaves : (whole : Bool → Type 0) → (broken : Type 0) → (old new : Account) → End → Type 0
+Leaves whole broken old new (Whole ok) = whole ok
+Leaves whole broken old new Refuses = new ≡ old
+Leaves whole broken old new GivesUp = new ≡ old
+Leaves whole broken old new BreaksOff = broken
+
+-- what the answer of a command leaves: an output that broke off has failed once
+abbrev pub Answers : (whole : Bool → Type 0) → (old new : Account) → Result Bool CommandFault → Type 0
+Answers whole old new result = Leaves whole (HasFailed old.failures new.failures) old new (end_of (λ ok. ok) command_end result)
+
+-- what is answered of a whole output once it was flushed
+abbrev pub IsFlushed : (ok : Bool) → (old new : Account) → Result Bool CommandFault → Type 0
+IsFlushed ok old new (Ok told) = (told ≡ ok) × (new ≡ old)
+IsFlushed ok old new (Err fault) = (fault ≡ Unwritten) × HasFailed old.failures new.failures
+
+-- the fault comes before anything is asked of the output
+abbrev pub ComesEarly : CommandFault → Type 0
+ComesEarly fault = command_end fault ≢ BreaksOff
