@@ -1,5 +1,5 @@
 -- How a run and a command end: with which exit status, and what that leaves of the output.
-use Rattle.std.specs.Prelude.{◌≡◌, ◌≢◌, ℕ, Bool, cond, Result, Ok, Err}
+use Rattle.std.specs.Prelude.{◌≡◌, ◌≢◌, ℕ, Bool, cond, None, Result, Ok, Err}
 use Rattle.iso_arguments.specs.declared.request.WordsFault.{WordsFault}
 use Rattle.iso_arguments.specs.declared.request.WordsFault.TheVariants as W
 use Rattle.iso_run.specs.declared.command_fault.CommandFault.{CommandFault}
@@ -30,10 +30,10 @@ run_end Memory = GivesUp
 run_end (Write written) = BreaksOff
 run_end _ = Refuses
 
--- how words end a command, where they are wrong, or where memory ran out as they were read
-abbrev pub words_end : WordsFault → End
-words_end (W.Wrong text) = Refuses
-words_end W.OutOfMemory = GivesUp
+-- the fault of a command whose words are wrong, or where memory ran out as they were read
+abbrev pub words_fault : WordsFault → CommandFault
+words_fault (W.Wrong text) = Words text
+words_fault W.OutOfMemory = Run Memory None
 
 -- how each fault of a command ends it
 abbrev pub command_end : CommandFault → End

@@ -2,7 +2,7 @@
 ghost use Rattle.std.specs.Prelude.{◌≡◌, ◌≤◌, ℕ, List, Option, [], IfSome, IsErrAnd, MatchResult, true};
 ghost use Rattle.iso_arguments.specs.Requests.{AsksForSomeProcessors, IsCount};
 ghost use Rattle.iso_run.specs.Commands.{Answered, AreFor, Did, Ended, RanOn, WereRead, way_of};
-ghost use Rattle.iso_run.specs.Ends.{Answers, IsFlushed, command_end, exit_status, run_end, words_end};
+ghost use Rattle.iso_run.specs.Ends.{Answers, IsFlushed, command_end, exit_status, run_end, words_fault};
 ghost use Rattle.iso_run.specs.Runs.{Writes, suite_plan, suite_report};
 ghost use Rattle.iso_run.specs.declared.inputs.Inputs.{Inputs};
 ghost use Rattle.iso_run.specs.declared.way.Way.TheVariants.{Serial};
@@ -60,7 +60,7 @@ pub fn command<G: AllocGlobal + Files + Threads + Wait + Sync, R: Read, W: Sink,
 
 /// Says that memory ran out before the program began, or that a word is wrong, and answers the status.
 pub fn refuse_words<E: Sink>(fault: WordsFault, errors: &mut E) -> u8
-    ensures { result ≡ exit_status (words_end fault) }
+    ensures { result ≡ exit_status (command_end (words_fault fault)) }
 {
     let fault = CommandFault::from(fault);
     say(errors, &fault);

@@ -1,6 +1,6 @@
 //! Why a command ends with status 2 or 3.
 ghost use Rattle.std.specs.Prelude.{◌≡◌, None};
-ghost use Rattle.iso_run.specs.Ends.{command_end, exit_status, words_end};
+ghost use Rattle.iso_run.specs.Ends.{command_end, exit_status, words_fault};
 ghost use Rattle.iso_run.specs.declared.command_fault.CommandFault.TheVariants.{Run};
 ghost use Rattle.iso_run.specs.declared.fault.RunFault.TheVariants.{Memory};
 
@@ -45,7 +45,7 @@ impl CommandFault<'_> {
 }
 
 impl From<WordsFault> for CommandFault<'_> {
-    ghost from_gives = { λ words fault. command_end fault ≡ words_end words };
+    ghost from_gives = { λ words fault. fault ≡ words_fault words };
 
     fn from(fault: WordsFault) -> Self {
         match fault {
