@@ -328,11 +328,13 @@ pub fn kinds_come_first()
     ensures count { endings_of (repeat (minus 1) no_acts ∷ []) ≡ fault_here K.BadCount "bad count" ∷ [] }
 {}
 
-/// A false `assert` says so, and `assert_equal` names both values, the expected one first.
+/// A false `assert` says so, and `assert_equal` names both values, the expected one first. What holds goes on.
 #[tactic(auto, using(crate::proofs::ExampleLemmas::numerals))]
 pub fn assertions_name_what_differs()
-    ensures { endings_of (assert (flag false) ∷ assert_equal (number 3) (number 4) ∷ assume (flag false) "no" ∷ [])
+    ensures fail { endings_of (assert (flag false) ∷ assert_equal (number 3) (number 4) ∷ assume (flag false) "no" ∷ [])
         ≡ Fail (note "assertion failed" (in_test 1)) ∷ Fail (note "expected: <3> but was: <4>" (in_test 1)) ∷ Assumed (note "no" (in_test 1)) ∷ [] }
+    ensures hold { endings_of (assert (flag true) ∷ assert_equal (quoted "a") (quoted "a") ∷ assume (flag true) "no" ∷ [])
+        ≡ replicate 3 Well }
 {}
 
 /// A place names its block: the lifecycle block, with the depth of its class, or the test.
