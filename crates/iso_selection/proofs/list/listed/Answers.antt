@@ -1,10 +1,10 @@
-use Rattle.std.proofs.Common.{◌≡◌, ◌≢◌, ◌==◌, ◌+◌, ◌-◌, ◌<◌, ◌≤◌, ◌∷◌, [], ◌++◌, ℕ, List, Bor, Bool, true, false, nat_lt, take, drop, filter, get_or, length, refl, ap, ap₂, sym, ◌∙◌, append_assoc, arith}
+use Rattle.std.proofs.Common.{◌≡◌, ◌≢◌, ◌==◌, ◌+◌, ◌-◌, ◌<◌, ◌∷◌, [], ◌++◌, ℕ, List, Bool, true, false, take, drop, filter, get_or, length, refl, ap, sym, ◌∙◌, append_assoc, arith}
 use Rattle.std.proofs.lemmas.Bool.Decides.{nat_tests}
 use Rattle.std.proofs.lemmas.List.{get_or_default, take_rest}
 use Rattle.std.specs.Str.Lines.{lines, strip_carriage_return}
 use Rattle.iso_plan.specs.Selections.{texts_of}
 use Rattle.iso_selection.proofs.LineLemmas.{IsLine, kept-first, kept-last, lines-at, lines-last}
-use Rattle.iso_selection.specs.Lists.{has_bytes, listed}
+use Rattle.iso_selection.specs.Lists.{has_bytes}
 use Rattle.iso_selection.proofs.list.listed.Goals as goal
 use Rattle.iso_selection.proofs.list.listed.Goals.{then-file-at-eq10+in_ok-add, else-file-at-eq10}
 

@@ -1,4 +1,4 @@
-use Rattle.std.proofs.Common.{◌≡◌, ◌≢◌, ◌||◌, [], ◌==◌, ◌+◌, ◌-◌, ◌≤◌, ℕ, List, Bool, false, drop, get_or, length, ap, sym, subst, ◌∙◌, arith}
+use Rattle.std.proofs.Common.{◌≡◌, ◌≢◌, ◌||◌, [], ◌==◌, ◌+◌, ◌-◌, ℕ, List, Bool, false, drop, get_or, ap, sym, subst, ◌∙◌, arith}
 use Rattle.std.proofs.lemmas.Bool.Decides.{nat_tests}
 use Rattle.std.proofs.lemmas.List.{take_rest}
 use Rattle.iso_selection.proofs.MatchLemmas.{GoesOn, some_later, at-end, goes-more, goes-none, other-byte, pattern-over, step-back, step-byte, step-star}
