@@ -24,6 +24,7 @@ pub mod SameTrees
 pub mod SelectionLemmas
 pub mod Sharing
 pub mod SoFar
+pub mod TopClassLemmas
 pub mod TopLemmas
 pub mod TreeLemmas
 pub mod WrittenLemmas

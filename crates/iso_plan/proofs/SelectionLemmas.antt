@@ -1,16 +1,18 @@
 -- The tree of the nodes that are kept of a tree, where what a kept node stands in is kept.
-use Rattle.std.proofs.Common.{◌≡◌, ℕ, zero, suc, ◌<◌, ◌≤◌, List, [], ◌∷◌, ◌++◌, codes, filter, length, map, get_or, Bool, true, false, ◌||◌, nat_lt, ◌==◌, cond, refl, sym, ap, ap₂, ◌∙◌, subst, arith}
+use Rattle.std.proofs.Common.{◌≡◌, ℕ, zero, suc, ◌<◌, ◌≤◌, List, [], ◌∷◌, ◌++◌, codes, filter, length, map, get_or, Bool, true, false, ◌||◌, ◌&&◌, not, nat_lt, ◌==◌, cond, refl, sym, ap, ap₂, ◌∙◌, subst, arith}
 use Rattle.std.proofs.lemmas.Bool.Decides.{nat_tests}
+use Rattle.std.proofs.lemmas.Cmp.{nat_list_eq_equiv}
 use Rattle.std.proofs.lemmas.List.{get_or-map, get_or_past, length-map}
 use Rattle.std.specs.List.{list_any, range_with_len}
 use Rattle.iso_model.specs.Chains.{ClassHead}
+use Rattle.iso_model.specs.NameSets.{is_among}
 use Rattle.iso_model.specs.Targets.{effective}
 use Rattle.iso_plan.proofs.NumberLemmas.{map-agree, number-all, number-less, those-agree, those-are, those-at}
 use Rattle.iso_plan.proofs.PathLemmas.{IsBelow, along, chain-step, eq_from, not-root, path-root, under-self, under-step}
 use Rattle.iso_plan.proofs.PathTextLemmas.{path_text-root, path_text-step, text_in}
 use Rattle.iso_plan.specs.KeyTable.{kind_marks}
 use Rattle.iso_plan.specs.NodeChains.{chain_classes, class_heads, own_test, rights_with}
-use Rattle.iso_plan.specs.Paths.{IsTree, is_class_or_test, is_test, is_under, nodes_under, parent, row_at}
+use Rattle.iso_plan.specs.Paths.{IsTree, is_class_or_test, is_root, is_test, is_under, nodes_under, parent, path, row_at}
 use Rattle.iso_plan.specs.PathTexts.{path_text}
 use Rattle.iso_plan.specs.SameNodes.{IsSameNode}
 use Rattle.iso_plan.specs.Selections.{is_chosen, is_kept, is_kept_by, number_among, renumbered, selection, those_below, those_of}
@@ -237,3 +239,11 @@ those_of-agree tree t f g same =
     let low = parent_low tree t n in
     let number : number_among f (parent tree n) ≡ number_among g (parent tree n) = ap length (those-agree f g (parent tree n) (λ m less. same m (omega arith))) in
     λ i. record (row_at tree n) { parent = number i })
+
+-- which nodes are kept depends on which paths are given alone
+pub paths-alone : (tree : List Row) (only others : List (List ℕ)) → ((p : List ℕ) → is_among only p ≡ is_among others p) → selection tree only ≡ selection tree others
+paths-alone tree [] [] h = refl
+paths-alone tree [] (q ∷ qs) h = let wrong : false ≡ true = h q ∙ ap (λ (b : Bool). b || is_among qs q) (nat_list_eq_equiv.refl q) in absurd (cc)
+paths-alone tree (p ∷ ps) [] h = let wrong : false ≡ true = sym (h p) ∙ ap (λ (b : Bool). b || is_among ps p) (nat_list_eq_equiv.refl p) in absurd (cc)
+paths-alone tree (p ∷ ps) (q ∷ qs) h =
+    λ i. those_of (λ n. is_root n || list_any (λ m. list_any (λ j. not (is_root j) && h (path_text tree j) i) (path tree m)) (nodes_under tree n)) tree

@@ -17,5 +17,6 @@ pub mod RowView
 pub mod SameNodes
 pub mod Selections
 pub mod Tables
+pub mod TopClasses
 pub mod Tree
 pub mod WrittenMarks

@@ -13,6 +13,7 @@ ghost use Rattle.iso_plan.specs.NodeChains.{node_rights};
 ghost use Rattle.iso_plan.specs.Paths.{children, path, row_at};
 ghost use Rattle.iso_plan.specs.PathTexts.{found, path_text};
 ghost use Rattle.iso_plan.specs.Selections.{first_unknown, is_kept, selection, those_below};
+ghost use Rattle.iso_plan.specs.TopClasses.{all_top_classes};
 
 /// Nodes are numbered in preorder, and a path leads up to the root, innermost first.
 #[tactic(auto, unfolding(crate::specs::Paths::path))]
@@ -145,6 +146,12 @@ pub fn paths_are_of_names()
     ensures title { found titled (codes "shop.B.u") ≡ None }
     ensures part { found two_classes (codes "B.t") ≡ None }
     ensures empty { found two_classes [] ≡ None }
+{}
+
+/// What stands in a top-level class at any depth has it as its top-level class.
+#[tactic(auto, unfolding(crate::specs::Paths::path))]
+pub fn top_level_classes_are_known_at_each_depth()
+    ensures { all_top_classes cart_and_desk ≡ 0 ∷ 1 ∷ 1 ∷ 1 ∷ 4 ∷ 4 ∷ 4 ∷ 4 ∷ [] }
 {}
 
 /// A named node is kept with what stands in it and the classes that it stands in, numbered anew. Keys are gathered of what is kept.

@@ -20,6 +20,7 @@ ghost use Rattle.iso_plan.specs.Paths.{IsTree, children, is_test, is_top, is_und
 ghost use Rattle.iso_plan.specs.RowView.{tree_of};
 ghost use Rattle.iso_plan.specs.SameNodes.{IsSameNode};
 ghost use Rattle.iso_plan.specs.Selections.{is_kept, number_among, plan_tree, selection, texts_of};
+ghost use Rattle.iso_plan.specs.Tree.{Row};
 ghost use Rattle.iso_plan.specs.WrittenMarks.{AreWritten, tree_with};
 
 use crate::plan::Plan;
@@ -139,6 +140,12 @@ pub fn selected_nodes_keep_their_chains(plan: &Plan)
 {
     plan.hold_a_tree();
 }
+
+/// Which nodes are kept depends on which paths are given, and neither on their order nor on how often each is.
+pub fn paths_are_a_set()
+    ensures { (tree : List Row) (only others : List (List ℕ)) → ((p : List ℕ) → is_among only p ≡ is_among others p)
+        → selection tree only ≡ selection tree others }
+{}
 
 /// In scripts that make a plan no node has as many marks as are kept of one: so the bound on them changes no plan.
 pub fn no_mark_is_left_out(scripts: &[Script], only: &[&str])

@@ -18,6 +18,7 @@ mod modes;
 mod names;
 mod nodes;
 mod outermost;
+pub mod overview;
 mod paths;
 pub mod plan;
 mod rights;

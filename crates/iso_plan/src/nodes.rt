@@ -42,7 +42,7 @@ pub(crate) fn kept_rows(
 }
 
 /// The nodes of scripts, with their effective marks. More than so many are `TooManyNodes`.
-fn all_rows(alloc: Global, scripts: &[Script], most: u32) -> Result<Vec<Row>, PlanError>
+pub(crate) fn all_rows(alloc: Global, scripts: &[Script], most: u32) -> Result<Vec<Row>, PlanError>
     requires { 0 < most }
     ensures tree { IfOk result (λ v. nodes_in v.items ≡ tree (map script_of scripts.now)) }
     ensures fits { IfOk result (λ v. length v.items ≤ most) }

@@ -1,0 +1,6 @@
+pub mod Lists
+pub mod Patterns
+pub mod PickedPlans
+pub mod Picks
+pub mod Shards
+pub mod Wishes
