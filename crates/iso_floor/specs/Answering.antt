@@ -1,5 +1,5 @@
 -- What a book under the lock of a floor has answered. Outside of the lock nobody can name that book: what is known is that there was one.
-use Rattle.std.specs.Prelude.{◌≡◌, ◌<◌, ◌≤◌, ℕ, Bool, ◌||◌, length, nat_lt}
+use Rattle.std.specs.Prelude.{◌≡◌, ◌<◌, ◌≤◌, ℕ, Bool, ◌||◌, length, nat_lt, true}
 use Rattle.iso_book.specs.Books.{BookView, is_complete, refusal_in, suite_in}
 use Rattle.iso_book.specs.Leaves.{leave_refusal_in}
 use Rattle.iso_book.specs.Turns.{GoesOnWith, IsAllowed, IsFaultOf, IsRefusedBy, MayEnterWith}
@@ -58,3 +58,8 @@ IsFull s = s.room ≤ length s.receipts
 -- whether the history of a book is longer than was seen, or its run stopped or complete
 abbrev pub has_changed : ℕ → BookView → Bool
 has_changed seen b = nat_lt seen (length b.history) || (b.stopped || is_complete b)
+
+-- a wait for a change may end at a book, and answer this number of events: the history has so many, and has changed since so many were seen
+pub record EndsWait (seen count : ℕ) (b : BookView) : Type 0 where
+  pub changed : has_changed seen b ≡ true
+  pub counted : length b.history ≡ count

@@ -3,6 +3,7 @@ pub mod Auditing
 pub mod Audits
 pub mod Closing
 pub mod Grounds
+pub mod Halts
 pub mod Seats
 pub mod Turning
 pub mod Workers

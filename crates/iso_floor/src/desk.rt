@@ -248,9 +248,10 @@ impl<'a, G: Ground> Desk<'a, G> {
         self.length() <= seen && !self.book.is_stopped() && !self.book.complete()
     }
 
-    /// The history of its book in full is a run.
+    /// The history of its book in full is a run, and the book is of the floor's ground.
     pub(crate) fn keep_run(&self)
-        ensures { HasRun self.now }
+        ensures run { HasRun self.now }
+        ensures ground { IsBookOf G.plan G.start G.workers self.now }
     {
         let _history = self.book.history();
     }

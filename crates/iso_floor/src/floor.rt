@@ -2,7 +2,7 @@
 ghost use Rattle.std.specs.Prelude.{◌≡◌, ◌<◌, ℕ, IfErr, IfOk, OnErr, OnOk, true};
 ghost use Rattle.iso_book.specs.Leaves.{MayBring};
 ghost use Rattle.iso_book.specs.Turns.{IsEntered, IsShut, ReadsStart};
-ghost use Rattle.iso_floor.specs.Answering.{HasRoom, IsFull, OfSomeBook, RefusesEnter, RefusesLeave, RefusesShut, TakesEnter, TakesLeave, TakesShut};
+ghost use Rattle.iso_floor.specs.Answering.{EndsWait, HasRoom, IsFull, OfSomeBook, RefusesEnter, RefusesLeave, RefusesShut, TakesEnter, TakesLeave, TakesShut};
 ghost use Rattle.iso_floor.specs.Closing.{IsCloseFault, IsSeatFault, IsWhole};
 ghost use Rattle.iso_floor.specs.Grounds.{IsBookOf};
 ghost use Rattle.iso_floor.specs.Seats.{HasLeft, SeatView, lists_of, new_seat};
@@ -178,13 +178,16 @@ impl<'a, G: Ground> Floor<'a, G> {
     }
 
     /// Waits until the history is longer than `seen`, the run complete or stopped, and answers the history's length.
-    pub fn wait_change<R: Wait>(&self, rt: &R, seen: u64) -> u64 {
+    pub fn wait_change<R: Wait>(&self, rt: &R, seen: u64) -> u64
+        ensures { OfSomeBook G.plan G.start G.workers (EndsWait seen result) }
+    {
         let mut desk = self.desk.lock(rt);
         desk.begin_wait();
         let mut desk = self
             .changed
             .wait_while(rt, desk, |desk| desk.is_unchanged(seen));
         desk.end_wait();
+        desk.keep_run();
         desk.length()
     }
 

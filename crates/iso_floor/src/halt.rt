@@ -12,12 +12,22 @@ pub(crate) enum Halt {
 }
 
 impl From<AllocError> for Halt {
+    ghost use Rattle.std.specs.Prelude.{◌≡◌};
+    ghost use Rattle.iso_floor.specs.declared.halt.Halt.TheVariants.{OutOfMemory};
+
+    ghost from_gives = { λ _ halt. halt ≡ OutOfMemory };
+
     fn from(_error: AllocError) -> Halt {
         Halt::OutOfMemory
     }
 }
 
 impl From<CoreFault> for Halt {
+    ghost use Rattle.std.specs.Prelude.{◌≡◌};
+    ghost use Rattle.iso_floor.specs.Halts.{halt_of};
+
+    ghost from_gives = { λ fault halt. halt ≡ halt_of fault };
+
     fn from(fault: CoreFault) -> Halt {
         match fault {
             CoreFault::Refused(_) => Halt::Stopped,

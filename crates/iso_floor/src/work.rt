@@ -27,6 +27,11 @@ pub enum Cause {
 }
 
 impl From<Halt> for Cause {
+    ghost use Rattle.std.specs.Prelude.{◌≡◌};
+    ghost use Rattle.iso_floor.specs.Halts.{cause_of};
+
+    ghost from_gives = { λ halt cause. cause ≡ cause_of halt };
+
     fn from(halt: Halt) -> Cause {
         match halt {
             Halt::Stopped => Cause::Stopped,

@@ -64,6 +64,11 @@ impl ScriptFaultKind {
 }
 
 impl fmt::Display for ScriptFaultKind {
+    ghost use Rattle.std.specs.Prelude.{Some};
+    ghost use Rattle.iso_script_statements.specs.FaultNames.{fault_name};
+
+    ghost output = { λ kind. Some (fault_name kind) };
+
     fn fmt<W: fmt::Write>(&self, f: &mut fmt::Formatter<W>) -> fmt::Result {
         f.write_str(self.as_str())
     }

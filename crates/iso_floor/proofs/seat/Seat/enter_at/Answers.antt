@@ -9,7 +9,7 @@ pub returns-clause-taken : goal.returns-clause-taken
 returns-clause-taken g c =
     let i = c.self.inside in
     let n : ℕ = c.args.node in
-    let run = subst HasRun (sym c.desk.view_is) c.keep_run.ensures in
+    let run = subst HasRun (sym c.desk.view_is) c.keep_run.ensures.run in
     rw (← c.self.view_is) (taken g.G.Ground.plan g.G.Ground.start g.G.Ground.workers c.desk.inside.book c.desk.invariant.book run
     (Enter i.worker n) (λ x. MayEnterWith x n i.tray) c.enter_own.new.self i.tray c.enter_own.new.tray c.enter_own.result c.enter_own.ensures.event)
 
@@ -17,6 +17,6 @@ pub returns-clause-refused : goal.returns-clause-refused
 returns-clause-refused g c =
     let i = c.self.inside in
     let n : ℕ = c.args.node in
-    let run = subst HasRun (sym c.desk.view_is) c.keep_run.ensures in
+    let run = subst HasRun (sym c.desk.view_is) c.keep_run.ensures.run in
     rw (← c.self.view_is) (refused g.G.Ground.plan g.G.Ground.start g.G.Ground.workers c.desk.inside.book c.desk.invariant.book run
     (Enter i.worker n) (λ x. MayEnterWith x n i.tray) c.enter_own.new.self i.tray c.enter_own.new.tray c.enter_own.result c.enter_own.ensures.event)

@@ -19,7 +19,7 @@ returns-clause-taken g c =
     rw (← c.self.view_is) (record {
       book = c.desk.inside.book;
       ground = c.desk.invariant.book;
-      run = subst HasRun (sym c.desk.view_is) c.keep_run.ensures;
+      run = subst HasRun (sym c.desk.view_is) c.keep_run.ensures.run;
       answer = record { allowed = left.allowed; tray = left.tray };
     })
 
@@ -29,6 +29,6 @@ returns-in_err-receipt-clause-refused g c =
     rw (p.1, p.2, ← c.self.view_is) (λ room. record {
       book = c.desk.inside.book;
       ground = c.desk.invariant.book;
-      run = subst HasRun (sym c.desk.view_is) c.keep_run.ensures;
+      run = subst HasRun (sym c.desk.view_is) c.keep_run.ensures.run;
       answer = c.in_err-receipt.ensures.event.why;
     })
