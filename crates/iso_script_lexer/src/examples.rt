@@ -23,9 +23,9 @@ pub fn gaps_stand_between_tokens()
 /// The position of a token is that of its first byte: after a carriage return alone the line goes on, in a
 /// comment braces and quotes are none, and the next line begins at column 1.
 pub fn tokens_have_positions()
-    ensures { Has "{\r// {}\t\"\r\n\t\ta1 = \"b c\";\r\n  7{d"
+    ensures { Has "{\r// {}\t\"\r\n\t\ta1 = \"b c\";\r\n  7}d"
         (symbol_at (at 1 1) OpenBrace ∷ name_at 2 3 "a1" ∷ symbol_at (at 2 6) Equals ∷ text_at 2 8 "b c"
-        ∷ symbol_at (at 2 13) Semicolon ∷ number_at 3 3 7 ∷ symbol_at (at 3 4) OpenBrace ∷ name_at 3 5 "d" ∷ []) }
+        ∷ symbol_at (at 2 13) Semicolon ∷ number_at 3 3 7 ∷ symbol_at (at 3 4) CloseBrace ∷ name_at 3 5 "d" ∷ []) }
 {}
 
 /// A name goes on as far as it can, and is one only if it is no reserved word.

@@ -8,4 +8,4 @@ use Rattle.iso_script_lexer.proofs.examples.tokens_have_positions.Goals as goal
 
 pub returns : goal.returns
 unfolding pieces_of pieces gap_from front_of symbol_front quoted_length text_fault decoded word_of
-returns c = pieces_of-HasPieces _ (codes "{\r// {}\t\"\r\n\t\ta1 = \"b c\";\r\n  7{d")
+returns c = pieces_of-HasPieces _ (codes "{\r// {}\t\"\r\n\t\ta1 = \"b c\";\r\n  7}d")
