@@ -24,12 +24,13 @@ use Rattle.iso_script.proofs.Marks.{one_marks}
 use Rattle.iso_script.proofs.Variables.{one_variables}
 use Rattle.iso_script.specs.Grammar.{title, name_of, IsTest, a_test, IsMember, as_test, as_class, IsClass, a_class, HasMembers}
 use Rattle.iso_script.proofs.Unique.{same_symbol, not_one_word, told_test, told_class}
+use Rattle.iso_script_lexer.specs.declared.token.Position.{Position}
 
 -- a word that is next stands in front
-pub word_in_front : (w : Word) (ps : List Piece) → true ≡ is_some (after_word w ps) → (r : ℕ) × (ps ≡ word_at r w ∷ tail ps)
+pub word_in_front : (w : Word) (ps : List Piece) → true ≡ is_some (after_word w ps) → (r : Position) × (ps ≡ word_at r w ∷ tail ps)
 word_in_front w ps h = go (after_word w ps) refl h
   where
-    go : (o : Option (List Piece)) → after_word w ps ≡ o → true ≡ is_some o → (r : ℕ) × (ps ≡ word_at r w ∷ tail ps)
+    go : (o : Option (List Piece)) → after_word w ps ≡ o → true ≡ is_some o → (r : Position) × (ps ≡ word_at r w ∷ tail ps)
     go (Some rest) e h = let a = after_word-Some w ps rest e in (a.0, a.1 ∙ ap (λ qs. word_at a.0 w ∷ qs) (sym (ap tail a.1)))
     go None e h = cc
 
@@ -43,11 +44,11 @@ may_no_test true true h e f = cc
 may_no_test true false h e f = cc
 may_no_test false b h e f = cc
 
-pub no_test : (fits : Bool) (ps : List Piece) → false ≡ (fits && is_some (after_word W.Test ps)) → (r : ℕ) (qs : List Piece) → fits ≡ true → ps ≡ word_at r W.Test ∷ qs → ⊥
+pub no_test : (fits : Bool) (ps : List Piece) → false ≡ (fits && is_some (after_word W.Test ps)) → (r : Position) (qs : List Piece) → fits ≡ true → ps ≡ word_at r W.Test ∷ qs → ⊥
 no_test fits ps h r qs fit is = may_no_test fits (is_some (after_word W.Test ps)) h fit (ap (λ xs. is_some (after_word W.Test xs)) is ∙ ap is_some (after_word-word_at r W.Test qs))
 
 -- a word and a name that are next stand in front
-pub named_in_front : (w : Word) (n : List ℕ) (old ps rest : List Piece) → true ≡ is_some (after_word w old) → ps ≡ tail old → name_next ps ≡ Some (n, rest) → (r : ℕ) × (q : ℕ) × (old ≡ word_at r w ∷ name_at q n ∷ rest)
+pub named_in_front : (w : Word) (n : List ℕ) (old ps rest : List Piece) → true ≡ is_some (after_word w old) → ps ≡ tail old → name_next ps ≡ Some (n, rest) → (r : Position) × (q : Position) × (old ≡ word_at r w ∷ name_at q n ∷ rest)
 named_in_front w n old ps rest word ahead name =
     let a = word_in_front w old word in
     let b = name_is n ps rest name in
@@ -69,7 +70,7 @@ pub record Inside (d : ℕ) (taken : List (List ℕ)) (ps rest : List Piece) : T
   pub members_read : HasMembers d (V.names_of variables ++ taken) members after_blocks rest
 
 -- where the opening brace of a class stands
-brace_next : {d : ℕ} {taken : List (List ℕ)} {marks : Marks} {n : List ℕ} {c : Class} {display : Option (List ℕ)} {ps mid rest : List Piece} → IsDisplayed display ps mid → IsClass d taken marks n c ps rest → (b : ℕ) × (qs : List Piece) × (mid ≡ symbol_at b OpenBrace ∷ qs) × Inside d taken qs rest
+brace_next : {d : ℕ} {taken : List (List ℕ)} {marks : Marks} {n : List ℕ} {c : Class} {display : Option (List ℕ)} {ps mid rest : List Piece} → IsDisplayed display ps mid → IsClass d taken marks n c ps rest → (b : Position) × (qs : List Piece) × (mid ≡ symbol_at b OpenBrace ∷ qs) × Inside d taken qs rest
 brace_next h (a_class {b = b} {variables = variables} {blocks = blocks} {ms = ms} {qs = qs} {rs = rs} {ss = ss} i k l m) = (
   b,
   qs,
@@ -147,7 +148,7 @@ test_next {mid = mid} h word ahead (as_class {r = r} {q = q} {n = n} {qs = qs} i
     let s = word_in_front W.Test mid word in
     absurd (not_one_word (front_word (sym s.1 ∙ u.1)))
   where
-    front_word : {r q : ℕ} {w v : Word} {ps qs : List Piece} → word_at r w ∷ ps ≡ word_at q v ∷ qs → w ≡ v
+    front_word : {r q : Position} {w v : Word} {ps qs : List Piece} → word_at r w ∷ ps ≡ word_at q v ∷ qs → w ≡ v
     front_word h = cc
 
 pub is_nested : {d more : ℕ} {taken : List (List ℕ)} {marks : Marks} {n : List ℕ} {c : Class} {old mid ps qs rest : List Piece} → IsMarks marks old mid → d ≡ suc more → after_word W.Class mid ≡ Some ps → name_next ps ≡ Some (n, qs)
@@ -171,7 +172,7 @@ pub record ClassNext (d : ℕ) (taken : List (List ℕ)) (marks : Marks) (m : Me
   pub called : name_of m ≡ name
 
 -- What comes after the marks of a member is a class where no test can be: the marks fit none, or no test is next.
-pub class_next : {d : ℕ} {taken : List (List ℕ)} {marks : Marks} {m : Member} {old mid rest : List Piece} → IsMarks marks old mid → ((r : ℕ) (ps : List Piece) → fits_test marks ≡ true → mid ≡ word_at r W.Test ∷ ps → ⊥) → IsMember d taken m old rest → ClassNext d taken marks m mid rest
+pub class_next : {d : ℕ} {taken : List (List ℕ)} {marks : Marks} {m : Member} {old mid rest : List Piece} → IsMarks marks old mid → ((r : Position) (ps : List Piece) → fits_test marks ≡ true → mid ≡ word_at r W.Test ∷ ps → ⊥) → IsMember d taken m old rest → ClassNext d taken marks m mid rest
 class_next {marks = marks} h no_test (as_test {r = r} {q = q} {marks = others} {n = n} {qs = qs} i fit k) =
     let u = one_marks _ _ _ _ _ h i in
     absurd (no_test r (name_at q n ∷ qs) (ap fits_test u.0 ∙ fit) u.1)

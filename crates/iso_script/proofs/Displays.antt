@@ -2,6 +2,7 @@
 use Rattle.std.proofs.Common.{◌≡◌, ℕ, List, Option, None, Some, refl, ap, subst, sym}
 use Rattle.iso_script_lexer.specs.Piece.{Piece, tail}
 use Rattle.iso_script_lexer.specs.Tokens.{front}
+use Rattle.iso_script_lexer.specs.declared.token.Position.{Position}
 use Rattle.iso_script_lexer.specs.declared.token.Token.{Token}
 use Rattle.iso_script_lexer.specs.declared.token.Token.TheVariants as T
 use Rattle.iso_script_statements.specs.Pieces.{text_next}
@@ -18,7 +19,7 @@ one_display (none_displayed h) (displayed k) = absurd (some_text h k)
 one_display (displayed h) (none_displayed k) = absurd (some_text k h)
 one_display (displayed h) (displayed k) = let u = U.one_display h k in (ap Some u.0, u.1)
 
-pub not_displayed : (r : ℕ) (t : Token) (old : List Piece) → old ≡ front r t (tail old) → ((text : _) → t ≡ T.Text text → ⊥) → IsDisplayed None old old
+pub not_displayed : (r : Position) (t : Token) (old : List Piece) → old ≡ front r t (tail old) → ((text : _) → t ≡ T.Text text → ⊥) → IsDisplayed None old old
 not_displayed r t old is not_text = none_displayed (subst (λ ps. text_next ps ≡ None) (sym is) (go t not_text))
   where
     go : (t : Token) → ((text : _) → t ≡ T.Text text → ⊥) → text_next (front r t (tail old)) ≡ None

@@ -11,8 +11,9 @@ use Rattle.iso_model.specs.declared.limits.TheConstants.{FILE_BYTES}
 use Rattle.iso_model.specs.declared.place.Lifecycle.{Lifecycle}
 use Rattle.iso_model.specs.declared.place.Lifecycle.TheVariants.{BeforeAll, AfterAll, BeforeEach, AfterEach}
 use Rattle.iso_script_lexer.specs.Piece.{Piece, name_at, number_at, text_at, word_at, symbol_at}
-use Rattle.iso_script_lexer.specs.Lexical.{HasPieces}
+use Rattle.iso_script_lexer.specs.Lexical.{ArePiecesOf}
 use Rattle.iso_script_lexer.specs.Scan.{pieces_of}
+use Rattle.iso_script_lexer.specs.Positions.{first_line}
 use Rattle.iso_script_lexer.proofs.Pieces.{pieces_of-HasPieces}
 use Rattle.iso_script_lexer.specs.declared.symbol.Symbol.TheVariants.{OpenBrace, CloseBrace, Semicolon, Equals}
 use Rattle.iso_script_lexer.specs.declared.word.Word.{Word}
@@ -30,15 +31,16 @@ use Rattle.iso_script.specs.Readings.{AreRead}
 use Rattle.iso_script.specs.Variables as V
 use Rattle.iso_script.specs.Variables.{variable_word, variable_next, a_variable, Variables, static_in, field_in, IsVariables}
 use Rattle.iso_script.specs.declared.variable.VariableWord.{VariableWord}
+use Rattle.iso_script_lexer.specs.declared.token.Position.{Position}
 
 -- bytes whose pieces are those of a script
-pub are_read : {bytes n : List ℕ} {cs : List Class} {r q : ℕ} {ps : List Piece} → nat_le (length bytes) FILE_BYTES ≡ true
-    → pieces_of 1 bytes ≡ word_at r W.Team ∷ name_at q n ∷ ps → AreRead IsTopClass cs ps [] → Reads bytes (record { team = n; classes = cs })
+pub are_read : {bytes n : List ℕ} {cs : List Class} {r q : Position} {ps : List Piece} → nat_le (length bytes) FILE_BYTES ≡ true
+    → pieces_of (first_line bytes) bytes ≡ word_at r W.Team ∷ name_at q n ∷ ps → AreRead IsTopClass cs ps [] → Reads bytes (record { team = n; classes = cs })
 are_read {bytes = bytes} {n = n} {cs = cs} {r = r} {q = q} {ps = ps} few is read =
     record {
       short = grind (arith, nat_tests, few);
       pieces = word_at r W.Team ∷ name_at q n ∷ ps;
-      spelled = subst (HasPieces 1 bytes) is (pieces_of-HasPieces 1 bytes);
+      spelled = subst (ArePiecesOf bytes) is (pieces_of-HasPieces _ bytes);
       read = a_script read;
     }
 
@@ -66,22 +68,22 @@ pub some_member : {m : Member} {ms : Members} → member m ms ≢ no_members
 some_member e = cc
 
 -- a test in which nothing else is written, and an empty one
-pub a_plain_test : {d r q : ℕ} {taken : List (List ℕ)} {n : List ℕ} {body : Acts} {ps rs : List Piece} → text_next ps ≡ None → IsBlock body ps rs
+pub a_plain_test : {d : ℕ} {r q : Position} {taken : List (List ℕ)} {n : List ℕ} {body : Acts} {ps rs : List Piece} → text_next ps ≡ None → IsBlock body ps rs
     → IsMember d taken (test_member (test unmarked n None body)) (word_at r W.Test ∷ name_at q n ∷ ps) rs
 a_plain_test end block = as_test (no_marks refl) refl (a_test (none_displayed end) block)
 
-pub an_empty_test : {d r q b e : ℕ} {taken : List (List ℕ)} {n : List ℕ} {ps : List Piece}
+pub an_empty_test : {d : ℕ} {r q b e : Position} {taken : List (List ℕ)} {n : List ℕ} {ps : List Piece}
     → IsMember d taken (test_member (test unmarked n None no_acts)) (word_at r W.Test ∷ name_at q n ∷ symbol_at b OpenBrace ∷ symbol_at e CloseBrace ∷ ps) ps
 an_empty_test = a_plain_test refl (a_block (a_body closed))
 
 -- the only member of a class
-pub alone : {d e : ℕ} {taken : List (List ℕ)} {m : Member} {ps qs : List Piece} → IsMember d taken m ps (symbol_at e CloseBrace ∷ qs)
+pub alone : {d : ℕ} {e : Position} {taken : List (List ℕ)} {m : Member} {ps qs : List Piece} → IsMember d taken m ps (symbol_at e CloseBrace ∷ qs)
     → HasMembers d taken (member m no_members) ps qs
 unfolding IsDistinct
 alone h = has_members (G.and_then h G.closed) some_member (tt, tt)
 
 -- a class without marks, display text and lifecycle blocks
-pub a_plain_class : {d r q b : ℕ} {taken : List (List ℕ)} {n : List ℕ} {variables : Variables} {ms : Members} {ps qs rs : List Piece}
+pub a_plain_class : {d : ℕ} {r q b : Position} {taken : List (List ℕ)} {n : List ℕ} {variables : Variables} {ms : Members} {ps qs rs : List Piece}
     → IsVariables taken variables ps qs → block_next qs ≡ None → HasMembers d (V.names_of variables ++ taken) ms qs rs
     → IsMember (suc d) taken (class_member (class (title unmarked n None variables none_written) ms))
     (word_at r W.Class ∷ name_at q n ∷ symbol_at b OpenBrace ∷ ps) rs
@@ -91,7 +93,7 @@ a_plain_class variables end members = as_class (no_marks refl) (a_class (none_di
 abbrev only : VariableWord → Variable → Variables
 only word x = record { statics = filter_map static_in (record { word = word; variable = x } ∷ []); fields = filter_map field_in (record { word = word; variable = x } ∷ []) }
 
-pub a_number_alone : {r q p v e n : ℕ} {w : Word} {word : VariableWord} {x : List ℕ} {ps : List Piece} → variable_word w ≡ Some word → nat_lt n (2 ^ 63) ≡ true
+pub a_number_alone : {r q p v e : Position} {n : ℕ} {w : Word} {word : VariableWord} {x : List ℕ} {ps : List Piece} → variable_word w ≡ Some word → nat_lt n (2 ^ 63) ≡ true
     → variable_next ps ≡ None
     → IsVariables [] (only word (record { name = x; value = Whole (pos n) }))
     (word_at r w ∷ name_at q x ∷ symbol_at p Equals ∷ number_at v n ∷ symbol_at e Semicolon ∷ ps) ps
@@ -108,8 +110,8 @@ a_number_alone {n = n} {word = word} {x = x} is small end =
     }
 
 -- a block that fails
-pub fails : {r q v s e : ℕ} {t : List ℕ} {ps : List Piece}
-    → IsBlock (act (q - (r - 1)) (plain (fail t)) no_acts)
+pub fails : {r q v s e : Position} {t : List ℕ} {ps : List Piece}
+    → IsBlock (act (q.line - (r.line - 1)) (plain (fail t)) no_acts)
     (symbol_at r OpenBrace ∷ word_at q W.Fail ∷ text_at v t ∷ symbol_at s Semicolon ∷ symbol_at e CloseBrace ∷ ps) ps
 fails = a_block (a_body (S.and_then (a_simple refl a_fail) closed))
 

@@ -18,8 +18,9 @@ use Rattle.iso_script.specs.Readings.{AreRead}
 use Rattle.iso_script.specs.declared.mark.MarkWord.{MarkWord}
 use Rattle.iso_script.specs.declared.mark.MarkWord.TheVariants.{Access}
 use Rattle.iso_script.proofs.Readings.{meant_word, goes_on, one_reading, gives_more}
+use Rattle.iso_script_lexer.specs.declared.token.Position.{Position}
 
-pub is_key_text : (q : ℕ) (k t : List ℕ) (old new : List Piece) → k ≡ t → old ≡ text_at q t ∷ tail old → new ≡ tail old → key_fault k ≡ None → IsKeyText k old new
+pub is_key_text : (q : Position) (k t : List ℕ) (old new : List Piece) → k ≡ t → old ≡ text_at q t ∷ tail old → new ≡ tail old → key_fault k ≡ None → IsKeyText k old new
 is_key_text q k t old new same is ahead key =
     subst (λ ps. IsKeyText k ps new) (sym (is ∙ ap (λ u. text_at q u ∷ tail old) (sym same))) (subst (λ ps. IsKeyText k (text_at q k ∷ tail old) ps) (sym ahead) (a_key key))
 
@@ -36,7 +37,7 @@ is_of_children old new word =
 pub is_of_itself : (old new : List Piece) → after_word W.Children old ≡ None → new ≡ old → IsTarget Itself old new
 is_of_itself old new none same = subst (IsTarget Itself old) (sym same) (of_itself none)
 
-no_children : (r : ℕ) (ps : List Piece) → after_word W.Children (word_at r W.Children ∷ ps) ≡ None → ⊥
+no_children : (r : Position) (ps : List Piece) → after_word W.Children (word_at r W.Children ∷ ps) ≡ None → ⊥
 no_children r ps none = let e : None ≡ Some ps = sym none ∙ after_word-word_at r W.Children ps in cc
 
 one_target : {t u : Target} {ps qs rs : List Piece} → IsTarget t ps qs → IsTarget u ps rs → (t ≡ u) × (qs ≡ rs)

@@ -14,6 +14,7 @@ use Rattle.iso_script.proofs.Distinct.{is_among-before}
 use Rattle.iso_script.proofs.Readings.{goes_on}
 use Rattle.iso_script.specs.Grammar.{name_of, names_of, IsMember, HasMembers, has_members, IsMembers, closed, and_then, IsNewMember}
 use Rattle.iso_script.proofs.Unique.{no_member, one_member}
+use Rattle.iso_script_lexer.specs.declared.token.Position.{Position}
 
 -- the members, as a list
 abbrev pub list_of : Members → List Member
@@ -56,7 +57,7 @@ all_read d taken [] first here rest h brace =
     subst (λ ps. IsMembers d taken no_members ps rest) (sym (h ∙ s.1)) closed
 all_read d taken (m ∷ ms) first here rest h brace = and_then h.1 (all_read d taken ms h.0 here rest h.2 brace)
 
-as_read : {d : ℕ} {taken : List (List ℕ)} {ms : Members} {ps rest : List Piece} → IsMembers d taken ms ps rest → (r : ℕ) × AreRead (IsMember d taken) (list_of ms) ps (symbol_at r CloseBrace ∷ rest)
+as_read : {d : ℕ} {taken : List (List ℕ)} {ms : Members} {ps rest : List Piece} → IsMembers d taken ms ps rest → (r : Position) × AreRead (IsMember d taken) (list_of ms) ps (symbol_at r CloseBrace ∷ rest)
 as_read (closed {r = r}) = (r, refl)
 as_read (and_then {qs = qs} h k) = let p = as_read k in (p.0, (qs, h, p.1))
 
@@ -74,11 +75,11 @@ next_member d taken ms first here read unended all rest (has_members h some dist
     (g.0, g.2, (g.4, is_among-before (map name_of ms) (map name_of g.1) (name_of g.0) (subst (IsDistinct bytes_eq) names distinct)))
 
 -- a class that is closed before its first member has none
-pub empty_refused : (d r : ℕ) (taken : List (List ℕ)) (ms : List Member) (first here rest : List Piece) → AreRead (IsMember d taken) ms first here → ms ≡ [] → here ≡ symbol_at r CloseBrace ∷ rest → (all : Members) (end : List Piece) → HasMembers d taken all first end → ⊥
+pub empty_refused : (d : ℕ) (r : Position) (taken : List (List ℕ)) (ms : List Member) (first here rest : List Piece) → AreRead (IsMember d taken) ms first here → ms ≡ [] → here ≡ symbol_at r CloseBrace ∷ rest → (all : Members) (end : List Piece) → HasMembers d taken all first end → ⊥
 empty_refused d r taken ms first here rest read none is all end h =
     let same : first ≡ here = subst (λ ms. AreRead (IsMember d taken) ms first here) none read in
     closes (subst (λ ps. HasMembers d taken all ps end) (same ∙ is) h)
   where
-    closes : {d r : ℕ} {taken : List (List ℕ)} {all : Members} {ps end : List Piece} → HasMembers d taken all (symbol_at r CloseBrace ∷ ps) end → ⊥
+    closes : {d : ℕ} {r : Position} {taken : List (List ℕ)} {all : Members} {ps end : List Piece} → HasMembers d taken all (symbol_at r CloseBrace ∷ ps) end → ⊥
     closes (has_members closed some distinct) = some refl
     closes (has_members (and_then h k) some distinct) = no_member h

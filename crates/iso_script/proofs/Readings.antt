@@ -1,14 +1,15 @@
 -- Items that are read one after another, until none begins.
-use Rattle.std.proofs.Common.{◌≡◌, ◌≢◌, ℕ, List, [], ◌∷◌, ◌++◌, Option, Some, None, refl, ap, subst, ◌∙◌, sym}
+use Rattle.std.proofs.Common.{◌≡◌, ◌≢◌, List, [], ◌∷◌, ◌++◌, Option, Some, None, refl, ap, subst, ◌∙◌, sym}
 use Rattle.std.proofs.lemmas.List.Elements.{filter_map-append}
 use Rattle.std.specs.List.{filter_map, cons_option}
 use Rattle.std.specs.Option.{option_to_list}
 use Rattle.iso_script_lexer.specs.Piece.{Piece, name_at, number_at, text_at, word_at, symbol_at, bad_at, tail}
 use Rattle.iso_script_lexer.specs.declared.word.Word.{Word}
 use Rattle.iso_script.specs.Readings.{AreRead, meant_next}
+use Rattle.iso_script_lexer.specs.declared.token.Position.{Position}
 
 -- a word that is next and means this stands in front
-pub meant_word : {A : Type 0} (meaning : Word → Option A) (x : A) (ps : List Piece) → meant_next meaning ps ≡ Some x → (r : ℕ) × (w : Word) × (ps ≡ word_at r w ∷ tail ps) × (meaning w ≡ Some x)
+pub meant_word : {A : Type 0} (meaning : Word → Option A) (x : A) (ps : List Piece) → meant_next meaning ps ≡ Some x → (r : Position) × (w : Word) × (ps ≡ word_at r w ∷ tail ps) × (meaning w ≡ Some x)
 meant_word meaning x (word_at r w ∷ ps) h = (r, w, refl, h)
 meant_word meaning x (name_at r n ∷ ps) h = cc
 meant_word meaning x (number_at r n ∷ ps) h = cc

@@ -4,7 +4,7 @@ use Rattle.std.proofs.lemmas.Option.{some_pair_parts}
 use Rattle.iso_script_lexer.proofs.Afters.{after_word-word_at}
 use Rattle.iso_model.specs.ScriptView.{script_of}
 use Rattle.iso_model.specs.declared.script.Script as D
-use Rattle.iso_script_lexer.specs.Lexical.{HasPieces}
+use Rattle.iso_script_lexer.specs.Lexical.{ArePiecesOf}
 use Rattle.iso_script_lexer.proofs.Pieces.{one_list}
 use Rattle.iso_model.specs.declared.limits.TheConstants.{FILE_BYTES}
 use Rattle.iso_script_statements.specs.Faults.{IsMemory, IsFaultOf, IsUnexpected}
@@ -84,7 +84,7 @@ of_rest (Fault fault) n ps {qs} {rs} some name = record {
 }
 
 -- the fault of bytes is that of their pieces, or that they are too many
-pub has_fault : (r : Result D.Script ScriptError) (bytes : List ℕ) (ps : List Piece) → length bytes ≤ FILE_BYTES → HasPieces 1 bytes ps
+pub has_fault : (r : Result D.Script ScriptError) (bytes : List ℕ) (ps : List Piece) → length bytes ≤ FILE_BYTES → ArePiecesOf bytes ps
     → MatchResult r (λ s. IsScript (script_of s) ps) (λ e. (s : Script) → IsScript s ps → IsMemory e)
     → IfErr r (UnlessMemory (λ fault. IsOfBeginning ps fault.kind)) → IfErr r (UnlessMemory (HasScriptFault bytes))
 has_fault (Ok x) bytes ps short spelled h k = tt

@@ -19,23 +19,24 @@ use Rattle.iso_script.proofs.Variables.{one_variables}
 use Rattle.iso_script_statements.specs.Statements.{IsBlock}
 use Rattle.iso_script_statements.proofs.Unique.{one_block}
 use Rattle.iso_script.specs.Grammar.{test, title, IsTest, a_test, IsMember, as_test, as_class, IsClass, a_class, HasMembers, has_members, IsMembers, closed, and_then, IsTopClass, IsScript, a_script, Reads}
+use Rattle.iso_script_lexer.specs.declared.token.Position.{Position}
 
 -- a member begins with a word
-no_mark : {r : ℕ} {s : Symbol} {x : Marking} {ps qs : List Piece} → IsMarking x (symbol_at r s ∷ ps) qs → ⊥
+no_mark : {r : Position} {s : Symbol} {x : Marking} {ps qs : List Piece} → IsMarking x (symbol_at r s ∷ ps) qs → ⊥
 no_mark h = elim h [ ]
 
 no_mark_left : {x : Marking} {qs : List Piece} → IsMarking x [] qs → ⊥
 no_mark_left h = elim h [ ]
 
-none_marked : (r q : ℕ) (s : Symbol) (w : Word) (ps qs : List Piece) (xs : List Marking) → AreRead IsMarking xs (symbol_at r s ∷ ps) (word_at q w ∷ qs) → ⊥
+none_marked : (r q : Position) (s : Symbol) (w : Word) (ps qs : List Piece) (xs : List Marking) → AreRead IsMarking xs (symbol_at r s ∷ ps) (word_at q w ∷ qs) → ⊥
 none_marked r q s w ps qs [] h = cc
 none_marked r q s w ps qs (x ∷ xs) h = no_mark h.1
 
-none_marked_left : (q : ℕ) (w : Word) (qs : List Piece) (xs : List Marking) → AreRead IsMarking xs [] (word_at q w ∷ qs) → ⊥
+none_marked_left : (q : Position) (w : Word) (qs : List Piece) (xs : List Marking) → AreRead IsMarking xs [] (word_at q w ∷ qs) → ⊥
 none_marked_left q w qs [] h = cc
 none_marked_left q w qs (x ∷ xs) h = no_mark_left h.1
 
-pub no_member : {d r : ℕ} {taken : List (List ℕ)} {s : Symbol} {m : Member} {ps qs : List Piece} → IsMember d taken m (symbol_at r s ∷ ps) qs → ⊥
+pub no_member : {d : ℕ} {r : Position} {taken : List (List ℕ)} {s : Symbol} {m : Member} {ps qs : List Piece} → IsMember d taken m (symbol_at r s ∷ ps) qs → ⊥
 no_member {r = r} {s = s} {ps = ps} (as_test {r = q} {q = l} {n = n} {qs = qs} h fit k) = none_marked r q s W.Test ps (name_at l n ∷ qs) h.written h.read
 no_member {r = r} {s = s} {ps = ps} (as_class {r = q} {q = l} {n = n} {qs = qs} h k) = none_marked r q s W.Class ps (name_at l n ∷ qs) h.written h.read
 
@@ -44,10 +45,10 @@ no_member_left (as_test {r = q} {q = l} {n = n} {qs = qs} h fit k) = none_marked
 no_member_left (as_class {r = q} {q = l} {n = n} {qs = qs} h k) = none_marked_left q W.Class (name_at l n ∷ qs) h.written h.read
 
 -- what stands in front is the same
-pub same_named : {r q s p : ℕ} {w v : Word} {n k : List ℕ} {ps qs : List Piece} → word_at r w ∷ name_at q n ∷ ps ≡ word_at s v ∷ name_at p k ∷ qs → (w ≡ v) × (n ≡ k) × (ps ≡ qs)
+pub same_named : {r q s p : Position} {w v : Word} {n k : List ℕ} {ps qs : List Piece} → word_at r w ∷ name_at q n ∷ ps ≡ word_at s v ∷ name_at p k ∷ qs → (w ≡ v) × (n ≡ k) × (ps ≡ qs)
 same_named h = (cc, cc, cc)
 
-pub same_symbol : {r s : ℕ} {x y : Symbol} {ps qs : List Piece} → symbol_at r x ∷ ps ≡ symbol_at s y ∷ qs → ps ≡ qs
+pub same_symbol : {r s : Position} {x y : Symbol} {ps qs : List Piece} → symbol_at r x ∷ ps ≡ symbol_at s y ∷ qs → ps ≡ qs
 same_symbol h = cc
 
 pub not_one_word : W.Test ≡ W.Class → ⊥
@@ -127,4 +128,4 @@ one_script (a_script {n = n} {cs = cs} {ps = ps} h) (a_script {cs = bs} k) =
     ap (λ cs. record { team = n; classes = cs }) u.0
 
 pub one_reading : PiecesAreUnique → (bytes : List ℕ) (s t : Script) → Reads bytes s → Reads bytes t → s ≡ t
-one_reading unique bytes s t a b = one_script a.read (subst (IsScript t) (sym (unique 1 bytes a.pieces b.pieces a.spelled b.spelled)) b.read)
+one_reading unique bytes s t a b = one_script a.read (subst (IsScript t) (sym (unique _ bytes a.pieces b.pieces a.spelled b.spelled)) b.read)

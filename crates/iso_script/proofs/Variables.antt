@@ -25,6 +25,7 @@ use Rattle.iso_script.specs.declared.variable.VariableWord.{VariableWord}
 use Rattle.iso_script.specs.declared.variable.VariableWord.TheVariants.{Static, Field}
 use Rattle.iso_script.proofs.Distinct.{all_at, all_push, is_among-before, IsDistinct-none, IsDistinct-push}
 use Rattle.iso_script.proofs.Readings.{meant_word, goes_on, one_reading, gives_more}
+use Rattle.iso_script_lexer.specs.declared.token.Position.{Position}
 
 -- a static or field, from its parts
 pub is_declared : (word : VariableWord) (n m : List ℕ) (x : Data) (old ps qs rs ss new : List Piece) → m ≡ n → variable_next old ≡ Some word → ps ≡ tail old → name_next ps ≡ Some (n, qs) → after Equals qs ≡ Some rs → IsLiteral x rs ss → after Semicolon ss ≡ Some new
@@ -40,12 +41,12 @@ is_declared word n m x old ps qs rs ss new same next ahead name equals literal s
 
 -- what a static or field is made of, after its word
 pub declared_parts : {d : Declared} {old rest : List Piece} (word : VariableWord) → variable_next old ≡ Some word → IsDeclared d old rest
-    → (p s : ℕ) × (ps : List Piece) × (name_next (tail old) ≡ Some (d.variable.name, symbol_at p Equals ∷ ps)) × (d.word ≡ word) × IsLiteral d.variable.value ps (symbol_at s Semicolon ∷ rest)
+    → (p s : Position) × (ps : List Piece) × (name_next (tail old) ≡ Some (d.variable.name, symbol_at p Equals ∷ ps)) × (d.word ≡ word) × IsLiteral d.variable.value ps (symbol_at s Semicolon ∷ rest)
 declared_parts word next (a_variable {p = p} {s = s} {meant = m} {ps = ps} is literal) = let same : Some m ≡ Some word = sym is ∙ next in (p, s, ps, refl, cc, literal)
 
 -- where an equals sign stands, after the name
 pub equals_next : (n : List ℕ) (ps qs : List Piece) (word : VariableWord) (d : Declared) (old rest : List Piece) → ps ≡ tail old → name_next ps ≡ Some (n, qs) → variable_next old ≡ Some word → IsDeclared d old rest
-    → (rs : List Piece) × (s : ℕ) × (after Equals qs ≡ Some rs) × IsLiteral d.variable.value rs (symbol_at s Semicolon ∷ rest)
+    → (rs : List Piece) × (s : Position) × (after Equals qs ≡ Some rs) × IsLiteral d.variable.value rs (symbol_at s Semicolon ∷ rest)
 equals_next n ps qs word d old rest ahead name next h =
     let p = declared_parts word next h in
     let same = some_pair_parts n d.variable.name qs (symbol_at p.0 Equals ∷ p.2) (sym name ∙ ap name_next ahead ∙ p.3) in
@@ -57,7 +58,7 @@ none_some x h = cc
 pub no_equals : (n : List ℕ) (ps qs : List Piece) (word : VariableWord) (d : Declared) (old rest : List Piece) → ps ≡ tail old → name_next ps ≡ Some (n, qs) → variable_next old ≡ Some word → after Equals qs ≡ None → IsDeclared d old rest → ⊥
 no_equals n ps qs word d old rest ahead name next none h = let e = equals_next n ps qs word d old rest ahead name next h in none_some e.0 (sym none ∙ e.2)
 
-pub literal_next : (n : List ℕ) (ps qs rs : List Piece) (word : VariableWord) (d : Declared) (old rest : List Piece) → ps ≡ tail old → name_next ps ≡ Some (n, qs) → variable_next old ≡ Some word → after Equals qs ≡ Some rs → IsDeclared d old rest → (s : ℕ) × IsLiteral d.variable.value rs (symbol_at s Semicolon ∷ rest)
+pub literal_next : (n : List ℕ) (ps qs rs : List Piece) (word : VariableWord) (d : Declared) (old rest : List Piece) → ps ≡ tail old → name_next ps ≡ Some (n, qs) → variable_next old ≡ Some word → after Equals qs ≡ Some rs → IsDeclared d old rest → (s : Position) × IsLiteral d.variable.value rs (symbol_at s Semicolon ∷ rest)
 literal_next n ps qs rs word d old rest ahead name next equals h =
     let e = equals_next n ps qs word d old rest ahead name next h in
     let same : Some e.0 ≡ Some rs = sym e.2 ∙ equals in

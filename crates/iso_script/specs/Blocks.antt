@@ -1,5 +1,5 @@
 -- The lifecycle blocks of a class, by rules. `IsX x ps qs` says that the pieces ps are those of x, and then the pieces qs.
-use Rattle.std.specs.Prelude.{ℕ, List, ◌∷◌, ◌≡◌, Bool, true, false, Option, Some, None, if◌then◌else◌}
+use Rattle.std.specs.Prelude.{List, ◌∷◌, ◌≡◌, Bool, true, false, Option, Some, None, if◌then◌else◌}
 use Rattle.std.specs.List.{filter_map}
 use Rattle.std.specs.Option.{option_to_list}
 use Rattle.iso_script_lexer.specs.Piece.{Piece, word_at}
@@ -14,6 +14,7 @@ use Rattle.std.specs.Global.{Global}
 use Rattle.iso_script_statements.specs.Statements.{IsBlock, body_of}
 use Rattle.iso_script.specs.Readings.{AreRead, meant_next}
 use Rattle.iso_script.specs.declared.block.Blocks as D
+use Rattle.iso_script_lexer.specs.declared.token.Position.{Position}
 
 -- what lifecycle block a word begins
 abbrev pub block_word : Word → Option Lifecycle
@@ -33,7 +34,7 @@ pub record Written : Type 0 where
   pub body : Acts
 
 pub data IsWritten : Written → List Piece → List Piece → Type 0 where
-  a_block : {r : ℕ} {w : Word} {k : Lifecycle} {body : Acts} {ps qs : List Piece}
+  a_block : {r : Position} {w : Word} {k : Lifecycle} {body : Acts} {ps qs : List Piece}
       → block_word w ≡ Some k → IsBlock body ps qs → IsWritten (record { kind = k; body = body }) (word_at r w ∷ ps) qs
 
 -- whether two kinds are one

@@ -3,7 +3,7 @@ use Rattle.std.specs.Prelude.{◌≡◌, ◌<◌, ◌≤◌, ℕ, List, None, So
 use Rattle.iso_model.specs.Scripts.{Script}
 use Rattle.iso_model.specs.declared.limits.TheConstants.{FILE_BYTES}
 use Rattle.iso_script.specs.Grammar.{Reads}
-use Rattle.iso_script_lexer.specs.Lexical.{HasPieces}
+use Rattle.iso_script_lexer.specs.Lexical.{ArePiecesOf}
 use Rattle.iso_script_lexer.specs.Piece.{Piece}
 use Rattle.iso_script_lexer.specs.Tokens.{after_word}
 use Rattle.iso_script_lexer.specs.declared.word.Word.TheVariants as W
@@ -28,7 +28,7 @@ pub record IsOfBeginning (ps : List Piece) (kind : ScriptFaultKind) : Type 0 whe
 pub record HasScriptFault (bytes : List ℕ) (fault : ScriptFault) : Type 0 where
   pub unread : (s : Script) → Reads bytes s → ⊥
   pub long : FILE_BYTES < length bytes → fault ≡ too_long
-  pub begins : (ps : List Piece) → length bytes ≤ FILE_BYTES → HasPieces 1 bytes ps → IsOfBeginning ps fault.kind
+  pub begins : (ps : List Piece) → length bytes ≤ FILE_BYTES → ArePiecesOf bytes ps → IsOfBeginning ps fault.kind
 
 -- memory ran out, or this holds of the fault
 abbrev pub UnlessMemory : (ScriptFault → Type 0) → ScriptError → Type 0

@@ -5,7 +5,7 @@ use Rattle.std.specs.Global.{Global}
 use Rattle.std.specs.Prelude.{ℕ, suc, ◌≤◌, List, [], ◌∷◌, ◌++◌, ◌≡◌, ◌≢◌, Option, Some, None, Vec, true, false, length, map}
 use Rattle.std.specs.List.{IsDistinct}
 use Rattle.std.specs.Str.{bytes_eq}
-use Rattle.iso_script_lexer.specs.Lexical.{HasPieces}
+use Rattle.iso_script_lexer.specs.Lexical.{ArePiecesOf}
 use Rattle.iso_script_lexer.specs.Piece.{Piece, name_at, word_at, symbol_at}
 use Rattle.iso_script_lexer.specs.declared.symbol.Symbol.TheVariants.{OpenBrace, CloseBrace}
 use Rattle.iso_script_lexer.specs.declared.word.Word.TheVariants as W
@@ -25,6 +25,7 @@ use Rattle.iso_script.specs.Marks.{Marks, IsMarks, fits_test}
 use Rattle.iso_script.specs.Readings.{AreRead}
 use Rattle.iso_script.specs.Variables.{Variables, IsVariables}
 use Rattle.iso_script.specs.Variables as V
+use Rattle.iso_script_lexer.specs.declared.token.Position.{Position}
 
 -- a test, from its marks, its name, its display text and its body
 abbrev pub test : Marks → List ℕ → Option (List ℕ) → Acts → Test
@@ -78,17 +79,17 @@ names_of (member m ms) = name_of m ∷ names_of ms
 mutual
   -- A test or a class: marks, its word, its name, and what follows. The marks of a test have to fit one.
   pub data IsMember : (d : ℕ) (taken : List (List ℕ)) → Member → List Piece → List Piece → Type 0 where
-    as_test : {d r q : ℕ} {taken : List (List ℕ)} {marks : Marks} {n : List ℕ} {t : Test} {ps qs rs : List Piece}
+    as_test : {d : ℕ} {r q : Position} {taken : List (List ℕ)} {marks : Marks} {n : List ℕ} {t : Test} {ps qs rs : List Piece}
         → IsMarks marks ps (word_at r W.Test ∷ name_at q n ∷ qs) → fits_test marks ≡ true → IsTest marks n t qs rs
         → IsMember d taken (test_member t) ps rs
-    as_class : {d r q : ℕ} {taken : List (List ℕ)} {marks : Marks} {n : List ℕ} {c : Class} {ps qs rs : List Piece}
+    as_class : {d : ℕ} {r q : Position} {taken : List (List ℕ)} {marks : Marks} {n : List ℕ} {c : Class} {ps qs rs : List Piece}
         → IsMarks marks ps (word_at r W.Class ∷ name_at q n ∷ qs) → IsClass d taken marks n c qs rs
         → IsMember (suc d) taken (class_member c) ps rs
 
   -- A class after its name. A class in it can take no name of its statics and fields.
   pub data IsClass : (d : ℕ) (taken : List (List ℕ)) (marks : Marks) (n : List ℕ)
       → Class → List Piece → List Piece → Type 0 where
-    a_class : {d b : ℕ} {taken : List (List ℕ)} {marks : Marks} {n : List ℕ}
+    a_class : {d : ℕ} {b : Position} {taken : List (List ℕ)} {marks : Marks} {n : List ℕ}
         {display : Option (List ℕ)} {variables : Variables} {blocks : Blocks} {ms : Members}
         {ps qs rs ss ts : List Piece}
         → IsDisplayed display ps (symbol_at b OpenBrace ∷ qs)
@@ -104,7 +105,7 @@ mutual
 
   -- any members, and the brace that closes them
   pub data IsMembers : (d : ℕ) (taken : List (List ℕ)) → Members → List Piece → List Piece → Type 0 where
-    closed : {d r : ℕ} {taken : List (List ℕ)} {ps : List Piece} → IsMembers d taken no_members (symbol_at r CloseBrace ∷ ps) ps
+    closed : {d : ℕ} {r : Position} {taken : List (List ℕ)} {ps : List Piece} → IsMembers d taken no_members (symbol_at r CloseBrace ∷ ps) ps
     and_then : {d : ℕ} {taken : List (List ℕ)} {m : Member} {ms : Members} {ps qs rs : List Piece}
         → IsMember d taken m ps qs → IsMembers d taken ms qs rs → IsMembers d taken (member m ms) ps rs
 
@@ -122,12 +123,12 @@ IsTopClass c = IsMember CLASS_DEPTH [] (class_member c)
 
 -- a script: a team and its classes, up to the end
 pub data IsScript : Script → List Piece → Type 0 where
-  a_script : {r q : ℕ} {n : List ℕ} {cs : List Class} {ps : List Piece}
+  a_script : {r q : Position} {n : List ℕ} {cs : List Class} {ps : List Piece}
       → AreRead IsTopClass cs ps [] → IsScript (record { team = n; classes = cs }) (word_at r W.Team ∷ name_at q n ∷ ps)
 
 -- The script of bytes: they are not too many, and from line 1 on they have pieces of which the script is read.
 pub record Reads (bytes : List ℕ) (s : Script) : Type 0 where
   pub short : length bytes ≤ FILE_BYTES
   pub pieces : List Piece
-  pub spelled : HasPieces 1 bytes pieces
+  pub spelled : ArePiecesOf bytes pieces
   pub read : IsScript s pieces

@@ -23,6 +23,7 @@ use Rattle.iso_script.specs.Readings.{AreRead, meant_next}
 use Rattle.iso_script.specs.declared.mark.Marks as D
 use Rattle.iso_script.specs.declared.mark.MarkWord.{MarkWord}
 use Rattle.iso_script.specs.declared.mark.MarkWord.TheVariants.{Mode, Isolated, Disabled, Access}
+use Rattle.iso_script_lexer.specs.declared.token.Position.{Position}
 
 -- what a word marks
 abbrev pub mark_word : Word → Option MarkWord
@@ -48,11 +49,11 @@ key_fault k =
 
 -- a key that a mark may declare
 pub data IsKeyText : List ℕ → List Piece → List Piece → Type 0 where
-  a_key : {q : ℕ} {k : List ℕ} {ps : List Piece} → key_fault k ≡ None → IsKeyText k (text_at q k ∷ ps) ps
+  a_key : {q : Position} {k : List ℕ} {ps : List Piece} → key_fault k ≡ None → IsKeyText k (text_at q k ∷ ps) ps
 
 -- what a key is declared for: the children of a class, where their word is next
 pub data IsTarget : Target → List Piece → List Piece → Type 0 where
-  of_children : {r : ℕ} {ps : List Piece} → IsTarget Children (word_at r W.Children ∷ ps) ps
+  of_children : {r : Position} {ps : List Piece} → IsTarget Children (word_at r W.Children ∷ ps) ps
   of_itself : {ps : List Piece} → after_word W.Children ps ≡ None → IsTarget Itself ps ps
 
 -- a mark, as it is written
@@ -72,7 +73,7 @@ pub data IsMarked : MarkWord → Marking → List Piece → List Piece → Type 
 
 -- a mark: its word, and what follows it
 pub data IsMarking : Marking → List Piece → List Piece → Type 0 where
-  a_mark : {r : ℕ} {w : Word} {meant : MarkWord} {x : Marking} {ps qs : List Piece} → mark_word w ≡ Some meant
+  a_mark : {r : Position} {w : Word} {meant : MarkWord} {x : Marking} {ps qs : List Piece} → mark_word w ≡ Some meant
       → IsMarked meant x ps qs → IsMarking x (word_at r w ∷ ps) qs
 
 -- what a class or test has of its marks

@@ -18,6 +18,7 @@ use Rattle.iso_script.specs.Readings.{AreRead, meant_next}
 use Rattle.iso_script.specs.declared.variable.Variables as D
 use Rattle.iso_script.specs.declared.variable.VariableWord.{VariableWord}
 use Rattle.iso_script.specs.declared.variable.VariableWord.TheVariants.{Static, Field}
+use Rattle.iso_script_lexer.specs.declared.token.Position.{Position}
 
 -- what variable a word begins
 abbrev pub variable_word : Word → Option VariableWord
@@ -35,7 +36,7 @@ pub record Declared : Type 0 where
   pub variable : Variable
 
 pub data IsDeclared : Declared → List Piece → List Piece → Type 0 where
-  a_variable : {r q p s : ℕ} {w : Word} {meant : VariableWord} {n : List ℕ} {x : Data} {ps qs : List Piece}
+  a_variable : {r q p s : Position} {w : Word} {meant : VariableWord} {n : List ℕ} {x : Data} {ps qs : List Piece}
       → variable_word w ≡ Some meant → IsLiteral x ps (symbol_at s Semicolon ∷ qs)
       → IsDeclared (record { word = meant; variable = record { name = n; value = x } }) (word_at r w ∷ name_at q n ∷ symbol_at p Equals ∷ ps) qs
 

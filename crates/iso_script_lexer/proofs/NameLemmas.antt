@@ -13,6 +13,7 @@ use Rattle.iso_script_lexer.proofs.Fuel.{letter-in_name}
 use Rattle.iso_script_lexer.proofs.Prefixes.{All-take-prefix_len, Ends-drop-prefix_len, prefix_len-append}
 use Rattle.iso_script_lexer.proofs.Words.{spelling-word_of, not_reserved}
 use Rattle.iso_script_lexer.proofs.Fronts.{Fronts, a_token, no_front, front_of-letter}
+use Rattle.iso_script_lexer.specs.declared.token.Position.{Position}
 
 abbrev AllInName : List ℕ → Type 0
 AllInName n = AllByRecursion (λ c. in_name c ≡ true) n
@@ -22,7 +23,7 @@ identifier-AllInName [] h = absurd h
 identifier-AllInName (b ∷ n) h = (letter-in_name b h.0, h.1)
 
 -- a name or word that is short enough is read
-pub front_of-identifier : (r : ℕ) (n rest : List ℕ) → IsIdentifier n → EndsName rest → nat_le (length n) 64 ≡ true → front_of r (n ++ rest) ≡ Some (name_or_word r n (word_of n), rest)
+pub front_of-identifier : (r : Position) (n rest : List ℕ) → IsIdentifier n → EndsName rest → nat_le (length n) 64 ≡ true → front_of r (n ++ rest) ≡ Some (name_or_word r n (word_of n), rest)
 front_of-identifier r [] rest h end short = absurd h
 front_of-identifier r (b ∷ n) rest h end short =
     front_of-letter r b (n ++ rest) h.0
@@ -40,7 +41,7 @@ word_of-none n h = go (word_of n) refl
 take-identifier : (b : ℕ) (bs : List ℕ) → is_letter b ≡ true → IsIdentifier (take (prefix_len in_name (b ∷ bs)) (b ∷ bs))
 take-identifier b bs h = rw (letter-in_name b h, one-add) (h, All-take-prefix_len in_name bs)
 
-name_spelled : (r b : ℕ) (bs : List ℕ) (o : Option Word) → is_letter b ≡ true →
+name_spelled : (r : Position) (b : ℕ) (bs : List ℕ) (o : Option Word) → is_letter b ≡ true →
     length (take (prefix_len in_name (b ∷ bs)) (b ∷ bs)) ≤ 64 → word_of (take (prefix_len in_name (b ∷ bs)) (b ∷ bs)) ≡ o →
     Spells r (b ∷ bs) (name_or_word r (take (prefix_len in_name (b ∷ bs)) (b ∷ bs)) o) (drop (prefix_len in_name (b ∷ bs)) (b ∷ bs))
 name_spelled r b bs None h short is =
@@ -50,7 +51,7 @@ name_spelled r b bs (Some w) h short is =
     let k = prefix_len in_name (b ∷ bs) in
     spells_word (sym (take-append-drop k (b ∷ bs)) ∙ ap (λ n. n ++ drop k (b ∷ bs)) (sym (spelling-word_of _ w is))) (Ends-drop-prefix_len in_name (b ∷ bs))
 
-pub name_front : (r b : ℕ) (bs : List ℕ) → is_letter b ≡ true → Fronts r (b ∷ bs) (name_piece r (prefix_len in_name (b ∷ bs)) (b ∷ bs))
+pub name_front : (r : Position) (b : ℕ) (bs : List ℕ) → is_letter b ≡ true → Fronts r (b ∷ bs) (name_piece r (prefix_len in_name (b ∷ bs)) (b ∷ bs))
 name_front r b bs h =
     let k = prefix_len in_name (b ∷ bs) in
     by_test (Fronts r (b ∷ bs)) (nat_le k 64) _ _

@@ -13,6 +13,7 @@ use Rattle.iso_script_lexer.specs.Scan.{number_piece, front_of}
 use Rattle.iso_script_lexer.proofs.Decisions.{by_test}
 use Rattle.iso_script_lexer.proofs.Prefixes.{All-take-prefix_len, prefix_len-append}
 use Rattle.iso_script_lexer.proofs.Fronts.{Fronts, a_token, no_front, digit-no_letter, front_of-digit}
+use Rattle.iso_script_lexer.specs.declared.token.Position.{Position}
 
 digit-in_name : (b : ℕ) → in_name b ≡ false → is_digit b ≡ false
 digit-in_name b h = grind (arith, nat_tests)
@@ -29,11 +30,11 @@ ends_name : (rest : List ℕ) → begins_in in_name rest ≡ false → EndsName 
 ends_name [] h = tt
 ends_name (b ∷ rest) h = h
 
-number_piece-fits : (r k : ℕ) (bs ds rest : List ℕ) → take k bs ≡ ds → drop k bs ≡ rest → begins_in in_name rest ≡ false → nat_le (decimal_value ds) 9223372036854775808 ≡ true →
+number_piece-fits : (r : Position) (k : ℕ) (bs ds rest : List ℕ) → take k bs ≡ ds → drop k bs ≡ rest → begins_in in_name rest ≡ false → nat_le (decimal_value ds) 9223372036854775808 ≡ true →
     number_piece r k bs ≡ Some (number_at r (decimal_value ds), rest)
 number_piece-fits r k bs ds rest front back end fits = rw (front, back, end, fits) refl
 
-pub front_of-numeral : (r : ℕ) (ds rest : List ℕ) → IsNumeral ds → EndsName rest → decimal_value ds ≤ 2 ^ 63 → front_of r (ds ++ rest) ≡ Some (number_at r (decimal_value ds), rest)
+pub front_of-numeral : (r : Position) (ds rest : List ℕ) → IsNumeral ds → EndsName rest → decimal_value ds ≤ 2 ^ 63 → front_of r (ds ++ rest) ≡ Some (number_at r (decimal_value ds), rest)
 front_of-numeral r [] rest h end small = absurd (h.0 refl)
 front_of-numeral r (d ∷ ds) rest h end small =
     let fits : nat_le (decimal_value (d ∷ ds)) 9223372036854775808 ≡ true = grind (arith, nat_tests) in
@@ -52,7 +53,7 @@ second true t x y z h k = cc
 digit_fault : (b : ℕ) (bs : List ℕ) → is_digit b ≡ true → token_fault (b ∷ bs) ≡ number_fault (b ∷ bs)
 digit_fault b bs h = second (is_letter b) (is_digit b) _ _ _ (digit-no_letter b h) h
 
-pub number_front : (r b : ℕ) (bs : List ℕ) → is_digit b ≡ true → Fronts r (b ∷ bs) (number_piece r (prefix_len is_digit (b ∷ bs)) (b ∷ bs))
+pub number_front : (r : Position) (b : ℕ) (bs : List ℕ) → is_digit b ≡ true → Fronts r (b ∷ bs) (number_piece r (prefix_len is_digit (b ∷ bs)) (b ∷ bs))
 number_front r b bs h =
     let k = prefix_len is_digit (b ∷ bs) in
     let fault : (t : Bool) → begins_in in_name (drop k (b ∷ bs)) ≡ t → cond t BadToken NumberTooBig ≡ token_fault (b ∷ bs) =

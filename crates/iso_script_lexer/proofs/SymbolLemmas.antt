@@ -3,12 +3,14 @@ use Rattle.std.proofs.Common.{◌≡◌, ℕ, ◌≤◌, List, [], ◌∷◌, �
 use Rattle.iso_script_lexer.specs.Piece.{symbol_at}
 use Rattle.iso_script_lexer.specs.Spelling.{marks, begins, is_letter, is_digit}
 use Rattle.iso_script_lexer.specs.Lexical.{spells_symbol}
-use Rattle.iso_script_lexer.specs.Scan.{double_symbol, single_symbol, longest_symbol, symbol_front, symbol_piece, front_of, after_gap}
+use Rattle.iso_script_lexer.specs.Scan.{gap_from, double_symbol, single_symbol, longest_symbol, symbol_front, symbol_piece, front_of, after_gap}
 use Rattle.iso_script_lexer.specs.declared.symbol.Symbol.{Symbol}
 use Rattle.iso_script_lexer.specs.declared.symbol.Symbol.TheVariants.{OpenBrace, Equals, Plus, PlusPlus, EqualsEquals, NotEquals}
 use Rattle.iso_script_lexer.proofs.Decisions.{by_test, equal, both}
 use Rattle.iso_script_lexer.proofs.Gaps.{starts}
 use Rattle.iso_script_lexer.proofs.Fronts.{Fronts, a_token, no_front}
+use Rattle.iso_script_lexer.specs.declared.token.Position.{Position}
+use Rattle.iso_script_lexer.specs.Positions.{Line}
 
 -- no longer symbol is at the front
 abbrev IsLongest : ℕ → List ℕ → Type 0
@@ -22,7 +24,7 @@ begins_none c rest h = go (begins c rest) refl
     go false e = refl
     go true e = let s = starts c rest e in absurd (h s.1 (s.2 ∙ ap (λ b. b ∷ s.1) s.3))
 
-pub front_of-symbol : (r : ℕ) (s : Symbol) (rest : List ℕ) → IsLongest (length (marks s)) (marks s ++ rest) → front_of r (marks s ++ rest) ≡ Some (symbol_at r s, rest)
+pub front_of-symbol : (r : Position) (s : Symbol) (rest : List ℕ) → IsLongest (length (marks s)) (marks s ++ rest) → front_of r (marks s ++ rest) ≡ Some (symbol_at r s, rest)
 unfolding front_of symbol_front
 front_of-symbol r Plus rest h =
     let alone : begins 43 rest ≡ false = begins_none 43 rest (λ more e. let two : 2 ≤ 1 = h PlusPlus more (ap (λ bs. 43 ∷ bs) e) in absurd (omega arith)) in
@@ -32,8 +34,8 @@ front_of-symbol r Equals rest h =
     rw alone refl
 front_of-symbol r _ rest h = refl
 
-pub stays-symbol : (r : ℕ) (s : Symbol) (rest : List ℕ) → after_gap false r (marks s ++ rest) ≡ (r, marks s ++ rest)
-unfolding after_gap
+pub stays-symbol : (r : Line) (s : Symbol) (rest : List ℕ) → after_gap false r (marks s ++ rest) ≡ (r, marks s ++ rest)
+unfolding gap_from
 stays-symbol r OpenBrace rest = refl
 stays-symbol r _ rest = refl
 
@@ -94,7 +96,7 @@ double_symbol-WritesTwo b bs =
     by_test (WritesTwo b bs) (nat_eq b 61 && begins 61 bs) _ _ (λ e. (two_marks b 61 61 bs e, refl)) (λ n1.
     by_test (WritesTwo b bs) (nat_eq b 33 && begins 61 bs) _ _ (λ e. (two_marks b 33 61 bs e, refl)) (λ n2. tt)))
 
-pub symbol_front-Fronts : (r b : ℕ) (bs : List ℕ) → is_letter b ≡ false → is_digit b ≡ false → nat_eq b 34 ≡ false
+pub symbol_front-Fronts : (r : Position) (b : ℕ) (bs : List ℕ) → is_letter b ≡ false → is_digit b ≡ false → nat_eq b 34 ≡ false
     → Fronts r (b ∷ bs) (symbol_piece r b (longest_symbol (double_symbol b bs) (single_symbol b) bs))
 symbol_front-Fronts r b bs l d q = go (double_symbol b bs) (single_symbol b) refl (double_symbol-WritesTwo b bs) (single_symbol-Writes b)
   where

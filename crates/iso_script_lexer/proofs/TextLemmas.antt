@@ -12,6 +12,7 @@ use Rattle.iso_script_lexer.specs.Scan.{quoted_length, text_piece, front_of}
 use Rattle.iso_script_lexer.proofs.Decisions.{chosen, both, equal}
 use Rattle.iso_script_lexer.proofs.Texts.{quoted, after_one, after_counted}
 use Rattle.iso_script_lexer.proofs.Fronts.{Fronts, a_token, no_front, front_of-quote}
+use Rattle.iso_script_lexer.specs.declared.token.Position.{Position}
 
 abbrev AllPrintable : List ℕ → Type 0
 AllPrintable t = AllByRecursion (λ c. is_printable c ≡ true) t
@@ -43,7 +44,7 @@ decoded-written (b ∷ t) = go (is_escaped b) refl (decoded-written t)
     go true e h = ap (λ t. b ∷ t) h
     go false e h = let no_slash : nat_eq b 92 ≡ false = grind (arith, nat_tests) in rw no_slash (ap (λ t. b ∷ t) h)
 
-pub front_of-text : (r : ℕ) (t rest : List ℕ) → AllPrintable t → length t ≤ 4096 → front_of r (34 ∷ (written t ++ (34 ∷ rest))) ≡ Some (text_at r t, rest)
+pub front_of-text : (r : Position) (t rest : List ℕ) → AllPrintable t → length t ≤ 4096 → front_of r (34 ∷ (written t ++ (34 ∷ rest))) ≡ Some (text_at r t, rest)
 front_of-text r t rest all short =
     front_of-quote r (written t ++ (34 ∷ rest))
     ∙ ap (λ o. text_piece r o (written t ++ (34 ∷ rest))) (quoted_length-written 4096 t rest all short)
@@ -145,7 +146,7 @@ closes true room n (b ∷ bs) h =
       | inr w ↦ let e = w.1 in cc
     ]
 
-pub text_front : (r : ℕ) (bs : List ℕ) → Fronts r (34 ∷ bs) (text_piece r (quoted_length false 4096 bs) bs)
+pub text_front : (r : Position) (bs : List ℕ) → Fronts r (34 ∷ bs) (text_piece r (quoted_length false 4096 bs) bs)
 text_front r bs = go (quoted_length false 4096 bs) refl
   where
     go : (o : Option ℕ) → quoted_length false 4096 bs ≡ o → Fronts r (34 ∷ bs) (text_piece r o bs)

@@ -1,9 +1,11 @@
 pub mod Piece
 pub mod Spelling
+pub mod Positions
 pub mod Text
 pub mod Misspellings
 pub mod Lexical
 pub mod Tokens
 pub mod Scan
+pub mod Cursors
 pub mod Scanned
 pub mod Examples

@@ -1,29 +1,38 @@
 -- The lexer's view of bytes: the pieces that are read from them, by functions.
 use Rattle.std.specs.Prelude.{ℕ, zero, suc, ◌+◌, ◌-◌, List, [], ◌∷◌, Bool, true, false, nat_eq, nat_le, ◌&&◌, Option, Some, None, if◌then◌else◌, length, take, drop, option_map}
 use Rattle.std.specs.List.{prefix_len}
+use Rattle.iso_script_lexer.specs.Positions.{Line, line_after, position}
 use Rattle.iso_script_lexer.specs.Piece.{Piece, name_at, number_at, text_at, word_at, symbol_at, bad_at}
 use Rattle.iso_script_lexer.specs.Spelling.{begins, begins_in, is_blank, is_printable, in_comment, is_letter, is_digit, in_name, is_escaped, word_of}
 use Rattle.iso_script_lexer.specs.Lexical.{decimal_value}
 use Rattle.iso_script_lexer.specs.Misspellings.{text_fault}
 use Rattle.iso_script_lexer.specs.Text.{decoded}
+use Rattle.iso_script_lexer.specs.declared.token.Position.{Position}
 use Rattle.iso_script_lexer.specs.declared.token.TokenFault.{TokenFault}
 use Rattle.iso_script_lexer.specs.declared.token.TokenFault.TheVariants as F
 use Rattle.iso_script_lexer.specs.declared.word.Word as W
 use Rattle.iso_script_lexer.specs.declared.symbol.Symbol as S
 use Rattle.iso_script_lexer.specs.declared.symbol.Symbol.TheVariants.{OpenBrace, CloseBrace, OpenParen, CloseParen, Semicolon, Comma, Equals, Plus, Minus, Star, PlusPlus, EqualsEquals, NotEquals, Less}
 
--- the line and the bytes after a gap; in a comment, those after its end
-unfoldable pub after_gap : (comment : Bool) → ℕ → List ℕ → ℕ × List ℕ
-after_gap comment row [] = (row, [])
-after_gap false row (b ∷ bs) =
-    if nat_eq b 10 then after_gap false (row + 1) bs
-    else if is_blank b then after_gap false row bs
-    else if nat_eq b 47 && begins 47 bs then after_gap true row bs
-    else (row, b ∷ bs)
-after_gap true row (b ∷ bs) =
-    if nat_eq b 10 then after_gap false (row + 1) bs
-    else if in_comment b then after_gap true row bs
-    else (row, b ∷ bs)
+-- The line and the bytes after a gap; in a comment, those after its end. A checker that computes it takes only the branch that is
+-- chosen, since each is bound by a `let`.
+unfoldable pub gap_from : (comment : Bool) → (number : ℕ) → (line : List ℕ) → List ℕ → Line × List ℕ
+gap_from comment number line [] = ((number, line), [])
+gap_from false number line (b ∷ bs) =
+    let comment = gap_from true number line bs in
+    let slash = if nat_eq b 47 && begins 47 bs then comment else ((number, line), b ∷ bs) in
+    let blank = gap_from false number line bs in
+    let same_line = if is_blank b then blank else slash in
+    let next_line = gap_from false (number + 1) bs bs in
+    if nat_eq b 10 then next_line else same_line
+gap_from true number line (b ∷ bs) =
+    let comment = gap_from true number line bs in
+    let same_line = if in_comment b then comment else ((number, line), b ∷ bs) in
+    let next_line = gap_from false (number + 1) bs bs in
+    if nat_eq b 10 then next_line else same_line
+
+abbrev pub after_gap : (comment : Bool) → Line → List ℕ → Line × List ℕ
+after_gap comment line bs = gap_from comment line.0 line.1 bs
 
 abbrev pub one_more : Option ℕ → Option ℕ
 one_more n = option_map (λ k. k + 1) n
@@ -80,50 +89,54 @@ symbol_front (b ∷ bs) = longest_symbol (double_symbol b bs) (single_symbol b) 
 abbrev pub Front : Type 0
 Front = Option (Piece × List ℕ)
 
-abbrev pub no_token : ℕ → TokenFault → Front
-no_token row fault = Some (bad_at row fault, [])
+abbrev pub no_token : Position → TokenFault → Front
+no_token at fault = Some (bad_at at.line fault, [])
 
 -- a symbol, or what a byte is that begins none
-abbrev pub symbol_piece : ℕ → ℕ → Option (S.Symbol × List ℕ) → Front
-symbol_piece row b (Some f) = Some (symbol_at row f.0, f.1)
-symbol_piece row b None = no_token row (if is_printable b then F.BadToken else F.BadByte)
+abbrev pub symbol_piece : Position → ℕ → Option (S.Symbol × List ℕ) → Front
+symbol_piece at b (Some f) = Some (symbol_at at f.0, f.1)
+symbol_piece at b None = no_token at (if is_printable b then F.BadToken else F.BadByte)
 
-abbrev pub name_or_word : ℕ → List ℕ → Option W.Word → Piece
-name_or_word row n (Some w) = word_at row w
-name_or_word row n None = name_at row n
+abbrev pub name_or_word : Position → List ℕ → Option W.Word → Piece
+name_or_word at n (Some w) = word_at at w
+name_or_word at n None = name_at at n
 
-abbrev pub name_piece : ℕ → ℕ → List ℕ → Front
-name_piece row n bs =
-    if nat_le n 64 then Some (name_or_word row (take n bs) (word_of (take n bs)), drop n bs) else no_token row F.TooLong
+abbrev pub name_piece : Position → ℕ → List ℕ → Front
+name_piece at n bs =
+    if nat_le n 64 then Some (name_or_word at (take n bs) (word_of (take n bs)), drop n bs) else no_token at F.TooLong
 
-abbrev pub number_piece : ℕ → ℕ → List ℕ → Front
-number_piece row n bs =
-    if begins_in in_name (drop n bs) then no_token row F.BadToken
-    else if nat_le (decimal_value (take n bs)) 9223372036854775808 then Some (number_at row (decimal_value (take n bs)), drop n bs)
-    else no_token row F.NumberTooBig
+abbrev pub number_piece : Position → ℕ → List ℕ → Front
+number_piece at n bs =
+    if begins_in in_name (drop n bs) then no_token at F.BadToken
+    else if nat_le (decimal_value (take n bs)) 9223372036854775808 then Some (number_at at (decimal_value (take n bs)), drop n bs)
+    else no_token at F.NumberTooBig
 
-abbrev pub text_piece : ℕ → Option ℕ → List ℕ → Front
-text_piece row (Some n) bs = Some (text_at row (decoded false (take n bs)), drop (n + 1) bs)
-text_piece row None bs = no_token row (text_fault false 4096 bs)
+abbrev pub text_piece : Position → Option ℕ → List ℕ → Front
+text_piece at (Some n) bs = Some (text_at at (decoded false (take n bs)), drop (n + 1) bs)
+text_piece at None bs = no_token at (text_fault false 4096 bs)
 
 -- the piece at the front and what follows it; none at the end
-unfoldable pub front_of : ℕ → List ℕ → Front
-front_of row [] = None
-front_of row (b ∷ bs) =
-    if is_letter b then name_piece row (prefix_len in_name (b ∷ bs)) (b ∷ bs)
-    else if is_digit b then number_piece row (prefix_len is_digit (b ∷ bs)) (b ∷ bs)
-    else if nat_eq b 34 then text_piece row (quoted_length false 4096 bs) bs
-    else symbol_piece row b (symbol_front (b ∷ bs))
+unfoldable pub front_of : Position → List ℕ → Front
+front_of at [] = None
+front_of at (b ∷ bs) =
+    if is_letter b then name_piece at (prefix_len in_name (b ∷ bs)) (b ∷ bs)
+    else if is_digit b then number_piece at (prefix_len is_digit (b ∷ bs)) (b ∷ bs)
+    else if nat_eq b 34 then text_piece at (quoted_length false 4096 bs) bs
+    else symbol_piece at b (symbol_front (b ∷ bs))
 
 abbrev pub then_pieces : Front → (List ℕ → List Piece) → List Piece
 then_pieces None more = []
 then_pieces (Some f) more = f.0 ∷ more f.1
 
+-- the piece at the front of what is left of a line
+abbrev pub front_on : Line → List ℕ → Front
+front_on line bs = front_of (position line bs) bs
+
 -- the pieces from a line on, at most n
-unfoldable pub pieces : ℕ → ℕ × List ℕ → List Piece
+unfoldable pub pieces : ℕ → Line × List ℕ → List Piece
 pieces zero at = []
-pieces (suc n) at = then_pieces (front_of at.0 at.1) (λ rest. pieces n (after_gap false at.0 rest))
+pieces (suc n) at = then_pieces (front_on at.0 at.1) (λ rest. pieces n (after_gap false at.0 rest))
 
 -- the pieces of bytes that begin on a line
-unfoldable pub pieces_of : ℕ → List ℕ → List Piece
-pieces_of row bs = pieces (suc (length bs)) (after_gap false row bs)
+unfoldable pub pieces_of : Line → List ℕ → List Piece
+pieces_of line bs = pieces (suc (length bs)) (after_gap false line bs)

@@ -1,14 +1,15 @@
 //! Gaps: blanks, line feeds and comments.
-ghost use Rattle.std.specs.Prelude.{◌≡◌, ◌≤◌, ℕ, false, true, length};
-ghost use Rattle.iso_script_lexer.specs.Scan.{after_gap};
+ghost use Rattle.std.specs.Prelude.{◌≡◌, ◌≤◌, ℕ, List, false, true, length};
+ghost use Rattle.iso_script_lexer.specs.Cursors.{line_of};
+ghost use Rattle.iso_script_lexer.specs.Scan.{after_gap, gap_from};
 
 use crate::cursor::Cursor;
 
 /// What follows the blanks, line feeds and comments that come next.
-#[tactic(auto, unfolding(crate::specs::Scan::after_gap))]
+#[tactic(auto, unfolding(crate::specs::Scan::gap_from))]
 pub(crate) fn skip_gap(start: Cursor<'_>) -> Cursor<'_>
-    ensures { (result.position.line, result.rest.now)
-        ≡ after_gap false start.entry.position.line start.entry.rest.now }
+    ensures { (line_of result, result.rest.now)
+        ≡ after_gap false (line_of start.entry) start.entry.rest.now }
 {
     let mut cursor = start;
     'gap: loop {
@@ -22,9 +23,10 @@ pub(crate) fn skip_gap(start: Cursor<'_>) -> Cursor<'_>
 }
 
 /// What follows the bytes of a comment.
-#[tactic(auto, unfolding(crate::specs::Scan::after_gap))]
+#[tactic(auto, unfolding(crate::specs::Scan::gap_from))]
 fn after_comment(bytes: &[u8]) -> &[u8]
-    ensures value { (row : ℕ) → after_gap true row bytes.now ≡ after_gap false row result.now }
+    ensures value { (number : ℕ) (line : List ℕ)
+        → gap_from true number line bytes.now ≡ gap_from false number line result.now }
     ensures shorter { length result.now ≤ length bytes.now }
 {
     let mut rest = bytes;

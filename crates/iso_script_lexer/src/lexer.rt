@@ -1,6 +1,7 @@
 ghost use Rattle.std.specs.Prelude.{◌≡◌, ◌≤◌, List, Some, None, false, length, if◌then◌else◌};
-ghost use Rattle.iso_script_lexer.specs.Lexical.{HasPieces};
+ghost use Rattle.iso_script_lexer.specs.Lexical.{ArePiecesOf};
 ghost use Rattle.iso_script_lexer.specs.Piece.{Piece};
+ghost use Rattle.iso_script_lexer.specs.Cursors.{line_of};
 ghost use Rattle.iso_script_lexer.specs.Scan.{pieces_of};
 ghost use Rattle.iso_script_lexer.specs.Piece.{tail};
 ghost use Rattle.iso_script_lexer.specs.Tokens.{IsToken, front, after, after_word};
@@ -27,10 +28,11 @@ impl<'a> Model for Lexer<'a> {
     ghost use Rattle.iso_script_lexer.specs.Piece.{Piece};
     ghost use Rattle.iso_script_lexer.specs.Scan.{pieces_of};
     ghost use Rattle.iso_script_lexer.specs.Tokens.{front, IsToken};
+    ghost use Rattle.iso_script_lexer.specs.Cursors.{line_of};
 
     ghost Value = { List Piece };
 
-    ghost view = { λ l. front l.position.line l.token (pieces_of l.next.position.line l.next.rest.now) };
+    ghost view = { λ l. front l.position l.token (pieces_of (line_of l.next) l.next.rest.now) };
 
     ghost invariant = { λ l. IsToken l.token };
 }
@@ -39,31 +41,28 @@ impl<'a> Lexer<'a> {
     /// At the first token of a script.
     pub fn new(bytes: &'a [u8]) -> Lexer<'a>
         requires { length bytes.now ≤ FILE_BYTES }
-        ensures { HasPieces 1 bytes.now result }
+        ensures { ArePiecesOf bytes.now result }
     {
         Lexer::read(Cursor::new(bytes))
     }
 
     /// At the token that comes next.
     fn read(cursor: Cursor<'a>) -> Lexer<'a>
-        ensures { result ≡ pieces_of cursor.entry.position.line cursor.entry.rest.now }
+        ensures { result ≡ pieces_of (line_of cursor.entry) cursor.entry.rest.now }
     {
         let start = skip_gap(cursor);
         match scan(start.rest) {
             Ok((token, rest)) => Lexer {
                 token,
-                position: start.position,
+                position: start.position(),
                 next: start.further(rest),
             },
             Err(misspelling) => {
-                let position = start.position_after(misspelling.offset);
+                let (_, fault) = start.rest.split_at(misspelling.offset);
                 Lexer {
                     token: Token::Bad(misspelling.fault),
-                    position,
-                    next: Cursor {
-                        position,
-                        rest: &[],
-                    },
+                    position: start.further(fault).position(),
+                    next: start.further(&[]),
                 }
             }
         }
@@ -72,7 +71,7 @@ impl<'a> Lexer<'a> {
     /// What is next, and its position. The position of `End` is the one after the last byte of the script.
     /// The position of `Bad` is that of the fault, which may lie inside the bytes that are no token.
     pub fn peek(&self) -> (Token<'a>, Position)
-        ensures next { self.now ≡ front result.1.line result.0 (tail self.now) }
+        ensures next { self.now ≡ front result.1 result.0 (tail self.now) }
         ensures token { IsToken result.0 }
     {
         (self.token, self.position)

@@ -8,6 +8,7 @@ ghost use Rattle.iso_script_lexer.specs.Misspellings.{text_fault};
 ghost use Rattle.iso_script_lexer.specs.Scan.{quoted_length, single_symbol, symbol_front, name_piece, number_piece, text_piece, front_of};
 ghost use Rattle.iso_script_lexer.specs.Tokens.{IsToken};
 ghost use Rattle.iso_script_lexer.specs.Scanned.{seen, IsWithin};
+ghost use Rattle.iso_script_lexer.specs.declared.token.Position.{Position};
 
 use crate::symbol::Symbol;
 use crate::text::QuotedText;
@@ -71,8 +72,8 @@ fn digits_length(bytes: &[u8]) -> usize
 /// The name or reserved word at the front, and what follows it.
 fn scan_name(bytes: &[u8]) -> Result<(Token<'_>, &[u8]), Misspelling>
     requires { begins_in is_letter bytes.now ≡ true }
-    ensures value { (row : ℕ) →
-        name_piece row (prefix_len in_name bytes.now) bytes.now ≡ seen row result }
+    ensures value { (at : Position) →
+        name_piece at (prefix_len in_name bytes.now) bytes.now ≡ seen at result }
     ensures within { IsWithin (length bytes.now) result }
     ensures token { IfOk result (λ f. IsToken f.0) }
 {
@@ -106,8 +107,8 @@ fn saturated_value(digits: &[u8]) -> u64
 
 /// The number at the front, and what follows it.
 fn scan_number(bytes: &[u8]) -> Result<(Token<'_>, &[u8]), Misspelling>
-    ensures value { (row : ℕ) →
-        number_piece row (prefix_len is_digit bytes.now) bytes.now ≡ seen row result }
+    ensures value { (at : Position) →
+        number_piece at (prefix_len is_digit bytes.now) bytes.now ≡ seen at result }
     ensures within { IsWithin (length bytes.now) result }
     ensures token { IfOk result (λ f. IsToken f.0) }
 {
@@ -158,8 +159,8 @@ fn quoted_length(bytes: &[u8]) -> Result<usize, Misspelling>
 
 /// The text after its opening quote, and what follows its closing quote.
 fn scan_text(bytes: &[u8]) -> Result<(Token<'_>, &[u8]), Misspelling>
-    ensures value { (row : ℕ) →
-        text_piece row (quoted_length false 4096 bytes.now) bytes.now ≡ seen row result }
+    ensures value { (at : Position) →
+        text_piece at (quoted_length false 4096 bytes.now) bytes.now ≡ seen at result }
     ensures within { IsWithin (length bytes.now + 1) result }
     ensures token { IfOk result (λ f. IsToken f.0) }
 {
@@ -210,7 +211,7 @@ fn symbol_at(bytes: &[u8]) -> Option<(Symbol, &[u8])>
 /// The token at the front, which is no blank, line feed or comment, and what follows it.
 #[tactic(auto, unfolding(crate::specs::Scan::front_of))]
 pub(crate) fn scan(bytes: &[u8]) -> Result<(Token<'_>, &[u8]), Misspelling>
-    ensures value { (row : ℕ) → front_of row bytes.now ≡ seen row result }
+    ensures value { (at : Position) → front_of at bytes.now ≡ seen at result }
     ensures within { IsWithin (length bytes.now) result }
     ensures token { IfOk result (λ f. IsToken f.0) }
 {

@@ -7,9 +7,10 @@ use Rattle.iso_script_statements.specs.Expressions.{infix_of, IsOperand, an_oper
 use Rattle.iso_script_statements.specs.Pieces.{row_in}
 use Rattle.iso_script_statements.specs.Statements as S
 use Rattle.iso_script_statements.specs.Statements.{IsStatement, IsStatements}
+use Rattle.iso_script_lexer.specs.declared.token.Position.{Position}
 
 -- one operand of a statement, and the symbol that follows it
-pub alone : {s : Symbol} {q : ℕ} {e : Term} {ps qs : List Piece} → IsOperand 32 e ps (symbol_at q s ∷ qs) → infix_of s ≡ None → IsBefore s e ps qs
+pub alone : {s : Symbol} {q : Position} {e : Term} {ps qs : List Piece} → IsOperand 32 e ps (symbol_at q s ∷ qs) → infix_of s ≡ None → IsBefore s e ps qs
 alone {s = s} h end = before (an_operand h (ap (option_map (λ i. (s, i))) end))
 
 -- a statement on its row, and those that follow it

@@ -26,6 +26,7 @@ use Rattle.iso_script_statements.specs.declared.expression.Infix.TheVariants.{Ch
 use Rattle.iso_script_statements.proofs.Repetitions.{onto, HaveRead}
 use Rattle.iso_script_statements.proofs.Taken.{stands_in_front}
 use Rattle.iso_script_statements.proofs.Unique.{no_parenthesis, no_locale, no_function, one_operand, one_expression}
+use Rattle.iso_script_lexer.specs.declared.token.Position.{Position}
 
 pub none_next : {A : Type 0} (o : Option A) → false ≡ is_some o → o ≡ None
 none_next None h = refl
@@ -37,7 +38,7 @@ is_in_parentheses d e old rest next h =
     let s = stands_in_front OpenParen old next in
     subst (λ ps. IsOperand d e ps rest) (sym s.1) (in_parentheses (subst (λ ps. IsEnclosed d e ps rest) s.1 h))
 
-from_parenthesis : {d r : ℕ} {e : Term} {ps rest : List Piece} → IsOperand d e (symbol_at r OpenParen ∷ ps) rest → IsEnclosed d e (symbol_at r OpenParen ∷ ps) rest
+from_parenthesis : {d : ℕ} {r : Position} {e : Term} {ps rest : List Piece} → IsOperand d e (symbol_at r OpenParen ∷ ps) rest → IsEnclosed d e (symbol_at r OpenParen ∷ ps) rest
 from_parenthesis (a_literal h) = absurd (no_parenthesis h)
 from_parenthesis (in_parentheses h) = h
 
@@ -47,7 +48,7 @@ parentheses_only d e old rest next h =
     subst (λ ps. IsEnclosed d e ps rest) (sym s.1) (from_parenthesis (subst (λ ps. IsOperand d e ps rest) s.1 h))
 
 -- a function that is next stands in front
-function_first : (f : Function) (ps : List Piece) → function_next ps ≡ Some f → (r : ℕ) × (w : Word) × (function_of w ≡ Some f) × (ps ≡ word_at r w ∷ tail ps)
+function_first : (f : Function) (ps : List Piece) → function_next ps ≡ Some f → (r : Position) × (w : Word) × (function_of w ≡ Some f) × (ps ≡ word_at r w ∷ tail ps)
 function_first f [] h = cc
 function_first f (word_at r w ∷ ps) h = (r, w, h, refl)
 function_first f (name_at r n ∷ ps) h = cc
@@ -61,7 +62,7 @@ is_call d f e old mid rest next ahead h =
     let s = function_first f old next in
     subst (λ ps. IsOperand d (call f e) ps rest) (sym s.3) (a_call s.2 (subst (λ ps. IsEnclosed d e ps rest) ahead h))
 
-from_function : {d r : ℕ} {w : Word} {f : Function} {e : Term} {ps rest : List Piece} → function_of w ≡ Some f → IsOperand d e (word_at r w ∷ ps) rest → (x : Term) × IsEnclosed d x ps rest
+from_function : {d : ℕ} {r : Position} {w : Word} {f : Function} {e : Term} {ps rest : List Piece} → function_of w ≡ Some f → IsOperand d e (word_at r w ∷ ps) rest → (x : Term) × IsEnclosed d x ps rest
 from_function is (a_literal h) = absurd (no_function is h)
 from_function is (a_call {e = e} f h) = (e, h)
 from_function is (the_locale h) = cc
@@ -75,7 +76,7 @@ call_only d f e old mid rest next ahead h =
 pub is_locale : (d : ℕ) (e : Term) (old mid rest : List Piece) → after_word W.Locale old ≡ Some mid → IsLocale d e mid rest → IsOperand d e old rest
 is_locale d e old mid rest taken h = let s = after_word-Some W.Locale old mid taken in subst (λ ps. IsOperand d e ps rest) (sym s.1) (the_locale h)
 
-from_locale : {d r : ℕ} {e : Term} {ps rest : List Piece} → IsOperand d e (word_at r W.Locale ∷ ps) rest → IsLocale d e ps rest
+from_locale : {d : ℕ} {r : Position} {e : Term} {ps rest : List Piece} → IsOperand d e (word_at r W.Locale ∷ ps) rest → IsLocale d e ps rest
 from_locale (a_literal h) = absurd (no_locale h)
 from_locale (a_call is h) = cc
 from_locale (the_locale h) = h
@@ -125,7 +126,7 @@ is_enclosed d more e old ps mid rest left opened h shut =
     let t = after-Some CloseParen mid rest shut in
     subst (λ d. IsEnclosed d e old rest) (sym left) (subst (λ ps. IsEnclosed (suc more) e ps rest) (sym s.1) (enclosed (subst (IsExpression more e ps) t.1 h)))
 
-pub enclosed_only : (d more : ℕ) (e : Term) (old ps rest : List Piece) → d ≡ suc more → after OpenParen old ≡ Some ps → IsEnclosed d e old rest → (q : ℕ) × IsExpression more e ps (symbol_at q CloseParen ∷ rest)
+pub enclosed_only : (d more : ℕ) (e : Term) (old ps rest : List Piece) → d ≡ suc more → after OpenParen old ≡ Some ps → IsEnclosed d e old rest → (q : Position) × IsExpression more e ps (symbol_at q CloseParen ∷ rest)
 enclosed_only d more e old ps rest left opened (enclosed {d = m} {r = r} {q = q} {ps = qs} h) =
     let same : m ≡ more = cc in
     let f : Some qs ≡ Some ps = sym (after-symbol_at r OpenParen qs) ∙ opened in
@@ -136,7 +137,7 @@ pub enclosed_opens : (d : ℕ) (e : Term) (old rest : List Piece) → ((more : �
 enclosed_opens d e old rest none (enclosed {d = m} {r = r} {ps = ps} h) = let e : None ≡ Some ps = sym (none m refl) ∙ after-symbol_at r OpenParen ps in cc
 
 -- a symbol does not follow an expression where another does
-pub not_followed : (d : ℕ) (s : Symbol) (e f : Term) (ps mid rest : List Piece) (q : ℕ) → IsExpression d e ps mid → after s mid ≡ None → IsExpression d f ps (symbol_at q s ∷ rest) → ⊥
+pub not_followed : (d : ℕ) (s : Symbol) (e f : Term) (ps mid rest : List Piece) (q : Position) → IsExpression d e ps mid → after s mid ≡ None → IsExpression d f ps (symbol_at q s ∷ rest) → ⊥
 not_followed d s e f ps mid rest q h none k =
     let u = one_expression h k in
     let e : None ≡ Some rest = sym none ∙ ap (after s) u.1 ∙ after-symbol_at q s rest in
@@ -159,7 +160,7 @@ chain_goes_on d n more s e here mid next room at ahead h es rest k =
     (subst (λ ps. IsChained d s (suc more) (term e es) ps rest) (sym f.1) (E.IsChained.and_then (subst (λ ps. IsOperand d e ps next) ahead h) k))
 
 -- what goes on where an operator is next
-next_operand : {d n : ℕ} {s : Symbol} {es : Terms} {here rest : List Piece} → true ≡ is_some (infix_next here) → IsChained d s n es here rest → (more : ℕ) × (e : Term) × (fs : Terms) × (r : ℕ) × (ps : List Piece) × (qs : List Piece) × (n ≡ suc more) × (here ≡ symbol_at r s ∷ ps) × IsOperand d e ps qs × IsChained d s more fs qs rest
+next_operand : {d n : ℕ} {s : Symbol} {es : Terms} {here rest : List Piece} → true ≡ is_some (infix_next here) → IsChained d s n es here rest → (more : ℕ) × (e : Term) × (fs : Terms) × (r : Position) × (ps : List Piece) × (qs : List Piece) × (n ≡ suc more) × (here ≡ symbol_at r s ∷ ps) × IsOperand d e ps qs × IsChained d s more fs qs rest
 next_operand some (chained none) = cc
 next_operand some (E.IsChained.and_then {n = n} {r = r} {e = e} {es = es} {ps = ps} {qs = qs} h k) = (n, e, es, r, ps, qs, refl, refl, h, k)
 
@@ -188,7 +189,7 @@ operand_follows d n s all here mid rest some ahead k =
     (p.1, p.5, subst (λ ps. IsOperand d p.1 ps p.5) (sym (ahead ∙ ap tail p.7)) p.8)
 
 -- an operator that is next stands in front
-infix_first : (s : Symbol) (i : Infix) (ps : List Piece) → infix_next ps ≡ Some (s, i) → (r : ℕ) × (infix_of s ≡ Some i) × (ps ≡ symbol_at r s ∷ tail ps)
+infix_first : (s : Symbol) (i : Infix) (ps : List Piece) → infix_next ps ≡ Some (s, i) → (r : Position) × (infix_of s ≡ Some i) × (ps ≡ symbol_at r s ∷ tail ps)
 infix_first s i [] h = cc
 infix_first s i (symbol_at r t ∷ ps) h = let p = mapped t s i (infix_of t) h in (r, ap infix_of (sym p.0) ∙ p.1, ap (λ t. symbol_at r t ∷ ps) p.0)
   where

@@ -7,18 +7,19 @@ use Rattle.iso_script_lexer.specs.declared.word.Word.TheVariants as W
 use Rattle.iso_script_lexer.proofs.Afters.{after_word-Some}
 use Rattle.iso_model.specs.declared.data.Data.TheVariants.{Whole, Flag, Text}
 use Rattle.iso_script_statements.specs.Expressions.{IsLiteral, a_number, a_negative, a_text, a_true, a_false}
+use Rattle.iso_script_lexer.specs.declared.token.Position.{Position}
 
 -- what stands elsewhere by an equation is the same
 told : {X : Type 0} (P : X → List Piece → List Piece → Type 0) (x y : X) (ps qs old new : List Piece) → x ≡ y → old ≡ ps → new ≡ qs → P x ps qs → P y old new
 told P x y ps qs old new e f g h = subst (λ z. P z old new) e (subst (λ ps. P x ps new) (sym f) (subst (P x ps) (sym g) h))
 
-pub is_number : (r n : ℕ) (z : ℤ) (old new : List Piece) → z ≡ pos n → old ≡ number_at r n ∷ tail old → new ≡ tail old → n < 2 ^ 63 → IsLiteral (Whole z) old new
+pub is_number : (r : Position) (n : ℕ) (z : ℤ) (old new : List Piece) → z ≡ pos n → old ≡ number_at r n ∷ tail old → new ≡ tail old → n < 2 ^ 63 → IsLiteral (Whole z) old new
 is_number r n z old new e f g h = told IsLiteral _ _ _ _ _ _ (ap Whole (sym e)) f g (a_number h)
 
-pub is_negative : (q r n : ℕ) (z : ℤ) (old new : List Piece) → z ≡ neg_ℤ (pos n) → old ≡ number_at r n ∷ tail old → new ≡ tail old → n ≤ 2 ^ 63 → IsLiteral (Whole z) (symbol_at q Minus ∷ old) new
+pub is_negative : (q r : Position) (n : ℕ) (z : ℤ) (old new : List Piece) → z ≡ neg_ℤ (pos n) → old ≡ number_at r n ∷ tail old → new ≡ tail old → n ≤ 2 ^ 63 → IsLiteral (Whole z) (symbol_at q Minus ∷ old) new
 is_negative q r n z old new e f g h = told IsLiteral _ _ _ _ _ _ (ap Whole (sym e)) (ap (λ ps. symbol_at q Minus ∷ ps) f) g (a_negative h)
 
-pub is_text : (r : ℕ) (t u : List ℕ) (old new : List Piece) → u ≡ t → old ≡ text_at r t ∷ tail old → new ≡ tail old → IsLiteral (Text u) old new
+pub is_text : (r : Position) (t u : List ℕ) (old new : List Piece) → u ≡ t → old ≡ text_at r t ∷ tail old → new ≡ tail old → IsLiteral (Text u) old new
 is_text r t u old new e f g = told IsLiteral _ _ _ _ _ _ (ap Text (sym e)) f g a_text
 
 pub is_true : (old new : List Piece) → after_word W.True old ≡ Some new → IsLiteral (Flag true) old new

@@ -22,9 +22,10 @@ use Rattle.iso_script_statements.specs.declared.simple.TwoOperands.{TwoOperands}
 use Rattle.iso_script_statements.proofs.Repetitions.{onto, HaveRead}
 use Rattle.iso_script_statements.proofs.Taken.{name_is}
 use Rattle.iso_script_statements.proofs.Unique.{one_before, one_body, one_display, one_expression, one_statement}
+use Rattle.iso_script_lexer.specs.declared.token.Position.{Position}
 
 -- a simple statement that is next stands in front
-simple_first : (k : Simple) (ps : List Piece) → simple_next ps ≡ Some k → (r : ℕ) × (w : Word) × (simple_of w ≡ Some k) × (ps ≡ word_at r w ∷ tail ps)
+simple_first : (k : Simple) (ps : List Piece) → simple_next ps ≡ Some k → (r : Position) × (w : Word) × (simple_of w ≡ Some k) × (ps ≡ word_at r w ∷ tail ps)
 simple_first k [] h = cc
 simple_first k (word_at r w ∷ ps) h = (r, w, h, refl)
 simple_first k (name_at r n ∷ ps) h = cc
@@ -38,7 +39,7 @@ is_simple d above k a old mid rest next ahead h =
     let s = simple_first k old next in
     subst (λ ps. IsStatement d above a ps rest) (sym s.3) (a_simple s.2 (subst (λ ps. IsSimple k a ps rest) ahead h))
 
-from_simple : {d above r : ℕ} {w : Word} {k : Simple} {a : Act} {ps rest : List Piece} → simple_of w ≡ Some k → IsStatement d above a (word_at r w ∷ ps) rest → IsSimple k a ps rest
+from_simple : {d above : ℕ} {r : Position} {w : Word} {k : Simple} {a : Act} {ps rest : List Piece} → simple_of w ≡ Some k → IsStatement d above a (word_at r w ∷ ps) rest → IsSimple k a ps rest
 from_simple {k = k} {a = a} {ps = ps} {rest = rest} is (a_simple {k = l} also h) = let same : l ≡ k = cc in subst (λ k. IsSimple k a ps rest) same h
 from_simple is (an_if h i j) = cc
 from_simple is (a_repeat h i) = cc
@@ -59,18 +60,18 @@ assignment_only d above a old rest s i r (an_if {r = q} {ps = ps} h k l) = let e
 assignment_only d above a old rest s i r (a_repeat {r = q} {ps = ps} h k) = let e : None ≡ Some ps = sym r ∙ after_word-word_at q W.Repeat ps in cc
 
 -- the parts of an `if` after its condition, and after its first body
-pub if_body : (d above r : ℕ) (e : Term) (a : Act) (ps mid rest : List Piece) → IsExpression PARENTHESES e ps mid → IsStatement d above a (word_at r W.If ∷ ps) rest → (b : Acts) × (c : Acts) × (qs : List Piece) × IsBody d above b mid qs × IsElse d above c qs rest
+pub if_body : (d above : ℕ) (r : Position) (e : Term) (a : Act) (ps mid rest : List Piece) → IsExpression PARENTHESES e ps mid → IsStatement d above a (word_at r W.If ∷ ps) rest → (b : Acts) × (c : Acts) × (qs : List Piece) × IsBody d above b mid qs × IsElse d above c qs rest
 if_body d above r e a ps mid rest h (a_simple is k) = cc
 if_body d above r e a ps mid rest h (an_if {a = b} {b = c} {rs = qs} k i j) = let u = one_expression h k in (b, c, qs, subst (λ ps. IsBody d above b ps qs) (sym u.1) i, j)
 
-pub if_else : (d above r : ℕ) (e : Term) (b : Acts) (a : Act) (ps mid next rest : List Piece) → IsExpression PARENTHESES e ps mid → IsBody d above b mid next → IsStatement d above a (word_at r W.If ∷ ps) rest → (c : Acts) × IsElse d above c next rest
+pub if_else : (d above : ℕ) (r : Position) (e : Term) (b : Acts) (a : Act) (ps mid next rest : List Piece) → IsExpression PARENTHESES e ps mid → IsBody d above b mid next → IsStatement d above a (word_at r W.If ∷ ps) rest → (c : Acts) × IsElse d above c next rest
 if_else d above r e b a ps mid next rest h k s =
     let p = if_body d above r e a ps mid rest h s in
     let u = one_body k p.3 in
     (p.1, subst (λ ps. IsElse d above p.1 ps rest) (sym u.1) p.4)
 
 -- the body of a `repeat`
-pub repeat_body : (d above r : ℕ) (e : Term) (a : Act) (ps mid rest : List Piece) → IsExpression PARENTHESES e ps mid → IsStatement d above a (word_at r W.Repeat ∷ ps) rest → (b : Acts) × IsBody d above b mid rest
+pub repeat_body : (d above : ℕ) (r : Position) (e : Term) (a : Act) (ps mid rest : List Piece) → IsExpression PARENTHESES e ps mid → IsStatement d above a (word_at r W.Repeat ∷ ps) rest → (b : Acts) × IsBody d above b mid rest
 repeat_body d above r e a ps mid rest h (a_simple is k) = cc
 repeat_body d above r e a ps mid rest h (a_repeat {a = b} k i) = let u = one_expression h k in (b, subst (λ ps. IsBody d above b ps rest) (sym u.1) i)
 
@@ -90,7 +91,7 @@ pub second_only : (o : TwoOperands) (e : Term) (a : Act) (ps mid rest : List Pie
 second_only o e a ps mid rest h (of_two {f = f} k i) = let u = one_before h k in (f, subst (λ ps. IsBefore Semicolon f ps rest) (sym u.1) i)
 
 -- the reason of an `assume`, and the semicolon after it
-pub reason_only : (e : Term) (a : Act) (ps mid rest : List Piece) → IsBefore Comma e ps mid → IsSimple Assume a ps rest → (t : List ℕ) × (q : ℕ) × IsDisplay t mid (symbol_at q Semicolon ∷ rest)
+pub reason_only : (e : Term) (a : Act) (ps mid rest : List Piece) → IsBefore Comma e ps mid → IsSimple Assume a ps rest → (t : List ℕ) × (q : Position) × IsDisplay t mid (symbol_at q Semicolon ∷ rest)
 reason_only e a ps mid rest h (an_assumption {q = q} {t = t} k i) = let u = one_before h k in (t, q, subst (λ ps. IsDisplay t ps (symbol_at q Semicolon ∷ rest)) (sym u.1) i)
 
 pub reason_closes : (e : Term) (t : List ℕ) (a : Act) (ps mid next rest : List Piece) → IsBefore Comma e ps mid → IsDisplay t mid next → after Semicolon next ≡ None → IsSimple Assume a ps rest → ⊥
@@ -104,7 +105,7 @@ pub is_assumption : (e : Term) (t : List ℕ) (ps mid next rest : List Piece) �
 is_assumption e t ps mid next rest h k taken = let s = after-Some Semicolon next rest taken in an_assumption h (subst (IsDisplay t mid) s.1 k)
 
 -- a text that is next stands in front
-text_first : (t : List ℕ) (ps rest : List Piece) → text_next ps ≡ Some (t, rest) → (r : ℕ) × (ps ≡ text_at r t ∷ rest)
+text_first : (t : List ℕ) (ps rest : List Piece) → text_next ps ≡ Some (t, rest) → (r : Position) × (ps ≡ text_at r t ∷ rest)
 text_first t [] rest h = cc
 text_first t (text_at r s ∷ ps) rest h = let e = some_pair_parts s t ps rest h in (r, ap (λ s. text_at r s ∷ ps) e.0 ∙ ap (λ ps. text_at r t ∷ ps) e.1)
 text_first t (name_at r n ∷ ps) rest h = cc
@@ -152,7 +153,7 @@ binding_value n b old ps mid rest next taken (a_binding {q = q} {n = m} {e = e} 
     let g : qs ≡ mid = cc in
     (e, subst (λ ps. IsBefore Semicolon e ps rest) g h)
 
-pub is_display_text : (r : ℕ) (t s : List ℕ) (old new : List Piece) → old ≡ text_at r t ∷ tail old → new ≡ tail old → s ≡ t → is_display s ≡ true → IsDisplay s old new
+pub is_display_text : (r : Position) (t s : List ℕ) (old new : List Piece) → old ≡ text_at r t ∷ tail old → new ≡ tail old → s ≡ t → is_display s ≡ true → IsDisplay s old new
 is_display_text r t s old new next ahead same is =
     let u : old ≡ text_at r s ∷ new = next ∙ ap (λ t. text_at r t ∷ tail old) (sym same) ∙ ap (λ ps. text_at r s ∷ ps) (sym ahead) in
     subst (λ ps. IsDisplay s ps new) (sym u) (a_display is)
@@ -210,28 +211,28 @@ pub not_opened : (d above : ℕ) (body : Acts) (old new : List Piece) → ((more
 not_opened d above body old new none (a_body {d = m} {r = r} {ps = ps} h) = let e : None ≡ Some ps = sym (none m refl) ∙ after-symbol_at r OpenBrace ps in cc
 
 -- a body begins with a brace
-brace_first : {d above : ℕ} {body : Acts} {old new : List Piece} → IsBody d above body old new → (r : ℕ) × (ps : List Piece) × (old ≡ symbol_at r OpenBrace ∷ ps)
+brace_first : {d above : ℕ} {body : Acts} {old new : List Piece} → IsBody d above body old new → (r : Position) × (ps : List Piece) × (old ≡ symbol_at r OpenBrace ∷ ps)
 brace_first (a_body {r = r} {ps = ps} h) = (r, ps, refl)
 
--- the line of a token is that of its piece
-line_of-front : (r q : ℕ) (t : Token) (s : Symbol) (ps qs : List Piece) → front r t ps ≡ symbol_at q s ∷ qs → r ≡ q
-line_of-front r q (T.Name n) s ps qs h = cc
-line_of-front r q (T.Number n) s ps qs h = cc
-line_of-front r q (T.Text n) s ps qs h = cc
-line_of-front r q (T.Word w) s ps qs h = cc
-line_of-front r q (T.Symbol t) s ps qs h = cc
-line_of-front r q T.End s ps qs h = cc
-line_of-front r q (T.Bad fault) s ps qs h = cc
+-- the position of a token is that of its piece
+position_of-front : (r q : Position) (t : Token) (s : Symbol) (ps qs : List Piece) → front r t ps ≡ symbol_at q s ∷ qs → r ≡ q
+position_of-front r q (T.Name n) s ps qs h = cc
+position_of-front r q (T.Number n) s ps qs h = cc
+position_of-front r q (T.Text n) s ps qs h = cc
+position_of-front r q (T.Word w) s ps qs h = cc
+position_of-front r q (T.Symbol t) s ps qs h = cc
+position_of-front r q T.End s ps qs h = cc
+position_of-front r q (T.Bad fault) s ps qs h = cc
 
 -- a body whose rows count from its own line is a block
-pub is_block : (r above : ℕ) (t : Token) (body : Acts) (old new : List Piece) → above ≡ r - 1 → old ≡ front r t (tail old) → IsBody BODY_DEPTH above body old new → IsBlock body old new
+pub is_block : (r : Position) (above : ℕ) (t : Token) (body : Acts) (old new : List Piece) → above ≡ r.line - 1 → old ≡ front r t (tail old) → IsBody BODY_DEPTH above body old new → IsBlock body old new
 is_block r above t body old new from next h =
     let s = brace_first h in
-    let e = line_of-front r s.0 t OpenBrace (tail old) s.1 (sym next ∙ s.2) in
-    let rows : above ≡ s.0 - 1 = from ∙ ap (λ n. n - 1) e in
+    let e = position_of-front r s.0 t OpenBrace (tail old) s.1 (sym next ∙ s.2) in
+    let rows : above ≡ s.0.line - 1 = from ∙ ap (λ (p : Position). p.line - 1) e in
     subst (λ qs. IsBlock body qs new) (sym s.2) (a_block (subst (λ n. IsBody BODY_DEPTH n body (symbol_at s.0 OpenBrace ∷ s.1) new) rows (subst (λ qs. IsBody BODY_DEPTH above body qs new) s.2 h)))
 
-pub block_inner : (r above : ℕ) (t : Token) (body : Acts) (old new : List Piece) → above ≡ r - 1 → old ≡ front r t (tail old) → IsBlock body old new → IsBody BODY_DEPTH above body old new
+pub block_inner : (r : Position) (above : ℕ) (t : Token) (body : Acts) (old new : List Piece) → above ≡ r.line - 1 → old ≡ front r t (tail old) → IsBlock body old new → IsBody BODY_DEPTH above body old new
 block_inner r above t body old new from next (a_block {r = q} {ps = ps} h) =
-    let e = line_of-front r q t OpenBrace (tail old) ps (sym next) in
-    subst (λ n. IsBody BODY_DEPTH n body old new) (sym (from ∙ ap (λ n. n - 1) e)) h
+    let e = position_of-front r q t OpenBrace (tail old) ps (sym next) in
+    subst (λ n. IsBody BODY_DEPTH n body old new) (sym (from ∙ ap (λ (p : Position). p.line - 1) e)) h

@@ -13,6 +13,7 @@ use Rattle.iso_script_statements.specs.Expressions.{IsLiteral, a_number, a_negat
 use Rattle.iso_script_statements.specs.declared.expression.Infix.{Infix}
 use Rattle.iso_script_statements.specs.declared.simple.Simple.{Simple}
 use Rattle.iso_script_statements.specs.Statements.{with_one, with_two, IsDisplay, a_display, IsBinding, a_binding, IsSimple, of_one, of_two, a_let, an_assumption, a_fail, IsStatement, a_simple, an_assignment, an_if, a_repeat, IsElse, no_else, an_else, IsStatements, closed, and_then, IsBody, a_body, IsBlock, a_block}
+use Rattle.iso_script_lexer.specs.declared.token.Position.{Position}
 
 pub one_literal : {x y : Data} {ps qs rs : List Piece} → IsLiteral x ps qs → IsLiteral y ps rs → (x ≡ y) × (qs ≡ rs)
 one_literal (a_number h) (a_number k) = (refl, refl)
@@ -21,16 +22,16 @@ one_literal a_text a_text = (refl, refl)
 one_literal a_true a_true = (refl, refl)
 one_literal a_false a_false = (refl, refl)
 
-no_name : {x : Data} {r : ℕ} {n : List ℕ} {ps qs : List Piece} → IsLiteral x (name_at r n ∷ ps) qs → ⊥
+no_name : {x : Data} {r : Position} {n : List ℕ} {ps qs : List Piece} → IsLiteral x (name_at r n ∷ ps) qs → ⊥
 no_name h = elim h [ ]
 
-pub no_parenthesis : {x : Data} {r : ℕ} {ps qs : List Piece} → IsLiteral x (symbol_at r OpenParen ∷ ps) qs → ⊥
+pub no_parenthesis : {x : Data} {r : Position} {ps qs : List Piece} → IsLiteral x (symbol_at r OpenParen ∷ ps) qs → ⊥
 no_parenthesis h = elim h [ ]
 
-pub no_locale : {x : Data} {r : ℕ} {ps qs : List Piece} → IsLiteral x (word_at r W.Locale ∷ ps) qs → ⊥
+pub no_locale : {x : Data} {r : Position} {ps qs : List Piece} → IsLiteral x (word_at r W.Locale ∷ ps) qs → ⊥
 no_locale h = elim h [ ]
 
-pub no_function : {x : Data} {r : ℕ} {w : Word} {f : Function} {ps qs : List Piece} → function_of w ≡ Some f → IsLiteral x (word_at r w ∷ ps) qs → ⊥
+pub no_function : {x : Data} {r : Position} {w : Word} {f : Function} {ps qs : List Piece} → function_of w ≡ Some f → IsLiteral x (word_at r w ∷ ps) qs → ⊥
 no_function is a_true = cc
 no_function is a_false = cc
 
@@ -38,13 +39,13 @@ one_locale : {d : ℕ} {e f : Term} {ps qs rs : List Piece} → IsLocale d e ps 
 one_locale no_argument no_argument = (refl, refl)
 
 -- no operator follows where one does
-unended : {r : ℕ} {s : Symbol} {i : Infix} (ps qs : List Piece) → infix_next ps ≡ None → ps ≡ symbol_at r s ∷ qs → infix_of s ≡ Some i → ⊥
+unended : {r : Position} {s : Symbol} {i : Infix} (ps qs : List Piece) → infix_next ps ≡ None → ps ≡ symbol_at r s ∷ qs → infix_of s ≡ Some i → ⊥
 unended {r = r} {s = s} {i = i} ps qs none next is =
     let e : infix_next ps ≡ Some (s, i) = ap infix_next next ∙ ap (option_map (λ j. (s, j))) is in
     cc
 
 -- of two that stand in front, each is the other
-same_front : {r q : ℕ} {s t : Symbol} {ps qs : List Piece} → symbol_at r s ∷ ps ≡ symbol_at q t ∷ qs → (s ≡ t) × (ps ≡ qs)
+same_front : {r q : Position} {s t : Symbol} {ps qs : List Piece} → symbol_at r s ∷ ps ≡ symbol_at q t ∷ qs → (s ≡ t) × (ps ≡ qs)
 same_front e = (cc, cc)
 
 mutual
@@ -123,7 +124,7 @@ one_simple (an_assumption {t = t} h i) (an_assumption {q = q} {e = e} {t = s} {r
     (ap (λ e. plain (assume e t)) u.0 ∙ ap (λ t. plain (assume e t)) v.0, (same_front v.1).1)
 one_simple a_fail a_fail = (refl, refl)
 
-no_statement : {d above r : ℕ} {s : Symbol} {a : Act} {ps qs : List Piece} → IsStatement d above a (symbol_at r s ∷ ps) qs → ⊥
+no_statement : {d above : ℕ} {r : Position} {s : Symbol} {a : Act} {ps qs : List Piece} → IsStatement d above a (symbol_at r s ∷ ps) qs → ⊥
 no_statement h = elim h [ ]
 
 mutual

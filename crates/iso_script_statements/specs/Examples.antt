@@ -6,14 +6,14 @@ use Rattle.iso_model.specs.Examples.Words.{body, fail, number, print}
 use Rattle.iso_model.specs.Syntax.{Term, Act, repeat, Acts}
 use Rattle.iso_model.specs.SyntaxView.{acts_of}
 use Rattle.iso_model.specs.declared.limits.TheConstants.{PARENTHESES}
-use Rattle.iso_script_lexer.specs.Lexical.{HasPieces}
+use Rattle.iso_script_lexer.specs.Lexical.{ArePiecesOf}
 use Rattle.iso_script_lexer.specs.Piece.{Piece}
 use Rattle.iso_script_statements.specs.Expressions.{IsExpression}
 use Rattle.iso_script_statements.specs.Statements.{IsBlock}
 
 -- a text is an expression, and nothing more
 abbrev pub IsExpressionText : String → Term → Type 0
-IsExpressionText text e = (ps : List Piece) × HasPieces 1 (codes text) ps × IsExpression PARENTHESES e ps []
+IsExpressionText text e = (ps : List Piece) × ArePiecesOf (codes text) ps × IsExpression PARENTHESES e ps []
 
 -- lines, each with its line feed
 abbrev pub text_of : List String → List ℕ
@@ -21,7 +21,7 @@ text_of lines = flat_map (λ l. codes l ++ codes "\n") lines
 
 -- lines are a block, and nothing more
 abbrev pub IsBlockText : List String → Acts → Type 0
-IsBlockText lines body = (ps : List Piece) × HasPieces 1 (text_of lines) ps × IsBlock body ps []
+IsBlockText lines body = (ps : List Piece) × ArePiecesOf (text_of lines) ps × IsBlock body ps []
 
 -- a text is a block of one statement, on its first row
 abbrev pub IsStatementText : String → Act → Type 0

@@ -19,11 +19,11 @@ name_ahead _ = None
 
 -- the line that a piece stands on
 abbrev pub line_of : Piece → ℕ
-line_of (name_at r n) = r
-line_of (number_at r n) = r
-line_of (text_at r t) = r
-line_of (word_at r w) = r
-line_of (symbol_at r s) = r
+line_of (name_at r n) = r.line
+line_of (number_at r n) = r.line
+line_of (text_at r t) = r.line
+line_of (word_at r w) = r.line
+line_of (symbol_at r s) = r.line
 line_of (bad_at r fault) = r
 
 -- The row of the piece that is next, in a block whose opening brace has this many lines above its own: rows count from 1

@@ -21,6 +21,7 @@ use Rattle.iso_script_statements.specs.declared.simple.TwoOperands.{TwoOperands}
 use Rattle.iso_script_statements.specs.declared.simple.TwoOperands.TheVariants.{AssertEqual, SetProp, WriteFile, AppendFile}
 use Rattle.iso_script_statements.specs.declared.simple.Simple.{Simple}
 use Rattle.iso_script_statements.specs.declared.simple.Simple.TheVariants.{One, Two, Let, Assume, Fail}
+use Rattle.iso_script_lexer.specs.declared.token.Position.{Position}
 
 -- what a reserved word begins, besides `if` and `repeat`
 abbrev pub simple_of : Word → Option Simple
@@ -65,11 +66,11 @@ is_display (b ∷ bs) =
 
 -- a display text or a reason
 pub data IsDisplay : List ℕ → List Piece → List Piece → Type 0 where
-  a_display : {r : ℕ} {t : List ℕ} {ps : List Piece} → is_display t ≡ true → IsDisplay t (text_at r t ∷ ps) ps
+  a_display : {r : Position} {t : List ℕ} {ps : List Piece} → is_display t ≡ true → IsDisplay t (text_at r t ∷ ps) ps
 
 -- a name, and the expression that it gets
 pub data IsBinding : List ℕ × Term → List Piece → List Piece → Type 0 where
-  a_binding : {r q : ℕ} {n : List ℕ} {e : Term} {ps qs : List Piece}
+  a_binding : {r q : Position} {n : List ℕ} {e : Term} {ps qs : List Piece}
       → IsBefore Semicolon e ps qs → IsBinding (n, e) (name_at r n ∷ symbol_at q Equals ∷ ps) qs
 
 -- what follows the word of a simple statement
@@ -79,45 +80,45 @@ pub data IsSimple : Simple → Act → List Piece → List Piece → Type 0 wher
   of_two : {o : TwoOperands} {e f : Term} {ps qs rs : List Piece}
       → IsBefore Comma e ps qs → IsBefore Semicolon f qs rs → IsSimple (Two o) (plain (with_two o e f)) ps rs
   a_let : {b : List ℕ × Term} {ps qs : List Piece} → IsBinding b ps qs → IsSimple Let (plain (let_name b.0 b.1)) ps qs
-  an_assumption : {q : ℕ} {e : Term} {t : List ℕ} {ps qs rs : List Piece}
+  an_assumption : {q : Position} {e : Term} {t : List ℕ} {ps qs rs : List Piece}
       → IsBefore Comma e ps qs → IsDisplay t qs (symbol_at q Semicolon ∷ rs) → IsSimple Assume (plain (assume e t)) ps rs
-  a_fail : {r q : ℕ} {t : List ℕ} {ps : List Piece} → IsSimple Fail (plain (fail t)) (text_at r t ∷ symbol_at q Semicolon ∷ ps) ps
+  a_fail : {r q : Position} {t : List ℕ} {ps : List Piece} → IsSimple Fail (plain (fail t)) (text_at r t ∷ symbol_at q Semicolon ∷ ps) ps
 
 mutual
   pub data IsStatement : (d above : ℕ) → Act → List Piece → List Piece → Type 0 where
-    a_simple : {d above r : ℕ} {w : Word} {k : Simple} {a : Act} {ps qs : List Piece}
+    a_simple : {d above : ℕ} {r : Position} {w : Word} {k : Simple} {a : Act} {ps qs : List Piece}
         → simple_of w ≡ Some k → IsSimple k a ps qs → IsStatement d above a (word_at r w ∷ ps) qs
-    an_assignment : {d above r : ℕ} {n : List ℕ} {b : List ℕ × Term} {ps qs : List Piece}
+    an_assignment : {d above : ℕ} {r : Position} {n : List ℕ} {b : List ℕ × Term} {ps qs : List Piece}
         → IsBinding b (name_at r n ∷ ps) qs → IsStatement d above (plain (assign b.0 b.1)) (name_at r n ∷ ps) qs
-    an_if : {d above r : ℕ} {e : Term} {a b : Acts} {ps qs rs ts : List Piece}
+    an_if : {d above : ℕ} {r : Position} {e : Term} {a b : Acts} {ps qs rs ts : List Piece}
         → IsExpression PARENTHESES e ps qs → IsBody d above a qs rs → IsElse d above b rs ts
         → IsStatement d above (choice e a b) (word_at r W.If ∷ ps) ts
-    a_repeat : {d above r : ℕ} {e : Term} {a : Acts} {ps qs rs : List Piece}
+    a_repeat : {d above : ℕ} {r : Position} {e : Term} {a : Acts} {ps qs rs : List Piece}
         → IsExpression PARENTHESES e ps qs → IsBody d above a qs rs
         → IsStatement d above (repeat e a) (word_at r W.Repeat ∷ ps) rs
 
   -- the body of an `else`, and an empty one where there is none
   pub data IsElse : (d above : ℕ) → Acts → List Piece → List Piece → Type 0 where
     no_else : {d above : ℕ} {ps : List Piece} → after_word W.Else ps ≡ None → IsElse d above no_acts ps ps
-    an_else : {d above r : ℕ} {b : Acts} {ps qs : List Piece} → IsBody d above b ps qs
+    an_else : {d above : ℕ} {r : Position} {b : Acts} {ps qs : List Piece} → IsBody d above b ps qs
         → IsElse d above b (word_at r W.Else ∷ ps) qs
 
   -- statements, each with the row of its first token, and the brace that closes them
   pub data IsStatements : (d above : ℕ) → Acts → List Piece → List Piece → Type 0 where
-    closed : {d above r : ℕ} {ps : List Piece} → IsStatements d above no_acts (symbol_at r CloseBrace ∷ ps) ps
+    closed : {d above : ℕ} {r : Position} {ps : List Piece} → IsStatements d above no_acts (symbol_at r CloseBrace ∷ ps) ps
     and_then : {d above : ℕ} {a : Act} {body : Acts} {ps qs rs : List Piece}
         → IsStatement d above a ps qs → IsStatements d above body qs rs
         → IsStatements d above (act (row_in above ps) a body) ps rs
 
   -- a body
   pub data IsBody : (d above : ℕ) → Acts → List Piece → List Piece → Type 0 where
-    a_body : {d above r : ℕ} {body : Acts} {ps qs : List Piece} → IsStatements d above body ps qs
+    a_body : {d above : ℕ} {r : Position} {body : Acts} {ps qs : List Piece} → IsStatements d above body ps qs
         → IsBody (suc d) above body (symbol_at r OpenBrace ∷ ps) qs
 
 -- a block: the body of a test, or of a lifecycle block
 pub data IsBlock : Acts → List Piece → List Piece → Type 0 where
-  a_block : {r : ℕ} {body : Acts} {ps qs : List Piece}
-      → IsBody BODY_DEPTH (r - 1) body (symbol_at r OpenBrace ∷ ps) qs → IsBlock body (symbol_at r OpenBrace ∷ ps) qs
+  a_block : {r : Position} {body : Acts} {ps qs : List Piece}
+      → IsBody BODY_DEPTH (r.line - 1) body (symbol_at r OpenBrace ∷ ps) qs → IsBlock body (symbol_at r OpenBrace ∷ ps) qs
 
 -- what the statements of a body stand for
 abbrev pub body_of : Vec Stmt Global → Acts

@@ -3,6 +3,7 @@ ghost use Rattle.std.specs.Prelude.{◌≡◌, ◌∷◌, ◌-◌, ℕ, List, Ma
 ghost use Rattle.iso_script_lexer.specs.Piece.{Piece, symbol_at};
 ghost use Rattle.iso_script_lexer.specs.Tokens.{after};
 ghost use Rattle.iso_script_lexer.specs.declared.symbol.Symbol.TheVariants.{Minus};
+ghost use Rattle.iso_script_lexer.specs.declared.token.Position.{Position};
 ghost use Rattle.iso_model.specs.Syntax.{chain, compare};
 ghost use Rattle.iso_model.specs.SyntaxView.{term_of};
 ghost use Rattle.iso_model.specs.declared.data.Data.{Data};
@@ -146,7 +147,7 @@ impl Parser<'_> {
 
     /// The number after a minus, as the negative one that it writes.
     fn negative(&mut self) -> Result<Data, ScriptError>
-        ensures { (q : ℕ) → Parses (λ (x : Data). x) (λ x ps qs. IsLiteral x (symbol_at q Minus ∷ ps) qs) result self.old.lexer self.new.lexer }
+        ensures { (q : Position) → Parses (λ (x : Data). x) (λ x ps qs. IsLiteral x (symbol_at q Minus ∷ ps) qs) result self.old.lexer self.new.lexer }
     {
         let Token::Number(number) = self.lexer.peek().0 else {
             return Err(self.unexpected());

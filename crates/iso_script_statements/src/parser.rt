@@ -1,5 +1,5 @@
 ghost use Rattle.std.specs.Prelude.{ℕ, suc, ◌≡◌, ◌≢◌, ◌≤◌, ◌↔◌, List, [], Some, None, IsTrue, MatchResult, IfErr, is_some, length, option_map};
-ghost use Rattle.iso_script_lexer.specs.Lexical.{HasPieces};
+ghost use Rattle.iso_script_lexer.specs.Lexical.{ArePiecesOf};
 ghost use Rattle.iso_script_lexer.specs.Piece.{Piece, tail};
 ghost use Rattle.iso_script_lexer.specs.Tokens.{after, after_word, text_of};
 ghost use Rattle.iso_model.specs.declared.limits.TheConstants.{FILE_BYTES};
@@ -25,7 +25,7 @@ impl<'a> Parser<'a> {
     /// At the first token of a script.
     pub fn new(alloc: Global, bytes: &'a [u8]) -> Parser<'a>
         requires { length bytes.now ≤ FILE_BYTES }
-        ensures { HasPieces 1 bytes.now result.lexer }
+        ensures { ArePiecesOf bytes.now result.lexer }
     {
         Parser {
             alloc,

@@ -1,6 +1,7 @@
 //! Statements and bodies.
 ghost use Rattle.std.specs.Prelude.{◌∷◌, ℕ};
 ghost use Rattle.iso_script_lexer.specs.Piece.{word_at};
+ghost use Rattle.iso_script_lexer.specs.declared.token.Position.{Position};
 ghost use Rattle.iso_script_lexer.specs.declared.word.Word.TheVariants as W;
 ghost use Rattle.iso_model.specs.SyntaxView.{form_of, stmt_of};
 ghost use Rattle.iso_script_statements.specs.Parsing.{Parses};
@@ -68,7 +69,7 @@ impl Parser<'_> {
     /// What follows `if`.
     #[cycle(body)]
     fn choice(&mut self, bodies: u32, above: u32) -> Result<Form, ScriptError>
-        ensures { (r : ℕ) → Parses form_of (λ a ps qs. IsStatement bodies above a (word_at r W.If ∷ ps) qs)
+        ensures { (r : Position) → Parses form_of (λ a ps qs. IsStatement bodies above a (word_at r W.If ∷ ps) qs)
             result self.old.lexer self.new.lexer }
     {
         let condition = self.expression(PARENTHESES)?;
@@ -92,7 +93,7 @@ impl Parser<'_> {
     /// What follows `repeat`.
     #[cycle(body)]
     fn repetition(&mut self, bodies: u32, above: u32) -> Result<Form, ScriptError>
-        ensures { (r : ℕ) → Parses form_of (λ a ps qs. IsStatement bodies above a (word_at r W.Repeat ∷ ps) qs)
+        ensures { (r : Position) → Parses form_of (λ a ps qs. IsStatement bodies above a (word_at r W.Repeat ∷ ps) qs)
             result self.old.lexer self.new.lexer }
     {
         let count = self.expression(PARENTHESES)?;

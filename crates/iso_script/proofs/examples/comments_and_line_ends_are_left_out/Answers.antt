@@ -1,23 +1,24 @@
 use Rattle.std.proofs.Common.{refl, List, [], ◌∷◌, codes}
 use Rattle.iso_script_lexer.specs.Piece.{Piece, name_at, number_at, word_at, symbol_at}
-use Rattle.iso_script_lexer.specs.Scan.{after_gap, front_of, pieces, pieces_of, symbol_front}
+use Rattle.iso_script_lexer.specs.Scan.{gap_from, front_of, pieces, pieces_of, symbol_front}
 use Rattle.iso_script_lexer.specs.Spelling.{word_of}
 use Rattle.iso_script_lexer.specs.declared.symbol.Symbol.TheVariants.{CloseBrace, Equals, OpenBrace, Semicolon}
 use Rattle.iso_script_lexer.specs.declared.word.Word.TheVariants as W
 use Rattle.iso_script_statements.specs.Expressions.{a_name}
 use Rattle.iso_script_statements.specs.Statements.{of_one, a_simple, closed, a_body, a_block}
 use Rattle.iso_script_statements.proofs.ExampleLemmas as S
+use Rattle.iso_script_lexer.specs.Examples.{at}
 use Rattle.iso_script.proofs.ExampleLemmas.{are_read, alone, a_plain_test, a_plain_class, a_number_alone}
 use Rattle.iso_script.proofs.examples.comments_and_line_ends_are_left_out.Goals as goal
 
 abbrev commented : List Piece
 commented =
-    word_at 3 W.Class ∷ name_at 3 (codes "C") ∷ symbol_at 3 OpenBrace ∷ word_at 4 W.Static ∷ name_at 4 (codes "n") ∷ symbol_at 4 Equals
-    ∷ number_at 4 1 ∷ symbol_at 4 Semicolon ∷ word_at 5 W.Test ∷ name_at 5 (codes "t") ∷ symbol_at 5 OpenBrace ∷ word_at 6 W.Print
-    ∷ name_at 6 (codes "n") ∷ symbol_at 6 Semicolon ∷ symbol_at 7 CloseBrace ∷ symbol_at 7 CloseBrace ∷ []
+    word_at (at 3 1) W.Class ∷ name_at (at 3 7) (codes "C") ∷ symbol_at (at 3 9) OpenBrace ∷ word_at (at 4 2) W.Static ∷ name_at (at 4 9) (codes "n") ∷ symbol_at (at 4 11) Equals
+    ∷ number_at (at 4 13) 1 ∷ symbol_at (at 4 14) Semicolon ∷ word_at (at 5 2) W.Test ∷ name_at (at 5 7) (codes "t") ∷ symbol_at (at 5 9) OpenBrace ∷ word_at (at 6 3) W.Print
+    ∷ name_at (at 6 9) (codes "n") ∷ symbol_at (at 6 10) Semicolon ∷ symbol_at (at 7 1) CloseBrace ∷ symbol_at (at 7 3) CloseBrace ∷ []
 
 pub returns : goal.returns
-unfolding pieces_of pieces after_gap front_of symbol_front word_of
+unfolding pieces_of pieces gap_from front_of symbol_front word_of
 returns c =
     are_read {ps = commented} refl refl (
       _,

@@ -4,7 +4,7 @@ use Rattle.iso_model.specs.Examples.Words.{variable}
 use Rattle.iso_model.specs.declared.data.Data.TheVariants.{Text, Whole}
 use Rattle.iso_model.specs.declared.place.Lifecycle.TheVariants.{BeforeAll, AfterAll, BeforeEach, AfterEach}
 use Rattle.iso_script_lexer.specs.Piece.{Piece, name_at, number_at, text_at, word_at, symbol_at}
-use Rattle.iso_script_lexer.specs.Scan.{after_gap, front_of, pieces, pieces_of, quoted_length, symbol_front}
+use Rattle.iso_script_lexer.specs.Scan.{gap_from, front_of, pieces, pieces_of, quoted_length, symbol_front}
 use Rattle.iso_script_lexer.specs.Spelling.{word_of}
 use Rattle.iso_script_lexer.specs.Text.{decoded}
 use Rattle.iso_script_lexer.specs.declared.symbol.Symbol.TheVariants.{CloseBrace, Equals, Minus, OpenBrace, Semicolon}
@@ -16,6 +16,7 @@ use Rattle.iso_script.specs.Examples.{variable_of, with_blocks, with_variables}
 use Rattle.iso_script.specs.Grammar.{as_class, a_class}
 use Rattle.iso_script.specs.Variables.{Variables, a_variable}
 use Rattle.iso_script.specs.declared.variable.VariableWord.TheVariants.{Static, Field}
+use Rattle.iso_script_lexer.specs.Examples.{at}
 use Rattle.iso_script.proofs.ExampleLemmas.{are_read, none_declared, no_marks, no_variables, alone, an_empty_test, a_plain_class, fails, each_block, written, each_body}
 use Rattle.iso_script.proofs.examples.heads_of_classes_are_read.Goals as goal
 
@@ -24,13 +25,13 @@ head_variables = record { statics = with_variables.statics; fields = with_variab
 
 abbrev variables : List Piece
 variables =
-    word_at 2 W.Class ∷ name_at 2 (codes "C") ∷ symbol_at 2 OpenBrace ∷ word_at 2 W.Static ∷ name_at 2 (codes "a") ∷ symbol_at 2 Equals
-    ∷ number_at 2 7 ∷ symbol_at 2 Semicolon ∷ word_at 2 W.Field ∷ name_at 2 (codes "b") ∷ symbol_at 2 Equals ∷ symbol_at 2 Minus ∷ number_at 2 1
-    ∷ symbol_at 2 Semicolon ∷ word_at 2 W.Static ∷ name_at 2 (codes "c") ∷ symbol_at 2 Equals ∷ text_at 2 (codes "x") ∷ symbol_at 2 Semicolon
-    ∷ word_at 2 W.Test ∷ name_at 2 (codes "t") ∷ symbol_at 2 OpenBrace ∷ symbol_at 2 CloseBrace ∷ symbol_at 2 CloseBrace ∷ []
+    word_at (at 2 1) W.Class ∷ name_at (at 2 7) (codes "C") ∷ symbol_at (at 2 9) OpenBrace ∷ word_at (at 2 11) W.Static ∷ name_at (at 2 18) (codes "a") ∷ symbol_at (at 2 20) Equals
+    ∷ number_at (at 2 22) 7 ∷ symbol_at (at 2 23) Semicolon ∷ word_at (at 2 25) W.Field ∷ name_at (at 2 31) (codes "b") ∷ symbol_at (at 2 33) Equals ∷ symbol_at (at 2 35) Minus ∷ number_at (at 2 36) 1
+    ∷ symbol_at (at 2 37) Semicolon ∷ word_at (at 2 39) W.Static ∷ name_at (at 2 46) (codes "c") ∷ symbol_at (at 2 48) Equals ∷ text_at (at 2 50) (codes "x") ∷ symbol_at (at 2 53) Semicolon
+    ∷ word_at (at 2 55) W.Test ∷ name_at (at 2 60) (codes "t") ∷ symbol_at (at 2 62) OpenBrace ∷ symbol_at (at 2 64) CloseBrace ∷ symbol_at (at 2 66) CloseBrace ∷ []
 
 pub returns-clause-variables : goal.returns-clause-variables
-unfolding pieces_of pieces after_gap front_of symbol_front quoted_length decoded word_of IsDistinct
+unfolding pieces_of pieces gap_from front_of symbol_front quoted_length decoded word_of IsDistinct
 returns-clause-variables c =
     are_read {ps = variables} refl refl (
       _,
@@ -54,15 +55,15 @@ head_blocks = each_block with_blocks.before_all with_blocks.after_all with_block
 
 abbrev blocks : List Piece
 blocks =
-    word_at 2 W.Class ∷ name_at 2 (codes "C") ∷ symbol_at 2 OpenBrace ∷ word_at 2 W.AfterEach ∷ symbol_at 2 OpenBrace ∷ word_at 3 W.Fail
-    ∷ text_at 3 (codes "a") ∷ symbol_at 3 Semicolon ∷ symbol_at 3 CloseBrace ∷ word_at 3 W.BeforeAll ∷ symbol_at 3 OpenBrace ∷ word_at 3 W.Fail
-    ∷ text_at 3 (codes "b") ∷ symbol_at 3 Semicolon ∷ symbol_at 3 CloseBrace ∷ word_at 3 W.AfterAll ∷ symbol_at 3 OpenBrace ∷ word_at 5 W.Fail
-    ∷ text_at 5 (codes "c") ∷ symbol_at 5 Semicolon ∷ symbol_at 5 CloseBrace ∷ word_at 5 W.BeforeEach ∷ symbol_at 5 OpenBrace ∷ word_at 5 W.Fail
-    ∷ text_at 5 (codes "d") ∷ symbol_at 5 Semicolon ∷ symbol_at 5 CloseBrace ∷ word_at 5 W.Test ∷ name_at 5 (codes "t") ∷ symbol_at 5 OpenBrace
-    ∷ symbol_at 5 CloseBrace ∷ symbol_at 5 CloseBrace ∷ []
+    word_at (at 2 1) W.Class ∷ name_at (at 2 7) (codes "C") ∷ symbol_at (at 2 9) OpenBrace ∷ word_at (at 2 11) W.AfterEach ∷ symbol_at (at 2 22) OpenBrace ∷ word_at (at 3 1) W.Fail
+    ∷ text_at (at 3 6) (codes "a") ∷ symbol_at (at 3 9) Semicolon ∷ symbol_at (at 3 11) CloseBrace ∷ word_at (at 3 13) W.BeforeAll ∷ symbol_at (at 3 24) OpenBrace ∷ word_at (at 3 26) W.Fail
+    ∷ text_at (at 3 31) (codes "b") ∷ symbol_at (at 3 34) Semicolon ∷ symbol_at (at 3 36) CloseBrace ∷ word_at (at 3 38) W.AfterAll ∷ symbol_at (at 3 48) OpenBrace ∷ word_at (at 5 1) W.Fail
+    ∷ text_at (at 5 6) (codes "c") ∷ symbol_at (at 5 9) Semicolon ∷ symbol_at (at 5 11) CloseBrace ∷ word_at (at 5 13) W.BeforeEach ∷ symbol_at (at 5 25) OpenBrace ∷ word_at (at 5 27) W.Fail
+    ∷ text_at (at 5 32) (codes "d") ∷ symbol_at (at 5 35) Semicolon ∷ symbol_at (at 5 37) CloseBrace ∷ word_at (at 5 39) W.Test ∷ name_at (at 5 44) (codes "t") ∷ symbol_at (at 5 46) OpenBrace
+    ∷ symbol_at (at 5 48) CloseBrace ∷ symbol_at (at 5 50) CloseBrace ∷ []
 
 pub returns-clause-blocks : goal.returns-clause-blocks
-unfolding pieces_of pieces after_gap front_of symbol_front quoted_length decoded word_of
+unfolding pieces_of pieces gap_from front_of symbol_front quoted_length decoded word_of
 returns-clause-blocks c =
     are_read {ps = blocks} refl refl (
       _,

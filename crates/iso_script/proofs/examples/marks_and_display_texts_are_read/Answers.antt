@@ -2,7 +2,7 @@ use Rattle.std.proofs.Common.{List, [], ◌∷◌, Some, true, false, codes, ref
 use Rattle.iso_model.specs.Examples.Words.{for_children, reads, writes}
 use Rattle.iso_model.specs.declared.script.Mode.TheVariants.{SameThread, Concurrent}
 use Rattle.iso_script_lexer.specs.Piece.{Piece, name_at, text_at, word_at, symbol_at}
-use Rattle.iso_script_lexer.specs.Scan.{after_gap, front_of, pieces, pieces_of, quoted_length, symbol_front}
+use Rattle.iso_script_lexer.specs.Scan.{gap_from, front_of, pieces, pieces_of, quoted_length, symbol_front}
 use Rattle.iso_script_lexer.specs.Spelling.{word_of}
 use Rattle.iso_script_lexer.specs.Text.{decoded}
 use Rattle.iso_script_lexer.specs.declared.symbol.Symbol.TheVariants.{CloseBrace, OpenBrace}
@@ -11,6 +11,7 @@ use Rattle.iso_script_statements.specs.Statements.{a_display, closed, a_body, a_
 use Rattle.iso_script.specs.Displays.{displayed}
 use Rattle.iso_script.specs.Grammar.{as_test, a_test, as_class, a_class}
 use Rattle.iso_script.specs.Marks.{a_key, of_children, of_itself, runs, isolates, disables, declares, a_mode, an_isolation, a_disabling, a_declaration, a_mark, Marks}
+use Rattle.iso_script_lexer.specs.Examples.{at}
 use Rattle.iso_script.proofs.ExampleLemmas.{are_read, none_declared, none_written, no_variables, no_blocks, alone}
 use Rattle.iso_script.proofs.examples.marks_and_display_texts_are_read.Goals as goal
 
@@ -28,15 +29,15 @@ test_marks = record { mode = Some SameThread; isolated = false; disabled = Some 
 
 abbrev marks : List Piece
 marks =
-    word_at 2 W.Write ∷ text_at 2 (codes "d") ∷ word_at 2 W.Read ∷ word_at 2 W.Children ∷ text_at 2 (codes "c") ∷ word_at 2 W.Read
-    ∷ text_at 2 (codes "d") ∷ word_at 2 W.Isolated ∷ word_at 2 W.Write ∷ word_at 2 W.Children ∷ text_at 2 (codes "c") ∷ word_at 2 W.Concurrent
-    ∷ word_at 3 W.Disabled ∷ text_at 3 (codes "not yet") ∷ word_at 3 W.Class ∷ name_at 3 (codes "C") ∷ text_at 3 (codes "The class")
-    ∷ symbol_at 3 OpenBrace ∷ word_at 4 W.Disabled ∷ text_at 4 (codes "later") ∷ word_at 4 W.SameThread ∷ word_at 4 W.Read
-    ∷ text_at 4 (codes "e") ∷ word_at 4 W.Test ∷ name_at 4 (codes "t") ∷ text_at 4 (codes "The test") ∷ symbol_at 4 OpenBrace
-    ∷ symbol_at 4 CloseBrace ∷ symbol_at 4 CloseBrace ∷ []
+    word_at (at 2 1) W.Write ∷ text_at (at 2 7) (codes "d") ∷ word_at (at 2 11) W.Read ∷ word_at (at 2 16) W.Children ∷ text_at (at 2 25) (codes "c") ∷ word_at (at 2 29) W.Read
+    ∷ text_at (at 2 34) (codes "d") ∷ word_at (at 2 38) W.Isolated ∷ word_at (at 2 47) W.Write ∷ word_at (at 2 53) W.Children ∷ text_at (at 2 62) (codes "c") ∷ word_at (at 2 66) W.Concurrent
+    ∷ word_at (at 3 1) W.Disabled ∷ text_at (at 3 10) (codes "not yet") ∷ word_at (at 3 20) W.Class ∷ name_at (at 3 26) (codes "C") ∷ text_at (at 3 28) (codes "The class")
+    ∷ symbol_at (at 3 40) OpenBrace ∷ word_at (at 4 3) W.Disabled ∷ text_at (at 4 12) (codes "later") ∷ word_at (at 4 20) W.SameThread ∷ word_at (at 4 32) W.Read
+    ∷ text_at (at 4 37) (codes "e") ∷ word_at (at 4 41) W.Test ∷ name_at (at 4 46) (codes "t") ∷ text_at (at 4 48) (codes "The test") ∷ symbol_at (at 4 59) OpenBrace
+    ∷ symbol_at (at 4 61) CloseBrace ∷ symbol_at (at 4 63) CloseBrace ∷ []
 
 pub returns : goal.returns
-unfolding pieces_of pieces after_gap front_of symbol_front quoted_length decoded word_of
+unfolding pieces_of pieces gap_from front_of symbol_front quoted_length decoded word_of
 returns c =
     are_read {ps = marks} refl refl (
       _,

@@ -1,10 +1,10 @@
-use Rattle.std.proofs.Common.{◌≡◌, ℕ, ◌≤◌, length, true}
-use Rattle.iso_script_lexer.specs.Scan.{after_gap}
+use Rattle.std.proofs.Common.{◌≡◌, ◌≤◌, ℕ, List, length, true}
+use Rattle.iso_script_lexer.specs.Scan.{gap_from}
 use Rattle.iso_script_lexer.proofs.gap.after_comment.Given as goal
 
 abbrev pub invariant-comment : goal.invariant-comment
 invariant-comment l = record {
-  told : (row : ℕ) → after_gap true row l.fn.bytes ≡ after_gap true row l.rest;
+  told : (number : ℕ) (line : List ℕ) → gap_from true number line l.fn.bytes ≡ gap_from true number line l.rest;
   shorter : length l.rest ≤ length l.fn.bytes;
 }
 

@@ -1,5 +1,5 @@
 use Rattle.std.proofs.Common.{◌∷◌, [], refl, arith}
-use Rattle.iso_script_lexer.specs.Scan.{after_gap, front_of, pieces, pieces_of, quoted_length, symbol_front}
+use Rattle.iso_script_lexer.specs.Scan.{gap_from, front_of, pieces, pieces_of, quoted_length, symbol_front}
 use Rattle.iso_script_lexer.specs.Spelling.{word_of}
 use Rattle.iso_script_lexer.specs.Text.{decoded}
 use Rattle.iso_script_lexer.proofs.Pieces.{pieces_of-HasPieces}
@@ -10,26 +10,26 @@ use Rattle.iso_script_statements.proofs.ExampleLemmas.{alone, on_row}
 use Rattle.iso_script_statements.proofs.examples.bodies_are_read.Goals as goal
 
 pub returns-clause-none : goal.returns-clause-none
-unfolding pieces_of pieces after_gap front_of symbol_front quoted_length decoded word_of
-returns-clause-none c = (_, pieces_of-HasPieces 1 (text_of ("{ }" ∷ [])), a_block (a_body closed))
+unfolding pieces_of pieces gap_from front_of symbol_front quoted_length decoded word_of
+returns-clause-none c = (_, pieces_of-HasPieces _ (text_of ("{ }" ∷ [])), a_block (a_body closed))
 
 pub returns-clause-inner_else : goal.returns-clause-inner_else
-unfolding pieces_of pieces after_gap front_of symbol_front quoted_length decoded word_of
-returns-clause-inner_else c = (_, pieces_of-HasPieces 1 (text_of ("{ if x { if y { } else { fail \"\"; } } }" ∷ [])), a_block (a_body (on_row refl (an_if (an_operand a_name refl) (a_body (on_row refl (an_if (an_operand a_name refl) (a_body closed) (an_else (a_body (on_row refl (a_simple refl a_fail) closed)))) closed)) (no_else refl)) closed)))
+unfolding pieces_of pieces gap_from front_of symbol_front quoted_length decoded word_of
+returns-clause-inner_else c = (_, pieces_of-HasPieces _ (text_of ("{ if x { if y { } else { fail \"\"; } } }" ∷ [])), a_block (a_body (on_row refl (an_if (an_operand a_name refl) (a_body (on_row refl (an_if (an_operand a_name refl) (a_body closed) (an_else (a_body (on_row refl (a_simple refl a_fail) closed)))) closed)) (no_else refl)) closed)))
 
 pub returns-clause-outer_else : goal.returns-clause-outer_else
-unfolding pieces_of pieces after_gap front_of symbol_front quoted_length decoded word_of
-returns-clause-outer_else c = (_, pieces_of-HasPieces 1 (text_of ("{ if x { if y { fail \"\"; } } else { print z; } }" ∷ [])), a_block (a_body (on_row refl (an_if (an_operand a_name refl) (a_body (on_row refl (an_if (an_operand a_name refl) (a_body (on_row refl (a_simple refl a_fail) closed)) (no_else refl)) closed)) (an_else (a_body (on_row refl (a_simple refl (of_one (alone a_name refl))) closed)))) closed)))
+unfolding pieces_of pieces gap_from front_of symbol_front quoted_length decoded word_of
+returns-clause-outer_else c = (_, pieces_of-HasPieces _ (text_of ("{ if x { if y { fail \"\"; } } else { print z; } }" ∷ [])), a_block (a_body (on_row refl (an_if (an_operand a_name refl) (a_body (on_row refl (an_if (an_operand a_name refl) (a_body (on_row refl (a_simple refl a_fail) closed)) (no_else refl)) closed)) (an_else (a_body (on_row refl (a_simple refl (of_one (alone a_name refl))) closed)))) closed)))
 
 pub returns-clause-turns : goal.returns-clause-turns
-unfolding pieces_of pieces after_gap front_of symbol_front quoted_length decoded word_of
-returns-clause-turns c = (_, pieces_of-HasPieces 1 (text_of ("{ repeat x { repeat y { } } }" ∷ [])), a_block (a_body (on_row refl (a_repeat (an_operand a_name refl) (a_body (on_row refl (a_repeat (an_operand a_name refl) (a_body closed)) closed))) closed)))
+unfolding pieces_of pieces gap_from front_of symbol_front quoted_length decoded word_of
+returns-clause-turns c = (_, pieces_of-HasPieces _ (text_of ("{ repeat x { repeat y { } } }" ∷ [])), a_block (a_body (on_row refl (a_repeat (an_operand a_name refl) (a_body (on_row refl (a_repeat (an_operand a_name refl) (a_body closed)) closed))) closed)))
 
 pub returns-clause-rows : goal.returns-clause-rows
-unfolding pieces_of pieces after_gap front_of symbol_front quoted_length decoded word_of
+unfolding pieces_of pieces gap_from front_of symbol_front quoted_length decoded word_of
 returns-clause-rows c = (
   _,
-  pieces_of-HasPieces 1 (text_of rows_text),
+  pieces_of-HasPieces _ (text_of rows_text),
   a_block (a_body
       (on_row refl (a_simple refl (of_one (alone (a_literal (a_number (omega arith))) refl)))
       (on_row refl (a_simple refl (of_one (alone (a_literal (a_number (omega arith))) refl)))
