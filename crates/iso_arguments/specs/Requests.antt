@@ -1,31 +1,42 @@
 -- What a request asks for.
-use Rattle.std.specs.Prelude.{◌≡◌, ℕ, ◌≤◌, [], None, ⊤}
+use Rattle.std.specs.Prelude.{◌≡◌, ℕ, ◌≤◌, [], None, Option, IfSome, ⊤}
 use Rattle.iso_arguments.specs.declared.request.InputFiles.{InputFiles}
 use Rattle.iso_arguments.specs.declared.request.Request.{Request}
 use Rattle.iso_arguments.specs.declared.request.Request.TheVariants.{Run, Plan, Replay, Show}
+use Rattle.iso_arguments.specs.declared.shard.Shard.{Shard}
 
 -- the numbers of processors that may be asked for
 abbrev pub IsCount : ℕ → Type 0
 IsCount n = (1 ≤ n) × (n ≤ 1024)
 
--- what a request counts with is such a number
-abbrev pub AsksForSomeProcessors : Request → Type 0
-AsksForSomeProcessors (Run serial files) = IsCount files.processors
-AsksForSomeProcessors (Plan files) = IsCount files.processors
-AsksForSomeProcessors (Replay schedule files) = IsCount files.processors
-AsksForSomeProcessors (Show text) = ⊤
+-- the shard that is asked for, if one is: it has a number among all, which are no more than a plan has classes
+abbrev pub IsShard : Option Shard → Type 0
+IsShard asked = IfSome asked (λ shard. (1 ≤ shard.number) × (shard.number ≤ shard.of) × (shard.of ≤ 4095))
 
--- the files of a request that names none and no path, and counts with one processor
+-- what is asked for with these files is such a number of processors and such a shard
+abbrev pub AreInBounds : InputFiles → Type 0
+AreInBounds files = IsCount files.processors × IsShard files.shard
+
+abbrev pub AsksInBounds : Request → Type 0
+AsksInBounds (Run serial files) = AreInBounds files
+AsksInBounds (Plan tests files) = AreInBounds files
+AsksInBounds (Replay schedule files) = AreInBounds files
+AsksInBounds (Show text) = ⊤
+
+-- the files of a request that names none, keeps all that there is, and counts with one processor
 pub record NamesNothing (files : InputFiles) : Type 0 where
   pub settings : files.settings ≡ None
   pub world : files.world ≡ None
   pub scripts : files.scripts.items ≡ []
   pub only : files.only.items ≡ []
+  pub patterns : files.patterns.items ≡ []
+  pub only_from : files.only_from ≡ None
+  pub shard : files.shard ≡ None
   pub processors : files.processors ≡ 1
 
 -- a run of all of one script from standard input, without settings or world, counting with one processor
 abbrev pub IsPlainRun : Request → Type 0
 IsPlainRun (Run serial files) = NamesNothing files
-IsPlainRun (Plan files) = ⊥
+IsPlainRun (Plan tests files) = ⊥
 IsPlainRun (Replay schedule files) = ⊥
 IsPlainRun (Show text) = ⊥

@@ -3,3 +3,4 @@
 
 mod options;
 pub mod request;
+pub mod shard;

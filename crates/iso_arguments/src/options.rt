@@ -14,20 +14,32 @@ Exit status:
   0  every top-level point is ok, or a plan, a help or a version was printed
   1  some top-level point is not ok
   2  refused input: words, settings, world, scripts, plan or schedule
-  3  want of memory, a file that can't be read, or a failed write";
+  3  out of memory, a file that can't be read, a failed write, or a worker
+     that can't be started";
 
 static RUN_END: &str = "Examples:
   jtap run --settings junit.toml --world start.toml cart.jtap desk.jtap
-  jtap run --only shop.Cart.adds --only shop.Desk cart.jtap desk.jtap";
+  jtap run --only shop.Cart.adds --only shop.Desk cart.jtap desk.jtap
+  jtap run --match '*.adds*' --shard 2/3 cart.jtap desk.jtap";
 
-static PLAN_END: &str = "Example:
-  jtap plan --settings junit.toml cart.jtap";
+static PLAN_END: &str = "Examples:
+  jtap plan --settings junit.toml cart.jtap
+  jtap plan --tests --match 'shop.*' cart.jtap";
 
 static REPLAY_END: &str = "Example:
   jtap replay --schedule cart.schedule --settings junit.toml cart.jtap";
 
 static ONLY: &str = "Class or test to keep, with all in it, by its path as
 `jtap plan` prints it; may be repeated [default: all]";
+
+static MATCH: &str = "Keep each class or test whose whole path this matches,
+where `*` stands for any bytes; may be repeated";
+
+static ONLY_FROM: &str = "Keep the classes and tests whose paths stand in FILE,
+one a line; `-` is standard input";
+
+static SHARD: &str = "Keep every K-th top-level class of those kept,
+beginning with the I-th";
 
 /// The whole command line. The words begin with the subcommand's name.
 pub(crate) fn command_line<'a>(alloc: Global) -> Result<Command<'a>, AllocError> {
@@ -65,7 +77,8 @@ fn run<'a>(alloc: Global) -> Result<Command<'a>, AllocError> {
 /// The subcommand that prints the plan.
 fn plan<'a>(alloc: Global) -> Result<Command<'a>, AllocError> {
     let about = "Print how the scripts would run: workers, modes and locks of each node";
-    with_inputs(alloc, Ok(subcommand(alloc, "plan", about, PLAN_END)))
+    let command = subcommand(alloc, "plan", about, PLAN_END);
+    with_inputs(alloc, command.arg(tests(alloc)))
 }
 
 /// The subcommand that replays a schedule.
@@ -90,6 +103,9 @@ fn with_inputs<'a>(
         .arg(world(alloc))?
         .arg(processors(alloc))?
         .arg(only(alloc))?
+        .arg(pattern(alloc))?
+        .arg(only_from(alloc))?
+        .arg(shard(alloc))?
         .arg(scripts(alloc))
 }
 
@@ -98,6 +114,13 @@ fn serial<'a>(alloc: Global) -> Arg<'a> {
         .long("serial")
         .action(ArgAction::SetTrue)
         .help("Run every class and test in order on one thread")
+}
+
+fn tests<'a>(alloc: Global) -> Arg<'a> {
+    Arg::new(alloc, "tests")
+        .long("tests")
+        .action(ArgAction::SetTrue)
+        .help("Print the lines of tests alone")
 }
 
 fn schedule<'a>(alloc: Global) -> Arg<'a> {
@@ -143,6 +166,25 @@ fn only<'a>(alloc: Global) -> Arg<'a> {
         .value_name("PATH")
         .action(ArgAction::Append)
         .help(ONLY)
+}
+
+fn pattern<'a>(alloc: Global) -> Arg<'a> {
+    Arg::new(alloc, "match")
+        .long("match")
+        .value_name("PATTERN")
+        .action(ArgAction::Append)
+        .help(MATCH)
+}
+
+fn only_from<'a>(alloc: Global) -> Arg<'a> {
+    file(alloc, "only-from", ONLY_FROM)
+}
+
+fn shard<'a>(alloc: Global) -> Arg<'a> {
+    Arg::new(alloc, "shard")
+        .long("shard")
+        .value_name("I/K")
+        .help(SHARD)
 }
 
 fn scripts<'a>(alloc: Global) -> Arg<'a> {

@@ -1,14 +1,22 @@
 //! What the words of a command line ask for.
 ghost use Rattle.std.specs.Prelude.{◌≡◌, [], None, IfOk, IsOkAnd, drop};
 ghost use Rattle.std.specs.Vec.Iter.{into_iter_items};
-ghost use Rattle.iso_arguments.specs.Requests.{AsksForSomeProcessors, IsCount, IsPlainRun};
+ghost use Rattle.iso_arguments.specs.Requests.{AsksInBounds, AreInBounds, IsPlainRun, IsShard};
 
 use crate::options::command_line;
+use crate::shard::{Shard, read_shard};
 use clap::error::ErrorKind;
 use clap::{ArgMatches, Error};
 use std::alloc::{AllocError, AllocFailed, AllocGlobal, Global};
 use std::env::{self, Args, Env};
 use std::io;
+
+/// What is said where standard input would be the list of paths and the script.
+static LIST_WITHOUT_SCRIPT: &str =
+    "error: '--only-from -' reads the paths from standard input, so a SCRIPT has to be named
+
+For more information, try '--help'.
+";
 
 /// The files that a run, a plan or a replay is made of, as the words name them, and what is kept of them.
 #[derive(Drop)]
@@ -17,8 +25,15 @@ pub struct InputFiles<'a> {
     pub world: Option<&'a str>,
     /// In the order of the words. None: one script is read from standard input.
     pub scripts: Vec<&'a str>,
-    /// The paths of the classes and tests that are kept, in the order of the words. None: all are.
+    /// The paths of classes and tests that are kept, in the order of the words.
     pub only: Vec<&'a str>,
+    /// The patterns of the paths of others, in the order of the words.
+    pub patterns: Vec<&'a str>,
+    /// The file in which the paths of others stand, one a line; `-` is standard input. Without it, and where no path and no pattern is
+    /// given, all classes and tests are kept.
+    pub only_from: Option<&'a str>,
+    /// What part of the top-level classes is kept of these. Without it each is.
+    pub shard: Option<Shard>,
     /// 1 to 1024.
     pub processors: u32,
 }
@@ -27,7 +42,8 @@ impl<'a> InputFiles<'a> {
     /// No file, no path, and one processor: a script is read from standard input, and all of it is kept.
     pub fn none(alloc: Global) -> InputFiles<'a>
         ensures names { (result.settings ≡ None) × (result.world ≡ None) × (result.scripts.items ≡ []) }
-        ensures all { result.only.items ≡ [] }
+        ensures all { (result.only.items ≡ []) × (result.patterns.items ≡ []) × (result.only_from ≡ None) }
+        ensures whole { result.shard ≡ None }
         ensures processors { result.processors ≡ 1 }
     {
         InputFiles {
@@ -35,6 +51,9 @@ impl<'a> InputFiles<'a> {
             world: None,
             scripts: Vec::new(alloc),
             only: Vec::new(alloc),
+            patterns: Vec::new(alloc),
+            only_from: None,
+            shard: None,
             processors: 1,
         }
     }
@@ -48,8 +67,11 @@ pub enum Request<'a> {
         serial: bool,
         files: InputFiles<'a>,
     },
-    /// The printed plan.
-    Plan(InputFiles<'a>),
+    /// The printed plan; `tests` of its tests alone.
+    Plan {
+        tests: bool,
+        files: InputFiles<'a>,
+    },
     /// A replay of the schedule in a file of this name, and its report.
     Replay {
         schedule: &'a str,
@@ -111,7 +133,7 @@ fn after_name(alloc: Global, mut args: Args) -> Result<Vec<String>, WordsFault>
 /// A request for help or the version is `Show`. Words that `jtap` doesn't have are `Refused`, with
 /// the text that says which.
 pub fn read_words<'a>(alloc: Global, words: &'a [String]) -> Result<Request<'a>, WordsFault>
-    ensures processors { IfOk result AsksForSomeProcessors }
+    ensures bounds { IfOk result AsksInBounds }
     ensures no_word { words.now ≡ [] → IsOkAnd result IsPlainRun }
 {
     if words.is_empty() {
@@ -130,7 +152,7 @@ pub fn read_words<'a>(alloc: Global, words: &'a [String]) -> Result<Request<'a>,
 /// What words come to that `clap` answers with an error. It tells of them as they stand, so it is asked again with each of them on one
 /// line: no word can forge a line of its own.
 fn told<'a>(alloc: Global, words: &[String], error: &Error) -> Result<Request<'a>, WordsFault>
-    ensures processors { IfOk result AsksForSomeProcessors }
+    ensures bounds { IfOk result AsksInBounds }
 {
     let told = on_one_line(alloc, words)?;
     match command_line(alloc)?.try_get_matches_from(told.as_slice()) {
@@ -150,7 +172,7 @@ fn on_one_line(alloc: Global, words: &[String]) -> Result<Vec<String>, AllocErro
 
 /// What an error of `clap` comes to: help and the version are no faults.
 fn shown<'a>(alloc: Global, error: &Error) -> Result<Request<'a>, WordsFault>
-    ensures processors { IfOk result AsksForSomeProcessors }
+    ensures bounds { IfOk result AsksInBounds }
 {
     match error.kind() {
         ErrorKind::OutOfMemory => Err(WordsFault::OutOfMemory),
@@ -163,7 +185,7 @@ fn shown<'a>(alloc: Global, error: &Error) -> Result<Request<'a>, WordsFault>
 
 /// What words that were matched ask for.
 fn requested<'a>(alloc: Global, matches: &ArgMatches<'a>) -> Result<Request<'a>, WordsFault>
-    ensures processors { IfOk result AsksForSomeProcessors }
+    ensures bounds { IfOk result AsksInBounds }
 {
     let Some((name, found)) = matches.subcommand() else {
         return Ok(Request::Run {
@@ -173,7 +195,10 @@ fn requested<'a>(alloc: Global, matches: &ArgMatches<'a>) -> Result<Request<'a>,
     };
     let files = files_of(alloc, found)?;
     Ok(match name {
-        "plan" => Request::Plan(files),
+        "plan" => Request::Plan {
+            tests: found.get_flag("tests"),
+            files,
+        },
         "replay" => Request::Replay {
             // `--schedule` is required: it has a value.
             schedule: found.get_str("schedule").unwrap_or(""),
@@ -187,10 +212,13 @@ fn requested<'a>(alloc: Global, matches: &ArgMatches<'a>) -> Result<Request<'a>,
 }
 
 /// The files and paths that a subcommand names.
-fn files_of<'a>(alloc: Global, found: &ArgMatches<'a>) -> Result<InputFiles<'a>, AllocError>
-    ensures processors { IfOk result (λ f. IsCount f.processors) }
+fn files_of<'a>(alloc: Global, found: &ArgMatches<'a>) -> Result<InputFiles<'a>, WordsFault>
+    ensures bounds { IfOk result AreInBounds }
 {
+    let shard = shard_of(alloc, found)?;
     let mut files = InputFiles::none(alloc);
+    files.shard = shard;
+    files.only_from = found.get_str("only-from");
     files.settings = found.get_str("settings");
     files.world = found.get_str("world");
     files.processors = found
@@ -203,5 +231,35 @@ fn files_of<'a>(alloc: Global, found: &ArgMatches<'a>) -> Result<InputFiles<'a>,
     if let Some(only) = found.get_strs("only") {
         files.only.extend_from_slice(only)?;
     }
+    if let Some(patterns) = found.get_strs("match") {
+        files.patterns.extend_from_slice(patterns)?;
+    }
+    if files.only_from == Some("-") && files.scripts.is_empty() {
+        return Err(WordsFault::Wrong(String::from_str(alloc, LIST_WITHOUT_SCRIPT)?));
+    }
     Ok(files)
+}
+
+/// The shard that is asked for, if one is. One that there can't be is a wrong word.
+fn shard_of(alloc: Global, found: &ArgMatches<'_>) -> Result<Option<Shard>, WordsFault>
+    ensures bounds { IfOk result IsShard }
+{
+    let Some(word) = found.get_str("shard") else {
+        return Ok(None);
+    };
+    match read_shard(word) {
+        Some(shard) => Ok(Some(shard)),
+        None => Err(WordsFault::Wrong(no_shard(alloc, word)?)),
+    }
+}
+
+/// What is said of a word that is no shard, as `clap` says it of other values.
+fn no_shard(alloc: Global, word: &str) -> Result<String, AllocError> {
+    let word = word.replace(alloc, '\n', "\\n")?;
+    format!(in alloc;
+        "error: invalid value '{word}' for '--shard <I/K>': two numbers are wanted, 1 <= I <= K <= 4095
+
+For more information, try '--help'.
+"
+    )
 }

@@ -14,7 +14,7 @@ use Rattle.iso_plan.specs.Tree.{Row}
 use Rattle.iso_plan.specs.declared.lock.Lock.{Lock}
 use Rattle.iso_settings.specs.declared.settings.Settings.{Settings}
 use Rattle.std.specs.Fmt.{decimal}
-use Rattle.iso_tap.specs.PlanText.{lock_text, locks_text, node_line, node_lines}
+use Rattle.iso_tap.specs.PlanText.{lock_text, locks_text, node_line, node_lines, test_line, test_lines}
 
 inside : (class : ℕ) (above name : List ℕ) → 0 < class → (t : Bool) → (class == 0) ≡ t → text_in class above name ≡ above ++ (codes "." ++ name)
 inside class above name h true e = let top : class ≡ 0 = grind (arith, nat_tests) in absurd (omega arith)
@@ -65,6 +65,12 @@ lines-next tree s len n h =
     let e : len - n ≡ suc (len - (n + 1)) = omega arith in
     let f : n + 1 ≡ suc n = omega arith in
     rw e (ap (λ (m : ℕ). node_line tree s n ++ node_lines tree s (len - (n + 1)) m) (sym f))
+
+pub tests-next : (tree : List Row) (s : Settings) (len n : ℕ) → n < len → test_lines tree s (len - n) n ≡ test_line tree s n ++ test_lines tree s (len - (n + 1)) (n + 1)
+tests-next tree s len n h =
+    let e : len - n ≡ suc (len - (n + 1)) = omega arith in
+    let f : n + 1 ≡ suc n = omega arith in
+    rw e (ap (λ (m : ℕ). test_line tree s n ++ test_lines tree s (len - (n + 1)) m) (sym f))
 
 -- the pieces before the locks of a line
 pub line-head : {m n : ℕ} {k l s t : List ℕ} → m ≡ n → k ≡ l → s ≡ t

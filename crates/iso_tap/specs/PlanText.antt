@@ -49,6 +49,19 @@ abbrev pub node_lines : List Row → Settings → (count n : ℕ) → List ℕ
 node_lines tree s zero n = []
 node_lines tree s (suc count) n = node_line tree s n ++ node_lines tree s count (suc n)
 
+-- the line of a node that is a test, and nothing for a class
+abbrev pub test_line : List Row → Settings → ℕ → List ℕ
+test_line tree s n = cond (is_test (row_at tree n).kind) (node_line tree s n) []
+
+-- what so many nodes have of such lines, of which the first has number n
+abbrev pub test_lines : List Row → Settings → (count n : ℕ) → List ℕ
+test_lines tree s zero n = []
+test_lines tree s (suc count) n = test_line tree s n ++ test_lines tree s count (suc n)
+
+-- the tests of a plan: the lines that they have in it, and no other
+abbrev pub tests_text : List Row → Settings → List ℕ
+tests_text tree s = test_lines tree s (length tree - 1) 1
+
 -- the plan: all nodes but the root
 abbrev pub plan_text : List Row → Settings → (workers : ℕ) → List ℕ
 plan_text tree s workers = codes "workers " ++ decimal workers ++ codes "\n" ++ node_lines tree s (length tree - 1) 1

@@ -2,7 +2,7 @@
 ghost use Rattle.std.specs.Prelude.{◌≡◌, [], codes, false, true};
 ghost use Rattle.iso_plan.specs.Examples.{cart_and_desk, concurrent_by_default};
 ghost use Rattle.iso_plan.specs.Tree.{tree};
-ghost use Rattle.iso_tap.specs.PlanText.{plan_text};
+ghost use Rattle.iso_tap.specs.PlanText.{plan_text, tests_text};
 ghost use Rattle.iso_tap.specs.ReportBlocks.{block_lines};
 ghost use Rattle.iso_tap.specs.ReportExamples.{blocked, blocked_block, each_of, each_reported, frozen, frozen_block, outcome_of, reported_text, skipped};
 ghost use Rattle.iso_tap.specs.ReportLines.{point_line};
@@ -12,6 +12,12 @@ ghost use Rattle.iso_tap.specs.Reports.{all_ok, is_ok, report};
 pub fn plan_has_a_line_for_each_node()
     ensures { plan_text cart_and_desk concurrent_by_default 2
         ≡ codes "workers 2\n1 class concurrent [r:iso:global,w:K] shop.Cart\n2 test same_thread [] shop.Cart.a\n3 test same_thread [] shop.Cart.b\n4 class concurrent [w:iso:global] shop.Desk\n5 test same_thread [] shop.Desk.c\n6 class same_thread [] shop.Desk.Till\n7 test same_thread [] shop.Desk.Till.d\n" }
+{}
+
+/// Of the same plan its four tests, with the numbers, modes and locks that they have there.
+pub fn tests_have_the_lines_of_the_plan()
+    ensures { tests_text cart_and_desk concurrent_by_default
+        ≡ codes "2 test same_thread [] shop.Cart.a\n3 test same_thread [] shop.Cart.b\n5 test same_thread [] shop.Desk.c\n7 test same_thread [] shop.Desk.Till.d\n" }
 {}
 
 /// A suite without classes has a plan of no points.

@@ -4,7 +4,7 @@ ghost use Rattle.iso_plan.specs.KeyTable.{keys};
 ghost use Rattle.iso_plan.specs.Locks.{locks};
 ghost use Rattle.iso_plan.specs.PathTexts.{path_text};
 ghost use Rattle.iso_plan.specs.RowView.{tree_of};
-ghost use Rattle.iso_tap.specs.PlanText.{access_word, locks_text, mode_word, node_line, node_lines, plan_text};
+ghost use Rattle.iso_tap.specs.PlanText.{access_word, locks_text, mode_word, node_line, node_lines, plan_text, test_line, tests_text};
 ghost use Rattle.iso_tap.specs.Printers.{Writes};
 
 use crate::fault::TapFault;
@@ -33,6 +33,21 @@ pub fn write_plan<W: Sink>(plan: &Plan, workers: u32, sink: &mut W) -> Result<()
     }
 }
 
+/// Writes of a plan the lines of its tests alone, as `write_plan` has them. Takes no memory.
+///
+/// The sink is asked again where it takes only some bytes, and no more once it has failed.
+pub fn write_tests<W: Sink>(plan: &Plan, sink: &mut W) -> Result<(), TapFault>
+    ensures { Writes (W.account sink.old) (W.account sink.new) (tests_text (tree_of plan.now) plan.now.settings) result }
+{
+    let mut printer = Printer::new(sink);
+    match printer.tests(plan) {
+        Ok(()) => Ok(()),
+        Err(_) => Err(TapFault {
+            written: printer.written(),
+        }),
+    }
+}
+
 impl<'a, W: Sink> Printer<'a, W> {
     ghost use Rattle.iso_plan.specs.Paths.{row_at};
     ghost use Rattle.iso_tap.specs.Printers.{Prints};
@@ -54,6 +69,28 @@ impl<'a, W: Sink> Printer<'a, W> {
         ensures { Prints self.old self.new (node_lines (tree_of plan.now) plan.now.settings (length plan.now.rows - 1) 1) result }
     {
         'nodes: for node in 1..plan.len() {
+            self.node(plan, node)?;
+        }
+        Ok(())
+    }
+
+    /// Writes the lines of tests.
+    fn tests(&mut self, plan: &Plan) -> Result<(), SinkFailed>
+        ensures { Prints self.old self.new (tests_text (tree_of plan.now) plan.now.settings) result }
+    {
+        'nodes: for node in 1..plan.len() {
+            self.test(plan, node)?;
+        }
+        Ok(())
+    }
+
+    /// Writes the line of a node that is a test.
+    fn test(&mut self, plan: &Plan, node: u32) -> Result<(), SinkFailed>
+        requires above { 0 < node }
+        requires within { node < length plan.now.rows }
+        ensures { Prints self.old self.new (test_line (tree_of plan.now) plan.now.settings node) result }
+    {
+        if plan.is_test(node) {
             self.node(plan, node)?;
         }
         Ok(())
