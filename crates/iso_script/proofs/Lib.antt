@@ -2,8 +2,10 @@ pub mod Blocks
 pub mod Classes
 pub mod Displays
 pub mod Distinct
+pub mod Lines
 pub mod Marks
 pub mod Members
+pub mod Places
 pub mod Readings
 pub mod Scopes
 pub mod Scripts

@@ -1,6 +1,8 @@
 -- What is read takes a piece at least.
 use Rattle.std.proofs.Common.{ℕ, ◌<◌, ◌≤◌, List, [], ◌∷◌, Option, length, arith, ap}
 use Rattle.iso_script_lexer.specs.Piece.{Piece}
+use Rattle.iso_script_lexer.specs.declared.token.Position.{Position}
+use Rattle.iso_script.specs.declared.place.NodePlace.{NodePlace}
 use Rattle.iso_model.specs.Scripts.{Test, Class, Member, Members}
 use Rattle.iso_script.specs.Blocks.{Blocks, IsBlocks, IsWritten}
 use Rattle.iso_script.specs.Displays.{IsDisplayed, none_displayed, displayed}
@@ -33,17 +35,17 @@ variables_within {ps = ps} {qs = qs} h = read_within IsDeclared (λ w ps qs k. d
 blocks_within : {blocks : Blocks} {ps qs : List Piece} → IsBlocks blocks ps qs → length qs ≤ length ps
 blocks_within {ps = ps} {qs = qs} h = read_within IsWritten (λ w ps qs k. written_shorter k) h.written ps qs h.read
 
-test_shorter : {marks : Marks} {n : List ℕ} {t : Test} {ps qs : List Piece} → IsTest marks n t ps qs → length qs < length ps
+test_shorter : {marks : Marks} {n : List ℕ} {at : Position} {t : Test} {places : List NodePlace} {ps qs : List Piece} → IsTest marks n at t places ps qs → length qs < length ps
 test_shorter (a_test h k) = omega (arith, displayed_within h, block_shorter k)
 
 mutual
-  pub member_shorter : {d : ℕ} {taken : List (List ℕ)} {m : Member} {ps qs : List Piece} → IsMember d taken m ps qs → length qs < length ps
+  pub member_shorter : {d : ℕ} {taken : List (List ℕ)} {m : Member} {places : List NodePlace} {ps qs : List Piece} → IsMember d taken m places ps qs → length qs < length ps
   member_shorter (as_test h fit k) = omega (arith, marks_within h, test_shorter k)
   member_shorter (as_class h k) = omega (arith, marks_within h, class_shorter k)
 
-  class_shorter : {d : ℕ} {taken : List (List ℕ)} {marks : Marks} {n : List ℕ} {c : Class} {ps qs : List Piece} → IsClass d taken marks n c ps qs → length qs < length ps
+  class_shorter : {d : ℕ} {taken : List (List ℕ)} {marks : Marks} {n : List ℕ} {at : Position} {c : Class} {places : List NodePlace} {ps qs : List Piece} → IsClass d taken marks n at c places ps qs → length qs < length ps
   class_shorter (a_class h k l (has_members m some distinct)) = omega (arith, displayed_within h, variables_within k, blocks_within l, members_shorter m)
 
-  members_shorter : {d : ℕ} {taken : List (List ℕ)} {ms : Members} {ps qs : List Piece} → IsMembers d taken ms ps qs → length qs < length ps
+  members_shorter : {d : ℕ} {taken : List (List ℕ)} {ms : Members} {places : List NodePlace} {ps qs : List Piece} → IsMembers d taken ms places ps qs → length qs < length ps
   members_shorter closed = omega arith
   members_shorter (and_then h k) = omega (arith, member_shorter h, members_shorter k)

@@ -1,16 +1,19 @@
 -- Example scripts: texts, and what they say. That each text is its script, the source module `examples` states and proves.
 use Prim.Native.String.{String}
-use Rattle.std.specs.Prelude.{List, [], ◌∷◌, ◌++◌, Some, None, true, false, codes, negsuc}
+use Rattle.std.specs.Prelude.{ℕ, List, [], ◌∷◌, ◌++◌, Some, None, true, false, codes, negsuc}
 use Rattle.std.specs.List.{flat_map}
 use Rattle.iso_model.specs.Chains.{ClassHead, empty_head}
 use Rattle.iso_model.specs.Examples.Words.{fail, for_children, name, print, reads, variable, writes}
-use Rattle.iso_model.specs.Scripts.{Test, ClassTitle, Class, class, Member, test_member, Members, no_members, member}
+use Rattle.iso_model.specs.Scripts.{Test, ClassTitle, Class, class, Member, class_member, test_member, Members, no_members, member}
 use Rattle.iso_model.specs.Syntax.{Acts, no_acts}
 use Rattle.iso_model.specs.declared.data.Data.{Data}
 use Rattle.iso_model.specs.declared.data.Data.TheVariants.{Text, Whole}
 use Rattle.iso_model.specs.declared.heads.Variable.{Variable}
 use Rattle.iso_model.specs.declared.script.Mode.TheVariants.{SameThread, Concurrent}
-use Rattle.iso_script.specs.Grammar.{Reads}
+use Rattle.iso_script.specs.Grammar.{Reads, ReadsPlaced}
+use Rattle.iso_script.specs.declared.place.BlockLines.TheVariants as B
+use Rattle.iso_script.specs.declared.place.NodePlace.{NodePlace}
+use Rattle.iso_script_lexer.specs.Examples.{at}
 use Rattle.iso_script_statements.specs.Examples.{on, text_of}
 
 abbrev pub members_of : List Member → Members
@@ -25,6 +28,11 @@ AreClasses lines classes = Reads (text_of ("team shop" ∷ lines)) (record { tea
 abbrev pub AreCrlfClasses : List String → List Class → Type 0
 AreCrlfClasses lines classes =
     Reads (flat_map (λ l. codes l ++ codes "\r\n") ("team shop" ∷ lines)) (record { team = codes "shop"; classes = classes })
+
+-- the same, and their nodes have these places
+abbrev pub ArePlacedClasses : List String → List Class → List NodePlace → Type 0
+ArePlacedClasses lines classes =
+    ReadsPlaced (text_of ("team shop" ∷ lines)) (record { team = codes "shop"; classes = classes })
 
 -- a test and a class in which nothing else is written
 abbrev pub a_test : String → Acts → Test
@@ -118,3 +126,39 @@ abbrev pub commented_class : Class
 commented_class =
     a_class "C" (record empty_head { statics = variable "n" 1 ∷ [] })
     (test_member (a_test "t" (on 2 (print (name "n")))) ∷ [])
+
+-- a class with two blocks, a test with a display text, and a class in it, on lines of their own
+abbrev pub placed_text : List String
+placed_text =
+    "class C {"
+    ∷ "before_all"
+    ∷ "{"
+    ∷ "fail \"a\"; } after_each { }"
+    ∷ "test t \"The test\""
+    ∷ "  { } class D { before_each {"
+    ∷ "} test t { } }"
+    ∷ "test u { } }"
+    ∷ []
+
+abbrev pub placed_class : Class
+placed_class =
+    a_class "C" (record empty_head { before_all = on 2 (fail "a") })
+    (test_member (record (a_test "t" no_acts) { display = Some (codes "The test") })
+    ∷ class_member (a_class "D" empty_head (empty_test "t" ∷ [])) ∷ empty_test "u" ∷ [])
+
+-- the place of a test, by the line and column of its name and the line of its body; and of a class, by the lines of its
+-- blocks, 0 for none
+abbrev pub test_at : (line column body : ℕ) → NodePlace
+test_at line column body = record { name = at line column; blocks = B.Test body }
+
+abbrev pub class_at : (line column before_all after_all before_each after_each : ℕ) → NodePlace
+class_at line column a b c d =
+    record {
+      name = at line column;
+      blocks = B.Class (record {
+        before_all = record { number = a };
+        after_all = record { number = b };
+        before_each = record { number = c };
+        after_each = record { number = d };
+      });
+    }

@@ -3,6 +3,7 @@ pub mod Displays
 pub mod Faults
 pub mod Grammar
 pub mod Marks
+pub mod Places
 pub mod Readings
 pub mod Variables
 pub mod Examples

@@ -1,23 +1,31 @@
 //! Lifecycle blocks.
 ghost use Rattle.std.specs.Prelude.{◌≡◌, is_some};
-ghost use Rattle.iso_script.specs.Blocks.{IsBlocks, block_next, block_word, blocks_of, with_block};
+ghost use Rattle.iso_script.specs.Blocks.{IsBlocks, block_if, block_next, block_of, block_word, blocks_of, with_block};
+ghost use Rattle.iso_script.specs.Places.{class_place, line_if};
 ghost use Rattle.iso_script_statements.specs.Parsing.{Parses};
-ghost use Rattle.iso_script_statements.specs.Statements.{body_of};
 
+use crate::place::{BlockLine, BlockLines, LifecycleLines, NodePlace};
 use iso_model::place::Lifecycle;
 use iso_model::tree::Stmt;
-use iso_script_lexer::token::Token;
+use iso_script_lexer::token::{Position, Token};
 use iso_script_lexer::word::Word;
 use iso_script_statements::fault::{ScriptError, ScriptFaultKind};
 use iso_script_statements::parser::Parser;
 
+/// A lifecycle block: the line of its opening brace, and its statements.
+#[derive(Drop)]
+pub(crate) struct Block {
+    pub line: u32,
+    pub body: Vec<Stmt>,
+}
+
 /// The lifecycle blocks of a class. One that is not written is none, and differs from an empty one.
 #[derive(Drop)]
 pub(crate) struct Blocks {
-    pub before_all: Option<Vec<Stmt>>,
-    pub after_all: Option<Vec<Stmt>>,
-    pub before_each: Option<Vec<Stmt>>,
-    pub after_each: Option<Vec<Stmt>>,
+    pub before_all: Option<Block>,
+    pub after_all: Option<Block>,
+    pub before_each: Option<Block>,
+    pub after_each: Option<Block>,
 }
 
 impl Blocks {
@@ -33,17 +41,43 @@ impl Blocks {
         }
     }
 
-    /// Adds a block of this kind.
-    fn put(&mut self, kind: Lifecycle, body: Vec<Stmt>)
-        ensures { blocks_of self.new ≡ with_block kind (body_of body) (blocks_of self.old) }
+    /// The place of a class that has these blocks, whose name stands at this position.
+    pub(crate) fn place(&self, name: Position) -> NodePlace
+        ensures { result ≡ class_place name (blocks_of self.now) }
     {
-        match kind {
-            Lifecycle::BeforeAll => self.before_all = Some(body),
-            Lifecycle::AfterAll => self.after_all = Some(body),
-            Lifecycle::BeforeEach => self.before_each = Some(body),
-            Lifecycle::AfterEach => self.after_each = Some(body),
+        NodePlace {
+            name,
+            blocks: BlockLines::Class(LifecycleLines {
+                before_all: line_if(&self.before_all),
+                after_all: line_if(&self.after_all),
+                before_each: line_if(&self.before_each),
+                after_each: line_if(&self.after_each),
+            }),
         }
     }
+
+    /// Adds a block of this kind.
+    fn put(&mut self, kind: Lifecycle, block: Block)
+        ensures { blocks_of self.new ≡ with_block kind (block_of block) (blocks_of self.old) }
+    {
+        match kind {
+            Lifecycle::BeforeAll => self.before_all = Some(block),
+            Lifecycle::AfterAll => self.after_all = Some(block),
+            Lifecycle::BeforeEach => self.before_each = Some(block),
+            Lifecycle::AfterEach => self.after_each = Some(block),
+        }
+    }
+}
+
+/// The line of a block, where it is written.
+fn line_if(block: &Option<Block>) -> BlockLine
+    ensures { result ≡ line_if (block_if block.now) }
+{
+    let number = match block {
+        Some(block) => block.line,
+        None => 0,
+    };
+    BlockLine { number }
 }
 
 /// What lifecycle block a word begins.
@@ -84,7 +118,9 @@ pub(crate) fn read_blocks(parser: &mut Parser<'_>) -> Result<Blocks, ScriptError
             return Err(parser.fault_here(ScriptFaultKind::DoubleBlock));
         }
         parser.lexer.advance();
-        blocks.put(kind, parser.block()?);
+        let line = parser.lexer.peek().1.line;
+        let body = parser.block()?;
+        blocks.put(kind, Block { line, body });
     }
     Ok(blocks)
 }

@@ -7,18 +7,20 @@ ghost use Rattle.iso_script_lexer.specs.declared.word.Word.TheVariants as W;
 ghost use Rattle.iso_model.specs.ScriptView.{class_of, member_of};
 ghost use Rattle.iso_script.specs.Grammar.{HasMembers, IsClass, IsNewMember, IsTopClass, members_in, name_of};
 ghost use Rattle.iso_model.specs.NameSets.{Knows};
-ghost use Rattle.iso_script_statements.specs.Parsing.{Parses};
+ghost use Rattle.iso_script.specs.Places.{ParsesPlaced, kept};
 
 use crate::block::read_blocks;
 use crate::display::read_display;
 use crate::head::class_head;
 use crate::mark::{Marks, read_marks};
+use crate::place::Places;
 use crate::test::read_test;
 use crate::variable::{Variables, read_variables};
 use iso_model::limits::CLASS_DEPTH;
 use iso_model::script::{Class, Member};
 use iso_model::text::Text;
 use iso_script_lexer::symbol::Symbol;
+use iso_script_lexer::token::Position;
 use iso_script_lexer::word::Word;
 use iso_script_statements::fault::{ScriptError, ScriptFaultKind};
 use iso_script_statements::parser::Parser;
@@ -26,14 +28,18 @@ use std::collections::BTreeSet;
 use std::sync::Arc;
 
 /// A top-level class.
-pub(crate) fn read_top_class(parser: &mut Parser<'_>) -> Result<Class, ScriptError>
-    ensures { Parses class_of IsTopClass result parser.old.lexer parser.new.lexer }
+pub(crate) fn read_top_class(
+    parser: &mut Parser<'_>,
+    places: &mut Places,
+) -> Result<Class, ScriptError>
+    ensures { ParsesPlaced class_of IsTopClass result parser.old.lexer parser.new.lexer (kept places.old) (kept places.new) }
 {
     let marks = read_marks(parser)?;
     let more = open_class(parser, CLASS_DEPTH)?;
+    let at = parser.lexer.peek().1;
     let name = parser.name()?;
     let mut scopes = Vec::new(parser.alloc);
-    read_class(parser, marks, name, &mut scopes, more)
+    read_class(parser, marks, name, at, &mut scopes, more, places)
 }
 
 /// Whether a test of these marks may be next: its word is, and the marks fit one.
@@ -60,24 +66,28 @@ fn open_class(parser: &mut Parser<'_>, left: u32) -> Result<u32, ScriptError>
     Ok(more)
 }
 
-/// A class of these marks, after its name. So many more classes may be opened in it, and the scopes have the names
-/// of the statics and fields of the enclosing classes.
+/// A class of these marks, after its name, which stands at this position. So many more classes may be opened in it, and
+/// the scopes have the names of the statics and fields of the enclosing classes.
 #[cycle(class)]
 fn read_class<'a>(
     parser: &mut Parser<'a>,
     marks: Marks,
     name: &'a str,
+    at: Position,
     scopes: &mut Vec<BTreeSet<&'a str>>,
     classes: u32,
+    places: &mut Places,
 ) -> Result<Class, ScriptError>
     ensures read { (taken : List (List ℕ)) → KnowAll scopes.old.items taken
-        → Parses class_of (IsClass classes taken (marks_of marks) name.now) result parser.old.lexer parser.new.lexer }
+        → ParsesPlaced class_of (IsClass classes taken (marks_of marks) name.now at) result
+        parser.old.lexer parser.new.lexer (kept places.old) (kept places.new) }
     ensures kept { IfOk result (λ _. scopes.new.items ≡ scopes.old.items) }
 {
     let display = read_display(parser)?;
     parser.expect(Symbol::OpenBrace)?;
     let variables = read_variables(parser, scopes.as_slice())?;
     let blocks = read_blocks(parser)?;
+    places.add(blocks.place(at))?;
     let head = class_head(
         parser.alloc,
         marks.keys,
@@ -89,7 +99,7 @@ fn read_class<'a>(
     let head = Arc::new(parser.alloc, head)?;
     scopes.push(variables.names)?;
     let name = Text::copied(parser.alloc, name)?;
-    let members = read_members(parser, scopes, classes)?;
+    let members = read_members(parser, scopes, classes, places)?;
     scopes.pop();
     Ok(Class {
         name,
@@ -107,15 +117,17 @@ fn read_members<'a>(
     parser: &mut Parser<'a>,
     scopes: &mut Vec<BTreeSet<&'a str>>,
     classes: u32,
+    places: &mut Places,
 ) -> Result<Vec<Member>, ScriptError>
     ensures read { (taken : List (List ℕ)) → KnowAll scopes.old.items taken
-        → Parses members_in (HasMembers classes taken) result parser.old.lexer parser.new.lexer }
+        → ParsesPlaced members_in (HasMembers classes taken) result
+        parser.old.lexer parser.new.lexer (kept places.old) (kept places.new) }
     ensures kept { IfOk result (λ _. scopes.new.items ≡ scopes.old.items) }
 {
     let mut seen = BTreeSet::new(parser.alloc);
     let mut members = Vec::new(parser.alloc);
     'members: while !parser.is_at(Symbol::CloseBrace) {
-        members.push(read_member(parser, &mut seen, scopes, classes)?)?;
+        members.push(read_member(parser, &mut seen, scopes, classes, places)?)?;
     }
     if members.is_empty() {
         return Err(parser.fault_here(ScriptFaultKind::EmptyClass));
@@ -131,9 +143,11 @@ fn read_member<'a>(
     seen: &mut BTreeSet<&'a str>,
     scopes: &mut Vec<BTreeSet<&'a str>>,
     classes: u32,
+    places: &mut Places,
 ) -> Result<Member, ScriptError>
     ensures read { (taken names : List (List ℕ)) → KnowAll scopes.old.items taken → Knows seen.old names
-        → Parses member_of (IsNewMember names classes taken) result parser.old.lexer parser.new.lexer }
+        → ParsesPlaced member_of (IsNewMember names classes taken) result
+        parser.old.lexer parser.new.lexer (kept places.old) (kept places.new) }
     ensures names { (names : List (List ℕ)) → Knows seen.old names
         → IfOk result (λ m. Knows seen.new (names ++ name_of (member_of m) ∷ [])) }
     ensures kept { IfOk result (λ _. scopes.new.items ≡ scopes.old.items) }
@@ -141,10 +155,12 @@ fn read_member<'a>(
     let marks = read_marks(parser)?;
     if is_at_test(parser, &marks) {
         parser.lexer.advance();
+        let at = parser.lexer.peek().1;
         let name = parser.new_name(seen, ScriptFaultKind::DoubleMember)?;
-        return Ok(Member::Test(read_test(parser, marks, name)?));
+        return Ok(Member::Test(read_test(parser, marks, name, at, places)?));
     }
     let more = open_class(parser, classes)?;
+    let at = parser.lexer.peek().1;
     let name = parser.new_name(seen, ScriptFaultKind::DoubleMember)?;
-    Ok(Member::Class(read_class(parser, marks, name, scopes, more)?))
+    Ok(Member::Class(read_class(parser, marks, name, at, scopes, more, places)?))
 }

@@ -3,6 +3,7 @@ ghost use Rattle.std.specs.Prelude.{[], ◌∷◌};
 ghost use Rattle.iso_model.specs.Chains.{empty_head};
 ghost use Rattle.iso_model.specs.Scripts.{class_member};
 ghost use Rattle.iso_script.specs.Examples.{AreClasses, AreCrlfClasses, a_class, blocks_text, commented_class, commented_text, empty_test};
+ghost use Rattle.iso_script.specs.Examples.{ArePlacedClasses, class_at, placed_class, placed_text, test_at};
 ghost use Rattle.iso_script.specs.Examples.{marked_class, marked_text, members_text, variables_text, with_blocks, with_field, with_variables};
 
 /// A team has any number of classes, which may have one name.
@@ -34,4 +35,10 @@ pub fn members_are_read()
 /// Lines may end with a carriage return before the line feed, and comments may have tabs and carriage returns.
 pub fn comments_and_line_ends_are_left_out()
     ensures { AreCrlfClasses commented_text (commented_class ∷ []) }
+{}
+
+/// A node stands where its name does, with the lines of its blocks' opening braces, and a class stands before its members.
+pub fn nodes_stand_where_their_names_do()
+    ensures { ArePlacedClasses placed_text (placed_class ∷ [])
+        (class_at 2 7 4 0 0 5 ∷ test_at 6 6 7 ∷ class_at 7 13 0 0 7 0 ∷ test_at 8 8 8 ∷ test_at 9 6 9 ∷ []) }
 {}

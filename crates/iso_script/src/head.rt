@@ -6,7 +6,7 @@ ghost use Rattle.iso_model.specs.ScriptView.{class_head_of};
 ghost use Rattle.iso_script.specs.Grammar.{class_head, statements_in};
 ghost use Rattle.iso_script_statements.specs.Statements.{body_of};
 
-use crate::block::Blocks;
+use crate::block::{Block, Blocks};
 use iso_model::heads::{ClassContents, ClassHead, Mark, Variable};
 use iso_model::text::Text;
 use iso_model::tree::Stmt;
@@ -42,11 +42,11 @@ pub(crate) fn class_head(
 }
 
 /// The statements of a lifecycle block: one that is not written has none.
-fn statements(alloc: Global, block: Option<Vec<Stmt>>) -> Vec<Stmt>
-    ensures { body_of result ≡ statements_in (B.body_if block) }
+fn statements(alloc: Global, block: Option<Block>) -> Vec<Stmt>
+    ensures { body_of result ≡ statements_in (B.block_if block) }
 {
     match block {
-        Some(body) => body,
+        Some(block) => block.body,
         None => Vec::new(alloc),
     }
 }

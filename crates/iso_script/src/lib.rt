@@ -10,6 +10,7 @@ pub mod fault;
 mod head;
 pub mod laws;
 mod mark;
+pub mod place;
 pub mod reader;
 mod test;
 mod variable;

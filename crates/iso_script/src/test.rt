@@ -3,27 +3,37 @@ ghost use Rattle.std.specs.Prelude.{◌≡◌};
 ghost use Rattle.iso_script.specs.Marks.{marks_of};
 ghost use Rattle.iso_model.specs.ScriptView.{test_of};
 ghost use Rattle.iso_script.specs.Grammar.{IsTest};
-ghost use Rattle.iso_script_statements.specs.Parsing.{Parses};
+ghost use Rattle.iso_script.specs.Places.{ParsesPlaced, kept};
 
 use crate::display::read_display;
 use crate::mark::Marks;
+use crate::place::{BlockLines, NodePlace, Places};
 use iso_model::heads::{TestContents, TestHead};
 use iso_model::script::Test;
 use iso_model::text::Text;
+use iso_script_lexer::token::Position;
 use iso_script_statements::fault::ScriptError;
 use iso_script_statements::parser::Parser;
 use std::sync::Arc;
 
-/// A test of these marks, after its name.
+/// A test of these marks, after its name, which stands at this position.
 pub(crate) fn read_test(
     parser: &mut Parser<'_>,
     marks: Marks,
     name: &str,
+    at: Position,
+    places: &mut Places,
 ) -> Result<Test, ScriptError>
-    ensures { Parses test_of (IsTest (marks_of marks) name.now) result parser.old.lexer parser.new.lexer }
+    ensures { ParsesPlaced test_of (IsTest (marks_of marks) name.now at) result
+        parser.old.lexer parser.new.lexer (kept places.old) (kept places.new) }
 {
     let display = read_display(parser)?;
+    let line = parser.lexer.peek().1.line;
     let body = parser.block()?;
+    places.add(NodePlace {
+        name: at,
+        blocks: BlockLines::Test(line),
+    })?;
     let contents = TestContents {
         disabled: marks.disabled,
         body,

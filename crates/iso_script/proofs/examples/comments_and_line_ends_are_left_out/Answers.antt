@@ -8,7 +8,7 @@ use Rattle.iso_script_statements.specs.Expressions.{a_name}
 use Rattle.iso_script_statements.specs.Statements.{of_one, a_simple, closed, a_body, a_block}
 use Rattle.iso_script_statements.proofs.ExampleLemmas as S
 use Rattle.iso_script_lexer.specs.Examples.{at}
-use Rattle.iso_script.proofs.ExampleLemmas.{are_read, alone, a_plain_test, a_plain_class, a_number_alone}
+use Rattle.iso_script.proofs.ExampleLemmas.{are_read, only_class, alone, a_plain_test, a_plain_class, a_number_alone}
 use Rattle.iso_script.proofs.examples.comments_and_line_ends_are_left_out.Goals as goal
 
 abbrev commented : List Piece
@@ -20,9 +20,6 @@ commented =
 pub returns : goal.returns
 unfolding pieces_of pieces gap_from front_of symbol_front word_of
 returns c =
-    are_read {ps = commented} refl refl (
-      _,
-      a_plain_class (a_number_alone refl refl refl) refl
-          (alone (a_plain_test refl (a_block (a_body (S.on_row refl (a_simple refl (of_one (S.alone a_name refl))) closed))))),
-      refl,
-    )
+    are_read {ps = commented} _ refl refl
+    (only_class (a_plain_class (a_number_alone refl refl refl) refl
+    (alone (a_plain_test (a_block (a_body (S.on_row refl (a_simple refl (of_one (S.alone a_name refl))) closed)))))))

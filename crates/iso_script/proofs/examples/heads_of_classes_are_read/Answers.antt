@@ -10,14 +10,14 @@ use Rattle.iso_script_lexer.specs.Text.{decoded}
 use Rattle.iso_script_lexer.specs.declared.symbol.Symbol.TheVariants.{CloseBrace, Equals, Minus, OpenBrace, Semicolon}
 use Rattle.iso_script_lexer.specs.declared.word.Word.TheVariants as W
 use Rattle.iso_script_statements.specs.Expressions.{a_number, a_negative, a_text}
-use Rattle.iso_script.specs.Blocks.{Blocks, a_block}
+use Rattle.iso_script.specs.Blocks.{Block, Blocks, a_block}
 use Rattle.iso_script.specs.Displays.{none_displayed}
 use Rattle.iso_script.specs.Examples.{variable_of, with_blocks, with_variables}
 use Rattle.iso_script.specs.Grammar.{as_class, a_class}
 use Rattle.iso_script.specs.Variables.{Variables, a_variable}
 use Rattle.iso_script.specs.declared.variable.VariableWord.TheVariants.{Static, Field}
 use Rattle.iso_script_lexer.specs.Examples.{at}
-use Rattle.iso_script.proofs.ExampleLemmas.{are_read, none_declared, no_marks, no_variables, alone, an_empty_test, a_plain_class, fails, each_block, written, each_body}
+use Rattle.iso_script.proofs.ExampleLemmas.{are_read, only_class, none_declared, no_marks, no_variables, alone, an_empty_test, a_plain_class, fails, each_block, written, each_written}
 use Rattle.iso_script.proofs.examples.heads_of_classes_are_read.Goals as goal
 
 abbrev head_variables : Variables
@@ -33,25 +33,34 @@ variables =
 pub returns-clause-variables : goal.returns-clause-variables
 unfolding pieces_of pieces gap_from front_of symbol_front quoted_length decoded word_of IsDistinct
 returns-clause-variables c =
-    are_read {ps = variables} refl refl (
-      _,
-      a_plain_class {variables = head_variables}
-          (record {
-            written = record { word = Static; variable = variable "a" 7 } ∷ record { word = Field; variable = variable_of "b" (Whole (negsuc 0)) }
-                ∷ record { word = Static; variable = variable_of "c" (Text (codes "x")) } ∷ [];
-            read = (_, a_variable refl (a_number (omega arith)), (_, a_variable refl (a_negative (omega arith)), (_, a_variable refl a_text, refl)));
-            ends = refl;
-            distinct = ((refl, (refl, tt)), ((refl, tt), (tt, tt)));
-            free = (refl, (refl, (refl, tt)));
-            statics = refl;
-            fields = refl;
-          })
-          refl (alone an_empty_test),
-      refl,
-    )
+    are_read {ps = variables} _ refl refl
+    (only_class (a_plain_class {variables = head_variables}
+    (record {
+      written = record { word = Static; variable = variable "a" 7 } ∷ record { word = Field; variable = variable_of "b" (Whole (negsuc 0)) }
+          ∷ record { word = Static; variable = variable_of "c" (Text (codes "x")) } ∷ [];
+      read = (_, a_variable refl (a_number (omega arith)), (_, a_variable refl (a_negative (omega arith)), (_, a_variable refl a_text, refl)));
+      ends = refl;
+      distinct = ((refl, (refl, tt)), ((refl, tt), (tt, tt)));
+      free = (refl, (refl, (refl, tt)));
+      statics = refl;
+      fields = refl;
+    })
+    refl (alone an_empty_test)))
+
+abbrev before_all : Block
+before_all = record { line = 3; body = with_blocks.before_all }
+
+abbrev after_all : Block
+after_all = record { line = 3; body = with_blocks.after_all }
+
+abbrev before_each : Block
+before_each = record { line = 5; body = with_blocks.before_each }
+
+abbrev after_each : Block
+after_each = record { line = 2; body = with_blocks.after_each }
 
 abbrev head_blocks : Blocks
-head_blocks = each_block with_blocks.before_all with_blocks.after_all with_blocks.before_each with_blocks.after_each
+head_blocks = each_block before_all after_all before_each after_each
 
 abbrev blocks : List Piece
 blocks =
@@ -65,17 +74,13 @@ blocks =
 pub returns-clause-blocks : goal.returns-clause-blocks
 unfolding pieces_of pieces gap_from front_of symbol_front quoted_length decoded word_of
 returns-clause-blocks c =
-    are_read {ps = blocks} refl refl (
-      _,
-      as_class (no_marks refl)
-          (a_class {variables = none_declared} {blocks = head_blocks} (none_displayed refl) (no_variables refl)
-          (record {
-            written = written AfterEach with_blocks.after_each ∷ written BeforeAll with_blocks.before_all ∷ written AfterAll with_blocks.after_all
-                ∷ written BeforeEach with_blocks.before_each ∷ [];
-            read = (_, a_block refl fails, (_, a_block refl fails, (_, a_block refl fails, (_, a_block refl fails, refl))));
-            ends = refl;
-            bodies = each_body with_blocks.before_all with_blocks.after_all with_blocks.before_each with_blocks.after_each;
-          })
-          (alone an_empty_test)),
-      refl,
-    )
+    are_read {ps = blocks} _ refl refl
+    (only_class (as_class (no_marks refl)
+    (a_class {variables = none_declared} {blocks = head_blocks} (none_displayed refl) (no_variables refl)
+    (record {
+      written = written AfterEach after_each ∷ written BeforeAll before_all ∷ written AfterAll after_all ∷ written BeforeEach before_each ∷ [];
+      read = (_, a_block refl fails, (_, a_block refl fails, (_, a_block refl fails, (_, a_block refl fails, refl))));
+      ends = refl;
+      each = each_written before_all after_all before_each after_each;
+    })
+    (alone an_empty_test))))

@@ -12,7 +12,7 @@ use Rattle.iso_script.specs.Displays.{displayed}
 use Rattle.iso_script.specs.Grammar.{as_test, a_test, as_class, a_class}
 use Rattle.iso_script.specs.Marks.{a_key, of_children, of_itself, runs, isolates, disables, declares, a_mode, an_isolation, a_disabling, a_declaration, a_mark, Marks}
 use Rattle.iso_script_lexer.specs.Examples.{at}
-use Rattle.iso_script.proofs.ExampleLemmas.{are_read, none_declared, none_written, no_variables, no_blocks, alone}
+use Rattle.iso_script.proofs.ExampleLemmas.{are_read, only_class, none_declared, none_written, no_variables, no_blocks, alone}
 use Rattle.iso_script.proofs.examples.marks_and_display_texts_are_read.Goals as goal
 
 abbrev class_marks : Marks
@@ -39,63 +39,60 @@ marks =
 pub returns : goal.returns
 unfolding pieces_of pieces gap_from front_of symbol_front quoted_length decoded word_of
 returns c =
-    are_read {ps = marks} refl refl (
-      _,
-      as_class {marks = class_marks}
-          (record {
-            written = declares (writes (codes "d")) ∷ declares (for_children (reads (codes "c"))) ∷ declares (reads (codes "d")) ∷ isolates
-                ∷ declares (for_children (writes (codes "c"))) ∷ runs Concurrent ∷ disables (codes "not yet") ∷ [];
-            read = (
+    are_read {ps = marks} _ refl refl
+    (only_class (as_class {marks = class_marks}
+    (record {
+      written = declares (writes (codes "d")) ∷ declares (for_children (reads (codes "c"))) ∷ declares (reads (codes "d")) ∷ isolates
+          ∷ declares (for_children (writes (codes "c"))) ∷ runs Concurrent ∷ disables (codes "not yet") ∷ [];
+      read = (
+        _,
+        a_mark refl (a_declaration (of_itself refl) (a_key refl)),
+        (
+          _,
+          a_mark refl (a_declaration of_children (a_key refl)),
+          (
+            _,
+            a_mark refl (a_declaration (of_itself refl) (a_key refl)),
+            (
               _,
-              a_mark refl (a_declaration (of_itself refl) (a_key refl)),
+              a_mark refl an_isolation,
               (
                 _,
                 a_mark refl (a_declaration of_children (a_key refl)),
                 (
                   _,
-                  a_mark refl (a_declaration (of_itself refl) (a_key refl)),
+                  a_mark refl a_mode,
                   (
                     _,
-                    a_mark refl an_isolation,
-                    (
-                      _,
-                      a_mark refl (a_declaration of_children (a_key refl)),
-                      (
-                        _,
-                        a_mark refl a_mode,
-                        (
-                          _,
-                          a_mark refl (a_disabling (a_display refl)),
-                          refl,
-                        ),
-                      ),
-                    ),
+                    a_mark refl (a_disabling (a_display refl)),
+                    refl,
                   ),
                 ),
               ),
-            );
-            ends = refl;
-            come = record { mode = refl; isolated = refl; disabled = refl; keys = refl };
-          })
-          (a_class {variables = none_declared} {blocks = none_written} (displayed (a_display refl)) (no_variables refl) (no_blocks refl)
-          (alone (as_test {marks = test_marks}
-          (record {
-            written = disables (codes "later") ∷ runs SameThread ∷ declares (reads (codes "e")) ∷ [];
-            read = (
-              _,
-              a_mark refl (a_disabling (a_display refl)),
-              (
-                _,
-                a_mark refl a_mode,
-                (
-                  _,
-                  a_mark refl (a_declaration (of_itself refl) (a_key refl)),
-                  refl,
-                ),
-              ),
-            );
-            ends = refl;
-            come = record { mode = refl; isolated = refl; disabled = refl; keys = refl };
-          }) refl (a_test (displayed (a_display refl)) (a_block (a_body closed)))))),
-      refl,
-    )
+            ),
+          ),
+        ),
+      );
+      ends = refl;
+      come = record { mode = refl; isolated = refl; disabled = refl; keys = refl };
+    })
+    (a_class {variables = none_declared} {blocks = none_written} (displayed (a_display refl)) (no_variables refl) (no_blocks refl)
+    (alone (as_test {marks = test_marks}
+    (record {
+      written = disables (codes "later") ∷ runs SameThread ∷ declares (reads (codes "e")) ∷ [];
+      read = (
+        _,
+        a_mark refl (a_disabling (a_display refl)),
+        (
+          _,
+          a_mark refl a_mode,
+          (
+            _,
+            a_mark refl (a_declaration (of_itself refl) (a_key refl)),
+            refl,
+          ),
+        ),
+      );
+      ends = refl;
+      come = record { mode = refl; isolated = refl; disabled = refl; keys = refl };
+    }) refl (a_test (displayed (a_display refl)) (a_block (a_body closed))))))))

@@ -7,7 +7,7 @@ use Rattle.iso_script_lexer.specs.declared.symbol.Symbol.TheVariants.{CloseBrace
 use Rattle.iso_script_lexer.specs.declared.word.Word.TheVariants as W
 use Rattle.iso_script.specs.Grammar.{has_members, closed, and_then}
 use Rattle.iso_script_lexer.specs.Examples.{at}
-use Rattle.iso_script.proofs.ExampleLemmas.{are_read, no_variables, some_member, alone, an_empty_test, a_plain_class, a_number_alone}
+use Rattle.iso_script.proofs.ExampleLemmas.{are_read, only_class, no_variables, some_member, alone, an_empty_test, a_plain_class, a_number_alone}
 use Rattle.iso_script.proofs.examples.members_are_read.Goals as goal
 
 abbrev members : List Piece
@@ -23,15 +23,12 @@ members =
 pub returns : goal.returns
 unfolding pieces_of pieces gap_from front_of symbol_front word_of IsDistinct
 returns c =
-    are_read {ps = members} refl refl (
-      _,
-      a_plain_class (no_variables refl) refl
-          (has_members
-          (and_then an_empty_test
-          (and_then (a_plain_class (a_number_alone refl refl refl) refl (alone an_empty_test))
-          (and_then (a_plain_class (a_number_alone refl refl refl) refl (alone an_empty_test))
-          (and_then an_empty_test
-          closed))))
-          some_member ((refl, (refl, (refl, tt))), ((refl, (refl, tt)), ((refl, tt), (tt, tt))))),
-      refl,
-    )
+    are_read {ps = members} _ refl refl
+    (only_class (a_plain_class (no_variables refl) refl
+    (has_members
+    (and_then an_empty_test
+    (and_then (a_plain_class (a_number_alone refl refl refl) refl (alone an_empty_test))
+    (and_then (a_plain_class (a_number_alone refl refl refl) refl (alone an_empty_test))
+    (and_then an_empty_test
+    closed))))
+    some_member ((refl, (refl, (refl, tt))), ((refl, (refl, tt)), ((refl, tt), (tt, tt)))))))

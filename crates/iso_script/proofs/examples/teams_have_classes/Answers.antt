@@ -5,12 +5,12 @@ use Rattle.iso_script_lexer.specs.Spelling.{word_of}
 use Rattle.iso_script_lexer.specs.declared.symbol.Symbol.TheVariants.{CloseBrace, OpenBrace}
 use Rattle.iso_script_lexer.specs.declared.word.Word.TheVariants as W
 use Rattle.iso_script_lexer.specs.Examples.{at}
-use Rattle.iso_script.proofs.ExampleLemmas.{are_read, no_variables, alone, an_empty_test, a_plain_class}
+use Rattle.iso_script.proofs.ExampleLemmas.{are_read, two_classes, no_variables, alone, an_empty_test, a_plain_class}
 use Rattle.iso_script.proofs.examples.teams_have_classes.Goals as goal
 
 pub returns-clause-none : goal.returns-clause-none
 unfolding pieces_of pieces gap_from front_of symbol_front word_of
-returns-clause-none c = are_read refl refl refl
+returns-clause-none c = are_read [] refl refl (refl, refl)
 
 abbrev two : List Piece
 two =
@@ -21,12 +21,5 @@ two =
 pub returns-clause-two : goal.returns-clause-two
 unfolding pieces_of pieces gap_from front_of symbol_front word_of
 returns-clause-two c =
-    are_read {ps = two} refl refl (
-      _,
-      a_plain_class (no_variables refl) refl (alone an_empty_test),
-      (
-        _,
-        a_plain_class (no_variables refl) refl (alone an_empty_test),
-        refl,
-      ),
-    )
+    are_read {ps = two} _ refl refl
+    (two_classes (a_plain_class (no_variables refl) refl (alone an_empty_test)) (a_plain_class (no_variables refl) refl (alone an_empty_test)))

@@ -1,12 +1,11 @@
 use Rattle.std.proofs.lemmas.Result.{err_from_is_err_and}
-use Rattle.iso_script.specs.Grammar.{a_test}
-use Rattle.iso_script.proofs.Classes.{test_body}
+use Rattle.iso_script.proofs.Classes.{is_bodied, test_body}
 use Rattle.iso_script.proofs.test.read_test.Goals as goal
 
 pub returns-in_err-body : goal.returns-in_err-body
 returns-in_err-body c =
     let p = err_from_is_err_and c.from_residual-in_err-body.result c.from_residual-in_err-body.ensures.1 in
-    rw (p.1, p.2) (λ t rest h. let b = test_body c.in_ok-display.ensures h in c.in_err-body.ensures b.0 rest b.1)
+    rw (p.1, p.2) (λ rest t places h. let b = test_body c.in_ok-display.ensures h in c.in_err-body.ensures b.0 rest b.1)
 
 pub returns : goal.returns
-returns c = rw (c.in_ok-copied.ensures, c.in_ok-head.ensures.ok, c.in_ok-new.ensures.ok) (a_test c.in_ok-display.ensures c.in_ok-body.ensures)
+returns c = rw (c.in_ok-copied.ensures, c.in_ok-head.ensures.ok, c.in_ok-new.ensures.ok) (_, is_bodied _ _ c.in_ok-display.ensures c.peek-line.ensures.next c.in_ok-body.ensures, c.in_ok-add.ensures)
