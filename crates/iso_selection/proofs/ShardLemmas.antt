@@ -276,7 +276,7 @@ none-any : (f : ℕ → Bool) (xs : List ℕ) → ((x : ℕ) → f x ≡ false) 
 none-any f [] none = refl
 none-any f (x ∷ xs) none = ap₂ (λ (a b : Bool). a || b) (none x) (none-any f xs none)
 
-none-kept : (tree : List Row) (n : ℕ) → 0 < n → is_kept_by tree [] n ≡ false
+pub none-kept : (tree : List Row) (n : ℕ) → 0 < n → is_kept_by tree [] n ≡ false
 none-kept tree n pos =
     ap (λ (r : Bool). r || list_any (is_chosen tree []) (nodes_under tree n)) (not-root n pos)
     ∙ none-any (is_chosen tree []) (nodes_under tree n) (λ d. none-any (is_named tree []) (path tree d) (λ x. elim (is_root x) as (λ (b : Bool). (not b && false) ≡ false) [ true ↦ refl | false ↦ refl ]))

@@ -1,16 +1,22 @@
 //! Laws of what is picked of scripts.
 ghost use Rattle.std.specs.Prelude.{◌≡◌, ◌<◌, ◌≤◌, ◌&&◌, ◌==◌, [], ℕ, List, Option, None, Some, length, map, true};
 ghost use Rattle.iso_model.specs.ScriptView.{script_of};
+ghost use Rattle.iso_model.specs.Scripts as S;
+ghost use Rattle.iso_plan.specs.RowView.{tree_of};
 ghost use Rattle.iso_plan.specs.SameNodes.{IsSameNode};
 ghost use Rattle.iso_plan.specs.Selections.{is_kept_by, is_named, number_among};
 ghost use Rattle.iso_plan.specs.TopClasses.{top_class};
 ghost use Rattle.iso_plan.specs.Tree.{tree};
+ghost use Rattle.iso_selection.specs.PickedPlans.{picked_tree};
 ghost use Rattle.iso_selection.specs.Picks.{HaveOwnPaths, is_picked, kept_tree, picked_paths};
+ghost use Rattle.iso_selection.specs.Results.{KeepsResults};
 ghost use Rattle.iso_selection.specs.Shards.{shard_of};
 ghost use Rattle.iso_selection.specs.Wishes.{Wish, is_named_by};
 ghost use Rattle.iso_selection.specs.declared.shard.Shard.{Shard};
 
 use iso_model::script::Script;
+use iso_plan::plan::Plan;
+use iso_suites::laws::selected_nodes_have_the_results_of_the_whole_run;
 
 /// The picked paths name just the nodes that are asked for; with a shard, just the picked ones where no two nodes have one path.
 pub fn picked_paths_name_the_picked_nodes(scripts: &[Script])
@@ -53,6 +59,16 @@ pub fn picked_nodes_keep_their_chains(scripts: &[Script])
         (kept_tree nodes (picked_paths nodes wishes shard))
         (number_among (is_kept_by nodes (picked_paths nodes wishes shard)) m) }
 {}
+
+/// The isolation theorem of shards: each test and class that a shard keeps has, in every run of the shard's plan, the verdict and output
+/// that it has in every run of all scripts. The runs may have different settings and numbers of workers.
+pub fn shards_have_the_results_of_the_whole_run(whole: &Plan, part: &Plan)
+    ensures { (scripts : List S.Script) (wishes : Option (List Wish)) (shard : Shard)
+        → tree_of whole.now ≡ tree scripts → tree_of part.now ≡ picked_tree scripts wishes (Some shard)
+        → KeepsResults whole.now part.now (picked_paths (tree scripts) wishes (Some shard)) }
+{
+    selected_nodes_have_the_results_of_the_whole_run(whole, part);
+}
 
 /// Where no path is picked the root alone is kept, and that is the tree of no scripts.
 pub fn no_path_keeps_the_root_alone(scripts: &[Script])
