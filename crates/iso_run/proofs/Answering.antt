@@ -1,9 +1,11 @@
 -- How what came of a run is answered.
-use Rattle.std.proofs.Common.{◌≡◌, ℕ, List, Option, Bool, Result, Ok, Err, IsErrAnd, MatchResult, true, ap, sym, subst, ◌∙◌}
+use Rattle.std.proofs.Common.{◌≡◌, ℕ, List, Option, Bool, Result, Ok, Err, IfErr, IsErrAnd, MatchResult, true, ap, sym, subst, ◌∙◌}
 use Rattle.iso_arguments.specs.declared.request.InputFiles.{InputFiles}
-use Rattle.iso_run.specs.Commands.{AreFor, IsWrittenFor}
+use Rattle.iso_arguments.specs.Requests.{NamesNothing}
+use Rattle.iso_run.specs.Commands.{AreFor, IsRefused, IsWrittenFor, way_of}
 use Rattle.iso_run.specs.Ends.{End, Whole, Refuses, GivesUp, BreaksOff, Answers, IsFlushed, Leaves, command_end, end_of, run_end}
-use Rattle.iso_run.specs.Runs.{IsWritten, Product, Writes}
+use Rattle.iso_run.specs.Replays.{Cause}
+use Rattle.iso_run.specs.Runs.{IsWritten, Product, Writes, suite_report}
 use Rattle.iso_run.specs.Suites.{Suite}
 use Rattle.iso_run.specs.declared.command_fault.CommandFault.{CommandFault}
 use Rattle.iso_run.specs.declared.fault.RunFault.{RunFault}
@@ -43,3 +45,24 @@ run-answered product files input inputs way are old mid new (Err fault) writes (
     let left = weaker (IsWritten product inputs way old mid) (IsWrittenFor product files input way old mid) (λ ok w. (inputs, are, w)) _ (HasFailed old.failures mid.failures) (λ cut. cut.2.failed) old mid (run_end fault) writes.leaves in
     subst (λ (a : Account). Leaves (IsWrittenFor product files input way old a) (HasFailed old.failures a.failures) old a (command_end told)) (sym h.0)
     (subst (Leaves (IsWrittenFor product files input way old mid) (HasFailed old.failures mid.failures) old mid) (sym h.1) left)
+
+-- a plain run that is told as refused was refused
+pub run-refused : (files : InputFiles) (input : Option (List ℕ)) (inputs : Inputs) (serial : Bool) (way : Way) → NamesNothing files → AreFor files input inputs → way ≡ way_of serial → (old mid new : Account)
+    → (ran : Result Summary RunFault) → Writes (λ (s : Summary). s.all_ok) suite_report inputs way old mid ran
+    → (result : Result Bool CommandFault)
+    → MatchResult ran (λ s. IsFlushed s.all_ok mid new result) (λ fault. (new ≡ mid) × IsErrAnd result (λ told. command_end told ≡ run_end fault))
+    → IfErr result (λ told. command_end told ≡ Refuses → IsRefused input)
+run-refused files input inputs serial way nothing are is old mid new ran writes (Ok ok) h = tt
+run-refused files input inputs serial way nothing are is old mid new (Ok summary) writes (Err told) h =
+    λ refuses. let broke : BreaksOff ≡ Refuses = sym (ap command_end h.0) ∙ refuses in absurd (cc)
+run-refused files input inputs serial way nothing are is old mid new (Err fault) writes (Err told) h =
+    λ refuses. record {
+      files = files;
+      nothing = nothing;
+      serial = serial;
+      inputs = inputs;
+      are_for = are;
+      fault = fault;
+      refuses = sym h.1 ∙ refuses;
+      cause = subst (λ (w : Way). Cause inputs w fault) is writes.cause;
+    }

@@ -4,7 +4,7 @@ use Rattle.iso_arguments.specs.Requests.{IsPlainRun}
 use Rattle.iso_arguments.specs.declared.request.Request.{Request}
 use Rattle.iso_arguments.specs.declared.request.Request.TheVariants.{Run, Plan, Replay, Show}
 use Rattle.iso_run.specs.Commands.{Answered, Did, RanOn}
-use Rattle.iso_run.specs.Ends.{Whole, command_end, exit_status, run_end}
+use Rattle.iso_run.specs.Ends.{Refuses, Whole, command_end, exit_status, run_end}
 use Rattle.iso_run.specs.declared.command_fault.CommandFault.{CommandFault}
 use Rattle.iso_run.specs.declared.command_fault.CommandFault.TheVariants as C
 use Rattle.iso_run.specs.declared.fault.RunFault.{RunFault}
@@ -28,13 +28,14 @@ pub at-least-two : (fault : CommandFault) → 2 ≤ exit_status (command_end fau
 at-least-two (C.Words text) = omega arith
 at-least-two (C.Unreadable name) = omega arith
 at-least-two (C.TooLarge name) = omega arith
+at-least-two (C.NotListed file index) = omega arith
 at-least-two C.Unwritten = omega arith
 at-least-two (C.Run fault word) = run-at-least-two fault
 
 -- a plain run reported on what stood on the input
 plain-ran : (request : Request) (script : List ℕ) (old new : Account) (ok : Bool) → IsPlainRun request → Did request (Some script) old new ok → RanOn script old new (exit_status (Whole ok))
 plain-ran (Show text) script old new ok is did = absurd is
-plain-ran (Plan files) script old new ok is did = absurd is
+plain-ran (Plan tests files) script old new ok is did = absurd is
 plain-ran (Replay name files) script old new ok is did = absurd is
 plain-ran (Run serial files) script old new ok is did = record { files = files; nothing = is; serial = serial; ok = ok; written = did; tells = refl }
 
@@ -46,3 +47,25 @@ without-words words (Some script) old new ok none h = λ low. plain-ran h.reques
 pub never-low : (known : Option (List ℕ)) (P : List ℕ → Type 0) (status : ℕ) → 2 ≤ status → IfSome known (λ script. status ≤ 1 → P script)
 never-low None P status two = tt
 never-low (Some script) P status two = λ low. absurd (omega arith)
+
+-- a fault with status 2 refuses
+refuses-run : (fault : RunFault) → exit_status (run_end fault) ≡ 2 → run_end fault ≡ Refuses
+refuses-run (F.Settings fault) h = refl
+refuses-run (F.World fault) h = refl
+refuses-run (F.Script index fault) h = refl
+refuses-run (F.Plan fault) h = refl
+refuses-run (F.Schedule fault) h = refl
+refuses-run (F.Refused index why) h = refl
+refuses-run F.Unfinished h = refl
+refuses-run F.Start h = absurd (omega (arith, h))
+refuses-run F.Lost h = absurd (omega (arith, h))
+refuses-run F.Memory h = absurd (omega (arith, h))
+refuses-run (F.Write written) h = absurd (omega (arith, h))
+
+pub refuses : (fault : CommandFault) → exit_status (command_end fault) ≡ 2 → command_end fault ≡ Refuses
+refuses (C.Words text) h = refl
+refuses (C.Unreadable name) h = absurd (omega (arith, h))
+refuses (C.TooLarge name) h = refl
+refuses (C.NotListed file index) h = refl
+refuses C.Unwritten h = absurd (omega (arith, h))
+refuses (C.Run fault word) h = refuses-run fault h

@@ -1,35 +1,47 @@
 -- What a command does for what its words ask, and how it ends.
-use Rattle.std.specs.Prelude.{◌≡◌, ℕ, ◌+◌, List, [], ◌∷◌, length, map, take, Bool, true, cond, Option, None, Some, IfSome, string_bytes}
+use Rattle.std.specs.Prelude.{◌≡◌, ℕ, ◌+◌, List, [], ◌∷◌, length, map, take, Bool, true, cond, Option, None, Some, IfSome, is_some, option_map, string_bytes}
 use Rattle.std.specs.Borrow.{Bor}
 use Rattle.iso_arguments.specs.Requests.{IsPlainRun, NamesNothing}
 use Rattle.iso_arguments.specs.declared.request.InputFiles.{InputFiles}
 use Rattle.iso_arguments.specs.declared.request.Request.{Request}
 use Rattle.iso_arguments.specs.declared.request.Request.TheVariants.{Run, Plan, Replay, Show}
+use Rattle.iso_arguments.specs.declared.shard.Shard as A
 use Rattle.iso_model.specs.declared.limits.TheConstants.{FILE_BYTES}
-use Rattle.iso_run.specs.Ends.{End, Whole, Leaves, exit_status}
-use Rattle.iso_run.specs.Runs.{IsWritten, Product, suite_plan, suite_report}
+use Rattle.iso_run.specs.Ends.{End, Whole, Refuses, Leaves, exit_status, run_end}
+use Rattle.iso_run.specs.Replays.{Cause}
+use Rattle.iso_run.specs.Runs.{IsWritten, Product, suite_plan, suite_report, suite_tests}
 use Rattle.iso_run.specs.Suites.{Suite, texts}
+use Rattle.iso_run.specs.declared.fault.RunFault.{RunFault}
 use Rattle.iso_run.specs.declared.files.InputBytes.{InputBytes}
 use Rattle.iso_run.specs.declared.inputs.Inputs.{Inputs}
 use Rattle.iso_run.specs.declared.way.Way.{Way}
 use Rattle.iso_run.specs.declared.way.Way.TheVariants.{Serial, ByWorkers, BySchedule}
+use Rattle.iso_selection.specs.declared.shard.Shard.{Shard}
 use Rattle.iso_tap.specs.Sinks.{Account, HasFailed, Wrote}
 
 -- Bytes that were read for these files: none for settings or a world that isn't named; for each script that is named one text, and where
--- none is, what the input has left, if that is known, up to one byte past the limit. What a named file holds isn't known.
-pub record AreOf (files : InputFiles) (input : Option (List ℕ)) (settings world : List ℕ) (scripts : List (List ℕ)) : Type 0 where
+-- none is, what the input has left, if that is known, up to one byte past the limit; and a list of paths, where one is named. What a named
+-- file holds isn't known.
+pub record AreOf (files : InputFiles) (input : Option (List ℕ)) (settings world : List ℕ) (scripts : List (List ℕ)) (listed : Bool) : Type 0 where
   pub settings_named : files.settings ≡ None → settings ≡ []
   pub world_named : files.world ≡ None → world ≡ []
   pub scripts_named : files.scripts.items ≡ [] → IfSome input (λ bytes. scripts ≡ take (FILE_BYTES + 1) bytes ∷ [])
   pub each : (files.scripts.items ≡ [] → ⊥) → length scripts ≡ length files.scripts.items
+  pub list_named : listed ≡ is_some files.only_from
 
 abbrev pub WereRead : InputFiles → Option (List ℕ) → InputBytes → Type 0
-WereRead files input bytes = AreOf files input bytes.settings.items bytes.world.items (map (λ v. v.items) bytes.scripts.items)
+WereRead files input bytes = AreOf files input bytes.settings.items bytes.world.items (map (λ v. v.items) bytes.scripts.items) (is_some bytes.listed)
+
+-- the shard as the words have it
+abbrev pub shard_asked : Shard → A.Shard
+shard_asked shard = record { number = shard.index; of = shard.count }
 
 -- These are the inputs that were read for these files, with the paths and the processors that are asked for.
 pub record AreFor (files : InputFiles) (input : Option (List ℕ)) (inputs : Inputs) : Type 0 where
-  pub are_of : AreOf files input inputs.settings.now inputs.world.now (texts inputs.scripts.now)
+  pub are_of : AreOf files input inputs.settings.now inputs.world.now (texts inputs.scripts.now) (is_some inputs.listed)
   pub only : inputs.only.now ≡ files.only.items
+  pub patterns : inputs.patterns.now ≡ files.patterns.items
+  pub shard : option_map shard_asked inputs.shard ≡ files.shard
   pub processors : inputs.processors ≡ files.processors
 
 abbrev pub IsWrittenFor : (Suite → Product) → InputFiles → Option (List ℕ) → Way → (old new : Account) → (ok : Bool) → Type 0
@@ -39,10 +51,14 @@ IsWrittenFor product files input way old new ok = (inputs : Inputs) × AreFor fi
 abbrev pub way_of : (serial : Bool) → Way
 way_of serial = cond serial Serial ByWorkers
 
+-- what is printed of a plan: all of it, or its tests alone
+abbrev pub plan_of : (tests : Bool) → Suite → Product
+plan_of tests = cond tests suite_tests suite_plan
+
 -- what a request asks for was done: its text was written, or the plan or the report for its files, of a replay after some schedule
 abbrev pub Did : Request → Option (List ℕ) → (old new : Account) → (ok : Bool) → Type 0
 Did (Show text) input old new ok = (ok ≡ true) × Wrote old new (string_bytes text)
-Did (Plan files) input old new ok = IsWrittenFor suite_plan files input Serial old new ok
+Did (Plan tests files) input old new ok = IsWrittenFor (plan_of tests) files input Serial old new ok
 Did (Run serial files) input old new ok = IsWrittenFor suite_report files input (way_of serial) old new ok
 Did (Replay name files) input old new ok = (schedule : Bor (List ℕ)) × IsWrittenFor suite_report files input (BySchedule schedule) old new ok
 
@@ -66,3 +82,14 @@ pub record RanOn (script : List ℕ) (old new : Account) (status : ℕ) : Type 0
   pub ok : Bool
   pub written : IsWrittenFor suite_report files (Some script) (way_of serial) old new ok
   pub tells : status ≡ exit_status (Whole ok)
+
+-- A plain run is refused: the inputs that were read for it have a cause of a fault that refuses them.
+pub record IsRefused (input : Option (List ℕ)) : Type 0 where
+  pub files : InputFiles
+  pub nothing : NamesNothing files
+  pub serial : Bool
+  pub inputs : Inputs
+  pub are_for : AreFor files input inputs
+  pub fault : RunFault
+  pub refuses : run_end fault ≡ Refuses
+  pub cause : Cause inputs (way_of serial) fault

@@ -3,7 +3,7 @@ use Rattle.std.specs.Prelude.{◌≡◌, ◌≢◌, ℕ, Bool, cond, None, Resul
 use Rattle.iso_arguments.specs.declared.request.WordsFault.{WordsFault}
 use Rattle.iso_arguments.specs.declared.request.WordsFault.TheVariants as W
 use Rattle.iso_run.specs.declared.command_fault.CommandFault.{CommandFault}
-use Rattle.iso_run.specs.declared.command_fault.CommandFault.TheVariants.{Words, Unreadable, TooLarge, Unwritten, Run}
+use Rattle.iso_run.specs.declared.command_fault.CommandFault.TheVariants.{Words, Unreadable, TooLarge, NotListed, Unwritten, Run}
 use Rattle.iso_run.specs.declared.fault.RunFault.{RunFault}
 use Rattle.iso_run.specs.declared.fault.RunFault.TheVariants.{Start, Lost, Memory, Write}
 use Rattle.iso_tap.specs.Sinks.{Account, HasFailed}
@@ -40,6 +40,7 @@ abbrev pub command_end : CommandFault → End
 command_end (Words text) = Refuses
 command_end (Unreadable name) = GivesUp
 command_end (TooLarge name) = Refuses
+command_end (NotListed file index) = Refuses
 command_end Unwritten = BreaksOff
 command_end (Run fault word) = run_end fault
 
@@ -63,6 +64,10 @@ Answers whole old new result = Leaves whole (HasFailed old.failures new.failures
 abbrev pub IsFlushed : (ok : Bool) → (old new : Account) → Result Bool CommandFault → Type 0
 IsFlushed ok old new (Ok told) = (told ≡ ok) × (new ≡ old)
 IsFlushed ok old new (Err fault) = (fault ≡ Unwritten) × HasFailed old.failures new.failures
+
+-- the fault is that memory ran out, or that a file can't be read
+abbrev pub GaveUp : CommandFault → Type 0
+GaveUp fault = command_end fault ≡ GivesUp
 
 -- the fault comes before anything is asked of the output
 abbrev pub ComesEarly : CommandFault → Type 0

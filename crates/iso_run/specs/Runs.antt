@@ -2,7 +2,7 @@
 use Rattle.std.specs.Prelude.{◌≡◌, ℕ, ◌<◌, List, Bool, true, length, take, Result, IfErr}
 use Rattle.iso_run.specs.Ends.{Leaves, end_of, run_end}
 use Rattle.iso_run.specs.Replays.{Cause, IsPlayed}
-use Rattle.iso_run.specs.Suites.{IsSuite, OfSuite, Suite, planned, suite_of, suite_tree}
+use Rattle.iso_run.specs.Suites.{IsSuite, OfSuite, Suite, planned, suite_of}
 use Rattle.iso_run.specs.declared.fault.RunFault.{RunFault}
 use Rattle.iso_run.specs.declared.fault.RunFault.TheVariants.{Write}
 use Rattle.iso_run.specs.declared.inputs.Inputs.{Inputs}
@@ -10,13 +10,13 @@ use Rattle.iso_run.specs.declared.inputs.Suite.{Suite as ReadSuite}
 use Rattle.iso_run.specs.declared.way.Way.{Way}
 use Rattle.iso_lifecycle.specs.Subjects.{outcome_alone, started}
 use Rattle.iso_model.specs.declared.outcome.Outcome.{Outcome}
-use Rattle.iso_tap.specs.PlanText.{plan_text}
+use Rattle.iso_tap.specs.PlanText.{plan_text, tests_text}
 use Rattle.iso_tap.specs.Reports.{all_ok, report}
 use Rattle.iso_tap.specs.Sinks.{Account, HasFailed, Took, Wrote}
 
 -- the outcome of each node of a suite, by its number: that of the node run alone on what the world starts with
 abbrev pub suite_outcome : Suite → ℕ → Outcome
-suite_outcome suite = outcome_alone (suite_tree suite) (started suite.start)
+suite_outcome suite = outcome_alone suite.nodes (started suite.start)
 
 -- what is written of a suite: a text, and whether it tells that all is ok
 pub record Product : Type 0 where
@@ -25,11 +25,15 @@ pub record Product : Type 0 where
 
 -- the report, and whether all top-level points are ok
 abbrev pub suite_report : Suite → Product
-suite_report suite = record { text = report (suite_tree suite) (suite_outcome suite); ok = all_ok (suite_tree suite) (suite_outcome suite) }
+suite_report suite = record { text = report suite.nodes (suite_outcome suite); ok = all_ok suite.nodes (suite_outcome suite) }
 
 -- the printed plan, with the number of workers that the settings give
 abbrev pub suite_plan : Suite → Product
-suite_plan suite = record { text = plan_text (suite_tree suite) suite.settings suite.settings.worker_count; ok = true }
+suite_plan suite = record { text = plan_text suite.nodes suite.settings suite.settings.worker_count; ok = true }
+
+-- the lines of tests in it, and no other
+abbrev pub suite_tests : Suite → Product
+suite_tests suite = record { text = tests_text suite.nodes suite.settings; ok = true }
 
 -- The way came to its end, and the product of the suite that the inputs are was written, whole.
 abbrev pub IsWritten : (Suite → Product) → Inputs → Way → (old new : Account) → (ok : Bool) → Type 0

@@ -1,9 +1,9 @@
 //! The program, over a reader and two sinks.
-ghost use Rattle.std.specs.Prelude.{◌≡◌, ◌≤◌, ℕ, List, Option, [], IfSome, IsErrAnd, MatchResult, true};
-ghost use Rattle.iso_arguments.specs.Requests.{AsksForSomeProcessors, IsCount};
-ghost use Rattle.iso_run.specs.Commands.{Answered, AreFor, Did, Ended, RanOn, WereRead, way_of};
-ghost use Rattle.iso_run.specs.Ends.{Answers, IsFlushed, command_end, exit_status, run_end, words_fault};
-ghost use Rattle.iso_run.specs.Runs.{Writes, suite_plan, suite_report};
+ghost use Rattle.std.specs.Prelude.{◌≡◌, ◌≤◌, ℕ, List, Option, [], IfErr, IfSome, IsErrAnd, MatchResult, true, is_some, option_map};
+ghost use Rattle.iso_arguments.specs.Requests.{AreInBounds, AsksInBounds, IsPlainRun, IsShard};
+ghost use Rattle.iso_run.specs.Commands.{Answered, AreFor, Did, Ended, IsRefused, RanOn, WereRead, plan_of, shard_asked, way_of};
+ghost use Rattle.iso_run.specs.Ends.{Answers, IsFlushed, Refuses, command_end, exit_status, run_end, words_fault};
+ghost use Rattle.iso_run.specs.Runs.{Writes, suite_report};
 ghost use Rattle.iso_run.specs.declared.inputs.Inputs.{Inputs};
 ghost use Rattle.iso_run.specs.declared.way.Way.TheVariants.{Serial};
 ghost use Rattle.iso_tap.specs.Sinks.{Wrote};
@@ -11,18 +11,20 @@ ghost use Rattle.iso_tap.specs.Sinks.{Wrote};
 use crate::command_fault::CommandFault;
 use crate::exit::{ALL_OK, NOT_ALL_OK};
 use crate::fault::RunFault;
-use crate::files::{InputBytes, lent, read_file, read_files};
+use crate::files::{InputBytes, lent, read_files};
 use crate::inputs::Inputs;
 use crate::lines::say;
-use crate::plan::show_plan;
+use crate::plan::{show_plan, show_tests};
 use crate::replay::run_schedule;
 use crate::report::Summary;
 use crate::run::run_serial;
 use crate::way::Way;
 use crate::workers::run_workers;
 use iso_arguments::request::{InputFiles, Request, WordsFault, read_words};
+use iso_arguments::shard::Shard as AskedShard;
 use iso_lifecycle::gate::OpenGate;
 use iso_plan::fault::PlanFault;
+use iso_selection::shard::Shard;
 use iso_tap::sink::Sink;
 use iso_tap::text::write_text;
 use std::alloc::{AllocGlobal, Global};
@@ -47,6 +49,10 @@ pub fn command<G: AllocGlobal + Files + Threads + Wait + Sync, R: Read, W: Sink,
     // Without words, what was run is the script on the input.
     ensures no_word { words.now ≡ [] → IfSome (R.remaining input.old) (λ script. result ≤ 1
         → RanOn script (W.account output.old) (W.account output.new) result) }
+    // Without words the status is 2 only where the script on the input is refused,
+    ensures refused { words.now ≡ [] → result ≡ 2 → IsRefused (R.remaining input.old) }
+    // and standard error is asked nothing where it was run.
+    ensures quiet { words.now ≡ [] → result ≤ 1 → errors.new ≡ errors.old }
 {
     match answer(rt, words, input, output) {
         Ok(true) => ALL_OK,
@@ -74,8 +80,9 @@ fn answer<'a, G: AllocGlobal + Files + Threads + Wait + Sync, R: Read, W: Sink>(
     input: &mut R,
     output: &mut W,
 ) -> Result<bool, CommandFault<'a>>
-    ensures { Answers (Answered words.now (R.remaining input.old) (W.account output.old) (W.account output.new))
+    ensures answers { Answers (Answered words.now (R.remaining input.old) (W.account output.old) (W.account output.new))
         (W.account output.old) (W.account output.new) result }
+    ensures refused { words.now ≡ [] → IfErr result (λ fault. command_end fault ≡ Refuses → IsRefused (R.remaining input.old)) }
 {
     let request = read_words(rt.alloc(), words)?;
     answer_request(rt, &request, input, output)
@@ -88,27 +95,34 @@ fn answer_request<'a, G: AllocGlobal + Files + Threads + Wait + Sync, R: Read, W
     input: &mut R,
     output: &mut W,
 ) -> Result<bool, CommandFault<'a>>
-    requires { AsksForSomeProcessors request.now }
-    ensures { Answers (Did request.now (R.remaining input.old) (W.account output.old) (W.account output.new))
+    requires { AsksInBounds request.now }
+    ensures answers { Answers (Did request.now (R.remaining input.old) (W.account output.old) (W.account output.new))
         (W.account output.old) (W.account output.new) result }
+    ensures refused { IsPlainRun request.now
+        → IfErr result (λ fault. command_end fault ≡ Refuses → IsRefused (R.remaining input.old)) }
 {
     match request {
         Request::Show(text) => show(text.as_str(), output),
-        Request::Plan(files) => {
-            let bytes = read_files(rt, files, input)?;
-            let shown = plan(rt.alloc(), &bytes, &*files, output);
-            told(shown, files, output)
+        Request::Plan { tests, files } => {
+            let bytes = read_files(rt, files, None, input)?;
+            let shown = plan(rt.alloc(), &bytes, *tests, &*files, output);
+            told(shown, bytes, files, output)
         }
         Request::Run { serial, files } => {
-            let bytes = read_files(rt, files, input)?;
+            let bytes = read_files(rt, files, None, input)?;
             let ran = run(rt, &bytes, asked_way(*serial), &*files, output);
-            told(ran, files, output)
+            told(ran, bytes, files, output)
         }
         Request::Replay { schedule, files } => {
-            let bytes = read_files(rt, files, input)?;
-            let schedule = read_file(rt, *schedule)?;
-            let ran = run(rt, &bytes, Way::BySchedule(&schedule), &*files, output);
-            told(ran, files, output)
+            let bytes = read_files(rt, files, Some(*schedule), input)?;
+            let ran = run(
+                rt,
+                &bytes,
+                Way::BySchedule(&bytes.schedule),
+                &*files,
+                output,
+            );
+            told(ran, bytes, files, output)
         }
     }
 }
@@ -139,12 +153,13 @@ fn run<'b, G: AllocGlobal + Threads + Wait + Sync, W: Sink>(
     files: &'b InputFiles<'b>,
     output: &mut W,
 ) -> Result<Summary, RunFault>
-    requires { IsCount files.now.processors }
+    requires { AreInBounds files.now }
     ensures { (input : Option (List ℕ)) → WereRead files.now input bytes.now → (inputs : Inputs) × AreFor files.now input inputs
         × Writes (λ s. s.all_ok) suite_report inputs way.entry (W.account output.old) (W.account output.new) result }
 {
+    let shard = shard_of(files.shard);
     let scripts = lent(rt.alloc(), &bytes.scripts)?;
-    let inputs = inputs_of(bytes, &scripts, files);
+    let inputs = inputs_of(bytes, &scripts, files, shard);
     match way {
         Way::Serial => run_serial(rt.alloc(), inputs, output),
         Way::ByWorkers => run_workers(rt, rt.alloc(), inputs, &OpenGate, output),
@@ -156,30 +171,54 @@ fn run<'b, G: AllocGlobal + Threads + Wait + Sync, W: Sink>(
 fn plan<'b, W: Sink>(
     alloc: Global,
     bytes: &'b InputBytes,
+    tests: bool,
     files: &'b InputFiles<'b>,
     output: &mut W,
 ) -> Result<Summary, RunFault>
-    requires { IsCount files.now.processors }
+    requires { AreInBounds files.now }
     ensures { (input : Option (List ℕ)) → WereRead files.now input bytes.now → (inputs : Inputs) × AreFor files.now input inputs
-        × Writes (λ s. s.all_ok) suite_plan inputs Serial (W.account output.old) (W.account output.new) result }
+        × Writes (λ s. s.all_ok) (plan_of tests) inputs Serial (W.account output.old) (W.account output.new) result }
 {
+    let shard = shard_of(files.shard);
     let scripts = lent(alloc, &bytes.scripts)?;
-    match show_plan(alloc, inputs_of(bytes, &scripts, files), output) {
+    let inputs = inputs_of(bytes, &scripts, files, shard);
+    match print_plan(alloc, inputs, tests, output) {
         Ok(()) => Ok(Summary { all_ok: true }),
         Err(fault) => Err(fault),
     }
 }
 
-/// The inputs that these bytes are, whose scripts are lent, as they are asked for with these files.
+/// Prints the plan of inputs, or its tests alone.
+fn print_plan<W: Sink>(
+    alloc: Global,
+    inputs: Inputs<'_>,
+    tests: bool,
+    output: &mut W,
+) -> Result<(), RunFault>
+    requires { 1 ≤ inputs.processors }
+    ensures { Writes (λ _. true) (plan_of tests) inputs.entry Serial (W.account output.old) (W.account output.new) result }
+{
+    if tests {
+        show_tests(alloc, inputs, output)
+    } else {
+        show_plan(alloc, inputs, output)
+    }
+}
+
+/// The inputs that these bytes are, whose scripts are lent, as they are asked for with these files and this shard.
 fn inputs_of<'b>(
     bytes: &'b InputBytes,
     scripts: &'b [&'b [u8]],
     files: &'b InputFiles<'b>,
+    shard: Option<Shard>,
 ) -> Inputs<'b>
     ensures scripts { result.scripts.now ≡ scripts.now }
     ensures settings { result.settings.now ≡ bytes.now.settings.items }
     ensures world { result.world.now ≡ bytes.now.world.items }
     ensures only { result.only.now ≡ files.now.only.items }
+    ensures patterns { result.patterns.now ≡ files.now.patterns.items }
+    ensures listed { is_some result.listed ≡ is_some bytes.now.listed }
+    ensures shard { result.shard ≡ shard }
     ensures processors { result.processors ≡ files.now.processors }
 {
     Inputs {
@@ -187,13 +226,28 @@ fn inputs_of<'b>(
         settings: &bytes.settings,
         world: &bytes.world,
         only: &files.only,
+        patterns: &files.patterns,
+        listed: bytes.listed.as_deref(),
+        shard,
         processors: files.processors,
+    }
+}
+
+/// The shard that the words ask for.
+fn shard_of(asked: Option<AskedShard>) -> Option<Shard>
+    requires { IsShard asked }
+    ensures { option_map shard_asked result ≡ asked }
+{
+    match asked {
+        Some(shard) => Shard::new(shard.number, shard.of),
+        None => None,
     }
 }
 
 /// Answers a run whose report was written once the output is flushed, or why it has none.
 fn told<'a, W: Sink>(
     ran: Result<Summary, RunFault>,
+    bytes: InputBytes,
     files: &InputFiles<'a>,
     output: &mut W,
 ) -> Result<bool, CommandFault<'a>>
@@ -203,7 +257,7 @@ fn told<'a, W: Sink>(
 {
     match ran {
         Ok(summary) => flushed(summary.all_ok, output),
-        Err(fault) => Err(named(fault, files)),
+        Err(fault) => Err(named(fault, bytes, files)),
     }
 }
 
@@ -217,14 +271,35 @@ fn flushed<W: Sink>(ok: bool, output: &mut W) -> Result<bool, CommandFault<'stat
     Ok(ok)
 }
 
-/// A fault of a run, with the word that it is of: the name of a script, where one is named, or a path.
-fn named<'a>(fault: RunFault, files: &InputFiles<'a>) -> CommandFault<'a>
+/// A fault of a run, with the word that it is of: the name of a script, where one is named, or what names no class or test.
+fn named<'a>(fault: RunFault, bytes: InputBytes, files: &InputFiles<'a>) -> CommandFault<'a>
     ensures { command_end result ≡ run_end fault }
 {
-    let word = match &fault {
-        RunFault::Script(index, _) => files.scripts.get(*index).copied(),
-        RunFault::Plan(PlanFault::NotSelected(index)) => files.only.get(*index).copied(),
-        _ => None,
+    match fault {
+        RunFault::Plan(PlanFault::NotSelected(index)) => not_selected(index, bytes, files),
+        RunFault::Script(index, _) => {
+            CommandFault::Run(fault, files.scripts.get(index).copied())
+        }
+        _ => CommandFault::Run(fault, None),
+    }
+}
+
+/// The fault of a path or a pattern that names nothing, by its number among those of the words, and after them those of the file.
+fn not_selected<'a>(index: usize, bytes: InputBytes, files: &InputFiles<'a>) -> CommandFault<'a>
+    ensures { command_end result ≡ Refuses }
+{
+    let (only, patterns) = (files.only.len(), files.patterns.len());
+    let word = if index < only {
+        files.only.get(index).copied()
+    } else {
+        files.patterns.get(index - only).copied()
     };
-    CommandFault::Run(fault, word)
+    let InputBytes { listed, .. } = bytes;
+    match listed {
+        Some(file) if word.is_none() => CommandFault::NotListed(
+            file,
+            index.saturating_sub(only + patterns),
+        ),
+        _ => CommandFault::Run(RunFault::Plan(PlanFault::NotSelected(index)), word),
+    }
 }

@@ -1,11 +1,12 @@
 //! The files that a command is made of.
-ghost use Rattle.std.specs.Prelude.{◌≡◌, ◌+◌, [], ◌∷◌, IfErr, IfOk, IfSome, None, length, map, take};
+ghost use Rattle.std.specs.Prelude.{◌≡◌, ◌+◌, [], ◌∷◌, IfErr, IfOk, IfSome, IsOkAnd, None, is_some, length, map, take};
 ghost use Rattle.std.specs.IoError.{error_kind};
 ghost use Rattle.std.specs.declared.io.ErrorKind.TheVariants.{OutOfMemory};
+ghost use Rattle.iso_arguments.specs.Requests.{NamesNothing};
 ghost use Rattle.iso_model.specs.declared.limits.TheConstants.{FILE_BYTES};
 ghost use Rattle.iso_run.specs.Suites.{texts};
 ghost use Rattle.iso_run.specs.Commands.{WereRead};
-ghost use Rattle.iso_run.specs.Ends.{ComesEarly};
+ghost use Rattle.iso_run.specs.Ends.{ComesEarly, GaveUp};
 ghost use Rattle.iso_run.specs.declared.command_fault.CommandFault.TheVariants.{Run, Unreadable};
 ghost use Rattle.iso_run.specs.declared.fault.RunFault.TheVariants.{Memory};
 
@@ -13,6 +14,7 @@ use crate::command_fault::CommandFault;
 use crate::lines::STDIN;
 use iso_arguments::request::InputFiles;
 use iso_model::limits::FILE_BYTES;
+use iso_selection::list::LIST_BYTES;
 use std::alloc::{AllocError, AllocGlobal, Global};
 use std::fs::{File, Files};
 use std::io::{self, Read};
@@ -23,26 +25,61 @@ pub(crate) struct InputBytes {
     pub scripts: Vec<Vec<u8>>,
     pub settings: Vec<u8>,
     pub world: Vec<u8>,
+    /// The schedule, where one is named.
+    pub schedule: Vec<u8>,
+    /// The file in which paths stand, where one is named.
+    pub listed: Option<Vec<u8>>,
 }
 
-/// Reads the settings, the world, and the scripts in turn, or a script from standard input where none is named.
-/// Settings or a world that isn't named counts as an empty file.
+/// Reads the settings, the world, the scripts in turn, or a script from standard input where none is named, the schedule, and
+/// the file in which the paths of what is kept stand. Settings, a world or a schedule that isn't named counts as an empty file.
 pub(crate) fn read_files<'a, G: AllocGlobal + Files, R: Read>(
     rt: &G,
     files: &InputFiles<'a>,
+    schedule: Option<&'a str>,
     input: &mut R,
 ) -> Result<InputBytes, CommandFault<'a>>
     ensures early { IfErr result ComesEarly }
     ensures read { IfOk result (WereRead files.now (R.remaining input.old)) }
+    ensures unnamed { NamesNothing files.now → schedule.entry ≡ None → IfErr result GaveUp }
 {
     let settings = read_document(rt, files.settings)?;
     let world = read_document(rt, files.world)?;
     let scripts = read_script_files(rt, &files.scripts, input)?;
+    let schedule = match schedule {
+        Some(name) => read_file(rt, name)?,
+        None => Vec::new(rt.alloc()),
+    };
     Ok(InputBytes {
         scripts,
         settings,
         world,
+        schedule,
+        listed: read_list(rt, files.only_from, input)?,
     })
+}
+
+/// Reads the file in which paths stand, where one is named; `-` is standard input.
+fn read_list<'a, G: AllocGlobal + Files, R: Read>(
+    rt: &G,
+    name: Option<&'a str>,
+    input: &mut R,
+) -> Result<Option<Vec<u8>>, CommandFault<'a>>
+    ensures early { IfErr result ComesEarly }
+    ensures some { IfOk result (λ listed. is_some listed ≡ is_some name.entry) }
+    ensures unnamed { name.entry ≡ None → IsOkAnd result (λ listed. listed ≡ None) }
+{
+    let Some(name) = name else {
+        return Ok(None);
+    };
+    let (bytes, told) = match name {
+        "-" => (read_limited(rt.alloc(), input, STDIN, LIST_BYTES)?, STDIN),
+        _ => (read_up_to(rt, name, LIST_BYTES)?, name),
+    };
+    if bytes.len() > LIST_BYTES as usize {
+        return Err(CommandFault::TooLarge(told));
+    }
+    Ok(Some(bytes))
 }
 
 /// Reads settings or a world.
@@ -51,7 +88,7 @@ fn read_document<'a, G: AllocGlobal + Files>(
     name: Option<&'a str>,
 ) -> Result<Vec<u8>, CommandFault<'a>>
     ensures early { IfErr result ComesEarly }
-    ensures unnamed { name.entry ≡ None → IfOk result (λ bytes. bytes.items ≡ []) }
+    ensures unnamed { name.entry ≡ None → IsOkAnd result (λ bytes. bytes.items ≡ []) }
 {
     let Some(name) = name else {
         return Ok(Vec::new(rt.alloc()));
@@ -69,13 +106,16 @@ fn read_script_files<'a, G: AllocGlobal + Files, R: Read>(
     names: &[&'a str],
     input: &mut R,
 ) -> Result<Vec<Vec<u8>>, CommandFault<'a>>
-    ensures early { IfErr result ComesEarly }
+    ensures gave_up { IfErr result GaveUp }
     ensures standard_input { names.now ≡ [] → IfSome (R.remaining input.old) (λ bytes.
         IfOk result (λ scripts. map (λ v. v.items) scripts.items ≡ take (FILE_BYTES + 1) bytes ∷ [])) }
     ensures each { (names.now ≡ [] → ⊥) → IfOk result (λ scripts. length scripts.items ≡ length names.now) }
 {
     if names.is_empty() {
-        return one_script(rt.alloc(), read_limited(rt.alloc(), input, STDIN)?);
+        return one_script(
+            rt.alloc(),
+            read_limited(rt.alloc(), input, STDIN, FILE_BYTES)?,
+        );
     }
     let mut scripts = Vec::new(rt.alloc());
     for name in names {
@@ -86,7 +126,7 @@ fn read_script_files<'a, G: AllocGlobal + Files, R: Read>(
 
 /// The bytes of a script alone.
 fn one_script<'a>(alloc: Global, bytes: Vec<u8>) -> Result<Vec<Vec<u8>>, CommandFault<'a>>
-    ensures early { IfErr result ComesEarly }
+    ensures gave_up { IfErr result GaveUp }
     ensures bytes { IfOk result (λ scripts. map (λ v. v.items) scripts.items ≡ bytes.items ∷ []) }
 {
     let mut scripts = Vec::new(alloc);
@@ -94,31 +134,40 @@ fn one_script<'a>(alloc: Global, bytes: Vec<u8>) -> Result<Vec<Vec<u8>>, Command
     Ok(scripts)
 }
 
-/// Reads a file.
-pub(crate) fn read_file<'a, G: AllocGlobal + Files>(
+/// Reads a settings, world, script or schedule file.
+fn read_file<'a, G: AllocGlobal + Files>(rt: &G, name: &'a str) -> Result<Vec<u8>, CommandFault<'a>>
+    ensures gave_up { IfErr result GaveUp }
+{
+    read_up_to(rt, name, FILE_BYTES)
+}
+
+/// Reads a file of at most so many bytes, and of a longer one one byte more.
+fn read_up_to<'a, G: AllocGlobal + Files>(
     rt: &G,
     name: &'a str,
+    most: u32,
 ) -> Result<Vec<u8>, CommandFault<'a>>
-    ensures early { IfErr result ComesEarly }
+    ensures gave_up { IfErr result GaveUp }
 {
     match File::open(rt, name) {
-        Ok(mut file) => read_limited(rt.alloc(), &mut file, name),
+        Ok(mut file) => read_limited(rt.alloc(), &mut file, name, most),
         Err(error) => Err(unread(&error, name)),
     }
 }
 
-/// Reads what a reader has left, at most one byte past the limit of an input file.
+/// Reads what a reader has left, at most one byte past a limit.
 fn read_limited<'a, R: Read>(
     alloc: Global,
     reader: &mut R,
     name: &'a str,
+    most: u32,
 ) -> Result<Vec<u8>, CommandFault<'a>>
-    ensures early { IfErr result ComesEarly }
+    ensures gave_up { IfErr result GaveUp }
     ensures bytes { IfSome (R.remaining reader.old) (λ bytes.
-        IfOk result (λ read. read.items ≡ take (FILE_BYTES + 1) bytes)) }
+        IfOk result (λ read. read.items ≡ take (most + 1) bytes)) }
 {
     let mut bytes = Vec::new(alloc);
-    let mut limited = reader.take(u64::from(FILE_BYTES) + 1);
+    let mut limited = reader.take(u64::from(most) + 1);
     match limited.read_to_end(&mut bytes) {
         Ok(_) => Ok(bytes),
         Err(error) => Err(unread(&error, name)),

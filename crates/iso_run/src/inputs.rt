@@ -6,24 +6,34 @@ ghost use Rattle.iso_run.specs.Suites.{AreRead, AreSet, NoSuite, settings_from, 
 ghost use Rattle.iso_settings.specs.Readings.{Gives};
 
 use crate::fault::RunFault;
+use crate::kept::plan_kept;
 use iso_model::script::Script;
 use iso_plan::fault::PlanError;
-use iso_plan::plan::{Plan, build_only};
+use iso_plan::plan::Plan;
 use iso_script::fault::ScriptError;
 use iso_script::reader::read_script;
+use iso_selection::shard::Shard;
 use iso_settings::fault::{SettingsError, SettingsFault};
 use iso_settings::settings::{Settings, read_settings};
 use iso_settings::world::{World, read_world};
 use std::alloc::Global;
 
-/// What a run is given: the bytes of each script, of the settings and of the world, the paths of the classes and tests
-/// that are kept, or none where all are, and how many processors there are, at least 1.
+/// What a run is given: the bytes of each script, of the settings and of the world, what is kept of the scripts, and how many
+/// processors there are, at least 1.
 #[derive(Clone, Copy)]
 pub struct Inputs<'a> {
     pub scripts: &'a [&'a [u8]],
     pub settings: &'a [u8],
     pub world: &'a [u8],
+    /// The paths of classes and tests that are kept.
     pub only: &'a [&'a str],
+    /// The patterns of the paths of others.
+    pub patterns: &'a [&'a str],
+    /// The bytes of a file in which the paths of others stand, one a line. Without it, and where no path and no pattern is given, all
+    /// classes and tests are kept.
+    pub listed: Option<&'a [u8]>,
+    /// What part of the top-level classes is kept of these. Without it each is.
+    pub shard: Option<Shard>,
     pub processors: u32,
 }
 
@@ -59,7 +69,7 @@ pub fn read_inputs(alloc: Global, inputs: Inputs<'_>) -> Result<Suite, RunFault>
         Err(SettingsError::OutOfMemory) => return Err(RunFault::Memory),
     };
     let scripts = read_scripts(alloc, inputs)?;
-    match build_only(alloc, &scripts, &settings, inputs.only) {
+    match plan_kept(alloc, &scripts, &settings, inputs) {
         Ok(plan) => Ok(Suite {
             scripts,
             settings,

@@ -7,6 +7,7 @@ mod exit;
 pub mod fault;
 mod files;
 pub mod inputs;
+mod kept;
 mod lines;
 pub mod plan;
 pub mod replay;

@@ -23,6 +23,13 @@ impl fmt::Display for CommandFault<'_> {
                 write!(f, "jtap: {}: cannot be read", Escaped(*name))
             }
             CommandFault::TooLarge(name) => write!(f, "jtap: {}: too large", Escaped(*name)),
+            CommandFault::NotListed(file, index) => {
+                let path = ListedPath {
+                    file,
+                    index: *index,
+                };
+                write!(f, "jtap: plan: NotSelected {}", Escaped(path))
+            }
             CommandFault::Unwritten => f.write_str(WRITE_FAILED),
             CommandFault::Run(fault, word) => {
                 let line = RunFaultLine { fault, word: *word };
@@ -64,6 +71,42 @@ impl fmt::Display for RunFaultLine<'_> {
             RunFault::Write(_) => f.write_str(WRITE_FAILED),
         }
     }
+}
+
+/// The path with this number of those that a file lists, counted from 0. Where it isn't UTF-8, U+FFFD stands.
+#[derive(Clone, Copy)]
+struct ListedPath<'a> {
+    file: &'a [u8],
+    index: usize,
+}
+
+impl fmt::Display for ListedPath<'_> {
+    fn fmt<W: fmt::Write>(&self, f: &mut fmt::Formatter<W>) -> fmt::Result {
+        let path = listed_at(self.file, self.index);
+        for chunk in path.utf8_chunks() {
+            f.write_str(chunk.valid())?;
+            if !chunk.invalid().is_empty() {
+                f.write_char(char::REPLACEMENT_CHARACTER)?;
+            }
+        }
+        Ok(())
+    }
+}
+
+/// The bytes of the path with this number of those that a file lists, none where it lists fewer.
+fn listed_at(file: &[u8], index: usize) -> &[u8] {
+    let mut left = index;
+    for line in file.split(|byte| *byte == b'\n') {
+        let path = line.strip_suffix(b"\r").unwrap_or(line);
+        if path.is_empty() {
+            continue;
+        }
+        if left == 0 {
+            return path;
+        }
+        left -= 1;
+    }
+    &[]
 }
 
 /// What may hold any text, as a key or a file's name, with control characters as in a TOML basic string (`\n`, `\u001B`): it

@@ -1,12 +1,11 @@
 //! Schedules of the three teams' example that are picked at random, on 1 to 8 workers.
 ghost use Rattle.std.specs.Prelude.{◌≡◌};
 
-use crate::suites::{Check, TWO_WORKERS, check_inputs, expect};
+use crate::suites::{Check, Surroundings, TWO_WORKERS, check_inputs, expect};
 use crate::teams::{OPS, ORDERS, SHOP, WORLD};
 use iso_core::machine::Core;
 use iso_core::run_events::run_events;
 use iso_plan::plan::Plan;
-use iso_run::inputs::Inputs;
 use iso_run::run::run_serial;
 use iso_settings::world::World;
 use iso_standing::core_fault::CoreFault;
@@ -141,14 +140,12 @@ impl<'a> Check for GiveReport<'a> {
 
 #[test]
 fn schedules_at_random_give_the_report_of_the_serial_run(rt: HostRuntime) {
-    let scripts = [SHOP.as_bytes(), ORDERS.as_bytes(), OPS.as_bytes()];
-    let inputs = Inputs {
-        scripts: &scripts,
-        settings: TWO_WORKERS.as_bytes(),
-        world: WORLD.as_bytes(),
-        only: &[],
-        processors: 1,
+    let surroundings = Surroundings {
+        settings: TWO_WORKERS,
+        world: WORLD,
     };
+    let scripts = [SHOP.as_bytes(), ORDERS.as_bytes(), OPS.as_bytes()];
+    let inputs = surroundings.inputs(&scripts);
     let mut serial = MemorySink::new(rt.alloc());
     expect(
         &rt,

@@ -61,6 +61,9 @@ impl Surroundings {
             settings: self.settings.as_bytes(),
             world: self.world.as_bytes(),
             only: &[],
+            patterns: &[],
+            listed: None,
+            shard: None,
             processors: 1,
         }
     }

@@ -100,6 +100,9 @@ fn two_bodies_are_under_way_at_once(rt: HostRuntime) {
         settings: TWO_WORKERS.as_bytes(),
         world: &[],
         only: &[],
+        patterns: &[],
+        listed: None,
+        shard: None,
         processors: 1,
     };
     expect_report(&rt, rt.alloc(), inputs, &gate, REPORT, true);

@@ -65,6 +65,9 @@ fn three_teams_are_reported_by_two_who_take_turns(rt: HostRuntime) {
         settings: TWO_WORKERS.as_bytes(),
         world: WORLD.as_bytes(),
         only: &[],
+        patterns: &[],
+        listed: None,
+        shard: None,
         processors: 1,
     };
     expect_report(&rt, rt.alloc(), inputs, &gate, REPORT, false);

@@ -1,5 +1,6 @@
-use Rattle.std.proofs.Common.{map, ap, ◌∙◌}
+use Rattle.std.proofs.Common.{map, option_map, ap, ◌∙◌}
 use Rattle.std.proofs.lemmas.Result.{err_from_is_err_and}
+use Rattle.iso_run.specs.Commands.{shard_asked}
 use Rattle.iso_run.specs.Runs.{suite_report}
 use Rattle.iso_run.specs.Suites.{texts}
 use Rattle.iso_run.specs.declared.report.Summary.{Summary}
@@ -11,10 +12,12 @@ returns-in_err-scripts g c = λ input read.
     let p = err_from_is_err_and c.from_residual.result c.from_residual.ensures.1 in
     let files = c.args.files.now in
     let bytes = c.args.bytes.now in
-    (inputs-for files bytes, are-of-bytes files input bytes read, rw (p.1, p.2) (out-of-memory (λ (s : Summary). s.all_ok) suite_report (inputs-for files bytes) c.args.way (g.W.Sink.account c.args.output.now)))
+    let shard = c.shard_of-shard in
+    let inputs = inputs-for files bytes shard.result in
+    (inputs, are-of-bytes files input bytes shard.result read shard.ensures, rw (p.1, p.2) (out-of-memory (λ (s : Summary). s.all_ok) suite_report inputs c.args.way (g.W.Sink.account c.args.output.now)))
 
 pub returns-in-ByWorkers : goal.returns-in-ByWorkers
 returns-in-ByWorkers g c = λ input read.
     let is = c.inputs_of-inputs.ensures in
     let scripts = ap texts (is.scripts ∙ c.deref-2.ensures.value) ∙ c.in_ok-scripts.ensures ∙ ap (map (λ v. v.items)) c.deref.ensures.value in
-    (c.inputs_of-inputs.result, are-for c.args.files.now input c.args.bytes.now c.inputs_of-inputs.result read scripts is.settings is.world is.only is.processors, rw c.in-ByWorkers.is c.run_workers.ensures)
+    (c.inputs_of-inputs.result, are-for c.args.files.now input c.args.bytes.now c.inputs_of-inputs.result read scripts is.settings is.world is.listed is.only is.patterns (ap (option_map shard_asked) is.shard ∙ c.shard_of-shard.ensures) is.processors, rw c.in-ByWorkers.is c.run_workers.ensures)
