@@ -42,15 +42,22 @@ class Reader:
             line = self.lines[self.at]
             following = self.lines[self.at + 1].strip() if self.at + 1 < len(self.lines) else ""
             self.at += 1
-            if line.endswith((" {", ";", "}")) or following == "{" or CLAUSE.match(following):
+            if line.endswith((" {", ";", "}")) or following == "{" or following.startswith("//") or CLAUSE.match(following):
                 return joined(self.lines[first:self.at])
+
+    def skip_comments(self):
+        """Passes over comments."""
+        while self.at < len(self.lines) and self.lines[self.at].strip().startswith("//"):
+            self.at += 1
 
     def function(self, margin):
         """A function's signature and clauses. Its body is passed over."""
         signature, clauses = self.header(), []
         has_body = signature.endswith("{")
+        self.skip_comments()
         while not has_body and CLAUSE.match(self.lines[self.at].strip()) and not signature.endswith((";", "}")):
             clauses.append(self.clause())
+            self.skip_comments()
         if not has_body and self.at < len(self.lines) and self.lines[self.at] == margin + "{":
             has_body = True
         if has_body:

@@ -198,7 +198,7 @@ static TOKENS: [(&[u8], &str); 17] = [
         "1:1 text 0 , 1:3 text 3 a b, 1:8 name x, 1:9 end",
     ),
     (b"\"\\\"a\\\\\" // \"", "1:1 text 3 \"a\\, 1:13 end"),
-    (b"a @ b", "1:1 name a, 1:3 BadToken, 1:3 end"),
+    (b"a @ b", "1:1 name a, 1:3 BadToken, 1:6 end"),
 ];
 
 #[test]
