@@ -17,7 +17,7 @@ impl<'a, W: Sink> Printer<'a, W> {
     ghost use Rattle.iso_tap.specs.Printers.{Prints};
 
     /// Writes the block of an outcome.
-    pub fn block(&mut self, indent: u64, outcome: View<'_>) -> Result<(), SinkFailed>
+    pub(crate) fn block(&mut self, indent: u64, outcome: View<'_>) -> Result<(), SinkFailed>
         requires { indent + 2 < 2 ^ 64 }
         ensures { Prints self.old self.new (block_lines indent (outcome_of_view outcome.entry)) result }
     {

@@ -29,7 +29,7 @@ impl<'a, W: Sink> Printer<'a, W> {
 
     /// Writes a text with a backslash before each backslash and each of this other byte. What stands
     /// between these goes to the sink in one call.
-    pub fn escaped(&mut self, other: u8, text: &[u8]) -> Result<(), SinkFailed>
+    pub(crate) fn escaped(&mut self, other: u8, text: &[u8]) -> Result<(), SinkFailed>
         ensures { Prints self.old self.new (with_escapes other text.now) result }
     {
         let mut rest = text;

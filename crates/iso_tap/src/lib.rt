@@ -12,7 +12,7 @@ pub mod output;
 mod places;
 pub mod plan;
 mod points;
-mod printer;
+pub mod printer;
 pub mod report;
 pub mod sink;
 pub mod text;

@@ -9,7 +9,7 @@ impl<'a, W: Sink> Printer<'a, W> {
     ghost use Rattle.iso_tap.specs.Printers.{Prints};
 
     /// Writes a place.
-    pub fn at(&mut self, place: Place) -> Result<(), SinkFailed>
+    pub(crate) fn at(&mut self, place: Place) -> Result<(), SinkFailed>
         ensures { Prints self.old self.new (place_text place) result }
     {
         match place {

@@ -137,7 +137,7 @@ impl<'a, W: Sink> Printer<'a, W> {
     /// Writes a node's path: the names on it from the top-level class down, with dots between them. It calls itself once
     /// for each class that the node stands in.
     #[cycle(path)]
-    fn path(&mut self, plan: &Plan, node: u32) -> Result<(), SinkFailed>
+    pub fn path(&mut self, plan: &Plan, node: u32) -> Result<(), SinkFailed>
         requires above { 0 < node }
         requires within { node < length plan.now.rows }
         ensures { Prints self.old self.new (path_text (tree_of plan.now) node) result }

@@ -13,14 +13,14 @@ impl<'a, W: Sink> Printer<'a, W> {
     ghost use Rattle.iso_tap.specs.Printers.{Prints};
 
     /// Writes the plan of a level.
-    pub fn plan_line(&mut self, indent: u64, count: usize) -> Result<(), SinkFailed>
+    pub(crate) fn plan_line(&mut self, indent: u64, count: usize) -> Result<(), SinkFailed>
         ensures { Prints self.old self.new (plan_line indent count) result }
     {
         self.line(indent, &[Piece::Plain(b"1.."), Piece::Number(count as u64)])
     }
 
     /// Writes the comment above a class's level.
-    pub fn subtest_line(&mut self, indent: u64, title: &str) -> Result<(), SinkFailed>
+    pub(crate) fn subtest_line(&mut self, indent: u64, title: &str) -> Result<(), SinkFailed>
         ensures { Prints self.old self.new (subtest_line indent title.now) result }
     {
         self.line(
@@ -30,7 +30,7 @@ impl<'a, W: Sink> Printer<'a, W> {
     }
 
     /// Writes a point, and its block where the outcome has something to tell.
-    pub fn point<'x>(
+    pub(crate) fn point<'x>(
         &mut self,
         indent: u64,
         number: u64,

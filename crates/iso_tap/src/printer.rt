@@ -12,7 +12,7 @@ const SPACES: [u8; 64] = [b' '; 64];
 
 /// A piece of a line.
 #[derive(Clone, Copy)]
-pub(crate) enum Piece<'a> {
+pub enum Piece<'a> {
     Plain(&'a [u8]),
     /// A number in decimal.
     Number(u64),
@@ -27,7 +27,7 @@ pub(crate) enum Piece<'a> {
 /// Writes texts to a sink, one after another, and counts the bytes that it wrote.
 /// Once the sink has failed, it is only dropped.
 #[derive(Drop)]
-pub(crate) struct Printer<'a, W: Sink> {
+pub struct Printer<'a, W: Sink> {
     sink: &'a mut W,
     written: u64,
     ghost countable: { written ≤ (W.account sink.now).count },
