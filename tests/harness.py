@@ -63,10 +63,17 @@ def run_in(folder, words, script=b"", seconds=60):
 
 def run(words, files={}, script=b""):
     """The same in a new folder, with these files."""
+    return run_writing(words, files, script)[0]
+
+
+def run_writing(words, files={}, script=b""):
+    """The same, and the files that stand in the folder then and weren't handed in so."""
     with tempfile.TemporaryDirectory() as folder:
         for name, text in files.items():
             Path(folder, name).write_bytes(as_bytes(text))
-        return run_in(folder, words, script)
+        answer = run_in(folder, words, script)
+        found = {path.name: path.read_bytes() for path in Path(folder).iterdir()}
+        return answer, {name: text for name, text in found.items() if name not in files or text != as_bytes(files[name])}
 
 
 def expect(name, found, wanted):

@@ -1,5 +1,6 @@
 -- What a request asks for.
 use Rattle.std.specs.Prelude.{◌≡◌, ℕ, ◌≤◌, [], None, Option, IfSome, ⊤}
+use Rattle.iso_arguments.specs.declared.request.Extras.{Extras}
 use Rattle.iso_arguments.specs.declared.request.InputFiles.{InputFiles}
 use Rattle.iso_arguments.specs.declared.request.Request.{Request}
 use Rattle.iso_arguments.specs.declared.request.Request.TheVariants.{Run, Plan, Replay, Show}
@@ -18,9 +19,9 @@ abbrev pub AreInBounds : InputFiles → Type 0
 AreInBounds files = IsCount files.processors × IsShard files.shard
 
 abbrev pub AsksInBounds : Request → Type 0
-AsksInBounds (Run serial files) = AreInBounds files
+AsksInBounds (Run serial extras files) = AreInBounds files
 AsksInBounds (Plan tests files) = AreInBounds files
-AsksInBounds (Replay schedule files) = AreInBounds files
+AsksInBounds (Replay schedule extras files) = AreInBounds files
 AsksInBounds (Show text) = ⊤
 
 -- the files of a request that names none, keeps all that there is, and counts with one processor
@@ -34,9 +35,13 @@ pub record NamesNothing (files : InputFiles) : Type 0 where
   pub shard : files.shard ≡ None
   pub processors : files.processors ≡ 1
 
--- a run of all of one script from standard input, without settings or world, counting with one processor
+-- nothing is asked for besides the report
+abbrev pub AsksForNoMore : Extras → Type 0
+AsksForNoMore extras = extras.failed ≡ None
+
+-- a run of all of one script from standard input, without settings or world, counting with one processor, and nothing besides its report
 abbrev pub IsPlainRun : Request → Type 0
-IsPlainRun (Run serial files) = NamesNothing files
+IsPlainRun (Run serial extras files) = NamesNothing files × AsksForNoMore extras
 IsPlainRun (Plan tests files) = ⊥
-IsPlainRun (Replay schedule files) = ⊥
+IsPlainRun (Replay schedule extras files) = ⊥
 IsPlainRun (Show text) = ⊥

@@ -41,6 +41,9 @@ one a line; `-` is standard input";
 static SHARD: &str = "Keep every K-th top-level class of those kept,
 beginning with the I-th";
 
+static FAILED: &str = "Write the paths of failed classes and tests to
+FILE, one a line, for `--only-from`";
+
 /// The whole command line. The words begin with the subcommand's name.
 pub(crate) fn command_line<'a>(alloc: Global) -> Result<Command<'a>, AllocError> {
     let command = with_subcommand(first_page(alloc), run(alloc));
@@ -71,7 +74,7 @@ fn with_subcommand<'a>(
 fn run<'a>(alloc: Global) -> Result<Command<'a>, AllocError> {
     let about = "Run scripts, and write their report in TAP 14 to standard output";
     let command = subcommand(alloc, "run", about, RUN_END);
-    with_inputs(alloc, command.arg(serial(alloc)))
+    with_extras(alloc, with_inputs(alloc, command.arg(serial(alloc))))
 }
 
 /// The subcommand that prints the plan.
@@ -85,12 +88,20 @@ fn plan<'a>(alloc: Global) -> Result<Command<'a>, AllocError> {
 fn replay<'a>(alloc: Global) -> Result<Command<'a>, AllocError> {
     let about = "Replay a recorded schedule, and write the report as `run` does";
     let command = subcommand(alloc, "replay", about, REPLAY_END);
-    with_inputs(alloc, command.arg(schedule(alloc)))
+    with_extras(alloc, with_inputs(alloc, command.arg(schedule(alloc))))
 }
 
 /// A subcommand without options.
 fn subcommand<'a>(alloc: Global, name: &'a str, about: &'a str, end: &'a str) -> Command<'a> {
     Command::new(alloc, name).about(about).after_help(end)
+}
+
+/// A command with the options for what is told besides a report, if it could be made.
+fn with_extras<'a>(
+    alloc: Global,
+    command: Result<Command<'a>, AllocError>,
+) -> Result<Command<'a>, AllocError> {
+    command?.arg(file(alloc, "failed", FAILED))
 }
 
 /// A command with the options for what it reads, if it could be made.

@@ -18,6 +18,12 @@ static LIST_WITHOUT_SCRIPT: &str =
 For more information, try '--help'.
 ";
 
+/// What is said where standard output would be the file of the paths of what failed.
+static NO_FILE: &str = "error: invalid value '-' for '--failed <FILE>': a file is wanted
+
+For more information, try '--help'.
+";
+
 /// The files that a run, a plan or a replay is made of, as the words name them, and what is kept of them.
 #[derive(Drop)]
 pub struct InputFiles<'a> {
@@ -59,12 +65,29 @@ impl<'a> InputFiles<'a> {
     }
 }
 
+/// What is asked for besides a report.
+#[derive(Clone, Copy)]
+pub struct Extras<'a> {
+    /// The file into which the paths of the failed classes and tests are written, one a line.
+    pub failed: Option<&'a str>,
+}
+
+impl Extras<'_> {
+    /// Nothing.
+    pub fn none() -> Self
+        ensures { result.failed ≡ None }
+    {
+        Extras { failed: None }
+    }
+}
+
 /// What is asked for.
 #[derive(Drop)]
 pub enum Request<'a> {
     /// A run and its report; `serial` on one thread.
     Run {
         serial: bool,
+        extras: Extras<'a>,
         files: InputFiles<'a>,
     },
     /// The printed plan; `tests` of its tests alone.
@@ -75,6 +98,7 @@ pub enum Request<'a> {
     /// A replay of the schedule in a file of this name, and its report.
     Replay {
         schedule: &'a str,
+        extras: Extras<'a>,
         files: InputFiles<'a>,
     },
     /// A text for standard output: a help page or the version.
@@ -139,6 +163,7 @@ pub fn read_words<'a>(alloc: Global, words: &'a [String]) -> Result<Request<'a>,
     if words.is_empty() {
         return Ok(Request::Run {
             serial: false,
+            extras: Extras::none(),
             files: InputFiles::none(alloc),
         });
     }
@@ -190,25 +215,72 @@ fn requested<'a>(alloc: Global, matches: &ArgMatches<'a>) -> Result<Request<'a>,
     let Some((name, found)) = matches.subcommand() else {
         return Ok(Request::Run {
             serial: false,
+            extras: Extras::none(),
             files: InputFiles::none(alloc),
         });
     };
     let files = files_of(alloc, found)?;
-    Ok(match name {
-        "plan" => Request::Plan {
+    if name == "plan" {
+        return Ok(Request::Plan {
             tests: found.get_flag("tests"),
             files,
-        },
+        });
+    }
+    let schedule = found.get_str("schedule");
+    let extras = extras_of(alloc, found, schedule, &files)?;
+    Ok(match name {
         "replay" => Request::Replay {
             // `--schedule` is required: it has a value.
-            schedule: found.get_str("schedule").unwrap_or(""),
+            schedule: schedule.unwrap_or(""),
+            extras,
             files,
         },
         _ => Request::Run {
             serial: found.get_flag("serial"),
+            extras,
             files,
         },
     })
+}
+
+/// What is asked for besides the report. A file that would be written must not be one that is read, but for that of the paths, which is
+/// read before.
+fn extras_of<'a>(
+    alloc: Global,
+    found: &ArgMatches<'a>,
+    schedule: Option<&'a str>,
+    files: &InputFiles<'a>,
+) -> Result<Extras<'a>, WordsFault> {
+    let failed = found.get_str("failed");
+    if let Some(name) = failed {
+        if name == "-" {
+            return Err(WordsFault::Wrong(String::from_str(alloc, NO_FILE)?));
+        }
+        if is_read(name, schedule, files) {
+            return Err(WordsFault::Wrong(read_too(alloc, name)?));
+        }
+    }
+    Ok(Extras { failed })
+}
+
+/// Whether a word names a script, the settings, the world or the schedule.
+fn is_read(name: &str, schedule: Option<&str>, files: &InputFiles<'_>) -> bool {
+    let named = Some(name);
+    named == files.settings
+        || named == files.world
+        || named == schedule
+        || files.scripts.contains(&name)
+}
+
+/// What is said of a file that would be written and is read.
+fn read_too(alloc: Global, name: &str) -> Result<String, AllocError> {
+    let name = name.replace(alloc, '\n', "\\n")?;
+    format!(in alloc;
+        "error: invalid value '{name}' for '--failed <FILE>': this file is read
+
+For more information, try '--help'.
+"
+    )
 }
 
 /// The files and paths that a subcommand names.

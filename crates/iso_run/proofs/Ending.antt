@@ -30,14 +30,15 @@ at-least-two (C.Unreadable name) = omega arith
 at-least-two (C.TooLarge name) = omega arith
 at-least-two (C.NotListed file index) = omega arith
 at-least-two C.Unwritten = omega arith
+at-least-two (C.Unwritable name) = omega arith
 at-least-two (C.Run fault word) = run-at-least-two fault
 
 -- a plain run reported on what stood on the input
 plain-ran : (request : Request) (script : List ℕ) (old new : Account) (ok : Bool) → IsPlainRun request → Did request (Some script) old new ok → RanOn script old new (exit_status (Whole ok))
 plain-ran (Show text) script old new ok is did = absurd is
 plain-ran (Plan tests files) script old new ok is did = absurd is
-plain-ran (Replay name files) script old new ok is did = absurd is
-plain-ran (Run serial files) script old new ok is did = record { files = files; nothing = is; serial = serial; ok = ok; written = did; tells = refl }
+plain-ran (Replay name extras files) script old new ok is did = absurd is
+plain-ran (Run serial extras files) script old new ok is did = record { files = files; nothing = is.0; serial = serial; ok = ok; written = did; tells = refl }
 
 pub without-words : {A : Type 0} (words : List A) (known : Option (List ℕ)) (old new : Account) (ok : Bool) → words ≡ [] → Answered words known old new ok
     → IfSome known (λ script. exit_status (Whole ok) ≤ 1 → RanOn script old new (exit_status (Whole ok)))
@@ -68,4 +69,5 @@ refuses (C.Unreadable name) h = absurd (omega (arith, h))
 refuses (C.TooLarge name) h = refl
 refuses (C.NotListed file index) h = refl
 refuses C.Unwritten h = absurd (omega (arith, h))
+refuses (C.Unwritable name) h = absurd (omega (arith, h))
 refuses (C.Run fault word) h = refuses-run fault h

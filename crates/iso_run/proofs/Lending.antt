@@ -1,7 +1,8 @@
 -- Inputs that are made of bytes.
-use Rattle.std.proofs.Common.{◌≡◌, ℕ, List, [], ◌∷◌, Option, None, Some, Bool, Err, is_some, map, option_map, refl, ap}
+use Rattle.std.proofs.Common.{◌≡◌, ℕ, List, [], ◌∷◌, Option, None, Some, Bool, Err, map, option_map, refl, ap}
 use Rattle.std.specs.Borrow.{Bor}
 use Rattle.std.specs.Global.{Global}
+use Rattle.std.specs.Option.{option_copied}
 use Rattle.std.specs.Prelude.{Vec}
 use Rattle.iso_arguments.specs.declared.request.InputFiles.{InputFiles}
 use Rattle.iso_run.specs.Commands.{AreFor, WereRead, shard_asked}
@@ -16,7 +17,7 @@ use Rattle.iso_tap.specs.Sinks.{Account}
 
 pub are-for : (files : InputFiles) (input : Option (List ℕ)) (bytes : InputBytes) (inputs : Inputs) → WereRead files input bytes
     → texts inputs.scripts.now ≡ map (λ v. v.items) bytes.scripts.items → inputs.settings.now ≡ bytes.settings.items → inputs.world.now ≡ bytes.world.items
-    → is_some inputs.listed ≡ is_some bytes.listed → inputs.only.now ≡ files.only.items → inputs.patterns.now ≡ files.patterns.items
+    → option_copied inputs.listed ≡ option_map (λ v. v.items) bytes.listed → inputs.only.now ≡ files.only.items → inputs.patterns.now ≡ files.patterns.items
     → option_map shard_asked inputs.shard ≡ files.shard → inputs.processors ≡ files.processors → AreFor files input inputs
 are-for files input bytes inputs read scripts settings world listed only patterns shard processors =
     record { are_of = rw (settings, world, scripts, listed) read; only = only; patterns = patterns; shard = shard; processors = processors }
@@ -28,7 +29,7 @@ texts-lent : (vs : List (Vec ℕ Global)) → texts (map (λ (v : Vec ℕ Global
 texts-lent [] = refl
 texts-lent (v ∷ vs) = ap (λ (ts : List (List ℕ)). v.items ∷ ts) (texts-lent vs)
 
-listed-lent : (o : Option (Vec ℕ Global)) → is_some (option_map (λ (v : Vec ℕ Global). lend v.items) o) ≡ is_some o
+listed-lent : (o : Option (Vec ℕ Global)) → option_copied (option_map (λ (v : Vec ℕ Global). lend v.items) o) ≡ option_map (λ (v : Vec ℕ Global). v.items) o
 listed-lent None = refl
 listed-lent (Some v) = refl
 

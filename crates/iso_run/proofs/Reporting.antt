@@ -1,7 +1,8 @@
 -- The report of results is that of their suite.
-use Rattle.std.proofs.Common.{◌≡◌, ℕ, List, Bool, true, Result, Ok, Err, MatchResult, refl, subst, sym, ap, ap₂, ◌∙◌}
+use Rattle.std.proofs.Common.{◌≡◌, ℕ, List, Bool, true, Result, Ok, Err, MatchResult, OnOk, refl, subst, sym, ap, ap₂, ◌∙◌}
 use Rattle.iso_run.specs.Suites.{IsSuite, Suite, planned}
 use Rattle.iso_run.specs.declared.inputs.Inputs.{Inputs}
+use Rattle.iso_failures.specs.Failures.{failed_text}
 use Rattle.iso_lifecycle.specs.ResultViews.{ResultsView, outcome_in}
 use Rattle.iso_lifecycle.specs.Subjects.{outcome_alone, started}
 use Rattle.iso_plan.specs.Planned.{Planned}
@@ -10,9 +11,12 @@ use Rattle.iso_settings.specs.Worlds.{Start}
 use Rattle.iso_tap.specs.Reports.{all_ok, report}
 use Rattle.iso_tap.specs.Sinks.{Account, Wrote}
 use Rattle.iso_run.specs.Replays.{IsPlayed}
-use Rattle.iso_run.specs.Runs.{IsCutOff, Product, Writes, suite_report}
+use Rattle.iso_run.specs.Runs.{IsCutOff, IsUnwritten, Product, TellsOf, Writes, suite_outcome, suite_report}
+use Rattle.iso_run.specs.Telling.{HasTold, IsTold}
+use Rattle.iso_run.specs.declared.tells.Tells.{Tells}
 use Rattle.iso_run.specs.declared.fault.RunFault.{RunFault}
 use Rattle.iso_run.specs.declared.fault.RunFault.TheVariants.{Write}
+use Rattle.iso_run.specs.declared.fault.RunFault.TheVariants as F
 use Rattle.iso_run.specs.declared.report.Summary.{Summary}
 use Rattle.iso_run.specs.declared.way.Way.{Way}
 
@@ -34,11 +38,36 @@ module _ (inputs : Inputs) (old new : Account) (suite : Suite) (plan : Planned) 
       ap₂ (λ (p : Planned) (s : Start). all_ok (tree_of plan) (outcome_alone (tree_of p) (started s))) of on
       ∙ ap (λ (p : Planned). all_ok (tree_of p) (outcome_alone (tree_of p) (started suite.start))) made
 
+  cut : (way : Way) → IsPlayed inputs way true → (fault : RunFault) → IsCutOff (report (tree_of plan) (outcome_in v)) old new fault → Writes (λ (s : Summary). s.all_ok) suite_report inputs way old new (Err fault)
+  cut way played fault h = cut-off (λ (s : Summary). s.all_ok) suite_report inputs way suite is played old new fault (subst (λ (text : List ℕ). IsCutOff text old new fault) report-is h)
+
+  unreported : (way : Way) → IsPlayed inputs way true → (fault : RunFault) → IsUnwritten (report (tree_of plan) (outcome_in v)) old new fault → Writes (λ (s : Summary). s.all_ok) suite_report inputs way old new (Err fault)
+  unreported way played (F.Settings fault) h = cut way played (F.Settings fault) h
+  unreported way played (F.World fault) h = cut way played (F.World fault) h
+  unreported way played (F.Script index fault) h = cut way played (F.Script index fault) h
+  unreported way played (F.Plan fault) h = cut way played (F.Plan fault) h
+  unreported way played (F.Schedule fault) h = cut way played (F.Schedule fault) h
+  unreported way played (F.Refused index why) h = cut way played (F.Refused index why) h
+  unreported way played F.Unfinished h = cut way played F.Unfinished h
+  unreported way played F.Start h = cut way played F.Start h
+  unreported way played F.Lost h = cut way played F.Lost h
+  unreported way played F.Memory h = record { cause = tt; leaves = h }
+  unreported way played (F.Write written) h = cut way played (F.Write written) h
+
   -- what is answered of the results of a suite is answered of a way that came to them
   pub reported : (way : Way) → IsPlayed inputs way true → (result : Result Summary RunFault)
-      → MatchResult result (λ s. Wrote old new (report (tree_of plan) (outcome_in v)) × (s.all_ok ≡ all_ok (tree_of plan) (outcome_in v))) (IsCutOff (report (tree_of plan) (outcome_in v)) old new)
+      → MatchResult result (λ s. Wrote old new (report (tree_of plan) (outcome_in v)) × (s.all_ok ≡ all_ok (tree_of plan) (outcome_in v))) (IsUnwritten (report (tree_of plan) (outcome_in v)) old new)
       → Writes (λ (s : Summary). s.all_ok) suite_report inputs way old new result
   reported way played (Ok summary) h =
       record { cause = tt; leaves = (played, (suite, is, (subst (λ (text : List ℕ). Wrote old new text) report-is h.0, h.1 ∙ ok-is))) }
-  reported way played (Err fault) cut =
-      cut-off (λ (s : Summary). s.all_ok) suite_report inputs way suite is played old new fault (subst (λ (text : List ℕ). IsCutOff text old new fault) report-is cut)
+  reported way played (Err fault) h = unreported way played fault h
+
+  failed-is : failed_text (tree_of plan) (outcome_in v) ≡ failed_text suite.nodes (suite_outcome suite)
+  failed-is =
+      ap₂ (λ (p : Planned) (s : Start). failed_text (tree_of plan) (outcome_alone (tree_of p) (started s))) of on
+      ∙ ap (λ (p : Planned). failed_text (tree_of p) (outcome_alone (tree_of p) (started suite.start))) made
+
+  -- what was told of the results of a suite was told of it
+  pub told : {A F : Type 0} (result : Result A F) (before after : Tells) → OnOk result (HasTold (tree_of plan) (outcome_in v) before after) → OnOk result (TellsOf inputs before after)
+  told (Ok a) before after h = (suite, is, subst (λ (text : List ℕ). IsTold text before.failed after.failed) failed-is h)
+  told (Err e) before after h = tt

@@ -1,5 +1,6 @@
 -- What a command does for what its words ask, and how it ends.
-use Rattle.std.specs.Prelude.{◌≡◌, ℕ, ◌+◌, List, [], ◌∷◌, length, map, take, Bool, true, cond, Option, None, Some, IfSome, is_some, option_map, string_bytes}
+use Rattle.std.specs.Prelude.{◌≡◌, ◌≢◌, ℕ, ◌+◌, List, [], ◌∷◌, length, map, take, Bool, true, cond, Option, None, Some, IfSome, is_some, option_map, codes, string_bytes}
+use Rattle.std.specs.Option.{option_copied}
 use Rattle.std.specs.Borrow.{Bor}
 use Rattle.iso_arguments.specs.Requests.{IsPlainRun, NamesNothing}
 use Rattle.iso_arguments.specs.declared.request.InputFiles.{InputFiles}
@@ -20,17 +21,18 @@ use Rattle.iso_selection.specs.declared.shard.Shard.{Shard}
 use Rattle.iso_tap.specs.Sinks.{Account, HasFailed, Wrote}
 
 -- Bytes that were read for these files: none for settings or a world that isn't named; for each script that is named one text, and where
--- none is, what the input has left, if that is known, up to one byte past the limit; and a list of paths, where one is named. What a named
--- file holds isn't known.
-pub record AreOf (files : InputFiles) (input : Option (List ℕ)) (settings world : List ℕ) (scripts : List (List ℕ)) (listed : Bool) : Type 0 where
+-- none is, what the input has left, if that is known, up to one byte past the limit; and a list of paths, where one is named, which for `-`
+-- is all that the input has left. What a named file holds isn't known.
+pub record AreOf (files : InputFiles) (input : Option (List ℕ)) (settings world : List ℕ) (scripts : List (List ℕ)) (listed : Option (List ℕ)) : Type 0 where
   pub settings_named : files.settings ≡ None → settings ≡ []
   pub world_named : files.world ≡ None → world ≡ []
   pub scripts_named : files.scripts.items ≡ [] → IfSome input (λ bytes. scripts ≡ take (FILE_BYTES + 1) bytes ∷ [])
   pub each : (files.scripts.items ≡ [] → ⊥) → length scripts ≡ length files.scripts.items
-  pub list_named : listed ≡ is_some files.only_from
+  pub list_named : is_some listed ≡ is_some files.only_from
+  pub list_piped : option_copied files.only_from ≡ Some (codes "-") → (files.scripts.items ≡ [] → ⊥) → IfSome input (λ bytes. listed ≡ Some bytes)
 
 abbrev pub WereRead : InputFiles → Option (List ℕ) → InputBytes → Type 0
-WereRead files input bytes = AreOf files input bytes.settings.items bytes.world.items (map (λ v. v.items) bytes.scripts.items) (is_some bytes.listed)
+WereRead files input bytes = AreOf files input bytes.settings.items bytes.world.items (map (λ v. v.items) bytes.scripts.items) (option_map (λ v. v.items) bytes.listed)
 
 -- the shard as the words have it
 abbrev pub shard_asked : Shard → A.Shard
@@ -38,7 +40,7 @@ shard_asked shard = record { number = shard.index; of = shard.count }
 
 -- These are the inputs that were read for these files, with the paths and the processors that are asked for.
 pub record AreFor (files : InputFiles) (input : Option (List ℕ)) (inputs : Inputs) : Type 0 where
-  pub are_of : AreOf files input inputs.settings.now inputs.world.now (texts inputs.scripts.now) (is_some inputs.listed)
+  pub are_of : AreOf files input inputs.settings.now inputs.world.now (texts inputs.scripts.now) (option_copied inputs.listed)
   pub only : inputs.only.now ≡ files.only.items
   pub patterns : inputs.patterns.now ≡ files.patterns.items
   pub shard : option_map shard_asked inputs.shard ≡ files.shard
@@ -59,8 +61,8 @@ plan_of tests = cond tests suite_tests suite_plan
 abbrev pub Did : Request → Option (List ℕ) → (old new : Account) → (ok : Bool) → Type 0
 Did (Show text) input old new ok = (ok ≡ true) × Wrote old new (string_bytes text)
 Did (Plan tests files) input old new ok = IsWrittenFor (plan_of tests) files input Serial old new ok
-Did (Run serial files) input old new ok = IsWrittenFor suite_report files input (way_of serial) old new ok
-Did (Replay name files) input old new ok = (schedule : Bor (List ℕ)) × IsWrittenFor suite_report files input (BySchedule schedule) old new ok
+Did (Run serial extras files) input old new ok = IsWrittenFor suite_report files input (way_of serial) old new ok
+Did (Replay name extras files) input old new ok = (schedule : Bor (List ℕ)) × IsWrittenFor suite_report files input (BySchedule schedule) old new ok
 
 -- What some request asks for was done, without words that of a plain run.
 pub record Answered {A : Type 0} (words : List A) (input : Option (List ℕ)) (old new : Account) (ok : Bool) : Type 0 where
@@ -68,11 +70,28 @@ pub record Answered {A : Type 0} (words : List A) (input : Option (List ℕ)) (o
   pub plain : words ≡ [] → IsPlainRun request
   pub did : Did request input old new ok
 
+-- the file that a request has written besides, if it names one
+abbrev pub file_of : Request → Option (Bor (List ℕ))
+file_of (Show text) = None
+file_of (Plan tests files) = None
+file_of (Run serial extras files) = extras.failed
+file_of (Replay name extras files) = extras.failed
+
+-- What a request asks for was done, and it names a file to be written besides.
+abbrev pub DidBesides : Request → Option (List ℕ) → (old new : Account) → Type 0
+DidBesides request input old new = (ok : Bool) × Did request input old new ok × (file_of request ≢ None)
+
+-- What some request asks for was done, of those that name a file to be written besides.
+pub record AnsweredBesides {A : Type 0} (words : List A) (input : Option (List ℕ)) (old new : Account) : Type 0 where
+  pub ok : Bool
+  pub answered : Answered words input old new ok
+  pub names : file_of answered.request ≢ None
+
 -- How a command ended, by its exit status. What is left of an output that broke off is that it failed, once.
 pub record Ended {A : Type 0} (words : List A) (input : Option (List ℕ)) (old new : Account) (status : ℕ) : Type 0 where
   pub end : End
   pub status_is : status ≡ exit_status end
-  pub leaves : Leaves (Answered words input old new) (HasFailed old.failures new.failures) old new end
+  pub leaves : Leaves (Answered words input old new) (AnsweredBesides words input old new) (HasFailed old.failures new.failures) old new end
 
 -- The report of all of a script was written, whole, without settings and world and for one processor, and the status tells of it.
 pub record RanOn (script : List ℕ) (old new : Account) (status : ℕ) : Type 0 where

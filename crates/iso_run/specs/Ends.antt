@@ -1,16 +1,19 @@
 -- How a run and a command end: with which exit status, and what that leaves of the output.
-use Rattle.std.specs.Prelude.{◌≡◌, ◌≢◌, ℕ, Bool, cond, None, Result, Ok, Err}
+use Rattle.std.specs.Borrow.{Bor}
+use Rattle.std.specs.Prelude.{◌≡◌, ◌≢◌, ◌⊎◌, ℕ, List, Bool, cond, Option, None, Some, Result, Ok, Err}
 use Rattle.iso_arguments.specs.declared.request.WordsFault.{WordsFault}
 use Rattle.iso_arguments.specs.declared.request.WordsFault.TheVariants as W
 use Rattle.iso_run.specs.declared.command_fault.CommandFault.{CommandFault}
-use Rattle.iso_run.specs.declared.command_fault.CommandFault.TheVariants.{Words, Unreadable, TooLarge, NotListed, Unwritten, Run}
+use Rattle.iso_run.specs.declared.command_fault.CommandFault.TheVariants.{Words, Unreadable, TooLarge, NotListed, Unwritten, Unwritable, Run}
 use Rattle.iso_run.specs.declared.fault.RunFault.{RunFault}
 use Rattle.iso_run.specs.declared.fault.RunFault.TheVariants.{Start, Lost, Memory, Write}
 use Rattle.iso_tap.specs.Sinks.{Account, HasFailed}
 
--- all was written, and whether it tells that all is ok; refused or given up before anything was written; or the output broke off
+-- all was written, and whether it tells that all is ok; the output was, and a file that was to be written besides wasn't; refused or given
+-- up before anything was written; or the output broke off
 pub data End : Type 0 where
   Whole : (ok : Bool) → End
+  LacksFile : End
   Refuses : End
   GivesUp : End
   BreaksOff : End
@@ -18,6 +21,7 @@ pub data End : Type 0 where
 -- the exit status
 abbrev pub exit_status : End → ℕ
 exit_status (Whole ok) = cond ok 0 1
+exit_status LacksFile = 3
 exit_status Refuses = 2
 exit_status GivesUp = 3
 exit_status BreaksOff = 3
@@ -42,6 +46,7 @@ command_end (Unreadable name) = GivesUp
 command_end (TooLarge name) = Refuses
 command_end (NotListed file index) = Refuses
 command_end Unwritten = BreaksOff
+command_end (Unwritable name) = LacksFile
 command_end (Run fault word) = run_end fault
 
 -- the end that is answered
@@ -49,16 +54,18 @@ abbrev pub end_of : {A F : Type 0} → (A → Bool) → (F → End) → Result A
 end_of ok_of by (Ok answer) = Whole (ok_of answer)
 end_of ok_of by (Err fault) = by fault
 
--- What an end leaves of the output: what is stated of the whole, or of an output that broke off; else it was asked nothing.
-abbrev pub Leaves : (whole : Bool → Type 0) → (broken : Type 0) → (old new : Account) → End → Type 0
-Leaves whole broken old new (Whole ok) = whole ok
-Leaves whole broken old new Refuses = new ≡ old
-Leaves whole broken old new GivesUp = new ≡ old
-Leaves whole broken old new BreaksOff = broken
+-- What an end leaves of the output: what is stated of the whole, of one beside which a file is lacking, or of an output that broke off; else
+-- it was asked nothing.
+abbrev pub Leaves : (whole : Bool → Type 0) → (lacking broken : Type 0) → (old new : Account) → End → Type 0
+Leaves whole lacking broken old new (Whole ok) = whole ok
+Leaves whole lacking broken old new LacksFile = lacking
+Leaves whole lacking broken old new Refuses = new ≡ old
+Leaves whole lacking broken old new GivesUp = new ≡ old
+Leaves whole lacking broken old new BreaksOff = broken
 
 -- what the answer of a command leaves: an output that broke off has failed once
-abbrev pub Answers : (whole : Bool → Type 0) → (old new : Account) → Result Bool CommandFault → Type 0
-Answers whole old new result = Leaves whole (HasFailed old.failures new.failures) old new (end_of (λ ok. ok) command_end result)
+abbrev pub Answers : (whole : Bool → Type 0) → (lacking : Type 0) → (old new : Account) → Result Bool CommandFault → Type 0
+Answers whole lacking old new result = Leaves whole lacking (HasFailed old.failures new.failures) old new (end_of (λ ok. ok) command_end result)
 
 -- what is answered of a whole output once it was flushed
 abbrev pub IsFlushed : (ok : Bool) → (old new : Account) → Result Bool CommandFault → Type 0
@@ -71,4 +78,18 @@ GaveUp fault = command_end fault ≡ GivesUp
 
 -- the fault comes before anything is asked of the output
 abbrev pub ComesEarly : CommandFault → Type 0
-ComesEarly fault = command_end fault ≢ BreaksOff
+ComesEarly fault = (command_end fault ≢ BreaksOff) × (command_end fault ≢ LacksFile)
+
+-- the fault is that the file which is to be written besides can't be
+abbrev pub IsOfFile : Option (Bor (List ℕ)) → CommandFault → Type 0
+IsOfFile file fault = (name : Bor (List ℕ)) × (file ≡ Some name) × (fault ≡ Unwritable name)
+
+-- what is answered once the file besides was written, if one is to be
+abbrev pub IsFiled : (ok : Bool) → Option (Bor (List ℕ)) → Result Bool CommandFault → Type 0
+IsFiled ok file (Ok told) = told ≡ ok
+IsFiled ok file (Err fault) = IsOfFile file fault
+
+-- what is answered of a whole output once it was flushed and the file besides was written
+abbrev pub IsEnded : (ok : Bool) → Option (Bor (List ℕ)) → (old new : Account) → Result Bool CommandFault → Type 0
+IsEnded ok file old new (Ok told) = (told ≡ ok) × (new ≡ old)
+IsEnded ok file old new (Err fault) = ((fault ≡ Unwritten) × HasFailed old.failures new.failures) ⊎ ((new ≡ old) × IsOfFile file fault)

@@ -3,10 +3,12 @@ use Rattle.std.specs.Prelude.{◌≡◌, ℕ, ◌<◌, List, Bool, true, length,
 use Rattle.iso_run.specs.Ends.{Leaves, end_of, run_end}
 use Rattle.iso_run.specs.Replays.{Cause, IsPlayed}
 use Rattle.iso_run.specs.Suites.{IsSuite, OfSuite, Suite, planned, suite_of}
+use Rattle.iso_run.specs.Telling.{HasTold}
 use Rattle.iso_run.specs.declared.fault.RunFault.{RunFault}
-use Rattle.iso_run.specs.declared.fault.RunFault.TheVariants.{Write}
+use Rattle.iso_run.specs.declared.fault.RunFault.TheVariants.{Memory, Write}
 use Rattle.iso_run.specs.declared.inputs.Inputs.{Inputs}
 use Rattle.iso_run.specs.declared.inputs.Suite.{Suite as ReadSuite}
+use Rattle.iso_run.specs.declared.tells.Tells.{Tells}
 use Rattle.iso_run.specs.declared.way.Way.{Way}
 use Rattle.iso_lifecycle.specs.Subjects.{outcome_alone, started}
 use Rattle.iso_model.specs.declared.outcome.Outcome.{Outcome}
@@ -48,13 +50,22 @@ pub record IsCutOff (text : List ℕ) (old new : Account) (fault : RunFault) : T
   pub within : written < length text
   pub failed : HasFailed old.failures new.failures
 
+-- The fault is that memory ran out before the sink was asked anything, or that it is cut off.
+abbrev pub IsUnwritten : List ℕ → (old new : Account) → RunFault → Type 0
+IsUnwritten text old new Memory = new ≡ old
+IsUnwritten text old new fault = IsCutOff text old new fault
+
 -- A product of inputs was written whole; or why not, and what was written of it.
 pub record Writes {A : Type 0} (ok_of : A → Bool) (product : Suite → Product) (inputs : Inputs) (way : Way) (old new : Account) (result : Result A RunFault) : Type 0 where
   pub cause : IfErr result (Cause inputs way)
-  pub leaves : Leaves (IsWritten product inputs way old new)
+  pub leaves : Leaves (IsWritten product inputs way old new) ⊥
       (OfSuite inputs (λ suite. IfErr result (IsCutOff (product suite).text old new))) old new (end_of ok_of run_end result)
 
 -- The inputs are the suite that was read, with its plan.
 pub record IsRead (inputs : Inputs) (suite : ReadSuite) : Type 0 where
   pub is_suite : IsSuite inputs (suite_of inputs suite)
   pub planned_as : suite.plan ≡ planned (suite_of inputs suite)
+
+-- of the suite that the inputs are all that is asked for was told besides
+abbrev pub TellsOf : Inputs → (old new : Tells) → Type 0
+TellsOf inputs old new = OfSuite inputs (λ suite. HasTold suite.nodes (suite_outcome suite) old new)

@@ -1,8 +1,9 @@
 //! The program, over a reader and two sinks.
-ghost use Rattle.std.specs.Prelude.{◌≡◌, ◌≤◌, ℕ, List, Option, [], IfErr, IfSome, IsErrAnd, MatchResult, true, is_some, option_map};
+ghost use Rattle.std.specs.Prelude.{◌≡◌, ◌≤◌, ℕ, List, Option, [], IfErr, IfSome, IsErrAnd, MatchResult, true, option_map};
+ghost use Rattle.std.specs.Option.{option_copied};
 ghost use Rattle.iso_arguments.specs.Requests.{AreInBounds, AsksInBounds, IsPlainRun, IsShard};
-ghost use Rattle.iso_run.specs.Commands.{Answered, AreFor, Did, Ended, IsRefused, RanOn, WereRead, plan_of, shard_asked, way_of};
-ghost use Rattle.iso_run.specs.Ends.{Answers, IsFlushed, Refuses, command_end, exit_status, run_end, words_fault};
+ghost use Rattle.iso_run.specs.Commands.{Answered, AnsweredBesides, AreFor, Did, DidBesides, Ended, IsRefused, RanOn, WereRead, plan_of, shard_asked, way_of};
+ghost use Rattle.iso_run.specs.Ends.{Answers, IsEnded, IsFiled, IsFlushed, Refuses, command_end, exit_status, run_end, words_fault};
 ghost use Rattle.iso_run.specs.Runs.{Writes, suite_report};
 ghost use Rattle.iso_run.specs.declared.inputs.Inputs.{Inputs};
 ghost use Rattle.iso_run.specs.declared.way.Way.TheVariants.{Serial};
@@ -11,13 +12,14 @@ ghost use Rattle.iso_tap.specs.Sinks.{Wrote};
 use crate::command_fault::CommandFault;
 use crate::exit::{ALL_OK, NOT_ALL_OK};
 use crate::fault::RunFault;
-use crate::files::{InputBytes, lent, read_files};
+use crate::files::{InputBytes, lent, read_files, write_file};
 use crate::inputs::Inputs;
 use crate::lines::say;
 use crate::plan::{show_plan, show_tests};
 use crate::replay::run_schedule;
 use crate::report::Summary;
 use crate::run::run_serial;
+use crate::tells::Tells;
 use crate::way::Way;
 use crate::workers::run_workers;
 use iso_arguments::request::{InputFiles, Request, WordsFault, read_words};
@@ -81,6 +83,7 @@ fn answer<'a, G: AllocGlobal + Files + Threads + Wait + Sync, R: Read, W: Sink>(
     output: &mut W,
 ) -> Result<bool, CommandFault<'a>>
     ensures answers { Answers (Answered words.now (R.remaining input.old) (W.account output.old) (W.account output.new))
+        (AnsweredBesides words.now (R.remaining input.old) (W.account output.old) (W.account output.new))
         (W.account output.old) (W.account output.new) result }
     ensures refused { words.now ≡ [] → IfErr result (λ fault. command_end fault ≡ Refuses → IsRefused (R.remaining input.old)) }
 {
@@ -97,6 +100,7 @@ fn answer_request<'a, G: AllocGlobal + Files + Threads + Wait + Sync, R: Read, W
 ) -> Result<bool, CommandFault<'a>>
     requires { AsksInBounds request.now }
     ensures answers { Answers (Did request.now (R.remaining input.old) (W.account output.old) (W.account output.new))
+        (DidBesides request.now (R.remaining input.old) (W.account output.old) (W.account output.new))
         (W.account output.old) (W.account output.new) result }
     ensures refused { IsPlainRun request.now
         → IfErr result (λ fault. command_end fault ≡ Refuses → IsRefused (R.remaining input.old)) }
@@ -106,30 +110,42 @@ fn answer_request<'a, G: AllocGlobal + Files + Threads + Wait + Sync, R: Read, W
         Request::Plan { tests, files } => {
             let bytes = read_files(rt, files, None, input)?;
             let shown = plan(rt.alloc(), &bytes, *tests, &*files, output);
-            told(shown, bytes, files, output)
+            let tells = Tells::nothing();
+            told(rt, shown, bytes, files, None, &tells, output)
         }
-        Request::Run { serial, files } => {
+        Request::Run {
+            serial,
+            extras,
+            files,
+        } => {
             let bytes = read_files(rt, files, None, input)?;
-            let ran = run(rt, &bytes, asked_way(*serial), &*files, output);
-            told(ran, bytes, files, output)
+            let mut tells = Tells::new(rt.alloc(), extras.failed.is_some());
+            let ran = run(rt, &bytes, asked_way(*serial), &*files, &mut tells, output);
+            told(rt, ran, bytes, files, extras.failed, &tells, output)
         }
-        Request::Replay { schedule, files } => {
+        Request::Replay {
+            schedule,
+            extras,
+            files,
+        } => {
             let bytes = read_files(rt, files, Some(*schedule), input)?;
+            let mut tells = Tells::new(rt.alloc(), extras.failed.is_some());
             let ran = run(
                 rt,
                 &bytes,
                 Way::BySchedule(&bytes.schedule),
                 &*files,
+                &mut tells,
                 output,
             );
-            told(ran, bytes, files, output)
+            told(rt, ran, bytes, files, extras.failed, &tells, output)
         }
     }
 }
 
 /// Writes a text.
 fn show<W: Sink>(text: &str, output: &mut W) -> Result<bool, CommandFault<'static>>
-    ensures { Answers (λ ok. (ok ≡ true) × Wrote (W.account output.old) (W.account output.new) text.now)
+    ensures { Answers (λ ok. (ok ≡ true) × Wrote (W.account output.old) (W.account output.new) text.now) ⊥
         (W.account output.old) (W.account output.new) result }
 {
     if write_text(text, output).is_err() {
@@ -151,6 +167,7 @@ fn run<'b, G: AllocGlobal + Threads + Wait + Sync, W: Sink>(
     bytes: &'b InputBytes,
     way: Way<'_>,
     files: &'b InputFiles<'b>,
+    tells: &mut Tells,
     output: &mut W,
 ) -> Result<Summary, RunFault>
     requires { AreInBounds files.now }
@@ -161,9 +178,9 @@ fn run<'b, G: AllocGlobal + Threads + Wait + Sync, W: Sink>(
     let scripts = lent(rt.alloc(), &bytes.scripts)?;
     let inputs = inputs_of(bytes, &scripts, files, shard);
     match way {
-        Way::Serial => run_serial(rt.alloc(), inputs, output),
-        Way::ByWorkers => run_workers(rt, rt.alloc(), inputs, &OpenGate, output),
-        Way::BySchedule(schedule) => run_schedule(rt.alloc(), inputs, schedule, output),
+        Way::Serial => run_serial(rt.alloc(), inputs, tells, output),
+        Way::ByWorkers => run_workers(rt, rt.alloc(), inputs, &OpenGate, tells, output),
+        Way::BySchedule(schedule) => run_schedule(rt.alloc(), inputs, schedule, tells, output),
     }
 }
 
@@ -217,7 +234,7 @@ fn inputs_of<'b>(
     ensures world { result.world.now ≡ bytes.now.world.items }
     ensures only { result.only.now ≡ files.now.only.items }
     ensures patterns { result.patterns.now ≡ files.now.patterns.items }
-    ensures listed { is_some result.listed ≡ is_some bytes.now.listed }
+    ensures listed { option_copied result.listed ≡ option_map (λ v. v.items) bytes.now.listed }
     ensures shard { result.shard ≡ shard }
     ensures processors { result.processors ≡ files.now.processors }
 {
@@ -244,20 +261,48 @@ fn shard_of(asked: Option<AskedShard>) -> Option<Shard>
     }
 }
 
-/// Answers a run whose report was written once the output is flushed, or why it has none.
-fn told<'a, W: Sink>(
+/// Answers a run whose report was written, once the output is flushed and the file besides is written, if one is named; or why it has none.
+fn told<'a, G: AllocGlobal + Files, W: Sink>(
+    rt: &G,
     ran: Result<Summary, RunFault>,
     bytes: InputBytes,
     files: &InputFiles<'a>,
+    file: Option<&'a str>,
+    tells: &Tells,
     output: &mut W,
 ) -> Result<bool, CommandFault<'a>>
     ensures { MatchResult ran
-        (λ s. IsFlushed s.all_ok (W.account output.old) (W.account output.new) result)
+        (λ s. IsEnded s.all_ok file.entry (W.account output.old) (W.account output.new) result)
         (λ fault. (W.account output.new ≡ W.account output.old) × IsErrAnd result (λ told. command_end told ≡ run_end fault)) }
 {
     match ran {
-        Ok(summary) => flushed(summary.all_ok, output),
+        Ok(summary) => {
+            let ok = flushed(summary.all_ok, output)?;
+            filed(rt, ok, file, tells)
+        }
         Err(fault) => Err(named(fault, bytes, files)),
+    }
+}
+
+/// Writes the paths of what failed to the file that is named for them, if one is, and answers whether all is ok.
+fn filed<'a, G: AllocGlobal + Files>(
+    rt: &G,
+    ok: bool,
+    file: Option<&'a str>,
+    tells: &Tells,
+) -> Result<bool, CommandFault<'a>>
+    ensures { IsFiled ok file.entry result }
+{
+    let Some(name) = file else {
+        return Ok(ok);
+    };
+    let text = match &tells.failed {
+        Some(sink) => sink.bytes(),
+        None => &[],
+    };
+    match write_file(rt, name, text) {
+        Ok(()) => Ok(ok),
+        Err(_) => Err(CommandFault::Unwritable(name)),
     }
 }
 

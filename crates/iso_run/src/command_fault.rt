@@ -20,6 +20,8 @@ pub(crate) enum CommandFault<'a> {
     TooLarge(&'a str),
     /// The output failed.
     Unwritten,
+    /// A file of this name can't be written.
+    Unwritable(&'a str),
     /// The path with this number of those that this file lists, counted from 0, names no class or test.
     NotListed(Vec<u8>, usize),
     /// A fault of the run, and the word that it is of: the name of a script, where one was named, or a path.
@@ -41,7 +43,8 @@ impl CommandFault<'_> {
         match self {
             CommandFault::Words(_) | CommandFault::TooLarge(_) | CommandFault::NotListed(_, _) =>
                 WRONG_INPUT,
-            CommandFault::Unreadable(_) | CommandFault::Unwritten => FAILED,
+            CommandFault::Unreadable(_) | CommandFault::Unwritten | CommandFault::Unwritable(_) =>
+                FAILED,
             CommandFault::Run(fault, _) => fault.status(),
         }
     }

@@ -1,9 +1,11 @@
 //! The files that a command is made of.
-ghost use Rattle.std.specs.Prelude.{◌≡◌, ◌+◌, [], ◌∷◌, IfErr, IfOk, IfSome, IsOkAnd, None, is_some, length, map, take};
+ghost use Rattle.std.specs.Prelude.{◌≡◌, ◌≤◌, ◌+◌, [], ◌∷◌, IfErr, IfOk, IfSome, IsOkAnd, None, Some, codes, is_some, length, map, option_map, take};
+ghost use Rattle.std.specs.Option.{option_copied};
 ghost use Rattle.std.specs.IoError.{error_kind};
 ghost use Rattle.std.specs.declared.io.ErrorKind.TheVariants.{OutOfMemory};
 ghost use Rattle.iso_arguments.specs.Requests.{NamesNothing};
 ghost use Rattle.iso_model.specs.declared.limits.TheConstants.{FILE_BYTES};
+ghost use Rattle.iso_selection.specs.declared.list.TheConstants.{LIST_BYTES};
 ghost use Rattle.iso_run.specs.Suites.{texts};
 ghost use Rattle.iso_run.specs.Commands.{WereRead};
 ghost use Rattle.iso_run.specs.Ends.{ComesEarly, GaveUp};
@@ -17,7 +19,7 @@ use iso_model::limits::FILE_BYTES;
 use iso_selection::list::LIST_BYTES;
 use std::alloc::{AllocError, AllocGlobal, Global};
 use std::fs::{File, Files};
-use std::io::{self, Read};
+use std::io::{self, Read, Write};
 
 /// The bytes of the files that a command is made of.
 #[derive(Drop)]
@@ -67,17 +69,28 @@ fn read_list<'a, G: AllocGlobal + Files, R: Read>(
 ) -> Result<Option<Vec<u8>>, CommandFault<'a>>
     ensures early { IfErr result ComesEarly }
     ensures some { IfOk result (λ listed. is_some listed ≡ is_some name.entry) }
+    ensures piped { option_copied name.entry ≡ Some (codes "-") → IfSome (R.remaining input.old) (λ bytes.
+        IfOk result (λ listed. option_map (λ v. v.items) listed ≡ Some bytes)) }
     ensures unnamed { name.entry ≡ None → IsOkAnd result (λ listed. listed ≡ None) }
 {
     let Some(name) = name else {
         return Ok(None);
     };
-    let (bytes, told) = match name {
-        "-" => (read_limited(rt.alloc(), input, STDIN, LIST_BYTES)?, STDIN),
-        _ => (read_up_to(rt, name, LIST_BYTES)?, name),
-    };
+    if name == "-" {
+        let bytes = read_limited(rt.alloc(), input, STDIN, LIST_BYTES)?;
+        return listed_in(bytes, STDIN);
+    }
+    let bytes = read_up_to(rt, name, LIST_BYTES)?;
+    listed_in(bytes, name)
+}
+
+/// A list of paths, where it isn't above the limit.
+fn listed_in<'a>(bytes: Vec<u8>, name: &'a str) -> Result<Option<Vec<u8>>, CommandFault<'a>>
+    ensures early { IfErr result ComesEarly }
+    ensures whole { IfOk result (λ listed. (listed ≡ Some bytes) × (length bytes.items ≤ LIST_BYTES)) }
+{
     if bytes.len() > LIST_BYTES as usize {
-        return Err(CommandFault::TooLarge(told));
+        return Err(CommandFault::TooLarge(name));
     }
     Ok(Some(bytes))
 }
@@ -110,6 +123,7 @@ fn read_script_files<'a, G: AllocGlobal + Files, R: Read>(
     ensures standard_input { names.now ≡ [] → IfSome (R.remaining input.old) (λ bytes.
         IfOk result (λ scripts. map (λ v. v.items) scripts.items ≡ take (FILE_BYTES + 1) bytes ∷ [])) }
     ensures each { (names.now ≡ [] → ⊥) → IfOk result (λ scripts. length scripts.items ≡ length names.now) }
+    ensures unread { (names.now ≡ [] → ⊥) → R.remaining input.new ≡ R.remaining input.old }
 {
     if names.is_empty() {
         return one_script(
@@ -172,6 +186,12 @@ fn read_limited<'a, R: Read>(
         Ok(_) => Ok(bytes),
         Err(error) => Err(unread(&error, name)),
     }
+}
+
+/// Writes a file, which is made, or emptied before.
+pub(crate) fn write_file<G: Files>(rt: &G, name: &str, bytes: &[u8]) -> io::Result<()> {
+    let mut file = File::create(rt, name)?;
+    file.write_all(bytes)
 }
 
 /// Why a file was not read.

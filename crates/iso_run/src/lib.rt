@@ -13,5 +13,6 @@ pub mod plan;
 pub mod replay;
 pub mod report;
 pub mod run;
+pub mod tells;
 mod way;
 pub mod workers;

@@ -30,6 +30,9 @@ impl fmt::Display for CommandFault<'_> {
                 };
                 write!(f, "jtap: plan: NotSelected {}", Escaped(path))
             }
+            CommandFault::Unwritable(name) => {
+                write!(f, "jtap: {}: cannot be written", Escaped(*name))
+            }
             CommandFault::Unwritten => f.write_str(WRITE_FAILED),
             CommandFault::Run(fault, word) => {
                 let line = RunFaultLine { fault, word: *word };

@@ -1,22 +1,23 @@
 //! Replays of recorded schedules, from their inputs to the report.
 ghost use Rattle.std.specs.Borrow.{Bor};
-ghost use Rattle.std.specs.Prelude.{◌≤◌, List, Ok, ℕ};
+ghost use Rattle.std.specs.Prelude.{◌≤◌, List, Ok, OnOk, ℕ};
 ghost use Rattle.iso_run.specs.declared.inputs.Inputs.{Inputs};
 ghost use Rattle.iso_run.specs.declared.way.Way.TheVariants.{BySchedule};
-ghost use Rattle.iso_run.specs.Runs.{IsRead, Writes, suite_report};
+ghost use Rattle.iso_run.specs.Runs.{IsRead, TellsOf, Writes, suite_report};
 ghost use Rattle.iso_schedule.specs.Schedules.{AreRead};
 
 use crate::fault::RunFault;
 use crate::inputs::{Inputs, Suite, read_inputs};
 use crate::report::{Summary, write_results};
+use crate::tells::Tells;
 use iso_core::run_events::run_events;
 use iso_schedule::reader::read_schedule;
 use iso_standing::event::Event;
 use iso_tap::sink::Sink;
 use std::alloc::Global;
 
-/// Replays a recorded schedule on one thread, event by event, with as many workers as the settings give, and writes the
-/// suite's report to the sink. It is the report that `run_serial` writes.
+/// Replays a recorded schedule on one thread, event by event, with as many workers as the settings give, tells what is
+/// asked for besides, and writes the suite's report to the sink. It is the report that `run_serial` writes.
 ///
 /// The inputs are read as by `run_serial`, and the schedule after their plan: the first fault is answered. Then comes the
 /// first event that is refused, and `Unfinished` where a node but the root is left after the last event. Nothing is written
@@ -25,14 +26,16 @@ pub fn run_schedule<W: Sink>(
     alloc: Global,
     inputs: Inputs<'_>,
     schedule: &[u8],
+    tells: &mut Tells,
     sink: &mut W,
 ) -> Result<Summary, RunFault>
     requires { 1 ≤ inputs.processors }
-    ensures { Writes (λ s. s.all_ok) suite_report inputs.entry (BySchedule schedule.entry)
+    ensures report { Writes (λ s. s.all_ok) suite_report inputs.entry (BySchedule schedule.entry)
         (W.account sink.old) (W.account sink.new) result }
+    ensures told { OnOk result (TellsOf inputs.entry tells.old tells.new) }
 {
     let suite = read_inputs(alloc, inputs)?;
-    replay_on(alloc, &suite, schedule, sink)
+    replay_on(alloc, &suite, schedule, tells, sink)
 }
 
 /// Replays a schedule of a suite.
@@ -40,13 +43,15 @@ fn replay_on<W: Sink>(
     alloc: Global,
     suite: &Suite,
     schedule: &[u8],
+    tells: &mut Tells,
     sink: &mut W,
 ) -> Result<Summary, RunFault>
-    ensures { (inputs : Inputs) → IsRead inputs suite.now
+    ensures report { (inputs : Inputs) → IsRead inputs suite.now
         → Writes (λ s. s.all_ok) suite_report inputs (BySchedule schedule.entry) (W.account sink.old) (W.account sink.new) result }
+    ensures told { (inputs : Inputs) → IsRead inputs suite.now → OnOk result (TellsOf inputs tells.old tells.new) }
 {
     let events = read_schedule(alloc, schedule)?;
-    replay_events(alloc, suite, &events, sink)
+    replay_events(alloc, suite, &events, tells, sink)
 }
 
 /// Replays the events of a schedule.
@@ -54,16 +59,18 @@ fn replay_events<W: Sink>(
     alloc: Global,
     suite: &Suite,
     events: &[Event],
+    tells: &mut Tells,
     sink: &mut W,
 ) -> Result<Summary, RunFault>
-    ensures { (inputs : Inputs) (schedule : Bor (List ℕ)) → IsRead inputs suite.now → AreRead schedule.now (Ok events.now)
+    ensures report { (inputs : Inputs) (schedule : Bor (List ℕ)) → IsRead inputs suite.now → AreRead schedule.now (Ok events.now)
         → Writes (λ s. s.all_ok) suite_report inputs (BySchedule schedule) (W.account sink.old) (W.account sink.new) result }
+    ensures told { (inputs : Inputs) → IsRead inputs suite.now → OnOk result (TellsOf inputs tells.old tells.new) }
 {
     let workers = suite.settings.workers();
     let core = run_events(alloc, &suite.plan, &suite.world, workers, events)?;
     if !core.is_complete() {
         Err(RunFault::Unfinished)
     } else {
-        write_results(&suite.plan, core.results(), sink)
+        write_results(&suite.plan, core.results(), tells, sink)
     }
 }

@@ -6,11 +6,12 @@ ghost use Rattle.iso_floor.specs.Grounds.{IsBookOf};
 ghost use Rattle.iso_run.specs.declared.fault.RunFault.TheVariants.{Memory};
 ghost use Rattle.iso_run.specs.declared.way.Way.TheVariants.{ByWorkers};
 ghost use Rattle.iso_run.specs.Replays.{IsOfWorkers};
-ghost use Rattle.iso_run.specs.Runs.{Writes, suite_report};
+ghost use Rattle.iso_run.specs.Runs.{TellsOf, Writes, suite_report};
 
 use crate::fault::RunFault;
 use crate::inputs::{Inputs, Suite, read_inputs};
 use crate::report::{Summary, write_results};
+use crate::tells::Tells;
 use iso_book::book::Book;
 use iso_floor::busy::busy_workers;
 use iso_floor::fault::{CloseFault, SeatFault};
@@ -29,8 +30,8 @@ use std::thread::{Builder, JoinHandle, Threads};
 /// The stack of a worker's thread, in bytes, whatever `ulimit -s` says. The deepest accepted body takes less than a tenth of it.
 const WORKER_STACK: usize = 2 << 20;
 
-/// Runs a suite by as many workers as its settings give, and writes its report to the sink. It is the report that `run_serial` writes,
-/// whatever workers there are and whatever the gate lets them do.
+/// Runs a suite by as many workers as its settings give, tells what is asked for besides, and writes its report to the sink. It is the
+/// report that `run_serial` writes, whatever workers there are and whatever the gate lets them do.
 ///
 /// The inputs are read as by `run_serial`: the first fault is answered. Then comes the first of these that applies: `Start` where a
 /// thread could not be started, `Memory`, `Lost`, `Unfinished`. Nothing is written before all workers have ended: with any fault but
@@ -41,14 +42,16 @@ pub fn run_workers<R: Threads + Wait + Sync, G: Gate + Sync, W: Sink>(
     alloc: Global,
     inputs: Inputs<'_>,
     gate: &G,
+    tells: &mut Tells,
     sink: &mut W,
 ) -> Result<Summary, RunFault>
     requires { 1 ≤ inputs.processors }
-    ensures { Writes (λ s. s.all_ok) suite_report inputs.entry ByWorkers (W.account sink.old) (W.account sink.new) result }
+    ensures report { Writes (λ s. s.all_ok) suite_report inputs.entry ByWorkers (W.account sink.old) (W.account sink.new) result }
+    ensures told { OnOk result (TellsOf inputs.entry tells.old tells.new) }
 {
     let suite = read_inputs(alloc, inputs)?;
     let book = run_on_floor::<Brand, R, G>(rt, alloc, &suite, gate)?;
-    write_results(&suite.plan, book.results(), sink)
+    write_results(&suite.plan, book.results(), tells, sink)
 }
 
 /// Has its workers run a suite, each in a seat of its own, and answers the book of the run. A worker whom the suite can't keep busy isn't

@@ -7,6 +7,7 @@ use iso_core::machine::Core;
 use iso_core::run_events::run_events;
 use iso_plan::plan::Plan;
 use iso_run::run::run_serial;
+use iso_run::tells::Tells;
 use iso_settings::world::World;
 use iso_standing::core_fault::CoreFault;
 use iso_standing::event::Event;
@@ -146,10 +147,11 @@ fn schedules_at_random_give_the_report_of_the_serial_run(rt: HostRuntime) {
     };
     let scripts = [SHOP.as_bytes(), ORDERS.as_bytes(), OPS.as_bytes()];
     let inputs = surroundings.inputs(&scripts);
+    let mut tells = Tells::nothing();
     let mut serial = MemorySink::new(rt.alloc());
     expect(
         &rt,
-        run_serial(rt.alloc(), inputs, &mut serial).is_ok(),
+        run_serial(rt.alloc(), inputs, &mut tells, &mut serial).is_ok(),
         "the serial run fails",
     );
     check_inputs(&rt, rt.alloc(), inputs, &GiveReport(serial.bytes()));

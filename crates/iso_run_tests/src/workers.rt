@@ -7,6 +7,7 @@ mod turns;
 use crate::suites::expect;
 use iso_lifecycle::gate::Gate;
 use iso_run::inputs::Inputs;
+use iso_run::tells::Tells;
 use iso_run::workers::run_workers;
 use iso_tap::memory::MemorySink;
 use std::alloc::Global;
@@ -26,7 +27,8 @@ fn expect_report<R: Abort + Threads + Wait + Sync, G: Gate + Sync>(
     requires { 1 ≤ inputs.processors }
 {
     let mut sink = MemorySink::new(alloc);
-    let ran = run_workers(rt, alloc, inputs, gate, &mut sink);
+    let mut tells = Tells::nothing();
+    let ran = run_workers(rt, alloc, inputs, gate, &mut tells, &mut sink);
     let is_so = matches!(ran, Ok(summary) if summary.all_ok == all_ok);
     expect(rt, is_so, "the run ends otherwise");
     let is_so = sink.bytes() == report.as_bytes();

@@ -9,6 +9,7 @@ use crate::suites::{
 use iso_core::machine::Core;
 use iso_plan::plan::Plan;
 use iso_run::run::run_serial;
+use iso_run::tells::Tells;
 use iso_schedule::reader::read_schedule;
 use iso_settings::world::World;
 use iso_standing::event::Event;
@@ -123,7 +124,12 @@ fn expect_serial_report<R: Abort>(rt: &R, alloc: Global, script: &str, workers: 
     };
     let inputs = surroundings.inputs(&scripts);
     let mut serial = MemorySink::new(alloc);
-    expect(rt, run_serial(alloc, inputs, &mut serial).is_ok(), script);
+    let mut tells = Tells::nothing();
+    expect(
+        rt,
+        run_serial(alloc, inputs, &mut tells, &mut serial).is_ok(),
+        script,
+    );
     let report = serial.bytes();
     check_inputs(rt, alloc, inputs, &Give { workers, report });
 }

@@ -20,4 +20,4 @@ pub returns-in-ByWorkers : goal.returns-in-ByWorkers
 returns-in-ByWorkers g c = λ input read.
     let is = c.inputs_of-inputs.ensures in
     let scripts = ap texts (is.scripts ∙ c.deref-2.ensures.value) ∙ c.in_ok-scripts.ensures ∙ ap (map (λ v. v.items)) c.deref.ensures.value in
-    (c.inputs_of-inputs.result, are-for c.args.files.now input c.args.bytes.now c.inputs_of-inputs.result read scripts is.settings is.world is.listed is.only is.patterns (ap (option_map shard_asked) is.shard ∙ c.shard_of-shard.ensures) is.processors, rw c.in-ByWorkers.is c.run_workers.ensures)
+    (c.inputs_of-inputs.result, are-for c.args.files.now input c.args.bytes.now c.inputs_of-inputs.result read scripts is.settings is.world is.listed is.only is.patterns (ap (option_map shard_asked) is.shard ∙ c.shard_of-shard.ensures) is.processors, rw c.in-ByWorkers.is c.run_workers.ensures.report)

@@ -5,10 +5,13 @@ use Rattle.iso_run.specs.declared.way.Way.TheVariants.{BySchedule}
 use Rattle.iso_run.proofs.Unread.{unread-unwritten}
 use Rattle.iso_run.proofs.replay.run_schedule.Goals as goal
 
-pub returns-in_err-suite : goal.returns-in_err-suite
-returns-in_err-suite g c =
+pub returns-in_err-suite-clause-report : goal.returns-in_err-suite-clause-report
+returns-in_err-suite-clause-report g c =
     let p = err_from_is_err_and c.from_residual.result c.from_residual.ensures.1 in
     rw (p.1, p.2) (unread-unwritten (λ (s : Summary). s.all_ok) suite_report c.args.inputs (BySchedule c.args.schedule) (g.W.Sink.account c.args.sink.now) c.in_err-suite.field-0.0 c.in_err-suite.ensures)
 
-pub returns : goal.returns
-returns g c = c.replay_on.ensures c.args.inputs c.in_ok-suite.ensures
+pub returns-clause-report : goal.returns-clause-report
+returns-clause-report g c = c.replay_on.ensures.report c.args.inputs c.in_ok-suite.ensures
+
+pub returns-clause-told : goal.returns-clause-told
+returns-clause-told g c = c.replay_on.ensures.told c.args.inputs c.in_ok-suite.ensures

@@ -4,17 +4,23 @@ use Rattle.iso_run.specs.Runs.{suite_report}
 use Rattle.iso_run.specs.Suites.{suite_of}
 use Rattle.iso_run.specs.declared.report.Summary.{Summary}
 use Rattle.iso_run.specs.declared.way.Way.TheVariants.{Serial}
-use Rattle.iso_run.proofs.Reporting.{reported}
+use Rattle.iso_run.proofs.Reporting.{reported, told}
 use Rattle.iso_run.proofs.Unread.{unread-unwritten}
 use Rattle.iso_run.proofs.run.run_serial.Goals as goal
 
-pub returns-in_err-suite : goal.returns-in_err-suite
-returns-in_err-suite g c =
+pub returns-in_err-suite-clause-report : goal.returns-in_err-suite-clause-report
+returns-in_err-suite-clause-report g c =
     let p = err_from_is_err_and c.from_residual.result c.from_residual.ensures.1 in
     rw (p.1, p.2) (unread-unwritten (λ (s : Summary). s.all_ok) suite_report c.args.inputs Serial (g.W.Sink.account c.args.sink.now) c.in_err-suite.field-0.0 c.in_err-suite.ensures)
 
-pub returns-in-Ok : goal.returns-in-Ok
-returns-in-Ok g c =
+pub returns-in-Ok-clause-report : goal.returns-in-Ok-clause-report
+returns-in-Ok-clause-report g c =
     let is = c.in_ok-suite.ensures in
     reported c.args.inputs (g.W.Sink.account c.args.sink.now) (g.W.Sink.account c.write_results.new.sink) (suite_of c.args.inputs c.in_ok-suite.suite) c.in_ok-suite.suite.plan c.in-Ok.results
-    is.is_suite is.planned_as c.in-Ok.ensures.plan c.in-Ok.ensures.start Serial refl c.write_results.result c.write_results.ensures
+    is.is_suite is.planned_as c.in-Ok.ensures.plan c.in-Ok.ensures.start Serial refl c.write_results.result c.write_results.ensures.report
+
+pub returns-in-Ok-clause-told : goal.returns-in-Ok-clause-told
+returns-in-Ok-clause-told g c =
+    let is = c.in_ok-suite.ensures in
+    told c.args.inputs (g.W.Sink.account c.args.sink.now) (g.W.Sink.account c.write_results.new.sink) (suite_of c.args.inputs c.in_ok-suite.suite) c.in_ok-suite.suite.plan c.in-Ok.results
+    is.is_suite is.planned_as c.in-Ok.ensures.plan c.in-Ok.ensures.start c.write_results.result c.args.tells.now c.write_results.new.tells c.write_results.ensures.told
