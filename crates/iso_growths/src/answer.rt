@@ -1,6 +1,7 @@
 //! What comes of a call other than that it went well.
 use iso_core::run_events::EventsFault;
 use iso_floor::fault::SeatFault;
+use iso_places::fault::LocateError;
 use iso_plan::fault::PlanError;
 use iso_schedule::fault::ScheduleError;
 use iso_script_statements::fault::ScriptError;
@@ -81,6 +82,12 @@ impl From<ScriptError> for Answer {
 impl From<PlanError> for Answer {
     fn from(error: PlanError) -> Answer {
         out_of_memory(error == PlanError::OutOfMemory, "the scripts were refused")
+    }
+}
+
+impl From<LocateError> for Answer {
+    fn from(error: LocateError) -> Answer {
+        out_of_memory(error == LocateError::OutOfMemory, "a node has no place")
     }
 }
 

@@ -27,10 +27,14 @@ use std::env::{self, Env};
 use std::io;
 
 /// The calls that the program makes, by their names.
-static NAMES: [&str; 47] = [
+static NAMES: [&str; 51] = [
     "read_settings",
     "read_script",
     "build",
+    "read_placed",
+    "locate",
+    "LineTable::new",
+    "the lines of nodes",
     "read_world",
     "read_schedule",
     "World::copy",
@@ -87,6 +91,7 @@ fn make_all<H: Host>(calls: &Calls<'_, H>) -> Result<(), Answer> {
 /// Makes those that want a plan.
 fn with_plan<H: Host>(calls: &Calls<'_, H>, plan: &Plan) -> Result<(), Answer> {
     plans::ask(calls, plan)?;
+    plans::find_sites(calls, plan)?;
     with_suite(calls, plan, &plans::world(calls)?)
 }
 

@@ -1,16 +1,22 @@
 //! The suite that the calls are made on, and what its plan and its world answer by borrowing.
-ghost use Rattle.std.specs.Prelude.{◌<◌, length};
+ghost use Rattle.std.specs.Prelude.{◌≡◌, ◌<◌, length};
+ghost use Rattle.iso_places.specs.LineStarts.{line_starts};
 
 use crate::answer::{Answer, expect};
 use crate::calls::Calls;
 use crate::host::Host;
 use crate::suites::{SCRIPT, SETTINGS, WORLD};
 use iso_model::key::Key;
+use iso_model::place::Place;
 use iso_model::resource_key::ResourceKey;
 use iso_model::script::Mode;
 use iso_model::text::Text;
+use iso_places::end::line_of_end;
+use iso_places::lines::LineTable;
+use iso_places::locate::locate;
+use iso_places::site::Sites;
 use iso_plan::plan::{Plan, build};
-use iso_script::reader::read_script;
+use iso_script::reader::{read_placed, read_script};
 use iso_settings::settings::read_settings;
 use iso_settings::world::{World, read_world};
 
@@ -28,6 +34,45 @@ pub(crate) fn planned<H: Host>(calls: &Calls<'_, H>) -> Result<Plan, Answer> {
     let plan = build(calls.alloc(), &scripts, &settings);
     calls.end("build");
     Ok(plan?)
+}
+
+/// Reads the script with its places, and looks where the nodes of its plan stand.
+pub(crate) fn find_sites<H: Host>(calls: &Calls<'_, H>, plan: &Plan) -> Result<(), Answer> {
+    calls.begin("read_placed");
+    let placed = read_placed(calls.alloc(), SCRIPT);
+    calls.end("read_placed");
+    let placed = placed?;
+    let scripts = [placed.script];
+    let places = [placed.places];
+    calls.begin("locate");
+    let sites = locate(calls.alloc(), &scripts, &places, plan);
+    calls.end("locate");
+    let sites = sites?;
+    calls.begin("LineTable::new");
+    let table = LineTable::new(calls.alloc(), SCRIPT);
+    calls.end("LineTable::new");
+    ask_sites(calls, plan, &sites, SCRIPT, &table?)
+}
+
+/// Asks for the line of the name of each node: they have some length.
+fn ask_sites<H: Host>(
+    calls: &Calls<'_, H>,
+    plan: &Plan,
+    sites: &Sites,
+    script: &[u8],
+    table: &LineTable,
+) -> Result<(), Answer>
+    requires { table.now ≡ line_starts script.now }
+{
+    calls.begin("the lines of nodes");
+    let mut length = 0usize;
+    for node in 0..plan.len() {
+        if let Some(at) = line_of_end(plan, sites, node, Place::Disabled) {
+            length = length.saturating_add(table.line(script, at.line).len());
+        }
+    }
+    calls.end("the lines of nodes");
+    expect(length > 0, "nodes without lines")
 }
 
 /// The world.

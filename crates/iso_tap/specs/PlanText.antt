@@ -38,11 +38,15 @@ lock_text keys l = access_word l.access ++ slice_index_or keys l.key []
 abbrev pub locks_text : (keys : List (List ℕ)) → List Lock → List ℕ
 locks_text keys ls = join_by (lock_text keys) (codes ",") ls
 
+-- the line of a node, without its end
+abbrev pub node_fields : List Row → Settings → ℕ → List ℕ
+node_fields tree s n =
+    decimal n ++ codes " " ++ kind_word (row_at tree n).kind ++ codes " " ++ mode_word (mode tree s n) ++ codes " ["
+    ++ locks_text (keys tree) (locks tree n) ++ codes "] " ++ path_text tree n
+
 -- the line of a node
 abbrev pub node_line : List Row → Settings → ℕ → List ℕ
-node_line tree s n =
-    decimal n ++ codes " " ++ kind_word (row_at tree n).kind ++ codes " " ++ mode_word (mode tree s n) ++ codes " ["
-    ++ locks_text (keys tree) (locks tree n) ++ codes "] " ++ path_text tree n ++ codes "\n"
+node_line tree s n = node_fields tree s n ++ codes "\n"
 
 -- the lines of so many nodes, of which the first has number n
 abbrev pub node_lines : List Row → Settings → (count n : ℕ) → List ℕ

@@ -4,7 +4,7 @@ ghost use Rattle.iso_plan.specs.KeyTable.{keys};
 ghost use Rattle.iso_plan.specs.Locks.{locks};
 ghost use Rattle.iso_plan.specs.PathTexts.{path_text};
 ghost use Rattle.iso_plan.specs.RowView.{tree_of};
-ghost use Rattle.iso_tap.specs.PlanText.{access_word, locks_text, mode_word, node_line, node_lines, plan_text, test_line, tests_text};
+ghost use Rattle.iso_tap.specs.PlanText.{access_word, locks_text, mode_word, node_fields, node_line, node_lines, plan_text, test_line, tests_text};
 ghost use Rattle.iso_tap.specs.Printers.{Writes};
 
 use crate::fault::TapFault;
@@ -102,6 +102,16 @@ impl<'a, W: Sink> Printer<'a, W> {
         requires within { node < length plan.now.rows }
         ensures { Prints self.old self.new (node_line (tree_of plan.now) plan.now.settings node) result }
     {
+        self.node_fields(plan, node)?;
+        self.bytes(b"\n")
+    }
+
+    /// Writes the line of a node, as `write_plan` has it, without its line end.
+    pub fn node_fields(&mut self, plan: &Plan, node: u32) -> Result<(), SinkFailed>
+        requires above { 0 < node }
+        requires within { node < length plan.now.rows }
+        ensures { Prints self.old self.new (node_fields (tree_of plan.now) plan.now.settings node) result }
+    {
         self.pieces(&[
             Piece::Number(u64::from(node)),
             Piece::Plain(b" "),
@@ -112,8 +122,7 @@ impl<'a, W: Sink> Printer<'a, W> {
         ])?;
         self.locks(plan, node)?;
         self.bytes(b"] ")?;
-        self.path(plan, node)?;
-        self.bytes(b"\n")
+        self.path(plan, node)
     }
 
     /// Writes the locks that a node takes, with commas between them.
