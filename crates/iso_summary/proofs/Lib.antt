@@ -1,0 +1,5 @@
+pub mod PlainLemmas
+pub mod ShellLemmas
+pub mod ShownLemmas
+pub mod SourceLemmas
+pub mod SummaryLemmas

@@ -1,0 +1,66 @@
+-- What is told of a node.
+use Rattle.std.specs.Prelude.{ℕ, List, [], ◌∷◌, ◌++◌, Option, None, Some, Bool, false, not, ◌&&◌, ◌==◌, cond, codes}
+use Rattle.std.specs.Fmt.{decimal}
+use Rattle.iso_summary.specs.Lines.{counted, file_option, line, number_option}
+use Rattle.iso_summary.specs.Names.{shown_name}
+use Rattle.iso_summary.specs.Sources.{shown_source}
+use Rattle.iso_summary.specs.Views.{AgainView, LocatedView}
+use Rattle.iso_summary.specs.Words.{file_word, has_control}
+
+-- the line of a place, with what is said of it
+abbrev pub place_line : LocatedView → (message : List ℕ) → List ℕ
+place_line at message = line (codes "  " ∷ shown_name at.file ∷ codes ":" ∷ decimal at.line ∷ codes ": " ∷ message ∷ [])
+
+-- the line of the script that stands there
+abbrev pub source_line : LocatedView → List ℕ
+source_line at = line (codes "  " ∷ decimal at.line ∷ codes " | " ∷ shown_source at.source ∷ [])
+
+-- how many tests are blocked, where any is
+abbrev pub blocks_line : ℕ → List ℕ
+blocks_line n = cond (n == 0) [] (line (codes "  blocks " ∷ counted n (codes " test") (codes " tests") ∷ []))
+
+-- whether a word was given and has a control character
+abbrev pub given_has_control : Option (List ℕ) → Bool
+given_has_control None = false
+given_has_control (Some word) = has_control word
+
+-- whether the command can be told: the script is a file, and no word has a control character
+abbrev pub can_be_told : AgainView → LocatedView → Bool
+can_be_told again at =
+    at.named
+    && (not (has_control at.file)
+    && (not (given_has_control again.settings)
+    && not (given_has_control again.world)))
+
+-- the command that runs a node again, of the one script in which it stands
+abbrev pub command_line : AgainView → LocatedView → (path : List ℕ) → List ℕ
+command_line again at path =
+    line
+    (codes "  again: jtap run"
+    ∷ file_option (codes " --settings ") again.settings
+    ∷ file_option (codes " --world ") again.world
+    ∷ number_option (codes " --processors ") again.processors
+    ∷ codes " --only "
+    ∷ path
+    ∷ codes " "
+    ∷ file_word at.file
+    ∷ [])
+
+-- the same, where it can be told
+abbrev pub again_line : AgainView → LocatedView → (path : List ℕ) → List ℕ
+again_line again at path = cond (can_be_told again at) (command_line again at path) []
+
+-- a node that failed: its path, the place and the message, the line of the script, how many tests it blocks, the command, and an empty
+-- line
+abbrev pub failure_text : AgainView → LocatedView → (path message : List ℕ) → (blocked : ℕ) → List ℕ
+failure_text again at path message blocked =
+    line (codes "not ok " ∷ path ∷ [])
+    ++ place_line at message
+    ++ source_line at
+    ++ blocks_line blocked
+    ++ again_line again at path
+    ++ line []
+
+-- a node that was skipped: its path, the place and why, and an empty line
+abbrev pub skipped_text : LocatedView → (path reason : List ℕ) → List ℕ
+skipped_text at path reason = line (codes "skipped " ∷ path ∷ []) ++ place_line at reason ++ line []

@@ -1,0 +1,10 @@
+pub mod Entries
+pub mod Examples
+pub mod Lines
+pub mod Names
+pub mod Parts
+pub mod Shells
+pub mod Sources
+pub mod Summaries
+pub mod Views
+pub mod Words

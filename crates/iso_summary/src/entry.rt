@@ -1,0 +1,162 @@
+//! What is told of a node.
+ghost use Rattle.std.specs.Prelude.{◌≡◌, ◌<◌, ◌++◌, length};
+ghost use Rattle.std.specs.Option.{option_map};
+ghost use Rattle.iso_plan.specs.PathTexts.{path_text};
+ghost use Rattle.iso_plan.specs.RowView.{tree_of};
+ghost use Rattle.iso_summary.specs.Entries.{again_line, blocks_line, can_be_told, failure_text, given_has_control, place_line, skipped_text, source_line};
+ghost use Rattle.iso_summary.specs.Views.{again_of, located_of};
+ghost use Rattle.iso_tap.specs.Printers.{Prints};
+
+use crate::again::Again;
+use crate::line::{line, line_with_path};
+use crate::located::Located;
+use crate::part::Part;
+use crate::word::has_control;
+use iso_plan::plan::Plan;
+use iso_tap::printer::Printer;
+use iso_tap::sink::{Sink, SinkFailed};
+
+/// Writes of a node that failed its path, the place and the message, the line of the script, how many tests it blocks, and the
+/// command that runs it again.
+pub(crate) fn failure<'x, W: Sink>(
+    printer: &mut Printer<'_, W>,
+    plan: &Plan,
+    node: u32,
+    at: &Located<'x>,
+    message: &'x str,
+    blocked: u32,
+    again: &Again<'_>,
+) -> Result<(), SinkFailed>
+    requires above { 0 < node }
+    requires within { node < length plan.now.rows }
+    ensures { Prints printer.old printer.new
+        (failure_text (again_of again.now) (located_of at.now) (path_text (tree_of plan.now) node) message.now blocked) result }
+{
+    line_with_path(printer, &[Part::Plain("not ok ")], plan, node, &[])?;
+    place(printer, at, message)?;
+    source(printer, at)?;
+    blocks(printer, blocked)?;
+    command(printer, plan, node, at, again)?;
+    printer.bytes(b"\n")
+}
+
+/// Writes of a node that was skipped its path, the place and why.
+pub(crate) fn skipped<'x, W: Sink>(
+    printer: &mut Printer<'_, W>,
+    plan: &Plan,
+    node: u32,
+    at: &Located<'x>,
+    reason: &'x str,
+) -> Result<(), SinkFailed>
+    requires above { 0 < node }
+    requires within { node < length plan.now.rows }
+    ensures { Prints printer.old printer.new
+        (skipped_text (located_of at.now) (path_text (tree_of plan.now) node) reason.now) result }
+{
+    line_with_path(printer, &[Part::Plain("skipped ")], plan, node, &[])?;
+    place(printer, at, reason)?;
+    printer.bytes(b"\n")
+}
+
+/// Writes the line of a place, with what is said of it.
+fn place<'x, W: Sink>(
+    printer: &mut Printer<'_, W>,
+    at: &Located<'x>,
+    message: &'x str,
+) -> Result<(), SinkFailed>
+    ensures { Prints printer.old printer.new (place_line (located_of at.now) message.now) result }
+{
+    line(
+        printer,
+        &[
+            Part::Plain("  "),
+            Part::Name(at.file),
+            Part::Plain(":"),
+            Part::Number(at.line),
+            Part::Plain(": "),
+            Part::Plain(message),
+        ],
+    )
+}
+
+/// Writes the line of the script.
+fn source<W: Sink>(printer: &mut Printer<'_, W>, at: &Located<'_>) -> Result<(), SinkFailed>
+    ensures { Prints printer.old printer.new (source_line (located_of at.now)) result }
+{
+    line(
+        printer,
+        &[
+            Part::Plain("  "),
+            Part::Number(at.line),
+            Part::Plain(" | "),
+            Part::Source(at.source),
+        ],
+    )
+}
+
+/// Writes how many tests are blocked, and nothing where none is.
+fn blocks<W: Sink>(printer: &mut Printer<'_, W>, blocked: u32) -> Result<(), SinkFailed>
+    ensures { Prints printer.old printer.new (blocks_line blocked) result }
+{
+    if blocked == 0 {
+        return Ok(());
+    }
+    line(
+        printer,
+        &[
+            Part::Plain("  blocks "),
+            Part::Counted(blocked, " test", " tests"),
+        ],
+    )
+}
+
+/// Writes the command that runs a node again, and nothing where none can be told.
+fn command<W: Sink>(
+    printer: &mut Printer<'_, W>,
+    plan: &Plan,
+    node: u32,
+    at: &Located<'_>,
+    again: &Again<'_>,
+) -> Result<(), SinkFailed>
+    requires above { 0 < node }
+    requires within { node < length plan.now.rows }
+    ensures { Prints printer.old printer.new
+        (again_line (again_of again.now) (located_of at.now) (path_text (tree_of plan.now) node)) result }
+{
+    if !can_be_told(at, again) {
+        return Ok(());
+    }
+    line_with_path(
+        printer,
+        &[
+            Part::Plain("  again: jtap run"),
+            Part::FileOption(" --settings ", again.settings),
+            Part::FileOption(" --world ", again.world),
+            Part::NumberOption(" --processors ", again.processors),
+            Part::Plain(" --only "),
+        ],
+        plan,
+        node,
+        &[Part::Plain(" "), Part::File(at.file)],
+    )
+}
+
+/// Whether the command can be told: the script is a file, and no word has a control character.
+fn can_be_told(at: &Located<'_>, again: &Again<'_>) -> bool
+    ensures { result ≡ can_be_told (again_of again.now) (located_of at.now) }
+{
+    at.named
+        && !has_control(at.file)
+        && !given_has_control(again.settings)
+        && !given_has_control(again.world)
+}
+
+/// Whether a word was given and has a control character.
+fn given_has_control(word: Option<&str>) -> bool
+    ensures { result ≡ given_has_control (option_map (λ w. w.now) word.entry) }
+{
+    match word {
+        Some(word) => has_control(word),
+        None => false,
+    }
+}

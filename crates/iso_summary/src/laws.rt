@@ -1,0 +1,39 @@
+//! Laws of what a summary shows. Each function does nothing: its contract is the law, and is proved.
+ghost use Rattle.std.specs.Prelude.{◌≡◌, ◌↔◌, ◌<◌, ◌^◌, ◌∷◌, [], ℕ, IfSome, List, Some, drop, false, true};
+ghost use Rattle.std.specs.List.{list_all};
+ghost use Rattle.std.specs.Str.{IsUtf8};
+ghost use Rattle.iso_summary.specs.Names.{has_ascii_control, shown_name};
+ghost use Rattle.iso_summary.specs.Entries.{command_line};
+ghost use Rattle.iso_summary.specs.Shells.{command_words, read_words};
+ghost use Rattle.iso_summary.specs.Sources.{is_printable, shown_source};
+ghost use Rattle.iso_summary.specs.Views.{AgainView, LocatedView};
+ghost use Rattle.iso_summary.specs.Words.{has_control, is_plain_word, shell_word};
+
+/// A shell reads each word back as it was, be it empty or with quotes, spaces or line feeds in it.
+pub fn shells_read_words_back()
+    ensures { (word : List ℕ) → read_words (shell_word word) ≡ Some (word ∷ []) }
+{}
+
+/// A shell reads the command that is told, behind the nine bytes before it, as the words that it is made of: the options that were
+/// given, the path and the script. A path is of plain bytes, as names are.
+pub fn shells_read_the_command_back()
+    ensures { (again : AgainView) (at : LocatedView) (path : List ℕ) → is_plain_word path ≡ true
+        → IfSome again.processors (λ n. n < 2 ^ 64)
+        → read_words (drop 9 (command_line again at path)) ≡ Some (command_words again at path) }
+{}
+
+/// What is shown of a file's name has no control character, be it of ASCII or of Unicode: it stays in its line, and no terminal obeys it.
+pub fn names_stay_in_their_line()
+    ensures ascii { (name : List ℕ) → has_ascii_control (shown_name name) ≡ false }
+    ensures unicode { (name : List ℕ) → IsUtf8 name → has_control (shown_name name) ≡ false }
+{}
+
+/// A word has no control character exactly where it is shown as it stands.
+pub fn words_without_control_are_shown_as_they_stand()
+    ensures { (word : List ℕ) → IsUtf8 word → (shown_name word ≡ word) ↔ (has_control word ≡ false) }
+{}
+
+/// What is shown of a line of a script is printable ASCII.
+pub fn lines_are_shown_printable()
+    ensures { (line : List ℕ) → list_all is_printable (shown_source line) ≡ true }
+{}

@@ -1,0 +1,14 @@
+//! What a run came to, as a text for people.
+#![tactic(auto)]
+
+pub mod again;
+mod entry;
+pub mod examples;
+pub mod laws;
+mod line;
+pub mod located;
+pub mod name;
+mod part;
+mod source;
+pub mod summary;
+mod word;

@@ -1,0 +1,49 @@
+//! Lines of scripts as they are shown.
+ghost use Rattle.std.specs.Prelude.{◌≡◌, length, map, min, take};
+ghost use Rattle.iso_summary.specs.Sources.{cut_end, shown_byte, shown_bytes, shown_source};
+ghost use Rattle.iso_tap.specs.Printers.{Prints};
+
+use iso_tap::printer::Printer;
+use iso_tap::sink::{Sink, SinkFailed};
+
+/// So many bytes of a line are shown.
+const SHOWN: usize = 160;
+
+/// Writes a line of a script: its first 160 bytes, each tab as a space and each other byte that isn't printable ASCII as `?`.
+pub(crate) fn source<W: Sink>(printer: &mut Printer<'_, W>, line: &[u8]) -> Result<(), SinkFailed>
+    ensures { Prints printer.old printer.new (shown_source line.now) result }
+{
+    let shown = shown_bytes(line);
+    printer.bytes(&shown[..line.len().min(SHOWN)])?;
+    printer.bytes(cut_end(line))
+}
+
+/// The first bytes of a line as they are shown, and spaces behind them.
+fn shown_bytes(line: &[u8]) -> [u8; SHOWN]
+    ensures { take (min (length line.now) 160) result ≡ shown_bytes line.now }
+{
+    let mut shown = [b' '; SHOWN];
+    let count = line.len().min(SHOWN);
+    for i in 0..count {
+        shown[i] = shown_byte(line[i]);
+    }
+    shown
+}
+
+/// A byte of a line as it is shown.
+fn shown_byte(byte: u8) -> u8
+    ensures { result ≡ shown_byte byte }
+{
+    match byte {
+        b'\t' => b' ',
+        b' '..=b'~' => byte,
+        _ => b'?',
+    }
+}
+
+/// What stands in place of the bytes that aren't shown.
+fn cut_end(line: &[u8]) -> &'static [u8]
+    ensures { result.now ≡ cut_end line.now }
+{
+    if line.len() > SHOWN { b".." } else { b"" }
+}

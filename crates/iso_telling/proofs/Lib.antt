@@ -1,0 +1,3 @@
+pub mod NodeLemmas
+pub mod PlaceLemmas
+pub mod WrittenLemmas

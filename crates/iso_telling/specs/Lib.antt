@@ -1,0 +1,6 @@
+pub mod Examples
+pub mod Telling
+pub mod ToldLines
+pub mod ToldNodes
+pub mod ToldPlaces
+pub mod Written

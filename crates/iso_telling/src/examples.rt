@@ -1,0 +1,74 @@
+//! Worked examples of the definitions, as public laws.
+ghost use Rattle.std.specs.Prelude.{◌≡◌, ◌∷◌, [], codes, false, true};
+ghost use Rattle.iso_failures.specs.Examples.{outcome_of, till_in_cart, unopened_of};
+ghost use Rattle.iso_model.specs.declared.place.BlockName.TheVariants as N;
+ghost use Rattle.iso_model.specs.declared.place.Lifecycle.TheVariants.{AfterAll, BeforeAll, BeforeEach};
+ghost use Rattle.iso_model.specs.declared.place.Place.TheVariants.{Disabled, Row};
+ghost use Rattle.iso_places.specs.Examples.{line_in};
+ghost use Rattle.iso_telling.specs.Examples.{failed_at, skipped_at, till_sites, two_names, two_texts, unassumed_of};
+ghost use Rattle.iso_telling.specs.ToldLines.{line_told};
+ghost use Rattle.iso_telling.specs.ToldNodes.{told_nodes};
+ghost use Rattle.iso_telling.specs.ToldPlaces.{located};
+
+/// Nodes that failed by themselves are told of, and no other where skipped tests aren't asked for.
+pub fn failures_are_told()
+    ensures failed { told_nodes till_in_cart outcome_of false ≡ 1 ∷ 3 ∷ 7 ∷ [] }
+    ensures none { told_nodes till_in_cart unassumed_of false ≡ [] }
+{}
+
+/// Skipped and disabled tests are told of where they are asked for, in their places between the others.
+pub fn skipped_tests_are_told_where_they_are_asked_for()
+    ensures { told_nodes till_in_cart outcome_of true ≡ 1 ∷ 3 ∷ 7 ∷ 9 ∷ 10 ∷ [] }
+{}
+
+/// A skipped class isn't told of, and what it holds is.
+pub fn skipped_classes_are_not_told()
+    ensures { told_nodes till_in_cart unassumed_of true ≡ 9 ∷ 10 ∷ [] }
+{}
+
+/// What is blocked is counted with the class that blocks it, and not told of.
+pub fn blocked_nodes_are_not_told()
+    ensures { told_nodes till_in_cart unopened_of true ≡ 1 ∷ [] }
+{}
+
+/// Of a row of a test's body the line is told from its opening brace on, wherever its name stands.
+#[tactic(auto, unfolding(iso_plan::specs::Paths::path))]
+pub fn rows_of_tests_are_told()
+    ensures first { line_told till_in_cart till_sites (failed_at (Row N.Test 1)) 7 ≡ line_in 0 24 }
+    ensures third { line_told till_in_cart till_sites (failed_at (Row N.Test 3)) 7 ≡ line_in 0 26 }
+{}
+
+/// Of a test that a block of a class failed, the line of that block is told, by the class's depth.
+#[tactic(auto, unfolding(iso_plan::specs::Paths::path))]
+pub fn rows_of_class_blocks_are_told()
+    ensures outer { line_told till_in_cart till_sites (failed_at (Row (N.Class 1 BeforeEach) 2)) 4 ≡ line_in 0 7 }
+    ensures inner { line_told till_in_cart till_sites (failed_at (Row (N.Class 2 BeforeAll) 1)) 3 ≡ line_in 0 12 }
+{}
+
+/// Of a disabled test the line of its own name is told.
+#[tactic(auto, unfolding(iso_plan::specs::Paths::path))]
+pub fn disabled_tests_are_told_at_their_names()
+    ensures { line_told till_in_cart till_sites (skipped_at Disabled) 10 ≡ line_in 0 33 }
+{}
+
+/// So is that of a node whose verdict names a block which isn't written.
+#[tactic(auto, unfolding(iso_plan::specs::Paths::path))]
+pub fn what_is_not_written_is_told_at_the_name()
+    ensures { line_told till_in_cart till_sites (failed_at (Row (N.Class 2 AfterAll) 1)) 4 ≡ line_in 0 15 }
+{}
+
+/// A line has its script's name and text, without its line end.
+pub fn lines_have_their_files()
+    ensures first { located two_names two_texts (line_in 0 2)
+        ≡ record { file = codes "a.jtap"; named = true; line = 2; source = codes "class A { }" } }
+    ensures second { located two_names two_texts (line_in 1 2)
+        ≡ record { file = codes "my b.jtap"; named = true; line = 2; source = codes "class B { }" } }
+    ensures past { located two_names two_texts (line_in 1 3)
+        ≡ record { file = codes "my b.jtap"; named = true; line = 3; source = [] } }
+{}
+
+/// Where no script has a name it is standard input.
+pub fn lines_of_standard_input_have_no_file()
+    ensures { located [] (codes "team a\nclass A { }\n" ∷ []) (line_in 0 2)
+        ≡ record { file = codes "stdin"; named = false; line = 2; source = codes "class A { }" } }
+{}

@@ -1,0 +1,13 @@
+//! What a run tells besides its report.
+#![tactic(auto)]
+
+pub mod examples;
+pub mod laws;
+mod lines;
+mod located;
+mod nodes;
+mod summary;
+mod table;
+pub mod tells;
+mod verdict;
+pub mod written;
