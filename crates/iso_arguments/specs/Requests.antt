@@ -1,5 +1,5 @@
 -- What a request asks for.
-use Rattle.std.specs.Prelude.{◌≡◌, ℕ, ◌≤◌, [], None, Option, IfSome, ⊤}
+use Rattle.std.specs.Prelude.{◌≡◌, ℕ, ◌≤◌, [], None, Option, IfSome, false, ⊤}
 use Rattle.iso_arguments.specs.declared.request.Extras.{Extras}
 use Rattle.iso_arguments.specs.declared.request.InputFiles.{InputFiles}
 use Rattle.iso_arguments.specs.declared.request.Request.{Request}
@@ -20,7 +20,7 @@ AreInBounds files = IsCount files.processors × IsShard files.shard
 
 abbrev pub AsksInBounds : Request → Type 0
 AsksInBounds (Run serial extras files) = AreInBounds files
-AsksInBounds (Plan tests files) = AreInBounds files
+AsksInBounds (Plan tests places files) = AreInBounds files
 AsksInBounds (Replay schedule extras files) = AreInBounds files
 AsksInBounds (Show text) = ⊤
 
@@ -34,14 +34,15 @@ pub record NamesNothing (files : InputFiles) : Type 0 where
   pub only_from : files.only_from ≡ None
   pub shard : files.shard ≡ None
   pub processors : files.processors ≡ 1
+  pub default : files.processors_given ≡ false
 
 -- nothing is asked for besides the report
 abbrev pub AsksForNoMore : Extras → Type 0
-AsksForNoMore extras = extras.failed ≡ None
+AsksForNoMore extras = (extras.summary ≡ None) × (extras.failed ≡ None)
 
 -- a run of all of one script from standard input, without settings or world, counting with one processor, and nothing besides its report
 abbrev pub IsPlainRun : Request → Type 0
 IsPlainRun (Run serial extras files) = NamesNothing files × AsksForNoMore extras
-IsPlainRun (Plan tests files) = ⊥
+IsPlainRun (Plan tests places files) = ⊥
 IsPlainRun (Replay schedule extras files) = ⊥
 IsPlainRun (Show text) = ⊥

@@ -24,7 +24,8 @@ static RUN_END: &str = "Examples:
 
 static PLAN_END: &str = "Examples:
   jtap plan --settings junit.toml cart.jtap
-  jtap plan --tests --match 'shop.*' cart.jtap";
+  jtap plan --tests --match 'shop.*' cart.jtap
+  jtap plan --tests --places cart.jtap";
 
 static REPLAY_END: &str = "Example:
   jtap replay --schedule cart.schedule --settings junit.toml cart.jtap";
@@ -40,6 +41,15 @@ one a line; `-` is standard input";
 
 static SHARD: &str = "Keep every K-th top-level class of those kept,
 beginning with the I-th";
+
+static PLACES: &str = "Add to each line where the name stands,
+as FILE:LINE:COLUMN";
+
+static SUMMARY: &str = "Tell on standard error what failed, with file and
+line; with `=all` what was skipped, too";
+
+/// The value that `--summary` may have.
+static SUMMARIZED: &[&str] = &["all"];
 
 static FAILED: &str = "Write the paths of failed classes and tests to
 FILE, one a line, for `--only-from`";
@@ -81,7 +91,8 @@ fn run<'a>(alloc: Global) -> Result<Command<'a>, AllocError> {
 fn plan<'a>(alloc: Global) -> Result<Command<'a>, AllocError> {
     let about = "Print how the scripts would run: workers, modes and locks of each node";
     let command = subcommand(alloc, "plan", about, PLAN_END);
-    with_inputs(alloc, command.arg(tests(alloc)))
+    let command = command.arg(tests(alloc))?.arg(places(alloc));
+    with_inputs(alloc, command)
 }
 
 /// The subcommand that replays a schedule.
@@ -101,7 +112,9 @@ fn with_extras<'a>(
     alloc: Global,
     command: Result<Command<'a>, AllocError>,
 ) -> Result<Command<'a>, AllocError> {
-    command?.arg(file(alloc, "failed", FAILED))
+    command?
+        .arg(summary(alloc))?
+        .arg(file(alloc, "failed", FAILED))
 }
 
 /// A command with the options for what it reads, if it could be made.
@@ -134,8 +147,26 @@ fn tests<'a>(alloc: Global) -> Arg<'a> {
         .help("Print the lines of tests alone")
 }
 
+fn places<'a>(alloc: Global) -> Arg<'a> {
+    Arg::new(alloc, "places")
+        .long("places")
+        .action(ArgAction::SetTrue)
+        .help(PLACES)
+}
+
 fn schedule<'a>(alloc: Global) -> Arg<'a> {
     file(alloc, "schedule", "Events to replay, one a line").required(true)
+}
+
+fn summary<'a>(alloc: Global) -> Arg<'a> {
+    Arg::new(alloc, "summary")
+        .long("summary")
+        .value_name("WHAT")
+        .num_args(0..=1)
+        .require_equals(true)
+        .value_parser(SUMMARIZED)
+        .hide_possible_values(true)
+        .help(SUMMARY)
 }
 
 fn settings<'a>(alloc: Global) -> Arg<'a> {

@@ -1,11 +1,12 @@
 //! What the words of a command line ask for.
-ghost use Rattle.std.specs.Prelude.{◌≡◌, [], None, IfOk, IsOkAnd, drop};
+ghost use Rattle.std.specs.Prelude.{◌≡◌, [], None, IfOk, IsOkAnd, drop, false};
 ghost use Rattle.std.specs.Vec.Iter.{into_iter_items};
 ghost use Rattle.iso_arguments.specs.Requests.{AsksInBounds, AreInBounds, IsPlainRun, IsShard};
 
 use crate::options::command_line;
 use crate::shard::{Shard, read_shard};
 use clap::error::ErrorKind;
+use clap::parser::ValueSource;
 use clap::{ArgMatches, Error};
 use std::alloc::{AllocError, AllocFailed, AllocGlobal, Global};
 use std::env::{self, Args, Env};
@@ -42,6 +43,8 @@ pub struct InputFiles<'a> {
     pub shard: Option<Shard>,
     /// 1 to 1024.
     pub processors: u32,
+    /// Whether the number of processors was given.
+    pub processors_given: bool,
 }
 
 impl<'a> InputFiles<'a> {
@@ -50,7 +53,7 @@ impl<'a> InputFiles<'a> {
         ensures names { (result.settings ≡ None) × (result.world ≡ None) × (result.scripts.items ≡ []) }
         ensures all { (result.only.items ≡ []) × (result.patterns.items ≡ []) × (result.only_from ≡ None) }
         ensures whole { result.shard ≡ None }
-        ensures processors { result.processors ≡ 1 }
+        ensures processors { (result.processors ≡ 1) × (result.processors_given ≡ false) }
     {
         InputFiles {
             settings: None,
@@ -61,13 +64,25 @@ impl<'a> InputFiles<'a> {
             only_from: None,
             shard: None,
             processors: 1,
+            processors_given: false,
         }
     }
+}
+
+/// What a summary tells of.
+#[derive(Clone, Copy, PartialEq, Eq)]
+pub enum Summarized {
+    /// The classes and tests that failed.
+    Failed,
+    /// The tests that were skipped, too.
+    All,
 }
 
 /// What is asked for besides a report.
 #[derive(Clone, Copy)]
 pub struct Extras<'a> {
+    /// The summary for people on standard error.
+    pub summary: Option<Summarized>,
     /// The file into which the paths of the failed classes and tests are written, one a line.
     pub failed: Option<&'a str>,
 }
@@ -75,9 +90,12 @@ pub struct Extras<'a> {
 impl Extras<'_> {
     /// Nothing.
     pub fn none() -> Self
-        ensures { result.failed ≡ None }
+        ensures { (result.summary ≡ None) × (result.failed ≡ None) }
     {
-        Extras { failed: None }
+        Extras {
+            summary: None,
+            failed: None,
+        }
     }
 }
 
@@ -90,9 +108,10 @@ pub enum Request<'a> {
         extras: Extras<'a>,
         files: InputFiles<'a>,
     },
-    /// The printed plan; `tests` of its tests alone.
+    /// The printed plan; `tests` of its tests alone, `places` with where each node's name stands.
     Plan {
         tests: bool,
+        places: bool,
         files: InputFiles<'a>,
     },
     /// A replay of the schedule in a file of this name, and its report.
@@ -223,6 +242,7 @@ fn requested<'a>(alloc: Global, matches: &ArgMatches<'a>) -> Result<Request<'a>,
     if name == "plan" {
         return Ok(Request::Plan {
             tests: found.get_flag("tests"),
+            places: found.get_flag("places"),
             files,
         });
     }
@@ -260,7 +280,21 @@ fn extras_of<'a>(
             return Err(WordsFault::Wrong(read_too(alloc, name)?));
         }
     }
-    Ok(Extras { failed })
+    Ok(Extras {
+        summary: summary_of(found),
+        failed,
+    })
+}
+
+/// What `--summary` asks for: its one value is `all`.
+fn summary_of(found: &ArgMatches<'_>) -> Option<Summarized> {
+    if !found.contains_id("summary") {
+        return None;
+    }
+    Some(match found.get_str("summary") {
+        Some(_) => Summarized::All,
+        None => Summarized::Failed,
+    })
 }
 
 /// Whether a word names a script, the settings, the world or the schedule.
@@ -297,6 +331,7 @@ fn files_of<'a>(alloc: Global, found: &ArgMatches<'a>) -> Result<InputFiles<'a>,
         .get_one::<u32>("processors")
         .unwrap_or(1)
         .clamp(1, 1024);
+    files.processors_given = found.value_source("processors") == Some(ValueSource::CommandLine);
     if let Some(scripts) = found.get_strs("scripts") {
         files.scripts.extend_from_slice(scripts)?;
     }

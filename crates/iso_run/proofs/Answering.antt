@@ -1,12 +1,14 @@
 -- How what came of a run is answered.
+use Rattle.std.specs.Bool.{⊤}
 use Rattle.std.specs.Borrow.{Bor}
-use Rattle.std.proofs.Common.{◌≡◌, ◌≢◌, inl, inr, ℕ, List, Option, Some, None, Bool, Result, Ok, Err, IfErr, IsErrAnd, MatchResult, true, ap, sym, subst, ◌∙◌}
+use Rattle.std.proofs.Common.{◌≡◌, ◌≢◌, inl, inr, ℕ, List, Option, Some, None, Bool, Result, Ok, Err, IfErr, IsErrAnd, MatchResult, OnOk, true, ap, sym, subst, ◌∙◌}
 use Rattle.iso_arguments.specs.declared.request.InputFiles.{InputFiles}
 use Rattle.iso_arguments.specs.Requests.{NamesNothing}
-use Rattle.iso_run.specs.Commands.{AreFor, IsRefused, IsWrittenFor, way_of}
-use Rattle.iso_run.specs.Ends.{End, Whole, LacksFile, Refuses, GivesUp, BreaksOff, Answers, IsEnded, Leaves, command_end, end_of, run_end}
+use Rattle.iso_run.proofs.Late.{late-so}
+use Rattle.iso_run.specs.Commands.{AreFor, IsRefused, way_of}
+use Rattle.iso_run.specs.Ends.{End, Whole, LacksFile, Refuses, GivesUp, BreaksOff, Answers, IfLate, IsEnded, Leaves, command_end, end_of, run_end}
 use Rattle.iso_run.specs.Replays.{Cause}
-use Rattle.iso_run.specs.Runs.{IsWritten, Product, Writes, suite_report}
+use Rattle.iso_run.specs.Runs.{IsWritten, Product, TellsOf, Writes, suite_outcome, suite_report}
 use Rattle.iso_run.specs.Suites.{Suite}
 use Rattle.iso_run.specs.declared.command_fault.CommandFault.{CommandFault}
 use Rattle.iso_run.specs.declared.fault.RunFault.{RunFault}
@@ -14,52 +16,57 @@ use Rattle.iso_run.specs.declared.inputs.Inputs.{Inputs}
 use Rattle.iso_run.specs.declared.report.Summary.{Summary}
 use Rattle.iso_run.specs.declared.way.Way.{Way}
 use Rattle.iso_tap.specs.Sinks.{Account, HasFailed, Wrote, failures_after}
+use Rattle.iso_telling.specs.Telling.{IsSummarized}
+use Rattle.iso_telling.specs.declared.tells.SummaryText.{SummaryText}
+use Rattle.iso_telling.specs.declared.tells.Tells.{Tells}
 
 -- what is left by an end, where more is known of the whole and of the broken output
-weaker : (P Q : Bool → Type 0) → ((ok : Bool) → P ok → Q ok) → (C D : Type 0) → (C → D) → (A B : Type 0) → (A → B) → (old new : Account) (end : End) → Leaves P C A old new end → Leaves Q D B old new end
-weaker P Q f C D k A B g old new (Whole ok) h = f ok h
-weaker P Q f C D k A B g old new LacksFile h = k h
-weaker P Q f C D k A B g old new Refuses h = h
-weaker P Q f C D k A B g old new GivesUp h = h
-weaker P Q f C D k A B g old new BreaksOff h = g h
+weaker : (X : Type 0) (P Q : Bool → Type 0) → (X → (ok : Bool) → P ok → Q ok) → (C D : Type 0) → (C → D) → (A B : Type 0) → (A → B) → (old new : Account) (end : End) → IfLate end X → Leaves P C A old new end → Leaves Q D B old new end
+weaker X P Q f C D k A B g old new (Whole ok) late h = f late ok h
+weaker X P Q f C D k A B g old new LacksFile late h = k h
+weaker X P Q f C D k A B g old new Refuses late h = h
+weaker X P Q f C D k A B g old new GivesUp late h = h
+weaker X P Q f C D k A B g old new BreaksOff late h = g h
 
 pub answered-as : (P Q : Bool → Type 0) → ((ok : Bool) → P ok → Q ok) → (C D : Type 0) → (C → D) → (old new : Account) (result : Result Bool CommandFault) → Answers P C old new result → Answers Q D old new result
-answered-as P Q f C D k old new result h = weaker P Q f C D k _ _ (λ failed. failed) old new (end_of (λ (ok : Bool). ok) command_end result) h
+answered-as P Q f C D k old new result h =
+    let end = end_of (λ (ok : Bool). ok) command_end result in
+    weaker ⊤ P Q (λ late ok h. f ok h) C D k _ _ (λ failed. failed) old new end (late-so ⊤ end tt) h
 
--- what is left beside a file that is lacking
-abbrev Lacking : (product : Suite → Product) → InputFiles → Option (List ℕ) → Way → Option (Bor (List ℕ)) → (old new : Account) → Type 0
-Lacking product files input way file old new = (ok : Bool) × IsWrittenFor product files input way old new ok × (file ≢ None)
+-- what is left beside a file that is lacking, where this is true of a whole output
+abbrev pub Lacking : (Account → Bool → Type 0) → Option (Bor (List ℕ)) → Account → Type 0
+Lacking P file new = (ok : Bool) × P new ok × (file ≢ None)
 
 some-file : (file : Option (Bor (List ℕ))) (name : Bor (List ℕ)) → file ≡ Some name → file ≢ None
-some-file file name is e = let none : None ≡ Some name = sym e ∙ is in cc
+some-file file name e is = let some : Some name ≡ None = sym e ∙ is in cc
 
 -- after a whole output, its flush and the file besides
-ended-after : (product : Suite → Product) (files : InputFiles) (input : Option (List ℕ)) (way : Way) (file : Option (Bor (List ℕ))) (ok : Bool) (old mid new : Account) (text : List ℕ) → Wrote old mid text
-    → IsWrittenFor product files input way old mid ok → (result : Result Bool CommandFault) → IsEnded ok file mid new result
-    → Answers (IsWrittenFor product files input way old new) (Lacking product files input way file old new) old new result
-ended-after product files input way file ok old mid new text wrote w (Ok told) h =
-    subst (λ (a : Account). IsWrittenFor product files input way old a told) (sym h.1) (subst (IsWrittenFor product files input way old mid) (sym h.0) w)
-ended-after product files input way file ok old mid new text wrote w (Err fault) (inl h) =
-    subst (λ (f : CommandFault). Answers (IsWrittenFor product files input way old new) (Lacking product files input way file old new) old new (Err f)) (sym h.0) (h.1 ∙ ap (failures_after true) wrote.failures)
-ended-after product files input way file ok old mid new text wrote w (Err fault) (inr h) =
-    subst (λ (f : CommandFault). Answers (IsWrittenFor product files input way old new) (Lacking product files input way file old new) old new (Err f)) (sym h.1.2)
-    (ok, subst (λ (a : Account). IsWrittenFor product files input way old a ok) (sym h.0) w, some-file file h.1.0 h.1.1)
+ended-after : (P : Account → Bool → Type 0) (file : Option (Bor (List ℕ))) (ok : Bool) (old mid new : Account) (text : List ℕ) → Wrote old mid text
+    → P mid ok → (result : Result Bool CommandFault) → IsEnded ok file mid new result
+    → Answers (P new) (Lacking P file new) old new result
+ended-after P file ok old mid new text wrote w (Ok told) h =
+    subst (λ (a : Account). P a told) (sym h.1) (subst (P mid) (sym h.0) w)
+ended-after P file ok old mid new text wrote w (Err fault) (inl h) =
+    subst (λ (f : CommandFault). Answers (P new) (Lacking P file new) old new (Err f)) (sym h.0) (h.1 ∙ ap (failures_after true) wrote.failures)
+ended-after P file ok old mid new text wrote w (Err fault) (inr h) =
+    subst (λ (f : CommandFault). Answers (P new) (Lacking P file new) old new (Err f)) (sym h.1.2)
+    (ok, subst (λ (a : Account). P a ok) (sym h.0) w, some-file file h.1.0 h.1.1)
 
 -- what is told of a run is answered of its files
-pub run-answered : (product : Suite → Product) (files : InputFiles) (input : Option (List ℕ)) (inputs : Inputs) (way : Way) → AreFor files input inputs → (file : Option (Bor (List ℕ))) (old mid new : Account)
-    → (ran : Result Summary RunFault) → Writes (λ (s : Summary). s.all_ok) product inputs way old mid ran
+pub run-answered : (X : Type 0) (P : Account → Bool → Type 0) (product : Suite → Product) (inputs : Inputs) (way : Way) (old mid : Account) → (X → (ok : Bool) → IsWritten product inputs way old mid ok → P mid ok)
+    → (file : Option (Bor (List ℕ))) (new : Account) (ran : Result Summary RunFault) → IfLate (end_of (λ (s : Summary). s.all_ok) run_end ran) X → Writes (λ (s : Summary). s.all_ok) product inputs way old mid ran
     → (result : Result Bool CommandFault)
     → MatchResult ran (λ s. IsEnded s.all_ok file mid new result) (λ fault. (new ≡ mid) × IsErrAnd result (λ told. command_end told ≡ run_end fault))
-    → Answers (IsWrittenFor product files input way old new) (Lacking product files input way file old new) old new result
-run-answered product files input inputs way are file old mid new (Ok summary) writes result h =
+    → Answers (P new) (Lacking P file new) old new result
+run-answered X P product inputs way old mid f file new (Ok summary) late writes result h =
     let w = writes.leaves in
-    ended-after product files input way file summary.all_ok old mid new (product w.1.0).text w.1.2.0 (inputs, are, w) result h
-run-answered product files input inputs way are file old mid new (Err fault) writes (Ok ok) h = absurd h.1
-run-answered product files input inputs way are file old mid new (Err fault) writes (Err told) h =
-    let left = weaker (IsWritten product inputs way old mid) (IsWrittenFor product files input way old mid) (λ ok w. (inputs, are, w)) ⊥ (Lacking product files input way file old mid) (λ none. absurd none)
-    _ (HasFailed old.failures mid.failures) (λ cut. cut.2.failed) old mid (run_end fault) writes.leaves in
-    subst (λ (a : Account). Leaves (IsWrittenFor product files input way old a) (Lacking product files input way file old a) (HasFailed old.failures a.failures) old a (command_end told)) (sym h.0)
-    (subst (Leaves (IsWrittenFor product files input way old mid) (Lacking product files input way file old mid) (HasFailed old.failures mid.failures) old mid) (sym h.1) left)
+    ended-after P file summary.all_ok old mid new (product w.1.0).text w.1.2.0 (f late summary.all_ok w) result h
+run-answered X P product inputs way old mid f file new (Err fault) late writes (Ok ok) h = absurd h.1
+run-answered X P product inputs way old mid f file new (Err fault) late writes (Err told) h =
+    let left = weaker X (IsWritten product inputs way old mid) (P mid) f ⊥ (Lacking P file mid) (λ none. absurd none)
+    _ (HasFailed old.failures mid.failures) (λ cut. cut.2.failed) old mid (run_end fault) late writes.leaves in
+    subst (λ (a : Account). Leaves (P a) (Lacking P file a) (HasFailed old.failures a.failures) old a (command_end told)) (sym h.0)
+    (subst (Leaves (P mid) (Lacking P file mid) (HasFailed old.failures mid.failures) old mid) (sym h.1) left)
 
 -- a plain run that is told as refused was refused
 pub run-refused : (files : InputFiles) (input : Option (List ℕ)) (inputs : Inputs) (serial : Bool) (way : Way) → NamesNothing files → AreFor files input inputs → way ≡ way_of serial → (file : Option (Bor (List ℕ))) (old mid new : Account)
@@ -83,3 +90,10 @@ run-refused files input inputs serial way nothing are is file old mid new (Err f
       refuses = sym h.1 ∙ refuses;
       cause = subst (λ (w : Way). Cause inputs w fault) is writes.cause;
     }
+
+-- where no summary was asked for, none was told
+pub still-unasked : {A F : Type 0} (inputs : Inputs) (old new : Tells) (result : Result A F) → OnOk result (TellsOf inputs old new) → old.summary ≡ None → OnOk result (new.summary ≡ None)
+still-unasked inputs old new (Ok a) h none =
+    let told = h.2.told in
+    subst (λ (o : Option SummaryText). IsSummarized h.2.written h.0.nodes (suite_outcome h.0) o new.summary) none told.summary
+still-unasked inputs old new (Err e) h none = tt

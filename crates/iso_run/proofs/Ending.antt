@@ -36,7 +36,7 @@ at-least-two (C.Run fault word) = run-at-least-two fault
 -- a plain run reported on what stood on the input
 plain-ran : (request : Request) (script : List ℕ) (old new : Account) (ok : Bool) → IsPlainRun request → Did request (Some script) old new ok → RanOn script old new (exit_status (Whole ok))
 plain-ran (Show text) script old new ok is did = absurd is
-plain-ran (Plan tests files) script old new ok is did = absurd is
+plain-ran (Plan tests places files) script old new ok is did = absurd is
 plain-ran (Replay name extras files) script old new ok is did = absurd is
 plain-ran (Run serial extras files) script old new ok is did = record { files = files; nothing = is.0; serial = serial; ok = ok; written = did; tells = refl }
 

@@ -2,6 +2,7 @@ mod Answering
 mod Captures
 mod Documents
 mod Ending
+mod Late
 mod Lending
 mod Plans
 mod Reading

@@ -21,12 +21,12 @@ use Rattle.iso_schedule.specs.declared.fault.ScheduleError.{ScheduleError}
 use Rattle.iso_schedule.specs.declared.fault.ScheduleError.TheVariants as S
 use Rattle.iso_tap.specs.Sinks.{Account}
 
-pub unread : (inputs : Inputs) (schedule : Bor (List ℕ)) (a : Account) (suite : ReadSuite) (error : ScheduleError) → IsRead inputs suite → IfAnswered (AreRead schedule.now) (Err error)
+pub unread : (inputs : Inputs) (schedule : Bor (List ℕ)) (a : Account) (suite : ReadSuite) (error : ScheduleError) (keeps : Bool) → IsRead inputs keeps suite → IfAnswered (AreRead schedule.now) (Err error)
     → Writes (λ (s : Summary). s.all_ok) suite_report inputs (BySchedule schedule) a a (Err (schedule_fault error))
-unread inputs schedule a suite (S.Fault fault) is wrong = record { cause = (suite_of inputs suite, is.is_suite, wrong); leaves = refl }
-unread inputs schedule a suite S.OutOfMemory is wrong = record { cause = tt; leaves = refl }
+unread inputs schedule a suite (S.Fault fault) keeps is wrong = record { cause = (suite_of inputs suite, is.is_suite, wrong); leaves = refl }
+unread inputs schedule a suite S.OutOfMemory keeps is wrong = record { cause = tt; leaves = refl }
 
-module _ (inputs : Inputs) (schedule : Bor (List ℕ)) (suite : ReadSuite) (events : List Event) (is : IsRead inputs suite) (read : AreRead schedule.now (Ok events)) where
+module _ (inputs : Inputs) (schedule : Bor (List ℕ)) (suite : ReadSuite) (events : List Event) (keeps : Bool) (is : IsRead inputs keeps suite) (read : AreRead schedule.now (Ok events)) where
   pub stopped : (a : Account) (index : ℕ) (fault : CoreFault) → EndedBy fault suite.plan suite.world suite.settings.worker_count events index
       → Writes (λ (s : Summary). s.all_ok) suite_report inputs (BySchedule schedule) a a (Err (events_fault (record { index = index; fault = fault })))
   stopped a index (C.Refused why) by =

@@ -1,8 +1,7 @@
 -- The report of results is that of their suite.
-use Rattle.std.proofs.Common.{◌≡◌, ℕ, List, Bool, true, Result, Ok, Err, MatchResult, OnOk, refl, subst, sym, ap, ap₂, ◌∙◌}
-use Rattle.iso_run.specs.Suites.{IsSuite, Suite, planned}
+use Rattle.std.proofs.Common.{◌≡◌, ℕ, List, Bool, true, Result, Ok, Err, MatchResult, OnOk, is_some, refl, subst, sym, ap, ap₂, ◌∙◌}
+use Rattle.iso_run.specs.Suites.{IsSuite, Suite, planned, texts}
 use Rattle.iso_run.specs.declared.inputs.Inputs.{Inputs}
-use Rattle.iso_failures.specs.Failures.{failed_text}
 use Rattle.iso_lifecycle.specs.ResultViews.{ResultsView, outcome_in}
 use Rattle.iso_lifecycle.specs.Subjects.{outcome_alone, started}
 use Rattle.iso_plan.specs.Planned.{Planned}
@@ -11,9 +10,10 @@ use Rattle.iso_settings.specs.Worlds.{Start}
 use Rattle.iso_tap.specs.Reports.{all_ok, report}
 use Rattle.iso_tap.specs.Sinks.{Account, Wrote}
 use Rattle.iso_run.specs.Replays.{IsPlayed}
-use Rattle.iso_run.specs.Runs.{IsCutOff, IsUnwritten, Product, TellsOf, Writes, suite_outcome, suite_report}
-use Rattle.iso_run.specs.Telling.{HasTold, IsTold}
-use Rattle.iso_run.specs.declared.tells.Tells.{Tells}
+use Rattle.iso_run.specs.Runs.{IsCutOff, IsUnwritten, Product, TellsOf, Writes, suite_report}
+use Rattle.iso_telling.specs.Telling.{HasTold}
+use Rattle.iso_telling.specs.Written.{ArePlaced, WrittenView}
+use Rattle.iso_telling.specs.declared.tells.Tells.{Tells}
 use Rattle.iso_run.specs.declared.fault.RunFault.{RunFault}
 use Rattle.iso_run.specs.declared.fault.RunFault.TheVariants.{Write}
 use Rattle.iso_run.specs.declared.fault.RunFault.TheVariants as F
@@ -62,12 +62,12 @@ module _ (inputs : Inputs) (old new : Account) (suite : Suite) (plan : Planned) 
       record { cause = tt; leaves = (played, (suite, is, (subst (λ (text : List ℕ). Wrote old new text) report-is h.0, h.1 ∙ ok-is))) }
   reported way played (Err fault) h = unreported way played fault h
 
-  failed-is : failed_text (tree_of plan) (outcome_in v) ≡ failed_text suite.nodes (suite_outcome suite)
-  failed-is =
-      ap₂ (λ (p : Planned) (s : Start). failed_text (tree_of plan) (outcome_alone (tree_of p) (started s))) of on
-      ∙ ap (λ (p : Planned). failed_text (tree_of p) (outcome_alone (tree_of p) (started suite.start))) made
-
   -- what was told of the results of a suite was told of it
-  pub told : {A F : Type 0} (result : Result A F) (before after : Tells) → OnOk result (HasTold (tree_of plan) (outcome_in v) before after) → OnOk result (TellsOf inputs before after)
-  told (Ok a) before after h = (suite, is, subst (λ (text : List ℕ). IsTold text before.failed after.failed) failed-is h)
-  told (Err e) before after h = tt
+  pub told : {A F : Type 0} (w : WrittenView) (before after : Tells) → w.texts ≡ texts inputs.scripts.now → (is_some before.summary ≡ true → ArePlaced w.texts w.scripts w.places)
+      → (result : Result A F) → OnOk result (HasTold w (tree_of plan) (outcome_in v) before after) → OnOk result (TellsOf inputs before after)
+  told w before after same placed (Ok a) h =
+      let started_so = subst (λ (s : Start). HasTold w (tree_of plan) (outcome_alone (tree_of v.plan) (started s)) before after) on h in
+      let planned_so = subst (λ (p : Planned). HasTold w (tree_of plan) (outcome_alone (tree_of p) (started suite.start)) before after) of started_so in
+      let all = subst (λ (p : Planned). HasTold w (tree_of p) (outcome_alone (tree_of p) (started suite.start)) before after) made planned_so in
+      (suite, is, record { written = w; texts_are = same; placed = placed; told = all })
+  told w before after same placed (Err e) h = tt

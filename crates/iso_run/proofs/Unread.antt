@@ -1,5 +1,6 @@
 -- Inputs that are no suite.
 use Rattle.std.proofs.Common.{Bool, Err, refl}
+use Rattle.iso_run.specs.Ends.{IfLate, run_end}
 use Rattle.iso_run.specs.Runs.{Product, Writes}
 use Rattle.iso_run.specs.Suites.{NoSuite, Suite}
 use Rattle.iso_run.specs.declared.fault.RunFault.{RunFault}
@@ -21,3 +22,17 @@ unread-unwritten ok_of product inputs way a F.Start h = absurd h
 unread-unwritten ok_of product inputs way a F.Lost h = absurd h
 unread-unwritten ok_of product inputs way a F.Memory h = record { cause = h; leaves = refl }
 unread-unwritten ok_of product inputs way a (F.Write written) h = absurd h
+
+-- nothing that comes after the inputs is told of them
+pub unread-early : (inputs : Inputs) (X : Type 0) (fault : RunFault) → NoSuite inputs fault → IfLate (run_end fault) X
+unread-early inputs X (F.Settings fault) h = tt
+unread-early inputs X (F.World fault) h = tt
+unread-early inputs X (F.Script index fault) h = tt
+unread-early inputs X (F.Plan fault) h = tt
+unread-early inputs X (F.Schedule fault) h = absurd h
+unread-early inputs X (F.Refused index why) h = absurd h
+unread-early inputs X F.Unfinished h = absurd h
+unread-early inputs X F.Start h = absurd h
+unread-early inputs X F.Lost h = absurd h
+unread-early inputs X F.Memory h = tt
+unread-early inputs X (F.Write written) h = absurd h

@@ -1,23 +1,28 @@
 -- What a command does for what its words ask, and how it ends.
-use Rattle.std.specs.Prelude.{◌≡◌, ◌≢◌, ℕ, ◌+◌, List, [], ◌∷◌, length, map, take, Bool, true, cond, Option, None, Some, IfSome, is_some, option_map, codes, string_bytes}
+use Rattle.std.specs.Prelude.{◌≡◌, ◌≢◌, ℕ, ◌+◌, List, [], ◌∷◌, length, map, take, Bool, true, false, cond, Option, None, Some, IfSome, is_some, option_map, codes, string_bytes}
 use Rattle.std.specs.Option.{option_copied}
 use Rattle.std.specs.Borrow.{Bor}
 use Rattle.iso_arguments.specs.Requests.{IsPlainRun, NamesNothing}
 use Rattle.iso_arguments.specs.declared.request.InputFiles.{InputFiles}
 use Rattle.iso_arguments.specs.declared.request.Request.{Request}
 use Rattle.iso_arguments.specs.declared.request.Request.TheVariants.{Run, Plan, Replay, Show}
+use Rattle.iso_arguments.specs.declared.request.Summarized.{Summarized}
+use Rattle.iso_arguments.specs.declared.request.Summarized.TheVariants.{Failed, All}
 use Rattle.iso_arguments.specs.declared.shard.Shard as A
 use Rattle.iso_model.specs.declared.limits.TheConstants.{FILE_BYTES}
 use Rattle.iso_run.specs.Ends.{End, Whole, Refuses, Leaves, exit_status, run_end}
 use Rattle.iso_run.specs.Replays.{Cause}
-use Rattle.iso_run.specs.Runs.{IsWritten, Product, suite_plan, suite_report, suite_tests}
-use Rattle.iso_run.specs.Suites.{Suite, texts}
+use Rattle.iso_places.specs.declared.site.Site.{Site}
+use Rattle.iso_plan.specs.Selections.{texts_of}
+use Rattle.iso_run.specs.Runs.{AreSitesOf, IsWritten, Product, suite_places, suite_plan, suite_report, suite_tests}
+use Rattle.iso_run.specs.Suites.{OfSuite, Suite, texts}
 use Rattle.iso_run.specs.declared.fault.RunFault.{RunFault}
 use Rattle.iso_run.specs.declared.files.InputBytes.{InputBytes}
 use Rattle.iso_run.specs.declared.inputs.Inputs.{Inputs}
 use Rattle.iso_run.specs.declared.way.Way.{Way}
 use Rattle.iso_run.specs.declared.way.Way.TheVariants.{Serial, ByWorkers, BySchedule}
 use Rattle.iso_selection.specs.declared.shard.Shard.{Shard}
+use Rattle.iso_summary.specs.declared.again.Again.{Again}
 use Rattle.iso_tap.specs.Sinks.{Account, HasFailed, Wrote}
 
 -- Bytes that were read for these files: none for settings or a world that isn't named; for each script that is named one text, and where
@@ -53,14 +58,23 @@ IsWrittenFor product files input way old new ok = (inputs : Inputs) × AreFor fi
 abbrev pub way_of : (serial : Bool) → Way
 way_of serial = cond serial Serial ByWorkers
 
--- what is printed of a plan: all of it, or its tests alone
-abbrev pub plan_of : (tests : Bool) → Suite → Product
-plan_of tests = cond tests suite_tests suite_plan
+-- what is printed of a plan: all of it, or its tests alone; without the sites of its nodes, or with them
+abbrev pub plan_of : (tests places : Bool) → (names : List (List ℕ)) → List Site → Suite → Product
+plan_of tests places names sites = cond places (suite_places tests names sites) (cond tests suite_tests suite_plan)
+
+-- where sites are asked for, they are those of the suite that inputs are
+abbrev pub ArePlaces : (places : Bool) → Inputs → List Site → Type 0
+ArePlaces places inputs sites = places ≡ true → OfSuite inputs (λ suite. AreSitesOf inputs suite sites)
+
+-- a plan was printed, whole
+abbrev pub IsPrintedFor : (tests places : Bool) → InputFiles → Option (List ℕ) → (old new : Account) → (ok : Bool) → Type 0
+IsPrintedFor tests places files input old new ok = (sites : List Site) × ((inputs : Inputs) × AreFor files input inputs × ArePlaces places inputs sites
+    × IsWritten (plan_of tests places (texts_of files.scripts.items) sites) inputs Serial old new ok)
 
 -- what a request asks for was done: its text was written, or the plan or the report for its files, of a replay after some schedule
 abbrev pub Did : Request → Option (List ℕ) → (old new : Account) → (ok : Bool) → Type 0
 Did (Show text) input old new ok = (ok ≡ true) × Wrote old new (string_bytes text)
-Did (Plan tests files) input old new ok = IsWrittenFor (plan_of tests) files input Serial old new ok
+Did (Plan tests places files) input old new ok = IsPrintedFor tests places files input old new ok
 Did (Run serial extras files) input old new ok = IsWrittenFor suite_report files input (way_of serial) old new ok
 Did (Replay name extras files) input old new ok = (schedule : Bor (List ℕ)) × IsWrittenFor suite_report files input (BySchedule schedule) old new ok
 
@@ -73,7 +87,7 @@ pub record Answered {A : Type 0} (words : List A) (input : Option (List ℕ)) (o
 -- the file that a request has written besides, if it names one
 abbrev pub file_of : Request → Option (Bor (List ℕ))
 file_of (Show text) = None
-file_of (Plan tests files) = None
+file_of (Plan tests places files) = None
 file_of (Run serial extras files) = extras.failed
 file_of (Replay name extras files) = extras.failed
 
@@ -112,3 +126,17 @@ pub record IsRefused (input : Option (List ℕ)) : Type 0 where
   pub fault : RunFault
   pub refuses : run_end fault ≡ Refuses
   pub cause : Cause inputs (way_of serial) fault
+
+-- whether a summary tells of skipped tests, too
+abbrev pub tells_of_skipped : Summarized → Bool
+tells_of_skipped Failed = false
+tells_of_skipped All = true
+
+-- the words of a command with these files that another one needs for the same results
+abbrev pub again_of : InputFiles → Again
+again_of files =
+    record {
+      settings = files.settings;
+      world = files.world;
+      processors = cond files.processors_given (Some files.processors) None;
+    }

@@ -1,13 +1,13 @@
 -- How a run and a command end: with which exit status, and what that leaves of the output.
 use Rattle.std.specs.Borrow.{Bor}
-use Rattle.std.specs.Prelude.{◌≡◌, ◌≢◌, ◌⊎◌, ℕ, List, Bool, cond, Option, None, Some, Result, Ok, Err}
+use Rattle.std.specs.Prelude.{◌≡◌, ◌≢◌, ◌⊎◌, ⊤, ℕ, List, Bool, cond, Option, None, Some, IfSome, Result, Ok, Err}
 use Rattle.iso_arguments.specs.declared.request.WordsFault.{WordsFault}
 use Rattle.iso_arguments.specs.declared.request.WordsFault.TheVariants as W
 use Rattle.iso_run.specs.declared.command_fault.CommandFault.{CommandFault}
 use Rattle.iso_run.specs.declared.command_fault.CommandFault.TheVariants.{Words, Unreadable, TooLarge, NotListed, Unwritten, Unwritable, Run}
 use Rattle.iso_run.specs.declared.fault.RunFault.{RunFault}
 use Rattle.iso_run.specs.declared.fault.RunFault.TheVariants.{Start, Lost, Memory, Write}
-use Rattle.iso_tap.specs.Sinks.{Account, HasFailed}
+use Rattle.iso_tap.specs.Sinks.{Account, CutOff, HasFailed, Wrote}
 
 -- all was written, and whether it tells that all is ok; the output was, and a file that was to be written besides wasn't; refused or given
 -- up before anything was written; or the output broke off
@@ -54,6 +54,14 @@ abbrev pub end_of : {A F : Type 0} → (A → Bool) → (F → End) → Result A
 end_of ok_of by (Ok answer) = Whole (ok_of answer)
 end_of ok_of by (Err fault) = by fault
 
+-- something is true if the end comes after all that is read
+abbrev pub IfLate : End → Type 0 → Type 0
+IfLate (Whole ok) P = P
+IfLate LacksFile P = P
+IfLate Refuses P = ⊤
+IfLate GivesUp P = ⊤
+IfLate BreaksOff P = P
+
 -- What an end leaves of the output: what is stated of the whole, of one beside which a file is lacking, or of an output that broke off; else
 -- it was asked nothing.
 abbrev pub Leaves : (whole : Bool → Type 0) → (lacking broken : Type 0) → (old new : Account) → End → Type 0
@@ -93,3 +101,7 @@ IsFiled ok file (Err fault) = IsOfFile file fault
 abbrev pub IsEnded : (ok : Bool) → Option (Bor (List ℕ)) → (old new : Account) → Result Bool CommandFault → Type 0
 IsEnded ok file old new (Ok told) = (told ≡ ok) × (new ≡ old)
 IsEnded ok file old new (Err fault) = ((fault ≡ Unwritten) × HasFailed old.failures new.failures) ⊎ ((new ≡ old) × IsOfFile file fault)
+
+-- the text that another sink took was handed to a sink, which took it, whole or as far as it did before it failed
+abbrev pub IsSaidIn : (text old new : Account) → Type 0
+IsSaidIn text old new = IfSome text.bytes (λ bytes. Wrote old new bytes ⊎ CutOff old new bytes)

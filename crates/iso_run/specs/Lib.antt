@@ -3,4 +3,3 @@ pub mod Ends
 pub mod Replays
 pub mod Runs
 pub mod Suites
-pub mod Telling

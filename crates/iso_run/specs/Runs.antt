@@ -1,20 +1,31 @@
 -- What a run, a replay and a printed plan write, whole, or why not.
-use Rattle.std.specs.Prelude.{◌≡◌, ℕ, ◌<◌, List, Bool, true, length, take, Result, IfErr}
+use Rattle.std.specs.Borrow.{Bor}
+use Rattle.std.specs.Prelude.{◌≡◌, ℕ, ◌<◌, List, Bool, true, cond, is_some, length, map, take, Result, IfErr}
 use Rattle.iso_run.specs.Ends.{Leaves, end_of, run_end}
 use Rattle.iso_run.specs.Replays.{Cause, IsPlayed}
-use Rattle.iso_run.specs.Suites.{IsSuite, OfSuite, Suite, planned, suite_of}
-use Rattle.iso_run.specs.Telling.{HasTold}
+use Rattle.iso_run.specs.Suites.{IsSuite, OfSuite, Suite, planned, suite_of, texts}
 use Rattle.iso_run.specs.declared.fault.RunFault.{RunFault}
 use Rattle.iso_run.specs.declared.fault.RunFault.TheVariants.{Memory, Write}
 use Rattle.iso_run.specs.declared.inputs.Inputs.{Inputs}
 use Rattle.iso_run.specs.declared.inputs.Suite.{Suite as ReadSuite}
-use Rattle.iso_run.specs.declared.tells.Tells.{Tells}
 use Rattle.iso_run.specs.declared.way.Way.{Way}
 use Rattle.iso_lifecycle.specs.Subjects.{outcome_alone, started}
+use Rattle.iso_model.specs.ScriptView.{script_of}
+use Rattle.iso_model.specs.Scripts.{Script}
 use Rattle.iso_model.specs.declared.outcome.Outcome.{Outcome}
+use Rattle.iso_placed_plan.specs.PlacedPlan.{placed_plan_text, placed_tests_text}
+use Rattle.iso_places.specs.Located.{AreSites}
+use Rattle.iso_places.specs.Sites.{all_sites, places_in}
+use Rattle.iso_places.specs.declared.site.Site.{Site}
+use Rattle.iso_plan.specs.Tree.{Row, tree}
+use Rattle.iso_script.specs.declared.place.NodePlace.{NodePlace}
+use Rattle.iso_settings.specs.declared.settings.Settings.{Settings}
 use Rattle.iso_tap.specs.PlanText.{plan_text, tests_text}
 use Rattle.iso_tap.specs.Reports.{all_ok, report}
 use Rattle.iso_tap.specs.Sinks.{Account, HasFailed, Took, Wrote}
+use Rattle.iso_telling.specs.Telling.{HasTold}
+use Rattle.iso_telling.specs.Written.{ArePlaced, WrittenView}
+use Rattle.iso_telling.specs.declared.tells.Tells.{Tells}
 
 -- the outcome of each node of a suite, by its number: that of the node run alone on what the world starts with
 abbrev pub suite_outcome : Suite → ℕ → Outcome
@@ -61,11 +72,38 @@ pub record Writes {A : Type 0} (ok_of : A → Bool) (product : Suite → Product
   pub leaves : Leaves (IsWritten product inputs way old new) ⊥
       (OfSuite inputs (λ suite. IfErr result (IsCutOff (product suite).text old new))) old new (end_of ok_of run_end result)
 
--- The inputs are the suite that was read, with its plan.
-pub record IsRead (inputs : Inputs) (suite : ReadSuite) : Type 0 where
+-- The inputs are the suite that was read, with its plan, and with the places of its scripts' nodes, where these are kept.
+pub record IsRead (inputs : Inputs) (keeps : Bool) (suite : ReadSuite) : Type 0 where
   pub is_suite : IsSuite inputs (suite_of inputs suite)
   pub planned_as : suite.plan ≡ planned (suite_of inputs suite)
+  pub placed : keeps ≡ true → ArePlaced (texts inputs.scripts.now) (map script_of suite.scripts.items) (places_in suite.places.items)
 
--- of the suite that the inputs are all that is asked for was told besides
+-- a suite that was read, as it is written in these bytes
+abbrev pub as_written : ReadSuite → List (Bor (List ℕ)) → WrittenView
+as_written suite scripts = record { scripts = map script_of suite.scripts.items; places = places_in suite.places.items; texts = texts scripts }
+
+-- Of a suite all that is asked for was told besides. What is told with places is told with those that stand in the bytes of its scripts.
+pub record IsToldOf (inputs : Inputs) (suite : Suite) (old new : Tells) : Type 0 where
+  pub written : WrittenView
+  pub texts_are : written.texts ≡ texts inputs.scripts.now
+  pub placed : is_some old.summary ≡ true → ArePlaced written.texts written.scripts written.places
+  pub told : HasTold written suite.nodes (suite_outcome suite) old new
+
 abbrev pub TellsOf : Inputs → (old new : Tells) → Type 0
-TellsOf inputs old new = OfSuite inputs (λ suite. HasTold suite.nodes (suite_outcome suite) old new)
+TellsOf inputs old new = OfSuite inputs (λ suite. IsToldOf inputs suite old new)
+
+-- Sites are those of the nodes of the suite that inputs are, by what stands in the bytes of its scripts.
+pub record AreSitesOf (inputs : Inputs) (suite : Suite) (sites : List Site) : Type 0 where
+  pub scripts : List Script
+  pub places : List (List NodePlace)
+  pub placed : ArePlaced (texts inputs.scripts.now) scripts places
+  pub are : AreSites (tree scripts) (all_sites places) suite.nodes sites
+
+-- the printed plan with the sites of its nodes, or the lines of tests in it alone
+abbrev pub places_text : (tests : Bool) → (names : List (List ℕ)) → List Site → List Row → Settings → (workers : ℕ) → List ℕ
+places_text tests names sites nodes settings workers =
+    cond tests (placed_tests_text nodes settings sites names) (placed_plan_text nodes settings workers sites names)
+
+abbrev pub suite_places : (tests : Bool) → (names : List (List ℕ)) → List Site → Suite → Product
+suite_places tests names sites suite =
+    record { text = places_text tests names sites suite.nodes suite.settings suite.settings.worker_count; ok = true }

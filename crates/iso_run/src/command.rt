@@ -1,25 +1,27 @@
 //! The program, over a reader and two sinks.
-ghost use Rattle.std.specs.Prelude.{◌≡◌, ◌≤◌, ℕ, List, Option, [], IfErr, IfSome, IsErrAnd, MatchResult, true, option_map};
+ghost use Rattle.std.specs.Prelude.{◌≡◌, ◌≤◌, ℕ, List, None, Option, [], IfErr, IfSome, IsErrAnd, MatchResult, OnOk, true, option_map};
 ghost use Rattle.std.specs.Option.{option_copied};
 ghost use Rattle.iso_arguments.specs.Requests.{AreInBounds, AsksInBounds, IsPlainRun, IsShard};
-ghost use Rattle.iso_run.specs.Commands.{Answered, AnsweredBesides, AreFor, Did, DidBesides, Ended, IsRefused, RanOn, WereRead, plan_of, shard_asked, way_of};
-ghost use Rattle.iso_run.specs.Ends.{Answers, IsEnded, IsFiled, IsFlushed, Refuses, command_end, exit_status, run_end, words_fault};
+ghost use Rattle.iso_places.specs.declared.site.Site.{Site};
+ghost use Rattle.iso_plan.specs.Selections.{texts_of};
+ghost use Rattle.iso_run.specs.Commands.{Answered, AnsweredBesides, ArePlaces, AreFor, Did, DidBesides, Ended, IsRefused, RanOn, WereRead, plan_of, shard_asked, way_of};
+ghost use Rattle.iso_run.specs.Ends.{Answers, IfLate, IsEnded, IsFiled, IsFlushed, IsSaidIn, Refuses, command_end, end_of, exit_status, run_end, words_fault};
 ghost use Rattle.iso_run.specs.Runs.{Writes, suite_report};
 ghost use Rattle.iso_run.specs.declared.inputs.Inputs.{Inputs};
 ghost use Rattle.iso_run.specs.declared.way.Way.TheVariants.{Serial};
 ghost use Rattle.iso_tap.specs.Sinks.{Wrote};
 
+use crate::besides::Besides;
 use crate::command_fault::CommandFault;
 use crate::exit::{ALL_OK, NOT_ALL_OK};
 use crate::fault::RunFault;
 use crate::files::{InputBytes, lent, read_files, write_file};
 use crate::inputs::Inputs;
 use crate::lines::say;
-use crate::plan::{show_plan, show_tests};
+use crate::plan::{show_places, show_plan, show_tests};
 use crate::replay::run_schedule;
 use crate::report::Summary;
 use crate::run::run_serial;
-use crate::tells::Tells;
 use crate::way::Way;
 use crate::workers::run_workers;
 use iso_arguments::request::{InputFiles, Request, WordsFault, read_words};
@@ -27,8 +29,10 @@ use iso_arguments::shard::Shard as AskedShard;
 use iso_lifecycle::gate::OpenGate;
 use iso_plan::fault::PlanFault;
 use iso_selection::shard::Shard;
+use iso_tap::printer::Printer;
 use iso_tap::sink::Sink;
 use iso_tap::text::write_text;
+use iso_telling::tells::Tells;
 use std::alloc::{AllocGlobal, Global};
 use std::fs::Files;
 use std::io::Read;
@@ -36,7 +40,7 @@ use std::sync::Wait;
 use std::thread::Threads;
 
 /// Runs the program: reads the words, then the files that they name in the order settings, world, scripts, schedule, writes
-/// a report, a plan or a help page to `output`, and a fault's line to `errors`. Where no script is named, one is read
+/// a report, a plan or a help page to `output`, and a summary, where one is asked for, or a fault's line to `errors`. Where no script is named, one is read
 /// from `input`. Answers the exit status: 0 where every top-level point is ok, or a plan or help was printed, 1 where
 /// some top-level point is not ok, 2 for refused input, 3 for want of memory, failed reads and writes, and workers that couldn't be
 /// started or lost a receipt. A failed write to `errors` changes nothing. It may wait for the workers of a run.
@@ -56,7 +60,7 @@ pub fn command<G: AllocGlobal + Files + Threads + Wait + Sync, R: Read, W: Sink,
     // and standard error is asked nothing where it was run.
     ensures quiet { words.now ≡ [] → result ≤ 1 → errors.new ≡ errors.old }
 {
-    match answer(rt, words, input, output) {
+    match answer(rt, words, input, output, errors) {
         Ok(true) => ALL_OK,
         Ok(false) => NOT_ALL_OK,
         Err(fault) => {
@@ -76,27 +80,30 @@ pub fn refuse_words<E: Sink>(fault: WordsFault, errors: &mut E) -> u8
 }
 
 /// Does what the words ask for, and answers whether all is ok.
-fn answer<'a, G: AllocGlobal + Files + Threads + Wait + Sync, R: Read, W: Sink>(
+fn answer<'a, G: AllocGlobal + Files + Threads + Wait + Sync, R: Read, W: Sink, E: Sink>(
     rt: &G,
     words: &'a [String],
     input: &mut R,
     output: &mut W,
+    errors: &mut E,
 ) -> Result<bool, CommandFault<'a>>
     ensures answers { Answers (Answered words.now (R.remaining input.old) (W.account output.old) (W.account output.new))
         (AnsweredBesides words.now (R.remaining input.old) (W.account output.old) (W.account output.new))
         (W.account output.old) (W.account output.new) result }
     ensures refused { words.now ≡ [] → IfErr result (λ fault. command_end fault ≡ Refuses → IsRefused (R.remaining input.old)) }
+    ensures quiet { words.now ≡ [] → errors.new ≡ errors.old }
 {
     let request = read_words(rt.alloc(), words)?;
-    answer_request(rt, &request, input, output)
+    answer_request(rt, &request, input, output, errors)
 }
 
 /// Does what is asked for, and answers whether all is ok.
-fn answer_request<'a, G: AllocGlobal + Files + Threads + Wait + Sync, R: Read, W: Sink>(
+fn answer_request<'a, G: AllocGlobal + Files + Threads + Wait + Sync, R: Read, W: Sink, E: Sink>(
     rt: &G,
     request: &Request<'a>,
     input: &mut R,
     output: &mut W,
+    errors: &mut E,
 ) -> Result<bool, CommandFault<'a>>
     requires { AsksInBounds request.now }
     ensures answers { Answers (Did request.now (R.remaining input.old) (W.account output.old) (W.account output.new))
@@ -104,14 +111,18 @@ fn answer_request<'a, G: AllocGlobal + Files + Threads + Wait + Sync, R: Read, W
         (W.account output.old) (W.account output.new) result }
     ensures refused { IsPlainRun request.now
         → IfErr result (λ fault. command_end fault ≡ Refuses → IsRefused (R.remaining input.old)) }
+    ensures quiet { IsPlainRun request.now → errors.new ≡ errors.old }
 {
     match request {
         Request::Show(text) => show(text.as_str(), output),
-        Request::Plan { tests, files } => {
+        Request::Plan {
+            tests,
+            places,
+            files,
+        } => {
             let bytes = read_files(rt, files, None, input)?;
-            let shown = plan(rt.alloc(), &bytes, *tests, &*files, output);
-            let tells = Tells::nothing();
-            told(rt, shown, bytes, files, None, &tells, output)
+            let shown = plan(rt.alloc(), &bytes, *tests, *places, &*files, output);
+            told(rt, shown, bytes, files, &Besides::nothing(), output, errors)
         }
         Request::Run {
             serial,
@@ -119,9 +130,16 @@ fn answer_request<'a, G: AllocGlobal + Files + Threads + Wait + Sync, R: Read, W
             files,
         } => {
             let bytes = read_files(rt, files, None, input)?;
-            let mut tells = Tells::new(rt.alloc(), extras.failed.is_some());
-            let ran = run(rt, &bytes, asked_way(*serial), &*files, &mut tells, output);
-            told(rt, ran, bytes, files, extras.failed, &tells, output)
+            let mut besides = Besides::new(rt.alloc(), *extras, &*files);
+            let ran = run(
+                rt,
+                &bytes,
+                asked_way(*serial),
+                &*files,
+                &mut besides.tells,
+                output,
+            );
+            told(rt, ran, bytes, files, &besides, output, errors)
         }
         Request::Replay {
             schedule,
@@ -129,16 +147,10 @@ fn answer_request<'a, G: AllocGlobal + Files + Threads + Wait + Sync, R: Read, W
             files,
         } => {
             let bytes = read_files(rt, files, Some(*schedule), input)?;
-            let mut tells = Tells::new(rt.alloc(), extras.failed.is_some());
-            let ran = run(
-                rt,
-                &bytes,
-                Way::BySchedule(&bytes.schedule),
-                &*files,
-                &mut tells,
-                output,
-            );
-            told(rt, ran, bytes, files, extras.failed, &tells, output)
+            let mut besides = Besides::new(rt.alloc(), *extras, &*files);
+            let way = Way::BySchedule(&bytes.schedule);
+            let ran = run(rt, &bytes, way, &*files, &mut besides.tells, output);
+            told(rt, ran, bytes, files, &besides, output, errors)
         }
     }
 }
@@ -167,12 +179,13 @@ fn run<'b, G: AllocGlobal + Threads + Wait + Sync, W: Sink>(
     bytes: &'b InputBytes,
     way: Way<'_>,
     files: &'b InputFiles<'b>,
-    tells: &mut Tells,
+    tells: &mut Tells<'_>,
     output: &mut W,
 ) -> Result<Summary, RunFault>
     requires { AreInBounds files.now }
-    ensures { (input : Option (List ℕ)) → WereRead files.now input bytes.now → (inputs : Inputs) × AreFor files.now input inputs
+    ensures report { (input : Option (List ℕ)) → WereRead files.now input bytes.now → (inputs : Inputs) × AreFor files.now input inputs
         × Writes (λ s. s.all_ok) suite_report inputs way.entry (W.account output.old) (W.account output.new) result }
+    ensures quiet { tells.old.summary ≡ None → OnOk result (tells.new.summary ≡ None) }
 {
     let shard = shard_of(files.shard);
     let scripts = lent(rt.alloc(), &bytes.scripts)?;
@@ -189,33 +202,40 @@ fn plan<'b, W: Sink>(
     alloc: Global,
     bytes: &'b InputBytes,
     tests: bool,
+    places: bool,
     files: &'b InputFiles<'b>,
     output: &mut W,
 ) -> Result<Summary, RunFault>
     requires { AreInBounds files.now }
     ensures { (input : Option (List ℕ)) → WereRead files.now input bytes.now → (inputs : Inputs) × AreFor files.now input inputs
-        × Writes (λ s. s.all_ok) (plan_of tests) inputs Serial (W.account output.old) (W.account output.new) result }
+        × ((sites : List Site) × IfLate (end_of (λ s. s.all_ok) run_end result) (ArePlaces places inputs sites)
+        × Writes (λ s. s.all_ok) (plan_of tests places (texts_of files.now.scripts.items) sites) inputs Serial (W.account output.old) (W.account output.new) result) }
 {
     let shard = shard_of(files.shard);
     let scripts = lent(alloc, &bytes.scripts)?;
     let inputs = inputs_of(bytes, &scripts, files, shard);
-    match print_plan(alloc, inputs, tests, output) {
+    match print_plan(alloc, inputs, tests, places, &files.scripts, output) {
         Ok(()) => Ok(Summary { all_ok: true }),
         Err(fault) => Err(fault),
     }
 }
 
-/// Prints the plan of inputs, or its tests alone.
+/// Prints the plan of inputs, or its tests alone, without the places of their names or with them. The names are those of the scripts.
 fn print_plan<W: Sink>(
     alloc: Global,
     inputs: Inputs<'_>,
     tests: bool,
+    places: bool,
+    names: &[&str],
     output: &mut W,
 ) -> Result<(), RunFault>
     requires { 1 ≤ inputs.processors }
-    ensures { Writes (λ _. true) (plan_of tests) inputs.entry Serial (W.account output.old) (W.account output.new) result }
+    ensures { (sites : List Site) × IfLate (end_of (λ _. true) run_end result) (ArePlaces places inputs.entry sites)
+        × Writes (λ _. true) (plan_of tests places (texts_of names.now) sites) inputs.entry Serial (W.account output.old) (W.account output.new) result }
 {
-    if tests {
+    if places {
+        show_places(alloc, inputs, tests, names, output)
+    } else if tests {
         show_tests(alloc, inputs, output)
     } else {
         show_plan(alloc, inputs, output)
@@ -261,26 +281,53 @@ fn shard_of(asked: Option<AskedShard>) -> Option<Shard>
     }
 }
 
-/// Answers a run whose report was written, once the output is flushed and the file besides is written, if one is named; or why it has none.
-fn told<'a, G: AllocGlobal + Files, W: Sink>(
+/// Answers a run whose report was written, once the output is flushed, the summary is told and the file besides is written, where they are
+/// asked for; or why it has none.
+fn told<'a, G: AllocGlobal + Files, W: Sink, E: Sink>(
     rt: &G,
     ran: Result<Summary, RunFault>,
     bytes: InputBytes,
     files: &InputFiles<'a>,
-    file: Option<&'a str>,
-    tells: &Tells,
+    besides: &Besides<'_, 'a>,
     output: &mut W,
+    errors: &mut E,
 ) -> Result<bool, CommandFault<'a>>
-    ensures { MatchResult ran
-        (λ s. IsEnded s.all_ok file.entry (W.account output.old) (W.account output.new) result)
+    ensures answer { MatchResult ran
+        (λ s. IsEnded s.all_ok besides.now.file (W.account output.old) (W.account output.new) result)
         (λ fault. (W.account output.new ≡ W.account output.old) × IsErrAnd result (λ told. command_end told ≡ run_end fault)) }
+    ensures said { OnOk result (IfSome besides.now.tells.summary (λ s. IsSaidIn s.text (E.account errors.old) (E.account errors.new))) }
+    ensures quiet { OnOk ran (besides.now.tells.summary ≡ None) → errors.new ≡ errors.old }
 {
     match ran {
         Ok(summary) => {
             let ok = flushed(summary.all_ok, output)?;
-            filed(rt, ok, file, tells)
+            say_summary(&besides.tells, errors);
+            let ended = filed(rt, ok, besides);
+            if ended.is_err() {
+                say_gap(&besides.tells, errors);
+            }
+            ended
         }
         Err(fault) => Err(named(fault, bytes, files)),
+    }
+}
+
+/// Writes the summary, where one is asked for, as far as the sink takes it.
+fn say_summary<E: Sink>(tells: &Tells<'_>, errors: &mut E)
+    ensures said { IfSome tells.now.summary (λ s. IsSaidIn s.text (E.account errors.old) (E.account errors.new)) }
+    ensures quiet { tells.now.summary ≡ None → errors.new ≡ errors.old }
+{
+    if let Some(summary) = &tells.summary {
+        let _ = Printer::new(errors).bytes(summary.text.bytes());
+    }
+}
+
+/// Writes an empty line between a summary, where one was written, and what comes after it.
+fn say_gap<E: Sink>(tells: &Tells<'_>, errors: &mut E)
+    ensures { tells.now.summary ≡ None → errors.new ≡ errors.old }
+{
+    if tells.summary.is_some() {
+        let _ = Printer::new(errors).bytes(b"\n");
     }
 }
 
@@ -288,15 +335,14 @@ fn told<'a, G: AllocGlobal + Files, W: Sink>(
 fn filed<'a, G: AllocGlobal + Files>(
     rt: &G,
     ok: bool,
-    file: Option<&'a str>,
-    tells: &Tells,
+    besides: &Besides<'_, 'a>,
 ) -> Result<bool, CommandFault<'a>>
-    ensures { IsFiled ok file.entry result }
+    ensures { IsFiled ok besides.now.file result }
 {
-    let Some(name) = file else {
+    let Some(name) = besides.file else {
         return Ok(ok);
     };
-    let text = match &tells.failed {
+    let text = match &besides.tells.failed {
         Some(sink) => sink.bytes(),
         None => &[],
     };

@@ -1,7 +1,12 @@
 //! What a run is given, read as a suite.
-ghost use Rattle.std.specs.Prelude.{◌≡◌, ◌≤◌, MatchResult, map};
+ghost use Rattle.std.specs.Prelude.{◌≡◌, ◌≤◌, ◌++◌, ◌∷◌, [], IfErr, IfOk, List, MatchResult, map, true};
 ghost use Rattle.iso_model.specs.ScriptView.{script_of};
+ghost use Rattle.iso_script.specs.Faults.{HasScriptFault, UnlessMemory};
+ghost use Rattle.iso_script.specs.Grammar.{Reads, ReadsPlaced};
+ghost use Rattle.iso_script.specs.declared.place.NodePlace as P;
 ghost use Rattle.iso_run.specs.Runs.{IsRead};
+ghost use Rattle.iso_places.specs.Sites.{places_in};
+ghost use Rattle.iso_telling.specs.Written.{ArePlaced};
 ghost use Rattle.iso_run.specs.Suites.{AreRead, AreSet, NoSuite, settings_from, texts, world_from};
 ghost use Rattle.iso_settings.specs.Readings.{Gives};
 
@@ -11,7 +16,8 @@ use iso_model::script::Script;
 use iso_plan::fault::PlanError;
 use iso_plan::plan::Plan;
 use iso_script::fault::ScriptError;
-use iso_script::reader::read_script;
+use iso_script::place::NodePlace;
+use iso_script::reader::{PlacedScript, read_placed, read_script};
 use iso_selection::shard::Shard;
 use iso_settings::fault::{SettingsError, SettingsFault};
 use iso_settings::settings::{Settings, read_settings};
@@ -42,17 +48,19 @@ pub struct Inputs<'a> {
 #[derive(Drop)]
 pub struct Suite {
     pub scripts: Vec<Script>,
+    /// Where the classes and tests of each script stand, in written order, where their places are kept.
+    pub places: Vec<Vec<NodePlace>>,
     pub settings: Settings,
     pub world: World,
     pub plan: Plan,
 }
 
 /// Reads inputs as a suite: the settings, the world and the scripts in turn, and plans what is kept of the scripts. The first
-/// fault in this order is answered. Settings or a world that isn't UTF-8 is `NotToml`. Want of memory may be answered at each
-/// growth.
-pub fn read_inputs(alloc: Global, inputs: Inputs<'_>) -> Result<Suite, RunFault>
+/// fault in this order is answered. Settings or a world that isn't UTF-8 is `NotToml`. Where places are asked for, those of the
+/// classes and tests of each script are kept. Want of memory may be answered at each growth.
+pub fn read_inputs(alloc: Global, inputs: Inputs<'_>, places: bool) -> Result<Suite, RunFault>
     requires { 1 ≤ inputs.processors }
-    ensures { MatchResult result (IsRead inputs.entry) (NoSuite inputs.entry) }
+    ensures { MatchResult result (IsRead inputs.entry places) (NoSuite inputs.entry) }
 {
     let settings = match settings_from(alloc, inputs.settings, inputs.processors) {
         Ok(settings) => settings,
@@ -68,10 +76,11 @@ pub fn read_inputs(alloc: Global, inputs: Inputs<'_>) -> Result<Suite, RunFault>
         }
         Err(SettingsError::OutOfMemory) => return Err(RunFault::Memory),
     };
-    let scripts = read_scripts(alloc, inputs)?;
-    match plan_kept(alloc, &scripts, &settings, inputs) {
+    let read = read_scripts(alloc, inputs, places)?;
+    match plan_kept(alloc, &read.scripts, &settings, inputs) {
         Ok(plan) => Ok(Suite {
-            scripts,
+            scripts: read.scripts,
+            places: read.places,
             settings,
             world,
             plan,
@@ -102,15 +111,28 @@ fn world_from(alloc: Global, bytes: &[u8]) -> Result<World, SettingsError>
     }
 }
 
-/// Reads the scripts of inputs in turn, up to the first that is none. Settings and world are read before.
-fn read_scripts(alloc: Global, inputs: Inputs<'_>) -> Result<Vec<Script>, RunFault>
+/// Scripts that were read, and the places of what stands in each, where they are kept.
+#[derive(Drop)]
+struct ReadScripts {
+    scripts: Vec<Script>,
+    places: Vec<Vec<NodePlace>>,
+}
+
+/// Reads the scripts of inputs in turn, up to the first that is none, and keeps places, if it is to. Settings and world are read
+/// before.
+fn read_scripts(alloc: Global, inputs: Inputs<'_>, keeps: bool) -> Result<ReadScripts, RunFault>
     requires { AreSet inputs }
-    ensures { MatchResult result (λ v. AreRead (texts inputs.entry.scripts.now) (map script_of v.items)) (NoSuite inputs.entry) }
+    ensures scripts { MatchResult result (λ r. AreRead (texts inputs.entry.scripts.now) (map script_of r.scripts.items)) (NoSuite inputs.entry) }
+    ensures places { IfOk result (λ r. keeps ≡ true
+        → ArePlaced (texts inputs.entry.scripts.now) (map script_of r.scripts.items) (places_in r.places.items)) }
 {
-    let mut read = Vec::new(alloc);
+    let mut read = ReadScripts {
+        scripts: Vec::new(alloc),
+        places: Vec::new(alloc),
+    };
     for (index, bytes) in inputs.scripts.iter().enumerate() {
-        match read_script(alloc, bytes) {
-            Ok(script) => read.push(script)?,
+        match read_one(alloc, bytes, keeps, &mut read.places) {
+            Ok(script) => read.scripts.push(script)?,
             Err(ScriptError::Fault(fault)) => {
                 return Err(RunFault::Script(index, fault));
             }
@@ -118,4 +140,27 @@ fn read_scripts(alloc: Global, inputs: Inputs<'_>) -> Result<Vec<Script>, RunFau
         }
     }
     Ok(read)
+}
+
+/// Reads a script, and adds the places of what stands in it, where they are kept.
+fn read_one(
+    alloc: Global,
+    bytes: &[u8],
+    keeps: bool,
+    places: &mut Vec<Vec<NodePlace>>,
+) -> Result<Script, ScriptError>
+    ensures found { IfOk result (λ s. Reads bytes.now (script_of s)) }
+    ensures fault { IfErr result (UnlessMemory (HasScriptFault bytes.now)) }
+    ensures places { keeps ≡ true → IfOk result (λ s. (more : List P.NodePlace) × ReadsPlaced bytes.now (script_of s) more
+        × (places_in places.new.items ≡ places_in places.old.items ++ more ∷ [])) }
+{
+    if !keeps {
+        return read_script(alloc, bytes);
+    }
+    let PlacedScript {
+        script,
+        places: more,
+    } = read_placed(alloc, bytes)?;
+    places.push(more)?;
+    Ok(script)
 }

@@ -1,6 +1,7 @@
 //! Runs of suites, from what they are given to their reports, and the program over them.
 #![tactic(auto)]
 
+mod besides;
 pub mod command;
 mod command_fault;
 mod exit;
@@ -13,6 +14,5 @@ pub mod plan;
 pub mod replay;
 pub mod report;
 pub mod run;
-pub mod tells;
 mod way;
 pub mod workers;

@@ -1,7 +1,6 @@
 //! Replays of recorded schedules, from their inputs to the report.
 ghost use Rattle.std.specs.Borrow.{Bor};
-ghost use Rattle.std.specs.Prelude.{◌≤◌, List, Ok, OnOk, ℕ};
-ghost use Rattle.iso_run.specs.declared.inputs.Inputs.{Inputs};
+ghost use Rattle.std.specs.Prelude.{◌≤◌, List, Ok, OnOk, is_some, ℕ};
 ghost use Rattle.iso_run.specs.declared.way.Way.TheVariants.{BySchedule};
 ghost use Rattle.iso_run.specs.Runs.{IsRead, TellsOf, Writes, suite_report};
 ghost use Rattle.iso_schedule.specs.Schedules.{AreRead};
@@ -9,11 +8,11 @@ ghost use Rattle.iso_schedule.specs.Schedules.{AreRead};
 use crate::fault::RunFault;
 use crate::inputs::{Inputs, Suite, read_inputs};
 use crate::report::{Summary, write_results};
-use crate::tells::Tells;
 use iso_core::run_events::run_events;
 use iso_schedule::reader::read_schedule;
 use iso_standing::event::Event;
 use iso_tap::sink::Sink;
+use iso_telling::tells::Tells;
 use std::alloc::Global;
 
 /// Replays a recorded schedule on one thread, event by event, with as many workers as the settings give, tells what is
@@ -26,7 +25,7 @@ pub fn run_schedule<W: Sink>(
     alloc: Global,
     inputs: Inputs<'_>,
     schedule: &[u8],
-    tells: &mut Tells,
+    tells: &mut Tells<'_>,
     sink: &mut W,
 ) -> Result<Summary, RunFault>
     requires { 1 ≤ inputs.processors }
@@ -34,43 +33,47 @@ pub fn run_schedule<W: Sink>(
         (W.account sink.old) (W.account sink.new) result }
     ensures told { OnOk result (TellsOf inputs.entry tells.old tells.new) }
 {
-    let suite = read_inputs(alloc, inputs)?;
-    replay_on(alloc, &suite, schedule, tells, sink)
+    let suite = read_inputs(alloc, inputs, tells.wants_places())?;
+    replay_on(alloc, inputs, &suite, schedule, tells, sink)
 }
 
-/// Replays a schedule of a suite.
+/// Replays a schedule of the suite that these inputs are.
 fn replay_on<W: Sink>(
     alloc: Global,
+    inputs: Inputs<'_>,
     suite: &Suite,
     schedule: &[u8],
-    tells: &mut Tells,
+    tells: &mut Tells<'_>,
     sink: &mut W,
 ) -> Result<Summary, RunFault>
-    ensures report { (inputs : Inputs) → IsRead inputs suite.now
-        → Writes (λ s. s.all_ok) suite_report inputs (BySchedule schedule.entry) (W.account sink.old) (W.account sink.new) result }
-    ensures told { (inputs : Inputs) → IsRead inputs suite.now → OnOk result (TellsOf inputs tells.old tells.new) }
+    requires { IsRead inputs (is_some tells.old.summary) suite.now }
+    ensures report { Writes (λ s. s.all_ok) suite_report inputs.entry (BySchedule schedule.entry)
+        (W.account sink.old) (W.account sink.new) result }
+    ensures told { OnOk result (TellsOf inputs.entry tells.old tells.new) }
 {
     let events = read_schedule(alloc, schedule)?;
-    replay_events(alloc, suite, &events, tells, sink)
+    replay_events(alloc, inputs, suite, &events, tells, sink)
 }
 
 /// Replays the events of a schedule.
 fn replay_events<W: Sink>(
     alloc: Global,
+    inputs: Inputs<'_>,
     suite: &Suite,
     events: &[Event],
-    tells: &mut Tells,
+    tells: &mut Tells<'_>,
     sink: &mut W,
 ) -> Result<Summary, RunFault>
-    ensures report { (inputs : Inputs) (schedule : Bor (List ℕ)) → IsRead inputs suite.now → AreRead schedule.now (Ok events.now)
-        → Writes (λ s. s.all_ok) suite_report inputs (BySchedule schedule) (W.account sink.old) (W.account sink.new) result }
-    ensures told { (inputs : Inputs) → IsRead inputs suite.now → OnOk result (TellsOf inputs tells.old tells.new) }
+    requires { IsRead inputs (is_some tells.old.summary) suite.now }
+    ensures report { (schedule : Bor (List ℕ)) → AreRead schedule.now (Ok events.now)
+        → Writes (λ s. s.all_ok) suite_report inputs.entry (BySchedule schedule) (W.account sink.old) (W.account sink.new) result }
+    ensures told { OnOk result (TellsOf inputs.entry tells.old tells.new) }
 {
     let workers = suite.settings.workers();
     let core = run_events(alloc, &suite.plan, &suite.world, workers, events)?;
     if !core.is_complete() {
         Err(RunFault::Unfinished)
     } else {
-        write_results(&suite.plan, core.results(), tells, sink)
+        write_results(suite, inputs.scripts, core.results(), tells, sink)
     }
 }

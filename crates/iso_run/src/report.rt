@@ -2,18 +2,19 @@
 ghost use Rattle.std.specs.Prelude.{◌≡◌, MatchResult, OnOk};
 ghost use Rattle.iso_lifecycle.specs.ResultViews.{AreComplete, outcome_in};
 ghost use Rattle.iso_plan.specs.RowView.{tree_of};
-ghost use Rattle.iso_run.specs.Runs.{IsUnwritten};
-ghost use Rattle.iso_run.specs.Telling.{HasTold};
+ghost use Rattle.iso_run.specs.Runs.{IsUnwritten, as_written};
 ghost use Rattle.iso_tap.specs.Reports.{all_ok, report};
 ghost use Rattle.iso_tap.specs.Sinks.{Wrote};
+ghost use Rattle.iso_telling.specs.Telling.{HasTold};
 
 use crate::fault::RunFault;
-use crate::tells::Tells;
+use crate::inputs::Suite;
 use iso_lifecycle::results::Results;
-use iso_plan::plan::Plan;
 use iso_tap::ok::all_ok;
 use iso_tap::report::write_report;
 use iso_tap::sink::Sink;
+use iso_telling::tells::Tells;
+use iso_telling::written::Written;
 
 /// What a run answers beside its report.
 #[derive(Clone, Copy, PartialEq, Eq)]
@@ -22,25 +23,31 @@ pub struct Summary {
     pub all_ok: bool,
 }
 
-/// Tells what is asked for besides, and writes the report of the results of all nodes of a plan.
+/// Tells what is asked for besides, and writes the report of the results of all nodes of a suite, whose scripts have these bytes.
 pub(crate) fn write_results<W: Sink>(
-    plan: &Plan,
+    suite: &Suite,
+    texts: &[&[u8]],
     results: &Results<'_>,
-    tells: &mut Tells,
+    tells: &mut Tells<'_>,
     sink: &mut W,
 ) -> Result<Summary, RunFault>
-    requires plan { results.now.plan ≡ plan.now }
+    requires plan { results.now.plan ≡ suite.now.plan }
     requires complete { AreComplete results.now }
     ensures report { MatchResult result
-        (λ s. Wrote (W.account sink.old) (W.account sink.new) (report (tree_of plan.now) (outcome_in results.now))
-        × (s.all_ok ≡ all_ok (tree_of plan.now) (outcome_in results.now)))
-        (IsUnwritten (report (tree_of plan.now) (outcome_in results.now)) (W.account sink.old) (W.account sink.new)) }
-    ensures told { OnOk result (HasTold (tree_of plan.now) (outcome_in results.now) tells.old tells.new) }
+        (λ s. Wrote (W.account sink.old) (W.account sink.new) (report (tree_of suite.now.plan) (outcome_in results.now))
+        × (s.all_ok ≡ all_ok (tree_of suite.now.plan) (outcome_in results.now)))
+        (IsUnwritten (report (tree_of suite.now.plan) (outcome_in results.now)) (W.account sink.old) (W.account sink.new)) }
+    ensures told { OnOk result (HasTold (as_written suite.now texts.now) (tree_of suite.now.plan) (outcome_in results.now) tells.old tells.new) }
 {
-    tells.tell(plan, results)?;
-    match write_report(plan, results, sink) {
+    let written = Written {
+        scripts: &suite.scripts,
+        places: &suite.places,
+        texts,
+    };
+    tells.tell(&written, &suite.plan, results)?;
+    match write_report(&suite.plan, results, sink) {
         Ok(()) => Ok(Summary {
-            all_ok: all_ok(plan, results),
+            all_ok: all_ok(&suite.plan, results),
         }),
         Err(fault) => Err(RunFault::Write(fault.written)),
     }

@@ -6,8 +6,8 @@ ghost use Rattle.iso_run.specs.declared.way.Way.TheVariants.{Serial};
 use crate::fault::RunFault;
 use crate::inputs::{Inputs, read_inputs};
 use crate::report::{Summary, write_results};
-use crate::tells::Tells;
 use iso_tap::sink::Sink;
+use iso_telling::tells::Tells;
 use std::alloc::Global;
 
 /// Runs a suite on one thread, depth first, tells what is asked for besides, and writes its report to the sink.
@@ -18,16 +18,16 @@ use std::alloc::Global;
 pub fn run_serial<W: Sink>(
     alloc: Global,
     inputs: Inputs<'_>,
-    tells: &mut Tells,
+    tells: &mut Tells<'_>,
     sink: &mut W,
 ) -> Result<Summary, RunFault>
     requires { 1 ≤ inputs.processors }
     ensures report { Writes (λ s. s.all_ok) suite_report inputs.entry Serial (W.account sink.old) (W.account sink.new) result }
     ensures told { OnOk result (TellsOf inputs.entry tells.old tells.new) }
 {
-    let suite = read_inputs(alloc, inputs)?;
+    let suite = read_inputs(alloc, inputs, tells.wants_places())?;
     match iso_serial::run::run(alloc, &suite.plan, &suite.world) {
-        Ok(results) => write_results(&suite.plan, &results, tells, sink),
+        Ok(results) => write_results(&suite, inputs.scripts, &results, tells, sink),
         Err(_) => Err(RunFault::Memory),
     }
 }

@@ -11,7 +11,6 @@ ghost use Rattle.iso_run.specs.Runs.{TellsOf, Writes, suite_report};
 use crate::fault::RunFault;
 use crate::inputs::{Inputs, Suite, read_inputs};
 use crate::report::{Summary, write_results};
-use crate::tells::Tells;
 use iso_book::book::Book;
 use iso_floor::busy::busy_workers;
 use iso_floor::fault::{CloseFault, SeatFault};
@@ -21,6 +20,7 @@ use iso_floor::seat::Seat;
 use iso_floor::work::{Cause, WorkEnd, work};
 use iso_lifecycle::gate::Gate;
 use iso_tap::sink::Sink;
+use iso_telling::tells::Tells;
 use std::alloc::Global;
 use std::marker::Brand;
 use std::sync::Wait;
@@ -42,16 +42,16 @@ pub fn run_workers<R: Threads + Wait + Sync, G: Gate + Sync, W: Sink>(
     alloc: Global,
     inputs: Inputs<'_>,
     gate: &G,
-    tells: &mut Tells,
+    tells: &mut Tells<'_>,
     sink: &mut W,
 ) -> Result<Summary, RunFault>
     requires { 1 ≤ inputs.processors }
     ensures report { Writes (λ s. s.all_ok) suite_report inputs.entry ByWorkers (W.account sink.old) (W.account sink.new) result }
     ensures told { OnOk result (TellsOf inputs.entry tells.old tells.new) }
 {
-    let suite = read_inputs(alloc, inputs)?;
+    let suite = read_inputs(alloc, inputs, tells.wants_places())?;
     let book = run_on_floor::<Brand, R, G>(rt, alloc, &suite, gate)?;
-    write_results(&suite.plan, book.results(), tells, sink)
+    write_results(&suite, inputs.scripts, book.results(), tells, sink)
 }
 
 /// Has its workers run a suite, each in a seat of its own, and answers the book of the run. A worker whom the suite can't keep busy isn't

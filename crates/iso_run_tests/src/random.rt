@@ -7,12 +7,12 @@ use iso_core::machine::Core;
 use iso_core::run_events::run_events;
 use iso_plan::plan::Plan;
 use iso_run::run::run_serial;
-use iso_run::tells::Tells;
 use iso_settings::world::World;
 use iso_standing::core_fault::CoreFault;
 use iso_standing::event::Event;
 use iso_tap::memory::MemorySink;
 use iso_tap::report::write_report;
+use iso_telling::tells::Tells;
 use std::alloc::{AllocError, Global};
 use std::process::Abort;
 

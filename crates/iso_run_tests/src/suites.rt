@@ -84,7 +84,7 @@ pub(crate) trait Check {
 pub(crate) fn check_inputs<R: Abort, C: Check>(rt: &R, alloc: Global, inputs: Inputs<'_>, check: &C)
     requires { 1 ≤ inputs.processors }
 {
-    let Ok(suite) = read_inputs(alloc, inputs) else {
+    let Ok(suite) = read_inputs(alloc, inputs, false) else {
         panic!(rt; "the scripts weren't planned");
     };
     check.check(rt, alloc, &suite.plan, &suite.world);

@@ -9,11 +9,11 @@ use crate::suites::{
 use iso_core::machine::Core;
 use iso_plan::plan::Plan;
 use iso_run::run::run_serial;
-use iso_run::tells::Tells;
 use iso_schedule::reader::read_schedule;
 use iso_settings::world::World;
 use iso_standing::event::Event;
 use iso_tap::memory::MemorySink;
+use iso_telling::tells::Tells;
 use std::alloc::{AllocError, Global};
 use std::process::Abort;
 

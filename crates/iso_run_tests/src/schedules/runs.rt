@@ -162,7 +162,7 @@ fn new_core_takes_or_stops(alloc: Global, suite: &Suite, events: &[Event]) -> bo
 fn refused_growth_stops_a_step_alone(rt: HostRuntime) {
     let scripts = [TWO_FILES.as_bytes()];
     if let Ok(events) = read_schedule(rt.alloc(), READERS_FIRST.as_bytes())
-        && let Ok(suite) = read_inputs(rt.alloc(), CONCURRENT.inputs(&scripts))
+        && let Ok(suite) = read_inputs(rt.alloc(), CONCURRENT.inputs(&scripts), false)
     {
         let is_so = new_core_takes_or_stops(rt.alloc(), &suite, &events);
         expect(&rt, is_so, "an event is refused");

@@ -1,21 +1,34 @@
-use Rattle.std.proofs.Common.{None, subst}
-use Rattle.iso_run.proofs.Answering.{answered-as, run-answered, run-refused}
+use Rattle.std.proofs.Common.{◌≢◌, None, Option, Bool, List, ℕ, subst}
+use Rattle.std.specs.Bool.{⊤}
+use Rattle.std.specs.Borrow.{Bor}
+use Rattle.iso_run.proofs.Answering.{Lacking, answered-as, run-answered, run-refused}
+use Rattle.iso_run.proofs.Late.{late-so}
 use Rattle.iso_arguments.specs.Requests.{IsPlainRun}
 use Rattle.iso_run.proofs.command.answer_request.Goals as goal
-use Rattle.iso_run.specs.Commands.{IsWrittenFor, plan_of}
+use Rattle.iso_run.specs.Commands.{ArePlaces, IsPrintedFor, IsWrittenFor, plan_of, way_of}
+use Rattle.iso_plan.specs.Selections.{texts_of}
+use Rattle.iso_run.specs.Ends.{end_of, run_end}
 use Rattle.iso_run.specs.Runs.{suite_report}
+use Rattle.iso_run.specs.declared.report.Summary.{Summary}
 use Rattle.iso_run.specs.declared.way.Way.{Way}
 use Rattle.iso_run.specs.declared.way.Way.TheVariants.{Serial, BySchedule}
+use Rattle.iso_tap.specs.Sinks.{Account}
 
 pub returns-in_ok-bytes-in-Plan-clause-answers : goal.returns-in_ok-bytes-in-Plan-clause-answers
 returns-in_ok-bytes-in-Plan-clause-answers g c =
     let input = g.R.Read.remaining c.args.input.now in
     let old = g.W.Sink.account c.args.output.now in
     let new = g.W.Sink.account c.told.new.output in
-    let product = plan_of c.in-Plan.tests in
     let made = c.plan-shown.ensures input c.in_ok-bytes-in-Plan.ensures.read in
-    let answered = run-answered product c.in-Plan.files input made.0 Serial made.1 None old (g.W.Sink.account c.plan-shown.new.output) new c.plan-shown.result made.2 c.told.result c.told.ensures in
-    rw c.in-Plan.is (answered-as (IsWrittenFor product c.in-Plan.files input Serial old new) _ (λ ok h. h) _ _ (λ h. h) old new c.told.result answered)
+    let sites = made.2.0 in
+    let tests = c.in-Plan.tests in
+    let places = c.in-Plan.places in
+    let files = c.in-Plan.files in
+    let P : Account → Bool → Type 0 = λ a ok. IsPrintedFor tests places files input old a ok in
+    let file = c.nothing.result.file in
+    let answered = run-answered (ArePlaces places made.0 sites) P (plan_of tests places (texts_of files.scripts.items) sites) made.0 Serial old (g.W.Sink.account c.plan-shown.new.output)
+    (λ late ok w. (sites, (made.0, made.1, late, w))) file new c.plan-shown.result made.2.1 made.2.2 c.told.result c.told.ensures.answer in
+    rw c.in-Plan.is (answered-as (P new) _ (λ ok h. h) (Lacking P file new) _ (λ h. (h.0, h.1, subst (λ (f : Option (Bor (List ℕ))). f ≢ None) c.nothing.ensures.file h.2)) old new c.told.result answered)
 
 pub returns-in_ok-bytes-in-Run-clause-answers : goal.returns-in_ok-bytes-in-Run-clause-answers
 returns-in_ok-bytes-in-Run-clause-answers g c =
@@ -23,11 +36,15 @@ returns-in_ok-bytes-in-Run-clause-answers g c =
     let old = g.W.Sink.account c.args.output.now in
     let new = g.W.Sink.account c.told-in-Run.new.output in
     let way = c.asked_way.result in
-    let made = c.run-ran.ensures input c.in_ok-bytes-in-Run.ensures.read in
-    let answered = run-answered suite_report c.in-Run.files input made.0 way made.1 c.in-Run.extras.failed old (g.W.Sink.account c.run-ran.new.output) new c.run-ran.result made.2 c.told-in-Run.result c.told-in-Run.ensures in
-    rw c.in-Run.is (answered-as (IsWrittenFor suite_report c.in-Run.files input way old new) _
-    (λ ok h. subst (λ (w : Way). IsWrittenFor suite_report c.in-Run.files input w old new ok) c.asked_way.ensures h)
-    _ _ (λ h. (h.0, subst (λ (w : Way). IsWrittenFor suite_report c.in-Run.files input w old new h.0) c.asked_way.ensures h.1, h.2)) old new c.told-in-Run.result answered)
+    let files = c.in-Run.files in
+    let made = c.run-ran.ensures.report input c.in_ok-bytes-in-Run.ensures.read in
+    let P : Account → Bool → Type 0 = λ a ok. IsWrittenFor suite_report files input way old a ok in
+    let file = c.new-besides.result.file in
+    let answered = run-answered ⊤ P suite_report made.0 way old (g.W.Sink.account c.run-ran.new.output) (λ late ok w. (made.0, made.1, w)) file new c.run-ran.result
+    (late-so ⊤ (end_of (λ (s : Summary). s.all_ok) run_end c.run-ran.result) tt) made.2 c.told-in-Run.result c.told-in-Run.ensures.answer in
+    let asked : (ok : Bool) → P new ok → IsWrittenFor suite_report files input (way_of c.in-Run.serial) old new ok =
+    λ ok h. subst (λ (w : Way). IsWrittenFor suite_report files input w old new ok) c.asked_way.ensures h in
+    rw c.in-Run.is (answered-as (P new) _ asked (Lacking P file new) _ (λ h. (h.0, asked h.0 h.1, subst (λ (f : Option (Bor (List ℕ))). f ≢ None) c.new-besides.ensures.file h.2)) old new c.told-in-Run.result answered)
 
 pub returns-in_ok-bytes-in-Replay-clause-answers : goal.returns-in_ok-bytes-in-Replay-clause-answers
 returns-in_ok-bytes-in-Replay-clause-answers g c =
@@ -35,13 +52,21 @@ returns-in_ok-bytes-in-Replay-clause-answers g c =
     let old = g.W.Sink.account c.args.output.now in
     let new = g.W.Sink.account c.told-in-Replay.new.output in
     let way = BySchedule c.deref.result in
-    let made = c.run-ran-in-Replay.ensures input c.in_ok-bytes-in-Replay.ensures.read in
-    let answered = run-answered suite_report c.in-Replay.files input made.0 way made.1 c.in-Replay.extras.failed old (g.W.Sink.account c.run-ran-in-Replay.new.output) new c.run-ran-in-Replay.result made.2 c.told-in-Replay.result c.told-in-Replay.ensures in
-    rw c.in-Replay.is (answered-as (IsWrittenFor suite_report c.in-Replay.files input way old new) _ (λ ok h. (c.deref.result, h)) _ _ (λ h. (h.0, (c.deref.result, h.1), h.2)) old new c.told-in-Replay.result answered)
+    let files = c.in-Replay.files in
+    let made = c.run-ran-in-Replay.ensures.report input c.in_ok-bytes-in-Replay.ensures.read in
+    let P : Account → Bool → Type 0 = λ a ok. IsWrittenFor suite_report files input way old a ok in
+    let file = c.new-besides-in-Replay.result.file in
+    let answered = run-answered ⊤ P suite_report made.0 way old (g.W.Sink.account c.run-ran-in-Replay.new.output) (λ late ok w. (made.0, made.1, w)) file new c.run-ran-in-Replay.result
+    (late-so ⊤ (end_of (λ (s : Summary). s.all_ok) run_end c.run-ran-in-Replay.result) tt) made.2 c.told-in-Replay.result c.told-in-Replay.ensures.answer in
+    rw c.in-Replay.is (answered-as (P new) _ (λ ok h. (c.deref.result, h)) (Lacking P file new) _ (λ h. (h.0, (c.deref.result, h.1), subst (λ (f : Option (Bor (List ℕ))). f ≢ None) c.new-besides-in-Replay.ensures.file h.2)) old new c.told-in-Replay.result answered)
 
 pub returns-in_ok-bytes-in-Run-clause-refused : goal.returns-in_ok-bytes-in-Run-clause-refused
 returns-in_ok-bytes-in-Run-clause-refused g c = λ plain.
     let input = g.R.Read.remaining c.args.input.now in
-    let made = c.run-ran.ensures input c.in_ok-bytes-in-Run.ensures.read in
-    run-refused c.in-Run.files input made.0 c.in-Run.serial c.asked_way.result (subst IsPlainRun c.in-Run.is plain).0 made.1 c.asked_way.ensures c.in-Run.extras.failed
-    (g.W.Sink.account c.args.output.now) (g.W.Sink.account c.run-ran.new.output) (g.W.Sink.account c.told-in-Run.new.output) c.run-ran.result made.2 c.told-in-Run.result c.told-in-Run.ensures
+    let made = c.run-ran.ensures.report input c.in_ok-bytes-in-Run.ensures.read in
+    run-refused c.in-Run.files input made.0 c.in-Run.serial c.asked_way.result (subst IsPlainRun c.in-Run.is plain).0 made.1 c.asked_way.ensures c.new-besides.result.file
+    (g.W.Sink.account c.args.output.now) (g.W.Sink.account c.run-ran.new.output) (g.W.Sink.account c.told-in-Run.new.output) c.run-ran.result made.2 c.told-in-Run.result c.told-in-Run.ensures.answer
+
+pub returns-in_ok-bytes-in-Run-clause-quiet : goal.returns-in_ok-bytes-in-Run-clause-quiet
+returns-in_ok-bytes-in-Run-clause-quiet g c = λ plain.
+    c.told-in-Run.ensures.quiet (c.run-ran.ensures.quiet (c.new-besides.ensures.unasked (subst IsPlainRun c.in-Run.is plain).1.0))

@@ -4,11 +4,12 @@ use Rattle.iso_run.specs.Commands.{shard_asked}
 use Rattle.iso_run.specs.Runs.{suite_report}
 use Rattle.iso_run.specs.Suites.{texts}
 use Rattle.iso_run.specs.declared.report.Summary.{Summary}
+use Rattle.iso_run.proofs.Answering.{still-unasked}
 use Rattle.iso_run.proofs.Lending.{are-for, are-of-bytes, inputs-for, out-of-memory}
 use Rattle.iso_run.proofs.command.run.Goals as goal
 
-pub returns-in_err-scripts : goal.returns-in_err-scripts
-returns-in_err-scripts g c = λ input read.
+pub returns-in_err-scripts-clause-report : goal.returns-in_err-scripts-clause-report
+returns-in_err-scripts-clause-report g c = λ input read.
     let p = err_from_is_err_and c.from_residual.result c.from_residual.ensures.1 in
     let files = c.args.files.now in
     let bytes = c.args.bytes.now in
@@ -16,8 +17,17 @@ returns-in_err-scripts g c = λ input read.
     let inputs = inputs-for files bytes shard.result in
     (inputs, are-of-bytes files input bytes shard.result read shard.ensures, rw (p.1, p.2) (out-of-memory (λ (s : Summary). s.all_ok) suite_report inputs c.args.way (g.W.Sink.account c.args.output.now)))
 
-pub returns-in-ByWorkers : goal.returns-in-ByWorkers
-returns-in-ByWorkers g c = λ input read.
+pub returns-in-ByWorkers-clause-report : goal.returns-in-ByWorkers-clause-report
+returns-in-ByWorkers-clause-report g c = λ input read.
     let is = c.inputs_of-inputs.ensures in
     let scripts = ap texts (is.scripts ∙ c.deref-2.ensures.value) ∙ c.in_ok-scripts.ensures ∙ ap (map (λ v. v.items)) c.deref.ensures.value in
     (c.inputs_of-inputs.result, are-for c.args.files.now input c.args.bytes.now c.inputs_of-inputs.result read scripts is.settings is.world is.listed is.only is.patterns (ap (option_map shard_asked) is.shard ∙ c.shard_of-shard.ensures) is.processors, rw c.in-ByWorkers.is c.run_workers.ensures.report)
+
+pub returns-in-Serial-clause-quiet : goal.returns-in-Serial-clause-quiet
+returns-in-Serial-clause-quiet g c = still-unasked c.inputs_of-inputs.result c.args.tells.now c.run_serial.new.tells c.run_serial.result c.run_serial.ensures.told
+
+pub returns-in-ByWorkers-clause-quiet : goal.returns-in-ByWorkers-clause-quiet
+returns-in-ByWorkers-clause-quiet g c = still-unasked c.inputs_of-inputs.result c.args.tells.now c.run_workers.new.tells c.run_workers.result c.run_workers.ensures.told
+
+pub returns-clause-quiet : goal.returns-clause-quiet
+returns-clause-quiet g c = still-unasked c.inputs_of-inputs.result c.args.tells.now c.run_schedule.new.tells c.run_schedule.result c.run_schedule.ensures.told

@@ -14,20 +14,21 @@ returns-in-Ok-plan_kept c =
       is_suite = record {
         settings = c.in-Ok.ensures;
         world = c.in-Ok-world_from.ensures;
-        scripts = map script_of c.in_ok-scripts.scripts.items;
-        read = c.in_ok-scripts.ensures;
+        scripts = map script_of c.in_ok-read.read.scripts.items;
+        read = c.in_ok-read.ensures.scripts;
         kept = refl;
         planned = ap (kept_fault c.args.inputs) (sym read) ∙ is.accepted;
       };
       planned_as = planned-by _ _ _ (is.nodes ∙ ap (kept_nodes c.args.inputs) read) is.settings;
+      placed = c.in_ok-read.ensures.places;
     }
 
 pub returns : goal.returns
 returns c = (
   (ap is_ok c.in-Ok.ensures, ap is_ok c.in-Ok-world_from.ensures),
   (
-    map script_of c.in_ok-scripts.scripts.items,
-    c.in_ok-scripts.ensures,
+    map script_of c.in_ok-read.read.scripts.items,
+    c.in_ok-read.ensures.scripts,
     rw c.in-Err-Fault-plan_kept.field-0-is
         (ap (kept_fault c.args.inputs) (sym (ap (map script_of) c.deref.ensures.value))
         ∙ subst (IsFaultOf (kept_fault c.args.inputs (map script_of c.deref.result.now))) c.in-Err-Fault-plan_kept.field-0-is c.in-Err-Fault-plan_kept.ensures.refused),

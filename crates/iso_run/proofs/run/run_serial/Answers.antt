@@ -1,6 +1,6 @@
-use Rattle.std.proofs.Common.{refl}
+use Rattle.std.proofs.Common.{refl, ◌∙◌}
 use Rattle.std.proofs.lemmas.Result.{err_from_is_err_and}
-use Rattle.iso_run.specs.Runs.{suite_report}
+use Rattle.iso_run.specs.Runs.{suite_report, as_written}
 use Rattle.iso_run.specs.Suites.{suite_of}
 use Rattle.iso_run.specs.declared.report.Summary.{Summary}
 use Rattle.iso_run.specs.declared.way.Way.TheVariants.{Serial}
@@ -23,4 +23,5 @@ pub returns-in-Ok-clause-told : goal.returns-in-Ok-clause-told
 returns-in-Ok-clause-told g c =
     let is = c.in_ok-suite.ensures in
     told c.args.inputs (g.W.Sink.account c.args.sink.now) (g.W.Sink.account c.write_results.new.sink) (suite_of c.args.inputs c.in_ok-suite.suite) c.in_ok-suite.suite.plan c.in-Ok.results
-    is.is_suite is.planned_as c.in-Ok.ensures.plan c.in-Ok.ensures.start c.write_results.result c.args.tells.now c.write_results.new.tells c.write_results.ensures.told
+    is.is_suite is.planned_as c.in-Ok.ensures.plan c.in-Ok.ensures.start (as_written c.in_ok-suite.suite c.args.inputs.scripts.now) c.args.tells.now c.write_results.new.tells
+    refl (λ wants. is.placed (c.wants_places.ensures ∙ wants)) c.write_results.result c.write_results.ensures.told

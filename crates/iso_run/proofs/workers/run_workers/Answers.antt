@@ -1,6 +1,6 @@
-use Rattle.std.proofs.Common.{◌∙◌}
+use Rattle.std.proofs.Common.{refl, ◌∙◌}
 use Rattle.std.proofs.lemmas.Result.{err_from_is_err_and}
-use Rattle.iso_run.specs.Runs.{suite_report}
+use Rattle.iso_run.specs.Runs.{suite_report, as_written}
 use Rattle.iso_run.specs.Suites.{suite_of}
 use Rattle.iso_run.specs.declared.report.Summary.{Summary}
 use Rattle.iso_run.specs.declared.way.Way.TheVariants.{ByWorkers}
@@ -38,4 +38,5 @@ returns-clause-told g c =
     let is = c.in_ok-suite.ensures in
     let on = c.in_ok-book.ensures.book in
     told c.args.inputs (g.W.Sink.account c.args.sink.now) (g.W.Sink.account c.write_results.new.sink) (suite_of c.args.inputs suite) suite.plan c.results.result.now is.is_suite is.planned_as
-    (c.results.ensures.plan ∙ on.plan_is) (c.results.ensures.start ∙ on.world_is) c.write_results.result c.args.tells.now c.write_results.new.tells c.write_results.ensures.told
+    (c.results.ensures.plan ∙ on.plan_is) (c.results.ensures.start ∙ on.world_is) (as_written suite c.args.inputs.scripts.now) c.args.tells.now c.write_results.new.tells
+    refl (λ wants. is.placed (c.wants_places.ensures ∙ wants)) c.write_results.result c.write_results.ensures.told
