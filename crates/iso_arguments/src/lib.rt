@@ -2,5 +2,6 @@
 #![tactic(auto)]
 
 mod options;
+pub mod processors;
 pub mod request;
 pub mod shard;

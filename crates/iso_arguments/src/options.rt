@@ -1,5 +1,5 @@
 //! The subcommands and options, as `clap` reads and explains them.
-use clap::{Arg, ArgAction, Command, value_parser};
+use clap::{Arg, ArgAction, Command};
 use std::alloc::{AllocError, Global};
 
 static ABOUT: &str =
@@ -30,6 +30,14 @@ static PLAN_END: &str = "Examples:
 static REPLAY_END: &str = "Example:
   jtap replay --schedule cart.schedule --settings junit.toml cart.jtap";
 
+static CHECK_END: &str = "Example:
+  jtap check --explain --settings junit.toml cart.jtap desk.jtap";
+
+static PROCESSORS: &str = "Processors to count with, 1 to 1024, or `auto`
+for those of the machine [default: 1]";
+
+static EXPLAIN: &str = "Tell after a fault's line what mends it";
+
 static ONLY: &str = "Class or test to keep, with all in it, by its path as
 `jtap plan` prints it; may be repeated [default: all]";
 
@@ -58,7 +66,8 @@ FILE, one a line, for `--only-from`";
 pub(crate) fn command_line<'a>(alloc: Global) -> Result<Command<'a>, AllocError> {
     let command = with_subcommand(first_page(alloc), run(alloc));
     let command = with_subcommand(command, plan(alloc));
-    with_subcommand(command, replay(alloc))
+    let command = with_subcommand(command, replay(alloc));
+    with_subcommand(command, check(alloc))
 }
 
 /// What there is without a subcommand.
@@ -102,6 +111,12 @@ fn replay<'a>(alloc: Global) -> Result<Command<'a>, AllocError> {
     with_extras(alloc, with_inputs(alloc, command.arg(schedule(alloc))))
 }
 
+/// The subcommand that tells what is wrong.
+fn check<'a>(alloc: Global) -> Result<Command<'a>, AllocError> {
+    let about = "Tell on standard error what is wrong with each file, and run nothing";
+    with_inputs(alloc, Ok(subcommand(alloc, "check", about, CHECK_END)))
+}
+
 /// A subcommand without options.
 fn subcommand<'a>(alloc: Global, name: &'a str, about: &'a str, end: &'a str) -> Command<'a> {
     Command::new(alloc, name).about(about).after_help(end)
@@ -130,6 +145,7 @@ fn with_inputs<'a>(
         .arg(pattern(alloc))?
         .arg(only_from(alloc))?
         .arg(shard(alloc))?
+        .arg(explain(alloc))?
         .arg(scripts(alloc))
 }
 
@@ -197,9 +213,14 @@ fn processors<'a>(alloc: Global) -> Arg<'a> {
     Arg::new(alloc, "processors")
         .long("processors")
         .value_name("N")
-        .value_parser(value_parser!(u32).range(1..=1024))
-        .default_value("1")
-        .help("Processors to count with, 1 to 1024")
+        .help(PROCESSORS)
+}
+
+fn explain<'a>(alloc: Global) -> Arg<'a> {
+    Arg::new(alloc, "explain")
+        .long("explain")
+        .action(ArgAction::SetTrue)
+        .help(EXPLAIN)
 }
 
 fn only<'a>(alloc: Global) -> Arg<'a> {

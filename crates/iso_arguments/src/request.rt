@@ -1,12 +1,12 @@
 //! What the words of a command line ask for.
-ghost use Rattle.std.specs.Prelude.{◌≡◌, [], None, IfOk, IsOkAnd, drop, false};
+ghost use Rattle.std.specs.Prelude.{◌≡◌, [], None, IfOk, IfSome, IsOkAnd, drop, false};
 ghost use Rattle.std.specs.Vec.Iter.{into_iter_items};
-ghost use Rattle.iso_arguments.specs.Requests.{AsksInBounds, AreInBounds, IsPlainRun, IsShard};
+ghost use Rattle.iso_arguments.specs.Requests.{AsksInBounds, AreInBounds, IsPlainRun, IsShard, IsWithin};
 
 use crate::options::command_line;
+use crate::processors::{Processors, read_processors};
 use crate::shard::{Shard, read_shard};
 use clap::error::ErrorKind;
-use clap::parser::ValueSource;
 use clap::{ArgMatches, Error};
 use std::alloc::{AllocError, AllocFailed, AllocGlobal, Global};
 use std::env::{self, Args, Env};
@@ -41,19 +41,20 @@ pub struct InputFiles<'a> {
     pub only_from: Option<&'a str>,
     /// What part of the top-level classes is kept of these. Without it each is.
     pub shard: Option<Shard>,
-    /// 1 to 1024.
-    pub processors: u32,
-    /// Whether the number of processors was given.
-    pub processors_given: bool,
+    /// Without it one is counted with.
+    pub processors: Option<Processors>,
+    /// Whether a fault is explained.
+    pub explain: bool,
 }
 
 impl<'a> InputFiles<'a> {
-    /// No file, no path, and one processor: a script is read from standard input, and all of it is kept.
+    /// No file, no path, and no number of processors: a script is read from standard input, and all of it is kept.
     pub fn none(alloc: Global) -> InputFiles<'a>
         ensures names { (result.settings ≡ None) × (result.world ≡ None) × (result.scripts.items ≡ []) }
         ensures all { (result.only.items ≡ []) × (result.patterns.items ≡ []) × (result.only_from ≡ None) }
         ensures whole { result.shard ≡ None }
-        ensures processors { (result.processors ≡ 1) × (result.processors_given ≡ false) }
+        ensures processors { result.processors ≡ None }
+        ensures unexplained { result.explain ≡ false }
     {
         InputFiles {
             settings: None,
@@ -63,8 +64,8 @@ impl<'a> InputFiles<'a> {
             patterns: Vec::new(alloc),
             only_from: None,
             shard: None,
-            processors: 1,
-            processors_given: false,
+            processors: None,
+            explain: false,
         }
     }
 }
@@ -120,6 +121,8 @@ pub enum Request<'a> {
         extras: Extras<'a>,
         files: InputFiles<'a>,
     },
+    /// What is wrong with files, without a run.
+    Check(InputFiles<'a>),
     /// A text for standard output: a help page or the version.
     Show(String),
 }
@@ -239,12 +242,16 @@ fn requested<'a>(alloc: Global, matches: &ArgMatches<'a>) -> Result<Request<'a>,
         });
     };
     let files = files_of(alloc, found)?;
-    if name == "plan" {
-        return Ok(Request::Plan {
-            tests: found.get_flag("tests"),
-            places: found.get_flag("places"),
-            files,
-        });
+    match name {
+        "plan" => {
+            return Ok(Request::Plan {
+                tests: found.get_flag("tests"),
+                places: found.get_flag("places"),
+                files,
+            });
+        }
+        "check" => return Ok(Request::Check(files)),
+        _ => {}
     }
     let schedule = found.get_str("schedule");
     let extras = extras_of(alloc, found, schedule, &files)?;
@@ -322,16 +329,14 @@ fn files_of<'a>(alloc: Global, found: &ArgMatches<'a>) -> Result<InputFiles<'a>,
     ensures bounds { IfOk result AreInBounds }
 {
     let shard = shard_of(alloc, found)?;
+    let processors = processors_of(alloc, found)?;
     let mut files = InputFiles::none(alloc);
     files.shard = shard;
     files.only_from = found.get_str("only-from");
     files.settings = found.get_str("settings");
     files.world = found.get_str("world");
-    files.processors = found
-        .get_one::<u32>("processors")
-        .unwrap_or(1)
-        .clamp(1, 1024);
-    files.processors_given = found.value_source("processors") == Some(ValueSource::CommandLine);
+    files.processors = processors;
+    files.explain = found.get_flag("explain");
     if let Some(scripts) = found.get_strs("scripts") {
         files.scripts.extend_from_slice(scripts)?;
     }
@@ -345,6 +350,30 @@ fn files_of<'a>(alloc: Global, found: &ArgMatches<'a>) -> Result<InputFiles<'a>,
         return Err(WordsFault::Wrong(String::from_str(alloc, LIST_WITHOUT_SCRIPT)?));
     }
     Ok(files)
+}
+
+/// How many processors are counted with, if it is asked for. What is no such number is a wrong word.
+fn processors_of(alloc: Global, found: &ArgMatches<'_>) -> Result<Option<Processors>, WordsFault>
+    ensures bounds { IfOk result (λ asked. IfSome asked IsWithin) }
+{
+    let Some(word) = found.get_str("processors") else {
+        return Ok(None);
+    };
+    match read_processors(word) {
+        Some(asked) => Ok(Some(asked)),
+        None => Err(WordsFault::Wrong(no_processors(alloc, word)?)),
+    }
+}
+
+/// What is said of a word that is no number of processors, as `clap` says it of other values.
+fn no_processors(alloc: Global, word: &str) -> Result<String, AllocError> {
+    let word = word.replace(alloc, '\n', "\\n")?;
+    format!(in alloc;
+        "error: invalid value '{word}' for '--processors <N>': 1 to 1024 or `auto` is wanted
+
+For more information, try '--help'.
+"
+    )
 }
 
 /// The shard that is asked for, if one is. One that there can't be is a wrong word.

@@ -1,8 +1,8 @@
 -- How a command ends, by what it answers.
-use Rattle.std.proofs.Common.{◌≡◌, ℕ, ◌≤◌, List, [], Bool, Option, None, Some, IfSome, refl, arith}
+use Rattle.std.proofs.Common.{◌≡◌, ℕ, ◌≤◌, List, [], Bool, true, false, Option, None, Some, IfSome, refl, arith}
 use Rattle.iso_arguments.specs.Requests.{IsPlainRun}
 use Rattle.iso_arguments.specs.declared.request.Request.{Request}
-use Rattle.iso_arguments.specs.declared.request.Request.TheVariants.{Run, Plan, Replay, Show}
+use Rattle.iso_arguments.specs.declared.request.Request.TheVariants.{Run, Plan, Replay, Check, Show}
 use Rattle.iso_run.specs.Commands.{Answered, Did, RanOn}
 use Rattle.iso_run.specs.Ends.{Refuses, Whole, command_end, exit_status, run_end}
 use Rattle.iso_run.specs.declared.command_fault.CommandFault.{CommandFault}
@@ -31,12 +31,17 @@ at-least-two (C.TooLarge name) = omega arith
 at-least-two (C.NotListed file index) = omega arith
 at-least-two C.Unwritten = omega arith
 at-least-two (C.Unwritable name) = omega arith
+at-least-two C.Uncounted = omega arith
+at-least-two (C.Told false) = omega arith
+at-least-two (C.Told true) = omega arith
 at-least-two (C.Run fault word) = run-at-least-two fault
+at-least-two (C.Explained fault word text) = run-at-least-two fault
 
 -- a plain run reported on what stood on the input
 plain-ran : (request : Request) (script : List ℕ) (old new : Account) (ok : Bool) → IsPlainRun request → Did request (Some script) old new ok → RanOn script old new (exit_status (Whole ok))
 plain-ran (Show text) script old new ok is did = absurd is
 plain-ran (Plan tests places files) script old new ok is did = absurd is
+plain-ran (Check files) script old new ok is did = absurd is
 plain-ran (Replay name extras files) script old new ok is did = absurd is
 plain-ran (Run serial extras files) script old new ok is did = record { files = files; nothing = is.0; serial = serial; ok = ok; written = did; tells = refl }
 
@@ -70,4 +75,8 @@ refuses (C.TooLarge name) h = refl
 refuses (C.NotListed file index) h = refl
 refuses C.Unwritten h = absurd (omega (arith, h))
 refuses (C.Unwritable name) h = absurd (omega (arith, h))
+refuses C.Uncounted h = absurd (omega (arith, h))
+refuses (C.Told false) h = refl
+refuses (C.Told true) h = absurd (omega (arith, h))
 refuses (C.Run fault word) h = refuses-run fault h
+refuses (C.Explained fault word text) h = refuses-run fault h

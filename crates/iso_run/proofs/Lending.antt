@@ -18,9 +18,9 @@ use Rattle.iso_tap.specs.Sinks.{Account}
 pub are-for : (files : InputFiles) (input : Option (List ℕ)) (bytes : InputBytes) (inputs : Inputs) → WereRead files input bytes
     → texts inputs.scripts.now ≡ map (λ v. v.items) bytes.scripts.items → inputs.settings.now ≡ bytes.settings.items → inputs.world.now ≡ bytes.world.items
     → option_copied inputs.listed ≡ option_map (λ v. v.items) bytes.listed → inputs.only.now ≡ files.only.items → inputs.patterns.now ≡ files.patterns.items
-    → option_map shard_asked inputs.shard ≡ files.shard → inputs.processors ≡ files.processors → AreFor files input inputs
+    → option_map shard_asked inputs.shard ≡ files.shard → inputs.processors ≡ bytes.processors → AreFor files input inputs
 are-for files input bytes inputs read scripts settings world listed only patterns shard processors =
-    record { are_of = rw (settings, world, scripts, listed) read; only = only; patterns = patterns; shard = shard; processors = processors }
+    record { are_of = rw (settings, world, scripts, listed) read.0; only = only; patterns = patterns; shard = shard; processors = rw processors read.1 }
 
 abbrev pub lend : List ℕ → Bor (List ℕ)
 lend bytes = record { ref_ptr = (0, 0); now = bytes }
@@ -43,7 +43,7 @@ inputs-for files bytes shard = record {
   patterns = record { ref_ptr = (0, 0); now = files.patterns.items };
   listed = option_map (λ (v : Vec ℕ Global). lend v.items) bytes.listed;
   shard = shard;
-  processors = files.processors;
+  processors = bytes.processors;
 }
 
 pub are-of-bytes : (files : InputFiles) (input : Option (List ℕ)) (bytes : InputBytes) (shard : Option Shard) → WereRead files input bytes → option_map shard_asked shard ≡ files.shard

@@ -1,11 +1,14 @@
 -- What a command does for what its words ask, and how it ends.
-use Rattle.std.specs.Prelude.{◌≡◌, ◌≢◌, ℕ, ◌+◌, List, [], ◌∷◌, length, map, take, Bool, true, false, cond, Option, None, Some, IfSome, is_some, option_map, codes, string_bytes}
+use Rattle.std.specs.Prelude.{◌≡◌, ◌≢◌, ⊤, ℕ, ◌+◌, List, [], ◌∷◌, length, map, take, Bool, true, false, cond, Option, None, Some, IfOk, IfSome, Result, Vec, is_some, option_map, codes, string_bytes}
 use Rattle.std.specs.Option.{option_copied}
 use Rattle.std.specs.Borrow.{Bor}
-use Rattle.iso_arguments.specs.Requests.{IsPlainRun, NamesNothing}
+use Rattle.std.specs.Global.{Global}
+use Rattle.iso_arguments.specs.Requests.{IsCount, IsPlainRun, NamesNothing}
+use Rattle.iso_arguments.specs.declared.processors.Processors.{Processors}
+use Rattle.iso_arguments.specs.declared.processors.Processors.TheVariants.{Count, Auto}
 use Rattle.iso_arguments.specs.declared.request.InputFiles.{InputFiles}
 use Rattle.iso_arguments.specs.declared.request.Request.{Request}
-use Rattle.iso_arguments.specs.declared.request.Request.TheVariants.{Run, Plan, Replay, Show}
+use Rattle.iso_arguments.specs.declared.request.Request.TheVariants.{Run, Plan, Replay, Check, Show}
 use Rattle.iso_arguments.specs.declared.request.Summarized.{Summarized}
 use Rattle.iso_arguments.specs.declared.request.Summarized.TheVariants.{Failed, All}
 use Rattle.iso_arguments.specs.declared.shard.Shard as A
@@ -16,7 +19,9 @@ use Rattle.iso_places.specs.declared.site.Site.{Site}
 use Rattle.iso_plan.specs.Selections.{texts_of}
 use Rattle.iso_run.specs.Runs.{AreSitesOf, IsWritten, Product, suite_places, suite_plan, suite_report, suite_tests}
 use Rattle.iso_run.specs.Suites.{OfSuite, Suite, texts}
+use Rattle.iso_run.specs.declared.command_fault.CommandFault.{CommandFault}
 use Rattle.iso_run.specs.declared.fault.RunFault.{RunFault}
+use Rattle.iso_run.specs.declared.files.FileReads.{FileReads}
 use Rattle.iso_run.specs.declared.files.InputBytes.{InputBytes}
 use Rattle.iso_run.specs.declared.inputs.Inputs.{Inputs}
 use Rattle.iso_run.specs.declared.way.Way.{Way}
@@ -36,8 +41,30 @@ pub record AreOf (files : InputFiles) (input : Option (List ℕ)) (settings worl
   pub list_named : is_some listed ≡ is_some files.only_from
   pub list_piped : option_copied files.only_from ≡ Some (codes "-") → (files.scripts.items ≡ [] → ⊥) → IfSome input (λ bytes. listed ≡ Some bytes)
 
+-- so many processors are counted with: one without a word, as many as it says, or those of the machine, of which there may be so many
+abbrev pub IsCountedAs : Option Processors → ℕ → Type 0
+IsCountedAs None n = n ≡ 1
+IsCountedAs (Some (Count asked)) n = n ≡ asked
+IsCountedAs (Some Auto) n = IsCount n
+
 abbrev pub WereRead : InputFiles → Option (List ℕ) → InputBytes → Type 0
 WereRead files input bytes = AreOf files input bytes.settings.items bytes.world.items (map (λ v. v.items) bytes.scripts.items) (option_map (λ v. v.items) bytes.listed)
+    × IsCountedAs files.processors bytes.processors
+
+-- what was read of one script, where this is the input, if that is known
+abbrev pub IsOneRead : Option (List ℕ) → List (Result (Vec ℕ Global) CommandFault) → Type 0
+IsOneRead input reads = (read : Result (Vec ℕ Global) CommandFault) × (reads ≡ read ∷ []) × IfSome input (λ bytes. IfOk read (λ v. v.items ≡ take (FILE_BYTES + 1) bytes))
+
+-- These are the same of each file that was read, for these files.
+pub record AreReads (files : InputFiles) (input : Option (List ℕ)) (reads : FileReads) : Type 0 where
+  pub settings_named : files.settings ≡ None → IfOk reads.settings (λ v. v.items ≡ [])
+  pub world_named : files.world ≡ None → IfOk reads.world (λ v. v.items ≡ [])
+  pub scripts_named : files.scripts.items ≡ [] → IsOneRead input reads.scripts.items
+  pub each : (files.scripts.items ≡ [] → ⊥) → length reads.scripts.items ≡ length files.scripts.items
+  pub list_named : IfOk reads.listed (λ listed. is_some listed ≡ is_some files.only_from)
+  pub list_piped : option_copied files.only_from ≡ Some (codes "-") → (files.scripts.items ≡ [] → ⊥)
+      → IfSome input (λ bytes. IfOk reads.listed (λ listed. option_map (λ v. v.items) listed ≡ Some bytes))
+  pub counted : IsCountedAs files.processors reads.processors
 
 -- the shard as the words have it
 abbrev pub shard_asked : Shard → A.Shard
@@ -49,7 +76,7 @@ pub record AreFor (files : InputFiles) (input : Option (List ℕ)) (inputs : Inp
   pub only : inputs.only.now ≡ files.only.items
   pub patterns : inputs.patterns.now ≡ files.patterns.items
   pub shard : option_map shard_asked inputs.shard ≡ files.shard
-  pub processors : inputs.processors ≡ files.processors
+  pub processors : IsCountedAs files.processors inputs.processors
 
 abbrev pub IsWrittenFor : (Suite → Product) → InputFiles → Option (List ℕ) → Way → (old new : Account) → (ok : Bool) → Type 0
 IsWrittenFor product files input way old new ok = (inputs : Inputs) × AreFor files input inputs × IsWritten product inputs way old new ok
@@ -71,10 +98,15 @@ abbrev pub IsPrintedFor : (tests places : Bool) → InputFiles → Option (List 
 IsPrintedFor tests places files input old new ok = (sites : List Site) × ((inputs : Inputs) × AreFor files input inputs × ArePlaces places inputs sites
     × IsWritten (plan_of tests places (texts_of files.scripts.items) sites) inputs Serial old new ok)
 
+-- the inputs for these files are a suite
+abbrev pub IsAcceptedFor : InputFiles → Option (List ℕ) → Type 0
+IsAcceptedFor files input = (inputs : Inputs) × AreFor files input inputs × OfSuite inputs (λ suite. ⊤)
+
 -- what a request asks for was done: its text was written, or the plan or the report for its files, of a replay after some schedule
 abbrev pub Did : Request → Option (List ℕ) → (old new : Account) → (ok : Bool) → Type 0
 Did (Show text) input old new ok = (ok ≡ true) × Wrote old new (string_bytes text)
 Did (Plan tests places files) input old new ok = IsPrintedFor tests places files input old new ok
+Did (Check files) input old new ok = (ok ≡ true) × (new ≡ old) × IsAcceptedFor files input
 Did (Run serial extras files) input old new ok = IsWrittenFor suite_report files input (way_of serial) old new ok
 Did (Replay name extras files) input old new ok = (schedule : Bor (List ℕ)) × IsWrittenFor suite_report files input (BySchedule schedule) old new ok
 
@@ -88,6 +120,7 @@ pub record Answered {A : Type 0} (words : List A) (input : Option (List ℕ)) (o
 abbrev pub file_of : Request → Option (Bor (List ℕ))
 file_of (Show text) = None
 file_of (Plan tests places files) = None
+file_of (Check files) = None
 file_of (Run serial extras files) = extras.failed
 file_of (Replay name extras files) = extras.failed
 
@@ -132,11 +165,11 @@ abbrev pub tells_of_skipped : Summarized → Bool
 tells_of_skipped Failed = false
 tells_of_skipped All = true
 
--- the words of a command with these files that another one needs for the same results
-abbrev pub again_of : InputFiles → Again
-again_of files =
+-- the words of a command with these files that another one needs for the same results, where so many processors were counted with
+abbrev pub again_of : InputFiles → (processors : ℕ) → Again
+again_of files processors =
     record {
       settings = files.settings;
       world = files.world;
-      processors = cond files.processors_given (Some files.processors) None;
+      processors = option_map (λ asked. processors) files.processors;
     }

@@ -4,7 +4,7 @@ use Rattle.std.specs.Prelude.{◌≡◌, ◌≢◌, ◌⊎◌, ⊤, ℕ, List, B
 use Rattle.iso_arguments.specs.declared.request.WordsFault.{WordsFault}
 use Rattle.iso_arguments.specs.declared.request.WordsFault.TheVariants as W
 use Rattle.iso_run.specs.declared.command_fault.CommandFault.{CommandFault}
-use Rattle.iso_run.specs.declared.command_fault.CommandFault.TheVariants.{Words, Unreadable, TooLarge, NotListed, Unwritten, Unwritable, Run}
+use Rattle.iso_run.specs.declared.command_fault.CommandFault.TheVariants.{Words, Unreadable, TooLarge, NotListed, Unwritten, Unwritable, Uncounted, Told, Run, Explained}
 use Rattle.iso_run.specs.declared.fault.RunFault.{RunFault}
 use Rattle.iso_run.specs.declared.fault.RunFault.TheVariants.{Start, Lost, Memory, Write}
 use Rattle.iso_tap.specs.Sinks.{Account, CutOff, HasFailed, Wrote}
@@ -47,7 +47,10 @@ command_end (TooLarge name) = Refuses
 command_end (NotListed file index) = Refuses
 command_end Unwritten = BreaksOff
 command_end (Unwritable name) = LacksFile
+command_end Uncounted = GivesUp
+command_end (Told failed) = cond failed GivesUp Refuses
 command_end (Run fault word) = run_end fault
+command_end (Explained fault word text) = run_end fault
 
 -- the end that is answered
 abbrev pub end_of : {A F : Type 0} → (A → Bool) → (F → End) → Result A F → End

@@ -29,13 +29,18 @@ impl<'b, 'a> Besides<'b, 'a> {
         }
     }
 
-    /// What is asked for with these files.
-    pub fn new(alloc: Global, extras: Extras<'a>, files: &'b InputFiles<'b>) -> Besides<'b, 'a>
+    /// What is asked for with these files, where so many processors are counted with.
+    pub fn new(
+        alloc: Global,
+        extras: Extras<'a>,
+        files: &'b InputFiles<'b>,
+        processors: u32,
+    ) -> Besides<'b, 'a>
         ensures file { result.file ≡ extras.entry.failed }
         ensures failed { is_some result.tells.failed ≡ is_some extras.entry.failed }
         ensures unasked { extras.entry.summary ≡ None → result.tells.summary ≡ None }
         ensures summary { IfSome extras.entry.summary (λ of. IsSomeAnd result.tells.summary (λ s. (s.skipped ≡ tells_of_skipped of)
-            × (s.names.now ≡ files.now.scripts.items) × (s.again ≡ again_of files.now) × (s.text ≡ nothing_yet))) }
+            × (s.names.now ≡ files.now.scripts.items) × (s.again ≡ again_of files.now processors) × (s.text ≡ nothing_yet))) }
     {
         let failed = match extras.failed {
             Some(_) => Some(MemorySink::new(alloc)),
@@ -46,7 +51,7 @@ impl<'b, 'a> Besides<'b, 'a> {
                 alloc,
                 of == Summarized::All,
                 &files.scripts,
-                again_of(files),
+                again_of(files, processors),
             )),
             None => None,
         };
@@ -57,17 +62,16 @@ impl<'b, 'a> Besides<'b, 'a> {
     }
 }
 
-/// The words of a command with these files that another one needs for the same results.
-fn again_of<'a>(files: &'a InputFiles<'a>) -> Again<'a>
-    ensures { result ≡ again_of files.now }
+/// The words of a command with these files that another one needs for the same results, where so many processors were counted with.
+fn again_of<'a>(files: &'a InputFiles<'a>, processors: u32) -> Again<'a>
+    ensures { result ≡ again_of files.now processors }
 {
     Again {
         settings: files.settings,
         world: files.world,
-        processors: if files.processors_given {
-            Some(files.processors)
-        } else {
-            None
+        processors: match files.processors {
+            Some(_) => Some(processors),
+            None => None,
         },
     }
 }

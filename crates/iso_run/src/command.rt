@@ -12,6 +12,7 @@ ghost use Rattle.iso_run.specs.declared.way.Way.TheVariants.{Serial};
 ghost use Rattle.iso_tap.specs.Sinks.{Wrote};
 
 use crate::besides::Besides;
+use crate::check::check;
 use crate::command_fault::CommandFault;
 use crate::exit::{ALL_OK, NOT_ALL_OK};
 use crate::fault::RunFault;
@@ -26,9 +27,11 @@ use crate::way::Way;
 use crate::workers::run_workers;
 use iso_arguments::request::{InputFiles, Request, WordsFault, read_words};
 use iso_arguments::shard::Shard as AskedShard;
+use iso_explain::script::explain_script;
 use iso_lifecycle::gate::OpenGate;
 use iso_plan::fault::PlanFault;
 use iso_selection::shard::Shard;
+use iso_tap::memory::MemorySink;
 use iso_tap::printer::Printer;
 use iso_tap::sink::Sink;
 use iso_tap::text::write_text;
@@ -124,13 +127,17 @@ fn answer_request<'a, G: AllocGlobal + Files + Threads + Wait + Sync, R: Read, W
             let shown = plan(rt.alloc(), &bytes, *tests, *places, &*files, output);
             told(rt, shown, bytes, files, &Besides::nothing(), output, errors)
         }
+        Request::Check(files) => {
+            check(rt, files, input, errors)?;
+            Ok(true)
+        }
         Request::Run {
             serial,
             extras,
             files,
         } => {
             let bytes = read_files(rt, files, None, input)?;
-            let mut besides = Besides::new(rt.alloc(), *extras, &*files);
+            let mut besides = Besides::new(rt.alloc(), *extras, &*files, bytes.processors);
             let ran = run(
                 rt,
                 &bytes,
@@ -147,7 +154,7 @@ fn answer_request<'a, G: AllocGlobal + Files + Threads + Wait + Sync, R: Read, W
             files,
         } => {
             let bytes = read_files(rt, files, Some(*schedule), input)?;
-            let mut besides = Besides::new(rt.alloc(), *extras, &*files);
+            let mut besides = Besides::new(rt.alloc(), *extras, &*files, bytes.processors);
             let way = Way::BySchedule(&bytes.schedule);
             let ran = run(rt, &bytes, way, &*files, &mut besides.tells, output);
             told(rt, ran, bytes, files, &besides, output, errors)
@@ -182,7 +189,8 @@ fn run<'b, G: AllocGlobal + Threads + Wait + Sync, W: Sink>(
     tells: &mut Tells<'_>,
     output: &mut W,
 ) -> Result<Summary, RunFault>
-    requires { AreInBounds files.now }
+    requires bounds { AreInBounds files.now }
+    requires counted { 1 ≤ bytes.now.processors }
     ensures report { (input : Option (List ℕ)) → WereRead files.now input bytes.now → (inputs : Inputs) × AreFor files.now input inputs
         × Writes (λ s. s.all_ok) suite_report inputs way.entry (W.account output.old) (W.account output.new) result }
     ensures quiet { tells.old.summary ≡ None → OnOk result (tells.new.summary ≡ None) }
@@ -206,7 +214,8 @@ fn plan<'b, W: Sink>(
     files: &'b InputFiles<'b>,
     output: &mut W,
 ) -> Result<Summary, RunFault>
-    requires { AreInBounds files.now }
+    requires bounds { AreInBounds files.now }
+    requires counted { 1 ≤ bytes.now.processors }
     ensures { (input : Option (List ℕ)) → WereRead files.now input bytes.now → (inputs : Inputs) × AreFor files.now input inputs
         × ((sites : List Site) × IfLate (end_of (λ s. s.all_ok) run_end result) (ArePlaces places inputs sites)
         × Writes (λ s. s.all_ok) (plan_of tests places (texts_of files.now.scripts.items) sites) inputs Serial (W.account output.old) (W.account output.new) result) }
@@ -243,7 +252,7 @@ fn print_plan<W: Sink>(
 }
 
 /// The inputs that these bytes are, whose scripts are lent, as they are asked for with these files and this shard.
-fn inputs_of<'b>(
+pub(crate) fn inputs_of<'b>(
     bytes: &'b InputBytes,
     scripts: &'b [&'b [u8]],
     files: &'b InputFiles<'b>,
@@ -256,7 +265,7 @@ fn inputs_of<'b>(
     ensures patterns { result.patterns.now ≡ files.now.patterns.items }
     ensures listed { option_copied result.listed ≡ option_map (λ v. v.items) bytes.now.listed }
     ensures shard { result.shard ≡ shard }
-    ensures processors { result.processors ≡ files.now.processors }
+    ensures processors { result.processors ≡ bytes.now.processors }
 {
     Inputs {
         scripts,
@@ -266,12 +275,12 @@ fn inputs_of<'b>(
         patterns: &files.patterns,
         listed: bytes.listed.as_deref(),
         shard,
-        processors: files.processors,
+        processors: bytes.processors,
     }
 }
 
 /// The shard that the words ask for.
-fn shard_of(asked: Option<AskedShard>) -> Option<Shard>
+pub(crate) fn shard_of(asked: Option<AskedShard>) -> Option<Shard>
     requires { IsShard asked }
     ensures { option_map shard_asked result ≡ asked }
 {
@@ -308,7 +317,7 @@ fn told<'a, G: AllocGlobal + Files, W: Sink, E: Sink>(
             }
             ended
         }
-        Err(fault) => Err(named(fault, bytes, files)),
+        Err(fault) => Err(named(rt.alloc(), fault, bytes, files)),
     }
 }
 
@@ -362,16 +371,46 @@ fn flushed<W: Sink>(ok: bool, output: &mut W) -> Result<bool, CommandFault<'stat
     Ok(ok)
 }
 
-/// A fault of a run, with the word that it is of: the name of a script, where one is named, or what names no class or test.
-fn named<'a>(fault: RunFault, bytes: InputBytes, files: &InputFiles<'a>) -> CommandFault<'a>
+/// A fault of a run, with the word that it is of: the name of a script, where one is named, or what names no class or test; and with what
+/// mends it, where that is asked for.
+pub(crate) fn named<'a>(
+    alloc: Global,
+    fault: RunFault,
+    bytes: InputBytes,
+    files: &InputFiles<'a>,
+) -> CommandFault<'a>
     ensures { command_end result ≡ run_end fault }
 {
     match fault {
         RunFault::Plan(PlanFault::NotSelected(index)) => not_selected(index, bytes, files),
         RunFault::Script(index, _) => {
-            CommandFault::Run(fault, files.scripts.get(index).copied())
+            let name = files.scripts.get(index).copied();
+            let script = match bytes.scripts.get(index) {
+                Some(script) if files.explain => Some(script.as_slice()),
+                _ => None,
+            };
+            explained(alloc, fault, name, script)
         }
         _ => CommandFault::Run(fault, None),
+    }
+}
+
+/// A fault of a script of this name, with what mends it, where the script's bytes are given and memory is left.
+pub(crate) fn explained<'a>(
+    alloc: Global,
+    fault: RunFault,
+    name: Option<&'a str>,
+    script: Option<&[u8]>,
+) -> CommandFault<'a>
+    ensures { command_end result ≡ run_end fault }
+{
+    let Some(script) = script else {
+        return CommandFault::Run(fault, name);
+    };
+    let mut text = MemorySink::new(alloc);
+    match explain_script(alloc, script, &mut text) {
+        Ok(_) => CommandFault::Explained(fault, name, text),
+        Err(_) => CommandFault::Run(fault, name),
     }
 }
 

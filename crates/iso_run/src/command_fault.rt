@@ -7,6 +7,7 @@ ghost use Rattle.iso_run.specs.declared.fault.RunFault.TheVariants.{Memory};
 use crate::exit::{FAILED, WRONG_INPUT};
 use crate::fault::RunFault;
 use iso_arguments::request::WordsFault;
+use iso_tap::memory::MemorySink;
 use std::alloc::{AllocError, AllocFailed};
 
 /// Why a command ends with status 2 or 3. It shows as what is written to standard error, without the last line feed.
@@ -22,10 +23,16 @@ pub(crate) enum CommandFault<'a> {
     Unwritten,
     /// A file of this name can't be written.
     Unwritable(&'a str),
+    /// The system doesn't tell how many processors there are.
+    Uncounted,
+    /// The faults of a check were told; whether one of them is other than that of refused input.
+    Told(bool),
     /// The path with this number of those that this file lists, counted from 0, names no class or test.
     NotListed(Vec<u8>, usize),
     /// A fault of the run, and the word that it is of: the name of a script, where one was named, or a path.
     Run(RunFault, Option<&'a str>),
+    /// The same, with a text that says what mends it.
+    Explained(RunFault, Option<&'a str>, MemorySink),
 }
 
 impl CommandFault<'_> {
@@ -43,9 +50,12 @@ impl CommandFault<'_> {
         match self {
             CommandFault::Words(_) | CommandFault::TooLarge(_) | CommandFault::NotListed(_, _) =>
                 WRONG_INPUT,
-            CommandFault::Unreadable(_) | CommandFault::Unwritten | CommandFault::Unwritable(_) =>
-                FAILED,
-            CommandFault::Run(fault, _) => fault.status(),
+            CommandFault::Unreadable(_)
+            | CommandFault::Unwritten
+            | CommandFault::Unwritable(_)
+            | CommandFault::Uncounted => FAILED,
+            CommandFault::Told(failed) => if *failed { FAILED } else { WRONG_INPUT },
+            CommandFault::Run(fault, _) | CommandFault::Explained(fault, _, _) => fault.status(),
         }
     }
 }

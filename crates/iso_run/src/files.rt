@@ -1,25 +1,28 @@
 //! The files that a command is made of.
-ghost use Rattle.std.specs.Prelude.{◌≡◌, ◌≤◌, ◌+◌, [], ◌∷◌, IfErr, IfOk, IfSome, IsOkAnd, None, Some, codes, is_some, length, map, option_map, take};
+ghost use Rattle.std.specs.Prelude.{◌≡◌, ◌≤◌, ◌+◌, [], ◌∷◌, IfErr, IfOk, IfSome, IsOkAnd, None, Some, codes, is_some, length, map, option_map, take, Option, ℕ, List, Ok};
 ghost use Rattle.std.specs.Option.{option_copied};
 ghost use Rattle.std.specs.IoError.{error_kind};
 ghost use Rattle.std.specs.declared.io.ErrorKind.TheVariants.{OutOfMemory};
-ghost use Rattle.iso_arguments.specs.Requests.{NamesNothing};
+ghost use Rattle.iso_arguments.specs.Requests.{IsWithin, NamesNothing};
 ghost use Rattle.iso_model.specs.declared.limits.TheConstants.{FILE_BYTES};
 ghost use Rattle.iso_selection.specs.declared.list.TheConstants.{LIST_BYTES};
 ghost use Rattle.iso_run.specs.Suites.{texts};
-ghost use Rattle.iso_run.specs.Commands.{WereRead};
+ghost use Rattle.iso_arguments.specs.declared.request.InputFiles as I;
+ghost use Rattle.iso_run.specs.Commands.{AreReads, IsCountedAs, IsOneRead, WereRead};
 ghost use Rattle.iso_run.specs.Ends.{ComesEarly, GaveUp};
 ghost use Rattle.iso_run.specs.declared.command_fault.CommandFault.TheVariants.{Run, Unreadable};
 ghost use Rattle.iso_run.specs.declared.fault.RunFault.TheVariants.{Memory};
 
 use crate::command_fault::CommandFault;
 use crate::lines::STDIN;
+use iso_arguments::processors::Processors;
 use iso_arguments::request::InputFiles;
 use iso_model::limits::FILE_BYTES;
 use iso_selection::list::LIST_BYTES;
 use std::alloc::{AllocError, AllocGlobal, Global};
 use std::fs::{File, Files};
 use std::io::{self, Read, Write};
+use std::thread::{self, Threads};
 
 /// The bytes of the files that a command is made of.
 #[derive(Drop)]
@@ -31,20 +34,26 @@ pub(crate) struct InputBytes {
     pub schedule: Vec<u8>,
     /// The file in which paths stand, where one is named.
     pub listed: Option<Vec<u8>>,
+    /// How many processors are counted with.
+    pub processors: u32,
 }
 
-/// Reads the settings, the world, the scripts in turn, or a script from standard input where none is named, the schedule, and
-/// the file in which the paths of what is kept stand. Settings, a world or a schedule that isn't named counts as an empty file.
-pub(crate) fn read_files<'a, G: AllocGlobal + Files, R: Read>(
+/// Counts the processors, and reads the settings, the world, the scripts in turn, or a script from standard input where none is named,
+/// the schedule, and the file in which the paths of what is kept stand. Settings, a world or a schedule that isn't named counts as an
+/// empty file.
+pub(crate) fn read_files<'a, G: AllocGlobal + Files + Threads, R: Read>(
     rt: &G,
     files: &InputFiles<'a>,
     schedule: Option<&'a str>,
     input: &mut R,
 ) -> Result<InputBytes, CommandFault<'a>>
+    requires { IfSome files.now.processors IsWithin }
     ensures early { IfErr result ComesEarly }
     ensures read { IfOk result (WereRead files.now (R.remaining input.old)) }
+    ensures counted { IfOk result (λ bytes. 1 ≤ bytes.processors) }
     ensures unnamed { NamesNothing files.now → schedule.entry ≡ None → IfErr result GaveUp }
 {
+    let processors = counted(rt, files.processors)?;
     let settings = read_document(rt, files.settings)?;
     let world = read_document(rt, files.world)?;
     let scripts = read_script_files(rt, &files.scripts, input)?;
@@ -58,7 +67,120 @@ pub(crate) fn read_files<'a, G: AllocGlobal + Files, R: Read>(
         world,
         schedule,
         listed: read_list(rt, files.only_from, input)?,
+        processors,
     })
+}
+
+/// Each file that a command is made of, or why it wasn't read.
+#[derive(Drop)]
+pub(crate) struct FileReads<'a> {
+    pub scripts: Vec<Result<Vec<u8>, CommandFault<'a>>>,
+    pub settings: Result<Vec<u8>, CommandFault<'a>>,
+    pub world: Result<Vec<u8>, CommandFault<'a>>,
+    pub listed: Result<Option<Vec<u8>>, CommandFault<'a>>,
+    pub processors: u32,
+}
+
+/// Reads each file as `read_files` does, but no schedule, and goes on after one that can't be read.
+pub(crate) fn read_each<'a, G: AllocGlobal + Files + Threads, R: Read>(
+    rt: &G,
+    files: &InputFiles<'a>,
+    input: &mut R,
+) -> Result<FileReads<'a>, CommandFault<'a>>
+    requires { IfSome files.now.processors IsWithin }
+    ensures gave_up { IfErr result GaveUp }
+    ensures read { IfOk result (AreReads files.now (R.remaining input.old)) }
+    ensures counted { IfOk result (λ reads. 1 ≤ reads.processors) }
+{
+    let processors = counted(rt, files.processors)?;
+    let settings = read_document(rt, files.settings);
+    let world = read_document(rt, files.world);
+    let scripts = read_each_script(rt, &files.scripts, input)?;
+    Ok(FileReads {
+        scripts,
+        settings,
+        world,
+        listed: read_list(rt, files.only_from, input),
+        processors,
+    })
+}
+
+/// Reads each script of these names, or one from standard input where there is none.
+fn read_each_script<'a, G: AllocGlobal + Files, R: Read>(
+    rt: &G,
+    names: &[&'a str],
+    input: &mut R,
+) -> Result<Vec<Result<Vec<u8>, CommandFault<'a>>>, CommandFault<'a>>
+    ensures gave_up { IfErr result GaveUp }
+    ensures standard_input { names.now ≡ [] → IfOk result (λ reads. IsOneRead (R.remaining input.old) reads.items) }
+    ensures each { (names.now ≡ [] → ⊥) → IfOk result (λ reads. length reads.items ≡ length names.now) }
+    ensures unread { (names.now ≡ [] → ⊥) → R.remaining input.new ≡ R.remaining input.old }
+{
+    let mut reads = Vec::new(rt.alloc());
+    if names.is_empty() {
+        reads.push(read_limited(rt.alloc(), input, STDIN, FILE_BYTES))?;
+        return Ok(reads);
+    }
+    for name in names {
+        reads.push(read_file(rt, name))?;
+    }
+    Ok(reads)
+}
+
+/// The bytes of all files, or why the first that wasn't read wasn't.
+pub(crate) fn all_of<'a>(
+    alloc: Global,
+    reads: FileReads<'a>,
+) -> Result<InputBytes, CommandFault<'a>>
+    ensures read { (files : I.InputFiles) (input : Option (List ℕ)) → AreReads files input reads.entry → IfOk result (WereRead files input) }
+    ensures counted { IfOk result (λ bytes. bytes.processors ≡ reads.entry.processors) }
+{
+    let FileReads {
+        scripts,
+        settings,
+        world,
+        listed,
+        processors,
+    } = reads;
+    Ok(InputBytes {
+        settings: settings?,
+        world: world?,
+        scripts: all_scripts(alloc, scripts)?,
+        schedule: Vec::new(alloc),
+        listed: listed?,
+        processors,
+    })
+}
+
+/// The bytes of all scripts, or why the first that wasn't read wasn't.
+fn all_scripts<'a>(
+    alloc: Global,
+    reads: Vec<Result<Vec<u8>, CommandFault<'a>>>,
+) -> Result<Vec<Vec<u8>>, CommandFault<'a>>
+    ensures { IfOk result (λ scripts. map Ok scripts.items ≡ reads.entry.items) }
+{
+    let mut scripts = Vec::new(alloc);
+    for read in reads {
+        scripts.push(read?)?;
+    }
+    Ok(scripts)
+}
+
+/// How many processors are counted with: as many as is asked for, those of the machine, but no more than may be asked for, or one.
+fn counted<'a, T: Threads>(rt: &T, asked: Option<Processors>) -> Result<u32, CommandFault<'a>>
+    requires { IfSome asked IsWithin }
+    ensures gave_up { IfErr result GaveUp }
+    ensures counted { IfOk result (IsCountedAs asked) }
+    ensures bounds { IfOk result (λ n. 1 ≤ n) }
+{
+    match asked {
+        None => Ok(1),
+        Some(Processors::Count(count)) => Ok(count),
+        Some(Processors::Auto) => match thread::available_parallelism(rt) {
+            Ok(count) => Ok(count.get().clamp(1, 1024) as u32),
+            Err(_) => Err(CommandFault::Uncounted),
+        },
+    }
 }
 
 /// Reads the file in which paths stand, where one is named; `-` is standard input.

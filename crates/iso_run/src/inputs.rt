@@ -91,7 +91,11 @@ pub fn read_inputs(alloc: Global, inputs: Inputs<'_>, places: bool) -> Result<Su
 }
 
 /// Reads settings, on a machine of so many processors.
-fn settings_from(alloc: Global, bytes: &[u8], processors: u32) -> Result<Settings, SettingsError>
+pub(crate) fn settings_from(
+    alloc: Global,
+    bytes: &[u8],
+    processors: u32,
+) -> Result<Settings, SettingsError>
     requires { 1 ≤ processors }
     ensures { Gives (settings_from bytes.now processors) result }
 {
@@ -102,7 +106,7 @@ fn settings_from(alloc: Global, bytes: &[u8], processors: u32) -> Result<Setting
 }
 
 /// Reads a world.
-fn world_from(alloc: Global, bytes: &[u8]) -> Result<World, SettingsError>
+pub(crate) fn world_from(alloc: Global, bytes: &[u8]) -> Result<World, SettingsError>
     ensures { Gives (world_from bytes.now) result }
 {
     match str::from_utf8(bytes) {

@@ -2,6 +2,7 @@
 #![tactic(auto)]
 
 mod besides;
+mod check;
 pub mod command;
 mod command_fault;
 mod exit;

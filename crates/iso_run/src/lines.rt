@@ -5,6 +5,7 @@ use iso_plan::fault::PlanFault;
 use iso_schedule::fault::ScheduleFault;
 use iso_script::fault::ScriptFault;
 use iso_settings::fault::SettingsFault;
+use iso_tap::printer::Printer;
 use iso_tap::sink::Sink;
 use iso_tap::text::write_text;
 use std::fmt;
@@ -34,7 +35,9 @@ impl fmt::Display for CommandFault<'_> {
                 write!(f, "jtap: {}: cannot be written", Escaped(*name))
             }
             CommandFault::Unwritten => f.write_str(WRITE_FAILED),
-            CommandFault::Run(fault, word) => {
+            CommandFault::Told(_) => Ok(()),
+            CommandFault::Uncounted => f.write_str("jtap: processors: cannot be read"),
+            CommandFault::Run(fault, word) | CommandFault::Explained(fault, word, _) => {
                 let line = RunFaultLine { fault, word: *word };
                 write!(f, "{line}")
             }
@@ -162,10 +165,16 @@ impl fmt::Display for EscapedLines<'_> {
     }
 }
 
-/// Writes a fault's line as far as the sink takes it.
+/// Writes a fault's line, and what mends it, where that is told, as far as the sink takes them; nothing of faults that were told before.
 pub(crate) fn say<E: Sink>(errors: &mut E, fault: &CommandFault<'_>) {
+    if let CommandFault::Told(_) = fault {
+        return;
+    }
     let mut writer = SinkWriter { sink: errors };
     let _ = fmt::Write::writeln(&mut writer, fault);
+    if let CommandFault::Explained(_, _, text) = fault {
+        let _ = Printer::new(errors).bytes(text.bytes());
+    }
 }
 
 /// Writes text to a sink, as far as the sink takes it.

@@ -76,7 +76,7 @@ same_is AfterEach BeforeAll h = cc
 same_is AfterEach AfterAll h = cc
 same_is AfterEach BeforeEach h = cc
 
-same_self : (k : Lifecycle) → same_kind k k ≡ true
+pub same_self : (k : Lifecycle) → same_kind k k ≡ true
 same_self BeforeAll = refl
 same_self AfterAll = refl
 same_self BeforeEach = refl

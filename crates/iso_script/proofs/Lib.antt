@@ -1,4 +1,6 @@
 pub mod Blocks
+pub mod WantsLemmas
+pub mod ContextLemmas
 pub mod Classes
 pub mod Displays
 pub mod Distinct

@@ -1,9 +1,11 @@
 pub mod Blocks
 pub mod Displays
+pub mod Wants
 pub mod Faults
 pub mod Grammar
 pub mod Marks
 pub mod Places
+pub mod Contexts
 pub mod Readings
 pub mod Variables
 pub mod Examples

@@ -2,15 +2,18 @@
 ghost use Rattle.std.specs.Prelude.{◌≡◌, is_some};
 ghost use Rattle.iso_script.specs.Blocks.{IsBlocks, block_if, block_next, block_of, block_word, blocks_of, with_block};
 ghost use Rattle.iso_script.specs.Places.{class_place, line_if};
+ghost use Rattle.iso_script.specs.Wants.{after_blocks, are_none};
 ghost use Rattle.iso_script_statements.specs.Parsing.{Parses};
 
 use crate::place::{BlockLine, BlockLines, LifecycleLines, NodePlace};
 use iso_model::place::Lifecycle;
 use iso_model::tree::Stmt;
+use iso_script_lexer::symbol::Symbol;
 use iso_script_lexer::token::{Position, Token};
 use iso_script_lexer::word::Word;
 use iso_script_statements::fault::{ScriptError, ScriptFaultKind};
 use iso_script_statements::parser::Parser;
+use iso_script_statements::wanted::Wanted;
 
 /// A lifecycle block: the line of its opening brace, and its statements.
 #[derive(Drop)]
@@ -53,6 +56,27 @@ impl Blocks {
                 before_each: line_if(&self.before_each),
                 after_each: line_if(&self.after_each),
             }),
+        }
+    }
+
+    /// Whether none is written.
+    fn are_none(&self) -> bool
+        ensures { result ≡ are_none (blocks_of self.now) }
+    {
+        self.before_all.is_none()
+            && self.after_all.is_none()
+            && self.before_each.is_none()
+            && self.after_each.is_none()
+    }
+
+    /// What is wanted after these blocks, where no member is next.
+    pub(crate) fn wanted_next(&self) -> Wanted
+        ensures { result ≡ after_blocks (blocks_of self.now) }
+    {
+        if self.are_none() {
+            Wanted::ClassPart
+        } else {
+            Wanted::BlockOrMember
         }
     }
 
@@ -119,7 +143,7 @@ pub(crate) fn read_blocks(parser: &mut Parser<'_>) -> Result<Blocks, ScriptError
         }
         parser.lexer.advance();
         let line = parser.lexer.peek().1.line;
-        let body = parser.block()?;
+        let body = parser.block(Wanted::Symbol(Symbol::OpenBrace))?;
         blocks.put(kind, Block { line, body });
     }
     Ok(blocks)

@@ -4,8 +4,10 @@
 
 mod block;
 mod class;
+mod context;
 mod display;
 pub mod examples;
+pub mod explain;
 pub mod fault;
 mod head;
 pub mod laws;
@@ -13,4 +15,5 @@ mod mark;
 pub mod place;
 pub mod reader;
 mod test;
+mod twice;
 mod variable;

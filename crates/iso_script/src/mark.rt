@@ -4,9 +4,12 @@ ghost use Rattle.std.specs.Prelude.{◌≡◌, ℕ, List, MatchResult, Some};
 ghost use Rattle.iso_model.specs.Targets.{is_for_children};
 ghost use Rattle.iso_script.specs.Marks as S;
 ghost use Rattle.iso_script.specs.Marks.{Adds, IsKeyText, IsMarking, IsMarks, IsTarget, Marking, fits_test, key_fault, mark_next, mark_word, marks_of};
+ghost use Rattle.iso_script.specs.Wants.{after_class_marks, after_marks, after_target, is_unmarked};
 ghost use Rattle.iso_script_lexer.specs.Piece.{Piece};
-ghost use Rattle.iso_script_statements.specs.Faults.{IsMemory};
+ghost use Rattle.iso_script_statements.specs.Faults.{IsFaultOf, IsMemory};
 ghost use Rattle.iso_script_statements.specs.Parsing.{Parses};
+ghost use Rattle.iso_script_statements.specs.Wanted.{IsUnmet};
+ghost use Rattle.iso_script_statements.specs.declared.wanted.Wanted.TheVariants as W;
 
 use iso_model::access::Access;
 use iso_model::heads::{Mark, Target};
@@ -18,6 +21,8 @@ use iso_script_lexer::token::Token;
 use iso_script_lexer::word::Word;
 use iso_script_statements::fault::{ScriptError, ScriptFaultKind};
 use iso_script_statements::parser::Parser;
+use iso_script_statements::reason::Limit;
+use iso_script_statements::wanted::Wanted;
 
 /// The marks of a class or test.
 #[derive(Drop)]
@@ -36,6 +41,37 @@ impl Marks {
         ensures { result ≡ fits_test (marks_of self.now) }
     {
         !self.isolated && !any_for_children(&self.keys)
+    }
+
+    /// Whether there is none.
+    fn are_none(&self) -> bool
+        ensures { result ≡ is_unmarked (marks_of self.now) }
+    {
+        self.mode.is_none() && !self.isolated && self.disabled.is_none() && self.keys.is_empty()
+    }
+
+    /// What is wanted after these marks, where no top-level class is next.
+    pub fn wanted_of_a_class(&self) -> Wanted
+        ensures { result ≡ after_class_marks (marks_of self.now) }
+    {
+        if self.are_none() {
+            Wanted::TopClass
+        } else {
+            Wanted::MarkedClass
+        }
+    }
+
+    /// What is wanted after these marks, where no member of a class is next. Without a mark, this is.
+    pub fn wanted_of_a_member(&self, place: Wanted) -> Wanted
+        ensures { result ≡ after_marks (marks_of self.now) place }
+    {
+        if self.are_none() {
+            place
+        } else if self.fits_test() {
+            Wanted::MarkedMember
+        } else {
+            Wanted::MarkedClass
+        }
     }
 }
 
@@ -126,7 +162,7 @@ fn add_mark(parser: &mut Parser<'_>, word: MarkWord, marks: &mut Marks) -> Resul
         MarkWord::Access(access) => {
             parser.lexer.advance();
             let target = target(parser);
-            let key = key(parser)?;
+            let key = key(parser, wanted_after(target))?;
             marks.keys.push(Mark {
                 access,
                 target,
@@ -149,19 +185,43 @@ fn target(parser: &mut Parser<'_>) -> Target
     }
 }
 
-/// The key of a mark. One that may not be declared is a fault at its quote.
-fn key(parser: &mut Parser<'_>) -> Result<Key, ScriptError>
+/// What is wanted where no key is next, by what it is declared for.
+fn wanted_after(target: Target) -> Wanted
+    ensures { result ≡ after_target target }
+{
+    match target {
+        Target::Itself => Wanted::Target,
+        Target::Children => Wanted::Key,
+    }
+}
+
+/// The key of a mark. One that may not be declared is a fault at its quote. Where none is next, this is wanted.
+fn key(parser: &mut Parser<'_>, wanted: Wanted) -> Result<Key, ScriptError>
+    requires { IsUnmet W.Key parser.old.lexer → IsUnmet wanted parser.old.lexer }
     ensures { Parses (λ (k : List ℕ). k) IsKeyText result parser.old.lexer parser.new.lexer }
 {
     let Token::Text(text) = parser.lexer.peek().0 else {
-        return Err(parser.unexpected());
+        return Err(parser.unexpected(wanted));
     };
     let key = Key::new(parser.alloc, Text::new(text.decode(parser.alloc)?))?;
+    if key.as_str().is_empty() {
+        return Err(parser.unexpected(wanted));
+    }
     if let Some(kind) = key_fault(key.as_str()) {
-        return Err(parser.fault_here(kind));
+        return Err(refused_key(parser, kind));
     }
     parser.lexer.advance();
     Ok(key)
+}
+
+/// The fault of a key that may not be declared, which has this kind.
+fn refused_key(parser: &mut Parser<'_>, kind: ScriptFaultKind) -> ScriptError
+    ensures { IsFaultOf (λ k. k ≡ kind) result }
+{
+    match kind {
+        ScriptFaultKind::TooLong => parser.beyond(Limit::KeyBytes, kind),
+        _ => parser.fault_here(kind),
+    }
 }
 
 /// Why a key may not be declared: it is empty, above 255 bytes, or that of the global lock.

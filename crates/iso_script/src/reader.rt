@@ -82,7 +82,7 @@ fn read(alloc: Global, bytes: &[u8], places: &mut Places) -> Result<Script, Scri
 }
 
 /// A script, up to the end.
-fn script(parser: &mut Parser<'_>, places: &mut Places) -> Result<Script, ScriptError>
+pub(crate) fn script(parser: &mut Parser<'_>, places: &mut Places) -> Result<Script, ScriptError>
     ensures read { Finds script_of (λ s here. IsScript s here parser.old.lexer) result (kept places.old) (kept places.new) }
     ensures begins { IfErr result (UnlessMemory (λ fault. IsOfBeginning parser.old.lexer fault.kind)) }
 {

@@ -5,7 +5,7 @@ ghost use Rattle.iso_model.specs.ScriptView.{test_of};
 ghost use Rattle.iso_script.specs.Grammar.{IsTest};
 ghost use Rattle.iso_script.specs.Places.{ParsesPlaced, kept};
 
-use crate::display::read_display;
+use crate::display::{read_display, wanted_after};
 use crate::mark::Marks;
 use crate::place::{BlockLines, NodePlace, Places};
 use iso_model::heads::{TestContents, TestHead};
@@ -29,7 +29,8 @@ pub(crate) fn read_test(
 {
     let display = read_display(parser)?;
     let line = parser.lexer.peek().1.line;
-    let body = parser.block()?;
+    let wanted = wanted_after(&display);
+    let body = parser.block(wanted)?;
     places.add(NodePlace {
         name: at,
         blocks: BlockLines::Test(line),

@@ -16,6 +16,7 @@ use iso_script_lexer::token::Token;
 use iso_script_lexer::word::Word;
 use iso_script_statements::fault::{ScriptError, ScriptFaultKind};
 use iso_script_statements::parser::Parser;
+use iso_script_statements::wanted::Wanted;
 use std::collections::BTreeSet;
 
 /// The statics and fields of a class.
@@ -102,7 +103,7 @@ fn read_variable<'a>(
     parser.lexer.advance();
     let name = free_name(parser, enclosing, own)?;
     parser.expect(Symbol::Equals)?;
-    let value = parser.literal()?;
+    let value = parser.literal(Wanted::Literal)?;
     parser.expect(Symbol::Semicolon)?;
     Ok(Variable {
         name: Text::copied(parser.alloc, name)?,
@@ -126,7 +127,7 @@ fn free_name<'a>(
         → IsNew taken names n → IfErr result IsMemory }
 {
     let Token::Name(name) = parser.lexer.peek().0 else {
-        return Err(parser.unexpected());
+        return Err(parser.unexpected(Wanted::Name));
     };
     if is_taken(enclosing, name) {
         return Err(parser.fault_here(ScriptFaultKind::NameTaken));

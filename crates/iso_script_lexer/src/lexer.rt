@@ -77,6 +77,18 @@ impl<'a> Lexer<'a> {
         (self.token, self.position)
     }
 
+    /// How many bytes the token that is next has: 0 where none is.
+    pub fn width(&self) -> u32 {
+        match self.token {
+            Token::End | Token::Bad(_) => 0,
+            _ => self
+                .next
+                .position()
+                .column
+                .saturating_sub(self.position.column),
+        }
+    }
+
     /// Goes on to the next token. At `End` it stays there, and after `Bad` comes `End`.
     pub fn advance(&mut self)
         ensures { self.new ≡ tail self.old }

@@ -7,5 +7,6 @@ pub mod Unique
 pub mod Literals
 pub mod Expressions
 pub mod Statements
+pub mod WantedLemmas
 pub mod Views
 pub mod ExampleLemmas

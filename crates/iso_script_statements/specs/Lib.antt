@@ -4,4 +4,6 @@ pub mod Parsing
 pub mod Pieces
 pub mod Expressions
 pub mod Statements
+pub mod Wanted
+pub mod Reasons
 pub mod Examples

@@ -11,9 +11,13 @@ ghost use Rattle.iso_model.specs.declared.limits.TheConstants.{OPERANDS};
 ghost use Rattle.iso_script_statements.specs.Expressions.{IsBefore, IsChained, IsEnclosed, IsExpression, IsLiteral, IsLocale, IsOperand, function_next, function_of, infix_next, infix_of, terms_in};
 ghost use Rattle.iso_script_statements.specs.Faults.{IsMemory};
 ghost use Rattle.iso_script_statements.specs.Parsing.{Parses};
+ghost use Rattle.iso_script_statements.specs.Wanted.{IsUnmet};
+ghost use Rattle.iso_script_statements.specs.declared.wanted.Wanted.TheVariants.{Literal};
 
 use crate::fault::{ScriptError, ScriptFaultKind};
 use crate::parser::Parser;
+use crate::reason::Limit;
+use crate::wanted::{Operators, Wanted};
 use iso_model::data::Data;
 use iso_model::limits::{OPERANDS, PARENTHESES};
 use iso_model::text::Text;
@@ -116,8 +120,9 @@ impl Parser<'_> {
         }
     }
 
-    /// A literal.
-    pub fn literal(&mut self) -> Result<Data, ScriptError>
+    /// A literal. Where none is next, this is wanted.
+    pub fn literal(&mut self, wanted: Wanted) -> Result<Data, ScriptError>
+        requires { IsUnmet Literal self.old.lexer → IsUnmet wanted self.old.lexer }
         ensures { Parses (λ (x : Data). x) IsLiteral result self.old.lexer self.new.lexer }
     {
         if self.lexer.takes(Symbol::Minus) {
@@ -132,7 +137,7 @@ impl Parser<'_> {
         match self.lexer.peek().0 {
             Token::Number(number) => {
                 let Ok(whole) = i64::try_from(number) else {
-                    return Err(self.unexpected());
+                    return Err(self.unexpected(wanted));
                 };
                 self.lexer.advance();
                 Ok(Data::Whole(whole))
@@ -141,7 +146,7 @@ impl Parser<'_> {
                 self.lexer.advance();
                 Ok(Data::Text(Text::new(text.decode(self.alloc)?)))
             }
-            _ => Err(self.unexpected()),
+            _ => Err(self.unexpected(wanted)),
         }
     }
 
@@ -150,10 +155,10 @@ impl Parser<'_> {
         ensures { (q : Position) → Parses (λ (x : Data). x) (λ x ps qs. IsLiteral x (symbol_at q Minus ∷ ps) qs) result self.old.lexer self.new.lexer }
     {
         let Token::Number(number) = self.lexer.peek().0 else {
-            return Err(self.unexpected());
+            return Err(self.unexpected(Wanted::Number));
         };
         let Ok(whole) = i64::try_from(-i128::from(number)) else {
-            return Err(self.unexpected());
+            return Err(self.unexpected(Wanted::Number));
         };
         self.lexer.advance();
         Ok(Data::Whole(whole))
@@ -179,14 +184,15 @@ impl Parser<'_> {
             self.lexer.advance();
             return Ok(Expr::Name(Text::copied(self.alloc, name)?));
         }
-        Ok(Expr::Literal(self.literal()?))
+        Ok(Expr::Literal(self.literal(Wanted::Operand)?))
     }
 
     /// What follows the word `locale`: two parentheses, where so many may be opened.
     fn locale(&mut self, parens: u32) -> Result<Expr, ScriptError>
         ensures { Parses term_of (IsLocale parens) result self.old.lexer self.new.lexer }
     {
-        self.open(Symbol::OpenParen, parens)?;
+        let paren = Symbol::OpenParen;
+        self.open(paren, parens, Wanted::Symbol(paren), Limit::Parentheses)?;
         self.expect(Symbol::CloseParen)?;
         Ok(Expr::Locale)
     }
@@ -196,23 +202,30 @@ impl Parser<'_> {
     fn enclosed(&mut self, parens: u32) -> Result<Expr, ScriptError>
         ensures { Parses term_of (IsEnclosed parens) result self.old.lexer self.new.lexer }
     {
-        let more = self.open(Symbol::OpenParen, parens)?;
-        let expression = self.expression(more)?;
+        let paren = Symbol::OpenParen;
+        let more = self.open(paren, parens, Wanted::Symbol(paren), Limit::Parentheses)?;
+        let expression = self.expression(more, Symbol::CloseParen)?;
         self.followed(expression, Symbol::CloseParen)
     }
 
-    /// The operands after the first of a chain, with this operator before each.
+    /// The operands after the first of a chain, with this operator before each. What follows the chain is this symbol.
     #[cycle(expression)]
-    fn chained(&mut self, symbol: Symbol, parens: u32) -> Result<Vec<Expr>, ScriptError>
+    fn chained(
+        &mut self,
+        symbol: Symbol,
+        parens: u32,
+        follows: Symbol,
+    ) -> Result<Vec<Expr>, ScriptError>
+        requires { infix_of follows ≡ None }
         ensures { Parses terms_in (IsChained parens symbol (OPERANDS - 1)) result self.old.lexer self.new.lexer }
     {
         let mut operands = Vec::new(self.alloc);
         'operands: while self.infix().is_some() {
             if !self.is_at(symbol) {
-                return Err(self.unexpected());
+                return Err(self.unexpected(Wanted::SameOperator(symbol, follows)));
             }
             if operands.len() >= MORE_OPERANDS {
-                return Err(self.fault_here(ScriptFaultKind::TooDeep));
+                return Err(self.beyond(Limit::Operands, ScriptFaultKind::TooDeep));
             }
             self.lexer.advance();
             operands.push(self.operand(parens)?)?;
@@ -220,36 +233,41 @@ impl Parser<'_> {
         Ok(operands)
     }
 
-    /// An expression, in which so many parentheses may be opened.
+    /// An expression, in which so many parentheses may be opened. What follows it is this symbol.
     #[cycle(expression)]
-    pub(crate) fn expression(&mut self, parens: u32) -> Result<Expr, ScriptError>
+    pub(crate) fn expression(&mut self, parens: u32, follows: Symbol) -> Result<Expr, ScriptError>
+        requires { infix_of follows ≡ None }
         ensures { Parses term_of (IsExpression parens) result self.old.lexer self.new.lexer }
     {
         let first = self.operand(parens)?;
         let Some((symbol, infix)) = self.infix() else {
+            self.operators = Operators::Any;
             return Ok(first);
         };
         match infix {
             Infix::Chain(operator) => {
-                let operands = self.chained(symbol, parens)?;
+                let operands = self.chained(symbol, parens, follows)?;
+                self.operators = Operators::Same(symbol);
                 chain(self.alloc, operator, first, operands)
             }
             Infix::Compare(comparison) => {
                 self.lexer.advance();
-                let second = self.compared(parens)?;
+                let second = self.compared(parens, follows)?;
+                self.operators = Operators::None;
                 compare(self.alloc, comparison, first, second)
             }
         }
     }
 
-    /// The second of two operands that are compared, which no operator follows.
+    /// The second of two operands that are compared, which no operator follows, but this symbol.
     #[cycle(expression)]
-    fn compared(&mut self, parens: u32) -> Result<Expr, ScriptError>
+    fn compared(&mut self, parens: u32, follows: Symbol) -> Result<Expr, ScriptError>
+        requires { infix_of follows ≡ None }
         ensures { Parses term_of (λ e ps qs. IsOperand parens e ps qs × (infix_next qs ≡ None)) result self.old.lexer self.new.lexer }
     {
         let second = self.operand(parens)?;
         if self.infix().is_some() {
-            Err(self.unexpected())
+            Err(self.unexpected(Wanted::Symbol(follows)))
         } else {
             Ok(second)
         }
@@ -257,19 +275,32 @@ impl Parser<'_> {
 
     /// An expression and the symbol that has to follow it.
     pub(crate) fn expression_before(&mut self, symbol: Symbol) -> Result<Expr, ScriptError>
+        requires { infix_of symbol ≡ None }
         ensures { Parses term_of (IsBefore symbol) result self.old.lexer self.new.lexer }
     {
-        let expression = self.expression(PARENTHESES)?;
+        let expression = self.expression(PARENTHESES, symbol)?;
         self.followed(expression, symbol)
+    }
+
+    /// What is wanted after the expression that was read last, and before this symbol.
+    pub(crate) fn wanted_before(&self, symbol: Symbol) -> Wanted
+        ensures { (ps : List Piece) → infix_next ps ≡ None → after symbol ps ≡ None → IsUnmet result ps }
+    {
+        Wanted::after(self.operators, symbol)
     }
 
     /// Goes past the symbol that has to follow an expression.
     fn followed(&mut self, expression: Expr, symbol: Symbol) -> Result<Expr, ScriptError>
+        requires { infix_next self.old.lexer ≡ None }
         ensures { MatchResult result
             (λ e. (e ≡ expression) × (after symbol self.old.lexer ≡ Some self.new.lexer))
             (λ _. after symbol self.old.lexer ≡ None) }
     {
-        self.expect(symbol)?;
-        Ok(expression)
+        if self.lexer.takes(symbol) {
+            Ok(expression)
+        } else {
+            let wanted = self.wanted_before(symbol);
+            Err(self.unexpected(wanted))
+        }
     }
 }

@@ -7,5 +7,8 @@ pub mod fault;
 pub mod laws;
 pub mod names;
 pub mod parser;
+pub mod reason;
 pub mod simple;
 mod statement;
+pub mod unmet;
+pub mod wanted;

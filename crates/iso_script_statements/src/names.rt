@@ -7,6 +7,7 @@ ghost use Rattle.iso_script_statements.specs.Pieces.{name_next};
 
 use crate::fault::{ScriptError, ScriptFaultKind};
 use crate::parser::Parser;
+use crate::wanted::Wanted;
 use iso_model::distinct::claim;
 use iso_script_lexer::token::Token;
 use std::collections::BTreeSet;
@@ -30,7 +31,7 @@ impl<'a> Parser<'a> {
         ensures unexpected { name_next self.old.lexer ≡ None → IfErr result (IsFaultOf (IsUnexpected self.old.lexer)) }
     {
         let Token::Name(name) = self.lexer.peek().0 else {
-            return Err(self.unexpected());
+            return Err(self.unexpected(Wanted::Name));
         };
         if !claim(seen, name)? {
             return Err(self.fault_here(kind));

@@ -5,12 +5,19 @@ ghost use Rattle.iso_script_lexer.specs.Tokens.{after, after_word, text_of};
 ghost use Rattle.iso_model.specs.declared.limits.TheConstants.{FILE_BYTES};
 ghost use Rattle.iso_script_statements.specs.Faults.{IsFaultOf, IsUnexpected, IsUnopened};
 ghost use Rattle.iso_script_statements.specs.Pieces.{name_ahead, name_next, row_in, text_next};
+ghost use Rattle.iso_script_statements.specs.Reasons.{Tells};
+ghost use Rattle.iso_script_statements.specs.Wanted.{IsUnmet};
+ghost use Rattle.iso_script_statements.specs.declared.reason.Reason.TheVariants.{Beyond};
+ghost use Rattle.iso_script_statements.specs.declared.wanted.Wanted.TheVariants as W;
 
 use crate::fault::{ScriptError, ScriptFaultKind};
+use crate::reason::{Limit, Reason};
+use crate::unmet::Unmet;
+use crate::wanted::{Operators, Wanted};
 use iso_script_lexer::lexer::Lexer;
 use iso_script_lexer::symbol::Symbol;
 use iso_script_lexer::text::QuotedText;
-use iso_script_lexer::token::Token;
+use iso_script_lexer::token::{Position, Token};
 use iso_script_lexer::word::Word;
 use std::alloc::Global;
 
@@ -19,6 +26,12 @@ use std::alloc::Global;
 pub struct Parser<'a> {
     pub alloc: Global,
     pub lexer: Lexer<'a>,
+    /// Why a fault was answered, once one was.
+    pub reason: Reason<'a>,
+    /// The operators that may follow the expression that was read last.
+    pub(crate) operators: Operators,
+    /// Where no `else` followed the body of an `if`, at the last such place.
+    pub(crate) without_else: Option<Position>,
 }
 
 impl<'a> Parser<'a> {
@@ -30,16 +43,22 @@ impl<'a> Parser<'a> {
         Parser {
             alloc,
             lexer: Lexer::new(bytes),
+            reason: Reason::Kind,
+            operators: Operators::None,
+            without_else: None,
         }
     }
 
-    /// The fault at the token that is next, where the grammar does not allow it. What is no token has a kind
+    /// The fault at the token that is next, where this is wanted, which it is not. What is no token has a kind
     /// of its own, and so has 2^63, which only the minus of a literal may precede.
-    pub fn unexpected(&self) -> ScriptError
-        ensures { IsFaultOf (IsUnexpected self.now.lexer) result }
+    pub fn unexpected(&mut self, wanted: Wanted) -> ScriptError
+        requires { IsUnmet wanted self.old.lexer }
+        ensures fault { IsFaultOf (IsUnexpected self.old.lexer) result }
+        ensures told { Tells wanted self.new.reason }
     {
-        let (token, place) = self.lexer.peek();
-        let kind = match token {
+        let (found, place) = self.lexer.peek();
+        self.reason = Reason::Unmet(Unmet { wanted, found });
+        let kind = match found {
             Token::Bad(fault) => ScriptFaultKind::from(fault),
             Token::Number(number) if i64::try_from(number).is_err() =>
                 ScriptFaultKind::NumberTooBig,
@@ -47,6 +66,15 @@ impl<'a> Parser<'a> {
             _ => ScriptFaultKind::Expected,
         };
         ScriptError::fault(kind, place)
+    }
+
+    /// A fault of this kind at the token that is next, which would go beyond this limit.
+    pub fn beyond(&mut self, limit: Limit, kind: ScriptFaultKind) -> ScriptError
+        ensures fault { IsFaultOf (λ k. k ≡ kind) result }
+        ensures told { self.new.reason ≡ Beyond limit }
+    {
+        self.reason = Reason::Beyond(limit);
+        self.fault_here(kind)
     }
 
     /// A fault of what was read before, placed at the token that is next.
@@ -60,12 +88,24 @@ impl<'a> Parser<'a> {
     pub fn expect(&mut self, symbol: Symbol) -> Result<(), ScriptError>
         ensures { MatchResult result
             (λ _. after symbol self.old.lexer ≡ Some self.new.lexer)
-            (λ e. (after symbol self.old.lexer ≡ None) × IsFaultOf (IsUnexpected self.old.lexer) e) }
+            (λ e. (after symbol self.old.lexer ≡ None) × IsFaultOf (IsUnexpected self.old.lexer) e
+            × Tells (W.Symbol symbol) self.new.reason) }
+    {
+        self.expect_or(symbol, Wanted::Symbol(symbol))
+    }
+
+    /// Goes past a symbol, which has to be next. Where it is not, this is wanted.
+    pub fn expect_or(&mut self, symbol: Symbol, wanted: Wanted) -> Result<(), ScriptError>
+        requires { after symbol self.old.lexer ≡ None → IsUnmet wanted self.old.lexer }
+        ensures { MatchResult result
+            (λ _. after symbol self.old.lexer ≡ Some self.new.lexer)
+            (λ e. (after symbol self.old.lexer ≡ None) × IsFaultOf (IsUnexpected self.old.lexer) e
+            × Tells wanted self.new.reason) }
     {
         if self.lexer.takes(symbol) {
             Ok(())
         } else {
-            Err(self.unexpected())
+            Err(self.unexpected(wanted))
         }
     }
 
@@ -73,12 +113,13 @@ impl<'a> Parser<'a> {
     pub fn expect_word(&mut self, word: Word) -> Result<(), ScriptError>
         ensures { MatchResult result
             (λ _. after_word word self.old.lexer ≡ Some self.new.lexer)
-            (λ e. (after_word word self.old.lexer ≡ None) × IsFaultOf (IsUnexpected self.old.lexer) e) }
+            (λ e. (after_word word self.old.lexer ≡ None) × IsFaultOf (IsUnexpected self.old.lexer) e
+            × Tells (W.Word word) self.new.reason) }
     {
         if self.lexer.takes_word(word) {
             Ok(())
         } else {
-            Err(self.unexpected())
+            Err(self.unexpected(Wanted::Word(word)))
         }
     }
 
@@ -86,14 +127,26 @@ impl<'a> Parser<'a> {
     pub fn name(&mut self) -> Result<&'a str, ScriptError>
         ensures { MatchResult result
             (λ n. name_next self.old.lexer ≡ Some (n.now, self.new.lexer))
-            (λ e. (name_next self.old.lexer ≡ None) × IsFaultOf (IsUnexpected self.old.lexer) e) }
+            (λ e. (name_next self.old.lexer ≡ None) × IsFaultOf (IsUnexpected self.old.lexer) e
+            × Tells W.Name self.new.reason) }
+    {
+        self.name_or(Wanted::Name)
+    }
+
+    /// Goes past a name, which has to be next. Where none is, this is wanted.
+    pub(crate) fn name_or(&mut self, wanted: Wanted) -> Result<&'a str, ScriptError>
+        requires { name_next self.old.lexer ≡ None → IsUnmet wanted self.old.lexer }
+        ensures { MatchResult result
+            (λ n. name_next self.old.lexer ≡ Some (n.now, self.new.lexer))
+            (λ e. (name_next self.old.lexer ≡ None) × IsFaultOf (IsUnexpected self.old.lexer) e
+            × Tells wanted self.new.reason) }
     {
         match self.lexer.peek().0 {
             Token::Name(name) => {
                 self.lexer.advance();
                 Ok(name)
             }
-            _ => Err(self.unexpected()),
+            _ => Err(self.unexpected(wanted)),
         }
     }
 
@@ -111,29 +164,40 @@ impl<'a> Parser<'a> {
     pub fn text(&mut self) -> Result<QuotedText<'a>, ScriptError>
         ensures { MatchResult result
             (λ t. text_next self.old.lexer ≡ Some (text_of t, self.new.lexer))
-            (λ e. (text_next self.old.lexer ≡ None) × IsFaultOf (IsUnexpected self.old.lexer) e) }
+            (λ e. (text_next self.old.lexer ≡ None) × IsFaultOf (IsUnexpected self.old.lexer) e
+            × Tells W.Text self.new.reason) }
     {
         match self.lexer.peek().0 {
             Token::Text(text) => {
                 self.lexer.advance();
                 Ok(text)
             }
-            _ => Err(self.unexpected()),
+            _ => Err(self.unexpected(Wanted::Text)),
         }
     }
 
     /// Goes past an opening symbol, which has to be next, where so many may be opened. Answers how many more may be.
-    pub fn open(&mut self, symbol: Symbol, left: u32) -> Result<u32, ScriptError>
+    /// Where the symbol is not next, this is wanted, and where no more of them may be opened, this is their limit.
+    pub fn open(
+        &mut self,
+        symbol: Symbol,
+        left: u32,
+        wanted: Wanted,
+        limit: Limit,
+    ) -> Result<u32, ScriptError>
+        requires { after symbol self.old.lexer ≡ None → IsUnmet wanted self.old.lexer }
         ensures opened { MatchResult result
             (λ more. (left ≡ suc more) × (after symbol self.old.lexer ≡ Some self.new.lexer))
             (λ e. (more : ℕ) → left ≡ suc more → after symbol self.old.lexer ≡ None) }
         ensures fault { IfErr result (IsFaultOf (IsUnopened symbol self.old.lexer)) }
+        ensures told { IfErr result (λ _. (after symbol self.old.lexer ≡ None → Tells wanted self.new.reason)
+            × (after symbol self.old.lexer ≢ None → self.new.reason ≡ Beyond limit)) }
     {
         if !self.is_at(symbol) {
-            return Err(self.unexpected());
+            return Err(self.unexpected(wanted));
         }
         let Some(more) = left.checked_sub(1) else {
-            return Err(self.fault_here(ScriptFaultKind::TooDeep));
+            return Err(self.beyond(limit, ScriptFaultKind::TooDeep));
         };
         self.lexer.advance();
         Ok(more)

@@ -1,14 +1,17 @@
 //! Statements without bodies.
-ghost use Rattle.std.specs.Prelude.{◌≡◌, List, ℕ, MatchResult};
+ghost use Rattle.std.specs.Prelude.{◌≡◌, List, ℕ, MatchResult, None};
 ghost use Rattle.iso_model.specs.Syntax.{Term, plain};
 ghost use Rattle.iso_model.specs.SyntaxView.{form_of, term_of};
 ghost use Rattle.iso_script_statements.specs.Faults.{IsMemory};
 ghost use Rattle.iso_script_statements.specs.Parsing.{Parses};
+ghost use Rattle.iso_script_statements.specs.Pieces.{name_next};
 ghost use Rattle.iso_script_statements.specs.Statements.{IsBinding, IsDisplay, IsSimple, binding_of, is_display, simple_next, simple_of, with_one, with_two};
+ghost use Rattle.iso_script_statements.specs.Wanted.{IsUnmet};
 ghost use Rattle.iso_script_statements.specs.declared.simple.Simple.TheVariants.{Assume, Fail, Let, One, Two};
 
 use crate::fault::{ScriptError, ScriptFaultKind};
 use crate::parser::Parser;
+use crate::wanted::Wanted;
 use iso_model::limits::DISPLAY_BYTES;
 use iso_model::text::Text;
 use iso_model::tree::{Expr, Form};
@@ -159,7 +162,7 @@ impl Parser<'_> {
     fn definition(&mut self) -> Result<Form, ScriptError>
         ensures { Parses form_of (IsSimple Let) result self.old.lexer self.new.lexer }
     {
-        let (name, value) = self.binding()?;
+        let (name, value) = self.binding(Wanted::Name)?;
         Ok(Form::Let(name, value))
     }
 
@@ -182,11 +185,12 @@ impl Parser<'_> {
         Ok(Form::Fail(Text::new(message.decode(self.alloc)?)))
     }
 
-    /// A name, and the expression that it gets.
-    pub(crate) fn binding(&mut self) -> Result<(Text, Expr), ScriptError>
+    /// A name, and the expression that it gets. Where no name is next, this is wanted.
+    pub(crate) fn binding(&mut self, wanted: Wanted) -> Result<(Text, Expr), ScriptError>
+        requires { name_next self.old.lexer ≡ None → IsUnmet wanted self.old.lexer }
         ensures { Parses binding_of IsBinding result self.old.lexer self.new.lexer }
     {
-        let name = self.name()?;
+        let name = self.name_or(wanted)?;
         self.expect(Symbol::Equals)?;
         let value = self.expression_before(Symbol::Semicolon)?;
         named(self.alloc, name, value)
@@ -197,7 +201,7 @@ impl Parser<'_> {
         ensures { Parses (λ (t : List ℕ). t) IsDisplay result self.old.lexer self.new.lexer }
     {
         let Token::Text(quoted) = self.lexer.peek().0 else {
-            return Err(self.unexpected());
+            return Err(self.unexpected(Wanted::Text));
         };
         let text = Text::new(quoted.decode(self.alloc)?);
         if !is_display(text.as_str().as_bytes()) {

@@ -1,35 +1,47 @@
 //! Statements and bodies.
-ghost use Rattle.std.specs.Prelude.{◌∷◌, ℕ};
+ghost use Rattle.std.specs.Prelude.{◌∷◌, ◌≡◌, ℕ, None};
 ghost use Rattle.iso_script_lexer.specs.Piece.{word_at};
+ghost use Rattle.iso_script_lexer.specs.Tokens.{after};
+ghost use Rattle.iso_script_lexer.specs.declared.symbol.Symbol.TheVariants.{CloseBrace, OpenBrace};
 ghost use Rattle.iso_script_lexer.specs.declared.token.Position.{Position};
 ghost use Rattle.iso_script_lexer.specs.declared.word.Word.TheVariants as W;
 ghost use Rattle.iso_model.specs.SyntaxView.{form_of, stmt_of};
 ghost use Rattle.iso_script_statements.specs.Parsing.{Parses};
 ghost use Rattle.iso_script_statements.specs.Statements.{IsBlock, IsBody, IsElse, IsStatement, IsStatements, body_of};
+ghost use Rattle.iso_script_statements.specs.Wanted.{IsInBody, IsUnmet};
 
 use crate::fault::ScriptError;
 use crate::parser::Parser;
+use crate::reason::Limit;
+use crate::wanted::Wanted;
 use iso_model::limits::{BODY_DEPTH, PARENTHESES};
 use iso_model::tree::{Form, Stmt};
 use iso_script_lexer::symbol::Symbol;
 use iso_script_lexer::word::Word;
 
 impl Parser<'_> {
-    /// A block: a body, with rows that count from 1 on the line of its opening brace.
-    pub fn block(&mut self) -> Result<Vec<Stmt>, ScriptError>
+    /// A block: a body, with rows that count from 1 on the line of its opening brace. Where none is next, this is wanted.
+    pub fn block(&mut self, wanted: Wanted) -> Result<Vec<Stmt>, ScriptError>
+        requires { after OpenBrace self.old.lexer ≡ None → IsUnmet wanted self.old.lexer }
         ensures { Parses body_of IsBlock result self.old.lexer self.new.lexer }
     {
         let above = self.lexer.peek().1.line.saturating_sub(1);
-        self.body(BODY_DEPTH, above)
+        self.body(BODY_DEPTH, above, wanted)
     }
 
     /// A body of a block whose opening brace has this many lines above its own, the outermost of so many that may be
-    /// opened.
+    /// opened. Where none is next, this is wanted.
     #[cycle(body)]
-    pub fn body(&mut self, bodies: u32, above: u32) -> Result<Vec<Stmt>, ScriptError>
+    pub fn body(
+        &mut self,
+        bodies: u32,
+        above: u32,
+        wanted: Wanted,
+    ) -> Result<Vec<Stmt>, ScriptError>
+        requires { after OpenBrace self.old.lexer ≡ None → IsUnmet wanted self.old.lexer }
         ensures { Parses body_of (IsBody bodies above) result self.old.lexer self.new.lexer }
     {
-        let more = self.open(Symbol::OpenBrace, bodies)?;
+        let more = self.open(Symbol::OpenBrace, bodies, wanted, Limit::Bodies)?;
         self.statements(more, above)
     }
 
@@ -47,9 +59,21 @@ impl Parser<'_> {
         Ok(statements)
     }
 
+    /// What is wanted where neither a statement is next nor the brace that closes the body: an `else` too, where one may stand.
+    fn wanted_in_body(&self) -> Wanted
+        ensures { IsInBody self.now.lexer result }
+    {
+        if self.without_else == Some(self.lexer.peek().1) && !self.is_at_word(Word::Else) {
+            Wanted::StatementOrElse
+        } else {
+            Wanted::Statement
+        }
+    }
+
     /// What a statement does.
     #[cycle(body)]
     fn form(&mut self, bodies: u32, above: u32) -> Result<Form, ScriptError>
+        requires { after CloseBrace self.old.lexer ≡ None }
         ensures { Parses form_of (IsStatement bodies above) result self.old.lexer self.new.lexer }
     {
         if let Some(simple) = self.simple() {
@@ -62,7 +86,8 @@ impl Parser<'_> {
         if self.lexer.takes_word(Word::Repeat) {
             return self.repetition(bodies, above);
         }
-        let (name, value) = self.binding()?;
+        let wanted = self.wanted_in_body();
+        let (name, value) = self.binding(wanted)?;
         Ok(Form::Assign(name, value))
     }
 
@@ -72,8 +97,9 @@ impl Parser<'_> {
         ensures { (r : Position) → Parses form_of (λ a ps qs. IsStatement bodies above a (word_at r W.If ∷ ps) qs)
             result self.old.lexer self.new.lexer }
     {
-        let condition = self.expression(PARENTHESES)?;
-        let first = self.body(bodies, above)?;
+        let condition = self.expression(PARENTHESES, Symbol::OpenBrace)?;
+        let wanted = self.wanted_before(Symbol::OpenBrace);
+        let first = self.body(bodies, above, wanted)?;
         let second = self.otherwise(bodies, above)?;
         Ok(Form::If(condition, first, second))
     }
@@ -84,8 +110,9 @@ impl Parser<'_> {
         ensures { Parses body_of (IsElse bodies above) result self.old.lexer self.new.lexer }
     {
         if self.lexer.takes_word(Word::Else) {
-            self.body(bodies, above)
+            self.body(bodies, above, Wanted::Symbol(Symbol::OpenBrace))
         } else {
+            self.without_else = Some(self.lexer.peek().1);
             Ok(Vec::new(self.alloc))
         }
     }
@@ -96,8 +123,9 @@ impl Parser<'_> {
         ensures { (r : Position) → Parses form_of (λ a ps qs. IsStatement bodies above a (word_at r W.Repeat ∷ ps) qs)
             result self.old.lexer self.new.lexer }
     {
-        let count = self.expression(PARENTHESES)?;
-        let body = self.body(bodies, above)?;
+        let count = self.expression(PARENTHESES, Symbol::OpenBrace)?;
+        let wanted = self.wanted_before(Symbol::OpenBrace);
+        let body = self.body(bodies, above, wanted)?;
         Ok(Form::Repeat(count, body))
     }
 }

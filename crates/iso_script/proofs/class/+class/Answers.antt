@@ -19,30 +19,53 @@ use Rattle.iso_script.proofs.Members.{names_of-members_of, members_of-some, all_
 use Rattle.iso_script.proofs.Scopes.{know_more, known}
 use Rattle.iso_script.proofs.Shorter.{member_shorter}
 use Rattle.iso_script.proofs.Views.{class_of-parts, member_of-class, member_of-test}
+use Rattle.iso_script.proofs.WantsLemmas.{first_place, is_place, unmet_after_display, unmet_after_marks, unmoved}
 use Rattle.iso_script.proofs.class.+class.Goals as goal
+
+pub read_class-expect_or-requires : goal.read_class-expect_or-requires
+read_class-expect_or-requires t c = rw c.wanted_after-wanted.ensures (unmet_after_display c.in_ok-display.ensures)
+
+pub read_class-read_members-requires : goal.read_class-read_members-requires
+read_class-read_members-requires t c =
+    let all = known c.args.scopes.now.items in
+    let variables = c.in_ok-variables.ensures.read all.0 (rw c.as_slice.ensures.value all.1) in
+    (omega arith, rw c.wanted_next-first.ensures (first_place variables.ends c.in_ok-blocks.ensures))
+
+pub read_members-read_member-requires : goal.read_members-read_member-requires
+read_members-read_member-requires t c =
+    let all = known c.args.scopes.now.items in
+    let read = c.members.invariant.read all.0 all.1 in (
+      omega arith,
+      rw c.member_place-place.ensures (is_place _ _ _ _
+          (λ e. unmoved _ _ _ _ _ (ap (map member_of) (none_left c.members.members.items c.len.result (omega (arith, c.len.ensures, c.members.members.ok.0)) (sym e))) read.1)
+          c.requires (none_is _ c.members-test.ensures)),
+    )
+
+pub read_member-open_class-requires : goal.read_member-open_class-requires
+read_member-open_class-requires t c = rw c.wanted_of_a_member-wanted.ensures (unmet_after_marks _ c.in_ok-marks.ensures c.requires c.if-is_at_test.ensures)
 
 pub read_class-returns-in_err-display-clause-read : goal.read_class-returns-in_err-display-clause-read
 read_class-returns-in_err-display-clause-read t c = λ taken all.
     let p = err_from_is_err_and c.from_residual.result c.from_residual.ensures.1 in
     rw (p.1, p.2) (λ rest x places h. let d = display_next h in c.in_err-display.ensures d.0 d.1 d.2)
 
-pub read_class-returns-in_err-expect-clause-read : goal.read_class-returns-in_err-expect-clause-read
-read_class-returns-in_err-expect-clause-read t c = λ taken all.
-    let p = err_from_is_err_and c.from_residual-in_err-expect.result c.from_residual-in_err-expect.ensures.1 in
-    rw (p.1, p.2) (λ rest x places h. absurd (not_opened c.in_ok-display.ensures c.in_err-expect.ensures.0 h))
+pub read_class-returns-in_err-expect_or-clause-read : goal.read_class-returns-in_err-expect_or-clause-read
+read_class-returns-in_err-expect_or-clause-read t c = λ taken all.
+    let p = err_from_is_err_and c.from_residual-in_err-expect_or.result c.from_residual-in_err-expect_or.ensures.1 in
+    rw (p.1, p.2) (λ rest x places h. absurd (not_opened c.in_ok-display.ensures c.in_err-expect_or.ensures.0 h))
 
 pub read_class-returns-in_err-variables-clause-read : goal.read_class-returns-in_err-variables-clause-read
 read_class-returns-in_err-variables-clause-read t c = λ taken all.
     let p = err_from_is_err_and c.from_residual-in_err-variables.result c.from_residual-in_err-variables.ensures.1 in
     rw (p.1, p.2) (λ rest x places h.
-    let i = opened c.in_ok-display.ensures c.in_ok-expect.ensures h in
+    let i = opened c.in_ok-display.ensures c.in_ok-expect_or.ensures h in
     c.in_err-variables.ensures.read taken (rw c.as_slice.ensures.value all) i.variables i.after_variables i.variables_read)
 
 pub read_class-returns-in_err-blocks-clause-read : goal.read_class-returns-in_err-blocks-clause-read
 read_class-returns-in_err-blocks-clause-read t c = λ taken all.
     let p = err_from_is_err_and c.from_residual-in_err-blocks.result c.from_residual-in_err-blocks.ensures.1 in
     rw (p.1, p.2) (λ rest x places h.
-    let i = opened c.in_ok-display.ensures c.in_ok-expect.ensures h in
+    let i = opened c.in_ok-display.ensures c.in_ok-expect_or.ensures h in
     let b = blocks_next i (c.in_ok-variables.ensures.read taken (rw c.as_slice.ensures.value all)) in
     c.in_err-blocks.ensures b.0 b.1 b.2)
 
@@ -50,7 +73,7 @@ pub read_class-returns-in_err-members-clause-read : goal.read_class-returns-in_e
 read_class-returns-in_err-members-clause-read t c = λ taken all.
     let p = err_from_is_err_and c.from_residual-in_err-members.result c.from_residual-in_err-members.ensures.1 in
     rw (p.1, p.2) (λ rest x places h.
-    let i = opened c.in_ok-display.ensures c.in_ok-expect.ensures h in
+    let i = opened c.in_ok-display.ensures c.in_ok-expect_or.ensures h in
     let v = c.in_ok-variables.ensures in
     let m = members_next i (v.read taken (rw c.as_slice.ensures.value all)) c.in_ok-blocks.ensures in
     c.in_err-members.ensures.read (names_of (variables_of c.in_ok-variables.variables) ++ taken) (rw c.in_ok-push.ensures.items (know_more c.args.scopes.now.items c.in_ok-variables.variables.names taken _ all v.names)) rest m.0 m.1 m.2)
@@ -61,7 +84,7 @@ read_class-returns-clause-read t c = λ taken all.
     let m = c.in_ok-members.ensures.read (names_of (variables_of c.in_ok-variables.variables) ++ taken) (rw c.in_ok-push.ensures.items (know_more c.args.scopes.now.items c.in_ok-variables.variables.names taken _ all v.names)) in
     rw (class_of-parts, c.in_ok-name.ensures, c.in_ok-head-2.ensures.ok, c.in_ok-head.ensures) (
       _,
-      is_class c.in_ok-display.ensures c.in_ok-expect.ensures (v.read taken (rw c.as_slice.ensures.value all)) c.in_ok-blocks.ensures m.1,
+      is_class c.in_ok-display.ensures c.in_ok-expect_or.ensures (v.read taken (rw c.as_slice.ensures.value all)) c.in_ok-blocks.ensures m.1,
       kept_after _ _ _ _ c.place.ensures c.in_ok-add.ensures m.2,
     )
 

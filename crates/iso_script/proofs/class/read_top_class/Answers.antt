@@ -6,7 +6,11 @@ use Rattle.iso_script.specs.Grammar.{IsClass, IsTopClass}
 use Rattle.iso_script.proofs.Classes.{marks_next, not_next, not_named, top_next, top_inner, is_nested, name_stands}
 use Rattle.iso_script.proofs.Places.{placed_from}
 use Rattle.iso_script.proofs.Scopes.{know_none}
+use Rattle.iso_script.proofs.WantsLemmas.{unmet_after_class_marks}
 use Rattle.iso_script.proofs.class.read_top_class.Goals as goal
+
+pub open_class-requires : goal.open_class-requires
+open_class-requires c = rw c.wanted_of_a_class-wanted.ensures (unmet_after_class_marks c.in_ok-marks.ensures c.requires)
 
 pub returns-in_err-marks : goal.returns-in_err-marks
 returns-in_err-marks c =

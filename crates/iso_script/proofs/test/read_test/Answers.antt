@@ -1,6 +1,10 @@
 use Rattle.std.proofs.lemmas.Result.{err_from_is_err_and}
 use Rattle.iso_script.proofs.Classes.{is_bodied, test_body}
+use Rattle.iso_script.proofs.WantsLemmas.{unmet_after_display}
 use Rattle.iso_script.proofs.test.read_test.Goals as goal
+
+pub block-requires : goal.block-requires
+block-requires c = rw c.wanted_after-wanted.ensures (unmet_after_display c.in_ok-display.ensures)
 
 pub returns-in_err-body : goal.returns-in_err-body
 returns-in_err-body c =

@@ -11,6 +11,7 @@ use Rattle.iso_script_statements.proofs.Answers.{parses_from}
 use Rattle.iso_script_statements.proofs.Repetitions.{none_read, read_more}
 use Rattle.iso_script_statements.proofs.Shorter.{statement_shorter}
 use Rattle.iso_script_statements.proofs.Statements.{is_simple, simple_only, is_assignment, assignment_only, if_body, if_else, repeat_body, is_else, else_only, statement_some, also, goes_on, goes_only, next_statement, all_read, is_body, body_inner, not_opened}
+use Rattle.iso_script_statements.proofs.WantedLemmas.{expression_ends}
 use Rattle.iso_script_statements.proofs.Views.{form_of-assign, form_of-if, form_of-repeat, stmt_of-parts}
 use Rattle.iso_script_statements.proofs.parser.Parser.+body.Goals as goal
 
@@ -87,6 +88,9 @@ form-returns-in_err-name t c =
 pub form-returns : goal.form-returns
 form-returns t c = rw form_of-assign (is_assignment _ _ _ _ _ (rw (c.if-takes_word-2.ensures.kept refl ∙ c.if-takes_word.ensures.kept refl) at c.in_ok-name.ensures))
 
+pub choice-body-requires : goal.choice-body-requires
+choice-body-requires t c = (omega arith, c.wanted_before-wanted.ensures _ (expression_ends c.in_ok-condition.ensures))
+
 pub choice-returns-in_err-first : goal.choice-returns-in_err-first
 choice-returns-in_err-first t c =
     let p = err_from_is_err_and c.from_residual-in_err-first.result c.from_residual-in_err-first.ensures.1 in
@@ -99,6 +103,9 @@ choice-returns-in_err-second t c =
 
 pub choice-returns : goal.choice-returns
 choice-returns t c = λ r. rw form_of-if (an_if c.in_ok-condition.ensures c.in_ok-first.ensures c.in_ok-second.ensures)
+
+pub repetition-body-requires : goal.repetition-body-requires
+repetition-body-requires t c = (omega arith, c.wanted_before-wanted.ensures _ (expression_ends c.in_ok-count.ensures))
 
 pub repetition-returns-in_err-body : goal.repetition-returns-in_err-body
 repetition-returns-in_err-body t c =

@@ -12,6 +12,7 @@ use Rattle.iso_script_statements.proofs.Expressions.{none_next, is_in_parenthese
 use Rattle.iso_script_statements.proofs.Repetitions.{none_read, read_more}
 use Rattle.iso_script_statements.proofs.Shorter.{operand_shorter}
 use Rattle.iso_script_statements.proofs.Views.{term_of-literal, term_of-name, term_of-call}
+use Rattle.iso_script_statements.proofs.WantedLemmas.{expression_ends}
 use Rattle.iso_script_statements.proofs.parser.Parser.+expression.Goals as goal
 
 pub chained-operands-init : goal.chained-operands-init
@@ -61,6 +62,9 @@ pub enclosed-returns-in_err-more : goal.enclosed-returns-in_err-more
 enclosed-returns-in_err-more t c =
     let p = err_from_is_err_and c.from_residual.result c.from_residual.ensures.1 in
     rw p.1 (λ x rest h. absurd (enclosed_opens _ x _ rest c.in_err-more.ensures.opened h))
+
+pub enclosed-followed-requires : goal.enclosed-followed-requires
+enclosed-followed-requires t c = expression_ends c.in_ok-expression.ensures
 
 pub enclosed-returns : goal.enclosed-returns
 enclosed-returns t c = followed_is_enclosed _ _ _ _ _ _ _ _ c.in_ok-more.ensures.opened.0 c.in_ok-more.ensures.opened.1 c.in_ok-expression.ensures c.followed.ensures

@@ -8,7 +8,7 @@ use Rattle.iso_script_lexer.proofs.Afters.{after-Some}
 use Rattle.iso_model.specs.declared.data.Data.{Data}
 use Rattle.iso_script_statements.specs.Expressions.{IsLiteral}
 use Rattle.iso_script_statements.proofs.Answers.{parses_from}
-use Rattle.iso_script_statements.proofs.Literals.{is_number, is_text, is_true, is_false}
+use Rattle.iso_script_statements.proofs.Literals.{is_number, is_text, is_true, is_false, no_literal}
 use Rattle.iso_script_statements.proofs.parser.Parser.literal.Goals as goal
 
 pub returns-then-takes : goal.returns-then-takes
@@ -34,3 +34,12 @@ pub returns-in_ok-decode-in-Text : goal.returns-in_ok-decode-in-Text
 returns-in_ok-decode-in-Text c =
     let kept = c.if-takes_word-2.ensures.kept refl ∙ c.if-takes_word.ensures.kept refl ∙ c.if-takes.ensures.kept refl in
     is_text _ _ _ _ _ (c.new.ensures ∙ c.in_ok-decode-in-Text.ensures.value) (rw (c.in-Text.is, kept) at c.peek.ensures.next) (c.advance-in-Text.ensures ∙ ap tail kept)
+
+pub returns-in_default : goal.returns-in_default
+returns-in_default c =
+    let once = c.if-takes.ensures.kept refl in
+    let twice = c.if-takes_word.ensures.kept refl ∙ once in
+    let kept = c.if-takes_word-2.ensures.kept refl ∙ twice in
+    λ x rest h.
+    absurd (no_literal _ _ _ (rw kept at c.peek.ensures.next) c.in_default.not-Number c.in_default.not-Text c.if-takes.ensures.found
+    (ap (after_word W.True) (sym once) ∙ c.if-takes_word.ensures.found) (ap (after_word W.False) (sym twice) ∙ c.if-takes_word-2.ensures.found) h)

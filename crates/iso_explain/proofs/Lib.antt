@@ -1,0 +1,5 @@
+pub mod FewLemmas
+pub mod MeantLemmas
+pub mod SafeLemmas
+pub mod ShortLemmas
+pub mod SpotLemmas

@@ -1,0 +1,9 @@
+pub mod Bounds
+pub mod Examples
+pub mod Explanations
+pub mod Labels
+pub mod Meant
+pub mod Notes
+pub mod Printable
+pub mod Scripts
+pub mod Spots

@@ -1,0 +1,26 @@
+-- Places in the bytes of a script.
+use Rattle.std.specs.Prelude.{ℕ, zero, suc, ◌+◌, ◌-◌, List, [], ◌∷◌, ◌==◌, cond, drop, not, take}
+use Rattle.std.specs.List.{prefix_len}
+use Rattle.std.specs.Str.Lines.{strip_carriage_return}
+
+-- how many bytes so many lines have from here on, with their line feeds: all, where there are fewer lines
+abbrev pub lines_bytes : ℕ → List ℕ → ℕ
+lines_bytes zero bytes = 0
+lines_bytes (suc n) [] = 0
+lines_bytes (suc n) (b ∷ bs) = cond (b == 10) (lines_bytes n bs) (lines_bytes (suc n) bs) + 1
+
+-- how many bytes stand before the line of this number, which counts from 1
+abbrev pub start_of : List ℕ → ℕ → ℕ
+start_of bytes line = lines_bytes (line - 1) bytes
+
+-- what stands before the first line feed, without the CR at its end
+abbrev pub first_line : List ℕ → List ℕ
+first_line rest = strip_carriage_return (take (prefix_len (λ b. not (b == 10)) rest) rest)
+
+-- the line of this number, without its line end
+abbrev pub line_of : List ℕ → ℕ → List ℕ
+line_of bytes line = first_line (drop (start_of bytes line) bytes)
+
+-- how many bytes stand before a place
+abbrev pub offset_of : List ℕ → ℕ → ℕ → ℕ
+offset_of bytes line column = start_of bytes line + (column - 1)

@@ -1,0 +1,69 @@
+//! The explanation of a fault.
+ghost use Rattle.std.specs.Prelude.{◌≡◌, option_map};
+ghost use Rattle.iso_explain.specs.Explanations.{explanation, notes, picture_of};
+ghost use Rattle.iso_tap.specs.Printers.{Prints};
+
+use crate::bound::bound;
+use crate::label::label_of;
+use crate::note::{brace, first, hint_of, mending};
+use crate::spot::line_of;
+use iso_hints::picture::write_caret;
+use iso_script::explain::Explained;
+use iso_tap::printer::{Piece, Printer};
+use iso_tap::sink::{Sink, SinkFailed};
+
+/// Writes what mends a script that these bytes should have been: the line of the fault with carets and what could have
+/// stood there, and below it what else there is to be told. A word may be given that was meant in the place of the fault.
+/// Takes no memory.
+pub fn write_explanation<W: Sink>(
+    bytes: &[u8],
+    explained: &Explained<'_>,
+    meant: Option<&str>,
+    printer: &mut Printer<'_, W>,
+) -> Result<(), SinkFailed>
+    ensures { Prints printer.old printer.new (explanation bytes.now explained.now (option_map (λ w. w.now) meant.entry)) result }
+{
+    picture(printer, bytes, explained)?;
+    notes(printer, bytes, explained, meant)
+}
+
+/// Writes the line of the fault, with carets and a label.
+fn picture<W: Sink>(
+    printer: &mut Printer<'_, W>,
+    bytes: &[u8],
+    explained: &Explained<'_>,
+) -> Result<(), SinkFailed>
+    ensures { Prints printer.old printer.new (picture_of bytes.now explained.now) result }
+{
+    let fault = explained.fault;
+    let label = label_of(fault.kind, explained.reason);
+    write_caret(
+        printer,
+        fault.line,
+        line_of(bytes, fault.line),
+        fault.column,
+        explained.width,
+        &[
+            Piece::Plain(label.lead.as_bytes()),
+            Piece::Plain(label.first.as_bytes()),
+            Piece::Plain(label.between.as_bytes()),
+            Piece::Plain(label.second.as_bytes()),
+            Piece::Plain(label.end.as_bytes()),
+        ],
+    )
+}
+
+/// Writes the lines below the picture.
+fn notes<W: Sink>(
+    printer: &mut Printer<'_, W>,
+    bytes: &[u8],
+    explained: &Explained<'_>,
+    meant: Option<&str>,
+) -> Result<(), SinkFailed>
+    ensures { Prints printer.old printer.new (notes bytes.now explained.now (option_map (λ w. w.now) meant.entry)) result }
+{
+    mending(printer, hint_of(bytes, explained.fault), meant)?;
+    first(printer, explained.first)?;
+    brace(printer, explained)?;
+    bound(printer, explained.fault.kind, explained.reason)
+}

@@ -1,0 +1,15 @@
+pub mod Bytes
+pub mod Examples
+pub mod Hints
+pub mod Keys
+pub mod Nearest
+pub mod Patterns
+pub mod Pictures
+pub mod Places
+pub mod Positions
+pub mod Ranks
+pub mod Rows
+pub mod Settings
+pub mod SettingsTexts
+pub mod Tables
+pub mod Tokens

@@ -1,0 +1,34 @@
+//! Hints for what people bring from other languages.
+ghost use Rattle.std.specs.Prelude.{◌≡◌, option_map};
+ghost use Rattle.iso_hints.specs.Hints.{hint_at};
+
+use crate::place::place_at;
+use crate::table::annotations::annotations;
+use crate::table::beginnings::beginnings;
+use crate::table::calls::calls;
+use crate::table::control::control;
+use crate::table::ends::ends;
+use crate::table::forms::forms;
+use crate::table::heads::heads;
+use crate::table::members::members;
+use crate::table::operators::operators;
+use crate::table::parentheses::parentheses;
+use crate::table::symbols::symbols;
+
+/// What mends a mistake in a script, of which a fault stands behind so many bytes: a token that doesn't fit, or is none.
+pub fn hint(text: &[u8], bytes: usize) -> Option<&'static str>
+    ensures { option_map (λ told. told.now) result ≡ hint_at text.now bytes }
+{
+    let place = place_at(text, bytes);
+    beginnings(&place)
+        .or(annotations(&place))
+        .or(operators(&place))
+        .or(symbols(&place))
+        .or(parentheses(&place))
+        .or(ends(&place))
+        .or(members(&place))
+        .or(heads(&place))
+        .or(control(&place))
+        .or(calls(&place))
+        .or(forms(&place))
+}

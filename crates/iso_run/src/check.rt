@@ -1,0 +1,213 @@
+//! Checks of files, without a run.
+ghost use Rattle.std.specs.Prelude.{◌≡◌, ◌≤◌, IfErr, IfOk, Option, ℕ, List, ⊤, MatchResult};
+ghost use Rattle.iso_arguments.specs.Requests.{AreInBounds};
+ghost use Rattle.iso_run.specs.Commands.{AreFor, AreReads, IsAcceptedFor, WereRead};
+ghost use Rattle.iso_run.specs.Ends.{ComesEarly};
+ghost use Rattle.iso_run.specs.Suites.{NoSuite, OfSuite};
+ghost use Rattle.iso_run.specs.declared.inputs.Inputs as I;
+
+use crate::command::{explained, inputs_of, named, shard_of};
+use crate::command_fault::CommandFault;
+use crate::exit::FAILED;
+use crate::fault::RunFault;
+use crate::files::{FileReads, InputBytes, all_of, lent, read_each};
+use crate::inputs::{read_inputs, settings_from, world_from};
+use crate::lines::say;
+use iso_arguments::request::InputFiles;
+use iso_script::fault::ScriptError;
+use iso_script::reader::read_script;
+use iso_settings::fault::SettingsError;
+use iso_tap::sink::Sink;
+use std::alloc::{AllocGlobal, Global};
+use std::fs::Files;
+use std::io::Read;
+use std::thread::Threads;
+
+/// Tells the first fault of each file, one after another, and where none has one that of their plan. Nothing is run.
+pub(crate) fn check<'a, G: AllocGlobal + Files + Threads, R: Read, E: Sink>(
+    rt: &G,
+    files: &InputFiles<'a>,
+    input: &mut R,
+    errors: &mut E,
+) -> Result<(), CommandFault<'a>>
+    requires { AreInBounds files.now }
+    ensures accepted { IfOk result (λ _. IsAcceptedFor files.now (R.remaining input.old)) }
+    ensures early { IfErr result ComesEarly }
+{
+    let reads = read_each(rt, files, input)?;
+    let told = Tally::of(rt.alloc(), &reads, files, errors);
+    match accept_reads(rt.alloc(), reads, files) {
+        Ok(()) if told.failed => Err(CommandFault::Told(true)),
+        Ok(()) => Ok(()),
+        Err(fault) => Err(CommandFault::Told(told.fails(&fault, errors))),
+    }
+}
+
+/// Whether the inputs that were read are a suite, or why they are none.
+fn accept_reads<'a>(
+    alloc: Global,
+    reads: FileReads<'a>,
+    files: &InputFiles<'a>,
+) -> Result<(), CommandFault<'a>>
+    requires bounds { AreInBounds files.now }
+    requires counted { 1 ≤ reads.processors }
+    ensures { (input : Option (List ℕ)) → AreReads files.now input reads.entry → IfOk result (λ _. IsAcceptedFor files.now input) }
+{
+    let bytes = all_of(alloc, reads)?;
+    match accept(alloc, &bytes, &*files) {
+        Ok(()) => Ok(()),
+        Err(fault) => Err(named(alloc, fault, bytes, files)),
+    }
+}
+
+/// Whether the inputs that these bytes are, are a suite, or why they are none.
+fn accept<'b>(
+    alloc: Global,
+    bytes: &'b InputBytes,
+    files: &'b InputFiles<'b>,
+) -> Result<(), RunFault>
+    requires bounds { AreInBounds files.now }
+    requires counted { 1 ≤ bytes.now.processors }
+    ensures { (input : Option (List ℕ)) → WereRead files.now input bytes.now → (inputs : I.Inputs) × AreFor files.now input inputs
+        × MatchResult result (λ _. OfSuite inputs (λ suite. ⊤)) (NoSuite inputs) }
+{
+    let shard = shard_of(files.shard);
+    let scripts = lent(alloc, &bytes.scripts)?;
+    let inputs = inputs_of(bytes, &scripts, files, shard);
+    match read_inputs(alloc, inputs, false) {
+        Ok(_) => Ok(()),
+        Err(fault) => Err(fault),
+    }
+}
+
+/// What was told of files: whether something is refused, and whether a file couldn't be read or memory ran out.
+#[derive(Clone, Copy)]
+struct Tally {
+    refused: bool,
+    failed: bool,
+}
+
+impl Tally {
+    /// Tells the first fault of each file.
+    fn of<E: Sink>(
+        alloc: Global,
+        reads: &FileReads<'_>,
+        files: &InputFiles<'_>,
+        errors: &mut E,
+    ) -> Tally
+        requires { 1 ≤ reads.now.processors }
+    {
+        let mut tally = Tally {
+            refused: false,
+            failed: false,
+        };
+        tally.tell_settings(alloc, &reads.settings, reads.processors, errors);
+        tally.tell_world(alloc, &reads.world, errors);
+        for (number, read) in reads.scripts.iter().enumerate() {
+            tally.tell_script(alloc, number, read, files, errors);
+        }
+        if let Err(fault) = &reads.listed {
+            tally.tell(fault, errors);
+        }
+        tally
+    }
+
+    /// Tells the fault of settings, or why they weren't read, if either is so.
+    fn tell_settings<E: Sink>(
+        &mut self,
+        alloc: Global,
+        read: &Result<Vec<u8>, CommandFault<'_>>,
+        processors: u32,
+        errors: &mut E,
+    )
+        requires { 1 ≤ processors }
+    {
+        match read {
+            Ok(bytes) => {
+                if let Err(error) = settings_from(alloc, bytes, processors) {
+                    let fault = match error {
+                        SettingsError::Fault(fault) => RunFault::Settings(fault),
+                        SettingsError::OutOfMemory => RunFault::Memory,
+                    };
+                    self.tell(&CommandFault::Run(fault, None), errors);
+                }
+            }
+            Err(fault) => self.tell(fault, errors),
+        }
+    }
+
+    /// Tells the fault of a world, or why it wasn't read, if either is so.
+    fn tell_world<E: Sink>(
+        &mut self,
+        alloc: Global,
+        read: &Result<Vec<u8>, CommandFault<'_>>,
+        errors: &mut E,
+    ) {
+        match read {
+            Ok(bytes) => {
+                if let Err(error) = world_from(alloc, bytes) {
+                    let fault = match error {
+                        SettingsError::Fault(fault) => RunFault::World(fault),
+                        SettingsError::OutOfMemory => RunFault::Memory,
+                    };
+                    self.tell(&CommandFault::Run(fault, None), errors);
+                }
+            }
+            Err(fault) => self.tell(fault, errors),
+        }
+    }
+
+    /// Tells the fault of the script with this number, or why it wasn't read, if either is so.
+    fn tell_script<E: Sink>(
+        &mut self,
+        alloc: Global,
+        number: usize,
+        read: &Result<Vec<u8>, CommandFault<'_>>,
+        files: &InputFiles<'_>,
+        errors: &mut E,
+    ) {
+        let bytes = match read {
+            Ok(bytes) => bytes,
+            Err(fault) => {
+                self.tell(fault, errors);
+                return;
+            }
+        };
+        if let Err(error) = read_script(alloc, bytes) {
+            let name = files.scripts.get(number).copied();
+            let script = if files.explain {
+                Some(bytes.as_slice())
+            } else {
+                None
+            };
+            let fault = match error {
+                ScriptError::Fault(fault) => explained(
+                    alloc,
+                    RunFault::Script(number, fault),
+                    name,
+                    script,
+                ),
+                ScriptError::OutOfMemory => CommandFault::out_of_memory(),
+            };
+            self.tell(&fault, errors);
+        }
+    }
+
+    /// Tells a fault.
+    fn tell<E: Sink>(&mut self, fault: &CommandFault<'_>, errors: &mut E) {
+        say(errors, fault);
+        if fault.status() == FAILED {
+            self.failed = true;
+        } else {
+            self.refused = true;
+        }
+    }
+
+    /// Whether something failed, also where this fault is the last one. It is told, if nothing was told before.
+    fn fails<E: Sink>(self, fault: &CommandFault<'_>, errors: &mut E) -> bool {
+        if !self.refused && !self.failed {
+            say(errors, fault);
+        }
+        self.failed || fault.status() == FAILED
+    }
+}
