@@ -6,11 +6,12 @@ use Rattle.std.proofs.lemmas.List.Folds.{list_all-append}
 use Rattle.std.specs.Fmt.{decimal}
 use Rattle.std.specs.Int.{is_in_range}
 use Rattle.std.specs.List.{find, list_all}
-use Rattle.iso_hints.specs.Hints.{hint_at}
+use Rattle.std.specs.Option.{option_or}
+use Rattle.iso_hints.specs.Hints.{form_at, hint_at}
 use Rattle.iso_hints.specs.Pictures.{caret_blanks, caret_count, caret_part, cut, first_shown, hint_line, label_text, margin, picture, place_of, shown_byte, shown_rest, source_part}
 use Rattle.iso_hints.specs.Places.{place_at}
 use Rattle.iso_hints.specs.Rows.{Row, fits}
-use Rattle.iso_hints.specs.Tables.{table}
+use Rattle.iso_hints.specs.Tables.{forms, table}
 use Rattle.iso_script.specs.declared.explain.Explained.{Explained}
 use Rattle.iso_script_lexer.specs.Spelling.{marks, spelling}
 use Rattle.iso_script_lexer.specs.declared.token.Position.{Position}
@@ -32,8 +33,12 @@ use Rattle.iso_script_statements.specs.declared.wanted.Wanted.TheVariants as V
 use Rattle.iso_explain.specs.Bounds.{bound_note, display_note, kind_note, limit_note, limit_words, number_note, token_note}
 use Rattle.iso_explain.specs.Explanations.{explanation, notes, one_piece, picture_of}
 use Rattle.iso_explain.specs.Labels.{kind_text, label_of, quoted, tells_wanted, wanted_text}
-use Rattle.iso_explain.specs.Notes.{brace_note, did_you_mean, first_note, first_text, hint_of, mending_note, note, open_text, place_text, tells_brace, tells_hint}
-use Rattle.iso_explain.specs.Spots.{line_of, offset_of}
+use Rattle.iso_explain.specs.Mending.{form_for, form_of, has_form, hint_of, is_unfit, other_of, table_hint, tells_hint, told_by, told_for}
+use Rattle.iso_explain.specs.Met.{met_of}
+use Rattle.iso_explain.specs.Notes.{brace_note, did_you_mean, first_note, first_text, mending_note, note, open_text, place_text, tells_brace}
+use Rattle.iso_explain.specs.Rules.{Rule, first_rules, other_rules, told_in}
+use Rattle.iso_explain.specs.Rules as in_rules
+use Rattle.iso_explain.specs.Spots.{line_of, offset_of, place_at_fault}
 use Rattle.iso_explain.specs.Printable.{HasPlaces, IsInner, IsPlace, is_inner, line_feeds}
 use Rattle.iso_explain.proofs.SafeLemmas.{both}
 
@@ -292,17 +297,73 @@ hint_found p (row ∷ rows) h =
 hints_are_inner : list_all (λ (row : Row). list_all is_inner row.hint) table ≡ true
 hints_are_inner = refl
 
-hint_is_inner : (bytes : List ℕ) (fault : ScriptFault) → IfSome (hint_of bytes fault) IsInner
-hint_is_inner bytes fault = by (tells_hint fault.kind)
+forms_are_inner : list_all (λ (row : Row). list_all is_inner row.hint) forms ≡ true
+forms_are_inner = refl
+
+rule_found : (q : Rule → Bool) (rules : List Rule) → list_all (λ rule. list_all is_inner rule.told) rules ≡ true
+    → IfSome (option_map (λ rule. rule.told) (find q rules)) IsInner
+rule_found q [] h = tt
+rule_found q (rule ∷ rules) h =
+    let parts = both (list_all is_inner rule.told) (list_all (λ (r : Rule). list_all is_inner r.told) rules) h in
+    by parts.0 (rule_found q rules parts.1) (q rule)
+  where
+    by : IsInner rule.told → IfSome (option_map (λ (r : Rule). r.told) (find q rules)) IsInner → (t : Bool)
+        → IfSome (option_map (λ (r : Rule). r.told) (cond t (Some rule) (find q rules))) IsInner
+    by here there true = here
+    by here there false = there
+
+first_rules_are_inner : list_all (λ (rule : Rule). list_all is_inner rule.told) first_rules ≡ true
+first_rules_are_inner = refl
+
+other_rules_are_inner : list_all (λ (rule : Rule). list_all is_inner rule.told) other_rules ≡ true
+other_rules_are_inner = refl
+
+-- either of two texts
+either_is_inner : (a b : Option (List ℕ)) → IfSome a IsInner → IfSome b IsInner → IfSome (option_or a b) IsInner
+either_is_inner None b h k = k
+either_is_inner (Some text) b h k = h
+
+told_is_inner : (rules : List Rule) → list_all (λ (rule : Rule). list_all is_inner rule.told) rules ≡ true
+    → (bytes : List ℕ) (fault : ScriptFault) (reason : Reason) → IfSome (told_for rules bytes fault reason) IsInner
+told_is_inner rules h bytes fault R.Kind = tt
+told_is_inner rules h bytes fault (R.Beyond limit) = tt
+told_is_inner rules h bytes fault (R.Unmet unmet) = by (is_unfit fault.kind)
+  where
+    by : (t : Bool) → IfSome (cond t (told_in rules (met_of (place_at_fault bytes fault) unmet)) None) IsInner
+    by true = rule_found (in_rules.fits (met_of (place_at_fault bytes fault) unmet)) rules h
+    by false = tt
+
+table_is_inner : (bytes : List ℕ) (fault : ScriptFault) → IfSome (table_hint bytes fault) IsInner
+table_is_inner bytes fault = by (tells_hint fault.kind)
   where
     by : (t : Bool) → IfSome (cond t (hint_at bytes (offset_of bytes fault.line fault.column)) None) IsInner
     by true = hint_found (fits (place_at bytes (offset_of bytes fault.line fault.column))) table hints_are_inner
     by false = tt
 
-mending_is_inner : (hint meant : Option (List ℕ)) → IfSome hint IsInner → IfSome meant IsInner → line_feeds (mending_note hint meant) ≤ 1
-mending_is_inner (Some hint) meant h k = line_feeds_once hint h
-mending_is_inner None None h k = omega arith
-mending_is_inner None (Some word) h k =
+form_is_inner : (bytes : List ℕ) (fault : ScriptFault) (reason : Reason) → IfSome (form_for bytes fault reason) IsInner
+form_is_inner bytes fault R.Kind = tt
+form_is_inner bytes fault (R.Beyond limit) = tt
+form_is_inner bytes fault (R.Unmet unmet) = by (is_unfit fault.kind && has_form unmet.wanted)
+  where
+    by : (t : Bool) → IfSome (cond t (form_at bytes (offset_of bytes fault.line fault.column)) None) IsInner
+    by true = hint_found (fits (place_at bytes (offset_of bytes fault.line fault.column))) forms forms_are_inner
+    by false = tt
+
+hint_is_inner : (bytes : List ℕ) (told : Explained) → IfSome (hint_of bytes told) IsInner
+hint_is_inner bytes told =
+    either_is_inner (told_by first_rules bytes told) (table_hint bytes told.fault)
+    (told_is_inner first_rules first_rules_are_inner bytes told.fault told.reason) (table_is_inner bytes told.fault)
+
+other_is_inner : (bytes : List ℕ) (told : Explained) → IfSome (other_of bytes told) IsInner
+other_is_inner bytes told =
+    either_is_inner (told_by other_rules bytes told) (form_of bytes told)
+    (told_is_inner other_rules other_rules_are_inner bytes told.fault told.reason) (form_is_inner bytes told.fault told.reason)
+
+mending_is_inner : (hint meant other : Option (List ℕ)) → IfSome hint IsInner → IfSome meant IsInner → IfSome other IsInner
+    → line_feeds (mending_note hint meant other) ≤ 1
+mending_is_inner (Some hint) meant other h k m = line_feeds_once hint h
+mending_is_inner None None other h k m = note_is_inner other m
+mending_is_inner None (Some word) other h k m =
     line_feeds_once (did_you_mean word) (inner-append (codes "did you mean `" ++ word) (codes "`?") (inner-append (codes "did you mean `") word refl k) refl)
 
 -- bounds
@@ -377,11 +438,11 @@ bound_is_inner kind (R.Beyond limit) = limit_is_inner limit
 
 notes_are_few : (bytes : List ℕ) (told : Explained) (meant : Option (List ℕ)) → HasPlaces told → IfSome meant IsInner → line_feeds (notes bytes told meant) ≤ 4
 notes_are_few bytes told meant h k =
-    let mend = mending_note (hint_of bytes told.fault) meant in
+    let mend = mending_note (hint_of bytes told) meant (other_of bytes told) in
     let a = feeds-append (mend ++ first_note told.first ++ brace_note told) (bound_note told.fault.kind told.reason) in
     let b = feeds-append (mend ++ first_note told.first) (brace_note told) in
     let c = feeds-append mend (first_note told.first) in
-    let one = mending_is_inner (hint_of bytes told.fault) meant (hint_is_inner bytes told.fault) k in
+    let one = mending_is_inner (hint_of bytes told) meant (other_of bytes told) (hint_is_inner bytes told) k (other_is_inner bytes told) in
     let two = first_is_inner told.first h.first in
     let three = brace_is_inner told h.brace in
     let four = bound_is_inner told.fault.kind told.reason in

@@ -1,5 +1,6 @@
 pub mod FewLemmas
 pub mod MeantLemmas
+pub mod RuleLemmas
 pub mod SafeLemmas
 pub mod ShortLemmas
 pub mod SpotLemmas

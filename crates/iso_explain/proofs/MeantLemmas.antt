@@ -1,15 +1,22 @@
 -- The word that was meant is one of the reserved words, so each byte of it has what the bytes of all these have.
-use Rattle.std.proofs.Common.{◌≡◌, ℕ, List, [], ◌∷◌, Bool, true, false, ◌&&◌, cond, nat_lt, filter, fold, map, slice_get, IfSome, refl, ap₂}
+use Rattle.std.proofs.Common.{◌≡◌, ℕ, List, [], ◌∷◌, Bool, true, false, ◌&&◌, cond, nat_lt, filter, fold, map, slice_get, Option, Some, None, IfSome, refl, ap₂}
 use Rattle.std.specs.List.{list_all}
 use Rattle.iso_hints.specs.Nearest.{distance, is_near, near_words, put_by_distance}
+use Rattle.iso_hints.specs.Places.{PlaceView, name_of}
+use Rattle.iso_script.specs.declared.explain.Explained.{Explained}
 use Rattle.iso_script_lexer.specs.Spelling.{spelling}
+use Rattle.iso_script_lexer.specs.declared.symbol.Symbol.TheVariants.{Equals}
 use Rattle.iso_script_lexer.specs.declared.token.Token.{Token}
 use Rattle.iso_script_lexer.specs.declared.token.Token.TheVariants as T
 use Rattle.iso_script_lexer.specs.declared.word.Word.{Word}
+use Rattle.iso_script_statements.specs.declared.fault.ScriptFault.{ScriptFault}
 use Rattle.iso_script_statements.specs.declared.reason.Reason.{Reason}
 use Rattle.iso_script_statements.specs.declared.reason.Reason.TheVariants as R
+use Rattle.iso_script_statements.specs.declared.unmet.Unmet.{Unmet}
 use Rattle.iso_script_statements.specs.declared.wanted.Wanted.{Wanted}
-use Rattle.iso_explain.specs.Meant.{meant_by, meant_for, nearest_of, words_of}
+use Rattle.iso_explain.specs.Meant.{begun_for, meant_at, meant_by, meant_for, meant_of, nearest_of, statement_words, words_of}
+use Rattle.iso_explain.specs.Spots.{place_at_fault}
+use Rattle.iso_explain.specs.Wants.{is_symbol, symbol_wanted}
 use Rattle.iso_explain.proofs.SafeLemmas.{both}
 
 module _ (p : ℕ → Bool) (spelled : (w : Word) → list_all p (spelling w) ≡ true) where
@@ -68,7 +75,21 @@ module _ (p : ℕ → Bool) (spelled : (w : Word) → list_all p (spelling w) �
   found_passes wanted T.End = tt
   found_passes wanted (T.Bad fault) = tt
 
-  pub meant-passes : (reason : Reason) → IfSome (meant_by reason) IsPassing
-  meant-passes (R.Unmet unmet) = found_passes unmet.wanted unmet.found
-  meant-passes R.Kind = tt
-  meant-passes (R.Beyond limit) = tt
+  begun_passes : (name : Option (List ℕ)) → IfSome (begun_for name) IsPassing
+  begun_passes (Some name) = nearest_passes name statement_words
+  begun_passes None = tt
+
+  at_passes : (place : PlaceView) (unmet : Unmet) → IfSome (meant_at place unmet) IsPassing
+  at_passes place unmet = by (is_symbol Equals (symbol_wanted unmet.wanted))
+    where
+      by : (t : Bool) → IfSome (cond t (begun_for (name_of place.statement)) (meant_for unmet.wanted unmet.found)) IsPassing
+      by true = begun_passes (name_of place.statement)
+      by false = found_passes unmet.wanted unmet.found
+
+  of_passes : (bytes : List ℕ) (fault : ScriptFault) (reason : Reason) → IfSome (meant_of bytes fault reason) IsPassing
+  of_passes bytes fault (R.Unmet unmet) = at_passes (place_at_fault bytes fault) unmet
+  of_passes bytes fault R.Kind = tt
+  of_passes bytes fault (R.Beyond limit) = tt
+
+  pub meant-passes : (bytes : List ℕ) (told : Explained) → IfSome (meant_by bytes told) IsPassing
+  meant-passes bytes told = of_passes bytes told.fault told.reason

@@ -6,11 +6,12 @@ use Rattle.std.proofs.lemmas.List.Folds.{list_all-append}
 use Rattle.std.specs.Fmt.{decimal}
 use Rattle.std.specs.Int.{is_in_range}
 use Rattle.std.specs.List.{find, list_all}
-use Rattle.iso_hints.specs.Hints.{hint_at}
+use Rattle.std.specs.Option.{option_or}
+use Rattle.iso_hints.specs.Hints.{form_at, hint_at}
 use Rattle.iso_hints.specs.Pictures.{caret_blanks, caret_count, caret_part, cut, first_shown, hint_line, label_text, margin, picture, place_of, shown_byte, shown_rest, source_part}
 use Rattle.iso_hints.specs.Places.{place_at}
 use Rattle.iso_hints.specs.Rows.{Row, fits}
-use Rattle.iso_hints.specs.Tables.{table}
+use Rattle.iso_hints.specs.Tables.{forms, table}
 use Rattle.iso_script.specs.declared.explain.Explained.{Explained}
 use Rattle.iso_script_lexer.specs.Spelling.{marks, spelling}
 use Rattle.iso_script_lexer.specs.declared.token.Position.{Position}
@@ -32,8 +33,12 @@ use Rattle.iso_script_statements.specs.declared.wanted.Wanted.TheVariants as V
 use Rattle.iso_explain.specs.Bounds.{bound_note, display_note, kind_note, limit_note, limit_words, number_note, token_note}
 use Rattle.iso_explain.specs.Explanations.{explanation, notes, one_piece, picture_of}
 use Rattle.iso_explain.specs.Labels.{kind_text, label_of, quoted, tells_wanted, wanted_text}
-use Rattle.iso_explain.specs.Notes.{brace_note, did_you_mean, first_note, first_text, hint_of, mending_note, note, open_text, place_text, tells_brace, tells_hint}
-use Rattle.iso_explain.specs.Spots.{line_of, offset_of}
+use Rattle.iso_explain.specs.Mending.{form_for, form_of, has_form, hint_of, is_unfit, other_of, table_hint, tells_hint, told_by, told_for}
+use Rattle.iso_explain.specs.Met.{met_of}
+use Rattle.iso_explain.specs.Notes.{brace_note, did_you_mean, first_note, first_text, mending_note, note, open_text, place_text, tells_brace}
+use Rattle.iso_explain.specs.Rules.{Rule, first_rules, other_rules, told_in}
+use Rattle.iso_explain.specs.Rules as in_rules
+use Rattle.iso_explain.specs.Spots.{line_of, offset_of, place_at_fault}
 use Rattle.iso_explain.specs.Printable.{HasPlaces, IsPlace, IsSafe, is_safe}
 
 pub safe-append : (s t : List ℕ) → IsSafe s → IsSafe t → IsSafe (s ++ t)
@@ -275,17 +280,72 @@ hint_found p (row ∷ rows) h =
 hints_are_safe : list_all (λ (row : Row). list_all is_safe row.hint) table ≡ true
 hints_are_safe = refl
 
-hint_is_safe : (bytes : List ℕ) (fault : ScriptFault) → IfSome (hint_of bytes fault) IsSafe
-hint_is_safe bytes fault = by (tells_hint fault.kind)
+forms_are_safe : list_all (λ (row : Row). list_all is_safe row.hint) forms ≡ true
+forms_are_safe = refl
+
+rule_found : (q : Rule → Bool) (rules : List Rule) → list_all (λ rule. list_all is_safe rule.told) rules ≡ true
+    → IfSome (option_map (λ rule. rule.told) (find q rules)) IsSafe
+rule_found q [] h = tt
+rule_found q (rule ∷ rules) h =
+    let parts = both (list_all is_safe rule.told) (list_all (λ (r : Rule). list_all is_safe r.told) rules) h in
+    by parts.0 (rule_found q rules parts.1) (q rule)
+  where
+    by : IsSafe rule.told → IfSome (option_map (λ (r : Rule). r.told) (find q rules)) IsSafe → (t : Bool)
+        → IfSome (option_map (λ (r : Rule). r.told) (cond t (Some rule) (find q rules))) IsSafe
+    by here there true = here
+    by here there false = there
+
+first_rules_are_safe : list_all (λ (rule : Rule). list_all is_safe rule.told) first_rules ≡ true
+first_rules_are_safe = refl
+
+other_rules_are_safe : list_all (λ (rule : Rule). list_all is_safe rule.told) other_rules ≡ true
+other_rules_are_safe = refl
+
+-- either of two texts
+either_is_safe : (a b : Option (List ℕ)) → IfSome a IsSafe → IfSome b IsSafe → IfSome (option_or a b) IsSafe
+either_is_safe None b h k = k
+either_is_safe (Some text) b h k = h
+
+told_is_safe : (rules : List Rule) → list_all (λ (rule : Rule). list_all is_safe rule.told) rules ≡ true
+    → (bytes : List ℕ) (fault : ScriptFault) (reason : Reason) → IfSome (told_for rules bytes fault reason) IsSafe
+told_is_safe rules h bytes fault R.Kind = tt
+told_is_safe rules h bytes fault (R.Beyond limit) = tt
+told_is_safe rules h bytes fault (R.Unmet unmet) = by (is_unfit fault.kind)
+  where
+    by : (t : Bool) → IfSome (cond t (told_in rules (met_of (place_at_fault bytes fault) unmet)) None) IsSafe
+    by true = rule_found (in_rules.fits (met_of (place_at_fault bytes fault) unmet)) rules h
+    by false = tt
+
+table_is_safe : (bytes : List ℕ) (fault : ScriptFault) → IfSome (table_hint bytes fault) IsSafe
+table_is_safe bytes fault = by (tells_hint fault.kind)
   where
     by : (t : Bool) → IfSome (cond t (hint_at bytes (offset_of bytes fault.line fault.column)) None) IsSafe
     by true = hint_found (fits (place_at bytes (offset_of bytes fault.line fault.column))) table hints_are_safe
     by false = tt
 
-mending_is_safe : (hint meant : Option (List ℕ)) → IfSome hint IsSafe → IfSome meant IsSafe → IsSafe (mending_note hint meant)
-mending_is_safe (Some hint) meant h k = line_is_safe hint h
-mending_is_safe None None h k = refl
-mending_is_safe None (Some word) h k =
+form_is_safe : (bytes : List ℕ) (fault : ScriptFault) (reason : Reason) → IfSome (form_for bytes fault reason) IsSafe
+form_is_safe bytes fault R.Kind = tt
+form_is_safe bytes fault (R.Beyond limit) = tt
+form_is_safe bytes fault (R.Unmet unmet) = by (is_unfit fault.kind && has_form unmet.wanted)
+  where
+    by : (t : Bool) → IfSome (cond t (form_at bytes (offset_of bytes fault.line fault.column)) None) IsSafe
+    by true = hint_found (fits (place_at bytes (offset_of bytes fault.line fault.column))) forms forms_are_safe
+    by false = tt
+
+hint_is_safe : (bytes : List ℕ) (told : Explained) → IfSome (hint_of bytes told) IsSafe
+hint_is_safe bytes told =
+    either_is_safe (told_by first_rules bytes told) (table_hint bytes told.fault)
+    (told_is_safe first_rules first_rules_are_safe bytes told.fault told.reason) (table_is_safe bytes told.fault)
+
+other_is_safe : (bytes : List ℕ) (told : Explained) → IfSome (other_of bytes told) IsSafe
+other_is_safe bytes told =
+    either_is_safe (told_by other_rules bytes told) (form_of bytes told)
+    (told_is_safe other_rules other_rules_are_safe bytes told.fault told.reason) (form_is_safe bytes told.fault told.reason)
+
+mending_is_safe : (hint meant other : Option (List ℕ)) → IfSome hint IsSafe → IfSome meant IsSafe → IfSome other IsSafe → IsSafe (mending_note hint meant other)
+mending_is_safe (Some hint) meant other h k m = line_is_safe hint h
+mending_is_safe None None other h k m = note_is_safe other m
+mending_is_safe None (Some word) other h k m =
     line_is_safe (did_you_mean word) (safe-append (codes "did you mean `" ++ word) (codes "`?") (safe-append (codes "did you mean `") word refl k) refl)
 
 -- bounds
@@ -360,10 +420,10 @@ bound_is_safe kind (R.Beyond limit) = limit_is_safe limit
 
 notes_are_safe : (bytes : List ℕ) (told : Explained) (meant : Option (List ℕ)) → HasPlaces told → IfSome meant IsSafe → IsSafe (notes bytes told meant)
 notes_are_safe bytes told meant h k =
-    let mend = mending_note (hint_of bytes told.fault) meant in
+    let mend = mending_note (hint_of bytes told) meant (other_of bytes told) in
     safe-append (mend ++ first_note told.first ++ brace_note told) (bound_note told.fault.kind told.reason)
     (safe-append (mend ++ first_note told.first) (brace_note told)
-    (safe-append mend (first_note told.first) (mending_is_safe (hint_of bytes told.fault) meant (hint_is_safe bytes told.fault) k) (first_is_safe told.first h.first))
+    (safe-append mend (first_note told.first) (mending_is_safe (hint_of bytes told) meant (other_of bytes told) (hint_is_safe bytes told) k (other_is_safe bytes told)) (first_is_safe told.first h.first))
     (brace_is_safe told h.brace))
     (bound_is_safe told.fault.kind told.reason)
 

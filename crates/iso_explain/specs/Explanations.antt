@@ -6,7 +6,8 @@ use Rattle.iso_tap.specs.declared.printer.Piece.{Piece}
 use Rattle.iso_tap.specs.declared.printer.Piece.TheVariants.{Plain}
 use Rattle.iso_explain.specs.Bounds.{bound_note}
 use Rattle.iso_explain.specs.Labels.{label_of}
-use Rattle.iso_explain.specs.Notes.{brace_note, first_note, hint_of, mending_note}
+use Rattle.iso_explain.specs.Mending.{hint_of, other_of}
+use Rattle.iso_explain.specs.Notes.{brace_note, first_note, mending_note}
 use Rattle.iso_explain.specs.Spots.{line_of}
 
 -- a text as the one piece of a label
@@ -21,7 +22,7 @@ picture_of bytes told =
 -- the lines below it: what mends the fault, where something stands first, which brace is open, and what there may be at most
 abbrev pub notes : List ℕ → Explained → (meant : Option (List ℕ)) → List ℕ
 notes bytes told meant =
-    mending_note (hint_of bytes told.fault) meant
+    mending_note (hint_of bytes told) meant (other_of bytes told)
     ++ first_note told.first
     ++ brace_note told
     ++ bound_note told.fault.kind told.reason

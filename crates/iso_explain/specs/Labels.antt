@@ -38,7 +38,7 @@ wanted_text W.MarkedClass = codes "expected `class` or one more mark"
 
 -- what is wrong where a fault of this kind is
 abbrev pub kind_text : ScriptFaultKind → List ℕ
-kind_text K.BadByte = codes "this byte may not stand here"
+kind_text K.BadByte = codes "this byte may not stand here: texts and comments too have printable ASCII alone"
 kind_text K.BadToken = codes "no token is spelled so"
 kind_text K.NumberTooBig = codes "this number is too big"
 kind_text K.OpenText = codes "this text isn't closed on its line"

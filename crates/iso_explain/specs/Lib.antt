@@ -1,9 +1,14 @@
 pub mod Bounds
 pub mod Examples
 pub mod Explanations
+pub mod Finds
 pub mod Labels
 pub mod Meant
+pub mod Mending
+pub mod Met
 pub mod Notes
 pub mod Printable
+pub mod Rules
 pub mod Scripts
 pub mod Spots
+pub mod Wants

@@ -1,20 +1,19 @@
 -- The lines below the picture.
-use Rattle.std.specs.Prelude.{ℕ, List, [], ◌++◌, Bool, true, false, ◌||◌, Option, None, Some, codes, cond, option_map}
+use Rattle.std.specs.Prelude.{ℕ, List, [], ◌++◌, Bool, true, false, ◌||◌, ◌&&◌, Option, None, Some, codes, cond, not, option_map}
 use Rattle.std.specs.Fmt.{decimal}
-use Rattle.iso_hints.specs.Hints.{hint_at}
 use Rattle.iso_hints.specs.Pictures.{hint_line}
 use Rattle.iso_script.specs.declared.explain.Explained.{Explained}
-use Rattle.iso_script_lexer.specs.Spelling.{same_symbol}
-use Rattle.iso_script_lexer.specs.declared.symbol.Symbol.TheVariants.{CloseBrace}
+use Rattle.iso_script_lexer.specs.declared.symbol.Symbol.TheVariants.{CloseBrace, Semicolon}
 use Rattle.iso_script_lexer.specs.declared.token.Position.{Position}
-use Rattle.iso_script_lexer.specs.declared.token.Token.{Token}
-use Rattle.iso_script_lexer.specs.declared.token.Token.TheVariants as T
-use Rattle.iso_script_statements.specs.declared.fault.ScriptFault.{ScriptFault}
 use Rattle.iso_script_statements.specs.declared.fault.ScriptFaultKind.{ScriptFaultKind}
 use Rattle.iso_script_statements.specs.declared.fault.ScriptFaultKind.TheVariants as K
 use Rattle.iso_script_statements.specs.declared.reason.Reason.{Reason}
 use Rattle.iso_script_statements.specs.declared.reason.Reason.TheVariants as R
-use Rattle.iso_explain.specs.Spots.{offset_of}
+use Rattle.iso_script_statements.specs.declared.wanted.Wanted.{Wanted}
+use Rattle.iso_explain.specs.Finds.{is_of_class, symbol_found}
+use Rattle.iso_explain.specs.Met.{found_of}
+use Rattle.iso_explain.specs.Wants.{is_body, is_symbol, symbol_wanted}
+use Rattle.iso_explain.specs.declared.met.Found.{Found}
 
 -- a line of its own for a text, if there is one
 abbrev pub note : Option (List ℕ) → List ℕ
@@ -29,21 +28,11 @@ place_text at = decimal at.line ++ codes ":" ++ decimal at.column
 abbrev pub did_you_mean : List ℕ → List ℕ
 did_you_mean word = codes "did you mean `" ++ word ++ codes "`?"
 
--- what mends the fault: a hint, or else what was meant
-abbrev pub mending_note : (hint meant : Option (List ℕ)) → List ℕ
-mending_note (Some hint) meant = hint_line hint
-mending_note None meant = note (option_map did_you_mean meant)
-
--- whether a fault of this kind may have a hint: a token that doesn't fit, or none
-abbrev pub tells_hint : ScriptFaultKind → Bool
-tells_hint K.Expected = true
-tells_hint K.BadToken = true
-tells_hint K.BadByte = true
-tells_hint _ = false
-
--- the hint for a fault of these bytes
-abbrev pub hint_of : List ℕ → ScriptFault → Option (List ℕ)
-hint_of bytes fault = cond (tells_hint fault.kind) (hint_at bytes (offset_of bytes fault.line fault.column)) None
+-- what mends the fault: a hint, or else what was meant, or else what else is told
+abbrev pub mending_note : (hint meant other : Option (List ℕ)) → List ℕ
+mending_note (Some hint) meant other = hint_line hint
+mending_note None (Some word) other = hint_line (did_you_mean word)
+mending_note None None other = note other
 
 -- where something stands first
 abbrev pub first_text : Position → List ℕ
@@ -56,19 +45,22 @@ first_note first = note (option_map first_text first)
 abbrev pub open_text : Position → List ℕ
 open_text at = codes "the brace at " ++ place_text at ++ codes " is open"
 
--- a token closes a brace
-abbrev pub is_closing : Token → Bool
-is_closing (T.Symbol symbol) = same_symbol symbol CloseBrace
-is_closing _ = false
-
 -- the script ends
 abbrev pub is_end : ScriptFaultKind → Bool
 is_end K.EndOfInput = true
 is_end _ = false
 
--- whether the open brace is told: the script ends, or a brace is closed where something else is wanted
+-- a brace is closed where something else is wanted than a `;`
+abbrev pub closes_early : Wanted → Found → Bool
+closes_early wanted found = is_symbol CloseBrace (symbol_found found) && not (is_symbol Semicolon (symbol_wanted wanted))
+
+-- a brace is missing: one is closed too early, or what stands outside of bodies is found in one
+abbrev pub lacks_brace : Wanted → Found → Bool
+lacks_brace wanted found = closes_early wanted found || (is_body wanted && is_of_class found)
+
+-- whether the open brace is told: the script ends, or a brace is missing
 abbrev pub tells_brace : ScriptFaultKind → Reason → Bool
-tells_brace kind (R.Unmet unmet) = is_end kind || is_closing unmet.found
+tells_brace kind (R.Unmet unmet) = is_end kind || lacks_brace unmet.wanted (found_of unmet.found)
 tells_brace kind R.Kind = is_end kind
 tells_brace kind (R.Beyond limit) = is_end kind
 

@@ -10,7 +10,7 @@ use Rattle.iso_explain.specs.declared.script.ExplainError.TheVariants as E
 
 -- the explanation of a fault, with the word that was meant
 abbrev pub explained_text : List ℕ → Explained → List ℕ
-explained_text bytes told = explanation bytes told (meant_by told.reason)
+explained_text bytes told = explanation bytes told (meant_by bytes told)
 
 -- a fault's explanation was written, and where there is none, nothing
 abbrev pub IsTold : List ℕ → (old new : Account) → Option Explained → Type 0

@@ -2,6 +2,8 @@
 use Rattle.std.specs.Prelude.{ℕ, zero, suc, ◌+◌, ◌-◌, List, [], ◌∷◌, ◌==◌, cond, drop, not, take}
 use Rattle.std.specs.List.{prefix_len}
 use Rattle.std.specs.Str.Lines.{strip_carriage_return}
+use Rattle.iso_hints.specs.Places.{PlaceView, place_at}
+use Rattle.iso_script_statements.specs.declared.fault.ScriptFault.{ScriptFault}
 
 -- how many bytes so many lines have from here on, with their line feeds: all, where there are fewer lines
 abbrev pub lines_bytes : ℕ → List ℕ → ℕ
@@ -24,3 +26,7 @@ line_of bytes line = first_line (drop (start_of bytes line) bytes)
 -- how many bytes stand before a place
 abbrev pub offset_of : List ℕ → ℕ → ℕ → ℕ
 offset_of bytes line column = start_of bytes line + (column - 1)
+
+-- the place of a fault, with what stands before it
+abbrev pub place_at_fault : List ℕ → ScriptFault → PlaceView
+place_at_fault bytes fault = place_at bytes (offset_of bytes fault.line fault.column)

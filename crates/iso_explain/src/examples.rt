@@ -1,6 +1,6 @@
 //! Worked examples of explanations, as public laws.
 ghost use Rattle.std.specs.Prelude.{◌≡◌, ◌++◌, ◌∷◌, [], None, Some, codes, refl, replicate};
-ghost use Rattle.iso_explain.specs.Examples.{at, end_met, fault_in, lines_of, name_met, second_of, symbol_met};
+ghost use Rattle.iso_explain.specs.Examples.{at, end_met, fault_in, in_a_test, lines_of, name_met, second_of, symbol_met, word_met};
 ghost use Rattle.iso_explain.specs.Explanations.{explanation};
 ghost use Rattle.iso_explain.specs.Meant.{meant_by};
 ghost use Rattle.iso_script_lexer.specs.declared.symbol.Symbol.TheVariants as S;
@@ -24,7 +24,8 @@ pub fn hint_of_the_table_is_told()
 
 /// Without a hint the word that was meant is told.
 pub fn word_that_was_meant_is_told()
-    ensures meant { meant_by (name_met V.TopClass "clas" refl) ≡ Some (codes "class") }
+    ensures meant { meant_by (codes "team shop\nclas Cart {\n}\n") (fault_in K.Expected (at 2 1) (name_met V.TopClass "clas" refl) 4 None)
+        ≡ Some (codes "class") }
     ensures told { explanation
         (lines_of ("team shop" ∷ "clas Cart {" ∷ "}" ∷ []))
         (fault_in K.Expected (at 2 1) (name_met V.TopClass "clas" refl) 4 None) (Some (codes "class"))
@@ -33,8 +34,67 @@ pub fn word_that_was_meant_is_told()
         ∷ "   | ^^^^ expected a mark, `class` or the end of the script"
         ∷ " = did you mean `class`?"
         ∷ []) }
-    ensures far { meant_by (name_met V.TopClass "Cart" refl) ≡ None }
-    ensures no_word { meant_by (name_met (V.Symbol S.Equals) "print1" refl) ≡ None }
+    ensures far { meant_by (codes "team shop\nCart {\n}\n") (fault_in K.Expected (at 2 1) (name_met V.TopClass "Cart" refl) 4 None) ≡ None }
+{}
+
+/// Where `=` is wanted a word may have been meant by the name that begins the statement. What begins with a word has its form, and
+/// else it is told which statements there are.
+pub fn statement_that_was_meant_is_told()
+    ensures meant { meant_by (lines_of (in_a_test ("asert x;" ∷ []))) (fault_in K.Expected (at 4 7) (name_met (V.Symbol S.Equals) "x" refl) 1 None)
+        ≡ Some (codes "assert") }
+    ensures below_a_comment { meant_by (lines_of (in_a_test ("// one; two" ∷ "setProp a, b;" ∷ [])))
+        (fault_in K.Expected (at 5 9) (name_met (V.Symbol S.Equals) "a" refl) 1 None) ≡ Some (codes "set_prop") }
+    ensures behind_let { meant_by (lines_of (in_a_test ("let x y;" ∷ []))) (fault_in K.Expected (at 4 7) (name_met (V.Symbol S.Equals) "y" refl) 1 None)
+        ≡ None }
+    ensures form { explanation
+        (lines_of (in_a_test ("let x y;" ∷ [])))
+        (fault_in K.Expected (at 4 7) (name_met (V.Symbol S.Equals) "y" refl) 1 None) None
+        ≡ lines_of (" 4 | let x y;" ∷ "   |       ^ expected `=`" ∷ " = write `let NAME = ..;`" ∷ []) }
+    ensures all { explanation
+        (lines_of (in_a_test ("nap x;" ∷ [])))
+        (fault_in K.Expected (at 4 5) (name_met (V.Symbol S.Equals) "x" refl) 1 None) None
+        ≡ lines_of
+        (" 4 | nap x;"
+        ∷ "   |     ^ expected `=`"
+        ∷ " = statements are `NAME = ..;`, `let print assert assert_equal assume fail if repeat` and `set_prop clear_prop set_locale write_file append_file delete_file`"
+        ∷ []) }
+{}
+
+/// Where a `;` is missing this is told, be it in the line or in the one before, and not which brace is open.
+pub fn missing_semicolon_is_told()
+    ensures before_a_brace { explanation
+        (lines_of (in_a_test ("if a { print 1 }" ∷ [])))
+        (fault_in K.Expected (at 4 16) (symbol_met (V.Operator S.Semicolon) S.CloseBrace refl) 1 (Some (at 4 6))) None
+        ≡ lines_of
+        (" 4 | if a { print 1 }"
+        ∷ "   |                ^ expected an operator or `;`"
+        ∷ " = a `;` is missing before this"
+        ∷ []) }
+    ensures behind_a_comment { explanation
+        (lines_of (in_a_test ("x = \"/a\" // { }" ∷ "" ∷ "y = 2;" ∷ [])))
+        (fault_in K.Expected (at 6 1) (name_met (V.Operator S.Semicolon) "y" refl) 1 None) None
+        ≡ lines_of (" 6 | y = 2;" ∷ "   | ^ expected an operator or `;`" ∷ " = a `;` is missing before this" ∷ []) }
+    ensures in_the_line { explanation
+        (lines_of (in_a_test ("x = 1 print 2;" ∷ [])))
+        (fault_in K.Expected (at 4 7) (word_met (V.Operator S.Semicolon) W.Print refl) 5 None) None
+        ≡ lines_of (" 4 | x = 1 print 2;" ∷ "   |       ^^^^^ expected an operator or `;`" ∷ " = a `;` is missing before this" ∷ []) }
+    ensures another_operand { explanation
+        (lines_of (in_a_test ("x = 1 y;" ∷ [])))
+        (fault_in K.Expected (at 4 7) (name_met (V.Operator S.Semicolon) "y" refl) 1 None) None
+        ≡ lines_of (" 4 | x = 1 y;" ∷ "   |       ^ expected an operator or `;`" ∷ []) }
+{}
+
+/// What stands outside of bodies tells in one that its brace is open.
+pub fn open_body_is_told()
+    ensures { explanation
+        (lines_of (in_a_test ("print 1;" ∷ "test drops { }" ∷ [])))
+        (fault_in K.Expected (at 5 1) (word_met V.Statement W.Test refl) 4 (Some (at 3 13))) None
+        ≡ lines_of
+        (" 5 | test drops { }"
+        ∷ "   | ^^^^ expected a statement or `}`"
+        ∷ " = this stands outside of bodies, and one is open here: is a `}` missing above?"
+        ∷ " = the brace at 3:13 is open"
+        ∷ []) }
 {}
 
 /// Of what stands a second time it is told where it stands first.
@@ -66,13 +126,13 @@ pub fn open_brace_is_told_at_the_end()
 /// It is told too where a brace is closed too early.
 pub fn open_brace_is_told_where_one_is_closed()
     ensures { explanation
-        (lines_of ("team shop" ∷ "class Cart {" ∷ "  test adds {" ∷ "    print 1" ∷ "  }" ∷ "}" ∷ []))
-        (fault_in K.Expected (at 5 3) (symbol_met (V.Operator S.Semicolon) S.CloseBrace refl) 1 (Some (at 3 13))) None
+        (lines_of ("team shop" ∷ "class Cart {" ∷ "  test adds" ∷ "}" ∷ []))
+        (fault_in K.Expected (at 4 1) (symbol_met V.Display S.CloseBrace refl) 1 (Some (at 2 12))) None
         ≡ lines_of
-        (" 5 |   }"
-        ∷ "   |   ^ expected an operator or `;`"
-        ∷ " = the statement on the line before lacks its `;`"
-        ∷ " = the brace at 3:13 is open"
+        (" 4 | }"
+        ∷ "   | ^ expected a display text or `{`"
+        ∷ " = write `test NAME { .. }`"
+        ∷ " = the brace at 2:12 is open"
         ∷ []) }
 {}
 
@@ -107,7 +167,7 @@ pub fn control_bytes_are_not_shown()
     ensures { explanation
         (codes "team shop\r\n\tclass " ++ 27 ∷ codes "[0m\r\n")
         (fault_in K.BadByte (at 2 8) R.Kind 0 None) None
-        ≡ lines_of (" 2 |  class ?[0m" ∷ "   |        ^ this byte may not stand here" ∷ []) }
+        ≡ lines_of (" 2 |  class ?[0m" ∷ "   |        ^ this byte may not stand here: texts and comments too have printable ASCII alone" ∷ []) }
 {}
 
 /// Of a long line the part round the fault is shown.

@@ -4,8 +4,9 @@ ghost use Rattle.iso_explain.specs.Explanations.{explanation, notes, picture_of}
 ghost use Rattle.iso_tap.specs.Printers.{Prints};
 
 use crate::bound::bound;
+use crate::hints::{hint_of, other_of};
 use crate::label::label_of;
-use crate::note::{brace, first, hint_of, mending};
+use crate::note::{brace, first, mending};
 use crate::spot::line_of;
 use iso_hints::picture::write_caret;
 use iso_script::explain::Explained;
@@ -62,7 +63,9 @@ fn notes<W: Sink>(
 ) -> Result<(), SinkFailed>
     ensures { Prints printer.old printer.new (notes bytes.now explained.now (option_map (λ w. w.now) meant.entry)) result }
 {
-    mending(printer, hint_of(bytes, explained.fault), meant)?;
+    let hint = hint_of(bytes, explained);
+    let other = other_of(bytes, explained);
+    mending(printer, hint, meant, other)?;
     first(printer, explained.first)?;
     brace(printer, explained)?;
     bound(printer, explained.fault.kind, explained.reason)

@@ -122,7 +122,8 @@ fn of_kind(kind: ScriptFaultKind) -> &'static str
     ensures { result.now ≡ kind_text kind }
 {
     match kind {
-        ScriptFaultKind::BadByte => "this byte may not stand here",
+        ScriptFaultKind::BadByte =>
+            "this byte may not stand here: texts and comments too have printable ASCII alone",
         ScriptFaultKind::BadToken => "no token is spelled so",
         ScriptFaultKind::NumberTooBig => "this number is too big",
         ScriptFaultKind::OpenText => "this text isn't closed on its line",

@@ -3,13 +3,14 @@ ghost use Rattle.std.specs.Prelude.{◌≡◌, ◌<◌, ◌≤◌, IfSome, List,
 ghost use Rattle.std.specs.List.{list_all};
 ghost use Rattle.iso_explain.specs.Explanations.{explanation};
 ghost use Rattle.iso_explain.specs.Labels.{label_of};
-ghost use Rattle.iso_explain.specs.Meant.{words_of};
+ghost use Rattle.iso_explain.specs.Meant.{statement_words, words_of};
 ghost use Rattle.iso_explain.specs.Printable.{HasPlaces, IsInner, IsSafe, line_feeds};
 ghost use Rattle.iso_explain.specs.Scripts.{explained_text};
 ghost use Rattle.iso_script.specs.declared.explain.Explained.{Explained};
 ghost use Rattle.iso_script_statements.specs.Wanted.{a_word, takes};
 ghost use Rattle.iso_script_statements.specs.declared.fault.ScriptFaultKind.{ScriptFaultKind};
 ghost use Rattle.iso_script_statements.specs.declared.reason.Reason.{Reason};
+ghost use Rattle.iso_script_statements.specs.declared.wanted.Wanted.TheVariants.{StatementOrElse};
 ghost use Rattle.iso_script_statements.specs.declared.wanted.Wanted.{Wanted};
 
 /// Whatever bytes are explained, the explanation is printable ASCII and line feeds: no control byte of a script reaches a
@@ -27,9 +28,10 @@ pub fn explanations_have_few_lines()
         → line_feeds (explanation bytes told meant) ≤ 6 }
 {}
 
-/// Each word that is told to have been meant could stand there.
+/// Each word that is told to have been meant could stand there: where the name does, or where a statement begins, or `else`.
 pub fn words_that_were_meant_could_stand_there()
-    ensures { (wanted : Wanted) → list_all (λ w. takes wanted (a_word w)) (words_of wanted) ≡ true }
+    ensures found { (wanted : Wanted) → list_all (λ w. takes wanted (a_word w)) (words_of wanted) ≡ true }
+    ensures begun { list_all (λ w. takes StatementOrElse (a_word w)) statement_words ≡ true }
 {}
 
 /// A label has less than 110 bytes.

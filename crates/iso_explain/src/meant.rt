@@ -1,11 +1,16 @@
 //! Which reserved word was meant by a name.
 ghost use Rattle.std.specs.Prelude.{◌≡◌, IfOk, map, option_map};
-ghost use Rattle.iso_explain.specs.Meant.{meant_by, meant_for, nearest_of, words_of};
+ghost use Rattle.iso_explain.specs.Meant.{begun_for, meant_at, meant_by, meant_for, nearest_of, statement_words, words_of};
+ghost use Rattle.iso_hints.specs.Places.{view_of};
 ghost use Rattle.iso_script_lexer.specs.Spelling as S;
 
 use crate::spelling::spelling;
+use crate::spot::place_at_fault;
+use crate::want::{is_symbol, symbol_wanted};
 use iso_hints::nearest::nearest;
-use iso_script::explain::{Reason, Wanted};
+use iso_hints::place::{Place, name_at};
+use iso_script::explain::{Explained, Reason, Unmet, Wanted};
+use iso_script_lexer::symbol::Symbol;
 use iso_script_lexer::token::Token;
 use std::alloc::{AllocError, Global};
 
@@ -75,17 +80,66 @@ const PARTS: &[&str] = &[
     "write",
 ];
 
-/// The reserved word that was meant by a name which stands where such a word is wanted, if one is near enough.
-pub(crate) fn meant(alloc: Global, reason: Reason<'_>) -> Result<Option<&'static str>, AllocError>
-    ensures { IfOk result (λ word. option_map (λ w. w.now) word ≡ meant_by reason.entry) }
+/// Words that begin a statement, and `else`.
+const STATEMENTS: &[&str] = &[
+    "let",
+    "print",
+    "assert",
+    "assert_equal",
+    "assume",
+    "fail",
+    "if",
+    "else",
+    "repeat",
+    "set_prop",
+    "clear_prop",
+    "set_locale",
+    "write_file",
+    "append_file",
+    "delete_file",
+];
+
+/// The reserved word that was meant by a name: by that which stands where such a word is wanted, or by that which begins a
+/// statement and has no `=` behind it. If a word is near enough.
+pub(crate) fn meant(
+    alloc: Global,
+    bytes: &[u8],
+    explained: &Explained<'_>,
+) -> Result<Option<&'static str>, AllocError>
+    ensures { IfOk result (λ word. option_map (λ w. w.now) word ≡ meant_by bytes.now explained.now) }
 {
-    match reason {
-        Reason::Unmet(unmet) => for_found(alloc, unmet.wanted, unmet.found),
+    match explained.reason {
+        Reason::Unmet(unmet) => at_place(alloc, &place_at_fault(bytes, explained.fault), unmet),
         Reason::Kind | Reason::Beyond(_) => Ok(None),
     }
 }
 
-/// The same, of what is wanted and what is found.
+/// The same, of a place.
+fn at_place(
+    alloc: Global,
+    place: &Place<'_>,
+    unmet: Unmet<'_>,
+) -> Result<Option<&'static str>, AllocError>
+    ensures { IfOk result (λ word. option_map (λ w. w.now) word ≡ meant_at (view_of place.now) unmet.entry) }
+{
+    if is_symbol(Symbol::Equals, symbol_wanted(unmet.wanted)) {
+        for_begun(alloc, name_at(place))
+    } else {
+        for_found(alloc, unmet.wanted, unmet.found)
+    }
+}
+
+/// The word that was meant by a name that begins a statement, if there is one.
+fn for_begun(alloc: Global, name: Option<&str>) -> Result<Option<&'static str>, AllocError>
+    ensures { IfOk result (λ word. option_map (λ w. w.now) word ≡ begun_for (option_map (λ n. n.now) name.entry)) }
+{
+    match name {
+        Some(name) => nearest_of(alloc, name, STATEMENTS),
+        None => Ok(None),
+    }
+}
+
+/// The word that was meant by what is found, where this is wanted.
 fn for_found(
     alloc: Global,
     wanted: Wanted,

@@ -1,17 +1,18 @@
 //! The lines below the picture: what was meant, and what belongs to the fault elsewhere.
 ghost use Rattle.std.specs.Prelude.{◌≡◌, option_map};
-ghost use Rattle.iso_explain.specs.Notes.{brace_note, did_you_mean, first_note, hint_of, is_closing, mending_note, open_text, tells_brace, tells_hint};
+ghost use Rattle.iso_explain.specs.Notes.{brace_note, closes_early, did_you_mean, first_note, is_end, lacks_brace, mending_note, open_text, tells_brace};
 ghost use Rattle.iso_hints.specs.Pictures.{hint_line};
 ghost use Rattle.iso_tap.specs.Pieces.{pieces_text};
 ghost use Rattle.iso_tap.specs.Printers.{Prints};
 
-use crate::spot::offset_of;
-use iso_hints::hint::hint;
+use crate::find::{is_of_class, symbol_found};
+use crate::met::{Found, found_of};
+use crate::want::{is_body, is_symbol, symbol_wanted};
 use iso_hints::picture::write_hint;
-use iso_script::explain::{Explained, Reason};
+use iso_script::explain::{Explained, Reason, Wanted};
 use iso_script_lexer::symbol::Symbol;
-use iso_script_lexer::token::{Position, Token};
-use iso_script_statements::fault::{ScriptFault, ScriptFaultKind};
+use iso_script_lexer::token::Position;
+use iso_script_statements::fault::ScriptFaultKind;
 use iso_tap::printer::{Piece, Printer};
 use iso_tap::sink::{Sink, SinkFailed};
 
@@ -27,20 +28,24 @@ pub(crate) fn note<W: Sink>(
     printer.bytes(b"\n")
 }
 
-/// Writes what mends a fault: a hint, or else what was meant.
+/// Writes what mends a fault: a hint, or else what was meant, or else what else is told.
 pub(crate) fn mending<W: Sink>(
     printer: &mut Printer<'_, W>,
     hint: Option<&str>,
     meant: Option<&str>,
+    other: Option<&str>,
 ) -> Result<(), SinkFailed>
     ensures { Prints printer.old printer.new
-        (mending_note (option_map (λ h. h.now) hint.entry) (option_map (λ w. w.now) meant.entry)) result }
+        (mending_note (option_map (λ h. h.now) hint.entry) (option_map (λ w. w.now) meant.entry) (option_map (λ t. t.now) other.entry)) result }
 {
     if let Some(hint) = hint {
         return write_hint(printer, hint);
     }
-    match meant {
-        Some(word) => did_you_mean(printer, word),
+    if let Some(word) = meant {
+        return did_you_mean(printer, word);
+    }
+    match other {
+        Some(text) => write_hint(printer, text),
         None => Ok(()),
     }
 }
@@ -56,27 +61,6 @@ fn did_you_mean<W: Sink>(printer: &mut Printer<'_, W>, word: &str) -> Result<(),
             Piece::Plain(word.as_bytes()),
             Piece::Plain(b"`?"),
         ],
-    )
-}
-
-/// The hint for a fault, if it is of a kind that has hints, and there is one.
-pub(crate) fn hint_of(bytes: &[u8], fault: ScriptFault) -> Option<&'static str>
-    ensures { option_map (λ h. h.now) result ≡ hint_of bytes.now fault }
-{
-    if tells_hint(fault.kind) {
-        hint(bytes, offset_of(bytes, fault.line, fault.column))
-    } else {
-        None
-    }
-}
-
-/// Whether a fault of this kind may have a hint: a token that doesn't fit, or none.
-fn tells_hint(kind: ScriptFaultKind) -> bool
-    ensures { result ≡ tells_hint kind }
-{
-    matches!(
-        kind,
-        ScriptFaultKind::Expected | ScriptFaultKind::BadToken | ScriptFaultKind::BadByte
     )
 }
 
@@ -133,23 +117,34 @@ fn open_at<W: Sink>(printer: &mut Printer<'_, W>, at: Position) -> Result<(), Si
     )
 }
 
-/// Whether the open brace is to be told: the script ends, or a brace is closed where something else is wanted.
+/// Whether the open brace is to be told: the script ends, or what is found tells that a brace is missing.
 fn tells_brace(kind: ScriptFaultKind, reason: Reason<'_>) -> bool
     ensures { result ≡ tells_brace kind reason.entry }
 {
     match reason {
-        Reason::Unmet(unmet) => matches!(kind, ScriptFaultKind::EndOfInput)
-            || is_closing(unmet.found),
-        Reason::Kind | Reason::Beyond(_) => matches!(kind, ScriptFaultKind::EndOfInput),
+        Reason::Unmet(unmet) => is_end(kind) || lacks_brace(unmet.wanted, found_of(unmet.found)),
+        Reason::Kind | Reason::Beyond(_) => is_end(kind),
     }
 }
 
-/// Whether a token closes a brace.
-fn is_closing(token: Token<'_>) -> bool
-    ensures { result ≡ is_closing token.entry }
+/// Whether the script ends.
+fn is_end(kind: ScriptFaultKind) -> bool
+    ensures { result ≡ is_end kind }
 {
-    match token {
-        Token::Symbol(symbol) => symbol.is(Symbol::CloseBrace),
-        _ => false,
-    }
+    matches!(kind, ScriptFaultKind::EndOfInput)
+}
+
+/// Whether a brace is closed where something else is wanted than a `;`, or what stands outside of bodies is found in one.
+fn lacks_brace(wanted: Wanted, found: Found) -> bool
+    ensures { result ≡ lacks_brace wanted found }
+{
+    closes_early(wanted, found) || (is_body(wanted) && is_of_class(found))
+}
+
+/// Whether a brace is closed where something else is wanted than a `;`.
+fn closes_early(wanted: Wanted, found: Found) -> bool
+    ensures { result ≡ closes_early wanted found }
+{
+    is_symbol(Symbol::CloseBrace, symbol_found(found))
+        && !is_symbol(Symbol::Semicolon, symbol_wanted(wanted))
 }

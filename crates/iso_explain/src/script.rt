@@ -40,7 +40,7 @@ pub fn explain_script<'a, W: Sink>(
     let Some(explained) = why(alloc, bytes)? else {
         return Ok(None);
     };
-    let word = meant(alloc, explained.reason)?;
+    let word = meant(alloc, bytes, &explained)?;
     tell(bytes, &explained, word, sink)?;
     Ok(Some(explained))
 }

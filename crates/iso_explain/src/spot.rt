@@ -2,7 +2,11 @@
 ghost use Rattle.std.specs.Prelude.{◌≡◌, ◌≤◌, ◌==◌, length, not};
 ghost use Rattle.std.specs.List.{prefix_len};
 ghost use Rattle.std.specs.Str.Lines.{strip_carriage_return};
-ghost use Rattle.iso_explain.specs.Spots.{first_line, line_of, offset_of, start_of};
+ghost use Rattle.iso_explain.specs.Spots.{first_line, line_of, offset_of, place_at_fault, start_of};
+ghost use Rattle.iso_hints.specs.Places.{view_of};
+
+use iso_hints::place::{Place, place_at};
+use iso_script_statements::fault::ScriptFault;
 
 /// The line of this number, without its line end, LF or CR LF. Lines count from 1; one that isn't there is empty.
 pub(crate) fn line_of(bytes: &[u8], line: u32) -> &[u8]
@@ -16,6 +20,13 @@ pub(crate) fn offset_of(bytes: &[u8], line: u32, column: u32) -> usize
     ensures { result ≡ offset_of bytes.now line column }
 {
     start_of(bytes, line) + column.saturating_sub(1) as usize
+}
+
+/// The place of a fault, with what stands before it.
+pub(crate) fn place_at_fault(bytes: &[u8], fault: ScriptFault) -> Place<'_>
+    ensures { view_of result ≡ place_at_fault bytes.now fault }
+{
+    place_at(bytes, offset_of(bytes, fault.line, fault.column))
 }
 
 /// How many bytes stand before the line of this number: all of them where there are fewer lines.

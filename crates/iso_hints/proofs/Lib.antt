@@ -1,5 +1,7 @@
 pub mod HintLemmas
+pub mod NameLemmas
 pub mod NearestLemmas
 pub mod OrderLemmas
 pub mod PictureLemmas
 pub mod PositionLemmas
+pub mod ScanLemmas

@@ -2,7 +2,7 @@
 use Prim.Native.String.{String}
 use Rattle.std.specs.Prelude.{ℕ, ◌+◌, List, [], ◌∷◌, ◌++◌, Option, Some, codes, length, map}
 use Rattle.std.specs.Borrow.{Bor}
-use Rattle.iso_hints.specs.Hints.{hint_at}
+use Rattle.iso_hints.specs.Hints.{form_at, hint_at}
 use Rattle.iso_tap.specs.declared.printer.Piece.{Piece}
 use Rattle.iso_tap.specs.declared.printer.Piece.TheVariants.{Plain}
 use Rattle.iso_hints.specs.Nearest.{near_words}
@@ -30,6 +30,17 @@ abbrev pub in_test : String → String → Option (List ℕ)
 in_test front rest =
     let head = codes "team shop\nclass Cart {\n  test adds {\n    " in
     hint_at (head ++ (codes front ++ codes rest)) (length head + length (codes front))
+
+-- what is told of what is begun before a place in a class, and in a test
+abbrev pub form_in_class : String → String → Option (List ℕ)
+form_in_class front rest =
+    let head = codes "team shop\nclass Cart {\n  " in
+    form_at (head ++ (codes front ++ codes rest)) (length head + length (codes front))
+
+abbrev pub form_in_test : String → String → Option (List ℕ)
+form_in_test front rest =
+    let head = codes "team shop\nclass Cart {\n  test adds {\n    " in
+    form_at (head ++ (codes front ++ codes rest)) (length head + length (codes front))
 
 -- lines with their line ends
 abbrev pub text_of : List String → List ℕ

@@ -9,6 +9,7 @@ pub mod Places
 pub mod Positions
 pub mod Ranks
 pub mod Rows
+pub mod Scans
 pub mod Settings
 pub mod SettingsTexts
 pub mod Tables

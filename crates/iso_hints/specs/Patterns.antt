@@ -1,13 +1,13 @@
 -- Patterns of mistakes.
-use Rattle.std.specs.Prelude.{ℕ, ◌-◌, List, Bool, false, ◌&&◌, ◌||◌, ◌==◌, not, Option, Some, None, length, map, nat_lt, slice_get}
+use Rattle.std.specs.Prelude.{ℕ, ◌-◌, List, Bool, false, ◌&&◌, ◌||◌, ◌==◌, not, Option, Some, None, codes, drop, length, map, nat_lt, slice_get}
 use Rattle.std.specs.Char.{is_ascii_digit}
 use Rattle.std.specs.List.{list_any, prefix_len}
 use Rattle.iso_hints.specs.Bytes.{in_name, is_operator_byte}
-use Rattle.iso_hints.specs.Places.{PlaceView}
-use Rattle.iso_hints.specs.Tokens.{is_last, is_name_byte, is_next}
+use Rattle.iso_hints.specs.Places.{PlaceView, untrimmed}
+use Rattle.iso_hints.specs.Tokens.{is_last, is_name, is_name_byte, is_next}
 use Rattle.iso_hints.specs.declared.pattern.Pattern.{Pattern}
-use Rattle.iso_hints.specs.declared.pattern.Pattern.TheVariants.{Token, Statement, Reserved, Numeral, Operator, Unended, Start}
-use Rattle.iso_hints.specs.declared.words.TheConstants.{LITERALS, OPERATORS, RESERVED, STATEMENTS}
+use Rattle.iso_hints.specs.declared.pattern.Pattern.TheVariants.{Token, Statement, Reserved, Numeral, Operator, Team, Start}
+use Rattle.iso_hints.specs.declared.words.TheConstants.{LITERALS, OPERATORS, RESERVED}
 
 -- one of these tokens is next
 abbrev pub is_any_next : List (List ℕ) → List ℕ → Bool
@@ -34,11 +34,9 @@ is_second_operator place =
     && list_any is_operator_byte place.statement)
     && not (is_any_next (map (λ t. t.now) LITERALS.now) place.statement)
 
--- the place leads its line, and before it ends an operand of a statement, in which no comment is
-abbrev pub is_unended : PlaceView → Bool
-is_unended place =
-    ((place.leads && is_any_next (map (λ t. t.now) STATEMENTS.now) place.statement) && ends_operand (last_byte place.before))
-    && not (list_any (λ b. b == 47) place.statement)
+-- a head is that of the team, as far as its name: the word `team`, and a name
+abbrev pub is_behind_team : List ℕ → Bool
+is_behind_team head = is_next (codes "team") head && is_name (untrimmed (drop 4 head))
 
 -- a word stands to the place as the pattern says
 abbrev pub lies : PlaceView → Pattern → List ℕ → Bool
@@ -47,5 +45,5 @@ lies place Statement word = is_next word place.statement
 lies place Reserved word = is_last word place.before && is_any_next (map (λ t. t.now) RESERVED.now) place.rest
 lies place Numeral word = is_odd_numeral place.rest
 lies place Operator word = is_second_operator place
-lies place Unended word = is_unended place
+lies place Team word = is_behind_team place.statement
 lies place Start word = length place.before == 0

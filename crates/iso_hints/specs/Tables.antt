@@ -5,12 +5,15 @@ use Rattle.iso_hints.specs.declared.pattern.Pattern.{Pattern}
 use Rattle.iso_hints.specs.declared.table.beginnings.TheConstants as in_beginnings
 use Rattle.iso_hints.specs.declared.table.annotations.TheConstants as in_annotations
 use Rattle.iso_hints.specs.declared.table.operators.TheConstants as in_operators
+use Rattle.iso_hints.specs.declared.table.methods.TheConstants as in_methods
 use Rattle.iso_hints.specs.declared.table.symbols.TheConstants as in_symbols
 use Rattle.iso_hints.specs.declared.table.parentheses.TheConstants as in_parentheses
 use Rattle.iso_hints.specs.declared.table.ends.TheConstants as in_ends
+use Rattle.iso_hints.specs.declared.table.modifiers.TheConstants as in_modifiers
 use Rattle.iso_hints.specs.declared.table.members.TheConstants as in_members
 use Rattle.iso_hints.specs.declared.table.heads.TheConstants as in_heads
 use Rattle.iso_hints.specs.declared.table.control.TheConstants as in_control
+use Rattle.iso_hints.specs.declared.table.statements.TheConstants as in_statements
 use Rattle.iso_hints.specs.declared.table.calls.TheConstants as in_calls
 use Rattle.iso_hints.specs.declared.table.forms.TheConstants as in_forms
 
@@ -27,6 +30,9 @@ annotations = rows_of in_annotations.ROWS.now
 abbrev pub operators : List Row
 operators = rows_of in_operators.ROWS.now
 
+abbrev pub methods : List Row
+methods = rows_of in_methods.ROWS.now
+
 abbrev pub symbols : List Row
 symbols = rows_of in_symbols.ROWS.now
 
@@ -35,6 +41,9 @@ parentheses = rows_of in_parentheses.ROWS.now
 
 abbrev pub ends : List Row
 ends = rows_of in_ends.ROWS.now
+
+abbrev pub modifiers : List Row
+modifiers = rows_of in_modifiers.ROWS.now
 
 abbrev pub members : List Row
 members = rows_of in_members.ROWS.now
@@ -45,15 +54,18 @@ heads = rows_of in_heads.ROWS.now
 abbrev pub control : List Row
 control = rows_of in_control.ROWS.now
 
+abbrev pub statements : List Row
+statements = rows_of in_statements.ROWS.now
+
 abbrev pub calls : List Row
 calls = rows_of in_calls.ROWS.now
 
 abbrev pub forms : List Row
 forms = rows_of in_forms.ROWS.now
 
--- all of them, in the order in which they are tried
+-- all of them but the forms, in the order in which they are tried
 abbrev pub table : List Row
 table =
-    beginnings ++ annotations ++ operators ++ symbols
-    ++ parentheses ++ ends ++ members
-    ++ heads ++ control ++ calls ++ forms
+    beginnings ++ annotations ++ operators ++ methods ++ symbols
+    ++ parentheses ++ ends ++ modifiers ++ members
+    ++ heads ++ control ++ statements ++ calls

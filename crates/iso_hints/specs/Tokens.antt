@@ -1,6 +1,6 @@
 -- Tokens beside a place.
-use Rattle.std.specs.Prelude.{ℕ, ◌-◌, List, Bool, false, ◌&&◌, not, Option, Some, None, drop, length, nat_eq, slice_get, take}
-use Rattle.std.specs.List.{ends_with, starts_with}
+use Rattle.std.specs.Prelude.{ℕ, ◌-◌, List, Bool, false, ◌&&◌, ◌==◌, not, Option, Some, None, drop, length, nat_eq, slice_get, take}
+use Rattle.std.specs.List.{ends_with, list_all, starts_with}
 use Rattle.iso_hints.specs.Bytes.{in_name}
 
 -- there is a byte, and it is one of a name
@@ -19,3 +19,7 @@ is_next token bytes = starts_with nat_eq bytes token && not (is_cut token (drop 
 -- the bytes end with the token, and no longer word does
 abbrev pub is_last : List ℕ → List ℕ → Bool
 is_last token bytes = ends_with nat_eq bytes token && not (is_cut (take (length bytes - length token) bytes) token)
+
+-- a name: each byte is of a name, and there is one
+abbrev pub is_name : List ℕ → Bool
+is_name bytes = not (length bytes == 0) && list_all in_name bytes

@@ -1,6 +1,6 @@
 //! Hints for what people bring from other languages.
 ghost use Rattle.std.specs.Prelude.{◌≡◌, option_map};
-ghost use Rattle.iso_hints.specs.Hints.{hint_at};
+ghost use Rattle.iso_hints.specs.Hints.{form_at, hint_at};
 
 use crate::place::place_at;
 use crate::table::annotations::annotations;
@@ -11,8 +11,11 @@ use crate::table::ends::ends;
 use crate::table::forms::forms;
 use crate::table::heads::heads;
 use crate::table::members::members;
+use crate::table::methods::methods;
+use crate::table::modifiers::modifiers;
 use crate::table::operators::operators;
 use crate::table::parentheses::parentheses;
+use crate::table::statements::statements;
 use crate::table::symbols::symbols;
 
 /// What mends a mistake in a script, of which a fault stands behind so many bytes: a token that doesn't fit, or is none.
@@ -23,12 +26,21 @@ pub fn hint(text: &[u8], bytes: usize) -> Option<&'static str>
     beginnings(&place)
         .or(annotations(&place))
         .or(operators(&place))
+        .or(methods(&place))
         .or(symbols(&place))
         .or(parentheses(&place))
         .or(ends(&place))
+        .or(modifiers(&place))
         .or(members(&place))
         .or(heads(&place))
         .or(control(&place))
+        .or(statements(&place))
         .or(calls(&place))
-        .or(forms(&place))
+}
+
+/// How the statement or head is written that stands before so many bytes.
+pub fn form(text: &[u8], bytes: usize) -> Option<&'static str>
+    ensures { option_map (λ told. told.now) result ≡ form_at text.now bytes }
+{
+    forms(&place_at(text, bytes))
 }

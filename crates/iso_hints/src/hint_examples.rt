@@ -1,6 +1,6 @@
 //! Worked examples of the hints, as public laws: one of each row, and places of which nothing is told.
 ghost use Rattle.std.specs.Prelude.{◌≡◌, ◌∷◌, [], None, Some, codes};
-ghost use Rattle.iso_hints.specs.Examples.{in_class, in_script, in_test};
+ghost use Rattle.iso_hints.specs.Examples.{form_in_class, form_in_test, in_class, in_script, in_test};
 ghost use Rattle.iso_hints.specs.Hints.{hint_at};
 
 /// A script begins with its team, and classes follow.
@@ -20,6 +20,10 @@ pub fn beginnings_are_told()
     ensures team_semicolon { in_script "team shop" ";" ≡ Some (codes "no `;` stands behind the name of a team") }
     ensures team_brace { in_script "team shop " "{ }"
         ≡ Some (codes "a team has no braces: its classes stand below `team NAME`") }
+    ensures team { in_script "team " "file"
+        ≡ Some (codes "a name stands here, and this word is reserved: choose another one") }
+    ensures team_named_test { in_script "team " "test"
+        ≡ Some (codes "a name stands here, and this word is reserved: choose another one") }
     ensures team_test { in_script "team shop\n" "test t { }"
         ≡ Some (codes "a test stands in a class: `class NAME { test NAME { .. } }`") }
     ensures team_dot { in_script "team shop" ".cart"
@@ -48,7 +52,7 @@ pub fn annotations_are_told()
     ensures at_execution { in_class "" "@Execution(CONCURRENT)"
         ≡ Some (codes "write `concurrent` or `same_thread` before `class` or `test`") }
     ensures at_resource_lock { in_class "" "@ResourceLock(\"db\")"
-        ≡ Some (codes "write `read \"KEY\"` or `write \"KEY\"` before `class` or `test`") }
+        ≡ Some (codes "write `read \"KEY\"` or `write \"KEY\"`: for properties `\"java.lang.System.properties\"`") }
     ensures at_repeated_test { in_class "" "@RepeatedTest(3)" ≡ Some (codes "write `repeat N { .. }` in the test") }
     ensures other_annotations { in_class "" "@Tag(\"slow\")"
         ≡ Some (codes "there are no annotations: write marks before `class` or `test`") }
@@ -78,6 +82,29 @@ pub fn operators_are_told()
     ensures plus_equals { in_test "i " "+= 1;" ≡ Some (codes "there is no `+=`: write `i = i + ..;`") }
     ensures minus_equals { in_test "i " "-= 1;" ≡ Some (codes "there is no `-=`: write `i = i - ..;`") }
     ensures star_equals { in_test "i " "*= 2;" ≡ Some (codes "there is no `*=`: write `i = i * ..;`") }
+    ensures arrow { in_test "let f = x " "=> x;" ≡ Some (codes "there is no `=>`: write `(a < b) == false`, or `=`") }
+    ensures equal_less { in_test "assert a " "=< b;" ≡ Some (codes "there is no `=<`: write `(b < a) == false`") }
+{}
+
+/// Methods of other languages have statements and functions in their place, or none.
+pub fn methods_are_told()
+    ensures system_dot_out { in_test "System" ".out(b)" ≡ Some (codes "did you mean `print`?") }
+    ensures system_dot_set_property { in_test "System" ".setProperty(b)" ≡ Some (codes "write `set_prop a, b;`") }
+    ensures system_dot_get_property { in_test "System" ".getProperty(b)" ≡ Some (codes "write `prop(..)`") }
+    ensures system_dot_clear_property { in_test "System" ".clearProperty(b)" ≡ Some (codes "write `clear_prop a;`") }
+    ensures locale_dot_set_default { in_test "Locale" ".setDefault(b)" ≡ Some (codes "write `set_locale a;`") }
+    ensures locale_dot_get_default { in_test "Locale" ".getDefault(b)" ≡ Some (codes "write `locale()`") }
+    ensures files_dot_any { in_test "Files" ".a(b)"
+        ≡ Some (codes "write `file(..)`, `has_file(..)`, `write_file a, b;` or `delete_file a;`") }
+    ensures assertions_dot_any { in_test "Assertions" ".a(b)"
+        ≡ Some (codes "write `assert a;` or `assert_equal a, b;`") }
+    ensures console_dot_any { in_test "console" ".a(b)" ≡ Some (codes "did you mean `print`?") }
+    ensures this_dot_any { in_test "this" ".a(b)" ≡ Some (codes "leave `this.` out: write the name alone") }
+    ensures self_dot_any { in_test "self" ".a(b)" ≡ Some (codes "leave `self.` out: write the name alone") }
+    ensures any_dot_length { in_test "print a" ".length(b)" ≡ Some (codes "write `len(..)`") }
+    ensures any_dot_size { in_test "print a" ".size(b)" ≡ Some (codes "write `len(..)`") }
+    ensures any_dot_equals { in_test "print a" ".equals(b)" ≡ Some (codes "write `a == b`") }
+    ensures any_dot_is_empty { in_test "print a" ".isEmpty(b)" ≡ Some (codes "write `len(..) == 0`") }
 {}
 
 /// So have other symbols.
@@ -87,7 +114,6 @@ pub fn symbols_are_told()
     ensures assert_eq_bang { in_test "assert_eq" "!(1, 2);"
         ≡ Some (codes "write `assert_equal a, b;` without parentheses") }
     ensures println_bang { in_test "println" "!(\"x\");" ≡ Some (codes "did you mean `print`?") }
-    ensures system_dot { in_test "System" ".out.println(\"x\");" ≡ Some (codes "did you mean `print`?") }
     ensures slash { in_test "print 4 " "/ 2;" ≡ Some (codes "there is no division") }
     ensures percent { in_test "print 4 " "% 2;" ≡ Some (codes "there is no division") }
     ensures question { in_test "let x = a " "? b : c;"
@@ -156,7 +182,14 @@ pub fn parentheses_are_told()
         ≡ Some (codes "`append_file` has no parentheses: write `append_file a, b;`") }
     ensures print_comma { in_test "print a" ", b;" ≡ Some (codes "`print` takes one expression: join texts by `++`") }
     ensures let_comma { in_test "let i = 1" ",000;" ≡ Some (codes "a value has no comma") }
-    ensures let_semicolon { in_test "let x" ";" ≡ Some (codes "a name begins with a value: write `let NAME = ..;`") }
+    ensures before_each_other { in_class "before_each " "\"x\" { }"
+        ≡ Some (codes "a block has neither name nor parentheses: write `before_each { .. }`") }
+    ensures before_all_other { in_class "before_all " "\"x\" { }"
+        ≡ Some (codes "a block has neither name nor parentheses: write `before_all { .. }`") }
+    ensures after_each_other { in_class "after_each " "\"x\" { }"
+        ≡ Some (codes "a block has neither name nor parentheses: write `after_each { .. }`") }
+    ensures after_all_other { in_class "after_all " "\"x\" { }"
+        ≡ Some (codes "a block has neither name nor parentheses: write `after_all { .. }`") }
 {}
 
 /// Statements end with one `;`, have one operator an expression, and names aren't reserved.
@@ -174,10 +207,6 @@ pub fn ends_are_told()
         ≡ Some (codes "nothing is open here that could be closed") }
     ensures second_operator { in_test "print 1 + 2 " "* 3;"
         ≡ Some (codes "an expression has one operator: write `a + (b * c)`") }
-    ensures unended { in_test "let x = 1\n    " "print x;"
-        ≡ Some (codes "the statement on the line before lacks its `;`") }
-    ensures team { in_script "team " "file"
-        ≡ Some (codes "a name stands here, and this word is reserved: choose another one") }
     ensures class_word { in_class "class " "text { }"
         ≡ Some (codes "a name stands here, and this word is reserved: choose another one") }
     ensures test_word { in_class "test " "read { }"
@@ -188,6 +217,38 @@ pub fn ends_are_told()
         ≡ Some (codes "a name stands here, and this word is reserved: choose another one") }
     ensures let_word { in_test "let " "file = 1;"
         ≡ Some (codes "a name stands here, and this word is reserved: choose another one") }
+    ensures one_more { in_test "let x = i++" ";" ≡ Some (codes "`++` joins two texts: one more is `i + 1`") }
+    ensures static_class { in_class "static " "class D { }"
+        ≡ Some (codes "leave `static` out: write `class NAME { .. }`") }
+    ensures static_void { in_class "static void " "open() { }"
+        ≡ Some (codes "there are no methods: write `test NAME { .. }`") }
+    ensures final_word { in_test "final " "int x = 1;" ≡ Some (codes "leave `final` out: write `let NAME = ..;`") }
+    ensures const_word { in_test "const " "x = 1;" ≡ Some (codes "write `let NAME = ..;`") }
+    ensures static_final { in_class "static final " "x = 1;" ≡ Some (codes "leave `final` out") }
+    ensures field_final { in_class "field final " "x = 1;" ≡ Some (codes "leave `final` out") }
+    ensures static_const { in_class "static const " "x = 1;" ≡ Some (codes "leave `const` out") }
+    ensures field_const { in_class "field const " "x = 1;" ≡ Some (codes "leave `const` out") }
+{}
+
+/// Words before a member of other languages are left out, or have others in their place.
+pub fn modifiers_are_told()
+    ensures import_word { in_class "" "import x" ≡ Some (codes "there are no imports: leave it out") }
+    ensures package_word { in_class "" "package x" ≡ Some (codes "a script has one team, and no packages") }
+    ensures final_word { in_class "" "final x" ≡ Some (codes "leave `final` out") }
+    ensures const_word { in_class "" "const x" ≡ Some (codes "write `static NAME = ..;`") }
+    ensures protected_word { in_class "" "protected x" ≡ Some (codes "everything is public: leave `protected` out") }
+    ensures pub_word { in_class "" "pub x" ≡ Some (codes "everything is public: leave `pub` out") }
+    ensures export_word { in_class "" "export x" ≡ Some (codes "everything is public: leave `export` out") }
+    ensures abstract_word { in_class "" "abstract x" ≡ Some (codes "a class extends no other: leave `abstract` out") }
+    ensures interface_word { in_class "" "interface x"
+        ≡ Some (codes "there are no interfaces: write `class NAME { .. }`") }
+    ensures static_class_word { in_class "" "static class x"
+        ≡ Some (codes "leave `static` out: write `class NAME { .. }`") }
+    ensures before_word { in_class "" "before x" ≡ Some (codes "did you mean `before_each` or `before_all`?") }
+    ensures after_word { in_class "" "after x" ≡ Some (codes "did you mean `after_each` or `after_all`?") }
+    ensures setup_word { in_class "" "setup x" ≡ Some (codes "did you mean `before_each` or `before_all`?") }
+    ensures teardown_word { in_class "" "teardown x" ≡ Some (codes "did you mean `after_each` or `after_all`?") }
+    ensures ignore_word { in_class "" "ignore x" ≡ Some (codes "write `disabled \"REASON\"` before `test` or `class`") }
 {}
 
 /// A class has blocks, statics, fields, tests and classes, in this order.
@@ -205,28 +266,12 @@ pub fn members_are_told()
     ensures public_word { in_class "" "public void x() { }"
         ≡ Some (codes "everything is public: leave `public` out") }
     ensures private_word { in_class "" "private int x;" ≡ Some (codes "everything is public: leave `private` out") }
-    ensures closed_before_each { in_class "test t { }\n  " "before_each { }"
-        ≡ Some (codes "lifecycle blocks stand before the tests and classes of their class") }
-    ensures closed_before_all { in_class "test t { }\n  " "before_all { }"
-        ≡ Some (codes "lifecycle blocks stand before the tests and classes of their class") }
-    ensures closed_after_each { in_class "test t { }\n  " "after_each { }"
-        ≡ Some (codes "lifecycle blocks stand before the tests and classes of their class") }
-    ensures closed_after_all { in_class "test t { }\n  " "after_all { }"
-        ≡ Some (codes "lifecycle blocks stand before the tests and classes of their class") }
-    ensures closed_static { in_class "test t { }\n  " "static x = 1;"
-        ≡ Some (codes "statics and fields stand before the blocks, tests and classes of their class") }
-    ensures closed_field { in_class "before_all { }\n  " "field x = 1;"
-        ≡ Some (codes "statics and fields stand before the blocks, tests and classes of their class") }
     ensures brace_let { in_class "" "let y = 1;"
         ≡ Some (codes "`let` stands in a body: write `static NAME = ..;` or `field NAME = ..;`") }
     ensures closed_let { in_class "before_all { }\n  " "let y = 1;"
         ≡ Some (codes "`let` stands in a body: write `static NAME = ..;` or `field NAME = ..;`") }
     ensures semicolon_let { in_class "static x = 1;\n  " "let y = 1;"
         ≡ Some (codes "`let` stands in a body: write `static NAME = ..;` or `field NAME = ..;`") }
-    ensures int { in_class "" "int x = 1;"
-        ≡ Some (codes "there are no types: write `static NAME = ..;` or `field NAME = ..;`") }
-    ensures string { in_class "" "String x;"
-        ≡ Some (codes "there are no types: write `static NAME = ..;` or `field NAME = ..;`") }
     ensures var { in_class "" "var x = 1;"
         ≡ Some (codes "there are no types: write `static NAME = ..;` or `field NAME = ..;`") }
     ensures val { in_class "" "val x = 1"
@@ -235,6 +280,18 @@ pub fn members_are_told()
         ≡ Some (codes "write `disabled \"REASON\"` before `test` or `class`") }
     ensures parallel { in_class "" "parallel test t { }"
         ≡ Some (codes "write `concurrent` before `test` or `class`") }
+    ensures int { in_class "" "int x = 1;"
+        ≡ Some (codes "there are no types and no methods: write `static NAME = ..;` or `test NAME { .. }`") }
+    ensures string { in_class "" "String x;"
+        ≡ Some (codes "there are no types and no methods: write `static NAME = ..;` or `test NAME { .. }`") }
+    ensures boolean { in_class "" "boolean x;"
+        ≡ Some (codes "there are no types and no methods: write `static NAME = ..;` or `test NAME { .. }`") }
+    ensures bool_word { in_class "" "bool x;"
+        ≡ Some (codes "there are no types and no methods: write `static NAME = ..;` or `test NAME { .. }`") }
+    ensures long { in_class "" "long x;"
+        ≡ Some (codes "there are no types and no methods: write `static NAME = ..;` or `test NAME { .. }`") }
+    ensures double { in_class "" "double x;"
+        ≡ Some (codes "there are no types and no methods: write `static NAME = ..;` or `test NAME { .. }`") }
 {}
 
 /// Heads, marks, statics and fields are written so.
@@ -243,7 +300,6 @@ pub fn heads_are_told()
         ≡ Some (codes "a test has a name before its text: `test NAME \"TEXT\" { .. }`") }
     ensures class_quote { in_class "class " "\"cart\" { }"
         ≡ Some (codes "a class has a name before its text: `class NAME \"TEXT\" { .. }`") }
-    ensures class_extends { in_class "class D " "extends C { }" ≡ Some (codes "a class extends no other") }
     ensures isolated_test { in_class "isolated " "test t { }"
         ≡ Some (codes "`isolated` is a mark of classes: write it before `class`") }
     ensures read_children_test { in_class "read children \"a\" " "test t { }"
@@ -270,6 +326,20 @@ pub fn heads_are_told()
         ≡ Some (codes "write `field NAME = ..;` with a number, a text, `true` or `false`") }
     ensures operator_of_a_static { in_class "static x = 1 " "+ 2;"
         ≡ Some (codes "write `static NAME = ..;` with a number, a text, `true` or `false`") }
+    ensures extends { in_class "class D " "extends C { }" ≡ Some (codes "a class extends no other") }
+    ensures implements { in_class "class D " "implements C { }"
+        ≡ Some (codes "a class implements nothing: leave it out") }
+    ensures throws { in_class "test t " "throws E { }" ≡ Some (codes "leave `throws` out") }
+    ensures read_system_properties { in_class "read " "SYSTEM_PROPERTIES"
+        ≡ Some (codes "the key of the properties is `\"java.lang.System.properties\"`") }
+    ensures write_system_properties { in_class "write " "SYSTEM_PROPERTIES"
+        ≡ Some (codes "the key of the properties is `\"java.lang.System.properties\"`") }
+    ensures read_minus { in_class "read" "-write \"a\""
+        ≡ Some (codes "write `write \"KEY\"`, which is for reading too") }
+    ensures read_write_word { in_class "" "read_write \"a\""
+        ≡ Some (codes "write `write \"KEY\"`, which is for reading too") }
+    ensures read_write_constant { in_class "" "READ_WRITE"
+        ≡ Some (codes "write `write \"KEY\"`, which is for reading too") }
 {}
 
 /// There are `if` and `repeat`.
@@ -304,6 +374,44 @@ pub fn control_are_told()
     ensures boolean { in_test "boolean " "x = true;" ≡ Some (codes "there are no types: write `let NAME = ..;`") }
     ensures mut_word { in_test "let mut " "x = 1;"
         ≡ Some (codes "every name can be given another value: leave `mut` out") }
+    ensures bool_word { in_test "bool " "x = 1;" ≡ Some (codes "there are no types: write `let NAME = ..;`") }
+    ensures long { in_test "long " "x = 1;" ≡ Some (codes "there are no types: write `let NAME = ..;`") }
+    ensures double { in_test "double " "x = 1;" ≡ Some (codes "there are no types: write `let NAME = ..;`") }
+    ensures if_brace { in_test "if " "{ }" ≡ Some (codes "write `if a { .. }`") }
+    ensures repeat_brace { in_test "repeat " "{ }" ≡ Some (codes "write `repeat N { .. }`") }
+{}
+
+/// Names of statements of other languages have others in their place, or none.
+pub fn statements_are_told()
+    ensures get_prop_word { in_test "get_prop" "(a);" ≡ Some (codes "write `prop(..)` in an expression") }
+    ensures get_prop_in_camel_case { in_test "getProp" "(a);" ≡ Some (codes "write `prop(..)` in an expression") }
+    ensures unset_prop_word { in_test "unset_prop" "(a);" ≡ Some (codes "write `clear_prop a;`") }
+    ensures remove_prop_word { in_test "remove_prop" "(a);" ≡ Some (codes "write `clear_prop a;`") }
+    ensures delete_word { in_test "delete" "(a);" ≡ Some (codes "write `delete_file a;`") }
+    ensures remove_file_word { in_test "remove_file" "(a);" ≡ Some (codes "write `delete_file a;`") }
+    ensures read_file_word { in_test "read_file" "(a);" ≡ Some (codes "write `file(..)` in an expression") }
+    ensures read_file_in_camel_case { in_test "readFile" "(a);" ≡ Some (codes "write `file(..)` in an expression") }
+    ensures assert_not_equal_word { in_test "assert_not_equal" "(a);" ≡ Some (codes "write `assert a != b;`") }
+    ensures assert_not_same_in_camel_case { in_test "assertNotSame" "(a);" ≡ Some (codes "write `assert a != b;`") }
+    ensures assert_same_in_camel_case { in_test "assertSame" "(a);"
+        ≡ Some (codes "write `assert_equal a, b;` without parentheses") }
+    ensures assert_throws_in_camel_case { in_test "assertThrows" "(a);"
+        ≡ Some (codes "no fault is caught: assert what can be seen, such as `has_file(..) == false`") }
+    ensures assert_does_not_throw_in_camel_case { in_test "assertDoesNotThrow" "(a);"
+        ≡ Some (codes "leave it out: a test ends at its first fault") }
+    ensures assert_null_in_camel_case { in_test "assertNull" "(a);"
+        ≡ Some (codes "there is no `null`: write `assert has_prop(..);` or `assert has_file(..);`") }
+    ensures assert_not_null_in_camel_case { in_test "assertNotNull" "(a);"
+        ≡ Some (codes "there is no `null`: write `assert has_prop(..);` or `assert has_file(..);`") }
+    ensures assert_all_in_camel_case { in_test "assertAll" "(a);" ≡ Some (codes "write one `assert` after another") }
+    ensures expect_word { in_test "expect" "(a);" ≡ Some (codes "write `assert a;` or `assert_equal a, b;`") }
+    ensures sleep_word { in_test "sleep" "(a);" ≡ Some (codes "there is no `sleep`: leave it out") }
+    ensures pass_word { in_test "pass" "(a);" ≡ Some (codes "there is no `pass`: a body may be empty") }
+    ensures elseif_word { in_test "elseif" "(a);" ≡ Some (codes "write `else { if a { .. } }`") }
+    ensures elsif_word { in_test "elsif" "(a);" ≡ Some (codes "write `else { if a { .. } }`") }
+    ensures unless_word { in_test "unless" "(a);" ≡ Some (codes "there is no `unless`: write `if a == false { .. }`") }
+    ensures echo_word { in_test "echo" "(a);" ≡ Some (codes "did you mean `print`?") }
+    ensures puts_word { in_test "puts" "(a);" ≡ Some (codes "did you mean `print`?") }
 {}
 
 /// Assertions are statements, and functions few.
@@ -336,30 +444,38 @@ pub fn calls_are_told()
     ensures has_file { in_test "print has_file " "\"a\";" ≡ Some (codes "write `has_file(..)`") }
     ensures locale { in_test "print locale" ";" ≡ Some (codes "write `locale()`") }
     ensures fail { in_test "fail" "(\"x\");" ≡ Some (codes "`fail` takes a text alone: write `fail \"TEXT\";`") }
-    ensures print_parenthesis { in_test "print upper" "(\"a\");"
-        ≡ Some (codes "the functions are `text len prop has_prop file has_file locale`") }
-    ensures let_parenthesis { in_test "let x = upper" "(\"a\");"
-        ≡ Some (codes "the functions are `text len prop has_prop file has_file locale`") }
-    ensures assert_parenthesis { in_test "assert is_upper" "(\"a\");"
-        ≡ Some (codes "the functions are `text len prop has_prop file has_file locale`") }
-    ensures assert_equal_parenthesis { in_test "assert_equal upper" "(\"a\");"
-        ≡ Some (codes "the functions are `text len prop has_prop file has_file locale`") }
-    ensures numeral { in_test "let x = " "1_000;" ≡ Some (codes "a number has digits alone") }
+    ensures numeral { in_test "let x = " "1_000;" ≡ Some (codes "a number has digits alone, and a name begins with a letter") }
 {}
 
 /// What else doesn't fit is told how it is written.
 pub fn forms_are_told()
-    ensures let_word { in_test "let x " "y;" ≡ Some (codes "write `let NAME = ..;`") }
-    ensures assert_equal { in_test "assert_equal 1 " "2;" ≡ Some (codes "write `assert_equal a, b;`") }
-    ensures assume { in_test "assume a, " "b;" ≡ Some (codes "write `assume a, \"REASON\";`") }
-    ensures set_prop { in_test "set_prop \"a\" " "\"b\";" ≡ Some (codes "write `set_prop a, b;`") }
-    ensures write_file { in_test "write_file \"a\" " "\"b\";" ≡ Some (codes "write `write_file a, b;`") }
-    ensures append_file { in_test "append_file \"a\" " "\"b\";" ≡ Some (codes "write `append_file a, b;`") }
-    ensures if_word { in_test "if (a) " "print 1;" ≡ Some (codes "write `if a { .. }` or `if a { .. } else { .. }`") }
-    ensures else_word { in_test "if a { } else " "print 1;" ≡ Some (codes "write `else { .. }`") }
-    ensures repeat { in_test "repeat 3 " "print 1;" ≡ Some (codes "write `repeat N { .. }`") }
-    ensures test_word { in_class "test t " "u { }" ≡ Some (codes "write `test NAME { .. }`") }
-    ensures class_word { in_class "class D " "E { }" ≡ Some (codes "write `class NAME { .. }`") }
+    ensures let_word { form_in_test "let x " "y;" ≡ Some (codes "write `let NAME = ..;`") }
+    ensures assert_equal { form_in_test "assert_equal 1 " "2;" ≡ Some (codes "write `assert_equal a, b;`") }
+    ensures assume { form_in_test "assume a, " "b;" ≡ Some (codes "write `assume a, \"REASON\";`") }
+    ensures set_prop { form_in_test "set_prop \"a\" " "\"b\";" ≡ Some (codes "write `set_prop a, b;`") }
+    ensures write_file { form_in_test "write_file \"a\" " "\"b\";" ≡ Some (codes "write `write_file a, b;`") }
+    ensures append_file { form_in_test "append_file \"a\" " "\"b\";" ≡ Some (codes "write `append_file a, b;`") }
+    ensures if_word { form_in_test "if (a) " "print 1;" ≡ Some (codes "write `if a { .. }` or `if a { .. } else { .. }`") }
+    ensures else_word { form_in_test "if a { } else " "print 1;" ≡ Some (codes "write `else { .. }`") }
+    ensures repeat { form_in_test "repeat 3 " "print 1;" ≡ Some (codes "write `repeat N { .. }`") }
+    ensures test_word { form_in_class "test t " "u { }" ≡ Some (codes "write `test NAME { .. }`") }
+    ensures class_word { form_in_class "class D " "E { }" ≡ Some (codes "write `class NAME { .. }`") }
+{}
+
+/// Comments are passed over, and what a text has ends no statement.
+pub fn comments_are_passed_over()
+    ensures above { in_test "// three; of them\n    assert_equal(21" ", total);"
+        ≡ Some (codes "`assert_equal` has no parentheses: write `assert_equal a, b;`") }
+    ensures behind { in_test "print \"a\"; // one { }\n    print b" ", c;"
+        ≡ Some (codes "`print` takes one expression: join texts by `++`") }
+    ensures before { in_test "assert a == // b\n    " "= c;" ≡ Some (codes "did you mean `==`?") }
+    ensures at_the_beginning { in_script "// licence\n" "class Cart { }"
+        ≡ Some (codes "a script begins with `team NAME`") }
+    ensures in_a_text { in_test "assert_equal(\"a; // \\\"{ } \"" ", 1);"
+        ≡ Some (codes "`assert_equal` has no parentheses: write `assert_equal a, b;`") }
+    ensures behind_the_team { in_script "team shop // ours\n" ";"
+        ≡ Some (codes "no `;` stands behind the name of a team") }
+    ensures first_class { in_script "team shop\nclass Cart \"x\" " ";" ≡ None }
 {}
 
 /// Nothing is told of what no row fits.

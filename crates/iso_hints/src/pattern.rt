@@ -3,14 +3,14 @@ ghost use Rattle.std.specs.Prelude.{◌≡◌, ◌-◌, ◌≤◌, length, map, 
 ghost use Rattle.std.specs.Char.{is_ascii_digit};
 ghost use Rattle.std.specs.List.{list_any, prefix_len};
 ghost use Rattle.iso_hints.specs.Bytes.{is_operator_byte};
-ghost use Rattle.iso_hints.specs.Patterns.{ends_operand, is_any_next, is_odd_numeral, is_second_operator, is_unended, lies};
+ghost use Rattle.iso_hints.specs.Patterns.{ends_operand, is_any_next, is_behind_team, is_odd_numeral, is_second_operator, lies};
 ghost use Rattle.iso_hints.specs.Places.{view_of};
 ghost use Rattle.iso_hints.specs.Tokens.{is_next};
 
 use crate::byte::{in_name, is_operator_byte};
-use crate::place::Place;
-use crate::token::{is_last, is_name_byte, is_next};
-use crate::words::{LITERALS, OPERATORS, RESERVED, STATEMENTS};
+use crate::place::{Place, without_start};
+use crate::token::{is_last, is_name, is_name_byte, is_next};
+use crate::words::{LITERALS, OPERATORS, RESERVED};
 
 /// How the first word of a row stands to the place. At the place itself its second word stands; an empty word is any.
 #[derive(Clone, Copy)]
@@ -25,8 +25,8 @@ pub(crate) enum Pattern {
     Numeral,
     /// At the place stands an operator behind another one's operands. There is no first word.
     Operator,
-    /// The place leads its line, and the statement before has no `;`. There is no first word.
-    Unended,
+    /// It stands behind the name of the team. There is no first word.
+    Team,
     /// The place is the first of the script. There is no first word.
     Start,
 }
@@ -41,7 +41,7 @@ pub(crate) fn lies(pattern: Pattern, word: &[u8], place: &Place<'_>) -> bool
         Pattern::Reserved => is_last(word, place.before) && is_any_next(RESERVED, place.rest),
         Pattern::Numeral => is_odd_numeral(place.rest),
         Pattern::Operator => is_second_operator(place),
-        Pattern::Unended => is_unended(place),
+        Pattern::Team => is_behind_team(place.statement),
         Pattern::Start => place.before.is_empty(),
     }
 }
@@ -96,14 +96,11 @@ fn has_operator(bytes: &[u8]) -> bool
     bytes.iter().any(|byte| is_operator_byte(*byte))
 }
 
-/// Whether the line before a place has a statement without its `;`.
-fn is_unended(place: &Place<'_>) -> bool
-    ensures { result ≡ is_unended (view_of place.now) }
+/// Whether a head is that of the team, as far as its name.
+fn is_behind_team(head: &[u8]) -> bool
+    ensures { result ≡ is_behind_team head.now }
 {
-    place.leads
-        && is_any_next(STATEMENTS, place.statement)
-        && ends_operand(place.before.last())
-        && !place.statement.contains(&b'/')
+    is_next(b"team", head) && is_name(without_start(&head[head.len().min(4)..]))
 }
 
 /// Whether an operand ends with a byte.

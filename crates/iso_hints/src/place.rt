@@ -1,17 +1,19 @@
 //! A place in a script, as the patterns see it.
-ghost use Rattle.std.specs.Prelude.{◌≡◌, ◌≤◌, ◌==◌, drop, length, not, take};
-ghost use Rattle.std.specs.List.{after_last, prefix_len, suffix_len};
-ghost use Rattle.iso_hints.specs.Bytes.{ends_statement, is_blank};
-ghost use Rattle.iso_hints.specs.Places.{IsPlace, place_at, place_between, trimmed, untrimmed};
+ghost use Rattle.std.specs.Prelude.{◌≡◌, ◌≤◌, length, option_map};
+ghost use Rattle.std.specs.List.{prefix_len};
+ghost use Rattle.iso_hints.specs.Bytes.{is_blank};
+ghost use Rattle.iso_hints.specs.Places.{IsPlace, name_of, place_at, place_between, untrimmed};
 
-use crate::byte::{ends_statement, is_blank};
+use crate::byte::is_blank;
+use crate::scan::scan;
+use crate::token::is_name;
 
 /// A place in a script.
 #[derive(Clone, Copy)]
-pub(crate) struct Place<'a> {
-    /// What stands before it, without the blanks at its end.
+pub struct Place<'a> {
+    /// What stands before it, without the blanks and comments at its end.
     pub before: &'a [u8],
-    /// Of this what stands behind the last `;`, `{` or `}`, without the blanks at its beginning.
+    /// Of this the statement or head that is begun: what stands behind the last `;`, `{` or `}`.
     pub statement: &'a [u8],
     /// Whether it is the first in its line.
     pub leads: bool,
@@ -20,7 +22,7 @@ pub(crate) struct Place<'a> {
 }
 
 /// The place behind so many bytes of a text, or its end where it has fewer.
-pub(crate) fn place_at(text: &[u8], bytes: usize) -> Place<'_>
+pub fn place_at(text: &[u8], bytes: usize) -> Place<'_>
     ensures { IsPlace result (place_at text.now bytes) }
 {
     let (front, rest) = text.split_at(bytes.min(text.len()));
@@ -31,35 +33,33 @@ pub(crate) fn place_at(text: &[u8], bytes: usize) -> Place<'_>
 fn place_between<'a>(front: &'a [u8], rest: &'a [u8]) -> Place<'a>
     ensures { IsPlace result (place_between front.now rest.now) }
 {
-    let before = without_end(front);
+    let seen = scan(front);
     Place {
-        before,
-        statement: without_start(last_part(before)),
-        leads: front[before.len()..].contains(&b'\n'),
+        before: &front[..seen.end],
+        statement: &front[seen.start..seen.end],
+        leads: front[seen.end..].contains(&b'\n'),
         rest,
     }
 }
 
-/// Bytes without the blanks at their end.
-fn without_end(bytes: &[u8]) -> &[u8]
-    ensures trimmed { result.now ≡ trimmed bytes.now }
-    ensures within { length result.now ≤ length bytes.now }
+/// The statement that is begun at a place, where it is one name so far.
+pub fn name_at<'a>(place: &Place<'a>) -> Option<&'a str>
+    ensures { option_map (λ name. name.now) result ≡ name_of place.now.statement.now }
 {
-    &bytes[..bytes.len() - blanks_at_end(bytes)]
+    if !is_name(place.statement) {
+        return None;
+    }
+    let Ok(name) = std::str::from_utf8(place.statement) else {
+        unreachable!()
+    };
+    Some(name)
 }
 
 /// Bytes without the blanks at their beginning.
-fn without_start(bytes: &[u8]) -> &[u8]
+pub(crate) fn without_start(bytes: &[u8]) -> &[u8]
     ensures { result.now ≡ untrimmed bytes.now }
 {
     &bytes[blanks_at_start(bytes)..]
-}
-
-/// What stands behind the last byte that ends a statement.
-fn last_part(bytes: &[u8]) -> &[u8]
-    ensures { result.now ≡ after_last ends_statement bytes.now }
-{
-    &bytes[bytes.len() - unended(bytes)..]
 }
 
 /// How many blanks stand at the beginning of bytes.
@@ -68,28 +68,4 @@ fn blanks_at_start(bytes: &[u8]) -> usize
     ensures within { result ≤ length bytes.now }
 {
     bytes.iter().take_while(|byte| is_blank(**byte)).count()
-}
-
-/// How many blanks stand at the end of bytes.
-fn blanks_at_end(bytes: &[u8]) -> usize
-    ensures count { result ≡ suffix_len is_blank bytes.now }
-    ensures within { result ≤ length bytes.now }
-{
-    bytes
-        .iter()
-        .rev()
-        .take_while(|byte| is_blank(**byte))
-        .count()
-}
-
-/// How many bytes stand behind the last one that ends a statement.
-fn unended(bytes: &[u8]) -> usize
-    ensures count { result ≡ suffix_len (λ b. not (ends_statement b)) bytes.now }
-    ensures within { result ≤ length bytes.now }
-{
-    bytes
-        .iter()
-        .rev()
-        .take_while(|byte| !ends_statement(**byte))
-        .count()
 }

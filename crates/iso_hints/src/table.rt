@@ -7,8 +7,11 @@ pub(crate) mod ends;
 pub(crate) mod forms;
 pub(crate) mod heads;
 pub(crate) mod members;
+pub(crate) mod methods;
+pub(crate) mod modifiers;
 pub(crate) mod operators;
 pub(crate) mod parentheses;
+pub(crate) mod statements;
 pub(crate) mod symbols;
 
 /// A pattern, the word that it speaks of, the word at the place, and what is told.

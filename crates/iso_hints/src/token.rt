@@ -1,6 +1,8 @@
 //! Tokens beside a place.
 ghost use Rattle.std.specs.Prelude.{◌≡◌, ◌-◌, ◌&&◌, drop, length, not, option_copied, slice_get, take};
-ghost use Rattle.iso_hints.specs.Tokens.{is_cut, is_last, is_next, is_name_byte};
+ghost use Rattle.std.specs.List.{list_all};
+ghost use Rattle.iso_hints.specs.Bytes.{in_name};
+ghost use Rattle.iso_hints.specs.Tokens.{is_cut, is_last, is_name, is_name_byte, is_next};
 
 use crate::byte::in_name;
 
@@ -33,4 +35,18 @@ pub(crate) fn is_name_byte(byte: Option<&u8>) -> bool
         Some(byte) => in_name(*byte),
         None => false,
     }
+}
+
+/// Whether bytes are a name.
+pub(crate) fn is_name(bytes: &[u8]) -> bool
+    ensures { result ≡ is_name bytes.now }
+{
+    !bytes.is_empty() && are_of_names(bytes)
+}
+
+/// Whether each of these bytes is of a name.
+fn are_of_names(bytes: &[u8]) -> bool
+    ensures { result ≡ list_all in_name bytes.now }
+{
+    bytes.iter().all(|byte| in_name(*byte))
 }

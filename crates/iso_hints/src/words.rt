@@ -47,23 +47,5 @@ pub(crate) const RESERVED: &[&str] = &[
 /// The operators, the longer ones first.
 pub(crate) const OPERATORS: &[&str] = &["++", "==", "!=", "+", "-", "*", "<"];
 
-/// The words with which what ends with a `;` begins.
-pub(crate) const STATEMENTS: &[&str] = &[
-    "let",
-    "print",
-    "assert",
-    "assert_equal",
-    "assume",
-    "fail",
-    "set_prop",
-    "clear_prop",
-    "set_locale",
-    "write_file",
-    "append_file",
-    "delete_file",
-    "static",
-    "field",
-];
-
 /// The words before what takes a literal alone.
 pub(crate) const LITERALS: &[&str] = &["static", "field"];

@@ -52,7 +52,7 @@ const ROWS: &[Row] = &[
         Token,
         "",
         "@ResourceLock",
-        "write `read \"KEY\"` or `write \"KEY\"` before `class` or `test`",
+        "write `read \"KEY\"` or `write \"KEY\"`: for properties `\"java.lang.System.properties\"`",
     ),
     (
         Token,

@@ -4,7 +4,7 @@ ghost use Rattle.iso_hints.specs.Places.{view_of};
 ghost use Rattle.iso_hints.specs.Rows.{hint_in};
 ghost use Rattle.iso_hints.specs.Tables.{beginnings};
 
-use crate::pattern::Pattern::{Start, Statement, Token};
+use crate::pattern::Pattern::{Reserved, Start, Statement, Team, Token};
 use crate::place::Place;
 use crate::row::hint_in;
 use crate::table::Row;
@@ -43,17 +43,18 @@ const ROWS: &[Row] = &[
         "\"",
         "the name of a team stands without quotes",
     ),
+    (Team, "", ";", "no `;` stands behind the name of a team"),
     (
-        Statement,
-        "team",
-        ";",
-        "no `;` stands behind the name of a team",
-    ),
-    (
-        Statement,
-        "team",
+        Team,
+        "",
         "{",
         "a team has no braces: its classes stand below `team NAME`",
+    ),
+    (
+        Reserved,
+        "team",
+        "",
+        "a name stands here, and this word is reserved: choose another one",
     ),
     (
         Statement,
@@ -62,14 +63,14 @@ const ROWS: &[Row] = &[
         "a test stands in a class: `class NAME { test NAME { .. } }`",
     ),
     (
-        Statement,
-        "team",
+        Team,
+        "",
         ".",
         "the name of a team has letters, digits and `_` alone",
     ),
     (
-        Statement,
-        "team",
+        Team,
+        "",
         "-",
         "the name of a team has letters, digits and `_` alone",
     ),

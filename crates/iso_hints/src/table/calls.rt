@@ -75,30 +75,11 @@ const ROWS: &[Row] = &[
         "`fail` takes a text alone: write `fail \"TEXT\";`",
     ),
     (
-        Statement,
-        "print",
-        "(",
-        "the functions are `text len prop has_prop file has_file locale`",
+        Numeral,
+        "",
+        "",
+        "a number has digits alone, and a name begins with a letter",
     ),
-    (
-        Statement,
-        "let",
-        "(",
-        "the functions are `text len prop has_prop file has_file locale`",
-    ),
-    (
-        Statement,
-        "assert",
-        "(",
-        "the functions are `text len prop has_prop file has_file locale`",
-    ),
-    (
-        Statement,
-        "assert_equal",
-        "(",
-        "the functions are `text len prop has_prop file has_file locale`",
-    ),
-    (Numeral, "", "", "a number has digits alone"),
 ];
 
 /// What these rows tell of a place.

@@ -10,6 +10,8 @@ use crate::row::hint_in;
 use crate::table::Row;
 
 const ROWS: &[Row] = &[
+    (Token, "if", "{", "write `if a { .. }`"),
+    (Token, "repeat", "{", "write `repeat N { .. }`"),
     (Token, "else", "if", "write `else { if a { .. } }`"),
     (Token, "elif", "", "write `else { if a { .. } }`"),
     (
@@ -111,6 +113,24 @@ const ROWS: &[Row] = &[
     (
         Token,
         "boolean",
+        "",
+        "there are no types: write `let NAME = ..;`",
+    ),
+    (
+        Token,
+        "bool",
+        "",
+        "there are no types: write `let NAME = ..;`",
+    ),
+    (
+        Token,
+        "long",
+        "",
+        "there are no types: write `let NAME = ..;`",
+    ),
+    (
+        Token,
+        "double",
         "",
         "there are no types: write `let NAME = ..;`",
     ),

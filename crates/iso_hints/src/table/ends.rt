@@ -4,7 +4,7 @@ ghost use Rattle.iso_hints.specs.Places.{view_of};
 ghost use Rattle.iso_hints.specs.Rows.{hint_in};
 ghost use Rattle.iso_hints.specs.Tables.{ends};
 
-use crate::pattern::Pattern::{Operator, Reserved, Statement, Token, Unended};
+use crate::pattern::Pattern::{Operator, Reserved, Statement, Token};
 use crate::place::Place;
 use crate::row::hint_in;
 use crate::table::Row;
@@ -43,17 +43,34 @@ const ROWS: &[Row] = &[
         "an expression has one operator: write `a + (b * c)`",
     ),
     (
-        Unended,
-        "",
-        "",
-        "the statement on the line before lacks its `;`",
+        Token,
+        "++",
+        ";",
+        "`++` joins two texts: one more is `i + 1`",
     ),
     (
-        Reserved,
-        "team",
-        "",
-        "a name stands here, and this word is reserved: choose another one",
+        Token,
+        "static",
+        "class",
+        "leave `static` out: write `class NAME { .. }`",
     ),
+    (
+        Token,
+        "static void",
+        "",
+        "there are no methods: write `test NAME { .. }`",
+    ),
+    (Token, "static final", "", "leave `final` out"),
+    (Token, "field final", "", "leave `final` out"),
+    (Token, "static const", "", "leave `const` out"),
+    (Token, "field const", "", "leave `const` out"),
+    (
+        Token,
+        "final",
+        "",
+        "leave `final` out: write `let NAME = ..;`",
+    ),
+    (Token, "const", "", "write `let NAME = ..;`"),
     (
         Reserved,
         "class",

@@ -22,7 +22,14 @@ const ROWS: &[Row] = &[
         "\"",
         "a class has a name before its text: `class NAME \"TEXT\" { .. }`",
     ),
-    (Statement, "class", "extends", "a class extends no other"),
+    (Token, "", "extends", "a class extends no other"),
+    (
+        Token,
+        "",
+        "implements",
+        "a class implements nothing: leave it out",
+    ),
+    (Token, "", "throws", "leave `throws` out"),
     (
         Token,
         "isolated",
@@ -52,6 +59,36 @@ const ROWS: &[Row] = &[
         "disabled",
         "class",
         "`disabled` says why: write `disabled \"REASON\"`",
+    ),
+    (
+        Token,
+        "read",
+        "SYSTEM_PROPERTIES",
+        "the key of the properties is `\"java.lang.System.properties\"`",
+    ),
+    (
+        Token,
+        "write",
+        "SYSTEM_PROPERTIES",
+        "the key of the properties is `\"java.lang.System.properties\"`",
+    ),
+    (
+        Token,
+        "read",
+        "-",
+        "write `write \"KEY\"`, which is for reading too",
+    ),
+    (
+        Token,
+        "",
+        "read_write",
+        "write `write \"KEY\"`, which is for reading too",
+    ),
+    (
+        Token,
+        "",
+        "READ_WRITE",
+        "write `write \"KEY\"`, which is for reading too",
     ),
     (
         Token,

@@ -38,6 +38,18 @@ const ROWS: &[Row] = &[
     ),
     (Token, "<", ">", "did you mean `!=`?"),
     (Token, "-", ">", "there are no functions of one's own"),
+    (
+        Token,
+        "",
+        "=>",
+        "there is no `=>`: write `(a < b) == false`, or `=`",
+    ),
+    (
+        Token,
+        "",
+        "=<",
+        "there is no `=<`: write `(b < a) == false`",
+    ),
     (Token, "=", ">", "there are no functions of one's own"),
     (
         Token,

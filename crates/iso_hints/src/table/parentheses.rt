@@ -162,10 +162,28 @@ const ROWS: &[Row] = &[
     ),
     (Statement, "let", ",", "a value has no comma"),
     (
-        Statement,
-        "let",
-        ";",
-        "a name begins with a value: write `let NAME = ..;`",
+        Token,
+        "before_each",
+        "",
+        "a block has neither name nor parentheses: write `before_each { .. }`",
+    ),
+    (
+        Token,
+        "before_all",
+        "",
+        "a block has neither name nor parentheses: write `before_all { .. }`",
+    ),
+    (
+        Token,
+        "after_each",
+        "",
+        "a block has neither name nor parentheses: write `after_each { .. }`",
+    ),
+    (
+        Token,
+        "after_all",
+        "",
+        "a block has neither name nor parentheses: write `after_all { .. }`",
     ),
 ];
 

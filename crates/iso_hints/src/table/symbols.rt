@@ -19,7 +19,6 @@ const ROWS: &[Row] = &[
         "write `assert_equal a, b;` without parentheses",
     ),
     (Token, "println", "!", "did you mean `print`?"),
-    (Token, "System", ".", "did you mean `print`?"),
     (Token, "", "/", "there is no division"),
     (Token, "", "%", "there is no division"),
     (

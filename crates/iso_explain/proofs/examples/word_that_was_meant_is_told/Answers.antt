@@ -17,7 +17,3 @@ returns-clause-told c = refl
 pub returns-clause-far : goal.returns-clause-far
 unfolding nearest_of chars cost_at osa_from osa_row
 returns-clause-far c = refl
-
-pub returns-clause-no_word : goal.returns-clause-no_word
-unfolding nearest_of chars cost_at osa_from osa_row
-returns-clause-no_word c = refl

@@ -1,6 +1,7 @@
-use Rattle.std.proofs.Common.{List, ℕ, Ok, Option, ap, option_map}
+use Rattle.std.proofs.Common.{List, ℕ, Ok, Option, ap₂, option_map}
 use Rattle.iso_explain.specs.Bounds.{bound_note}
-use Rattle.iso_explain.specs.Notes.{brace_note, first_note, hint_of, mending_note}
+use Rattle.iso_explain.specs.Mending.{hint_of, other_of}
+use Rattle.iso_explain.specs.Notes.{brace_note, first_note, mending_note}
 use Rattle.iso_tap.proofs.PrinterLemmas.{prints_as, prints_cut, prints_stopped, prints_then}
 use Rattle.iso_explain.proofs.explanation.notes.Goals as goal
 
@@ -8,8 +9,8 @@ pub returns-in_err-mending : goal.returns-in_err-mending
 returns-in_err-mending g c =
     let told = c.args.explained.now in
     let meant = option_map (λ w. w.now) c.args.meant in
-    let mended = prints_as c.in_err-mending.ensures (mending_note (hint_of c.args.bytes.now told.fault) meant)
-    (ap (λ (h : Option (List ℕ)). mending_note h meant) c.hint_of.ensures) in
+    let mended = prints_as c.in_err-mending.ensures (mending_note (hint_of c.args.bytes.now told) meant (other_of c.args.bytes.now told))
+    (ap₂ (λ (h o : Option (List ℕ)). mending_note h meant o) c.hint_of-hint.ensures c.other_of-other.ensures) in
     prints_stopped (bound_note told.fault.kind told.reason) _ c.from_residual.ensures.0
     (prints_cut (brace_note told) _ _ (prints_cut (first_note told.first) _ _ mended))
 
@@ -17,8 +18,8 @@ pub returns-in_err-first : goal.returns-in_err-first
 returns-in_err-first g c =
     let told = c.args.explained.now in
     let meant = option_map (λ w. w.now) c.args.meant in
-    let mended = prints_as {r = Ok tt} c.in_ok-mending.ensures (mending_note (hint_of c.args.bytes.now told.fault) meant)
-    (ap (λ (h : Option (List ℕ)). mending_note h meant) c.hint_of.ensures) in
+    let mended = prints_as {r = Ok tt} c.in_ok-mending.ensures (mending_note (hint_of c.args.bytes.now told) meant (other_of c.args.bytes.now told))
+    (ap₂ (λ (h o : Option (List ℕ)). mending_note h meant o) c.hint_of-hint.ensures c.other_of-other.ensures) in
     prints_stopped (bound_note told.fault.kind told.reason) _ c.from_residual-in_err-first.ensures.0
     (prints_cut (brace_note told) _ _ (prints_then _ mended c.in_err-first.ensures))
 
@@ -26,8 +27,8 @@ pub returns-in_err-brace : goal.returns-in_err-brace
 returns-in_err-brace g c =
     let told = c.args.explained.now in
     let meant = option_map (λ w. w.now) c.args.meant in
-    let mended = prints_as {r = Ok tt} c.in_ok-mending.ensures (mending_note (hint_of c.args.bytes.now told.fault) meant)
-    (ap (λ (h : Option (List ℕ)). mending_note h meant) c.hint_of.ensures) in
+    let mended = prints_as {r = Ok tt} c.in_ok-mending.ensures (mending_note (hint_of c.args.bytes.now told) meant (other_of c.args.bytes.now told))
+    (ap₂ (λ (h o : Option (List ℕ)). mending_note h meant o) c.hint_of-hint.ensures c.other_of-other.ensures) in
     prints_stopped (bound_note told.fault.kind told.reason) _ c.from_residual-in_err-brace.ensures.0
     (prints_then _ (prints_then (Ok tt) mended c.in_ok-first.ensures) c.in_err-brace.ensures)
 
@@ -35,6 +36,6 @@ pub returns : goal.returns
 returns g c =
     let told = c.args.explained.now in
     let meant = option_map (λ w. w.now) c.args.meant in
-    let mended = prints_as {r = Ok tt} c.in_ok-mending.ensures (mending_note (hint_of c.args.bytes.now told.fault) meant)
-    (ap (λ (h : Option (List ℕ)). mending_note h meant) c.hint_of.ensures) in
+    let mended = prints_as {r = Ok tt} c.in_ok-mending.ensures (mending_note (hint_of c.args.bytes.now told) meant (other_of c.args.bytes.now told))
+    (ap₂ (λ (h o : Option (List ℕ)). mending_note h meant o) c.hint_of-hint.ensures c.other_of-other.ensures) in
     prints_then _ (prints_then (Ok tt) (prints_then (Ok tt) mended c.in_ok-first.ensures) c.in_ok-brace.ensures) c.bound.ensures

@@ -31,6 +31,12 @@ returns-clause-team_semicolon c = refl
 pub returns-clause-team_brace : goal.returns-clause-team_brace
 returns-clause-team_brace c = refl
 
+pub returns-clause-team : goal.returns-clause-team
+returns-clause-team c = refl
+
+pub returns-clause-team_named_test : goal.returns-clause-team_named_test
+returns-clause-team_named_test c = refl
+
 pub returns-clause-team_test : goal.returns-clause-team_test
 returns-clause-team_test c = refl
 

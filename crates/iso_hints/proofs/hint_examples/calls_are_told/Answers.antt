@@ -73,17 +73,5 @@ returns-clause-locale c = refl
 pub returns-clause-fail : goal.returns-clause-fail
 returns-clause-fail c = refl
 
-pub returns-clause-print_parenthesis : goal.returns-clause-print_parenthesis
-returns-clause-print_parenthesis c = refl
-
-pub returns-clause-let_parenthesis : goal.returns-clause-let_parenthesis
-returns-clause-let_parenthesis c = refl
-
-pub returns-clause-assert_parenthesis : goal.returns-clause-assert_parenthesis
-returns-clause-assert_parenthesis c = refl
-
-pub returns-clause-assert_equal_parenthesis : goal.returns-clause-assert_equal_parenthesis
-returns-clause-assert_equal_parenthesis c = refl
-
 pub returns-clause-numeral : goal.returns-clause-numeral
 returns-clause-numeral c = refl

@@ -75,3 +75,18 @@ returns-clause-boolean c = refl
 
 pub returns-clause-mut_word : goal.returns-clause-mut_word
 returns-clause-mut_word c = refl
+
+pub returns-clause-bool_word : goal.returns-clause-bool_word
+returns-clause-bool_word c = refl
+
+pub returns-clause-long : goal.returns-clause-long
+returns-clause-long c = refl
+
+pub returns-clause-double : goal.returns-clause-double
+returns-clause-double c = refl
+
+pub returns-clause-if_brace : goal.returns-clause-if_brace
+returns-clause-if_brace c = refl
+
+pub returns-clause-repeat_brace : goal.returns-clause-repeat_brace
+returns-clause-repeat_brace c = refl

@@ -22,12 +22,6 @@ returns-clause-closed_closed c = refl
 pub returns-clause-second_operator : goal.returns-clause-second_operator
 returns-clause-second_operator c = refl
 
-pub returns-clause-unended : goal.returns-clause-unended
-returns-clause-unended c = refl
-
-pub returns-clause-team : goal.returns-clause-team
-returns-clause-team c = refl
-
 pub returns-clause-class_word : goal.returns-clause-class_word
 returns-clause-class_word c = refl
 
@@ -42,3 +36,30 @@ returns-clause-field_word c = refl
 
 pub returns-clause-let_word : goal.returns-clause-let_word
 returns-clause-let_word c = refl
+
+pub returns-clause-one_more : goal.returns-clause-one_more
+returns-clause-one_more c = refl
+
+pub returns-clause-static_class : goal.returns-clause-static_class
+returns-clause-static_class c = refl
+
+pub returns-clause-static_void : goal.returns-clause-static_void
+returns-clause-static_void c = refl
+
+pub returns-clause-final_word : goal.returns-clause-final_word
+returns-clause-final_word c = refl
+
+pub returns-clause-const_word : goal.returns-clause-const_word
+returns-clause-const_word c = refl
+
+pub returns-clause-static_final : goal.returns-clause-static_final
+returns-clause-static_final c = refl
+
+pub returns-clause-field_final : goal.returns-clause-field_final
+returns-clause-field_final c = refl
+
+pub returns-clause-static_const : goal.returns-clause-static_const
+returns-clause-static_const c = refl
+
+pub returns-clause-field_const : goal.returns-clause-field_const
+returns-clause-field_const c = refl

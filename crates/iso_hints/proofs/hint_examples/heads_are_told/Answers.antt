@@ -7,9 +7,6 @@ returns-clause-test_quote c = refl
 pub returns-clause-class_quote : goal.returns-clause-class_quote
 returns-clause-class_quote c = refl
 
-pub returns-clause-class_extends : goal.returns-clause-class_extends
-returns-clause-class_extends c = refl
-
 pub returns-clause-isolated_test : goal.returns-clause-isolated_test
 returns-clause-isolated_test c = refl
 
@@ -51,3 +48,27 @@ returns-clause-field_word c = refl
 
 pub returns-clause-operator_of_a_static : goal.returns-clause-operator_of_a_static
 returns-clause-operator_of_a_static c = refl
+
+pub returns-clause-extends : goal.returns-clause-extends
+returns-clause-extends c = refl
+
+pub returns-clause-implements : goal.returns-clause-implements
+returns-clause-implements c = refl
+
+pub returns-clause-throws : goal.returns-clause-throws
+returns-clause-throws c = refl
+
+pub returns-clause-read_system_properties : goal.returns-clause-read_system_properties
+returns-clause-read_system_properties c = refl
+
+pub returns-clause-write_system_properties : goal.returns-clause-write_system_properties
+returns-clause-write_system_properties c = refl
+
+pub returns-clause-read_minus : goal.returns-clause-read_minus
+returns-clause-read_minus c = refl
+
+pub returns-clause-read_write_word : goal.returns-clause-read_write_word
+returns-clause-read_write_word c = refl
+
+pub returns-clause-read_write_constant : goal.returns-clause-read_write_constant
+returns-clause-read_write_constant c = refl

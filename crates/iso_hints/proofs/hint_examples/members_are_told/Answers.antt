@@ -37,24 +37,6 @@ returns-clause-public_word c = refl
 pub returns-clause-private_word : goal.returns-clause-private_word
 returns-clause-private_word c = refl
 
-pub returns-clause-closed_before_each : goal.returns-clause-closed_before_each
-returns-clause-closed_before_each c = refl
-
-pub returns-clause-closed_before_all : goal.returns-clause-closed_before_all
-returns-clause-closed_before_all c = refl
-
-pub returns-clause-closed_after_each : goal.returns-clause-closed_after_each
-returns-clause-closed_after_each c = refl
-
-pub returns-clause-closed_after_all : goal.returns-clause-closed_after_all
-returns-clause-closed_after_all c = refl
-
-pub returns-clause-closed_static : goal.returns-clause-closed_static
-returns-clause-closed_static c = refl
-
-pub returns-clause-closed_field : goal.returns-clause-closed_field
-returns-clause-closed_field c = refl
-
 pub returns-clause-brace_let : goal.returns-clause-brace_let
 returns-clause-brace_let c = refl
 
@@ -63,12 +45,6 @@ returns-clause-closed_let c = refl
 
 pub returns-clause-semicolon_let : goal.returns-clause-semicolon_let
 returns-clause-semicolon_let c = refl
-
-pub returns-clause-int : goal.returns-clause-int
-returns-clause-int c = refl
-
-pub returns-clause-string : goal.returns-clause-string
-returns-clause-string c = refl
 
 pub returns-clause-var : goal.returns-clause-var
 returns-clause-var c = refl
@@ -81,3 +57,21 @@ returns-clause-skip c = refl
 
 pub returns-clause-parallel : goal.returns-clause-parallel
 returns-clause-parallel c = refl
+
+pub returns-clause-int : goal.returns-clause-int
+returns-clause-int c = refl
+
+pub returns-clause-string : goal.returns-clause-string
+returns-clause-string c = refl
+
+pub returns-clause-boolean : goal.returns-clause-boolean
+returns-clause-boolean c = refl
+
+pub returns-clause-bool_word : goal.returns-clause-bool_word
+returns-clause-bool_word c = refl
+
+pub returns-clause-long : goal.returns-clause-long
+returns-clause-long c = refl
+
+pub returns-clause-double : goal.returns-clause-double
+returns-clause-double c = refl

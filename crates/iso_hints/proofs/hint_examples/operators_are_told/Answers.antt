@@ -57,3 +57,9 @@ returns-clause-minus_equals c = refl
 
 pub returns-clause-star_equals : goal.returns-clause-star_equals
 returns-clause-star_equals c = refl
+
+pub returns-clause-arrow : goal.returns-clause-arrow
+returns-clause-arrow c = refl
+
+pub returns-clause-equal_less : goal.returns-clause-equal_less
+returns-clause-equal_less c = refl

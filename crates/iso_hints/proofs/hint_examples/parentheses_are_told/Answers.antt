@@ -79,5 +79,14 @@ returns-clause-print_comma c = refl
 pub returns-clause-let_comma : goal.returns-clause-let_comma
 returns-clause-let_comma c = refl
 
-pub returns-clause-let_semicolon : goal.returns-clause-let_semicolon
-returns-clause-let_semicolon c = refl
+pub returns-clause-before_each_other : goal.returns-clause-before_each_other
+returns-clause-before_each_other c = refl
+
+pub returns-clause-before_all_other : goal.returns-clause-before_all_other
+returns-clause-before_all_other c = refl
+
+pub returns-clause-after_each_other : goal.returns-clause-after_each_other
+returns-clause-after_each_other c = refl
+
+pub returns-clause-after_all_other : goal.returns-clause-after_all_other
+returns-clause-after_all_other c = refl

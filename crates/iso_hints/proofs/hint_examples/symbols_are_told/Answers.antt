@@ -13,9 +13,6 @@ returns-clause-assert_eq_bang c = refl
 pub returns-clause-println_bang : goal.returns-clause-println_bang
 returns-clause-println_bang c = refl
 
-pub returns-clause-system_dot : goal.returns-clause-system_dot
-returns-clause-system_dot c = refl
-
 pub returns-clause-slash : goal.returns-clause-slash
 returns-clause-slash c = refl
 

@@ -1,7 +1,7 @@
 use Rattle.std.proofs.Common.{◌≡◌, true, false, ap, refl, ◌∙◌}
 use Rattle.iso_hints.specs.Hints.{hint_at}
-use Rattle.iso_explain.specs.Notes.{tells_hint}
-use Rattle.iso_explain.proofs.note.hint_of.Goals as goal
+use Rattle.iso_explain.specs.Mending.{tells_hint}
+use Rattle.iso_explain.proofs.hints.table_hint.Goals as goal
 
 pub returns-then-tells_hint : goal.returns-then-tells_hint
 returns-then-tells_hint c =
