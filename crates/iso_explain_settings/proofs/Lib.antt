@@ -1,0 +1,4 @@
+pub mod FewLemmas
+pub mod ListingLemmas
+pub mod SafeLemmas
+pub mod UnknownLemmas

@@ -1,0 +1,15 @@
+pub mod Chosen
+pub mod Examples
+pub mod Explanations
+pub mod Findings
+pub mod Listing
+pub mod Parts
+pub mod Places
+pub mod Printable
+pub mod Refusals
+pub mod Told
+pub mod Unknown
+pub mod Values
+pub mod Wanted
+pub mod Warned
+pub mod Warnings
