@@ -66,9 +66,9 @@ byte_is_printable b = by (b == 9) (is_printable b) refl
     by false true e = e
     by false false e = refl
 
-bytes_are_printable : (bs : List ℕ) → list_all is_printable (map shown_byte bs) ≡ true
-bytes_are_printable [] = refl
-bytes_are_printable (b ∷ bs) = ap₂ (λ (s t : Bool). s && t) (byte_is_printable b) (bytes_are_printable bs)
+pub bytes-are-printable : (bs : List ℕ) → list_all is_printable (map shown_byte bs) ≡ true
+bytes-are-printable [] = refl
+bytes-are-printable (b ∷ bs) = ap₂ (λ (s t : Bool). s && t) (byte_is_printable b) (bytes-are-printable bs)
 
 end_is_printable : (line : List ℕ) → list_all is_printable (cut_end line) ≡ true
 end_is_printable line = by (nat_lt 160 (length line))
@@ -79,4 +79,4 @@ end_is_printable line = by (nat_lt 160 (length line))
 
 pub line-is-printable : (line : List ℕ) → list_all is_printable (shown_source line) ≡ true
 line-is-printable line =
-    list_all-append is_printable (shown_bytes line) (cut_end line) ∙ ap₂ (λ (s t : Bool). s && t) (bytes_are_printable (take 160 line)) (end_is_printable line)
+    list_all-append is_printable (shown_bytes line) (cut_end line) ∙ ap₂ (λ (s t : Bool). s && t) (bytes-are-printable (take 160 line)) (end_is_printable line)

@@ -1,9 +1,9 @@
 -- What is told of a node.
-use Rattle.std.specs.Prelude.{ℕ, List, [], ◌∷◌, ◌++◌, Option, None, Some, Bool, false, not, ◌&&◌, ◌==◌, cond, codes}
+use Rattle.std.specs.Prelude.{ℕ, List, [], ◌∷◌, ◌++◌, Option, None, Some, Bool, false, not, ◌&&◌, ◌==◌, cond, codes, flat_map, map}
 use Rattle.std.specs.Fmt.{decimal}
 use Rattle.iso_summary.specs.Lines.{counted, file_option, line, number_option}
 use Rattle.iso_summary.specs.Names.{shown_name}
-use Rattle.iso_summary.specs.Sources.{shown_source}
+use Rattle.iso_summary.specs.Sources.{shown_byte, shown_source}
 use Rattle.iso_summary.specs.Views.{AgainView, LocatedView}
 use Rattle.iso_summary.specs.Words.{file_word, has_control}
 
@@ -14,6 +14,18 @@ place_line at message = line (codes "  " ∷ shown_name at.file ∷ codes ":" �
 -- the line of the script that stands there
 abbrev pub source_line : LocatedView → List ℕ
 source_line at = line (codes "  " ∷ decimal at.line ∷ codes " | " ∷ shown_source at.source ∷ [])
+
+-- a line of what mends it: printable ASCII
+abbrev pub hint_line : List ℕ → List ℕ
+hint_line hint = line (codes "  = " ∷ map shown_byte hint ∷ [])
+
+-- what mends it, a line each
+abbrev pub hint_lines : LocatedView → List ℕ
+hint_lines at = flat_map hint_line at.hints
+
+-- the line of the script, and below it what mends it
+abbrev pub source_lines : LocatedView → List ℕ
+source_lines at = source_line at ++ hint_lines at
 
 -- how many tests are blocked, where any is
 abbrev pub blocks_line : ℕ → List ℕ
@@ -50,13 +62,13 @@ command_line again at path =
 abbrev pub again_line : AgainView → LocatedView → (path : List ℕ) → List ℕ
 again_line again at path = cond (can_be_told again at) (command_line again at path) []
 
--- a node that failed: its path, the place and the message, the line of the script, how many tests it blocks, the command, and an empty
--- line
+-- a node that failed: its path, the place and the message, the line of the script, what mends it, how many tests it blocks, the command, and
+-- an empty line
 abbrev pub failure_text : AgainView → LocatedView → (path message : List ℕ) → (blocked : ℕ) → List ℕ
 failure_text again at path message blocked =
     line (codes "not ok " ∷ path ∷ [])
     ++ place_line at message
-    ++ source_line at
+    ++ source_lines at
     ++ blocks_line blocked
     ++ again_line again at path
     ++ line []

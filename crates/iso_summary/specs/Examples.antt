@@ -1,5 +1,5 @@
 -- Example places, commands and outcomes.
-use Rattle.std.specs.Prelude.{ℕ, List, [], ◌∷◌, ◌++◌, None, Some, true, false, codes, slice_index_or}
+use Rattle.std.specs.Prelude.{ℕ, List, [], ◌∷◌, ◌++◌, None, Some, true, false, codes, map, slice_index_or}
 use Rattle.std.specs.List.{flat_map}
 use Rattle.iso_model.specs.declared.fault.FaultKind.TheVariants.{Frozen}
 use Rattle.iso_model.specs.declared.outcome.Note.{Note}
@@ -17,10 +17,14 @@ text_of lines = flat_map (λ l. codes l ++ codes "\n") lines
 
 -- a line of cart.jtap, and of standard input
 abbrev pub in_cart : ℕ → String → LocatedView
-in_cart line source = record { file = codes "cart.jtap"; named = true; line = line; source = codes source }
+in_cart line source = record { file = codes "cart.jtap"; named = true; line = line; source = codes source; hints = [] }
 
 abbrev pub in_stdin : ℕ → String → LocatedView
-in_stdin line source = record { file = codes "stdin"; named = false; line = line; source = codes source }
+in_stdin line source = record { file = codes "stdin"; named = false; line = line; source = codes source; hints = [] }
+
+-- a line of cart.jtap with what mends it
+abbrev pub with_hints : List String → LocatedView
+with_hints hints = record (in_cart 3 "    before_all { print 1 + \"a\"; }") { hints = map (λ hint. codes hint) hints }
 
 -- a line of a script whose name begins with a dash, and of one whose name has a line feed
 abbrev pub in_dash : ℕ → String → LocatedView

@@ -4,15 +4,16 @@ use Rattle.std.specs.Option.{option_map}
 use Rattle.iso_summary.specs.declared.again.Again.{Again}
 use Rattle.iso_summary.specs.declared.located.Located.{Located}
 
--- where a failure stands: the file and whether it was named, the line's number, and the line
+-- where a failure stands: the file and whether it was named, the line's number, and the line; and what mends it, a line each
 pub record LocatedView : Type 0 where
   pub file : List ℕ
   pub named : Bool
   pub line : ℕ
   pub source : List ℕ
+  pub hints : List (List ℕ)
 
 abbrev pub located_of : Located → LocatedView
-located_of l = record { file = l.file.now; named = l.named; line = l.line; source = l.source.now }
+located_of l = record { file = l.file.now; named = l.named; line = l.line; source = l.source.now; hints = l.hints.now }
 
 -- what is told again of a command: the files of its options, and the number of processors
 pub record AgainView : Type 0 where

@@ -3,7 +3,7 @@ ghost use Rattle.std.specs.Prelude.{◌≡◌, ◌<◌, ◌++◌, length};
 ghost use Rattle.std.specs.Option.{option_map};
 ghost use Rattle.iso_plan.specs.PathTexts.{path_text};
 ghost use Rattle.iso_plan.specs.RowView.{tree_of};
-ghost use Rattle.iso_summary.specs.Entries.{again_line, blocks_line, can_be_told, failure_text, given_has_control, place_line, skipped_text, source_line};
+ghost use Rattle.iso_summary.specs.Entries.{again_line, blocks_line, can_be_told, failure_text, given_has_control, hint_lines, place_line, skipped_text, source_line, source_lines};
 ghost use Rattle.iso_summary.specs.Views.{again_of, located_of};
 ghost use Rattle.iso_tap.specs.Printers.{Prints};
 
@@ -16,8 +16,8 @@ use iso_plan::plan::Plan;
 use iso_tap::printer::Printer;
 use iso_tap::sink::{Sink, SinkFailed};
 
-/// Writes of a node that failed its path, the place and the message, the line of the script, how many tests it blocks, and the
-/// command that runs it again.
+/// Writes of a node that failed its path, the place and the message, the line of the script, what mends it, how many tests it
+/// blocks, and the command that runs it again.
 pub(crate) fn failure<'x, W: Sink>(
     printer: &mut Printer<'_, W>,
     plan: &Plan,
@@ -34,7 +34,7 @@ pub(crate) fn failure<'x, W: Sink>(
 {
     line_with_path(printer, &[Part::Plain("not ok ")], plan, node, &[])?;
     place(printer, at, message)?;
-    source(printer, at)?;
+    source_lines(printer, at)?;
     blocks(printer, blocked)?;
     command(printer, plan, node, at, again)?;
     printer.bytes(b"\n")
@@ -79,6 +79,14 @@ fn place<'x, W: Sink>(
     )
 }
 
+/// Writes the line of the script, and below it what mends it.
+fn source_lines<W: Sink>(printer: &mut Printer<'_, W>, at: &Located<'_>) -> Result<(), SinkFailed>
+    ensures { Prints printer.old printer.new (source_lines (located_of at.now)) result }
+{
+    source(printer, at)?;
+    hints(printer, at)
+}
+
 /// Writes the line of the script.
 fn source<W: Sink>(printer: &mut Printer<'_, W>, at: &Located<'_>) -> Result<(), SinkFailed>
     ensures { Prints printer.old printer.new (source_line (located_of at.now)) result }
@@ -92,6 +100,16 @@ fn source<W: Sink>(printer: &mut Printer<'_, W>, at: &Located<'_>) -> Result<(),
             Part::Source(at.source),
         ],
     )
+}
+
+/// Writes what mends it, a line each.
+fn hints<W: Sink>(printer: &mut Printer<'_, W>, at: &Located<'_>) -> Result<(), SinkFailed>
+    ensures { Prints printer.old printer.new (hint_lines (located_of at.now)) result }
+{
+    for hint in at.hints {
+        line(printer, &[Part::Plain("  = "), Part::Shown(hint.as_str())])?;
+    }
+    Ok(())
 }
 
 /// Writes how many tests are blocked, and nothing where none is.

@@ -3,7 +3,7 @@ ghost use Rattle.std.specs.Prelude.{◌≡◌, ◌++◌, ◌∷◌, [], codes, f
 ghost use Rattle.iso_failures.specs.Examples.{till_in_cart, unopened_of};
 ghost use Rattle.iso_plan.specs.Tree.{tree};
 ghost use Rattle.iso_summary.specs.Entries.{again_line, failure_text, skipped_text};
-ghost use Rattle.iso_summary.specs.Examples.{in_cart, in_dash, in_stdin, in_two_lines, outcome_of, places_of_failures, places_of_skipped, plain, text_of, with_escape, with_options};
+ghost use Rattle.iso_summary.specs.Examples.{in_cart, in_dash, in_stdin, in_two_lines, outcome_of, places_of_failures, places_of_skipped, plain, text_of, with_escape, with_hints, with_options};
 ghost use Rattle.iso_summary.specs.Examples.{command_start, in_file, next_line, umlaut, wide_space};
 ghost use Rattle.iso_summary.specs.Names.{shown_name};
 ghost use Rattle.iso_summary.specs.Sources.{shown_source};
@@ -50,6 +50,21 @@ pub fn failed_test_is_told()
         ∷ "  cart.jtap:12: expected: <6> but was: <5>"
         ∷ "  12 |         assert_equal 6, price + 2;"
         ∷ "  again: jtap run --only shop.Cart.adds cart.jtap"
+        ∷ ""
+        ∷ []) }
+{}
+
+/// Below the line of the script stands what mends it, a line each, a tab and other bytes as in that line.
+pub fn what_mends_a_fault_is_told()
+    ensures { failure_text plain (with_hints ("+ adds two whole numbers" ∷ "write \"a\tb\"" ∷ [])) (codes "shop.Cart") (codes "wrong kind") 2
+        ≡ text_of
+        ("not ok shop.Cart"
+        ∷ "  cart.jtap:3: wrong kind"
+        ∷ "  3 |     before_all { print 1 + \"a\"; }"
+        ∷ "  = + adds two whole numbers"
+        ∷ "  = write \"a b\""
+        ∷ "  blocks 2 tests"
+        ∷ "  again: jtap run --only shop.Cart cart.jtap"
         ∷ ""
         ∷ []) }
 {}

@@ -1,11 +1,11 @@
 //! Laws of what a summary shows. Each function does nothing: its contract is the law, and is proved.
-ghost use Rattle.std.specs.Prelude.{◌≡◌, ◌↔◌, ◌<◌, ◌^◌, ◌∷◌, [], ℕ, IfSome, List, Some, drop, false, true};
+ghost use Rattle.std.specs.Prelude.{◌≡◌, ◌↔◌, ◌<◌, ◌^◌, ◌∷◌, [], ℕ, IfSome, List, Some, drop, false, map, true};
 ghost use Rattle.std.specs.List.{list_all};
 ghost use Rattle.std.specs.Str.{IsUtf8};
 ghost use Rattle.iso_summary.specs.Names.{has_ascii_control, shown_name};
 ghost use Rattle.iso_summary.specs.Entries.{command_line};
 ghost use Rattle.iso_summary.specs.Shells.{command_words, read_words};
-ghost use Rattle.iso_summary.specs.Sources.{is_printable, shown_source};
+ghost use Rattle.iso_summary.specs.Sources.{is_printable, shown_byte, shown_source};
 ghost use Rattle.iso_summary.specs.Views.{AgainView, LocatedView};
 ghost use Rattle.iso_summary.specs.Words.{has_control, is_plain_word, shell_word};
 
@@ -31,6 +31,11 @@ pub fn names_stay_in_their_line()
 /// A word has no control character exactly where it is shown as it stands.
 pub fn words_without_control_are_shown_as_they_stand()
     ensures { (word : List ℕ) → IsUtf8 word → (shown_name word ≡ word) ↔ (has_control word ≡ false) }
+{}
+
+/// A line of what mends a fault is printable ASCII, whatever a script has in it.
+pub fn hints_are_shown_printable()
+    ensures { (hint : List ℕ) → list_all is_printable (map shown_byte hint) ≡ true }
 {}
 
 /// What is shown of a line of a script is printable ASCII.

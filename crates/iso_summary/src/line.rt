@@ -9,7 +9,7 @@ ghost use Rattle.iso_tap.specs.Printers.{Prints};
 
 use crate::name::name;
 use crate::part::Part;
-use crate::source::source;
+use crate::source::{shown, source};
 use crate::word::file;
 use iso_plan::plan::Plan;
 use iso_tap::printer::Printer;
@@ -59,6 +59,7 @@ fn write_part<W: Sink>(printer: &mut Printer<'_, W>, part: &Part<'_>) -> Result<
         Part::FailedClasses(count) => failed_classes(printer, count),
         Part::Name(file) => name(printer, file),
         Part::Source(line) => source(printer, line),
+        Part::Shown(text) => shown(printer, text.as_bytes()),
         Part::File(name) => file(printer, name),
         Part::FileOption(option, file) => file_option(printer, option, file),
         Part::NumberOption(option, number) => number_option(printer, option, number),

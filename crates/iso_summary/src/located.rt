@@ -1,5 +1,7 @@
 //! Where a failure stands.
 
+use iso_model::text::Text;
+
 /// Where what ended a node's block stands, or its own name where it is disabled.
 #[derive(Clone, Copy)]
 pub struct Located<'a> {
@@ -11,4 +13,6 @@ pub struct Located<'a> {
     pub line: u32,
     /// The bytes of this line, without its line end.
     pub source: &'a [u8],
+    /// What mends it, a line each.
+    pub hints: &'a [Text],
 }

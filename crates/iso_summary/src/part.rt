@@ -14,6 +14,8 @@ pub(crate) enum Part<'a> {
     Name(&'a str),
     /// A line of a script as it is shown.
     Source(&'a [u8]),
+    /// A text as printable ASCII, be it as long as it may.
+    Shown(&'a str),
     /// A file as a word of a command.
     File(&'a str),
     /// An option with its file, where one was given.

@@ -18,6 +18,16 @@ pub(crate) fn source<W: Sink>(printer: &mut Printer<'_, W>, line: &[u8]) -> Resu
     printer.bytes(cut_end(line))
 }
 
+/// Writes bytes as they are shown, however many there are.
+pub(crate) fn shown<W: Sink>(printer: &mut Printer<'_, W>, bytes: &[u8]) -> Result<(), SinkFailed>
+    ensures { Prints printer.old printer.new (map shown_byte bytes.now) result }
+{
+    for byte in bytes {
+        printer.bytes(&[shown_byte(*byte)])?;
+    }
+    Ok(())
+}
+
 /// The first bytes of a line as they are shown, and spaces behind them.
 fn shown_bytes(line: &[u8]) -> [u8; SHOWN]
     ensures { take (min (length line.now) 160) result ≡ shown_bytes line.now }

@@ -1,3 +1,4 @@
+pub mod ExplainedLemmas
 pub mod NodeLemmas
 pub mod PlaceLemmas
 pub mod WrittenLemmas

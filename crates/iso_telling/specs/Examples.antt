@@ -1,11 +1,14 @@
 -- Example outcomes, and where the nodes stand that came to them.
 use Rattle.std.specs.Prelude.{ℕ, List, [], ◌∷◌, codes, slice_index_or}
 use Rattle.iso_failures.specs.Examples.{at_place, in_class, with_verdict}
+use Rattle.iso_model.specs.declared.fault.FaultKind.TheVariants.{BadCount}
 use Rattle.iso_model.specs.declared.outcome.Outcome.{Outcome}
 use Rattle.iso_model.specs.declared.outcome.Verdict.{Verdict}
-use Rattle.iso_model.specs.declared.outcome.Verdict.TheVariants.{Pass, Fail, Skipped}
+use Rattle.iso_model.specs.declared.outcome.Verdict.TheVariants.{Pass, Fail, Fault, Skipped}
 use Rattle.iso_model.specs.declared.place.Lifecycle.TheVariants.{BeforeAll}
+use Rattle.iso_model.specs.declared.place.BlockName.TheVariants.{Test}
 use Rattle.iso_model.specs.declared.place.Place.{Place}
+use Rattle.iso_model.specs.declared.place.Place.TheVariants.{Row}
 use Rattle.iso_places.specs.Sites.{all_sites}
 use Rattle.iso_places.specs.declared.site.Site.{Site}
 use Rattle.iso_script.specs.Examples.{class_at, test_at}
@@ -35,6 +38,10 @@ failed_at place n = with_verdict (Fail (at_place place))
 
 abbrev pub skipped_at : Place → ℕ → Outcome
 skipped_at place n = with_verdict (Skipped (at_place place))
+
+-- each node ended by a number of turns below 0, on row 1 of its test
+abbrev pub faulted_of : ℕ → Outcome
+faulted_of n = with_verdict (Fault BadCount (record { message = codes "bad count"; place = Row Test 1 }))
 
 -- the sites of Cart, a, Till, b, Drawer, c, d, Desk, e, f: Cart has an after_all at line 3 and a before_each at line 6, Till a before_all at
 -- line 12

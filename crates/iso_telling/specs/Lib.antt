@@ -1,4 +1,5 @@
 pub mod Examples
+pub mod Explained
 pub mod Telling
 pub mod ToldLines
 pub mod ToldNodes

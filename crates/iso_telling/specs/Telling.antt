@@ -10,9 +10,8 @@ use Rattle.iso_plan.specs.Tree.{Row}
 use Rattle.iso_summary.specs.Summaries.{summary_text}
 use Rattle.iso_summary.specs.Views.{AgainView, again_of}
 use Rattle.iso_tap.specs.Sinks.{Account, Wrote}
-use Rattle.iso_telling.specs.ToldLines.{line_told}
 use Rattle.iso_telling.specs.ToldNodes.{told_nodes}
-use Rattle.iso_telling.specs.ToldPlaces.{located}
+use Rattle.iso_telling.specs.ToldPlaces.{located_told, told}
 use Rattle.iso_telling.specs.Written.{WrittenView, lent}
 use Rattle.iso_telling.specs.declared.tells.SummaryText.{SummaryText}
 use Rattle.iso_telling.specs.declared.tells.Tells.{Tells}
@@ -32,19 +31,19 @@ IsTold text None new = new ≡ None
 IsTold text (Some old) None = ⊥
 IsTold text (Some old) (Some new) = Wrote old new text
 
--- A text is the summary of outcomes: of the nodes that are told of, each at the line that is told of it, which its site gives; each
--- node of the plan stands where the first node of all scripts stands that has its path.
-pub record IsSummary (written : WrittenView) (tree : List Row) (outcome : ℕ → Outcome) (skipped : Bool) (names : List (List ℕ)) (again : AgainView) (text : List ℕ) : Type 0 where
+-- A text is the summary of outcomes: of the nodes that are told of, each at the line that is told of it, which its site gives, and with what
+-- mends it, where that is asked for; each node of the plan stands where the first node of all scripts stands that has its path.
+pub record IsSummary (written : WrittenView) (tree : List Row) (outcome : ℕ → Outcome) (skipped explain : Bool) (names : List (List ℕ)) (again : AgainView) (text : List ℕ) : Type 0 where
   pub sites : List Site
   pub are : AreSites (T.tree written.scripts) (all_sites written.places) tree sites
   pub is : let nodes = told_nodes tree outcome skipped in
-      text ≡ summary_text tree outcome again nodes (map (λ n. located names written.texts (line_told tree sites outcome n)) nodes)
+      text ≡ summary_text tree outcome again nodes (map (λ n. located_told names written.texts (told explain tree sites outcome n)) nodes)
 
 -- A summary was added to a text, which is asked for as before.
 pub record AddsSummary (written : WrittenView) (tree : List Row) (outcome : ℕ → Outcome) (old new : SummaryText) : Type 0 where
   pub asked : new ≡ record old { text = new.text }
   pub text : List ℕ
-  pub is : IsSummary written tree outcome old.skipped (lent old.names.now) (again_of old.again) text
+  pub is : IsSummary written tree outcome old.skipped old.explain (lent old.names.now) (again_of old.again) text
   pub wrote : Wrote old.text new.text text
 
 -- a summary was told where one is asked for, and nothing where none is

@@ -5,7 +5,8 @@ ghost use Rattle.iso_model.specs.declared.place.BlockName.TheVariants as N;
 ghost use Rattle.iso_model.specs.declared.place.Lifecycle.TheVariants.{AfterAll, BeforeAll, BeforeEach};
 ghost use Rattle.iso_model.specs.declared.place.Place.TheVariants.{Disabled, Row};
 ghost use Rattle.iso_places.specs.Examples.{line_in};
-ghost use Rattle.iso_telling.specs.Examples.{failed_at, skipped_at, till_sites, two_names, two_texts, unassumed_of};
+ghost use Rattle.iso_telling.specs.Examples.{failed_at, faulted_of, skipped_at, till_sites, two_names, two_texts, unassumed_of};
+ghost use Rattle.iso_telling.specs.Explained.{hints_told};
 ghost use Rattle.iso_telling.specs.ToldLines.{line_told};
 ghost use Rattle.iso_telling.specs.ToldNodes.{told_nodes};
 ghost use Rattle.iso_telling.specs.ToldPlaces.{located};
@@ -57,18 +58,26 @@ pub fn what_is_not_written_is_told_at_the_name()
     ensures { line_told till_in_cart till_sites (failed_at (Row (N.Class 2 AfterAll) 1)) 4 ≡ line_in 0 15 }
 {}
 
+/// What mends a fault is told where it is asked for, and nothing of what failed otherwise.
+pub fn faults_are_explained_where_it_is_asked_for()
+    ensures asked { hints_told true till_in_cart faulted_of 4
+        ≡ codes "repeat takes a number of turns that is at least 0" ∷ [] }
+    ensures unasked { hints_told false till_in_cart faulted_of 4 ≡ [] }
+    ensures failed { hints_told true till_in_cart (failed_at (Row N.Test 1)) 4 ≡ [] }
+{}
+
 /// A line has its script's name and text, without its line end.
 pub fn lines_have_their_files()
     ensures first { located two_names two_texts (line_in 0 2)
-        ≡ record { file = codes "a.jtap"; named = true; line = 2; source = codes "class A { }" } }
+        ≡ record { file = codes "a.jtap"; named = true; line = 2; source = codes "class A { }"; hints = [] } }
     ensures second { located two_names two_texts (line_in 1 2)
-        ≡ record { file = codes "my b.jtap"; named = true; line = 2; source = codes "class B { }" } }
+        ≡ record { file = codes "my b.jtap"; named = true; line = 2; source = codes "class B { }"; hints = [] } }
     ensures past { located two_names two_texts (line_in 1 3)
-        ≡ record { file = codes "my b.jtap"; named = true; line = 3; source = [] } }
+        ≡ record { file = codes "my b.jtap"; named = true; line = 3; source = []; hints = [] } }
 {}
 
 /// Where no script has a name it is standard input.
 pub fn lines_of_standard_input_have_no_file()
     ensures { located [] (codes "team a\nclass A { }\n" ∷ []) (line_in 0 2)
-        ≡ record { file = codes "stdin"; named = false; line = 2; source = codes "class A { }" } }
+        ≡ record { file = codes "stdin"; named = false; line = 2; source = codes "class A { }"; hints = [] } }
 {}

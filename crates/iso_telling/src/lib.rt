@@ -2,6 +2,7 @@
 #![tactic(auto)]
 
 pub mod examples;
+mod explained;
 pub mod laws;
 mod lines;
 mod located;
@@ -9,5 +10,6 @@ mod nodes;
 mod summary;
 mod table;
 pub mod tells;
+mod told;
 mod verdict;
 pub mod written;

@@ -4,7 +4,10 @@ ghost use Rattle.iso_lifecycle.specs.ResultViews.{AreComplete, outcome_in, verdi
 ghost use Rattle.iso_plan.specs.RowView.{tree_of};
 ghost use Rattle.iso_summary.specs.Summaries.{IsNode};
 ghost use Rattle.iso_telling.specs.ToldLines.{line_of_what_ended, line_told, name_line, place_of};
+ghost use Rattle.iso_telling.specs.ToldPlaces.{told, told_of};
 
+use crate::explained::hints_told;
+use crate::told::Told;
 use crate::verdict::verdict;
 use iso_lifecycle::results::Results;
 use iso_lifecycle::view::ViewVerdict;
@@ -14,24 +17,46 @@ use iso_places::site::Sites;
 use iso_plan::plan::Plan;
 use std::alloc::{AllocError, Global};
 
-/// The line that is told of each of these nodes.
+/// What is told of each of these nodes: its line and, where it is asked for, what mends it.
 pub(crate) fn lines_told(
     alloc: Global,
     plan: &Plan,
     results: &Results<'_>,
     sites: &Sites,
+    explain: bool,
     nodes: &[u32],
-) -> Result<Vec<ScriptLine>, AllocError>
+) -> Result<Vec<Told>, AllocError>
     requires plan { results.now.plan ≡ plan.now }
     requires complete { AreComplete results.now }
     requires nodes { All (IsNode plan.now) nodes.now }
-    ensures { IfOk result (λ v. v.items ≡ map (line_told (tree_of plan.now) sites.now (outcome_in results.now)) nodes.now) }
+    ensures { IfOk result (λ v. map told_of v.items ≡ map (told explain (tree_of plan.now) sites.now (outcome_in results.now)) nodes.now) }
 {
     let mut lines = Vec::with_capacity(alloc, nodes.len())?;
     'nodes: for node in nodes {
-        lines.push(line_told(plan, results, sites, *node))?;
+        lines.push(told(alloc, plan, results, sites, explain, *node)?)?;
     }
     Ok(lines)
+}
+
+/// What is told of a node.
+fn told(
+    alloc: Global,
+    plan: &Plan,
+    results: &Results<'_>,
+    sites: &Sites,
+    explain: bool,
+    node: u32,
+) -> Result<Told, AllocError>
+    requires plan { results.now.plan ≡ plan.now }
+    requires complete { AreComplete results.now }
+    requires above { 0 < node }
+    requires within { node < length plan.now.rows }
+    ensures { IfOk result (λ t. told_of t ≡ told explain (tree_of plan.now) sites.now (outcome_in results.now) node) }
+{
+    Ok(Told {
+        line: line_told(plan, results, sites, node),
+        hints: hints_told(alloc, plan, results, explain, node)?,
+    })
 }
 
 /// The line that is told of a node: where what ended it stands, else that of its name.

@@ -2,11 +2,11 @@
 ghost use Rattle.std.specs.Prelude.{◌≡◌, [], IfOk, codes, map, slice_index_or};
 ghost use Rattle.iso_places.specs.LineStarts.{line_starts};
 ghost use Rattle.iso_summary.specs.Views.{located_of};
-ghost use Rattle.iso_telling.specs.ToldPlaces.{located};
+ghost use Rattle.iso_telling.specs.ToldPlaces.{located_told, told_of};
 ghost use Rattle.iso_telling.specs.Written.{lent};
 
 use crate::table::{ScriptTable, text_of};
-use iso_places::end::ScriptLine;
+use crate::told::Told;
 use iso_places::lines::LineTable;
 use iso_summary::located::Located;
 use std::alloc::{AllocError, Global};
@@ -17,33 +17,34 @@ pub(crate) fn all_located<'a>(
     alloc: Global,
     names: &'a [&'a str],
     texts: &'a [&'a [u8]],
-    lines: &[ScriptLine],
+    lines: &'a [Told],
 ) -> Result<Vec<Located<'a>>, AllocError>
-    ensures { IfOk result (λ v. map located_of v.items ≡ map (located (lent names.now) (lent texts.now)) lines.now) }
+    ensures { IfOk result (λ v. map located_of v.items ≡ map (located_told (lent names.now) (lent texts.now)) (map told_of lines.now)) }
 {
     let mut places = Vec::with_capacity(alloc, lines.len())?;
     let Some(first) = lines.first() else {
         return Ok(places);
     };
-    let mut at_hand = ScriptTable::new(alloc, texts, first.script)?;
-    'lines: for line in lines {
+    let mut at_hand = ScriptTable::new(alloc, texts, first.line.script)?;
+    'lines: for told in lines {
         // Nodes are told of script after script, so that the table of each is made once.
-        at_hand = at_hand.turned_to(alloc, texts, line.script)?;
-        places.push(with_file(names, texts, &at_hand.table, *line)?)?;
+        at_hand = at_hand.turned_to(alloc, texts, told.line.script)?;
+        places.push(with_file(names, texts, &at_hand.table, told)?)?;
     }
     Ok(places)
 }
 
-/// A line with its file, by the table of its script.
+/// A line with its file and what mends it, by the table of its script.
 fn with_file<'a>(
     names: &'a [&'a str],
     texts: &'a [&'a [u8]],
     table: &LineTable,
-    at: ScriptLine,
+    told: &'a Told,
 ) -> Result<Located<'a>, AllocError>
-    requires { table.now ≡ line_starts (slice_index_or (lent texts.now) at.script []) }
-    ensures { IfOk result (λ l. located_of l ≡ located (lent names.now) (lent texts.now) at) }
+    requires { table.now ≡ line_starts (slice_index_or (lent texts.now) told.now.line.script []) }
+    ensures { IfOk result (λ l. located_of l ≡ located_told (lent names.now) (lent texts.now) (told_of told.now)) }
 {
+    let at = told.line;
     let Ok(line) = u32::try_from(at.line) else {
         return Err(AllocError);
     };
@@ -52,6 +53,7 @@ fn with_file<'a>(
         named: (at.script as usize) < names.len(),
         line,
         source: table.line(text_of(texts, at.script), at.line),
+        hints: &told.hints,
     })
 }
 

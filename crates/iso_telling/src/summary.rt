@@ -32,7 +32,7 @@ pub(crate) fn add_summary(
         return Err(AllocError);
     };
     let nodes = told_nodes(alloc, plan, results, summary.skipped)?;
-    let lines = lines_told(alloc, plan, results, &sites, &nodes)?;
+    let lines = lines_told(alloc, plan, results, &sites, summary.explain, &nodes)?;
     let places = all_located(alloc, summary.names, written.texts, &lines)?;
     match write_summary(
         plan,

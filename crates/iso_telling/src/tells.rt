@@ -29,6 +29,8 @@ pub struct Tells<'a> {
 pub struct SummaryText<'a> {
     /// Whether skipped tests are told of, too.
     pub skipped: bool,
+    /// Whether it tells what mends a fault.
+    pub explain: bool,
     /// The names of the scripts, in their order; none where the script is standard input.
     pub names: &'a [&'a str],
     pub again: Again<'a>,
@@ -77,16 +79,19 @@ impl SummaryText<'_> {
     pub fn new<'a>(
         alloc: Global,
         skipped: bool,
+        explain: bool,
         names: &'a [&'a str],
         again: Again<'a>,
     ) -> SummaryText<'a>
         ensures skipped { result.skipped ≡ skipped }
+        ensures explain { result.explain ≡ explain }
         ensures names { result.names.now ≡ names.now }
         ensures again { result.again ≡ again.entry }
         ensures text { result.text ≡ nothing_yet }
     {
         SummaryText {
             skipped,
+            explain,
             names,
             again,
             text: MemorySink::new(alloc),

@@ -1,0 +1,3 @@
+pub mod FewLemmas
+pub mod KeptLemmas
+pub mod MessageLemmas

@@ -1,0 +1,16 @@
+pub mod BlockFaults
+pub mod Blocks
+pub mod Examples
+pub mod Expressions
+pub mod Fixed
+pub mod Kinds
+pub mod Lets
+pub mod Lines
+pub mod Marks
+pub mod Messages
+pub mod Operations
+pub mod Rules
+pub mod Statements
+pub mod Unknown
+pub mod Variables
+pub mod Views
