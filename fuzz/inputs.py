@@ -13,7 +13,7 @@ def text_of(path):
     return path.read_bytes().decode("latin-1")
 
 
-ALL_SCRIPTS = [text_of(path) for path in sorted(EXAMPLES.glob("**/*.jtap"))]
+ALL_SCRIPTS = [text_of(path) for path in sorted(EXAMPLES.glob("**/*.jtap")) if path.parent.name != "faults"]
 SETTINGS = text_of(EXAMPLES / "teams/settings.toml")
 WORLD = text_of(EXAMPLES / "teams/world.toml")
 TEAMS = [text_of(EXAMPLES / "teams" / name) for name in ("shop.jtap", "orders.jtap", "ops.jtap")]

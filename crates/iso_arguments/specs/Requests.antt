@@ -5,7 +5,7 @@ use Rattle.iso_arguments.specs.declared.processors.Processors.TheVariants.{Count
 use Rattle.iso_arguments.specs.declared.request.Extras.{Extras}
 use Rattle.iso_arguments.specs.declared.request.InputFiles.{InputFiles}
 use Rattle.iso_arguments.specs.declared.request.Request.{Request}
-use Rattle.iso_arguments.specs.declared.request.Request.TheVariants.{Run, Plan, Replay, Check, Show}
+use Rattle.iso_arguments.specs.declared.request.Request.TheVariants.{Run, Plan, Replay, Check, Settings, Show}
 use Rattle.iso_arguments.specs.declared.shard.Shard.{Shard}
 
 -- the numbers of processors that may be counted with
@@ -30,6 +30,7 @@ AsksInBounds (Run serial extras files) = AreInBounds files
 AsksInBounds (Plan tests places files) = AreInBounds files
 AsksInBounds (Replay schedule extras files) = AreInBounds files
 AsksInBounds (Check files) = AreInBounds files
+AsksInBounds (Settings settings processors explain) = IfSome processors IsWithin
 AsksInBounds (Show text) = ⊤
 
 -- the files of a request that names none, keeps all that there is, and counts with as many processors as without a word
@@ -54,4 +55,5 @@ IsPlainRun (Run serial extras files) = NamesNothing files × AsksForNoMore extra
 IsPlainRun (Plan tests places files) = ⊥
 IsPlainRun (Replay schedule extras files) = ⊥
 IsPlainRun (Check files) = ⊥
+IsPlainRun (Settings settings processors explain) = ⊥
 IsPlainRun (Show text) = ⊥

@@ -33,6 +33,9 @@ static REPLAY_END: &str = "Example:
 static CHECK_END: &str = "Example:
   jtap check --explain --settings junit.toml cart.jtap desk.jtap";
 
+static SETTINGS_END: &str = "Example:
+  jtap settings --settings junit.toml --processors auto";
+
 static PROCESSORS: &str = "Processors to count with, 1 to 1024, or `auto`
 for those of the machine [default: 1]";
 
@@ -67,7 +70,8 @@ pub(crate) fn command_line<'a>(alloc: Global) -> Result<Command<'a>, AllocError>
     let command = with_subcommand(first_page(alloc), run(alloc));
     let command = with_subcommand(command, plan(alloc));
     let command = with_subcommand(command, replay(alloc));
-    with_subcommand(command, check(alloc))
+    let command = with_subcommand(command, check(alloc));
+    with_subcommand(command, show_settings(alloc))
 }
 
 /// What there is without a subcommand.
@@ -98,7 +102,7 @@ fn run<'a>(alloc: Global) -> Result<Command<'a>, AllocError> {
 
 /// The subcommand that prints the plan.
 fn plan<'a>(alloc: Global) -> Result<Command<'a>, AllocError> {
-    let about = "Print how the scripts would run: workers, modes and locks of each node";
+    let about = "Print how scripts would run: workers, and each node's mode and locks";
     let command = subcommand(alloc, "plan", about, PLAN_END);
     let command = command.arg(tests(alloc))?.arg(places(alloc));
     with_inputs(alloc, command)
@@ -115,6 +119,15 @@ fn replay<'a>(alloc: Global) -> Result<Command<'a>, AllocError> {
 fn check<'a>(alloc: Global) -> Result<Command<'a>, AllocError> {
     let about = "Tell on standard error what is wrong with each file, and run nothing";
     with_inputs(alloc, Ok(subcommand(alloc, "check", about, CHECK_END)))
+}
+
+/// The subcommand that prints settings.
+fn show_settings<'a>(alloc: Global) -> Result<Command<'a>, AllocError> {
+    let about = "Print what settings come to: each key's value, and how many workers";
+    subcommand(alloc, "settings", about, SETTINGS_END)
+        .arg(settings(alloc))?
+        .arg(processors(alloc))?
+        .arg(explain(alloc))
 }
 
 /// A subcommand without options.

@@ -123,6 +123,12 @@ pub enum Request<'a> {
     },
     /// What is wrong with files, without a run.
     Check(InputFiles<'a>),
+    /// What the settings in a file of this name come to, with so many processors; `explain` with what mends a fault.
+    Settings {
+        settings: Option<&'a str>,
+        processors: Option<Processors>,
+        explain: bool,
+    },
     /// A text for standard output: a help page or the version.
     Show(String),
 }
@@ -241,6 +247,13 @@ fn requested<'a>(alloc: Global, matches: &ArgMatches<'a>) -> Result<Request<'a>,
             files: InputFiles::none(alloc),
         });
     };
+    if name == "settings" {
+        return Ok(Request::Settings {
+            settings: found.get_str("settings"),
+            processors: processors_of(alloc, found)?,
+            explain: found.get_flag("explain"),
+        });
+    }
     let files = files_of(alloc, found)?;
     match name {
         "plan" => {

@@ -2,7 +2,7 @@
 use Rattle.std.proofs.Common.{◌≡◌, ℕ, ◌≤◌, List, [], Bool, true, false, Option, None, Some, IfSome, refl, arith}
 use Rattle.iso_arguments.specs.Requests.{IsPlainRun}
 use Rattle.iso_arguments.specs.declared.request.Request.{Request}
-use Rattle.iso_arguments.specs.declared.request.Request.TheVariants.{Run, Plan, Replay, Check, Show}
+use Rattle.iso_arguments.specs.declared.request.Request.TheVariants.{Run, Plan, Replay, Check, Settings, Show}
 use Rattle.iso_run.specs.Commands.{Answered, Did, RanOn}
 use Rattle.iso_run.specs.Ends.{Refuses, Whole, command_end, exit_status, run_end}
 use Rattle.iso_run.specs.declared.command_fault.CommandFault.{CommandFault}
@@ -28,7 +28,7 @@ pub at-least-two : (fault : CommandFault) → 2 ≤ exit_status (command_end fau
 at-least-two (C.Words text) = omega arith
 at-least-two (C.Unreadable name) = omega arith
 at-least-two (C.TooLarge name) = omega arith
-at-least-two (C.NotListed file index) = omega arith
+at-least-two (C.NotListed file index text) = omega arith
 at-least-two C.Unwritten = omega arith
 at-least-two (C.Unwritable name) = omega arith
 at-least-two C.Uncounted = omega arith
@@ -42,6 +42,7 @@ plain-ran : (request : Request) (script : List ℕ) (old new : Account) (ok : Bo
 plain-ran (Show text) script old new ok is did = absurd is
 plain-ran (Plan tests places files) script old new ok is did = absurd is
 plain-ran (Check files) script old new ok is did = absurd is
+plain-ran (Settings name processors explain) script old new ok is did = absurd is
 plain-ran (Replay name extras files) script old new ok is did = absurd is
 plain-ran (Run serial extras files) script old new ok is did = record { files = files; nothing = is.0; serial = serial; ok = ok; written = did; tells = refl }
 
@@ -72,7 +73,7 @@ pub refuses : (fault : CommandFault) → exit_status (command_end fault) ≡ 2 �
 refuses (C.Words text) h = refl
 refuses (C.Unreadable name) h = absurd (omega (arith, h))
 refuses (C.TooLarge name) h = refl
-refuses (C.NotListed file index) h = refl
+refuses (C.NotListed file index text) h = refl
 refuses C.Unwritten h = absurd (omega (arith, h))
 refuses (C.Unwritable name) h = absurd (omega (arith, h))
 refuses C.Uncounted h = absurd (omega (arith, h))

@@ -1,5 +1,5 @@
 -- What a command does for what its words ask, and how it ends.
-use Rattle.std.specs.Prelude.{◌≡◌, ◌≢◌, ⊤, ℕ, ◌+◌, List, [], ◌∷◌, length, map, take, Bool, true, false, cond, Option, None, Some, IfOk, IfSome, Result, Vec, is_some, option_map, codes, string_bytes}
+use Rattle.std.specs.Prelude.{◌≡◌, ◌≢◌, ⊤, ℕ, ◌+◌, List, [], ◌∷◌, length, map, take, Bool, true, false, cond, Option, None, Some, IfOk, IfSome, Result, Ok, Vec, is_some, option_map, codes, string_bytes}
 use Rattle.std.specs.Option.{option_copied}
 use Rattle.std.specs.Borrow.{Bor}
 use Rattle.std.specs.Global.{Global}
@@ -8,17 +8,18 @@ use Rattle.iso_arguments.specs.declared.processors.Processors.{Processors}
 use Rattle.iso_arguments.specs.declared.processors.Processors.TheVariants.{Count, Auto}
 use Rattle.iso_arguments.specs.declared.request.InputFiles.{InputFiles}
 use Rattle.iso_arguments.specs.declared.request.Request.{Request}
-use Rattle.iso_arguments.specs.declared.request.Request.TheVariants.{Run, Plan, Replay, Check, Show}
+use Rattle.iso_arguments.specs.declared.request.Request.TheVariants.{Run, Plan, Replay, Check, Settings, Show}
 use Rattle.iso_arguments.specs.declared.request.Summarized.{Summarized}
 use Rattle.iso_arguments.specs.declared.request.Summarized.TheVariants.{Failed, All}
 use Rattle.iso_arguments.specs.declared.shard.Shard as A
+use Rattle.iso_explain_settings.specs.Listing.{listing_text}
 use Rattle.iso_model.specs.declared.limits.TheConstants.{FILE_BYTES}
 use Rattle.iso_run.specs.Ends.{End, Whole, Refuses, Leaves, exit_status, run_end}
 use Rattle.iso_run.specs.Replays.{Cause}
 use Rattle.iso_places.specs.declared.site.Site.{Site}
 use Rattle.iso_plan.specs.Selections.{texts_of}
 use Rattle.iso_run.specs.Runs.{AreSitesOf, IsWritten, Product, suite_places, suite_plan, suite_report, suite_tests}
-use Rattle.iso_run.specs.Suites.{OfSuite, Suite, texts}
+use Rattle.iso_run.specs.Suites.{OfSuite, Suite, document, settings_from, texts}
 use Rattle.iso_run.specs.declared.command_fault.CommandFault.{CommandFault}
 use Rattle.iso_run.specs.declared.fault.RunFault.{RunFault}
 use Rattle.iso_run.specs.declared.files.FileReads.{FileReads}
@@ -27,8 +28,11 @@ use Rattle.iso_run.specs.declared.inputs.Inputs.{Inputs}
 use Rattle.iso_run.specs.declared.way.Way.{Way}
 use Rattle.iso_run.specs.declared.way.Way.TheVariants.{Serial, ByWorkers, BySchedule}
 use Rattle.iso_selection.specs.declared.shard.Shard.{Shard}
+use Rattle.iso_settings.specs.Leaves.{leaves}
+use Rattle.iso_settings.specs.declared.settings.Settings as S
 use Rattle.iso_summary.specs.declared.again.Again.{Again}
 use Rattle.iso_tap.specs.Sinks.{Account, HasFailed, Wrote}
+use Rattle.toml.specs.Data.{Members}
 
 -- Bytes that were read for these files: none for settings or a world that isn't named; for each script that is named one text, and where
 -- none is, what the input has left, if that is known, up to one byte past the limit; and a list of paths, where one is named, which for `-`
@@ -102,11 +106,24 @@ IsPrintedFor tests places files input old new ok = (sites : List Site) × ((inpu
 abbrev pub IsAcceptedFor : InputFiles → Option (List ℕ) → Type 0
 IsAcceptedFor files input = (inputs : Inputs) × AreFor files input inputs × OfSuite inputs (λ suite. ⊤)
 
+-- What settings come to was written, whole: those that were read of a file of this name, where so many processors are counted with.
+pub record IsListedFor (name : Option (Bor (List ℕ))) (asked : Option Processors) (old new : Account) : Type 0 where
+  pub bytes : List ℕ
+  pub named : name ≡ None → bytes ≡ []
+  pub processors : ℕ
+  pub counted : IsCountedAs asked processors
+  pub settings : S.Settings
+  pub read : settings_from bytes processors ≡ Ok settings
+  pub members : Members
+  pub document : document bytes ≡ Some members
+  pub wrote : Wrote old new (listing_text (leaves members) settings processors)
+
 -- what a request asks for was done: its text was written, or the plan or the report for its files, of a replay after some schedule
 abbrev pub Did : Request → Option (List ℕ) → (old new : Account) → (ok : Bool) → Type 0
 Did (Show text) input old new ok = (ok ≡ true) × Wrote old new (string_bytes text)
 Did (Plan tests places files) input old new ok = IsPrintedFor tests places files input old new ok
 Did (Check files) input old new ok = (ok ≡ true) × (new ≡ old) × IsAcceptedFor files input
+Did (Settings name processors explain) input old new ok = (ok ≡ true) × IsListedFor name processors old new
 Did (Run serial extras files) input old new ok = IsWrittenFor suite_report files input (way_of serial) old new ok
 Did (Replay name extras files) input old new ok = (schedule : Bor (List ℕ)) × IsWrittenFor suite_report files input (BySchedule schedule) old new ok
 
@@ -121,6 +138,7 @@ abbrev pub file_of : Request → Option (Bor (List ℕ))
 file_of (Show text) = None
 file_of (Plan tests places files) = None
 file_of (Check files) = None
+file_of (Settings name processors explain) = None
 file_of (Run serial extras files) = extras.failed
 file_of (Replay name extras files) = extras.failed
 

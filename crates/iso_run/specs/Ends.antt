@@ -44,7 +44,7 @@ abbrev pub command_end : CommandFault → End
 command_end (Words text) = Refuses
 command_end (Unreadable name) = GivesUp
 command_end (TooLarge name) = Refuses
-command_end (NotListed file index) = Refuses
+command_end (NotListed file index text) = Refuses
 command_end Unwritten = BreaksOff
 command_end (Unwritable name) = LacksFile
 command_end Uncounted = GivesUp

@@ -40,7 +40,7 @@ impl<'b, 'a> Besides<'b, 'a> {
         ensures failed { is_some result.tells.failed ≡ is_some extras.entry.failed }
         ensures unasked { extras.entry.summary ≡ None → result.tells.summary ≡ None }
         ensures summary { IfSome extras.entry.summary (λ of. IsSomeAnd result.tells.summary (λ s. (s.skipped ≡ tells_of_skipped of)
-            × (s.names.now ≡ files.now.scripts.items) × (s.again ≡ again_of files.now processors) × (s.text ≡ nothing_yet))) }
+            × (s.explain ≡ files.now.explain) × (s.names.now ≡ files.now.scripts.items) × (s.again ≡ again_of files.now processors) × (s.text ≡ nothing_yet))) }
     {
         let failed = match extras.failed {
             Some(_) => Some(MemorySink::new(alloc)),
@@ -50,6 +50,7 @@ impl<'b, 'a> Besides<'b, 'a> {
             Some(of) => Some(SummaryText::new(
                 alloc,
                 of == Summarized::All,
+                files.explain,
                 &files.scripts,
                 again_of(files, processors),
             )),

@@ -6,13 +6,15 @@ ghost use Rattle.iso_run.specs.Ends.{ComesEarly};
 ghost use Rattle.iso_run.specs.Suites.{NoSuite, OfSuite};
 ghost use Rattle.iso_run.specs.declared.inputs.Inputs as I;
 
-use crate::command::{explained, inputs_of, named, shard_of};
+use crate::command::{inputs_of, named, shard_of, with_mending};
 use crate::command_fault::CommandFault;
 use crate::exit::FAILED;
 use crate::fault::RunFault;
 use crate::files::{FileReads, InputBytes, all_of, lent, read_each};
 use crate::inputs::{read_inputs, settings_from, world_from};
 use crate::lines::say;
+use crate::mending::{script_mending, settings_mending, world_mending};
+use crate::warning::say_warnings;
 use iso_arguments::request::InputFiles;
 use iso_script::fault::ScriptError;
 use iso_script::reader::read_script;
@@ -23,7 +25,8 @@ use std::fs::Files;
 use std::io::Read;
 use std::thread::Threads;
 
-/// Tells the first fault of each file, one after another, and where none has one that of their plan. Nothing is run.
+/// Tells the first fault of each file, one after another, and where none has one that of their plan; or else what was likely meant
+/// otherwise. Nothing is run.
 pub(crate) fn check<'a, G: AllocGlobal + Files + Threads, R: Read, E: Sink>(
     rt: &G,
     files: &InputFiles<'a>,
@@ -36,18 +39,19 @@ pub(crate) fn check<'a, G: AllocGlobal + Files + Threads, R: Read, E: Sink>(
 {
     let reads = read_each(rt, files, input)?;
     let told = Tally::of(rt.alloc(), &reads, files, errors);
-    match accept_reads(rt.alloc(), reads, files) {
+    match accept_reads(rt.alloc(), reads, files, errors) {
         Ok(()) if told.failed => Err(CommandFault::Told(true)),
         Ok(()) => Ok(()),
         Err(fault) => Err(CommandFault::Told(told.fails(&fault, errors))),
     }
 }
 
-/// Whether the inputs that were read are a suite, or why they are none.
-fn accept_reads<'a>(
+/// Whether the inputs that were read are a suite, or why they are none. Of a suite it tells what was likely meant otherwise.
+fn accept_reads<'a, E: Sink>(
     alloc: Global,
     reads: FileReads<'a>,
     files: &InputFiles<'a>,
+    errors: &mut E,
 ) -> Result<(), CommandFault<'a>>
     requires bounds { AreInBounds files.now }
     requires counted { 1 ≤ reads.processors }
@@ -55,7 +59,10 @@ fn accept_reads<'a>(
 {
     let bytes = all_of(alloc, reads)?;
     match accept(alloc, &bytes, &*files) {
-        Ok(()) => Ok(()),
+        Ok(()) => {
+            say_warnings(alloc, &bytes, &*files, errors);
+            Ok(())
+        }
         Err(fault) => Err(named(alloc, fault, bytes, files)),
     }
 }
@@ -101,8 +108,8 @@ impl Tally {
             refused: false,
             failed: false,
         };
-        tally.tell_settings(alloc, &reads.settings, reads.processors, errors);
-        tally.tell_world(alloc, &reads.world, errors);
+        tally.tell_settings(alloc, &reads.settings, reads.processors, files, errors);
+        tally.tell_world(alloc, &reads.world, files, errors);
         for (number, read) in reads.scripts.iter().enumerate() {
             tally.tell_script(alloc, number, read, files, errors);
         }
@@ -118,20 +125,22 @@ impl Tally {
         alloc: Global,
         read: &Result<Vec<u8>, CommandFault<'_>>,
         processors: u32,
+        files: &InputFiles<'_>,
         errors: &mut E,
     )
         requires { 1 ≤ processors }
     {
         match read {
-            Ok(bytes) => {
-                if let Err(error) = settings_from(alloc, bytes, processors) {
-                    let fault = match error {
-                        SettingsError::Fault(fault) => RunFault::Settings(fault),
-                        SettingsError::OutOfMemory => RunFault::Memory,
-                    };
-                    self.tell(&CommandFault::Run(fault, None), errors);
+            Ok(bytes) => match settings_from(alloc, bytes, processors) {
+                Ok(_) => {}
+                Err(SettingsError::Fault(fault)) => {
+                    let text = settings_mending(alloc, &fault, bytes, files);
+                    self.tell(&with_mending(RunFault::Settings(fault), None, text), errors);
                 }
-            }
+                Err(SettingsError::OutOfMemory) => {
+                    self.tell(&CommandFault::out_of_memory(), errors);
+                }
+            },
             Err(fault) => self.tell(fault, errors),
         }
     }
@@ -141,18 +150,20 @@ impl Tally {
         &mut self,
         alloc: Global,
         read: &Result<Vec<u8>, CommandFault<'_>>,
+        files: &InputFiles<'_>,
         errors: &mut E,
     ) {
         match read {
-            Ok(bytes) => {
-                if let Err(error) = world_from(alloc, bytes) {
-                    let fault = match error {
-                        SettingsError::Fault(fault) => RunFault::World(fault),
-                        SettingsError::OutOfMemory => RunFault::Memory,
-                    };
-                    self.tell(&CommandFault::Run(fault, None), errors);
+            Ok(bytes) => match world_from(alloc, bytes) {
+                Ok(_) => {}
+                Err(SettingsError::Fault(fault)) => {
+                    let text = world_mending(alloc, &fault, bytes, files);
+                    self.tell(&with_mending(RunFault::World(fault), None, text), errors);
                 }
-            }
+                Err(SettingsError::OutOfMemory) => {
+                    self.tell(&CommandFault::out_of_memory(), errors);
+                }
+            },
             Err(fault) => self.tell(fault, errors),
         }
     }
@@ -173,23 +184,17 @@ impl Tally {
                 return;
             }
         };
-        if let Err(error) = read_script(alloc, bytes) {
-            let name = files.scripts.get(number).copied();
-            let script = if files.explain {
-                Some(bytes.as_slice())
-            } else {
-                None
-            };
-            let fault = match error {
-                ScriptError::Fault(fault) => explained(
-                    alloc,
-                    RunFault::Script(number, fault),
-                    name,
-                    script,
-                ),
-                ScriptError::OutOfMemory => CommandFault::out_of_memory(),
-            };
-            self.tell(&fault, errors);
+        match read_script(alloc, bytes) {
+            Ok(_) => {}
+            Err(ScriptError::Fault(fault)) => {
+                let name = files.scripts.get(number).copied();
+                let text = script_mending(alloc, bytes, files);
+                self.tell(
+                    &with_mending(RunFault::Script(number, fault), name, text),
+                    errors,
+                );
+            }
+            Err(ScriptError::OutOfMemory) => self.tell(&CommandFault::out_of_memory(), errors),
         }
     }
 

@@ -19,15 +19,17 @@ use crate::fault::RunFault;
 use crate::files::{InputBytes, lent, read_files, write_file};
 use crate::inputs::Inputs;
 use crate::lines::say;
+use crate::mending::mending;
 use crate::plan::{show_places, show_plan, show_tests};
 use crate::replay::run_schedule;
 use crate::report::Summary;
 use crate::run::run_serial;
+use crate::settings::show_settings;
+use crate::warning::warn;
 use crate::way::Way;
 use crate::workers::run_workers;
 use iso_arguments::request::{InputFiles, Request, WordsFault, read_words};
 use iso_arguments::shard::Shard as AskedShard;
-use iso_explain::script::explain_script;
 use iso_lifecycle::gate::OpenGate;
 use iso_plan::fault::PlanFault;
 use iso_selection::shard::Shard;
@@ -124,6 +126,7 @@ fn answer_request<'a, G: AllocGlobal + Files + Threads + Wait + Sync, R: Read, W
             files,
         } => {
             let bytes = read_files(rt, files, None, input)?;
+            warn(rt.alloc(), &bytes, &*files, errors);
             let shown = plan(rt.alloc(), &bytes, *tests, *places, &*files, output);
             told(rt, shown, bytes, files, &Besides::nothing(), output, errors)
         }
@@ -131,12 +134,18 @@ fn answer_request<'a, G: AllocGlobal + Files + Threads + Wait + Sync, R: Read, W
             check(rt, files, input, errors)?;
             Ok(true)
         }
+        Request::Settings {
+            settings,
+            processors,
+            explain,
+        } => show_settings(rt, *settings, *processors, *explain, output, errors),
         Request::Run {
             serial,
             extras,
             files,
         } => {
             let bytes = read_files(rt, files, None, input)?;
+            warn(rt.alloc(), &bytes, &*files, errors);
             let mut besides = Besides::new(rt.alloc(), *extras, &*files, bytes.processors);
             let ran = run(
                 rt,
@@ -154,6 +163,7 @@ fn answer_request<'a, G: AllocGlobal + Files + Threads + Wait + Sync, R: Read, W
             files,
         } => {
             let bytes = read_files(rt, files, Some(*schedule), input)?;
+            warn(rt.alloc(), &bytes, &*files, errors);
             let mut besides = Besides::new(rt.alloc(), *extras, &*files, bytes.processors);
             let way = Way::BySchedule(&bytes.schedule);
             let ran = run(rt, &bytes, way, &*files, &mut besides.tells, output);
@@ -301,6 +311,8 @@ fn told<'a, G: AllocGlobal + Files, W: Sink, E: Sink>(
     output: &mut W,
     errors: &mut E,
 ) -> Result<bool, CommandFault<'a>>
+    requires bounds { AreInBounds files.now }
+    requires counted { 1 ≤ bytes.processors }
     ensures answer { MatchResult ran
         (λ s. IsEnded s.all_ok besides.now.file (W.account output.old) (W.account output.new) result)
         (λ fault. (W.account output.new ≡ W.account output.old) × IsErrAnd result (λ told. command_end told ≡ run_end fault)) }
@@ -362,7 +374,7 @@ fn filed<'a, G: AllocGlobal + Files>(
 }
 
 /// Flushes the output, and answers whether all is ok.
-fn flushed<W: Sink>(ok: bool, output: &mut W) -> Result<bool, CommandFault<'static>>
+pub(crate) fn flushed<W: Sink>(ok: bool, output: &mut W) -> Result<bool, CommandFault<'static>>
     ensures { IsFlushed ok (W.account output.old) (W.account output.new) result }
 {
     if output.flush().is_err() {
@@ -372,50 +384,49 @@ fn flushed<W: Sink>(ok: bool, output: &mut W) -> Result<bool, CommandFault<'stat
 }
 
 /// A fault of a run, with the word that it is of: the name of a script, where one is named, or what names no class or test; and with what
-/// mends it, where that is asked for.
+/// mends it, where that is asked for and memory is left.
 pub(crate) fn named<'a>(
     alloc: Global,
     fault: RunFault,
     bytes: InputBytes,
     files: &InputFiles<'a>,
 ) -> CommandFault<'a>
+    requires bounds { AreInBounds files.now }
+    requires counted { 1 ≤ bytes.processors }
     ensures { command_end result ≡ run_end fault }
 {
+    let text = mending(alloc, &fault, &bytes, files);
     match fault {
-        RunFault::Plan(PlanFault::NotSelected(index)) => not_selected(index, bytes, files),
+        RunFault::Plan(PlanFault::NotSelected(index)) => not_selected(index, bytes, files, text),
         RunFault::Script(index, _) => {
-            let name = files.scripts.get(index).copied();
-            let script = match bytes.scripts.get(index) {
-                Some(script) if files.explain => Some(script.as_slice()),
-                _ => None,
-            };
-            explained(alloc, fault, name, script)
+            with_mending(fault, files.scripts.get(index).copied(), text)
         }
-        _ => CommandFault::Run(fault, None),
+        _ => with_mending(fault, None, text),
     }
 }
 
-/// A fault of a script of this name, with what mends it, where the script's bytes are given and memory is left.
-pub(crate) fn explained<'a>(
-    alloc: Global,
+/// A fault of a run and the word that it is of, with what mends it, where that is known.
+pub(crate) fn with_mending<'a>(
     fault: RunFault,
-    name: Option<&'a str>,
-    script: Option<&[u8]>,
+    word: Option<&'a str>,
+    text: Option<MemorySink>,
 ) -> CommandFault<'a>
     ensures { command_end result ≡ run_end fault }
 {
-    let Some(script) = script else {
-        return CommandFault::Run(fault, name);
-    };
-    let mut text = MemorySink::new(alloc);
-    match explain_script(alloc, script, &mut text) {
-        Ok(_) => CommandFault::Explained(fault, name, text),
-        Err(_) => CommandFault::Run(fault, name),
+    match text {
+        Some(text) => CommandFault::Explained(fault, word, text),
+        None => CommandFault::Run(fault, word),
     }
 }
 
-/// The fault of a path or a pattern that names nothing, by its number among those of the words, and after them those of the file.
-fn not_selected<'a>(index: usize, bytes: InputBytes, files: &InputFiles<'a>) -> CommandFault<'a>
+/// The fault of a path or a pattern that names nothing, by its number among those of the words, and after them those of the file; with what
+/// mends it, where that is known.
+fn not_selected<'a>(
+    index: usize,
+    bytes: InputBytes,
+    files: &InputFiles<'a>,
+    text: Option<MemorySink>,
+) -> CommandFault<'a>
     ensures { command_end result ≡ Refuses }
 {
     let (only, patterns) = (files.only.len(), files.patterns.len());
@@ -429,7 +440,8 @@ fn not_selected<'a>(index: usize, bytes: InputBytes, files: &InputFiles<'a>) -> 
         Some(file) if word.is_none() => CommandFault::NotListed(
             file,
             index.saturating_sub(only + patterns),
+            text,
         ),
-        _ => CommandFault::Run(RunFault::Plan(PlanFault::NotSelected(index)), word),
+        _ => with_mending(RunFault::Plan(PlanFault::NotSelected(index)), word, text),
     }
 }

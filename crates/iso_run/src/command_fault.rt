@@ -27,8 +27,8 @@ pub(crate) enum CommandFault<'a> {
     Uncounted,
     /// The faults of a check were told; whether one of them is other than that of refused input.
     Told(bool),
-    /// The path with this number of those that this file lists, counted from 0, names no class or test.
-    NotListed(Vec<u8>, usize),
+    /// The path with this number of those that this file lists, counted from 0, names no class or test; and what mends it, where it is told.
+    NotListed(Vec<u8>, usize, Option<MemorySink>),
     /// A fault of the run, and the word that it is of: the name of a script, where one was named, or a path.
     Run(RunFault, Option<&'a str>),
     /// The same, with a text that says what mends it.
@@ -48,7 +48,7 @@ impl CommandFault<'_> {
         ensures { result ≡ exit_status (command_end self.now) }
     {
         match self {
-            CommandFault::Words(_) | CommandFault::TooLarge(_) | CommandFault::NotListed(_, _) =>
+            CommandFault::Words(_) | CommandFault::TooLarge(_) | CommandFault::NotListed(..) =>
                 WRONG_INPUT,
             CommandFault::Unreadable(_)
             | CommandFault::Unwritten

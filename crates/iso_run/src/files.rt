@@ -167,7 +167,10 @@ fn all_scripts<'a>(
 }
 
 /// How many processors are counted with: as many as is asked for, those of the machine, but no more than may be asked for, or one.
-fn counted<'a, T: Threads>(rt: &T, asked: Option<Processors>) -> Result<u32, CommandFault<'a>>
+pub(crate) fn counted<'a, T: Threads>(
+    rt: &T,
+    asked: Option<Processors>,
+) -> Result<u32, CommandFault<'a>>
     requires { IfSome asked IsWithin }
     ensures gave_up { IfErr result GaveUp }
     ensures counted { IfOk result (IsCountedAs asked) }
@@ -218,7 +221,7 @@ fn listed_in<'a>(bytes: Vec<u8>, name: &'a str) -> Result<Option<Vec<u8>>, Comma
 }
 
 /// Reads settings or a world.
-fn read_document<'a, G: AllocGlobal + Files>(
+pub(crate) fn read_document<'a, G: AllocGlobal + Files>(
     rt: &G,
     name: Option<&'a str>,
 ) -> Result<Vec<u8>, CommandFault<'a>>

@@ -24,7 +24,7 @@ impl fmt::Display for CommandFault<'_> {
                 write!(f, "jtap: {}: cannot be read", Escaped(*name))
             }
             CommandFault::TooLarge(name) => write!(f, "jtap: {}: too large", Escaped(*name)),
-            CommandFault::NotListed(file, index) => {
+            CommandFault::NotListed(file, index, _) => {
                 let path = ListedPath {
                     file,
                     index: *index,
@@ -100,7 +100,7 @@ impl fmt::Display for ListedPath<'_> {
 }
 
 /// The bytes of the path with this number of those that a file lists, none where it lists fewer.
-fn listed_at(file: &[u8], index: usize) -> &[u8] {
+pub(crate) fn listed_at(file: &[u8], index: usize) -> &[u8] {
     let mut left = index;
     for line in file.split(|byte| *byte == b'\n') {
         let path = line.strip_suffix(b"\r").unwrap_or(line);
@@ -172,7 +172,7 @@ pub(crate) fn say<E: Sink>(errors: &mut E, fault: &CommandFault<'_>) {
     }
     let mut writer = SinkWriter { sink: errors };
     let _ = fmt::Write::writeln(&mut writer, fault);
-    if let CommandFault::Explained(_, _, text) = fault {
+    if let CommandFault::Explained(_, _, text) | CommandFault::NotListed(_, _, Some(text)) = fault {
         let _ = Printer::new(errors).bytes(text.bytes());
     }
 }

@@ -1,4 +1,4 @@
-use Rattle.std.proofs.Common.{◌≢◌, None, Option, Bool, List, ℕ, subst}
+use Rattle.std.proofs.Common.{◌≢◌, ◌∙◌, None, Option, Bool, List, ℕ, subst}
 use Rattle.std.specs.Bool.{⊤}
 use Rattle.std.specs.Borrow.{Bor}
 use Rattle.iso_run.proofs.Answering.{Lacking, answered-as, run-answered, run-refused}
@@ -69,4 +69,5 @@ returns-in_ok-bytes-in-Run-clause-refused g c = λ plain.
 
 pub returns-in_ok-bytes-in-Run-clause-quiet : goal.returns-in_ok-bytes-in-Run-clause-quiet
 returns-in_ok-bytes-in-Run-clause-quiet g c = λ plain.
-    c.told-in-Run.ensures.quiet (c.run-ran.ensures.quiet (c.new-besides.ensures.unasked (subst IsPlainRun c.in-Run.is plain).1.0))
+    let asks = subst IsPlainRun c.in-Run.is plain in
+    c.told-in-Run.ensures.quiet (c.run-ran.ensures.quiet (c.new-besides.ensures.unasked asks.1.0)) ∙ c.warn-in-Run.ensures.quiet asks.0.explain
