@@ -79,6 +79,7 @@ impl Done {
             What::Closed(_) => BodyKind::AfterAll,
         }
     }
+
     /// Whether it ended well: a class's block without a fail, fault or false assumption, a test without a fail or fault.
     pub fn is_well(&self) -> bool
         ensures { result ≡ ends_well self.now.kind self.now.subject }
