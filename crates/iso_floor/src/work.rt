@@ -50,8 +50,8 @@ pub struct WorkEnd<'a, G: Ground> {
 /// Works on a floor until every node but the root is finished, or the run is stopped, and hands the seat back.
 ///
 /// The worker enters what can be entered and does its bodies, with no lock held. It meets its gate after each Enter and Shut and after each
-/// step of a body. Where there is nothing to try it waits. Where it can't go on, since memory ran out or an event was refused for good, it
-/// drops its body and stops the run. A seat to whose tray something is lent is a stranger's.
+/// step of a body, and tells it of each body's begin and end. Where there is nothing to try it waits. Where it can't go on, since memory ran
+/// out or an event was refused for good, it drops its body and stops the run. A seat to whose tray something is lent is a stranger's.
 pub fn work<'a, G: Ground, R: Wait, T: Gate>(
     rt: &R,
     alloc: Global,

@@ -1,5 +1,5 @@
 -- What an ended body came to, and what the definitions say of that.
-use Rattle.std.specs.Prelude.{◌≡◌, ◌<◌, List, [], ◌∷◌, ◌++◌, length, true}
+use Rattle.std.specs.Prelude.{◌≡◌, ◌<◌, List, [], ◌∷◌, ◌++◌, length, Bool, true, false}
 use Rattle.iso_model.specs.Alone.{after_all}
 use Rattle.iso_model.specs.Chains.{ClassHead}
 use Rattle.iso_model.specs.Openings.{Opening}
@@ -8,6 +8,8 @@ use Rattle.iso_model.specs.Verdicts.{verdict}
 use Rattle.iso_model.specs.declared.outcome.Ending.{Ending}
 use Rattle.iso_model.specs.declared.outcome.Ending.TheVariants.{Well}
 use Rattle.iso_model.specs.declared.outcome.Outcome.{Outcome}
+use Rattle.iso_model.specs.declared.outcome.Verdict.{Verdict}
+use Rattle.iso_model.specs.declared.outcome.Verdict.TheVariants.{Pass, Fail, Fault, Skipped, Blocked}
 use Rattle.iso_plan.specs.Paths.{row_at}
 use Rattle.iso_plan.specs.RowView.{tree_of}
 use Rattle.iso_lifecycle.specs.Subjects.{Subject, classes_of, enclosing, is_kind_of, opening_of, outcome_alone, own_frame, started}
@@ -40,6 +42,20 @@ pub record IsOpening (s : Subject) (o : Openings.Opened) : Type 0 where
 abbrev pub closing_ending : List ClassHead → Opening → Ending
 closing_ending [] o = Well
 closing_ending (c ∷ cs) o = (after_all c cs o).here.ending
+
+-- whether a test that came to this was done without a fail or fault: it passed or was skipped
+abbrev pub is_unfailed : Verdict → Bool
+is_unfailed Pass = true
+is_unfailed (Fail note) = false
+is_unfailed (Fault kind note) = false
+is_unfailed (Skipped note) = true
+is_unfailed (Blocked note) = false
+
+-- whether a body of a subject's node ends well: a class's block without a fail, fault or false assumption, a test without a fail or fault
+abbrev pub ends_well : BodyKind → Subject → Bool
+ends_well BeforeAll s = is_well (own_frame s).ending
+ends_well Test s = is_unfailed (outcome_of s).verdict
+ends_well AfterAll s = is_well (closing_ending (classes_of s) (opening_of s))
 
 -- an `after_all` ended as it does in the class run alone, and the class's outcome is that of its `before_all` and this `after_all`
 pub record IsClosing (s : Subject) (c : Closings.Closed) : Type 0 where

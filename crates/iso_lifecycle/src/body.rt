@@ -105,8 +105,8 @@ impl<'a> Body<'a> {
         }
     }
 
-    /// Does all steps that are left, and answers what the body came to. After each step the worker meets the gate; whoever began the body
-    /// lets it meet the gate before the first.
+    /// Does all steps that are left, and answers what the body came to. The gate is told that the body begins and, once it has ended, how.
+    /// After each step the worker meets the gate; whoever began the body lets it meet the gate before the first.
     pub fn run<T: Touch, G: Gate>(
         self,
         worker: u32,
@@ -121,8 +121,13 @@ impl<'a> Body<'a> {
         ensures values { OnOk result (IsAfterBody (subject_of self.entry) (kind_of_body self.entry) (T.content touch.old) (T.content touch.new)) }
     {
         let mut body = self;
+        gate.begins(worker, body.origin.node, body.origin.kind);
         match body.go_to_end(worker, gate, touch) {
-            Ok(()) => Ok(body.into_done()),
+            Ok(()) => {
+                let done = body.into_done();
+                gate.ends(worker, done.node(), done.kind(), done.is_well());
+                Ok(done)
+            }
             Err(error) => {
                 drop(body);
                 Err(error)

@@ -1,8 +1,10 @@
 //! What an ended body came to.
 ghost use Rattle.std.specs.Prelude.{◌≡◌};
+ghost use Rattle.iso_lifecycle.specs.Ends.{ends_well};
 
 use crate::frame::Frame;
 use crate::kind::BodyKind;
+use crate::verdict::{is_unfailed, is_well};
 use iso_model::lines::Lines;
 use iso_model::outcome::{Ending, Outcome};
 use iso_plan::plan::Plan;
@@ -75,6 +77,17 @@ impl Done {
             What::Opened(_) => BodyKind::BeforeAll,
             What::Tested(_) => BodyKind::Test,
             What::Closed(_) => BodyKind::AfterAll,
+        }
+    }
+
+    /// Whether it ended well: a class's block without a fail, fault or false assumption, a test without a fail or fault.
+    pub fn is_well(&self) -> bool
+        ensures { result ≡ ends_well self.now.kind self.now.subject }
+    {
+        match &self.what {
+            What::Opened(opened) => is_well(&opened.ending),
+            What::Tested(outcome) => is_unfailed(&outcome.verdict),
+            What::Closed(closed) => is_well(&closed.ending),
         }
     }
 }

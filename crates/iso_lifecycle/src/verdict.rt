@@ -1,8 +1,10 @@
 //! What the endings of a body's blocks come to.
 ghost use Rattle.std.specs.Prelude.{◌≡◌};
 ghost use Rattle.iso_model.specs.Bodies.{first_ending};
+ghost use Rattle.iso_model.specs.Statements.{is_well};
 ghost use Rattle.iso_model.specs.Verdicts.{verdict};
 ghost use Rattle.iso_lifecycle.specs.Combining.{or_skipped, with_first};
+ghost use Rattle.iso_lifecycle.specs.Ends.{is_unfailed};
 
 use iso_model::outcome::{Ending, Note, Verdict};
 
@@ -56,4 +58,18 @@ fn or_skipped(verdict: Verdict, note: Note) -> Verdict
         Verdict::Fail(_) | Verdict::Fault(_, _) => verdict,
         Verdict::Pass | Verdict::Skipped(_) | Verdict::Blocked(_) => Verdict::Skipped(note),
     }
+}
+
+/// Whether a block came to its end.
+pub(crate) fn is_well(ending: &Ending) -> bool
+    ensures { result ≡ is_well ending.now }
+{
+    matches!(ending, Ending::Well)
+}
+
+/// Whether a test that came to this was done without a fail or fault.
+pub(crate) fn is_unfailed(verdict: &Verdict) -> bool
+    ensures { result ≡ is_unfailed verdict.now }
+{
+    matches!(verdict, Verdict::Pass | Verdict::Skipped(_))
 }

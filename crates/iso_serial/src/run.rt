@@ -11,7 +11,7 @@ ghost use Rattle.iso_serial.specs.OpenedTrays.{IsTrayAfter};
 ghost use Rattle.iso_serial.specs.Walks.{AreDone, AtEntry, AtExit, BetweenNodes, CanPerform, GoesFurther, innermost};
 
 use iso_lifecycle::body::Body;
-use iso_lifecycle::gate::OpenGate;
+use iso_lifecycle::gate::{Gate, OpenGate};
 use iso_lifecycle::kind::BodyKind;
 use iso_lifecycle::results::Results;
 use iso_locks::tray::Tray;
@@ -29,7 +29,26 @@ pub fn run<'a>(alloc: Global, plan: &'a Plan, world: &'a World) -> Result<Result
     ensures start { IfOk result (λ r. r.start ≡ world.now) }
     ensures complete { IfOk result (λ r. AreComplete r) }
 {
-    let serial = Serial { alloc, plan, world };
+    run_at(alloc, plan, world, &OpenGate)
+}
+
+/// The same run at a gate, which is told of each body and met before its first step and after each, as by worker 0.
+pub fn run_at<'a, G: Gate>(
+    alloc: Global,
+    plan: &'a Plan,
+    world: &'a World,
+    gate: &G,
+) -> Result<Results<'a>, AllocError>
+    ensures plan { IfOk result (λ r. r.plan ≡ plan.now) }
+    ensures start { IfOk result (λ r. r.start ≡ world.now) }
+    ensures complete { IfOk result (λ r. AreComplete r) }
+{
+    let serial = Serial {
+        alloc,
+        plan,
+        world,
+        gate,
+    };
     let walk = serial.to_end()?;
     Ok(walk.results)
 }
@@ -37,12 +56,13 @@ pub fn run<'a>(alloc: Global, plan: &'a Plan, world: &'a World) -> Result<Result
 /// The number of the one worker.
 const WORKER: u32 = 0;
 
-/// What is run: a plan, over the starting values of a world.
+/// What is run: a plan, over the starting values of a world, at a gate.
 #[derive(Clone, Copy)]
-pub struct Serial<'a> {
+pub struct Serial<'g, 'a, G> {
     pub alloc: Global,
     pub plan: &'a Plan,
     pub world: &'a World,
+    pub gate: &'g G,
 }
 
 /// How far a run is: where the values are, and the results so far. After want of memory it is only dropped.
@@ -53,7 +73,7 @@ pub struct Walk<'a> {
     pub results: Results<'a>,
 }
 
-impl<'a> Serial<'a> {
+impl<'g, 'a, G: Gate> Serial<'g, 'a, G> {
     /// A run before its first node: every value is home, nothing is lent, and nothing has a result.
     pub fn begin(&self) -> Result<Walk<'a>, AllocError>
         ensures vault { IfOk result (λ w. w.vault ≡ whole_vault self.now.plan.now self.now.world.now) }
@@ -181,7 +201,8 @@ impl<'a> Serial<'a> {
         self.perform(walk, node, BodyKind::AfterAll)
     }
 
-    /// Runs a body of a node, with the frames of the classes around it, and puts what it came to.
+    /// Runs a body of a node, with the frames of the classes around it, and puts what it came to. The worker meets its gate before the
+    /// first step and after each.
     fn perform(&self, walk: &mut Walk<'a>, node: u32, kind: BodyKind) -> Result<(), AllocError>
         requires { CanPerform self.now.plan.now self.now.world.now kind node walk.old }
         ensures vault { walk.new.vault ≡ walk.old.vault }
@@ -193,7 +214,8 @@ impl<'a> Serial<'a> {
         let frames = walk.tray.frames();
         let start = Snapshot::of(self.world);
         let body = Body::begin(self.alloc, self.plan, node, kind, frames, start)?;
-        let done = body.run(WORKER, &OpenGate, &mut walk.tray)?;
+        self.gate.at_body(WORKER, node);
+        let done = body.run(WORKER, self.gate, &mut walk.tray)?;
         walk.results.put(done);
         Ok(())
     }

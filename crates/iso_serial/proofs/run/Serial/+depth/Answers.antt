@@ -14,7 +14,7 @@ use Rattle.iso_serial.proofs.run.Serial.+depth.Goals as goal
 use Rattle.iso_serial.proofs.run.Serial.+depth.Goals.{children-then-is_none+in_ok-node, children-else-is_none}
 
 pub children-get-requires : goal.children-get-requires
-children-get-requires t c =
+children-get-requires g t c =
     let plan : Planned = c.args.self.now.plan.now in
     let child = child-at plan c.args.self.now.world.now c.args.class c.children.child-index c.children-child-items.result.now c.children-child-items.ensures c.children-test.true in
     let w = child.within in
@@ -22,7 +22,7 @@ children-get-requires t c =
     omega arith
 
 pub children-node-requires : goal.children-node-requires
-children-node-requires t c =
+children-node-requires g t c κs inside =
     let plan : Planned = c.args.self.now.plan.now in
     let world : Start = c.args.self.now.world.now in
     let child = child-at plan world c.args.class c.children.child-index c.children-child-items.result.now c.children-child-items.ensures c.children-test.true in
@@ -34,19 +34,22 @@ children-node-requires t c =
     let v = c.children.walk.results in (
       omega (arith, c.decreases, less, within),
       (
-        child.positive,
+        inside,
         (
-          within,
+          child.positive,
           (
-            subst (λ (j : ℕ). BetweenNodes plan world j c.children.walk) (sym child.parent_is) c.children.invariant.between,
-            waits-by outcome_of_view c.get.result (has_result v n) (outcome_in v n) c.get.ensures c.if-is_none.ensures,
+            within,
+            (
+              subst (λ (j : ℕ). BetweenNodes plan world j c.children.walk) (sym child.parent_is) c.children.invariant.between,
+              waits-by outcome_of_view c.get.result (has_result v n) (outcome_in v n) c.get.ensures c.if-is_none.ensures,
+            ),
           ),
         ),
       ),
     )
 
 pub children-children-preserved : goal.children-children-preserved
-children-children-preserved t c =
+children-children-preserved g t c =
     let plan : Planned = c.args.self.now.plan.now in
     let world : Start = c.args.self.now.world.now in
     let items = c.children-child-items.result.now in
@@ -79,44 +82,47 @@ children-children-preserved t c =
     }
 
 pub class-returns-clause-further : goal.class-returns-clause-further
-class-returns-clause-further t c =
+class-returns-clause-further g t c =
     on-one c.close.result c.close.ensures.further
     (λ last. further-on c.args.walk.now c.open.new.walk c.close.new.walk c.in_ok-open.ensures.further (further-on c.open.new.walk c.children.new.walk c.close.new.walk c.in_ok-children.ensures.further last))
 
 pub node-lend-requires : goal.node-lend-requires
-node-lend-requires t c = may-lend c.args.self.now.plan.now c.args.self.now.world.now c.args.node c.args.walk.now c.requires.positive c.requires.within c.requires.between c.requires.waits
+node-lend-requires g t c = may-lend c.args.self.now.plan.now c.args.self.now.world.now c.args.node c.args.walk.now c.requires.positive c.requires.within c.requires.between c.requires.waits
 
 pub node-unwrap-requires : goal.node-unwrap-requires
-node-unwrap-requires t c =
+node-unwrap-requires g t c =
     let none = lends c.args.self.now.plan.now c.args.self.now.world.now c.args.node c.args.walk.now c.requires.positive c.requires.within c.requires.between c.requires.waits in
     ok-by c.lend.result (busy c.args.walk.now.vault c.args.node) (λ _. busy c.args.walk.now.vault c.args.node ≡ None) (λ b. b.node) c.lend.ensures.busy none
 
 pub node-bodies-requires : goal.node-bodies-requires
-node-bodies-requires t c = (
+node-bodies-requires g t c κs inside = (
   omega (arith, c.decreases),
-  entry c.args.self.now.plan.now c.args.self.now.world.now c.args.node c.args.walk.now c.requires.positive c.requires.within c.requires.between c.requires.waits c.lend.new.self c.lend.new.tray
-      (on-ok-is c.lend.result c.unwrap.result c.unwrap.ensures c.lend.ensures.vault) (on-ok-is c.lend.result c.unwrap.result c.unwrap.ensures c.lend.ensures.tray),
+  (
+    inside,
+    entry c.args.self.now.plan.now c.args.self.now.world.now c.args.node c.args.walk.now c.requires.positive c.requires.within c.requires.between c.requires.waits c.lend.new.self c.lend.new.tray
+        (on-ok-is c.lend.result c.unwrap.result c.unwrap.ensures c.lend.ensures.vault) (on-ok-is c.lend.result c.unwrap.result c.unwrap.ensures c.lend.ensures.tray),
+  ),
 )
 
 pub node-undo-requires : goal.node-undo-requires
-node-undo-requires t c =
+node-undo-requires g t c =
     let lent = on-ok-is c.lend.result c.unwrap.result c.unwrap.ensures c.lend.ensures.tray in
     may-undo c.args.self.now.plan.now c.args.self.now.world.now c.args.node c.args.walk.now c.requires.positive c.requires.within c.requires.between c.requires.waits c.lend.new.self c.lend.new.tray c.in_ok-mark.mark c.bodies.new.walk lent c.in_ok-mark.ensures c.in_ok-bodies.ensures.exit c.in_ok-bodies.ensures.further
 
 pub node-take_back-requires : goal.node-take_back-requires
-node-take_back-requires t c =
+node-take_back-requires g t c =
     let lent = on-ok-is c.lend.result c.unwrap.result c.unwrap.ensures c.lend.ensures.tray in
     may-take c.args.self.now.plan.now c.args.self.now.world.now c.args.node c.args.walk.now c.requires.positive c.requires.within c.requires.between c.requires.waits c.lend.new.self c.lend.new.tray c.in_ok-mark.mark c.bodies.new.walk lent c.in_ok-mark.ensures c.in_ok-bodies.ensures.exit c.in_ok-bodies.ensures.further
     c.undo.new.self c.undo.ensures
 
 pub node-returns-clause-between : goal.node-returns-clause-between
-node-returns-clause-between t c =
+node-returns-clause-between g t c =
     let lent = on-ok-is c.lend.result c.unwrap.result c.unwrap.ensures c.lend.ensures.tray in
     left-stands c.args.self.now.plan.now c.args.self.now.world.now c.args.node c.args.walk.now c.requires.positive c.requires.within c.requires.between c.requires.waits c.lend.new.self c.lend.new.tray c.in_ok-mark.mark c.bodies.new.walk lent c.in_ok-mark.ensures c.in_ok-bodies.ensures.exit c.in_ok-bodies.ensures.further
     c.take_back.new.self c.undo.new.self c.take_back.new.tray c.take_back.ensures.vault c.undo.ensures c.take_back.ensures.tray
 
 pub node-returns-clause-vault : goal.node-returns-clause-vault
-node-returns-clause-vault t c =
+node-returns-clause-vault g t c =
     let plan : Planned = c.args.self.now.plan.now in
     let world : Start = c.args.self.now.world.now in
     let lent = on-ok-is c.lend.result c.unwrap.result c.unwrap.ensures c.lend.ensures.tray in
@@ -125,7 +131,7 @@ node-returns-clause-vault t c =
     same-vault plan world (parent (tree_of plan) c.args.node) c.take_back.new.self c.args.walk.now.vault between.vault c.requires.between.vault
 
 pub node-returns-clause-further : goal.node-returns-clause-further
-node-returns-clause-further t c =
+node-returns-clause-further g t c =
     let lent = on-ok-is c.lend.result c.unwrap.result c.unwrap.ensures c.lend.ensures.tray in
     left-further c.args.self.now.plan.now c.args.self.now.world.now c.args.node c.args.walk.now c.requires.positive c.requires.within c.requires.between c.requires.waits c.lend.new.self c.lend.new.tray c.in_ok-mark.mark c.bodies.new.walk lent c.in_ok-mark.ensures c.in_ok-bodies.ensures.exit c.in_ok-bodies.ensures.further
     c.take_back.new.self c.undo.new.self c.take_back.new.tray c.undo.ensures c.take_back.ensures.tray

@@ -18,22 +18,22 @@ use Rattle.iso_serial.specs.Walks.{innermost}
 use Rattle.iso_serial.proofs.run.Serial.perform.Goals as goal
 
 pub hand_path-requires-clause-plan : goal.hand_path-requires-clause-plan
-hand_path-requires-clause-plan c = sym c.requires.put.plan ∙ sym c.requires.tray
+hand_path-requires-clause-plan g c = sym c.requires.put.plan ∙ sym c.requires.tray
 
 pub hand_path-requires-clause-node : goal.hand_path-requires-clause-node
-hand_path-requires-clause-node c = subst (λ (p : Planned). c.innermost-class.result < length p.rows) (sym c.requires.tray) c.innermost-class.ensures.within
+hand_path-requires-clause-node g c = subst (λ (p : Planned). c.innermost-class.result < length p.rows) (sym c.requires.tray) c.innermost-class.ensures.within
 
 pub hand_path-requires-clause-class : goal.hand_path-requires-clause-class
-hand_path-requires-clause-class c = ap (λ (p : Planned). is_test (row_at (tree_of p) c.innermost-class.result).kind) c.requires.tray ∙ c.innermost-class.ensures.class
+hand_path-requires-clause-class g c = ap (λ (p : Planned). is_test (row_at (tree_of p) c.innermost-class.result).kind) c.requires.tray ∙ c.innermost-class.ensures.class
 
 pub hand_path-requires-clause-opened : goal.hand_path-requires-clause-opened
-hand_path-requires-clause-opened c =
+hand_path-requires-clause-opened g c =
     let results = c.args.walk.now.results in
     let here = subst (λ (n : ℕ). AreOpened results (path (tree_of c.args.self.now.plan.now) n)) (sym c.innermost-class.ensures.is) c.requires.opened in
     subst (λ (p : Planned). AreOpened results (path (tree_of p) c.innermost-class.result)) (sym c.requires.tray) here
 
 pub begin-requires : goal.begin-requires
-begin-requires c =
+begin-requires g c =
     let plan = c.args.self.now.plan.now in
     let world = c.args.self.now.world.now in
     let n = c.args.node in
@@ -44,7 +44,7 @@ begin-requires c =
     subst (λ (w : Start). CanBegin (subject plan w n) k c.frames-frames.result.now) (sym c.of-start.ensures) here
 
 pub run-requires-clause-keys : goal.run-requires-clause-keys
-run-requires-clause-keys c =
+run-requires-clause-keys g c =
     let plan = c.args.self.now.plan.now in
     let n = c.args.node in
     let is_of : subject_of c.in_ok-body.body ≡ subject plan c.args.self.now.world.now n = c.in_ok-body.ensures.subject ∙ ap (λ (w : Start). subject plan w n) c.of-start.ensures in
@@ -52,7 +52,7 @@ run-requires-clause-keys c =
     subst (λ (t : TrayView). HasKeys (rights_of_subject (subject_of c.in_ok-body.body)) (content t) (has_value t)) (sym c.in_ok-hand_path.ensures.ok) here
 
 pub run-requires-clause-stands : goal.run-requires-clause-stands
-run-requires-clause-stands c =
+run-requires-clause-stands g c =
     let plan = c.args.self.now.plan.now in
     let n = c.args.node in
     let k = c.args.kind in
@@ -68,21 +68,21 @@ done-is : (d : DoneView) (s : Subject) (k : BodyKind) → d.subject ≡ s → d.
 done-is d s k of kind i = record { subject = of i; kind = kind i }
 
 pub put-requires : goal.put-requires
-put-requires c =
+put-requires g c =
     let s = subject c.args.self.now.plan.now c.args.self.now.world.now c.args.node in
     let started = ap (λ (w : Start). subject c.args.self.now.plan.now w c.args.node) c.of-start.ensures in
     let is = done-is c.in_ok-done.done s c.args.kind (c.in_ok-done.ensures.subject ∙ c.in_ok-body.ensures.subject ∙ started) (c.in_ok-done.ensures.kind ∙ c.in_ok-body.ensures.kind) in
     subst (λ (d : DoneView). CanPut d c.args.walk.now.results) (sym is) c.requires.put
 
 pub returns-clause-results : goal.returns-clause-results
-returns-clause-results c =
+returns-clause-results g c =
     let s = subject c.args.self.now.plan.now c.args.self.now.world.now c.args.node in
     let started = ap (λ (w : Start). subject c.args.self.now.plan.now w c.args.node) c.of-start.ensures in
     let is = done-is c.in_ok-done.done s c.args.kind (c.in_ok-done.ensures.subject ∙ c.in_ok-body.ensures.subject ∙ started) (c.in_ok-done.ensures.kind ∙ c.in_ok-body.ensures.kind) in
     c.put.ensures ∙ ap (λ (d : DoneView). with_done d c.args.walk.now.results) is
 
 pub returns-clause-values : goal.returns-clause-values
-returns-clause-values c =
+returns-clause-values g c =
     let plan = c.args.self.now.plan.now in
     let world = c.args.self.now.world.now in
     let n = c.args.node in

@@ -2,13 +2,13 @@ use Rattle.iso_serial.proofs.NodeLemmas.{last-complete, root-empty, root-lent, r
 use Rattle.iso_serial.proofs.run.Serial.to_end.Goals as goal
 
 pub returns-clause-vault : goal.returns-clause-vault
-returns-clause-vault c = root-whole c.args.self.now.plan.now c.args.self.now.world.now c.children.new.walk c.in_ok-children.ensures.between
+returns-clause-vault g c = root-whole c.args.self.now.plan.now c.args.self.now.world.now c.children.new.walk c.in_ok-children.ensures.between
 
 pub returns-clause-lent : goal.returns-clause-lent
-returns-clause-lent c = root-lent c.args.self.now.plan.now c.args.self.now.world.now c.children.new.walk c.in_ok-children.ensures.between
+returns-clause-lent g c = root-lent c.args.self.now.plan.now c.args.self.now.world.now c.children.new.walk c.in_ok-children.ensures.between
 
 pub returns-clause-empty : goal.returns-clause-empty
-returns-clause-empty c = root-empty c.args.self.now.plan.now c.args.self.now.world.now c.children.new.walk c.in_ok-children.ensures.between
+returns-clause-empty g c = root-empty c.args.self.now.plan.now c.args.self.now.world.now c.children.new.walk c.in_ok-children.ensures.between
 
 pub returns-clause-complete : goal.returns-clause-complete
-returns-clause-complete c = last-complete c.args.self.now.plan.now c.args.self.now.world.now c.children.new.walk c.in_ok-children.ensures.between c.in_ok-children.ensures.done
+returns-clause-complete g c = last-complete c.args.self.now.plan.now c.args.self.now.world.now c.children.new.walk c.in_ok-children.ensures.between c.in_ok-children.ensures.done

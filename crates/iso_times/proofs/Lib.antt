@@ -1,0 +1,3 @@
+pub mod FirstBegins
+pub mod Sharing
+pub mod Places
