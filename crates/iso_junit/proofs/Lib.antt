@@ -1,4 +1,5 @@
 pub mod AllowedLemmas
+pub mod CountLemmas
 pub mod EscapeLemmas
 pub mod FileLemmas
 pub mod OutputLemmas
