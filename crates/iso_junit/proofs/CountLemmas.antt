@@ -24,7 +24,7 @@ filter_if : (q : ℕ → Bool) (n : ℕ) (ns : List ℕ) (s : Bool) → filter q
 filter_if q n ns true = filter-append q ns (n ∷ [])
 filter_if q n ns false = refl
 
-filter-those : (p q : ℕ → Bool) (n : ℕ) → filter q (those_below p n) ≡ those_below (λ m. p m && q m) n
+pub filter-those : (p q : ℕ → Bool) (n : ℕ) → filter q (those_below p n) ≡ those_below (λ m. p m && q m) n
 filter-those p q zero = refl
 filter-those p q (suc n) =
     filter_if q n (those_below p n) (p n)

@@ -6,4 +6,5 @@ pub mod OutputLemmas
 pub mod PathLemmas
 pub mod ReaderLemmas
 pub mod SuiteLemmas
+pub mod SumLemmas
 pub mod TallyLemmas

@@ -77,7 +77,7 @@ fn head<'x, W: Sink>(
 /// The name of a testcase.
 fn case_name(plan: &Plan, node: u32) -> &str
     requires { node < length plan.now.rows }
-    ensures { result.now ≡ cond (is_test (row_at (tree_of plan.now) node).kind) (row_at (tree_of plan.now) node).name (codes "class") }
+    ensures { let row = row_at (tree_of plan.now) node in result.now ≡ cond (is_test row.kind) row.name (codes "class") }
 {
     if plan.is_test(node) {
         plan.name(node)
