@@ -1,0 +1,5 @@
+pub mod Commands
+pub mod Errors
+pub mod Examples
+pub mod Parts
+pub mod Readers

@@ -1,0 +1,10 @@
+pub mod AllowedLemmas
+pub mod CountLemmas
+pub mod EscapeLemmas
+pub mod FileLemmas
+pub mod OutputLemmas
+pub mod PathLemmas
+pub mod ReaderLemmas
+pub mod SuiteLemmas
+pub mod SumLemmas
+pub mod TallyLemmas

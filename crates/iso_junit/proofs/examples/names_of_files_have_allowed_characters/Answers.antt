@@ -1,0 +1,18 @@
+use Rattle.std.proofs.Common.{refl}
+use Rattle.iso_plan.specs.Paths.{path}
+use Rattle.std.specs.Char.{encode_utf8}
+use Rattle.std.specs.Fmt.{digits}
+use Rattle.std.specs.Str.{chars}
+use Rattle.iso_junit.proofs.examples.names_of_files_have_allowed_characters.Goals as goal
+
+pub returns-clause-control : goal.returns-clause-control
+unfolding digits chars encode_utf8 path
+returns-clause-control c = refl
+
+pub returns-clause-none : goal.returns-clause-none
+unfolding digits chars encode_utf8 path
+returns-clause-none c = refl
+
+pub returns-clause-as_they_are : goal.returns-clause-as_they_are
+unfolding digits chars encode_utf8 path
+returns-clause-as_they_are c = refl

@@ -1,0 +1,13 @@
+pub mod Cases
+pub mod Documents
+pub mod Elements
+pub mod Escapes
+pub mod Examples
+pub mod Files
+pub mod Parts
+pub mod Readers
+pub mod Runs
+pub mod Tallies
+pub mod TallySteps
+pub mod Texts
+pub mod Times
