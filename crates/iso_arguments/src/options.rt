@@ -65,14 +65,14 @@ static SUMMARIZED: &[&str] = &["all"];
 static FAILED: &str = "Write the paths of failed classes and tests to
 FILE, one a line, for `--only-from`";
 
-static JUNIT: &str = "Write the results to FILE as JUnit's XML, for what
-shows tests in CI";
+static JUNIT: &str = "Write the results to FILE as JUnit's XML, which
+Jenkins and GitLab show";
 
-static GITHUB: &str = "Mark on standard error where tests failed, as
-GitHub Actions shows it beside the lines";
+static GITHUB: &str = "Tell GitHub Actions, on standard error, at which
+lines classes and tests failed";
 
-static DURATIONS: &str = "Tell on standard error which N tests and classes
-were slowest; with 0 how long each took";
+static DURATIONS: &str = "Tell on standard error the N slowest classes and
+tests, with their times; with 0 all";
 
 /// The whole command line. The words begin with the subcommand's name.
 pub(crate) fn command_line<'a>(alloc: Global) -> Result<Command<'a>, AllocError> {
