@@ -47,7 +47,8 @@ pub record NamesNothing (files : InputFiles) : Type 0 where
 
 -- nothing is asked for besides the report
 abbrev pub AsksForNoMore : Extras → Type 0
-AsksForNoMore extras = (extras.summary ≡ None) × (extras.failed ≡ None)
+AsksForNoMore extras =
+    (extras.summary ≡ None) × (extras.failed ≡ None) × (extras.junit ≡ None) × (extras.github ≡ false) × (extras.durations ≡ None)
 
 -- a run of all of one script from standard input, without settings or world, without a number of processors, and nothing besides its report
 abbrev pub IsPlainRun : Request → Type 0

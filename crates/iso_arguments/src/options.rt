@@ -65,6 +65,15 @@ static SUMMARIZED: &[&str] = &["all"];
 static FAILED: &str = "Write the paths of failed classes and tests to
 FILE, one a line, for `--only-from`";
 
+static JUNIT: &str = "Write the results to FILE as JUnit's XML, which
+Jenkins and GitLab show";
+
+static GITHUB: &str = "Tell GitHub Actions, on standard error, at which
+lines classes and tests failed";
+
+static DURATIONS: &str = "Tell on standard error the N slowest classes and
+tests, with their times; with 0 all";
+
 /// The whole command line. The words begin with the subcommand's name.
 pub(crate) fn command_line<'a>(alloc: Global) -> Result<Command<'a>, AllocError> {
     let command = with_subcommand(first_page(alloc), run(alloc));
@@ -97,7 +106,8 @@ fn with_subcommand<'a>(
 fn run<'a>(alloc: Global) -> Result<Command<'a>, AllocError> {
     let about = "Run scripts, and write their report in TAP 14 to standard output";
     let command = subcommand(alloc, "run", about, RUN_END);
-    with_extras(alloc, with_inputs(alloc, command.arg(serial(alloc))))
+    let command = with_inputs(alloc, command.arg(serial(alloc)));
+    with_extras(alloc, command)?.arg(durations(alloc))
 }
 
 /// The subcommand that prints the plan.
@@ -142,7 +152,9 @@ fn with_extras<'a>(
 ) -> Result<Command<'a>, AllocError> {
     command?
         .arg(summary(alloc))?
-        .arg(file(alloc, "failed", FAILED))
+        .arg(file(alloc, "failed", FAILED))?
+        .arg(file(alloc, "junit", JUNIT))?
+        .arg(github(alloc))
 }
 
 /// A command with the options for what it reads, if it could be made.
@@ -196,6 +208,20 @@ fn summary<'a>(alloc: Global) -> Arg<'a> {
         .value_parser(SUMMARIZED)
         .hide_possible_values(true)
         .help(SUMMARY)
+}
+
+fn github<'a>(alloc: Global) -> Arg<'a> {
+    Arg::new(alloc, "github")
+        .long("github")
+        .action(ArgAction::SetTrue)
+        .help(GITHUB)
+}
+
+fn durations<'a>(alloc: Global) -> Arg<'a> {
+    Arg::new(alloc, "durations")
+        .long("durations")
+        .value_name("N")
+        .help(DURATIONS)
 }
 
 fn settings<'a>(alloc: Global) -> Arg<'a> {

@@ -1,11 +1,13 @@
 //! What the words of a command line ask for.
 ghost use Rattle.std.specs.Prelude.{◌≡◌, [], None, IfOk, IfSome, IsOkAnd, drop, false};
 ghost use Rattle.std.specs.Vec.Iter.{into_iter_items};
-ghost use Rattle.iso_arguments.specs.Requests.{AsksInBounds, AreInBounds, IsPlainRun, IsShard, IsWithin};
+ghost use Rattle.iso_arguments.specs.Requests.{AsksForNoMore, AsksInBounds, AreInBounds, IsPlainRun, IsShard, IsWithin};
 
+use crate::number::read_number;
 use crate::options::command_line;
 use crate::processors::{Processors, read_processors};
 use crate::shard::{Shard, read_shard};
+use crate::written::{Written, check_written};
 use clap::error::ErrorKind;
 use clap::{ArgMatches, Error};
 use std::alloc::{AllocError, AllocFailed, AllocGlobal, Global};
@@ -15,12 +17,6 @@ use std::io;
 /// What is said where standard input would be the list of paths and the script.
 static LIST_WITHOUT_SCRIPT: &str =
     "error: '--only-from -' reads the paths from standard input, so a SCRIPT has to be named
-
-For more information, try '--help'.
-";
-
-/// What is said where standard output would be the file of the paths of what failed.
-static NO_FILE: &str = "error: invalid value '-' for '--failed <FILE>': a file is wanted
 
 For more information, try '--help'.
 ";
@@ -86,16 +82,25 @@ pub struct Extras<'a> {
     pub summary: Option<Summarized>,
     /// The file into which the paths of the failed classes and tests are written, one a line.
     pub failed: Option<&'a str>,
+    /// The file into which the results are written as JUnit's XML.
+    pub junit: Option<&'a str>,
+    /// Whether standard error has a line for GitHub Actions of each that failed.
+    pub github: bool,
+    /// How many of the slowest classes and tests are told on standard error; 0 for all.
+    pub durations: Option<u32>,
 }
 
 impl Extras<'_> {
     /// Nothing.
     pub fn none() -> Self
-        ensures { (result.summary ≡ None) × (result.failed ≡ None) }
+        ensures { AsksForNoMore result }
     {
         Extras {
             summary: None,
             failed: None,
+            junit: None,
+            github: false,
+            durations: None,
         }
     }
 }
@@ -283,8 +288,7 @@ fn requested<'a>(alloc: Global, matches: &ArgMatches<'a>) -> Result<Request<'a>,
     })
 }
 
-/// What is asked for besides the report. A file that would be written must not be one that is read, but for that of the paths, which is
-/// read before.
+/// What is asked for besides the report.
 fn extras_of<'a>(
     alloc: Global,
     found: &ArgMatches<'a>,
@@ -292,17 +296,27 @@ fn extras_of<'a>(
     files: &InputFiles<'a>,
 ) -> Result<Extras<'a>, WordsFault> {
     let failed = found.get_str("failed");
-    if let Some(name) = failed {
-        if name == "-" {
-            return Err(WordsFault::Wrong(String::from_str(alloc, NO_FILE)?));
-        }
-        if is_read(name, schedule, files) {
-            return Err(WordsFault::Wrong(read_too(alloc, name)?));
-        }
-    }
+    let junit = found.get_str("junit");
+    let written = [
+        Written {
+            option: "--failed <FILE>",
+            file: failed,
+            may_be_list: true,
+        },
+        Written {
+            option: "--junit <FILE>",
+            file: junit,
+            may_be_list: false,
+        },
+    ];
+    check_written(alloc, &written, schedule, files)?;
+    let durations = durations_of(alloc, found)?;
     Ok(Extras {
         summary: summary_of(found),
         failed,
+        junit,
+        github: found.get_flag("github"),
+        durations,
     })
 }
 
@@ -317,24 +331,20 @@ fn summary_of(found: &ArgMatches<'_>) -> Option<Summarized> {
     })
 }
 
-/// Whether a word names a script, the settings, the world or the schedule.
-fn is_read(name: &str, schedule: Option<&str>, files: &InputFiles<'_>) -> bool {
-    let named = Some(name);
-    named == files.settings
-        || named == files.world
-        || named == schedule
-        || files.scripts.contains(&name)
-}
-
-/// What is said of a file that would be written and is read.
-fn read_too(alloc: Global, name: &str) -> Result<String, AllocError> {
-    let name = name.replace(alloc, '\n', "\\n")?;
-    format!(in alloc;
-        "error: invalid value '{name}' for '--failed <FILE>': this file is read
-
-For more information, try '--help'.
-"
-    )
+/// How many of the slowest are told, if it is asked for. What is no number is a wrong word.
+fn durations_of(alloc: Global, found: &ArgMatches<'_>) -> Result<Option<u32>, WordsFault> {
+    let Some(word) = found.get_str("durations") else {
+        return Ok(None);
+    };
+    match read_number(word) {
+        Some(number) => Ok(Some(number)),
+        None => Err(WordsFault::Wrong(invalid_value(
+            alloc,
+            word,
+            "--durations <N>",
+            "0 to 4294967295 is wanted",
+        )?)),
+    }
 }
 
 /// The files and paths that a subcommand names.
@@ -374,19 +384,13 @@ fn processors_of(alloc: Global, found: &ArgMatches<'_>) -> Result<Option<Process
     };
     match read_processors(word) {
         Some(asked) => Ok(Some(asked)),
-        None => Err(WordsFault::Wrong(no_processors(alloc, word)?)),
+        None => Err(WordsFault::Wrong(invalid_value(
+            alloc,
+            word,
+            "--processors <N>",
+            "1 to 1024 or `auto` is wanted",
+        )?)),
     }
-}
-
-/// What is said of a word that is no number of processors, as `clap` says it of other values.
-fn no_processors(alloc: Global, word: &str) -> Result<String, AllocError> {
-    let word = word.replace(alloc, '\n', "\\n")?;
-    format!(in alloc;
-        "error: invalid value '{word}' for '--processors <N>': 1 to 1024 or `auto` is wanted
-
-For more information, try '--help'.
-"
-    )
 }
 
 /// The shard that is asked for, if one is. One that there can't be is a wrong word.
@@ -398,15 +402,25 @@ fn shard_of(alloc: Global, found: &ArgMatches<'_>) -> Result<Option<Shard>, Word
     };
     match read_shard(word) {
         Some(shard) => Ok(Some(shard)),
-        None => Err(WordsFault::Wrong(no_shard(alloc, word)?)),
+        None => Err(WordsFault::Wrong(invalid_value(
+            alloc,
+            word,
+            "--shard <I/K>",
+            "two numbers are wanted, 1 <= I <= K <= 4095",
+        )?)),
     }
 }
 
-/// What is said of a word that is no shard, as `clap` says it of other values.
-fn no_shard(alloc: Global, word: &str) -> Result<String, AllocError> {
-    let word = word.replace(alloc, '\n', "\\n")?;
+/// What is said of a value that an option doesn't take, as `clap` says it of others.
+pub(crate) fn invalid_value(
+    alloc: Global,
+    value: &str,
+    option: &str,
+    why: &str,
+) -> Result<String, AllocError> {
+    let value = value.replace(alloc, '\n', "\\n")?;
     format!(in alloc;
-        "error: invalid value '{word}' for '--shard <I/K>': two numbers are wanted, 1 <= I <= K <= 4095
+        "error: invalid value '{value}' for '{option}': {why}
 
 For more information, try '--help'.
 "

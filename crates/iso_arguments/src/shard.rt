@@ -2,6 +2,8 @@
 ghost use Rattle.std.specs.Prelude.{◌≤◌, IfSome};
 ghost use Rattle.iso_arguments.specs.Requests.{IsShard};
 
+use crate::number::read_number;
+
 /// The largest number of shards: a plan has no more top-level classes.
 const MOST: u32 = 4095;
 
@@ -17,7 +19,7 @@ pub(crate) fn read_shard(word: &str) -> Option<Shard>
     ensures bounds { IsShard result }
 {
     let (number, of) = word.split_once('/')?;
-    let (number, of) = (read_number(number)?, read_number(of)?);
+    let (number, of) = (read_part(number)?, read_part(of)?);
     if number > of {
         return None;
     }
@@ -25,13 +27,10 @@ pub(crate) fn read_shard(word: &str) -> Option<Shard>
 }
 
 /// A number from 1 to the largest one, of digits alone.
-fn read_number(word: &str) -> Option<u32>
+fn read_part(word: &str) -> Option<u32>
     ensures bounds { IfSome result (λ n. (1 ≤ n) × (n ≤ 4095)) }
 {
-    if !word.bytes().all(|byte| byte.is_ascii_digit()) {
-        return None;
-    }
-    let number = word.parse::<u32>().ok()?;
+    let number = read_number(word)?;
     if number == 0 || number > MOST {
         return None;
     }
