@@ -1,9 +1,11 @@
 -- Places in the bytes of a script.
-use Rattle.std.specs.Prelude.{ℕ, zero, suc, ◌+◌, ◌-◌, List, [], ◌∷◌, ◌==◌, cond, drop, not, take}
+use Rattle.std.specs.Prelude.{◌≡◌, ℕ, zero, suc, ◌+◌, ◌-◌, List, [], ◌∷◌, ◌==◌, cond, drop, not, take}
 use Rattle.std.specs.List.{prefix_len}
 use Rattle.std.specs.Str.Lines.{strip_carriage_return}
-use Rattle.iso_hints.specs.Places.{PlaceView, place_at}
+use Rattle.iso_hints.specs.Places.{PlaceView, place_at, view_of}
+use Rattle.iso_hints.specs.declared.place.Place.{Place}
 use Rattle.iso_script_statements.specs.declared.fault.ScriptFault.{ScriptFault}
+use Rattle.iso_explain.specs.declared.spot.Spot.{Spot}
 
 -- how many bytes so many lines have from here on, with their line feeds: all, where there are fewer lines
 abbrev pub lines_bytes : ℕ → List ℕ → ℕ
@@ -30,3 +32,12 @@ offset_of bytes line column = start_of bytes line + (column - 1)
 -- the place of a fault, with what stands before it
 abbrev pub place_at_fault : List ℕ → ScriptFault → PlaceView
 place_at_fault bytes fault = place_at bytes (offset_of bytes fault.line fault.column)
+
+-- the code's place is that of a fault of these bytes
+abbrev pub IsPlaceOf : Place → List ℕ → ScriptFault → Type 0
+IsPlaceOf place bytes fault = view_of place ≡ place_at_fault bytes fault
+
+-- the code's spot is that of a fault of these bytes: it has its line and its place
+pub record IsSpotOf (spot : Spot) (bytes : List ℕ) (fault : ScriptFault) : Type 0 where
+  pub line : spot.line.now ≡ line_of bytes fault.line
+  pub place : IsPlaceOf spot.place bytes fault

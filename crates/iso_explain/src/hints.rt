@@ -1,37 +1,45 @@
 //! What mends a fault: by rules, by the table of hints, and by how forms are written.
-ghost use Rattle.std.specs.Prelude.{◌≡◌, map, option_map};
+ghost use Rattle.std.specs.Prelude.{◌≡◌, ℕ, List, map, option_map};
 ghost use Rattle.iso_explain.specs.Rules.{rule_of};
 ghost use Rattle.iso_explain.specs.Mending.{form_of, form_or_none, has_form, hint_of, is_joint, is_unfit, other_of, table_hint, tells_hint, told_by, told_of};
+ghost use Rattle.iso_explain.specs.Spots.{IsPlaceOf};
 
 use crate::met::met_of;
 use crate::rule::{Rule, told_in};
-use crate::spot::{offset_of, place_at_fault};
 use crate::{first, other};
-use iso_hints::hint::{form, hint};
+use iso_hints::hint::{form_for, hint_for};
+use iso_hints::place::Place;
 use iso_script::explain::{Explained, Reason, Unmet, Wanted};
 use iso_script_lexer::symbol::Symbol;
 use iso_script_statements::fault::{ScriptFault, ScriptFaultKind};
 
 /// The hint for a fault: what a rule says that is asked first, or else what the table says.
-pub(crate) fn hint_of(bytes: &[u8], explained: &Explained<'_>) -> Option<&'static str>
-    ensures { option_map (λ h. h.now) result ≡ hint_of bytes.now explained.now }
+pub(crate) fn hint_of(place: &Place<'_>, explained: &Explained<'_>) -> Option<&'static str>
+    ensures { (bytes : List ℕ) → IsPlaceOf place.now bytes explained.now.fault
+        → option_map (λ h. h.now) result ≡ hint_of bytes explained.now }
 {
-    told_by(first::RULES, bytes, explained).or(table_hint(bytes, explained.fault))
+    told_by(first::RULES, place, explained).or(table_hint(place, explained.fault))
 }
 
 /// What is told where there is no hint, and no word was meant: what another rule says, or else how what is begun is written.
-pub(crate) fn other_of(bytes: &[u8], explained: &Explained<'_>) -> Option<&'static str>
-    ensures { option_map (λ h. h.now) result ≡ other_of bytes.now explained.now }
+pub(crate) fn other_of(place: &Place<'_>, explained: &Explained<'_>) -> Option<&'static str>
+    ensures { (bytes : List ℕ) → IsPlaceOf place.now bytes explained.now.fault
+        → option_map (λ h. h.now) result ≡ other_of bytes explained.now }
 {
-    told_by(other::RULES, bytes, explained).or(form_of(bytes, explained))
+    told_by(other::RULES, place, explained).or(form_of(place, explained))
 }
 
 /// What these rules say of a fault.
-fn told_by(rules: &'static [Rule], bytes: &[u8], explained: &Explained<'_>) -> Option<&'static str>
-    ensures { option_map (λ h. h.now) result ≡ told_by (map rule_of rules.now) bytes.now explained.now }
+fn told_by(
+    rules: &'static [Rule],
+    place: &Place<'_>,
+    explained: &Explained<'_>,
+) -> Option<&'static str>
+    ensures { (bytes : List ℕ) → IsPlaceOf place.now bytes explained.now.fault
+        → option_map (λ h. h.now) result ≡ told_by (map rule_of rules.now) bytes explained.now }
 {
     match explained.reason {
-        Reason::Unmet(unmet) => told_of(rules, bytes, explained.fault, unmet),
+        Reason::Unmet(unmet) => told_of(rules, place, explained.fault, unmet),
         Reason::Kind | Reason::Beyond(_) => None,
     }
 }
@@ -39,14 +47,15 @@ fn told_by(rules: &'static [Rule], bytes: &[u8], explained: &Explained<'_>) -> O
 /// The same, of what is wanted and what is found.
 fn told_of(
     rules: &'static [Rule],
-    bytes: &[u8],
+    place: &Place<'_>,
     fault: ScriptFault,
     unmet: Unmet<'_>,
 ) -> Option<&'static str>
-    ensures { option_map (λ h. h.now) result ≡ told_of (map rule_of rules.now) bytes.now fault unmet.entry }
+    ensures { (bytes : List ℕ) → IsPlaceOf place.now bytes fault
+        → option_map (λ h. h.now) result ≡ told_of (map rule_of rules.now) bytes fault unmet.entry }
 {
     if is_unfit(fault.kind) {
-        told_in(rules, met_of(&place_at_fault(bytes, fault), unmet))
+        told_in(rules, met_of(place, unmet))
     } else {
         None
     }
@@ -60,11 +69,12 @@ fn is_unfit(kind: ScriptFaultKind) -> bool
 }
 
 /// What the table of hints says of a fault, if it is of a kind that has hints.
-fn table_hint(bytes: &[u8], fault: ScriptFault) -> Option<&'static str>
-    ensures { option_map (λ h. h.now) result ≡ table_hint bytes.now fault }
+fn table_hint(place: &Place<'_>, fault: ScriptFault) -> Option<&'static str>
+    ensures { (bytes : List ℕ) → IsPlaceOf place.now bytes fault
+        → option_map (λ h. h.now) result ≡ table_hint bytes fault }
 {
     if tells_hint(fault.kind) {
-        hint(bytes, offset_of(bytes, fault.line, fault.column))
+        hint_for(place)
     } else {
         None
     }
@@ -81,21 +91,23 @@ fn tells_hint(kind: ScriptFaultKind) -> bool
 }
 
 /// How what is begun is written, where that says more than what is wanted.
-fn form_of(bytes: &[u8], explained: &Explained<'_>) -> Option<&'static str>
-    ensures { option_map (λ h. h.now) result ≡ form_of bytes.now explained.now }
+fn form_of(place: &Place<'_>, explained: &Explained<'_>) -> Option<&'static str>
+    ensures { (bytes : List ℕ) → IsPlaceOf place.now bytes explained.now.fault
+        → option_map (λ h. h.now) result ≡ form_of bytes explained.now }
 {
     match explained.reason {
-        Reason::Unmet(unmet) => form_or_none(bytes, explained.fault, unmet.wanted),
+        Reason::Unmet(unmet) => form_or_none(place, explained.fault, unmet.wanted),
         Reason::Kind | Reason::Beyond(_) => None,
     }
 }
 
 /// The same, where this is wanted.
-fn form_or_none(bytes: &[u8], fault: ScriptFault, wanted: Wanted) -> Option<&'static str>
-    ensures { option_map (λ h. h.now) result ≡ form_or_none bytes.now fault wanted }
+fn form_or_none(place: &Place<'_>, fault: ScriptFault, wanted: Wanted) -> Option<&'static str>
+    ensures { (bytes : List ℕ) → IsPlaceOf place.now bytes fault
+        → option_map (λ h. h.now) result ≡ form_or_none bytes fault wanted }
 {
     if is_unfit(fault.kind) && has_form(wanted) {
-        form(bytes, offset_of(bytes, fault.line, fault.column))
+        form_for(place)
     } else {
         None
     }

@@ -1,11 +1,11 @@
 //! Which reserved word was meant by a name.
-ghost use Rattle.std.specs.Prelude.{◌≡◌, IfOk, map, option_map};
+ghost use Rattle.std.specs.Prelude.{◌≡◌, ℕ, IfOk, List, map, option_map};
 ghost use Rattle.iso_explain.specs.Meant.{begun_for, meant_at, meant_by, meant_for, nearest_of, statement_words, words_of};
+ghost use Rattle.iso_explain.specs.Spots.{IsPlaceOf};
 ghost use Rattle.iso_hints.specs.Places.{view_of};
 ghost use Rattle.iso_script_lexer.specs.Spelling as S;
 
 use crate::spelling::spelling;
-use crate::spot::place_at_fault;
 use crate::want::{is_symbol, symbol_wanted};
 use iso_hints::nearest::nearest;
 use iso_hints::place::{Place, name_at};
@@ -103,13 +103,14 @@ const STATEMENTS: &[&str] = &[
 /// statement and has no `=` behind it. If a word is near enough.
 pub(crate) fn meant(
     alloc: Global,
-    bytes: &[u8],
+    place: &Place<'_>,
     explained: &Explained<'_>,
 ) -> Result<Option<&'static str>, AllocError>
-    ensures { IfOk result (λ word. option_map (λ w. w.now) word ≡ meant_by bytes.now explained.now) }
+    ensures { (bytes : List ℕ) → IsPlaceOf place.now bytes explained.now.fault
+        → IfOk result (λ word. option_map (λ w. w.now) word ≡ meant_by bytes explained.now) }
 {
     match explained.reason {
-        Reason::Unmet(unmet) => at_place(alloc, &place_at_fault(bytes, explained.fault), unmet),
+        Reason::Unmet(unmet) => at_place(alloc, place, unmet),
         Reason::Kind | Reason::Beyond(_) => Ok(None),
     }
 }

@@ -1,14 +1,16 @@
 //! What mends bytes that are no script.
-ghost use Rattle.std.specs.Prelude.{◌≡◌, IfErr, IfOk, IfSome, None, OnErr, OnOk, option_map};
+ghost use Rattle.std.specs.Prelude.{◌≡◌, ℕ, IfErr, IfOk, IfSome, List, None, OnErr, OnOk, option_map};
 ghost use Rattle.iso_explain.specs.Explanations.{explanation};
 ghost use Rattle.iso_explain.specs.Scripts.{IsBegun, IsTold};
+ghost use Rattle.iso_explain.specs.Spots.{IsSpotOf};
 ghost use Rattle.iso_model.specs.Scripts as S;
 ghost use Rattle.iso_script.specs.Faults.{HasScriptFault};
 ghost use Rattle.iso_script.specs.Grammar.{Reads};
 ghost use Rattle.iso_tap.specs.Sinks.{CutOff, Wrote};
 
-use crate::explanation::write_explanation;
+use crate::explanation::write_at;
 use crate::meant::meant;
+use crate::spot::{Spot, spot_of};
 use iso_script::explain::{Explained, why};
 use iso_tap::printer::Printer;
 use iso_tap::sink::{Sink, SinkFailed};
@@ -40,25 +42,28 @@ pub fn explain_script<'a, W: Sink>(
     let Some(explained) = why(alloc, bytes)? else {
         return Ok(None);
     };
-    let word = meant(alloc, bytes, &explained)?;
-    tell(bytes, &explained, word, sink)?;
+    let spot = spot_of(bytes, explained.fault);
+    let word = meant(alloc, &spot.place, &explained)?;
+    tell(&spot, &explained, word, sink)?;
     Ok(Some(explained))
 }
 
-/// Writes an explanation.
+/// Writes the explanation of a fault that is here.
 fn tell<W: Sink>(
-    bytes: &[u8],
+    spot: &Spot<'_>,
     explained: &Explained<'_>,
     word: Option<&str>,
     sink: &mut W,
 ) -> Result<(), SinkFailed>
-    ensures wrote { OnOk result (Wrote (W.account sink.old) (W.account sink.new)
-        (explanation bytes.now explained.now (option_map (λ w. w.now) word.entry))) }
-    ensures cut { OnErr result (CutOff (W.account sink.old) (W.account sink.new)
-        (explanation bytes.now explained.now (option_map (λ w. w.now) word.entry))) }
+    ensures wrote { (bytes : List ℕ) → IsSpotOf spot.now bytes explained.now.fault
+        → OnOk result (Wrote (W.account sink.old) (W.account sink.new)
+        (explanation bytes explained.now (option_map (λ w. w.now) word.entry))) }
+    ensures cut { (bytes : List ℕ) → IsSpotOf spot.now bytes explained.now.fault
+        → OnErr result (CutOff (W.account sink.old) (W.account sink.new)
+        (explanation bytes explained.now (option_map (λ w. w.now) word.entry))) }
 {
     let mut printer = Printer::new(sink);
-    write_explanation(bytes, explained, word, &mut printer)
+    write_at(spot, explained, word, &mut printer)
 }
 
 impl From<AllocError> for ExplainError {

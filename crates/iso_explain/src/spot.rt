@@ -2,31 +2,29 @@
 ghost use Rattle.std.specs.Prelude.{◌≡◌, ◌≤◌, ◌==◌, length, not};
 ghost use Rattle.std.specs.List.{prefix_len};
 ghost use Rattle.std.specs.Str.Lines.{strip_carriage_return};
-ghost use Rattle.iso_explain.specs.Spots.{first_line, line_of, offset_of, place_at_fault, start_of};
-ghost use Rattle.iso_hints.specs.Places.{view_of};
+ghost use Rattle.iso_explain.specs.Spots.{IsSpotOf, first_line, start_of};
 
 use iso_hints::place::{Place, place_at};
 use iso_script_statements::fault::ScriptFault;
 
-/// The line of this number, without its line end, LF or CR LF. Lines count from 1; one that isn't there is empty.
-pub(crate) fn line_of(bytes: &[u8], line: u32) -> &[u8]
-    ensures { result.now ≡ line_of bytes.now line }
-{
-    first_line(&bytes[start_of(bytes, line)..])
+/// Where a fault is.
+#[derive(Clone, Copy)]
+pub(crate) struct Spot<'a> {
+    /// Its line, without the line end, LF or CR LF. A line that isn't there is empty.
+    pub line: &'a [u8],
+    /// Its place, with what stands before it.
+    pub place: Place<'a>,
 }
 
-/// How many bytes stand before a place.
-pub(crate) fn offset_of(bytes: &[u8], line: u32, column: u32) -> usize
-    ensures { result ≡ offset_of bytes.now line column }
+/// Where a fault of these bytes is. All of them are passed, so it is found once for an explanation.
+pub(crate) fn spot_of(bytes: &[u8], fault: ScriptFault) -> Spot<'_>
+    ensures { IsSpotOf result bytes.now fault }
 {
-    start_of(bytes, line) + column.saturating_sub(1) as usize
-}
-
-/// The place of a fault, with what stands before it.
-pub(crate) fn place_at_fault(bytes: &[u8], fault: ScriptFault) -> Place<'_>
-    ensures { view_of result ≡ place_at_fault bytes.now fault }
-{
-    place_at(bytes, offset_of(bytes, fault.line, fault.column))
+    let start = start_of(bytes, fault.line);
+    Spot {
+        line: first_line(&bytes[start..]),
+        place: place_at(bytes, start + fault.column.saturating_sub(1) as usize),
+    }
 }
 
 /// How many bytes stand before the line of this number: all of them where there are fewer lines.

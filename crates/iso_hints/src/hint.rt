@@ -1,8 +1,11 @@
 //! Hints for what people bring from other languages.
 ghost use Rattle.std.specs.Prelude.{◌≡◌, option_map};
 ghost use Rattle.iso_hints.specs.Hints.{form_at, hint_at};
+ghost use Rattle.iso_hints.specs.Places.{view_of};
+ghost use Rattle.iso_hints.specs.Rows.{hint_in};
+ghost use Rattle.iso_hints.specs.Tables.{forms, table};
 
-use crate::place::place_at;
+use crate::place::{Place, place_at};
 use crate::table::annotations::annotations;
 use crate::table::beginnings::beginnings;
 use crate::table::calls::calls;
@@ -23,24 +26,38 @@ pub fn hint(text: &[u8], bytes: usize) -> Option<&'static str>
     ensures { option_map (λ told. told.now) result ≡ hint_at text.now bytes }
 {
     let place = place_at(text, bytes);
-    beginnings(&place)
-        .or(annotations(&place))
-        .or(operators(&place))
-        .or(methods(&place))
-        .or(symbols(&place))
-        .or(parentheses(&place))
-        .or(ends(&place))
-        .or(modifiers(&place))
-        .or(members(&place))
-        .or(heads(&place))
-        .or(control(&place))
-        .or(statements(&place))
-        .or(calls(&place))
+    hint_for(&place)
 }
 
 /// How the statement or head is written that stands before so many bytes.
 pub fn form(text: &[u8], bytes: usize) -> Option<&'static str>
     ensures { option_map (λ told. told.now) result ≡ form_at text.now bytes }
 {
-    forms(&place_at(text, bytes))
+    form_for(&place_at(text, bytes))
+}
+
+/// What mends a mistake at a place that was found before.
+pub fn hint_for(place: &Place<'_>) -> Option<&'static str>
+    ensures { option_map (λ told. told.now) result ≡ hint_in table (view_of place.now) }
+{
+    beginnings(place)
+        .or(annotations(place))
+        .or(operators(place))
+        .or(methods(place))
+        .or(symbols(place))
+        .or(parentheses(place))
+        .or(ends(place))
+        .or(modifiers(place))
+        .or(members(place))
+        .or(heads(place))
+        .or(control(place))
+        .or(statements(place))
+        .or(calls(place))
+}
+
+/// How the statement or head is written that stands before a place.
+pub fn form_for(place: &Place<'_>) -> Option<&'static str>
+    ensures { option_map (λ told. told.now) result ≡ hint_in forms (view_of place.now) }
+{
+    forms(place)
 }

@@ -4,7 +4,7 @@ use Rattle.iso_explain.proofs.RuleLemmas.{either-told}
 use Rattle.iso_explain.proofs.hints.hint_of.Goals as goal
 
 pub returns : goal.returns
-returns c =
+returns c bytes at =
     let told = c.args.explained.now in
-    either-told c.told_by.result c.table_hint.result c.or.result (told_by first_rules c.args.bytes.now told) (table_hint c.args.bytes.now told.fault)
-    c.told_by.ensures c.table_hint.ensures c.or.ensures
+    either-told c.told_by.result c.table_hint.result c.or.result (told_by first_rules bytes told) (table_hint bytes told.fault)
+    (c.told_by.ensures bytes at) (c.table_hint.ensures bytes at) c.or.ensures

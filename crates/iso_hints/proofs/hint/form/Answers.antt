@@ -7,4 +7,4 @@ use Rattle.iso_hints.proofs.hint.form.Goals as goal
 
 pub returns : goal.returns
 returns c =
-    c.forms.ensures ∙ ap (hint_in forms) (place-is c.place_at.result (place_at c.args.text.now c.args.bytes) c.place_at.ensures)
+    c.form_for.ensures ∙ ap (hint_in forms) (place-is c.place_at.result (place_at c.args.text.now c.args.bytes) c.place_at.ensures)
