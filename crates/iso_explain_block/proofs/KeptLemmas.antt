@@ -1,5 +1,5 @@
 -- What each line that is added keeps of the lines, their hints have.
-use Rattle.std.proofs.Common.{ℕ, List, [], Bool, true, false, Option, None, Some, cond}
+use Rattle.std.proofs.Common.{ℕ, List, [], Bool, true, false, Option, None, Some, codes, cond}
 use Rattle.iso_explain_block.specs.BlockFaults.{hints, lines_of_kind}
 use Rattle.iso_explain_block.specs.Blocks.{block_acts, sees_fields}
 use Rattle.iso_explain_block.specs.Expressions.{call_lines, term_lines, terms_lines}
@@ -7,12 +7,16 @@ use Rattle.iso_explain_block.specs.Fixed.{fixed_lines, with_rule}
 use Rattle.iso_explain_block.specs.Kinds.{is, kind_of, chain_kind}
 use Rattle.iso_explain_block.specs.Lines.{with_line}
 use Rattle.iso_explain_block.specs.Marks.{marks_for}
+use Rattle.iso_explain_block.specs.Messages.{after}
+use Rattle.iso_explain_block.specs.Missing.{chain_names, meant_lines, meant_of}
 use Rattle.iso_explain_block.specs.Operations.{all_are, chain_lines, fits, pair_lines, single_lines}
 use Rattle.iso_explain_block.specs.Statements.{acts_lines, inner_lines, own_lines, plain_pair_lines, plain_single_lines}
 use Rattle.iso_explain_block.specs.Unknown.{field_lines, name_lines, nearest_lines, nearest_of, visible_names}
 use Rattle.iso_explain_block.specs.Views.{BlockFaultView}
 use Rattle.iso_explain_block.specs.declared.kind.Kind.{Kind}
 use Rattle.iso_explain_block.specs.declared.operation.Taking.{Taking}
+use Rattle.iso_explain_block.specs.declared.set_names.Thing.{Thing}
+use Rattle.iso_explain_block.specs.declared.set_names.Thing.TheVariants as T
 use Rattle.iso_model.specs.Syntax.{Term, literal, name, chain, compare, call, locale, Terms, no_terms, term, let_name, assign, print, assert, assert_equal, assume, fail, set_prop, clear_prop, set_locale, write_file, append_file, delete_file, Act, plain, choice, repeat, Acts, no_acts, act}
 use Rattle.iso_model.specs.declared.fault.FaultKind.{FaultKind}
 use Rattle.iso_model.specs.declared.fault.FaultKind.TheVariants as K
@@ -97,6 +101,10 @@ module _ (P : List (List ℕ) → Type 0) (more : (line : List ℕ) (lines : Lis
   nearest_kept None ls p = p
   nearest_kept (Some x) ls p = more _ ls p
 
+  meant_kept : (thing : Thing) (found : Option (List ℕ)) (f : BlockFaultView) (ls : List (List ℕ)) → P ls → P (meant_lines thing found f ls)
+  meant_kept thing None f ls p = p
+  meant_kept thing (Some x) f ls p = nearest_kept (meant_of x (chain_names thing f.heads f.test)) ls p
+
   field_kept : (x : List ℕ) (f : BlockFaultView) (ls : List (List ℕ)) → P ls → P (field_lines x f ls)
   unfolding field_lines
   field_kept x f ls p = either (sees_fields f.block) _ _ p (either _ _ _ (more _ ls p) p)
@@ -124,7 +132,9 @@ module _ (P : List (List ℕ) → Type 0) (more : (line : List ℕ) (lines : Lis
   kind_kept K.Overflow f ls p = fixed_kept K.Overflow f.message ls p
   kind_kept K.DoubleName f ls p = fixed_kept K.DoubleName f.message ls p
   kind_kept K.Frozen f ls p = fixed_kept K.Frozen f.message ls p
-  kind_kept K.Missing f ls p = fixed_kept K.Missing f.message ls p
+  kind_kept K.Missing f ls p =
+      fixed_kept K.Missing f.message _
+      (meant_kept T.File (after (codes "missing file ") f.message) f _ (meant_kept T.Property (after (codes "missing property ") f.message) f ls p))
   kind_kept K.BadCount f ls p = fixed_kept K.BadCount f.message ls p
   kind_kept K.OutOfSteps f ls p = fixed_kept K.OutOfSteps f.message ls p
   kind_kept K.OutputFull f ls p = fixed_kept K.OutputFull f.message ls p

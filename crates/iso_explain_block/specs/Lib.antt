@@ -8,6 +8,7 @@ pub mod Lets
 pub mod Lines
 pub mod Marks
 pub mod Messages
+pub mod Missing
 pub mod Operations
 pub mod Rules
 pub mod Statements

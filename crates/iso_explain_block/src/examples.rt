@@ -2,7 +2,7 @@
 ghost use Rattle.std.specs.Prelude.{◌≡◌, ◌∷◌, [], codes};
 ghost use Rattle.iso_explain_block.specs.BlockFaults.{hints};
 ghost use Rattle.iso_explain_block.specs.Examples.{in_before_all, in_test, lines_of, number, sum_of, words, x};
-ghost use Rattle.iso_model.specs.Syntax.{act, assert_equal, choice, let_name, no_acts, plain, print};
+ghost use Rattle.iso_model.specs.Syntax.{act, assert_equal, choice, let_name, no_acts, plain, print, set_prop, write_file};
 ghost use Rattle.iso_model.specs.declared.fault.FaultKind.TheVariants as K;
 
 /// Of a value of another kind it is told what the operation takes, and the kinds that are shown.
@@ -54,6 +54,33 @@ pub fn names_that_were_meant_are_told()
         ≡ lines_of
         ("count is a field: tests, before_each and after_each see fields"
         ∷ "before_all and after_all see names let before, and statics of their class and those around it"
+        ∷ []) }
+{}
+
+/// Of a property or a file that is missing the nearest one that a block gives, if it isn't given itself, and what gives one.
+pub fn what_is_missing_is_told()
+    ensures property { hints (in_test K.Missing "missing property curency" 2
+        (act 1 (plain (set_prop (words "currency") (words "EUR"))) no_acts))
+        ≡ lines_of
+        ("did you mean `currency`?"
+        ∷ "set_prop gives a property a value, and [properties] of a world from the start"
+        ∷ "what a test changes is taken back after it; before_all makes it for each test of its class"
+        ∷ "has_prop tells whether a property is there"
+        ∷ []) }
+    ensures file { hints (in_before_all K.Missing "missing file /tmp/lst"
+        (act 1 (choice (x "made") (act 2 (plain (write_file (words "/tmp/list") (words ""))) no_acts) no_acts) no_acts))
+        ≡ lines_of
+        ("did you mean `/tmp/list`?"
+        ∷ "write_file makes a file, and [files] of a world from the start"
+        ∷ "what a test changes is taken back after it; before_all makes it for each test of its class"
+        ∷ "has_file tells whether a file is there"
+        ∷ []) }
+    ensures given_elsewhere { hints (in_test K.Missing "missing property mode" 1
+        (act 1 (plain (set_prop (words "mode") (words "fast"))) (act 2 (plain (set_prop (words "model") (words "T"))) no_acts)))
+        ≡ lines_of
+        ("set_prop gives a property a value, and [properties] of a world from the start"
+        ∷ "what a test changes is taken back after it; before_all makes it for each test of its class"
+        ∷ "has_prop tells whether a property is there"
         ∷ []) }
 {}
 

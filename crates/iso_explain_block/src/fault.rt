@@ -6,6 +6,7 @@ ghost use Rattle.iso_explain_block.specs.Views.{block_fault_of};
 use crate::block::statements;
 use crate::fixed::add_fixed;
 use crate::mark::add_undeclared;
+use crate::missing::add_missing;
 use crate::name::add_unknown;
 use crate::statement::add_statements;
 use iso_model::chain::Chain;
@@ -54,10 +55,10 @@ fn add_hints(alloc: Global, lines: &mut Vec<Text>, fault: &BlockFault<'_>) -> Re
         }
         FaultKind::UnknownName => add_unknown(alloc, lines, fault),
         FaultKind::Undeclared => add_undeclared(alloc, lines, fault),
+        FaultKind::Missing => add_missing(alloc, lines, fault),
         FaultKind::Overflow
         | FaultKind::DoubleName
         | FaultKind::Frozen
-        | FaultKind::Missing
         | FaultKind::BadCount
         | FaultKind::OutOfSteps
         | FaultKind::OutputFull

@@ -57,7 +57,7 @@ fn add_nearest(
 
 /// Of these names the one that is nearest to a name, if one is near enough and they are few.
 #[tactic(auto, unfolding(crate::specs::Unknown::nearest_of))]
-fn nearest_of<'a>(
+pub(crate) fn nearest_of<'a>(
     alloc: Global,
     name: &str,
     names: &[&'a str],
@@ -71,7 +71,7 @@ fn nearest_of<'a>(
 }
 
 /// What was meant, in words.
-fn did_you_mean(alloc: Global, name: &str) -> Result<Text, AllocError>
+pub(crate) fn did_you_mean(alloc: Global, name: &str) -> Result<Text, AllocError>
     ensures { IfOk result (λ t. t ≡ did_you_mean name.now) }
 {
     Ok(Text::new(format!(in alloc; "did you mean `{name}`?")?))
@@ -129,7 +129,7 @@ fn add_field(
 }
 
 /// Whether a name stands among these.
-fn has_name(names: &[&str], name: &str) -> bool
+pub(crate) fn has_name(names: &[&str], name: &str) -> bool
     ensures { result ≡ has_name name.now (map (λ n. n.now) names.now) }
 {
     for other in names {
