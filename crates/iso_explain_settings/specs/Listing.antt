@@ -1,18 +1,18 @@
 -- What settings come to, as a text.
-use Rattle.std.specs.Prelude.{ℕ, ◌*◌, List, [], ◌∷◌, ◌++◌, Bool, true, false, ◌==◌, cond, codes, flat_map, min, nat_lt, slice_get, unwrap_or}
+use Rattle.std.specs.Prelude.{ℕ, ◌*◌, List, [], ◌∷◌, ◌++◌, Bool, true, false, cond, codes, flat_map, min, nat_lt, unwrap_or}
 use Rattle.std.specs.Fmt.{decimal}
-use Rattle.iso_hints.specs.Keys.{known_keys, unknown_line}
-use Rattle.iso_hints.specs.Nearest.{near_words}
+use Rattle.iso_hints.specs.Keys.{known_keys, meant_key, unknown_line}
 use Rattle.iso_hints.specs.Settings.{workers_word}
+use Rattle.iso_hints.specs.SettingsTexts.{more_line}
 use Rattle.iso_settings.specs.Leaves.{Leaf}
 use Rattle.iso_settings.specs.declared.settings.Settings.{Settings}
 use Rattle.iso_explain_settings.specs.Chosen.{count_at, is_fixed_in, setting_text}
 use Rattle.iso_explain_settings.specs.Parts.{joined}
-use Rattle.iso_explain_settings.specs.Unknown.{unknown_in}
+use Rattle.iso_explain_settings.specs.Unknown.{Kept, unknown_in}
 
 -- a key that is unknown, with the one that was meant, as a line
 abbrev pub meant_line : List ℕ → List ℕ
-meant_line key = unknown_line key (slice_get (near_words key known_keys) 0)
+meant_line key = unknown_line key (meant_key key)
 
 -- what stands behind a number of workers that is above the limit
 abbrev pub limit_text : ℕ → List ℕ
@@ -44,18 +44,14 @@ workers_text workers why = decimal workers ++ workers_word workers ++ (why ++ []
 abbrev pub workers_text_in : List Leaf → Settings → (processors : ℕ) → List ℕ
 workers_text_in leaves settings processors = workers_text settings.worker_count (why_text_in leaves settings processors)
 
--- how many keys more are unknown, if any are
-abbrev pub more_text : ℕ → List ℕ
-more_text more = cond (more == 0) [] (joined (decimal more ∷ codes " more unknown\n" ∷ []))
-
--- each key with its value, these that are unknown, and the workers
-abbrev pub table_listing : List Leaf → (unknown : List (List ℕ)) → Settings → (processors : ℕ) → List ℕ
+-- each key with its value, those that are unknown and how many there are more, and the workers
+abbrev pub table_listing : List Leaf → (unknown : Kept) → Settings → (processors : ℕ) → List ℕ
 table_listing leaves unknown settings processors =
     flat_map (λ key. setting_text key leaves settings.parallel settings.default_mode) known_keys
-    ++ flat_map meant_line unknown
+    ++ flat_map meant_line unknown.0
+    ++ more_line unknown.1
     ++ workers_text_in leaves settings processors
 
 -- what settings come to that are read from these leaves
 abbrev pub listing_text : List Leaf → Settings → (processors : ℕ) → List ℕ
-listing_text leaves settings processors =
-    table_listing leaves (unknown_in leaves).0 settings processors ++ more_text (unknown_in leaves).1
+listing_text leaves settings processors = table_listing leaves (unknown_in leaves) settings processors

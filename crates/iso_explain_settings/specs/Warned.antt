@@ -1,7 +1,6 @@
 -- Warnings of settings.
-use Rattle.std.specs.Prelude.{ℕ, List, [], ◌∷◌, Bool, codes, slice_get, Option, None, Some}
-use Rattle.iso_hints.specs.Keys.{known_keys}
-use Rattle.iso_hints.specs.Nearest.{near_words}
+use Rattle.std.specs.Prelude.{ℕ, List, [], ◌∷◌, Bool, codes, Option, None, Some}
+use Rattle.iso_hints.specs.Keys.{known_keys, meant_key}
 use Rattle.iso_settings.specs.Leaves.{Leaf}
 use Rattle.iso_summary.specs.Names.{shown_name}
 use Rattle.iso_explain_settings.specs.Chosen.{is_fixed_in, told_at, unused}
@@ -38,7 +37,7 @@ line_end None = codes "\n"
 abbrev pub unknown_warning : (name key : List ℕ) → List ℕ
 unknown_warning name key =
     in_front (codes "jtap: warning: " ∷ shown_name name ∷ codes ": unknown " ∷ shown_text 160 key ∷ [])
-    (line_end (slice_get (near_words key known_keys) 0))
+    (line_end (meant_key key))
 
 -- a warning more for each of these keys, which are unknown
 abbrev pub with_unknown : Kept → (name : List ℕ) → (keys : List (List ℕ)) → Kept

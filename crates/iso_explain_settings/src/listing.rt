@@ -2,9 +2,10 @@
 ghost use Rattle.std.specs.Prelude.{◌≡◌, ◌++◌, IfOk, OnOk, Some, flat_map, map, string_bytes};
 ghost use Rattle.std.specs.Str.{IsUtf8};
 ghost use Rattle.iso_explain_settings.specs.Chosen.{setting_text};
-ghost use Rattle.iso_explain_settings.specs.Listing.{dynamic_text, fixed_text, limit_text, listing_text, meant_line, more_text, table_listing, why_text, why_text_in, workers_text, workers_text_in};
+ghost use Rattle.iso_explain_settings.specs.Listing.{dynamic_text, fixed_text, limit_text, listing_text, meant_line, table_listing, why_text, why_text_in, workers_text, workers_text_in};
 ghost use Rattle.iso_hints.specs.Settings.{setting_line};
-ghost use Rattle.iso_hints.specs.SettingsTexts.{unknown_key_line};
+ghost use Rattle.iso_hints.specs.SettingsTexts.{more_line, unknown_key_line};
+ghost use Rattle.iso_explain_settings.specs.Unknown.{kept_of};
 ghost use Rattle.iso_settings.specs.Leaves.{leaves};
 ghost use Rattle.iso_tap.specs.Sinks.{Wrote};
 ghost use Rattle.toml.specs.Data.{Members};
@@ -15,7 +16,7 @@ use crate::chosen::{count_at, is_fixed, setting};
 use crate::explain::read_table;
 use crate::keys::FACTOR;
 use crate::part::{Part, tell};
-use crate::unknown::unknown_keys;
+use crate::unknown::{Unknown, unknown_keys};
 use iso_hints::key::{KEYS, nearest_key};
 use iso_hints::setting::{Setting, write_workers};
 use iso_hints::settings::{UnknownKey, write_settings};
@@ -76,54 +77,55 @@ fn list_table(
     ensures { OnOk result (Wrote text.old text.new (listing_text (leaves (table_view table.now)) settings.now processors)) }
 {
     let unknown = unknown_keys(alloc, table)?;
-    list_keys(
-        alloc,
-        table,
-        unknown.keys.as_slice(),
-        settings,
-        processors,
-        text,
-    )?;
-    tell_more(unknown.more, text)
+    list_keys(alloc, table, &unknown, settings, processors, text)
 }
 
-/// Adds each key, these that are unknown, and the workers.
+/// Adds each key, those that are unknown and how many there are more, and the workers.
 fn list_keys(
     alloc: Global,
     table: &Table,
-    unknown: &[String],
+    unknown: &Unknown,
     settings: &Settings,
     processors: u32,
     text: &mut MemorySink,
 ) -> Result<(), AllocError>
     ensures { OnOk result (Wrote text.old text.new
-        (table_listing (leaves (table_view table.now)) (map string_bytes unknown.now) settings.now processors)) }
+        (table_listing (leaves (table_view table.now)) (kept_of unknown.now) settings.now processors)) }
 {
     let all = all_settings(alloc, table, KEYS, settings)?;
-    let unknown = with_meant(alloc, unknown)?;
+    let keys = with_meant(alloc, unknown.keys.as_slice())?;
     let why = why_of(alloc, table, settings, processors)?;
     write_all(
         all.as_slice(),
-        unknown.as_slice(),
+        keys.as_slice(),
+        unknown.more,
         settings.worker_count,
         why.bytes(),
         text,
     )
 }
 
-/// Adds settings, keys that are unknown, and the workers.
+/// Adds settings, keys that are unknown and how many there are more, and the workers.
 fn write_all<'a>(
     all: &[Setting<'a>],
     unknown: &[UnknownKey<'a>],
+    more: u64,
     workers: u32,
     why: &'a [u8],
     text: &mut MemorySink,
 ) -> Result<(), AllocError>
     ensures { OnOk result (Wrote text.old text.new
-        (flat_map setting_line all.now ++ flat_map unknown_key_line unknown.now ++ workers_text workers why.now)) }
+        (flat_map setting_line all.now ++ flat_map unknown_key_line unknown.now ++ more_line more ++ workers_text workers why.now)) }
 {
     let mut printer = Printer::new(text);
-    match write_settings(&mut printer, all, unknown, workers, &[Piece::Plain(why)]) {
+    match write_settings(
+        &mut printer,
+        all,
+        unknown,
+        more,
+        workers,
+        &[Piece::Plain(why)],
+    ) {
         Ok(()) => Ok(()),
         Err(SinkFailed) => Err(AllocError),
     }
@@ -138,16 +140,6 @@ fn write_line(workers: u32, why: &[u8], text: &mut MemorySink) -> Result<(), All
         Ok(()) => Ok(()),
         Err(SinkFailed) => Err(AllocError),
     }
-}
-
-/// Adds how many keys more are unknown, if any are.
-fn tell_more(more: u64, text: &mut MemorySink) -> Result<(), AllocError>
-    ensures { OnOk result (Wrote text.old text.new (more_text more)) }
-{
-    if more == 0 {
-        return Ok(());
-    }
-    tell(text, &[Part::Number(more), Part::Plain(" more unknown\n")])
 }
 
 /// Each of these keys with its value.

@@ -1,4 +1,5 @@
 pub mod HintLemmas
+pub mod KeyLemmas
 pub mod NameLemmas
 pub mod NearestLemmas
 pub mod OrderLemmas

@@ -3,6 +3,7 @@ use Prim.Native.String.{String}
 use Rattle.std.specs.Prelude.{ℕ, ◌+◌, List, [], ◌∷◌, ◌++◌, Option, Some, codes, length, map}
 use Rattle.std.specs.Borrow.{Bor}
 use Rattle.iso_hints.specs.Hints.{form_at, hint_at}
+use Rattle.iso_hints.specs.Keys.{meant_key}
 use Rattle.iso_tap.specs.declared.printer.Piece.{Piece}
 use Rattle.iso_tap.specs.declared.printer.Piece.TheVariants.{Plain}
 use Rattle.iso_hints.specs.Nearest.{near_words}
@@ -14,6 +15,10 @@ use Rattle.iso_hints.specs.declared.settings.UnknownKey.{UnknownKey}
 -- the near words of these
 abbrev pub near_to : String → List String → List (List ℕ)
 near_to word candidates = near_words (codes word) (map codes candidates)
+
+-- the key that was meant by one
+abbrev pub meant_by : String → Option (List ℕ)
+meant_by key = meant_key (codes key)
 
 -- what is told of the place between two parts of a script
 abbrev pub in_script : String → String → Option (List ℕ)

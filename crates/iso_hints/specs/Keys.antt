@@ -1,7 +1,8 @@
 -- Keys of settings.
-use Rattle.std.specs.Prelude.{ℕ, List, [], ◌++◌, Bool, ◌&&◌, not, Option, Some, None, codes, map, nat_eq}
+use Rattle.std.specs.Prelude.{ℕ, List, [], ◌++◌, Bool, ◌&&◌, not, Option, Some, None, codes, map, nat_eq, option_map}
 use Rattle.std.specs.List.{list_any, starts_with}
 use Rattle.std.specs.Str.{bytes_eq}
+use Rattle.iso_hints.specs.NearKeys.{nearest_from}
 use Rattle.iso_hints.specs.Pictures.{shown_byte}
 use Rattle.iso_hints.specs.declared.key.TheConstants.{KEYS}
 
@@ -16,6 +17,10 @@ is_listed key = list_any (λ k. bytes_eq k key) known_keys
 -- the key is one of JUnit's by its beginning, and none of settings
 abbrev pub is_unknown : List ℕ → Bool
 is_unknown key = starts_with nat_eq key (codes "junit.jupiter.") && not (is_listed key)
+
+-- the key of settings that was meant by one: the nearest, if one is near enough
+abbrev pub meant_key : List ℕ → Option (List ℕ)
+meant_key key = option_map (λ near. near.0) (nearest_from key None known_keys)
 
 -- a key as what was meant
 abbrev pub did_you_mean : List ℕ → List ℕ

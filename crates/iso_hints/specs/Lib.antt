@@ -2,6 +2,7 @@ pub mod Bytes
 pub mod Examples
 pub mod Hints
 pub mod Keys
+pub mod NearKeys
 pub mod Nearest
 pub mod Patterns
 pub mod Pictures

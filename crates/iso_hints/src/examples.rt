@@ -2,7 +2,7 @@
 ghost use Rattle.std.specs.Prelude.{◌≡◌, ◌∷◌, [], None, Some, codes, false, map, true};
 ghost use Rattle.iso_hints.specs.Nearest.{distance, near_words};
 ghost use Rattle.iso_hints.specs.Positions.{place_at_position};
-ghost use Rattle.iso_hints.specs.Examples.{near_to};
+ghost use Rattle.iso_hints.specs.Examples.{meant_by, near_to};
 ghost use Rattle.iso_hints.specs.Keys.{is_unknown, unknown_line};
 
 /// A character put in, left out or changed counts one, and so do two that stand the other way round.
@@ -31,6 +31,14 @@ pub fn keys_of_others_are_not_unknown()
     ensures table { is_unknown (codes "junit.jupiter.execution.parallel") ≡ true }
     ensures of_others { is_unknown (codes "junit.platform.output.capture.stdout") ≡ false }
     ensures beginning { is_unknown (codes "junit.jupiter") ≡ false }
+{}
+
+/// A key is compared with a known one by what both have behind the last dot up to which they are the same, or lacks a segment of it.
+pub fn keys_that_were_meant_are_found()
+    ensures last_segment { meant_by "junit.jupiter.execution.parallel.enable" ≡ Some (codes "junit.jupiter.execution.parallel.enabled") }
+    ensures inner_segment { meant_by "junit.jupiter.execution.paralel.enabled" ≡ Some (codes "junit.jupiter.execution.parallel.enabled") }
+    ensures segment_left_out { meant_by "junit.jupiter.execution.enabled" ≡ Some (codes "junit.jupiter.execution.parallel.enabled") }
+    ensures another_key { meant_by "junit.jupiter.execution.timeout.default" ≡ None }
 {}
 
 /// That a key is unknown is told with what was meant, where something is near, and on one line.

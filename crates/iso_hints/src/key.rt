@@ -1,12 +1,11 @@
 //! Keys of settings: which are unknown, and what was meant.
-ghost use Rattle.std.specs.Prelude.{◌≡◌, ◌==◌, IfOk, map, option_map, slice_get};
+ghost use Rattle.std.specs.Prelude.{◌≡◌, ◌==◌, IfOk, map, option_map};
 ghost use Rattle.std.specs.List.{list_any};
 ghost use Rattle.std.specs.Str.{bytes_eq};
-ghost use Rattle.iso_hints.specs.Keys.{did_you_mean, is_unknown, known_keys, suggestion, unknown_line};
-ghost use Rattle.iso_hints.specs.Nearest.{near_words};
+ghost use Rattle.iso_hints.specs.Keys.{did_you_mean, is_unknown, meant_key, suggestion, unknown_line};
 ghost use Rattle.iso_tap.specs.Printers.{Prints};
 
-use crate::nearest::nearest;
+use crate::near_key::nearest_known;
 use crate::picture::shown;
 use iso_tap::printer::Printer;
 use iso_tap::sink::{Sink, SinkFailed};
@@ -40,11 +39,13 @@ fn is_listed(key: &str, keys: &[&str]) -> bool
     keys.iter().any(|known| *known == key)
 }
 
-/// The key of settings that was meant by one, if one is near enough.
+/// The key of settings that was meant by one: the nearest, if one is near enough, by what both have behind the last dot up to which
+/// they are the same.
 pub fn nearest_key(alloc: Global, key: &str) -> Result<Option<&'static str>, AllocError>
-    ensures { IfOk result (λ found. option_map (λ k. k.now) found ≡ slice_get (near_words key.now known_keys) 0) }
+    ensures { IfOk result (λ found. option_map (λ k. k.now) found ≡ meant_key key.now) }
 {
-    nearest(alloc, key, KEYS)
+    let near = nearest_known(alloc, key, KEYS)?;
+    Ok(near.map(|near| near.word))
 }
 
 /// Writes that a key is unknown, and which was meant.

@@ -7,6 +7,7 @@ pub mod hint;
 pub mod hint_examples;
 pub mod key;
 pub mod laws;
+mod near_key;
 pub mod nearest;
 mod pattern;
 pub mod picture;

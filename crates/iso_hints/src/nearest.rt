@@ -12,9 +12,9 @@ const CANDIDATE_BYTES: usize = 1024;
 
 /// A word that is near, and how far it is.
 #[derive(Clone, Copy)]
-struct Near<'a> {
-    word: &'a str,
-    distance: usize,
+pub(crate) struct Near<'a> {
+    pub word: &'a str,
+    pub distance: usize,
 }
 
 /// The candidate that is nearest to a word, of several the first, if one is near enough.
@@ -102,7 +102,11 @@ fn count_within(near: &[Near<'_>], distance: usize) -> usize
 }
 
 /// How far a candidate is, if it is near enough to be told.
-fn distance_if_near(alloc: Global, word: &str, candidate: &str) -> Result<Option<usize>, AllocError>
+pub(crate) fn distance_if_near(
+    alloc: Global,
+    word: &str,
+    candidate: &str,
+) -> Result<Option<usize>, AllocError>
     ensures { IfOk result (λ d. d ≡ cond (is_near word.now candidate.now) (Some (distance word.now candidate.now)) None) }
 {
     if !may_be_near(word, candidate) {

@@ -1,7 +1,7 @@
 //! What settings come to, as a text.
-ghost use Rattle.std.specs.Prelude.{◌≡◌, flat_map};
+ghost use Rattle.std.specs.Prelude.{◌≡◌, ◌==◌, cond, flat_map};
 ghost use Rattle.iso_hints.specs.Settings.{setting_line};
-ghost use Rattle.iso_hints.specs.SettingsTexts.{settings_text, unknown_key_line};
+ghost use Rattle.iso_hints.specs.SettingsTexts.{more_line, settings_text, unknown_key_line};
 ghost use Rattle.iso_tap.specs.Printers.{Prints};
 
 use crate::key::write_unknown;
@@ -16,18 +16,20 @@ pub struct UnknownKey<'a> {
     pub meant: Option<&'a str>,
 }
 
-/// Writes settings, keys that are unknown, and how many workers they come to and why, each on a line.
+/// Writes settings, keys that are unknown and how many there are more, and how many workers they come to and why, each on a line.
 pub fn write_settings<W: Sink>(
     printer: &mut Printer<'_, W>,
     settings: &[Setting<'_>],
     unknown: &[UnknownKey<'_>],
+    more: u64,
     workers: u32,
     why: &[Piece<'_>],
 ) -> Result<(), SinkFailed>
-    ensures { Prints printer.old printer.new (settings_text settings.now unknown.now workers why.now) result }
+    ensures { Prints printer.old printer.new (settings_text settings.now unknown.now more workers why.now) result }
 {
     setting_lines(printer, settings)?;
     unknown_lines(printer, unknown)?;
+    more_line(printer, more)?;
     write_workers(printer, workers, why)
 }
 
@@ -55,6 +57,16 @@ fn unknown_lines<W: Sink>(
         write_unknown_key(printer, key)?;
     }
     Ok(())
+}
+
+/// Writes how many keys more are unknown, if any are.
+fn more_line<W: Sink>(printer: &mut Printer<'_, W>, more: u64) -> Result<(), SinkFailed>
+    ensures { Prints printer.old printer.new (more_line more) result }
+{
+    if more == 0 {
+        return Ok(());
+    }
+    printer.pieces(&[Piece::Number(more), Piece::Plain(b" more unknown\n")])
 }
 
 /// Writes a key that is unknown.
