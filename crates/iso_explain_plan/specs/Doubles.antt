@@ -1,5 +1,5 @@
 -- Two top-level classes of one team and name.
-use Rattle.std.specs.Prelude.{◌≡◌, ℕ, List, [], ◌∷◌, ◌++◌, Option, codes}
+use Rattle.std.specs.Prelude.{◌≡◌, ℕ, List, [], ◌∷◌, ◌++◌, Option, bytes_eq, codes, cond}
 use Rattle.iso_script_lexer.specs.declared.token.Position.{Position}
 use Rattle.iso_summary.specs.Names.{shown_name}
 use Rattle.iso_explain_plan.specs.Notes.{note}
@@ -25,8 +25,17 @@ double_note path first second =
 abbrev pub rename_note : List ℕ
 rename_note = note (codes "two classes of one team have one name: rename one of them" ∷ [])
 
+abbrev pub two_notes : List ℕ → (first second : Spot) → List ℕ
+two_notes path first second = double_note path first second ++ rename_note
+
+-- that one file is named twice, and what mends that
+abbrev pub twice_note : (file : List ℕ) → List ℕ
+twice_note file = note (shown_name file ∷ codes " is named twice, so each of its classes stands twice: name it once" ∷ [])
+
+-- what is told of two classes of one path: of one file that it is named twice, since two classes of one script have two names
 abbrev pub double_notes : List ℕ → (first second : Spot) → List ℕ
-double_notes path first second = double_note path first second ++ rename_note
+double_notes path first second =
+    cond (bytes_eq first.0 second.0) (twice_note first.0) (two_notes path first second)
 
 -- two classes have one path
 abbrev pub HasOnePath : TopClass × TopClass → Type 0

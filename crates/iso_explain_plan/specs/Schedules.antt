@@ -30,14 +30,14 @@ event_notes =
     note (codes "an event is `enter W N`, `step W`, `leave W` or `shut W N`: W is a worker, N a node, both in digits" ∷ [])
     ++ note (codes "spaces stand between its words, and none before or behind them" ∷ [])
 
--- a number has so many digits, and how many it may have; and a schedule so many bytes
+-- a number has so many digits, and how many it may have
 abbrev pub number_note : ℕ → List ℕ
 number_note digits =
     note (codes "it has " ∷ decimal digits ∷ codes " digits, and at most " ∷ decimal 9 ∷ codes " are read, zeros in front among them" ∷ [])
 
-abbrev pub length_note : ℕ → List ℕ
-length_note bytes =
-    note (codes "the schedule has " ∷ decimal bytes ∷ codes " bytes, and at most " ∷ decimal FILE_BYTES ∷ codes " are read" ∷ [])
+-- how many bytes a schedule may have: of a longer one no more than one above them are met
+abbrev pub length_note : List ℕ
+length_note = note (codes "at most " ∷ decimal FILE_BYTES ∷ codes " bytes stand in a schedule" ∷ [])
 
 -- the longest word from here on, where so many bytes stand in front of the first one, and another word has so many
 abbrev pub longest_from : (longest front : ℕ) → List ℕ → ℕ
@@ -59,7 +59,7 @@ big_number_text number line = line_text number line (codes "a number here is too
 abbrev pub kind_text : ScheduleFaultKind → ℕ → List ℕ → List ℕ
 kind_text BadLine number schedule = bad_line_text number (line_at number (lines schedule))
 kind_text NumberTooBig number schedule = big_number_text number (line_at number (lines schedule))
-kind_text TooLong number schedule = length_note (length schedule)
+kind_text TooLong number schedule = length_note
 
 abbrev pub fault_text : ScheduleFault → List ℕ → List ℕ
 fault_text fault schedule = kind_text fault.kind fault.line schedule

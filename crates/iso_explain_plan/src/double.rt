@@ -1,6 +1,6 @@
 //! Two top-level classes of one team and name.
 ghost use Rattle.std.specs.Prelude.{◌≡◌, [], IfOk, IfSome, Ok, OnOk};
-ghost use Rattle.iso_explain_plan.specs.Doubles.{HasOnePath, TellsOfTwo, double_note, double_notes, rename_note, site_of};
+ghost use Rattle.iso_explain_plan.specs.Doubles.{HasOnePath, TellsOfTwo, double_note, double_notes, rename_note, site_of, twice_note, two_notes};
 ghost use Rattle.iso_explain_plan.specs.Told.{IsPrinted};
 ghost use Rattle.iso_tap.specs.Printers.{Prints};
 
@@ -156,7 +156,7 @@ fn place_of(places: &[Vec<NodePlace>], script: usize, node: usize) -> Option<Pos
     Some(place.name)
 }
 
-/// Writes where two classes of one path stand.
+/// Writes of two classes of one path where they stand; of one file that it is named twice, since two classes of one script have two names.
 fn double_notes<W: Sink>(
     printer: &mut Printer<'_, W>,
     path: &str,
@@ -164,6 +164,22 @@ fn double_notes<W: Sink>(
     second: Site<'_>,
 ) -> Result<(), SinkFailed>
     ensures { Prints printer.old printer.new (double_notes path.now (site_of first.entry) (site_of second.entry)) result }
+{
+    if first.file == second.file {
+        twice_note(printer, first.file)
+    } else {
+        two_notes(printer, path, first, second)
+    }
+}
+
+/// Writes where they stand, and what mends that.
+fn two_notes<W: Sink>(
+    printer: &mut Printer<'_, W>,
+    path: &str,
+    first: Site<'_>,
+    second: Site<'_>,
+) -> Result<(), SinkFailed>
+    ensures { Prints printer.old printer.new (two_notes path.now (site_of first.entry) (site_of second.entry)) result }
 {
     double_note(printer, path, first, second)?;
     rename_note(printer)
@@ -189,6 +205,19 @@ fn double_note<'a, W: Sink>(
             Part::Plain(" and at "),
             Part::Name(second.file),
             Part::Place(second.place),
+        ],
+    )
+}
+
+/// Writes that one file is named twice, and what mends that.
+fn twice_note<W: Sink>(printer: &mut Printer<'_, W>, file: &str) -> Result<(), SinkFailed>
+    ensures { Prints printer.old printer.new (twice_note file.now) result }
+{
+    note(
+        printer,
+        &[
+            Part::Name(file),
+            Part::Plain(" is named twice, so each of its classes stands twice: name it once"),
         ],
     )
 }

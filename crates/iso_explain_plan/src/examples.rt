@@ -15,13 +15,15 @@ ghost use Rattle.iso_schedule.specs.declared.fault.ScheduleFaultKind.TheVariants
 ghost use Rattle.iso_standing.specs.declared.event.Event.TheVariants.{Enter, Leave, Shut, Step};
 ghost use Rattle.iso_standing.specs.declared.refused.Refused.TheVariants as R;
 
-/// Of two classes of one path both places are told.
+/// Of two classes of one path both places are told, or that one file is named twice.
 pub fn both_classes_are_told()
-    ensures { double_notes (codes "shop.Cart") (at "a.jtap" 3 7) (at "b\n.jtap" 12 7)
+    ensures two { double_notes (codes "shop.Cart") (at "a.jtap" 3 7) (at "b\n.jtap" 12 7)
         ≡ lines_of
         (" = class shop.Cart stands at a.jtap:3:7 and at b\\n.jtap:12:7"
         ∷ " = two classes of one team have one name: rename one of them"
         ∷ []) }
+    ensures twice { double_notes (codes "shop.Cart") (at "a.jtap" 3 7) (at "a.jtap" 3 7)
+        ≡ lines_of (" = a.jtap is named twice, so each of its classes stands twice: name it once" ∷ []) }
 {}
 
 /// Of too many classes and tests, keys or scripts it is told how many there are, and of which classes most are.
@@ -74,7 +76,7 @@ pub fn faults_of_schedules_are_told()
         ∷ " = it has 10 digits, and at most 9 are read, zeros in front among them"
         ∷ []) }
     ensures long { fault_text (fault_at K.TooLong 1) (codes "step 0")
-        ≡ lines_of (" = the schedule has 6 bytes, and at most 1048576 are read" ∷ []) }
+        ≡ lines_of (" = at most 1048576 bytes stand in a schedule" ∷ []) }
 {}
 
 /// Of an event that is refused the line is shown, and why.

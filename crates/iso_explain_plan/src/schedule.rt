@@ -18,8 +18,8 @@ const SHOWN: usize = 160;
 /// The most digits of a number.
 const DIGITS: u64 = 9;
 
-/// Writes what mends bytes that are no schedule: the line of the fault, and how an event is written, or how large a number or a
-/// schedule may be and how large it is. Takes no memory.
+/// Writes what mends bytes that are no schedule: the line of the fault, and how an event is written, or how large a number
+/// may be and how large it is, or how large a schedule may be. Takes no memory.
 pub fn explain_fault<W: Sink>(
     fault: ScheduleFault,
     schedule: &[u8],
@@ -44,7 +44,7 @@ fn write_fault<W: Sink>(
     match fault.kind {
         ScheduleFaultKind::BadLine => bad_line(printer, fault.line, line),
         ScheduleFaultKind::NumberTooBig => big_number(printer, fault.line, line),
-        ScheduleFaultKind::TooLong => length_note(printer, schedule.len()),
+        ScheduleFaultKind::TooLong => length_note(printer),
     }
 }
 
@@ -130,18 +130,16 @@ fn number_note<W: Sink>(printer: &mut Printer<'_, W>, digits: usize) -> Result<(
     )
 }
 
-/// Writes how many bytes a schedule may have, and that this one has so many.
-fn length_note<W: Sink>(printer: &mut Printer<'_, W>, bytes: usize) -> Result<(), SinkFailed>
-    ensures { Prints printer.old printer.new (length_note bytes) result }
+/// Writes how many bytes a schedule may have.
+fn length_note<W: Sink>(printer: &mut Printer<'_, W>) -> Result<(), SinkFailed>
+    ensures { Prints printer.old printer.new length_note result }
 {
     note(
         printer,
         &[
-            Part::Plain("the schedule has "),
-            Part::Number(bytes as u64),
-            Part::Plain(" bytes, and at most "),
+            Part::Plain("at most "),
             Part::Number(FILE_BYTES as u64),
-            Part::Plain(" are read"),
+            Part::Plain(" bytes stand in a schedule"),
         ],
     )
 }
