@@ -1,0 +1,10 @@
+pub mod Durations
+pub mod Entries
+pub mod Examples
+pub mod Lines
+pub mod Listed
+pub mod Orders
+pub mod Parts
+pub mod Seconds
+pub mod Tallies
+pub mod Times

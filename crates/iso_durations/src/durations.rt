@@ -1,0 +1,68 @@
+//! The tests and classes of a run that were measured.
+ghost use Rattle.std.specs.Prelude.{◌≡◌, ◌≤◌, IfOk, length, map};
+ghost use Rattle.iso_durations.specs.Entries.{entry};
+ghost use Rattle.iso_durations.specs.Orders.{slowest_first};
+ghost use Rattle.iso_durations.specs.Times.{measured, micros};
+ghost use Rattle.iso_plan.specs.RowView.{tree_of};
+
+use crate::timed::Timed;
+use crate::times::time;
+use iso_plan::laws;
+use iso_plan::plan::Plan;
+use std::alloc::{AllocError, Global};
+use std::cmp::Reverse;
+use std::marker::Model;
+
+/// Room for the times of nodes. It is made before a run, so that nothing grows after it. Contracts see for how many nodes it is.
+#[derive(Drop)]
+pub struct Durations {
+    nodes: u32,
+    room: Vec<Timed>,
+}
+
+impl Model for Durations {
+    ghost use Rattle.std.specs.Prelude.{◌≡◌, ◌≤◌, ℕ, [], vec_capacity};
+
+    ghost Value = { ℕ };
+
+    ghost view = { λ d. d.nodes };
+
+    ghost invariant = { λ d. (d.room.items ≡ []) × (d.nodes ≤ vec_capacity d.room) };
+}
+
+impl Durations {
+    /// Room for so many nodes. It takes all memory that is wanted.
+    pub fn new(alloc: Global, nodes: u32) -> Result<Durations, AllocError>
+        ensures { IfOk result (λ d. d ≡ nodes) }
+    {
+        let room = Vec::with_capacity(alloc, nodes as usize)?;
+        Ok(Durations { nodes, room })
+    }
+
+    /// The nodes that were measured, as they are written. It takes no memory.
+    fn measured(self, plan: &Plan, times: &[Option<u64>]) -> Vec<Timed>
+        requires { length plan.now.rows ≤ self }
+        ensures { result.items ≡ map (entry (micros times.now)) (measured (tree_of plan.now) times.now) }
+    {
+        laws::nodes_are_a_tree(plan);
+        let Durations { room, .. } = self;
+        let mut timed = room;
+        'nodes: for node in 1..plan.len() {
+            if let Some(micros) = time(times, node) {
+                timed.push_reserved(Timed { micros, node });
+            }
+        }
+        timed
+    }
+
+    /// The nodes that were measured, slowest first. It takes no memory.
+    pub(crate) fn slowest(self, plan: &Plan, times: &[Option<u64>]) -> Vec<Timed>
+        requires { length plan.now.rows ≤ self }
+        ensures { result.items ≡ map (entry (micros times.now))
+            (slowest_first (micros times.now) (measured (tree_of plan.now) times.now)) }
+    {
+        let mut timed = self.measured(plan, times);
+        timed.sort_unstable_by_key(|timed| (Reverse(timed.micros), timed.node));
+        timed
+    }
+}

@@ -1,0 +1,13 @@
+//! The parts that lines are made of.
+
+/// A part of a line.
+#[derive(Clone, Copy)]
+pub(crate) enum Part<'a> {
+    Plain(&'a str),
+    /// A number in decimal.
+    Number(u64),
+    /// So many things, with the word for one and the word for several.
+    Counted(u32, &'a str, &'a str),
+    /// A time in microseconds, told in seconds.
+    Seconds(u64),
+}
