@@ -11,12 +11,10 @@ import subprocess
 import time
 from pathlib import Path
 
-from suite import refuse
-
 HOME = pwd.getpwuid(0).pw_dir
 SSHD = "/usr/sbin/sshd"
 NAMES = ("one", "two", "three")
-WAITS = 10
+WAITS = 30
 
 DOOR = """\
 #!/bin/bash
@@ -71,10 +69,14 @@ Host one two three
     GlobalKnownHostsFile /dev/null
     BatchMode yes
     LogLevel ERROR
-    ConnectTimeout 2
-    ServerAliveInterval 1
-    ServerAliveCountMax 2
+    ConnectTimeout 5
+    ServerAliveInterval 2
+    ServerAliveCountMax 3
 """
+
+
+class TooLate(Exception):
+    """What was waited for didn't happen."""
 
 
 def make_keys(folder):
@@ -100,7 +102,7 @@ def wait_until(happens, what):
         if happens():
             return
         time.sleep(0.02)
-    refuse(f"{what} didn't happen in {WAITS} seconds", 3)
+    raise TooLate(f"{what} didn't happen in {WAITS} seconds")
 
 
 class Host:

@@ -6,6 +6,9 @@ from pathlib import Path
 from statistics import median
 from typing import NamedTuple
 
+# How the line ends by which a plan is refused that is too large.
+TOO_LARGE = b"jtap: plan: TooManyNodes\n", b"jtap: plan: TooManyKeys\n"
+
 
 class Suite(NamedTuple):
     """A program, the folder in which it runs, the words of its options, which of these name files, and its scripts."""
@@ -50,19 +53,22 @@ def refuse(why, status=2):
     sys.exit(status)
 
 
-def paths_of(suite, kept):
+def paths_of(plan):
     """The paths of the top-level classes of a plan: the last word of a node's line, and theirs have two names."""
-    plan = suite.ask("plan", *suite.words(kept), stdout=subprocess.PIPE, text=True)
     if plan.returncode:
+        sys.stderr.buffer.write(plan.stderr)
         sys.exit(plan.returncode)
-    lines = [line.split(" ") for line in plan.stdout.splitlines()[1:]]
+    lines = [line.split(" ") for line in plan.stdout.decode().splitlines()[1:]]
     return [line[-1] for line in lines if line[1] == "class" and line[-1].count(".") == 1]
 
 
 def classes_of(suite, parts):
-    """The paths of a suite's top-level classes, from the plans of so many parts: a suite that is too large for one plan has several."""
-    plans = [paths_of(suite, ["--shard", f"{part}/{parts}"]) for part in range(1, parts + 1)]
-    return [path for turn in zip_longest(*plans) for path in turn if path is not None]
+    """The paths of a suite's top-level classes. One that is too large for a plan is planned in so many parts."""
+    plan = suite.ask("plan", *suite.words(), capture_output=True)
+    if parts == 1 or not plan.stderr.endswith(TOO_LARGE):
+        return paths_of(plan)
+    plans = [suite.ask("plan", *suite.words(["--shard", f"{part}/{parts}"]), capture_output=True) for part in range(1, parts + 1)]
+    return [path for turn in zip_longest(*map(paths_of, plans)) for path in turn if path is not None]
 
 
 def numbered(parts):
