@@ -14,7 +14,7 @@ from pathlib import Path
 HOME = pwd.getpwuid(0).pw_dir
 SSHD = "/usr/sbin/sshd"
 NAMES = ("one", "two", "three")
-WAITS = 30
+WAITS = 60
 
 DOOR = """\
 #!/bin/bash
@@ -26,7 +26,7 @@ case $SSH_ORIGINAL_COMMAND in
     *perl*) kind=job ;;
     *) kind=other ;;
 esac
-hold() { for ((turn = 0; turn < 600; turn++)); do [ -e "$HOME/door/hold.$kind" ] && sleep 0.05 || return; done; }
+hold() { for ((turn = 0; turn < 2400; turn++)); do [ -e "$HOME/door/hold.$kind" ] && sleep 0.05 || return; done; }
 printf '%s %q\\n' "$kind" "$SSH_ORIGINAL_COMMAND" >>log
 [ $kind = job ] || hold
 cd && bash -c "$SSH_ORIGINAL_COMMAND"

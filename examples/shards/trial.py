@@ -13,7 +13,7 @@ from harness import PROGRAM, begin, expect, finish, refuse, run_in
 from junit import without_times
 from network import start_hosts, wait_until
 
-RUN_SECONDS = 90
+RUN_SECONDS = 180
 WORDS = ["--settings", "settings.toml", "--world", "world.toml", "shop.jtap", "orders.jtap", "ops.jtap"]
 CLASS_BY_CLASS = ("--shards", "6")
 TEAMS = TOP / "examples/teams"
