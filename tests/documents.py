@@ -10,8 +10,8 @@ from summaries import FAILS, shown_name
 COUNTS = ("tests", "failures", "errors", "skipped")
 TIME = re.compile(rb' time="\d+\.\d{6}"')
 PROBLEMS = {"fail": ("failure", "fail"), "fault": ("error", "fault"), "blocked": ("error", "blocked")}
-# Where a report says that a test ended that wasn't run.
-NOT_RUN = re.compile(r"disabled|class \d before_all row \d+")
+# Where a report says that a test ended that wasn't run, for what its class came to.
+OF_CLASS = re.compile(r"class \d before_all row \d+")
 
 
 class Site(NamedTuple):
@@ -156,5 +156,7 @@ def wanted_document(sites, points):
 
 
 def was_run(point):
-    """Whether the blocks of a test were run."""
-    return point.verdict != "blocked" and not (point.verdict == "skipped" and NOT_RUN.fullmatch(point.at))
+    """Whether the blocks of a test were run; None of one that is disabled, which is entered at least, unless its class is."""
+    if point.at == "disabled":
+        return None
+    return point.verdict != "blocked" and not (point.verdict == "skipped" and OF_CLASS.fullmatch(point.at) is not None)
