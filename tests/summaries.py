@@ -14,6 +14,7 @@ WIDEST = 160
 PLAIN = re.compile(rb"[A-Za-z0-9_./:=@%+,-]+")
 POINT = re.compile(rb"(ok|not ok) (\d+) - (.*)")
 KEY = re.compile(rb"  (verdict|message|at): (.*)")
+PRINTED = re.compile(rb'    - "(.*)"')
 NAMED_CONTROLS = {"\n": "\\n", "\r": "\\r", "\t": "\\t"}
 
 
@@ -43,6 +44,16 @@ class Point(NamedTuple):
     def at(self):
         told = self.value(b"at")
         return told if told is None else told[1:-1]
+
+    @property
+    def title(self):
+        """Its title, without backslashes."""
+        return re.sub(r"\\(.)", r"\1", self.line.decode().partition(" - ")[2].partition(" # SKIP ")[0])
+
+    @property
+    def output(self):
+        """The lines that it printed, without quotes and their backslashes."""
+        return [re.sub(r"\\(.)", r"\1", found[1].decode()) for found in map(PRINTED.fullmatch, self.block) if found]
 
 
 class Reader:
