@@ -1,12 +1,12 @@
 -- How what came of a run is answered.
 use Rattle.std.specs.Bool.{⊤}
 use Rattle.std.specs.Borrow.{Bor}
-use Rattle.std.proofs.Common.{◌≡◌, ◌≢◌, inl, inr, ℕ, List, Option, Some, None, Bool, Result, Ok, Err, IfErr, IsErrAnd, MatchResult, OnOk, true, ap, sym, subst, ◌∙◌}
+use Rattle.std.proofs.Common.{◌≡◌, ◌≢◌, inl, inr, ℕ, List, [], ◌∷◌, Option, Some, None, Bool, Result, Ok, Err, IfErr, IsErrAnd, MatchResult, OnOk, true, ap, ap₂, sym, subst, ◌∙◌}
 use Rattle.iso_arguments.specs.declared.request.InputFiles.{InputFiles}
 use Rattle.iso_arguments.specs.Requests.{NamesNothing}
 use Rattle.iso_run.proofs.Late.{late-so}
 use Rattle.iso_run.specs.Commands.{AreFor, IsRefused, way_of}
-use Rattle.iso_run.specs.Ends.{End, Whole, LacksFile, Refuses, GivesUp, BreaksOff, Answers, IfLate, IsEnded, Leaves, command_end, end_of, run_end}
+use Rattle.iso_run.specs.Ends.{End, Whole, LacksFile, Refuses, GivesUp, BreaksOff, Answers, IfLate, IsEnded, IsOfFile, Leaves, NamesFile, command_end, end_of, run_end}
 use Rattle.iso_run.specs.Replays.{Cause}
 use Rattle.iso_run.specs.Runs.{IsWritten, Product, TellsOf, Writes, suite_outcome, suite_report}
 use Rattle.iso_run.specs.Suites.{Suite}
@@ -16,7 +16,13 @@ use Rattle.iso_run.specs.declared.inputs.Inputs.{Inputs}
 use Rattle.iso_run.specs.declared.report.Summary.{Summary}
 use Rattle.iso_run.specs.declared.way.Way.{Way}
 use Rattle.iso_tap.specs.Sinks.{Account, HasFailed, Wrote, failures_after}
-use Rattle.iso_telling.specs.Telling.{IsSummarized}
+use Rattle.iso_github.specs.Errors.{errors_text}
+use Rattle.iso_run.specs.Besides.{IsQuiet, files_of}
+use Rattle.iso_run.specs.declared.besides.Besides.{Besides}
+use Rattle.iso_telling.specs.NodePlaces.{node_places}
+use Rattle.iso_telling.specs.Telling.{IsSummarized, IsTimed, IsTold, summary_of}
+use Rattle.iso_telling.specs.Written.{lent}
+use Rattle.iso_telling.specs.declared.tells.DurationsText.{DurationsText}
 use Rattle.iso_telling.specs.declared.tells.SummaryText.{SummaryText}
 use Rattle.iso_telling.specs.declared.tells.Tells.{Tells}
 
@@ -33,15 +39,35 @@ answered-as P Q f C D k old new result h =
     let end = end_of (λ (ok : Bool). ok) command_end result in
     weaker ⊤ P Q (λ late ok h. f ok h) C D k _ _ (λ failed. failed) old new end (late-so ⊤ end tt) h
 
--- what is left beside a file that is lacking, where this is true of a whole output
-abbrev pub Lacking : (Account → Bool → Type 0) → Option (Bor (List ℕ)) → Account → Type 0
-Lacking P file new = (ok : Bool) × P new ok × (file ≢ None)
+-- the files of what is told besides, by their names
+pub files-named : (besides : Besides) (failed junit : Option (Bor (List ℕ))) → besides.failed ≡ failed → besides.junit ≡ junit → files_of besides ≡ failed ∷ junit ∷ []
+files-named besides failed junit f j = ap₂ (λ (a b : Option (Bor (List ℕ))). a ∷ b ∷ []) f j
 
-some-file : (file : Option (Bor (List ℕ))) (name : Bor (List ℕ)) → file ≡ Some name → file ≢ None
-some-file file name e is = let some : Some name ≡ None = sym e ∙ is in cc
+pub no-file : (failed junit : Option (Bor (List ℕ))) → failed ≡ None → junit ≡ None → NamesFile (failed ∷ junit ∷ []) → ⊥
+no-file failed junit f j (inl named) = named f
+no-file failed junit f j (inr (inl named)) = named j
+no-file failed junit f j (inr (inr none)) = none
 
--- after a whole output, its flush and the file besides
-ended-after : (P : Account → Bool → Type 0) (file : Option (Bor (List ℕ))) (ok : Bool) (old mid new : Account) (text : List ℕ) → Wrote old mid text
+-- what is left beside a file that is lacking of these, where this is true of a whole output
+abbrev pub Lacking : (Account → Bool → Type 0) → List (Option (Bor (List ℕ))) → Account → Type 0
+Lacking P files new = (ok : Bool) × P new ok × NamesFile files
+
+some_file : (file : Option (Bor (List ℕ))) (name : Bor (List ℕ)) → file ≡ Some name → file ≢ None
+some_file file name e is = let some : Some name ≡ None = sym e ∙ is in cc
+
+-- a file that is lacking is named, and its fault ends a command with the file lacking
+pub named-file : (files : List (Option (Bor (List ℕ)))) (fault : CommandFault) → IsOfFile files fault → NamesFile files
+named-file [] fault h = absurd h
+named-file (file ∷ files) fault (inl h) = inl (some_file file h.0 h.1)
+named-file (file ∷ files) fault (inr h) = inr (named-file files fault h)
+
+pub lacks-file : (files : List (Option (Bor (List ℕ)))) (fault : CommandFault) → IsOfFile files fault → command_end fault ≡ LacksFile
+lacks-file [] fault h = absurd h
+lacks-file (file ∷ files) fault (inl h) = ap command_end h.2
+lacks-file (file ∷ files) fault (inr h) = lacks-file files fault h
+
+-- after a whole output, its flush and the files besides
+ended-after : (P : Account → Bool → Type 0) (file : List (Option (Bor (List ℕ)))) (ok : Bool) (old mid new : Account) (text : List ℕ) → Wrote old mid text
     → P mid ok → (result : Result Bool CommandFault) → IsEnded ok file mid new result
     → Answers (P new) (Lacking P file new) old new result
 ended-after P file ok old mid new text wrote w (Ok told) h =
@@ -49,12 +75,12 @@ ended-after P file ok old mid new text wrote w (Ok told) h =
 ended-after P file ok old mid new text wrote w (Err fault) (inl h) =
     subst (λ (f : CommandFault). Answers (P new) (Lacking P file new) old new (Err f)) (sym h.0) (h.1 ∙ ap (failures_after true) wrote.failures)
 ended-after P file ok old mid new text wrote w (Err fault) (inr h) =
-    subst (λ (f : CommandFault). Answers (P new) (Lacking P file new) old new (Err f)) (sym h.1.2)
-    (ok, subst (λ (a : Account). P a ok) (sym h.0) w, some-file file h.1.0 h.1.1)
+    subst (Leaves (P new) (Lacking P file new) (HasFailed old.failures new.failures) old new) (sym (lacks-file file fault h.1))
+    (ok, subst (λ (a : Account). P a ok) (sym h.0) w, named-file file fault h.1)
 
 -- what is told of a run is answered of its files
 pub run-answered : (X : Type 0) (P : Account → Bool → Type 0) (product : Suite → Product) (inputs : Inputs) (way : Way) (old mid : Account) → (X → (ok : Bool) → IsWritten product inputs way old mid ok → P mid ok)
-    → (file : Option (Bor (List ℕ))) (new : Account) (ran : Result Summary RunFault) → IfLate (end_of (λ (s : Summary). s.all_ok) run_end ran) X → Writes (λ (s : Summary). s.all_ok) product inputs way old mid ran
+    → (file : List (Option (Bor (List ℕ)))) (new : Account) (ran : Result Summary RunFault) → IfLate (end_of (λ (s : Summary). s.all_ok) run_end ran) X → Writes (λ (s : Summary). s.all_ok) product inputs way old mid ran
     → (result : Result Bool CommandFault)
     → MatchResult ran (λ s. IsEnded s.all_ok file mid new result) (λ fault. (new ≡ mid) × IsErrAnd result (λ told. command_end told ≡ run_end fault))
     → Answers (P new) (Lacking P file new) old new result
@@ -69,7 +95,7 @@ run-answered X P product inputs way old mid f file new (Err fault) late writes (
     (subst (Leaves (P mid) (Lacking P file mid) (HasFailed old.failures mid.failures) old mid) (sym h.1) left)
 
 -- a plain run that is told as refused was refused
-pub run-refused : (files : InputFiles) (input : Option (List ℕ)) (inputs : Inputs) (serial : Bool) (way : Way) → NamesNothing files → AreFor files input inputs → way ≡ way_of serial → (file : Option (Bor (List ℕ))) (old mid new : Account)
+pub run-refused : (files : InputFiles) (input : Option (List ℕ)) (inputs : Inputs) (serial : Bool) (way : Way) → NamesNothing files → AreFor files input inputs → way ≡ way_of serial → (file : List (Option (Bor (List ℕ)))) (old mid new : Account)
     → (ran : Result Summary RunFault) → Writes (λ (s : Summary). s.all_ok) suite_report inputs way old mid ran
     → (result : Result Bool CommandFault)
     → MatchResult ran (λ s. IsEnded s.all_ok file mid new result) (λ fault. (new ≡ mid) × IsErrAnd result (λ told. command_end told ≡ run_end fault))
@@ -78,7 +104,7 @@ run-refused files input inputs serial way nothing are is file old mid new ran wr
 run-refused files input inputs serial way nothing are is file old mid new (Ok summary) writes (Err told) (inl h) =
     λ refuses. let broke : BreaksOff ≡ Refuses = sym (ap command_end h.0) ∙ refuses in absurd (cc)
 run-refused files input inputs serial way nothing are is file old mid new (Ok summary) writes (Err told) (inr h) =
-    λ refuses. let lacks : LacksFile ≡ Refuses = sym (ap command_end h.1.2) ∙ refuses in absurd (cc)
+    λ refuses. let lacks : LacksFile ≡ Refuses = sym (lacks-file file told h.1) ∙ refuses in absurd (cc)
 run-refused files input inputs serial way nothing are is file old mid new (Err fault) writes (Err told) h =
     λ refuses. record {
       files = files;
@@ -91,9 +117,25 @@ run-refused files input inputs serial way nothing are is file old mid new (Err f
       cause = subst (λ (w : Way). Cause inputs w fault) is writes.cause;
     }
 
--- where no summary was asked for, none was told
-pub still-unasked : {A F : Type 0} (inputs : Inputs) (old new : Tells) (result : Result A F) → OnOk result (TellsOf inputs old new) → old.summary ≡ None → OnOk result (new.summary ≡ None)
-still-unasked inputs old new (Ok a) h none =
-    let told = h.2.told in
-    subst (λ (o : Option SummaryText). IsSummarized h.2.written h.0.nodes (suite_outcome h.0) o new.summary) none told.summary
-still-unasked inputs old new (Err e) h none = tt
+quiet-told : (inputs : Inputs) (times : List (Option ℕ)) (old new : Tells) → TellsOf inputs times old new → IsQuiet old → IsQuiet new
+quiet-told inputs times old new h quiet =
+    let suite = h.0 in
+    let placed = h.2.told.placed in
+    let sites = h.2.told.sites in
+    let summarized = summary_of h.2.written.texts suite.nodes (suite_outcome suite) sites (lent old.names.now) in
+    let errors = errors_text suite.nodes (suite_outcome suite) (node_places (lent old.names.now) suite.nodes sites (suite_outcome suite)) in (
+      subst (λ (o : Option SummaryText). IsSummarized summarized o new.summary) quiet.0 placed.summary,
+      subst (λ (o : Option DurationsText). IsTimed suite.nodes times o new.durations) quiet.1 h.2.told.durations,
+      subst (λ (o : Option Account). IsTold errors o new.github) quiet.2 placed.github,
+    )
+
+-- where nothing is to be told on standard error, nothing was told
+pub still-quiet : {A F : Type 0} (inputs : Inputs) (old new : Tells) (result : Result A F) → OnOk result ((times : List (Option ℕ)) × TellsOf inputs times old new)
+    → IsQuiet old → OnOk result (IsQuiet new)
+still-quiet inputs old new (Ok a) h quiet = quiet-told inputs h.0 old new h.1 quiet
+still-quiet inputs old new (Err e) h quiet = tt
+
+pub still-quiet-untimed : {A F : Type 0} (inputs : Inputs) (old new : Tells) (result : Result A F) → OnOk result (TellsOf inputs [] old new)
+    → IsQuiet old → OnOk result (IsQuiet new)
+still-quiet-untimed inputs old new (Ok a) h quiet = quiet-told inputs [] old new h quiet
+still-quiet-untimed inputs old new (Err e) h quiet = tt

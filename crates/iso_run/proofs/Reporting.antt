@@ -1,5 +1,5 @@
 -- The report of results is that of their suite.
-use Rattle.std.proofs.Common.{◌≡◌, ℕ, List, Bool, true, Result, Ok, Err, MatchResult, OnOk, is_some, refl, subst, sym, ap, ap₂, ◌∙◌}
+use Rattle.std.proofs.Common.{◌≡◌, ℕ, List, Bool, true, Result, Ok, Err, MatchResult, OnOk, Option, refl, subst, sym, ap, ap₂, ◌∙◌}
 use Rattle.iso_run.specs.Suites.{IsSuite, Suite, planned, texts}
 use Rattle.iso_run.specs.declared.inputs.Inputs.{Inputs}
 use Rattle.iso_lifecycle.specs.ResultViews.{ResultsView, outcome_in}
@@ -11,7 +11,7 @@ use Rattle.iso_tap.specs.Reports.{all_ok, report}
 use Rattle.iso_tap.specs.Sinks.{Account, Wrote}
 use Rattle.iso_run.specs.Replays.{IsPlayed}
 use Rattle.iso_run.specs.Runs.{IsCutOff, IsUnwritten, Product, TellsOf, Writes, suite_report}
-use Rattle.iso_telling.specs.Telling.{HasTold}
+use Rattle.iso_telling.specs.Telling.{HasTold, wants_places}
 use Rattle.iso_telling.specs.Written.{ArePlaced, WrittenView}
 use Rattle.iso_telling.specs.declared.tells.Tells.{Tells}
 use Rattle.iso_run.specs.declared.fault.RunFault.{RunFault}
@@ -63,11 +63,25 @@ module _ (inputs : Inputs) (old new : Account) (suite : Suite) (plan : Planned) 
   reported way played (Err fault) h = unreported way played fault h
 
   -- what was told of the results of a suite was told of it
-  pub told : {A F : Type 0} (w : WrittenView) (before after : Tells) → w.texts ≡ texts inputs.scripts.now → (is_some before.summary ≡ true → ArePlaced w.texts w.scripts w.places)
-      → (result : Result A F) → OnOk result (HasTold w (tree_of plan) (outcome_in v) before after) → OnOk result (TellsOf inputs before after)
-  told w before after same placed (Ok a) h =
-      let started_so = subst (λ (s : Start). HasTold w (tree_of plan) (outcome_alone (tree_of v.plan) (started s)) before after) on h in
-      let planned_so = subst (λ (p : Planned). HasTold w (tree_of plan) (outcome_alone (tree_of p) (started suite.start)) before after) of started_so in
-      let all = subst (λ (p : Planned). HasTold w (tree_of p) (outcome_alone (tree_of p) (started suite.start)) before after) made planned_so in
+  told_of : (w : WrittenView) (times : List (Option ℕ)) (before after : Tells) → w.texts ≡ texts inputs.scripts.now
+      → (wants_places before ≡ true → ArePlaced w.texts w.scripts w.places)
+      → HasTold w (tree_of plan) (outcome_in v) times before after → TellsOf inputs times before after
+  told_of w times before after same placed h =
+      let started_so = subst (λ (s : Start). HasTold w (tree_of plan) (outcome_alone (tree_of v.plan) (started s)) times before after) on h in
+      let planned_so = subst (λ (p : Planned). HasTold w (tree_of plan) (outcome_alone (tree_of p) (started suite.start)) times before after) of started_so in
+      let all = subst (λ (p : Planned). HasTold w (tree_of p) (outcome_alone (tree_of p) (started suite.start)) times before after) made planned_so in
       (suite, is, record { written = w; texts_are = same; placed = placed; told = all })
-  told w before after same placed (Err e) h = tt
+
+  pub told : {A F : Type 0} (w : WrittenView) (times : List (Option ℕ)) (before after : Tells) → w.texts ≡ texts inputs.scripts.now
+      → (wants_places before ≡ true → ArePlaced w.texts w.scripts w.places)
+      → (result : Result A F) → OnOk result (HasTold w (tree_of plan) (outcome_in v) times before after) → OnOk result (TellsOf inputs times before after)
+  told w times before after same placed (Ok a) h = told_of w times before after same placed h
+  told w times before after same placed (Err e) h = tt
+
+  -- the same, with times that may be any
+  pub told-timed : {A F : Type 0} (w : WrittenView) (times : List (Option ℕ)) (before after : Tells) → w.texts ≡ texts inputs.scripts.now
+      → (wants_places before ≡ true → ArePlaced w.texts w.scripts w.places)
+      → (result : Result A F) → OnOk result (HasTold w (tree_of plan) (outcome_in v) times before after)
+      → OnOk result ((any : List (Option ℕ)) × TellsOf inputs any before after)
+  told-timed w times before after same placed (Ok a) h = (times, told_of w times before after same placed h)
+  told-timed w times before after same placed (Err e) h = tt

@@ -1,5 +1,5 @@
 -- What a command does for what its words ask, and how it ends.
-use Rattle.std.specs.Prelude.{◌≡◌, ◌≢◌, ⊤, ℕ, ◌+◌, List, [], ◌∷◌, length, map, take, Bool, true, false, cond, Option, None, Some, IfOk, IfSome, Result, Ok, Vec, is_some, option_map, codes, string_bytes}
+use Rattle.std.specs.Prelude.{◌≡◌, ⊤, ℕ, ◌+◌, List, [], ◌∷◌, length, map, take, Bool, true, false, cond, Option, None, Some, IfOk, IfSome, Result, Ok, Vec, is_some, option_map, codes, string_bytes}
 use Rattle.std.specs.Option.{option_copied}
 use Rattle.std.specs.Borrow.{Bor}
 use Rattle.std.specs.Global.{Global}
@@ -14,7 +14,7 @@ use Rattle.iso_arguments.specs.declared.request.Summarized.TheVariants.{Failed, 
 use Rattle.iso_arguments.specs.declared.shard.Shard as A
 use Rattle.iso_explain_settings.specs.Listing.{listing_text}
 use Rattle.iso_model.specs.declared.limits.TheConstants.{FILE_BYTES}
-use Rattle.iso_run.specs.Ends.{End, Whole, Refuses, Leaves, exit_status, run_end}
+use Rattle.iso_run.specs.Ends.{End, NamesFile, Whole, Refuses, Leaves, exit_status, run_end}
 use Rattle.iso_run.specs.Replays.{Cause}
 use Rattle.iso_places.specs.declared.site.Site.{Site}
 use Rattle.iso_plan.specs.Selections.{texts_of}
@@ -133,24 +133,24 @@ pub record Answered {A : Type 0} (words : List A) (input : Option (List ℕ)) (o
   pub plain : words ≡ [] → IsPlainRun request
   pub did : Did request input old new ok
 
--- the file that a request has written besides, if it names one
-abbrev pub file_of : Request → Option (Bor (List ℕ))
-file_of (Show text) = None
-file_of (Plan tests places files) = None
-file_of (Check files) = None
-file_of (Settings name processors explain) = None
-file_of (Run serial extras files) = extras.failed
-file_of (Replay name extras files) = extras.failed
+-- the files that a request has written besides, where it names them
+abbrev pub files_named : Request → List (Option (Bor (List ℕ)))
+files_named (Show text) = []
+files_named (Plan tests places files) = []
+files_named (Check files) = []
+files_named (Settings name processors explain) = []
+files_named (Run serial extras files) = extras.failed ∷ extras.junit ∷ []
+files_named (Replay name extras files) = extras.failed ∷ extras.junit ∷ []
 
 -- What a request asks for was done, and it names a file to be written besides.
 abbrev pub DidBesides : Request → Option (List ℕ) → (old new : Account) → Type 0
-DidBesides request input old new = (ok : Bool) × Did request input old new ok × (file_of request ≢ None)
+DidBesides request input old new = (ok : Bool) × Did request input old new ok × NamesFile (files_named request)
 
 -- What some request asks for was done, of those that name a file to be written besides.
 pub record AnsweredBesides {A : Type 0} (words : List A) (input : Option (List ℕ)) (old new : Account) : Type 0 where
   pub ok : Bool
   pub answered : Answered words input old new ok
-  pub names : file_of answered.request ≢ None
+  pub names : NamesFile (files_named answered.request)
 
 -- How a command ended, by its exit status. What is left of an output that broke off is that it failed, once.
 pub record Ended {A : Type 0} (words : List A) (input : Option (List ℕ)) (old new : Account) (status : ℕ) : Type 0 where

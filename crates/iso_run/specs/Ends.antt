@@ -1,15 +1,15 @@
 -- How a run and a command end: with which exit status, and what that leaves of the output.
 use Rattle.std.specs.Borrow.{Bor}
-use Rattle.std.specs.Prelude.{◌≡◌, ◌≢◌, ◌⊎◌, ⊤, ℕ, List, Bool, cond, Option, None, Some, IfSome, Result, Ok, Err}
+use Rattle.std.specs.Prelude.{◌≡◌, ◌≢◌, ◌⊎◌, ⊤, ℕ, List, [], ◌∷◌, Bool, cond, Option, None, Some, Result, Ok, Err}
 use Rattle.iso_arguments.specs.declared.request.WordsFault.{WordsFault}
 use Rattle.iso_arguments.specs.declared.request.WordsFault.TheVariants as W
 use Rattle.iso_run.specs.declared.command_fault.CommandFault.{CommandFault}
 use Rattle.iso_run.specs.declared.command_fault.CommandFault.TheVariants.{Words, Unreadable, TooLarge, NotListed, Unwritten, Unwritable, Uncounted, Told, Run, Explained}
 use Rattle.iso_run.specs.declared.fault.RunFault.{RunFault}
 use Rattle.iso_run.specs.declared.fault.RunFault.TheVariants.{Start, Lost, Memory, Write}
-use Rattle.iso_tap.specs.Sinks.{Account, CutOff, HasFailed, Wrote}
+use Rattle.iso_tap.specs.Sinks.{Account, HasFailed}
 
--- all was written, and whether it tells that all is ok; the output was, and a file that was to be written besides wasn't; refused or given
+-- all was written, and whether it tells that all is ok; the output was, and some file that was to be written besides wasn't; refused or given
 -- up before anything was written; or the output broke off
 pub data End : Type 0 where
   Whole : (ok : Bool) → End
@@ -87,24 +87,33 @@ IsFlushed ok old new (Err fault) = (fault ≡ Unwritten) × HasFailed old.failur
 abbrev pub GaveUp : CommandFault → Type 0
 GaveUp fault = command_end fault ≡ GivesUp
 
--- the fault comes before anything is asked of the output
+-- the end comes before anything is asked of the output
+abbrev pub IsEarly : End → Type 0
+IsEarly end = (end ≢ BreaksOff) × (end ≢ LacksFile)
+
 abbrev pub ComesEarly : CommandFault → Type 0
-ComesEarly fault = (command_end fault ≢ BreaksOff) × (command_end fault ≢ LacksFile)
+ComesEarly fault = IsEarly (command_end fault)
 
--- the fault is that the file which is to be written besides can't be
-abbrev pub IsOfFile : Option (Bor (List ℕ)) → CommandFault → Type 0
-IsOfFile file fault = (name : Bor (List ℕ)) × (file ≡ Some name) × (fault ≡ Unwritable name)
+-- of files, where they are named, one is named
+abbrev pub NamesFile : List (Option (Bor (List ℕ))) → Type 0
+NamesFile [] = ⊥
+NamesFile (file ∷ files) = (file ≢ None) ⊎ NamesFile files
 
--- what is answered once the file besides was written, if one is to be
-abbrev pub IsFiled : (ok : Bool) → Option (Bor (List ℕ)) → Result Bool CommandFault → Type 0
-IsFiled ok file (Ok told) = told ≡ ok
-IsFiled ok file (Err fault) = IsOfFile file fault
+-- the fault is that one of the files which are to be written besides can't be
+abbrev pub IsOfFile : List (Option (Bor (List ℕ))) → CommandFault → Type 0
+IsOfFile [] fault = ⊥
+IsOfFile (file ∷ files) fault = ((name : Bor (List ℕ)) × (file ≡ Some name) × (fault ≡ Unwritable name)) ⊎ IsOfFile files fault
 
--- what is answered of a whole output once it was flushed and the file besides was written
-abbrev pub IsEnded : (ok : Bool) → Option (Bor (List ℕ)) → (old new : Account) → Result Bool CommandFault → Type 0
-IsEnded ok file old new (Ok told) = (told ≡ ok) × (new ≡ old)
-IsEnded ok file old new (Err fault) = ((fault ≡ Unwritten) × HasFailed old.failures new.failures) ⊎ ((new ≡ old) × IsOfFile file fault)
+-- the file that was lost before, if one was, or one that is named
+abbrev pub IsOneOf : (lost file found : Option (Bor (List ℕ))) → Type 0
+IsOneOf lost file found = (found ≡ lost) ⊎ ((found ≡ file) × (file ≢ None))
 
--- the text that another sink took was handed to a sink, which took it, whole or as far as it did before it failed
-abbrev pub IsSaidIn : (text old new : Account) → Type 0
-IsSaidIn text old new = IfSome text.bytes (λ bytes. Wrote old new bytes ⊎ CutOff old new bytes)
+-- what is answered once the files besides were written
+abbrev pub IsFiled : (ok : Bool) → List (Option (Bor (List ℕ))) → Result Bool CommandFault → Type 0
+IsFiled ok files (Ok told) = told ≡ ok
+IsFiled ok files (Err fault) = IsOfFile files fault
+
+-- what is answered of a whole output once it was flushed and the files besides were written
+abbrev pub IsEnded : (ok : Bool) → List (Option (Bor (List ℕ))) → (old new : Account) → Result Bool CommandFault → Type 0
+IsEnded ok files old new (Ok told) = (told ≡ ok) × (new ≡ old)
+IsEnded ok files old new (Err fault) = ((fault ≡ Unwritten) × HasFailed old.failures new.failures) ⊎ ((new ≡ old) × IsOfFile files fault)

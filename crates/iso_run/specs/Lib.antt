@@ -1,3 +1,4 @@
+pub mod Besides
 pub mod Commands
 pub mod Ends
 pub mod Replays

@@ -1,6 +1,6 @@
 -- What a run, a replay and a printed plan write, whole, or why not.
 use Rattle.std.specs.Borrow.{Bor}
-use Rattle.std.specs.Prelude.{◌≡◌, ℕ, ◌<◌, List, Bool, true, cond, is_some, length, map, take, Result, IfErr}
+use Rattle.std.specs.Prelude.{◌≡◌, ℕ, ◌<◌, List, Bool, true, cond, length, map, take, Option, Result, IfErr}
 use Rattle.iso_run.specs.Ends.{Leaves, end_of, run_end}
 use Rattle.iso_run.specs.Replays.{Cause, IsPlayed}
 use Rattle.iso_run.specs.Suites.{IsSuite, OfSuite, Suite, planned, suite_of, texts}
@@ -23,7 +23,7 @@ use Rattle.iso_settings.specs.declared.settings.Settings.{Settings}
 use Rattle.iso_tap.specs.PlanText.{plan_text, tests_text}
 use Rattle.iso_tap.specs.Reports.{all_ok, report}
 use Rattle.iso_tap.specs.Sinks.{Account, HasFailed, Took, Wrote}
-use Rattle.iso_telling.specs.Telling.{HasTold}
+use Rattle.iso_telling.specs.Telling.{HasTold, wants_places}
 use Rattle.iso_telling.specs.Written.{ArePlaced, WrittenView}
 use Rattle.iso_telling.specs.declared.tells.Tells.{Tells}
 
@@ -82,15 +82,15 @@ pub record IsRead (inputs : Inputs) (keeps : Bool) (suite : ReadSuite) : Type 0 
 abbrev pub as_written : ReadSuite → List (Bor (List ℕ)) → WrittenView
 as_written suite scripts = record { scripts = map script_of suite.scripts.items; places = places_in suite.places.items; texts = texts scripts }
 
--- Of a suite all that is asked for was told besides. What is told with places is told with those that stand in the bytes of its scripts.
-pub record IsToldOf (inputs : Inputs) (suite : Suite) (old new : Tells) : Type 0 where
+-- Of a suite all that is asked for was told besides, with these times of its nodes. What is told with places is told with those that stand in the bytes of its scripts.
+pub record IsToldOf (inputs : Inputs) (suite : Suite) (times : List (Option ℕ)) (old new : Tells) : Type 0 where
   pub written : WrittenView
   pub texts_are : written.texts ≡ texts inputs.scripts.now
-  pub placed : is_some old.summary ≡ true → ArePlaced written.texts written.scripts written.places
-  pub told : HasTold written suite.nodes (suite_outcome suite) old new
+  pub placed : wants_places old ≡ true → ArePlaced written.texts written.scripts written.places
+  pub told : HasTold written suite.nodes (suite_outcome suite) times old new
 
-abbrev pub TellsOf : Inputs → (old new : Tells) → Type 0
-TellsOf inputs old new = OfSuite inputs (λ suite. IsToldOf inputs suite old new)
+abbrev pub TellsOf : Inputs → (times : List (Option ℕ)) → (old new : Tells) → Type 0
+TellsOf inputs times old new = OfSuite inputs (λ suite. IsToldOf inputs suite times old new)
 
 -- Sites are those of the nodes of the suite that inputs are, by what stands in the bytes of its scripts.
 pub record AreSitesOf (inputs : Inputs) (suite : Suite) (sites : List Site) : Type 0 where

@@ -1,12 +1,14 @@
 //! What a command tells besides a report.
 ghost use Rattle.std.specs.Prelude.{◌≡◌, IfSome, IsSomeAnd, None, is_some};
+ghost use Rattle.iso_arguments.specs.Requests.{AsksForNoMore};
+ghost use Rattle.iso_run.specs.Besides.{IsPlain};
 ghost use Rattle.iso_run.specs.Commands.{again_of, tells_of_skipped};
-ghost use Rattle.iso_telling.specs.Telling.{nothing_yet};
+ghost use Rattle.iso_telling.specs.Telling.{nothing_yet, told_nothing};
 
 use iso_arguments::request::{Extras, InputFiles, Summarized};
 use iso_summary::again::Again;
 use iso_tap::memory::MemorySink;
-use iso_telling::tells::{SummaryText, Tells};
+use iso_telling::tells::{DurationsText, SummaryText, Tells};
 use std::alloc::Global;
 
 /// What a command tells besides a report.
@@ -14,18 +16,20 @@ use std::alloc::Global;
 pub(crate) struct Besides<'b, 'a> {
     pub tells: Tells<'b>,
     /// The file into which the paths of what failed are written.
-    pub file: Option<&'a str>,
+    pub failed: Option<&'a str>,
+    /// The file into which the results are written as JUnit's XML.
+    pub junit: Option<&'a str>,
 }
 
 impl<'b, 'a> Besides<'b, 'a> {
     /// Nothing.
     pub fn nothing() -> Besides<'b, 'a>
-        ensures file { result.file ≡ None }
-        ensures summary { result.tells.summary ≡ None }
+        ensures { IsPlain result }
     {
         Besides {
             tells: Tells::nothing(),
-            file: None,
+            failed: None,
+            junit: None,
         }
     }
 
@@ -36,30 +40,55 @@ impl<'b, 'a> Besides<'b, 'a> {
         files: &'b InputFiles<'b>,
         processors: u32,
     ) -> Besides<'b, 'a>
-        ensures file { result.file ≡ extras.entry.failed }
-        ensures failed { is_some result.tells.failed ≡ is_some extras.entry.failed }
+        ensures failed_file { result.failed ≡ extras.entry.failed }
+        ensures junit_file { result.junit ≡ extras.entry.junit }
+        ensures names { result.tells.names.now ≡ files.now.scripts.items }
+        ensures failed { result.tells.failed ≡ told_nothing (is_some extras.entry.failed) }
+        ensures junit { result.tells.junit ≡ told_nothing (is_some extras.entry.junit) }
+        ensures github { result.tells.github ≡ told_nothing extras.entry.github }
+        ensures untimed { extras.entry.durations ≡ None → result.tells.durations ≡ None }
+        ensures durations { IfSome extras.entry.durations (λ most. IsSomeAnd result.tells.durations (λ d. (d.most ≡ most) × (d.text ≡ nothing_yet))) }
         ensures unasked { extras.entry.summary ≡ None → result.tells.summary ≡ None }
         ensures summary { IfSome extras.entry.summary (λ of. IsSomeAnd result.tells.summary (λ s. (s.skipped ≡ tells_of_skipped of)
-            × (s.explain ≡ files.now.explain) × (s.names.now ≡ files.now.scripts.items) × (s.again ≡ again_of files.now processors) × (s.text ≡ nothing_yet))) }
+            × (s.explain ≡ files.now.explain) × (s.again ≡ again_of files.now processors) × (s.text ≡ nothing_yet))) }
+        ensures plain { AsksForNoMore extras.entry → IsPlain result }
     {
-        let failed = match extras.failed {
-            Some(_) => Some(MemorySink::new(alloc)),
-            None => None,
-        };
         let summary = match extras.summary {
             Some(of) => Some(SummaryText::new(
                 alloc,
                 of == Summarized::All,
                 files.explain,
-                &files.scripts,
                 again_of(files, processors),
             )),
             None => None,
         };
+        let durations = match extras.durations {
+            Some(most) => Some(DurationsText::new(alloc, most)),
+            None => None,
+        };
         Besides {
-            tells: Tells { failed, summary },
-            file: extras.failed,
+            tells: Tells {
+                names: &files.scripts,
+                failed: asked_text(alloc, extras.failed.is_some()),
+                summary,
+                junit: asked_text(alloc, extras.junit.is_some()),
+                github: asked_text(alloc, extras.github),
+                durations,
+            },
+            failed: extras.failed,
+            junit: extras.junit,
         }
+    }
+}
+
+/// A text of which nothing was told, where one is asked for.
+fn asked_text(alloc: Global, asked: bool) -> Option<MemorySink>
+    ensures { result ≡ told_nothing asked }
+{
+    if asked {
+        Some(MemorySink::new(alloc))
+    } else {
+        None
     }
 }
 

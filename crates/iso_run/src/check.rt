@@ -1,19 +1,17 @@
 //! Checks of files, without a run.
-ghost use Rattle.std.specs.Prelude.{◌≡◌, ◌≤◌, IfErr, IfOk, Option, ℕ, List, ⊤, MatchResult};
+ghost use Rattle.std.specs.Prelude.{◌≤◌, IfErr, IfOk, Option, ℕ, List};
 ghost use Rattle.iso_arguments.specs.Requests.{AreInBounds};
-ghost use Rattle.iso_run.specs.Commands.{AreFor, AreReads, IsAcceptedFor, WereRead};
+ghost use Rattle.iso_run.specs.Commands.{AreReads, IsAcceptedFor};
 ghost use Rattle.iso_run.specs.Ends.{ComesEarly};
-ghost use Rattle.iso_run.specs.Suites.{NoSuite, OfSuite};
-ghost use Rattle.iso_run.specs.declared.inputs.Inputs as I;
 
-use crate::command::{inputs_of, named, shard_of, with_mending};
+use crate::command::{named, with_mending};
 use crate::command_fault::CommandFault;
 use crate::exit::FAILED;
 use crate::fault::RunFault;
-use crate::files::{FileReads, InputBytes, all_of, lent, read_each};
-use crate::inputs::{read_inputs, settings_from, world_from};
+use crate::files::{FileReads, all_of, read_each};
+use crate::inputs::{settings_from, world_from};
 use crate::lines::say;
-use crate::mending::{script_mending, settings_mending, world_mending};
+use crate::mending::{script_mending, settings_mending, suite_of, world_mending};
 use crate::warning::say_warnings;
 use iso_arguments::request::InputFiles;
 use iso_script::fault::ScriptError;
@@ -39,18 +37,20 @@ pub(crate) fn check<'a, G: AllocGlobal + Files + Threads, R: Read, E: Sink>(
 {
     let reads = read_each(rt, files, input)?;
     let told = Tally::of(rt.alloc(), &reads, files, errors);
-    match accept_reads(rt.alloc(), reads, files, errors) {
+    match accept_reads(rt.alloc(), reads, files, told, errors) {
         Ok(()) if told.failed => Err(CommandFault::Told(true)),
         Ok(()) => Ok(()),
         Err(fault) => Err(CommandFault::Told(told.fails(&fault, errors))),
     }
 }
 
-/// Whether the inputs that were read are a suite, or why they are none. Of a suite it tells what was likely meant otherwise.
+/// Whether the inputs that were read are a suite, or why they are none. Of a suite it tells what was likely meant otherwise. A fault is
+/// explained only where none was told before.
 fn accept_reads<'a, E: Sink>(
     alloc: Global,
     reads: FileReads<'a>,
     files: &InputFiles<'a>,
+    told: Tally,
     errors: &mut E,
 ) -> Result<(), CommandFault<'a>>
     requires bounds { AreInBounds files.now }
@@ -58,32 +58,13 @@ fn accept_reads<'a, E: Sink>(
     ensures { (input : Option (List ℕ)) → AreReads files.now input reads.entry → IfOk result (λ _. IsAcceptedFor files.now input) }
 {
     let bytes = all_of(alloc, reads)?;
-    match accept(alloc, &bytes, &*files) {
-        Ok(()) => {
-            say_warnings(alloc, &bytes, &*files, errors);
+    match suite_of(alloc, &bytes, &*files) {
+        Ok(suite) => {
+            say_warnings(alloc, &bytes, &suite, &*files, errors);
             Ok(())
         }
-        Err(fault) => Err(named(alloc, fault, bytes, files)),
-    }
-}
-
-/// Whether the inputs that these bytes are, are a suite, or why they are none.
-fn accept<'b>(
-    alloc: Global,
-    bytes: &'b InputBytes,
-    files: &'b InputFiles<'b>,
-) -> Result<(), RunFault>
-    requires bounds { AreInBounds files.now }
-    requires counted { 1 ≤ bytes.now.processors }
-    ensures { (input : Option (List ℕ)) → WereRead files.now input bytes.now → (inputs : I.Inputs) × AreFor files.now input inputs
-        × MatchResult result (λ _. OfSuite inputs (λ suite. ⊤)) (NoSuite inputs) }
-{
-    let shard = shard_of(files.shard);
-    let scripts = lent(alloc, &bytes.scripts)?;
-    let inputs = inputs_of(bytes, &scripts, files, shard);
-    match read_inputs(alloc, inputs, false) {
-        Ok(_) => Ok(()),
-        Err(fault) => Err(fault),
+        Err(fault) if told.is_empty() => Err(named(alloc, fault, bytes, files, false)),
+        Err(fault) => Err(CommandFault::Run(fault, None)),
     }
 }
 
@@ -198,6 +179,11 @@ impl Tally {
         }
     }
 
+    /// Whether nothing was told.
+    fn is_empty(self) -> bool {
+        !self.refused && !self.failed
+    }
+
     /// Tells a fault.
     fn tell<E: Sink>(&mut self, fault: &CommandFault<'_>, errors: &mut E) {
         say(errors, fault);
@@ -210,7 +196,7 @@ impl Tally {
 
     /// Whether something failed, also where this fault is the last one. It is told, if nothing was told before.
     fn fails<E: Sink>(self, fault: &CommandFault<'_>, errors: &mut E) -> bool {
-        if !self.refused && !self.failed {
+        if self.is_empty() {
             say(errors, fault);
         }
         self.failed || fault.status() == FAILED

@@ -1,11 +1,12 @@
 //! The program, over a reader and two sinks.
-ghost use Rattle.std.specs.Prelude.{◌≡◌, ◌≤◌, ℕ, List, None, Option, [], IfErr, IfSome, IsErrAnd, MatchResult, OnOk, true, option_map};
+ghost use Rattle.std.specs.Prelude.{◌≡◌, ◌≤◌, ℕ, List, None, Option, [], IfErr, IfSome, IsErrAnd, MatchResult, OnOk, false, true, option_map};
 ghost use Rattle.std.specs.Option.{option_copied};
 ghost use Rattle.iso_arguments.specs.Requests.{AreInBounds, AsksInBounds, IsPlainRun, IsShard};
 ghost use Rattle.iso_places.specs.declared.site.Site.{Site};
 ghost use Rattle.iso_plan.specs.Selections.{texts_of};
+ghost use Rattle.iso_run.specs.Besides.{IsQuiet, IsSaid, files_of, parted, parts_of};
 ghost use Rattle.iso_run.specs.Commands.{Answered, AnsweredBesides, ArePlaces, AreFor, Did, DidBesides, Ended, IsRefused, RanOn, WereRead, plan_of, shard_asked, way_of};
-ghost use Rattle.iso_run.specs.Ends.{Answers, IfLate, IsEnded, IsFiled, IsFlushed, IsSaidIn, Refuses, command_end, end_of, exit_status, run_end, words_fault};
+ghost use Rattle.iso_run.specs.Ends.{Answers, IfLate, IsEnded, IsFlushed, Refuses, command_end, end_of, exit_status, run_end, words_fault};
 ghost use Rattle.iso_run.specs.Runs.{Writes, suite_report};
 ghost use Rattle.iso_run.specs.declared.inputs.Inputs.{Inputs};
 ghost use Rattle.iso_run.specs.declared.way.Way.TheVariants.{Serial};
@@ -16,16 +17,18 @@ use crate::check::check;
 use crate::command_fault::CommandFault;
 use crate::exit::{ALL_OK, NOT_ALL_OK};
 use crate::fault::RunFault;
-use crate::files::{InputBytes, lent, read_files, write_file};
+use crate::files::{InputBytes, lent, read_files};
+use crate::filing::filed;
 use crate::inputs::Inputs;
 use crate::lines::say;
-use crate::mending::mending;
+use crate::mending::after_fault;
+use crate::parts::say_parts;
 use crate::plan::{show_places, show_plan, show_tests};
 use crate::replay::run_schedule;
 use crate::report::Summary;
 use crate::run::run_serial;
 use crate::settings::show_settings;
-use crate::warning::warn;
+use crate::warning::looked_over;
 use crate::way::Way;
 use crate::workers::run_workers;
 use iso_arguments::request::{InputFiles, Request, WordsFault, read_words};
@@ -34,22 +37,22 @@ use iso_lifecycle::gate::OpenGate;
 use iso_plan::fault::PlanFault;
 use iso_selection::shard::Shard;
 use iso_tap::memory::MemorySink;
-use iso_tap::printer::Printer;
 use iso_tap::sink::Sink;
 use iso_tap::text::write_text;
 use iso_telling::tells::Tells;
 use std::alloc::{AllocGlobal, Global};
 use std::fs::Files;
 use std::io::Read;
+use std::rt::Clock;
 use std::sync::Wait;
 use std::thread::Threads;
 
 /// Runs the program: reads the words, then the files that they name in the order settings, world, scripts, schedule, writes
-/// a report, a plan or a help page to `output`, and a summary, where one is asked for, or a fault's line to `errors`. Where no script is named, one is read
+/// a report, a plan or a help page to `output`, and what is asked for besides, or a fault's line, to `errors`. Where no script is named, one is read
 /// from `input`. Answers the exit status: 0 where every top-level point is ok, or a plan or help was printed, 1 where
 /// some top-level point is not ok, 2 for refused input, 3 for want of memory, failed reads and writes, and workers that couldn't be
 /// started or lost a receipt. A failed write to `errors` changes nothing. It may wait for the workers of a run.
-pub fn command<G: AllocGlobal + Files + Threads + Wait + Sync, R: Read, W: Sink, E: Sink>(
+pub fn command<G: AllocGlobal + Clock + Files + Threads + Wait + Sync, R: Read, W: Sink, E: Sink>(
     rt: &G,
     words: &[String],
     input: &mut R,
@@ -85,7 +88,7 @@ pub fn refuse_words<E: Sink>(fault: WordsFault, errors: &mut E) -> u8
 }
 
 /// Does what the words ask for, and answers whether all is ok.
-fn answer<'a, G: AllocGlobal + Files + Threads + Wait + Sync, R: Read, W: Sink, E: Sink>(
+fn answer<'a, G: AllocGlobal + Clock + Files + Threads + Wait + Sync, R: Read, W: Sink, E: Sink>(
     rt: &G,
     words: &'a [String],
     input: &mut R,
@@ -103,7 +106,13 @@ fn answer<'a, G: AllocGlobal + Files + Threads + Wait + Sync, R: Read, W: Sink, 
 }
 
 /// Does what is asked for, and answers whether all is ok.
-fn answer_request<'a, G: AllocGlobal + Files + Threads + Wait + Sync, R: Read, W: Sink, E: Sink>(
+fn answer_request<
+    'a,
+    G: AllocGlobal + Clock + Files + Threads + Wait + Sync,
+    R: Read,
+    W: Sink,
+    E: Sink,
+>(
     rt: &G,
     request: &Request<'a>,
     input: &mut R,
@@ -125,8 +134,8 @@ fn answer_request<'a, G: AllocGlobal + Files + Threads + Wait + Sync, R: Read, W
             places,
             files,
         } => {
-            let bytes = read_files(rt, files, None, input)?;
-            warn(rt.alloc(), &bytes, &*files, errors);
+            let read = read_files(rt, files, None, input)?;
+            let bytes = looked_over(rt.alloc(), read, files, false, errors)?;
             let shown = plan(rt.alloc(), &bytes, *tests, *places, &*files, output);
             told(rt, shown, bytes, files, &Besides::nothing(), output, errors)
         }
@@ -144,8 +153,8 @@ fn answer_request<'a, G: AllocGlobal + Files + Threads + Wait + Sync, R: Read, W
             extras,
             files,
         } => {
-            let bytes = read_files(rt, files, None, input)?;
-            warn(rt.alloc(), &bytes, &*files, errors);
+            let read = read_files(rt, files, None, input)?;
+            let bytes = looked_over(rt.alloc(), read, files, extras.github, errors)?;
             let mut besides = Besides::new(rt.alloc(), *extras, &*files, bytes.processors);
             let ran = run(
                 rt,
@@ -162,8 +171,8 @@ fn answer_request<'a, G: AllocGlobal + Files + Threads + Wait + Sync, R: Read, W
             extras,
             files,
         } => {
-            let bytes = read_files(rt, files, Some(*schedule), input)?;
-            warn(rt.alloc(), &bytes, &*files, errors);
+            let read = read_files(rt, files, Some(*schedule), input)?;
+            let bytes = looked_over(rt.alloc(), read, files, extras.github, errors)?;
             let mut besides = Besides::new(rt.alloc(), *extras, &*files, bytes.processors);
             let way = Way::BySchedule(&bytes.schedule);
             let ran = run(rt, &bytes, way, &*files, &mut besides.tells, output);
@@ -191,7 +200,7 @@ fn asked_way(serial: bool) -> Way<'static>
 }
 
 /// Runs in some way what these bytes are, as it is asked for with these files, and writes its report.
-fn run<'b, G: AllocGlobal + Threads + Wait + Sync, W: Sink>(
+fn run<'b, G: AllocGlobal + Clock + Threads + Wait + Sync, W: Sink>(
     rt: &G,
     bytes: &'b InputBytes,
     way: Way<'_>,
@@ -203,13 +212,13 @@ fn run<'b, G: AllocGlobal + Threads + Wait + Sync, W: Sink>(
     requires counted { 1 ≤ bytes.now.processors }
     ensures report { (input : Option (List ℕ)) → WereRead files.now input bytes.now → (inputs : Inputs) × AreFor files.now input inputs
         × Writes (λ s. s.all_ok) suite_report inputs way.entry (W.account output.old) (W.account output.new) result }
-    ensures quiet { tells.old.summary ≡ None → OnOk result (tells.new.summary ≡ None) }
+    ensures quiet { IsQuiet tells.old → OnOk result (IsQuiet tells.new) }
 {
     let shard = shard_of(files.shard);
     let scripts = lent(rt.alloc(), &bytes.scripts)?;
     let inputs = inputs_of(bytes, &scripts, files, shard);
     match way {
-        Way::Serial => run_serial(rt.alloc(), inputs, tells, output),
+        Way::Serial => run_serial(rt, rt.alloc(), inputs, tells, output),
         Way::ByWorkers => run_workers(rt, rt.alloc(), inputs, &OpenGate, tells, output),
         Way::BySchedule(schedule) => run_schedule(rt.alloc(), inputs, schedule, tells, output),
     }
@@ -300,8 +309,8 @@ pub(crate) fn shard_of(asked: Option<AskedShard>) -> Option<Shard>
     }
 }
 
-/// Answers a run whose report was written, once the output is flushed, the summary is told and the file besides is written, where they are
-/// asked for; or why it has none.
+/// Answers a run whose report was written, once the output is flushed, what is asked for besides is told and the files besides are written;
+/// or why it has none.
 fn told<'a, G: AllocGlobal + Files, W: Sink, E: Sink>(
     rt: &G,
     ran: Result<Summary, RunFault>,
@@ -314,62 +323,21 @@ fn told<'a, G: AllocGlobal + Files, W: Sink, E: Sink>(
     requires bounds { AreInBounds files.now }
     requires counted { 1 ≤ bytes.processors }
     ensures answer { MatchResult ran
-        (λ s. IsEnded s.all_ok besides.now.file (W.account output.old) (W.account output.new) result)
+        (λ s. IsEnded s.all_ok (files_of besides.now) (W.account output.old) (W.account output.new) result)
         (λ fault. (W.account output.new ≡ W.account output.old) × IsErrAnd result (λ told. command_end told ≡ run_end fault)) }
-    ensures said { OnOk result (IfSome besides.now.tells.summary (λ s. IsSaidIn s.text (E.account errors.old) (E.account errors.new))) }
-    ensures quiet { OnOk ran (besides.now.tells.summary ≡ None) → errors.new ≡ errors.old }
+    ensures said { OnOk result (IsSaid (parted false (parts_of besides.now.tells)) (E.account errors.old) (E.account errors.new)) }
+    ensures quiet { OnOk ran (IsQuiet besides.now.tells) → besides.now.failed ≡ None → besides.now.junit ≡ None → errors.new ≡ errors.old }
 {
     match ran {
         Ok(summary) => {
             let ok = flushed(summary.all_ok, output)?;
-            say_summary(&besides.tells, errors);
-            let ended = filed(rt, ok, besides);
-            if ended.is_err() {
-                say_gap(&besides.tells, errors);
-            }
-            ended
+            say_parts(&besides.tells, errors);
+            filed(rt, ok, besides, errors)
         }
-        Err(fault) => Err(named(rt.alloc(), fault, bytes, files)),
-    }
-}
-
-/// Writes the summary, where one is asked for, as far as the sink takes it.
-fn say_summary<E: Sink>(tells: &Tells<'_>, errors: &mut E)
-    ensures said { IfSome tells.now.summary (λ s. IsSaidIn s.text (E.account errors.old) (E.account errors.new)) }
-    ensures quiet { tells.now.summary ≡ None → errors.new ≡ errors.old }
-{
-    if let Some(summary) = &tells.summary {
-        let _ = Printer::new(errors).bytes(summary.text.bytes());
-    }
-}
-
-/// Writes an empty line between a summary, where one was written, and what comes after it.
-fn say_gap<E: Sink>(tells: &Tells<'_>, errors: &mut E)
-    ensures { tells.now.summary ≡ None → errors.new ≡ errors.old }
-{
-    if tells.summary.is_some() {
-        let _ = Printer::new(errors).bytes(b"\n");
-    }
-}
-
-/// Writes the paths of what failed to the file that is named for them, if one is, and answers whether all is ok.
-fn filed<'a, G: AllocGlobal + Files>(
-    rt: &G,
-    ok: bool,
-    besides: &Besides<'_, 'a>,
-) -> Result<bool, CommandFault<'a>>
-    ensures { IsFiled ok besides.now.file result }
-{
-    let Some(name) = besides.file else {
-        return Ok(ok);
-    };
-    let text = match &besides.tells.failed {
-        Some(sink) => sink.bytes(),
-        None => &[],
-    };
-    match write_file(rt, name, text) {
-        Ok(()) => Ok(ok),
-        Err(_) => Err(CommandFault::Unwritable(name)),
+        Err(fault) => {
+            let github = besides.tells.github.is_some();
+            Err(named(rt.alloc(), fault, bytes, files, github))
+        }
     }
 }
 
@@ -384,18 +352,19 @@ pub(crate) fn flushed<W: Sink>(ok: bool, output: &mut W) -> Result<bool, Command
 }
 
 /// A fault of a run, with the word that it is of: the name of a script, where one is named, or what names no class or test; and with what
-/// mends it, where that is asked for and memory is left.
+/// is told after it, also for GitHub, where that is asked for and memory is left.
 pub(crate) fn named<'a>(
     alloc: Global,
     fault: RunFault,
     bytes: InputBytes,
     files: &InputFiles<'a>,
+    github: bool,
 ) -> CommandFault<'a>
     requires bounds { AreInBounds files.now }
     requires counted { 1 ≤ bytes.processors }
     ensures { command_end result ≡ run_end fault }
 {
-    let text = mending(alloc, &fault, &bytes, files);
+    let text = after_fault(alloc, &fault, &bytes, files, github);
     match fault {
         RunFault::Plan(PlanFault::NotSelected(index)) => not_selected(index, bytes, files, text),
         RunFault::Script(index, _) => {

@@ -1,12 +1,16 @@
 //! What mends a fault of a run.
-ghost use Rattle.std.specs.Prelude.{◌≤◌};
+ghost use Rattle.std.specs.Prelude.{◌≤◌, ℕ, IfErr, List, MatchResult, Option, ⊤};
 ghost use Rattle.iso_arguments.specs.Requests.{AreInBounds};
+ghost use Rattle.iso_run.specs.Commands.{AreFor, WereRead};
+ghost use Rattle.iso_run.specs.Ends.{IsEarly, run_end};
+ghost use Rattle.iso_run.specs.Suites.{NoSuite, OfSuite};
+ghost use Rattle.iso_run.specs.declared.inputs.Inputs.{Inputs};
 
 use crate::command::{inputs_of, shard_of};
 use crate::fault::RunFault;
 use crate::files::{InputBytes, lent};
 use crate::inputs::{Suite, read_inputs};
-use crate::lines::listed_at;
+use crate::lines::{STDIN, listed_at};
 use crate::settings::SETTINGS;
 use iso_arguments::request::InputFiles;
 use iso_explain::script::explain_script;
@@ -16,8 +20,10 @@ use iso_explain_plan::schedule::explain_fault;
 use iso_explain_plan::unfinished::explain_unfinished;
 use iso_explain_settings::settings::explain_settings;
 use iso_explain_settings::world::explain_world;
+use iso_github::errors::write_refusal;
 use iso_model::script::Script;
 use iso_plan::fault::PlanFault;
+use iso_script::fault::ScriptFault;
 use iso_script::place::NodePlace;
 use iso_script::reader::{PlacedScript, read_placed};
 use iso_settings::fault::SettingsFault;
@@ -29,7 +35,7 @@ use std::alloc::Global;
 const WORLD: &str = "world";
 
 /// What mends a fault of a run of these bytes, as it is asked for with these files, where that is to be told. None where memory runs out.
-pub(crate) fn mending(
+fn mending(
     alloc: Global,
     fault: &RunFault,
     bytes: &InputBytes,
@@ -41,6 +47,48 @@ pub(crate) fn mending(
     let mut text = asked_text(alloc, files)?;
     mend(alloc, fault, bytes, files, &mut text)?;
     Some(text)
+}
+
+/// What is told after the line of a fault, where something is asked for and memory is left: what mends it, and then a script's fault as GitHub
+/// reads it.
+pub(crate) fn after_fault(
+    alloc: Global,
+    fault: &RunFault,
+    bytes: &InputBytes,
+    files: &InputFiles<'_>,
+    github: bool,
+) -> Option<MemorySink>
+    requires bounds { AreInBounds files.now }
+    requires counted { 1 ≤ bytes.now.processors }
+{
+    let text = mending(alloc, fault, bytes, files);
+    if github {
+        with_refusal(alloc, fault, files, text)
+    } else {
+        text
+    }
+}
+
+/// A text with a script's fault after it, as GitHub reads it; as it was where the fault is of something else, or memory runs out.
+fn with_refusal(
+    alloc: Global,
+    fault: &RunFault,
+    files: &InputFiles<'_>,
+    text: Option<MemorySink>,
+) -> Option<MemorySink> {
+    let RunFault::Script(index, ScriptFault { kind, line, column }) = fault else {
+        return text;
+    };
+    let Ok(kind) = format!(in alloc; "{kind}") else {
+        return text;
+    };
+    let mut whole = match text {
+        Some(text) => text,
+        None => MemorySink::new(alloc),
+    };
+    let name = files.scripts.get(*index).copied().unwrap_or(STDIN);
+    let _ = write_refusal(name, *line, *column, kind.as_str(), &mut whole);
+    Some(whole)
 }
 
 /// Writes what mends a fault, and nothing of one that isn't of the input.
@@ -61,11 +109,11 @@ fn mend(
         RunFault::Plan(fault) => mend_plan(alloc, *fault, bytes, &*files, text),
         RunFault::Schedule(fault) => explain_fault(*fault, &bytes.schedule, text).ok(),
         RunFault::Refused(index, why) => {
-            let suite = suite_of(alloc, bytes, files)?;
+            let suite = suite_of(alloc, bytes, &*files).ok()?;
             explain_refused(alloc, *index, *why, &bytes.schedule, &suite.plan, text).ok()
         }
         RunFault::Unfinished => {
-            let suite = suite_of(alloc, bytes, files)?;
+            let suite = suite_of(alloc, bytes, &*files).ok()?;
             explain_unfinished(alloc, &bytes.schedule, &suite.plan, text).ok()
         }
         RunFault::Start | RunFault::Lost | RunFault::Memory | RunFault::Write(_) => Some(()),
@@ -206,12 +254,23 @@ fn placed_scripts(alloc: Global, scripts: &[Vec<u8>]) -> Option<Placed> {
     Some(placed)
 }
 
-/// What these bytes are, read again.
-pub(crate) fn suite_of(alloc: Global, bytes: &InputBytes, files: &InputFiles<'_>) -> Option<Suite>
+/// The suite that these bytes are, with its places, or why they are none.
+pub(crate) fn suite_of<'b>(
+    alloc: Global,
+    bytes: &'b InputBytes,
+    files: &'b InputFiles<'b>,
+) -> Result<Suite, RunFault>
     requires bounds { AreInBounds files.now }
     requires counted { 1 ≤ bytes.now.processors }
+    ensures read { (input : Option (List ℕ)) → WereRead files.now input bytes.now → (inputs : Inputs) × AreFor files.now input inputs
+        × MatchResult result (λ _. OfSuite inputs (λ suite. ⊤)) (NoSuite inputs) }
+    ensures early { IfErr result (λ fault. IsEarly (run_end fault)) }
 {
-    let scripts = lent(alloc, &bytes.scripts).ok()?;
-    let inputs = inputs_of(bytes, &scripts, files, shard_of(files.shard));
-    read_inputs(alloc, inputs, true).ok()
+    let shard = shard_of(files.shard);
+    let scripts = lent(alloc, &bytes.scripts)?;
+    let inputs = inputs_of(bytes, &scripts, files, shard);
+    match read_inputs(alloc, inputs, true) {
+        Ok(suite) => Ok(suite),
+        Err(fault) => Err(fault),
+    }
 }

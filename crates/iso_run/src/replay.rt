@@ -1,9 +1,10 @@
 //! Replays of recorded schedules, from their inputs to the report.
 ghost use Rattle.std.specs.Borrow.{Bor};
-ghost use Rattle.std.specs.Prelude.{◌≤◌, List, Ok, OnOk, is_some, ℕ};
+ghost use Rattle.std.specs.Prelude.{◌≤◌, [], List, Ok, OnOk, ℕ};
 ghost use Rattle.iso_run.specs.declared.way.Way.TheVariants.{BySchedule};
 ghost use Rattle.iso_run.specs.Runs.{IsRead, TellsOf, Writes, suite_report};
 ghost use Rattle.iso_schedule.specs.Schedules.{AreRead};
+ghost use Rattle.iso_telling.specs.Telling.{wants_places};
 
 use crate::fault::RunFault;
 use crate::inputs::{Inputs, Suite, read_inputs};
@@ -16,7 +17,7 @@ use iso_telling::tells::Tells;
 use std::alloc::Global;
 
 /// Replays a recorded schedule on one thread, event by event, with as many workers as the settings give, tells what is
-/// asked for besides, and writes the suite's report to the sink. It is the report that `run_serial` writes.
+/// asked for besides, without times, and writes the suite's report to the sink. It is the report that `run_serial` writes.
 ///
 /// The inputs are read as by `run_serial`, and the schedule after their plan: the first fault is answered. Then comes the
 /// first event that is refused, and `Unfinished` where a node but the root is left after the last event. Nothing is written
@@ -31,7 +32,7 @@ pub fn run_schedule<W: Sink>(
     requires { 1 ≤ inputs.processors }
     ensures report { Writes (λ s. s.all_ok) suite_report inputs.entry (BySchedule schedule.entry)
         (W.account sink.old) (W.account sink.new) result }
-    ensures told { OnOk result (TellsOf inputs.entry tells.old tells.new) }
+    ensures told { OnOk result (TellsOf inputs.entry [] tells.old tells.new) }
 {
     let suite = read_inputs(alloc, inputs, tells.wants_places())?;
     replay_on(alloc, inputs, &suite, schedule, tells, sink)
@@ -46,10 +47,10 @@ fn replay_on<W: Sink>(
     tells: &mut Tells<'_>,
     sink: &mut W,
 ) -> Result<Summary, RunFault>
-    requires { IsRead inputs (is_some tells.old.summary) suite.now }
+    requires { IsRead inputs (wants_places tells.old) suite.now }
     ensures report { Writes (λ s. s.all_ok) suite_report inputs.entry (BySchedule schedule.entry)
         (W.account sink.old) (W.account sink.new) result }
-    ensures told { OnOk result (TellsOf inputs.entry tells.old tells.new) }
+    ensures told { OnOk result (TellsOf inputs.entry [] tells.old tells.new) }
 {
     let events = read_schedule(alloc, schedule)?;
     replay_events(alloc, inputs, suite, &events, tells, sink)
@@ -64,16 +65,24 @@ fn replay_events<W: Sink>(
     tells: &mut Tells<'_>,
     sink: &mut W,
 ) -> Result<Summary, RunFault>
-    requires { IsRead inputs (is_some tells.old.summary) suite.now }
+    requires { IsRead inputs (wants_places tells.old) suite.now }
     ensures report { (schedule : Bor (List ℕ)) → AreRead schedule.now (Ok events.now)
         → Writes (λ s. s.all_ok) suite_report inputs.entry (BySchedule schedule) (W.account sink.old) (W.account sink.new) result }
-    ensures told { OnOk result (TellsOf inputs.entry tells.old tells.new) }
+    ensures told { OnOk result (TellsOf inputs.entry [] tells.old tells.new) }
 {
     let workers = suite.settings.workers();
     let core = run_events(alloc, &suite.plan, &suite.world, workers, events)?;
     if !core.is_complete() {
         Err(RunFault::Unfinished)
     } else {
-        write_results(suite, inputs.scripts, core.results(), tells, sink)
+        write_results(
+            alloc,
+            suite,
+            inputs.scripts,
+            core.results(),
+            &[],
+            tells,
+            sink,
+        )
     }
 }

@@ -15,6 +15,7 @@ use iso_tap::report::write_report;
 use iso_tap::sink::Sink;
 use iso_telling::tells::Tells;
 use iso_telling::written::Written;
+use std::alloc::Global;
 
 /// What a run answers beside its report.
 #[derive(Clone, Copy, PartialEq, Eq)]
@@ -23,11 +24,14 @@ pub struct Summary {
     pub all_ok: bool,
 }
 
-/// Tells what is asked for besides, and writes the report of the results of all nodes of a suite, whose scripts have these bytes.
+/// Tells what is asked for besides, and writes the report of the results of all nodes of a suite, whose scripts have these bytes. The times
+/// are those of the nodes, as far as they were measured.
 pub(crate) fn write_results<W: Sink>(
+    alloc: Global,
     suite: &Suite,
     texts: &[&[u8]],
     results: &Results<'_>,
+    times: &[Option<u64>],
     tells: &mut Tells<'_>,
     sink: &mut W,
 ) -> Result<Summary, RunFault>
@@ -37,14 +41,14 @@ pub(crate) fn write_results<W: Sink>(
         (λ s. Wrote (W.account sink.old) (W.account sink.new) (report (tree_of suite.now.plan) (outcome_in results.now))
         × (s.all_ok ≡ all_ok (tree_of suite.now.plan) (outcome_in results.now)))
         (IsUnwritten (report (tree_of suite.now.plan) (outcome_in results.now)) (W.account sink.old) (W.account sink.new)) }
-    ensures told { OnOk result (HasTold (as_written suite.now texts.now) (tree_of suite.now.plan) (outcome_in results.now) tells.old tells.new) }
+    ensures told { OnOk result (HasTold (as_written suite.now texts.now) (tree_of suite.now.plan) (outcome_in results.now) times.now tells.old tells.new) }
 {
     let written = Written {
         scripts: &suite.scripts,
         places: &suite.places,
         texts,
     };
-    tells.tell(&written, &suite.plan, results)?;
+    tells.tell(alloc, &written, &suite.plan, results, times)?;
     match write_report(&suite.plan, results, sink) {
         Ok(()) => Ok(Summary {
             all_ok: all_ok(&suite.plan, results),

@@ -1,21 +1,30 @@
 //! Runs of a suite on one thread, from its inputs to its report.
-ghost use Rattle.std.specs.Prelude.{◌≤◌, OnOk};
+ghost use Rattle.std.specs.Prelude.{◌≡◌, ◌≤◌, ℕ, IfOk, List, OnOk, Option};
+ghost use Rattle.iso_lifecycle.specs.ResultViews.{AreComplete};
 ghost use Rattle.iso_run.specs.Runs.{TellsOf, Writes, suite_report};
 ghost use Rattle.iso_run.specs.declared.way.Way.TheVariants.{Serial};
 
 use crate::fault::RunFault;
-use crate::inputs::{Inputs, read_inputs};
+use crate::inputs::{Inputs, Suite, read_inputs};
 use crate::report::{Summary, write_results};
+use crate::times::node_times;
+use iso_lifecycle::gate::OpenGate;
+use iso_lifecycle::results::Results;
+use iso_serial::run::run_at;
 use iso_tap::sink::Sink;
 use iso_telling::tells::Tells;
-use std::alloc::Global;
+use iso_times::gate::TimesGate;
+use std::alloc::{AllocError, Global};
+use std::rt::Clock;
 
-/// Runs a suite on one thread, depth first, tells what is asked for besides, and writes its report to the sink.
+/// Runs a suite on one thread, depth first, tells what is asked for besides, and writes its report to the sink. The clock is read only
+/// where times are told.
 ///
 /// The settings are read first, then the world, the scripts in turn, and the plan of the scripts is made: the first
 /// fault is answered. Nothing is written before the suite has run; with any fault but `Write` the sink is asked nothing.
 /// Want of memory may be answered at each growth.
-pub fn run_serial<W: Sink>(
+pub fn run_serial<C: Clock, W: Sink>(
+    clock: &C,
     alloc: Global,
     inputs: Inputs<'_>,
     tells: &mut Tells<'_>,
@@ -23,11 +32,45 @@ pub fn run_serial<W: Sink>(
 ) -> Result<Summary, RunFault>
     requires { 1 ≤ inputs.processors }
     ensures report { Writes (λ s. s.all_ok) suite_report inputs.entry Serial (W.account sink.old) (W.account sink.new) result }
-    ensures told { OnOk result (TellsOf inputs.entry tells.old tells.new) }
+    ensures told { OnOk result ((times : List (Option ℕ)) × TellsOf inputs.entry times tells.old tells.new) }
 {
     let suite = read_inputs(alloc, inputs, tells.wants_places())?;
-    match iso_serial::run::run(alloc, &suite.plan, &suite.world) {
-        Ok(results) => write_results(&suite, inputs.scripts, &results, tells, sink),
+    let timed = tells.wants_times();
+    match run_timed(clock, alloc, &suite, timed) {
+        Ok(ran) => {
+            let Ran { results, times } = &ran;
+            write_results(alloc, &suite, inputs.scripts, results, times, tells, sink)
+        }
         Err(_) => Err(RunFault::Memory),
     }
+}
+
+/// The results of a suite, and how many microseconds the bodies of its nodes took, where that was measured.
+#[derive(Drop)]
+struct Ran<'s> {
+    results: Results<'s>,
+    times: Vec<Option<u64>>,
+}
+
+/// Runs a suite, and measures how long its bodies take, if it is to.
+fn run_timed<'s, C: Clock>(
+    clock: &C,
+    alloc: Global,
+    suite: &'s Suite,
+    timed: bool,
+) -> Result<Ran<'s>, AllocError>
+    ensures plan { IfOk result (λ r. r.results.plan ≡ suite.now.plan) }
+    ensures start { IfOk result (λ r. r.results.start ≡ suite.now.world) }
+    ensures complete { IfOk result (λ r. AreComplete r.results) }
+{
+    if !timed {
+        return Ok(Ran {
+            results: iso_serial::run::run(alloc, &suite.plan, &suite.world)?,
+            times: Vec::new(alloc),
+        });
+    }
+    let gate = TimesGate::new(alloc, clock, &OpenGate, suite.plan.len())?;
+    let results = run_at(alloc, &suite.plan, &suite.world, &gate)?;
+    let times = node_times(alloc, &gate.into_times(), &suite.plan)?;
+    Ok(Ran { results, times })
 }

@@ -1,7 +1,10 @@
 //! Warnings of what was likely meant otherwise.
-ghost use Rattle.std.specs.Prelude.{◌≡◌, ◌≤◌, false};
+ghost use Rattle.std.specs.Prelude.{◌≡◌, ◌≤◌, IfErr, IfOk, Ok, false};
 ghost use Rattle.iso_arguments.specs.Requests.{AreInBounds};
+ghost use Rattle.iso_run.specs.Ends.{ComesEarly};
 
+use crate::command::named;
+use crate::command_fault::CommandFault;
 use crate::files::InputBytes;
 use crate::inputs::{Suite, settings_from};
 use crate::lines::STDIN;
@@ -22,43 +25,54 @@ use iso_tap::printer::{Piece, Printer};
 use iso_tap::sink::Sink;
 use std::alloc::Global;
 
-/// Tells on standard error what was likely meant otherwise, where faults are to be explained.
-pub(crate) fn warn<E: Sink>(
+/// Hands on the bytes that were read, as they are. Where faults are to be explained, it tells on standard error what was likely meant
+/// otherwise; what is no suite is then refused at once, so that it isn't read once more.
+pub(crate) fn looked_over<'a, E: Sink>(
     alloc: Global,
-    bytes: &InputBytes,
-    files: &InputFiles<'_>,
+    bytes: InputBytes,
+    files: &InputFiles<'a>,
+    github: bool,
     errors: &mut E,
-)
+) -> Result<InputBytes, CommandFault<'a>>
     requires bounds { AreInBounds files.now }
-    requires counted { 1 ≤ bytes.now.processors }
+    requires counted { 1 ≤ bytes.processors }
+    ensures same { IfOk result (λ b. b ≡ bytes) }
+    ensures early { IfErr result ComesEarly }
+    ensures unasked { files.now.explain ≡ false → result ≡ Ok bytes }
     ensures quiet { files.now.explain ≡ false → errors.new ≡ errors.old }
 {
-    if files.explain {
-        say_warnings(alloc, bytes, files, errors);
+    if !files.explain {
+        return Ok(bytes);
+    }
+    match suite_of(alloc, &bytes, &*files) {
+        Ok(suite) => {
+            say_warnings(alloc, &bytes, &suite, &*files, errors);
+            Ok(bytes)
+        }
+        Err(fault) => Err(named(alloc, fault, bytes, files, github)),
     }
 }
 
-/// Tells it, as far as memory is left, where the inputs are a suite.
+/// Tells what was likely meant otherwise of a suite that these bytes are, as far as memory is left.
 pub(crate) fn say_warnings<E: Sink>(
     alloc: Global,
     bytes: &InputBytes,
+    suite: &Suite,
     files: &InputFiles<'_>,
     errors: &mut E,
-)
-    requires bounds { AreInBounds files.now }
-    requires counted { 1 ≤ bytes.now.processors }
-{
-    if let Some(warnings) = warnings_of(alloc, bytes, files) {
+) {
+    if let Some(warnings) = warnings_of(alloc, bytes, suite, files) {
         let _ = warnings.write(&mut Printer::new(errors));
     }
 }
 
-/// What is warned of, where the inputs are a suite.
-fn warnings_of(alloc: Global, bytes: &InputBytes, files: &InputFiles<'_>) -> Option<Warnings>
-    requires bounds { AreInBounds files.now }
-    requires counted { 1 ≤ bytes.now.processors }
-{
-    let suite = suite_of(alloc, bytes, files)?;
+/// What is warned of.
+fn warnings_of(
+    alloc: Global,
+    bytes: &InputBytes,
+    suite: &Suite,
+    files: &InputFiles<'_>,
+) -> Option<Warnings> {
     let mut warnings = Warnings::new(alloc);
     warn_settings(
         alloc,
@@ -68,8 +82,8 @@ fn warnings_of(alloc: Global, bytes: &InputBytes, files: &InputFiles<'_>) -> Opt
         &mut warnings,
     )
     .ok()?;
-    warn_of_one_worker(alloc, bytes, &suite, files, &mut warnings)?;
-    warn_keys(alloc, &suite, files, &mut warnings)?;
+    warn_of_one_worker(alloc, bytes, suite, files, &mut warnings)?;
+    warn_keys(alloc, suite, files, &mut warnings)?;
     Some(warnings)
 }
 

@@ -1,5 +1,5 @@
 //! Runs of a suite by several workers, from its inputs to its report.
-ghost use Rattle.std.specs.Prelude.{◌≡◌, ◌<◌, ◌≤◌, IfErr, IfOk, OnOk, length, true};
+ghost use Rattle.std.specs.Prelude.{◌≡◌, ◌<◌, ◌≤◌, ℕ, IfErr, IfOk, List, OnOk, Option, length, true};
 ghost use denote.Param.Send.{IsSend, IsSync};
 ghost use Rattle.iso_book.specs.Books.{is_complete};
 ghost use Rattle.iso_floor.specs.Grounds.{IsBookOf};
@@ -11,6 +11,7 @@ ghost use Rattle.iso_run.specs.Runs.{TellsOf, Writes, suite_report};
 use crate::fault::RunFault;
 use crate::inputs::{Inputs, Suite, read_inputs};
 use crate::report::{Summary, write_results};
+use crate::times::node_times;
 use iso_book::book::Book;
 use iso_floor::busy::busy_workers;
 use iso_floor::fault::{CloseFault, SeatFault};
@@ -21,8 +22,10 @@ use iso_floor::work::{Cause, WorkEnd, work};
 use iso_lifecycle::gate::Gate;
 use iso_tap::sink::Sink;
 use iso_telling::tells::Tells;
+use iso_times::gate::TimesGate;
 use std::alloc::Global;
 use std::marker::Brand;
+use std::rt::Clock;
 use std::sync::Wait;
 use std::thread;
 use std::thread::{Builder, JoinHandle, Threads};
@@ -31,13 +34,13 @@ use std::thread::{Builder, JoinHandle, Threads};
 const WORKER_STACK: usize = 2 << 20;
 
 /// Runs a suite by as many workers as its settings give, tells what is asked for besides, and writes its report to the sink. It is the
-/// report that `run_serial` writes, whatever workers there are and whatever the gate lets them do.
+/// report that `run_serial` writes, whatever workers there are and whatever the gate lets them do. The clock is read only where times are told.
 ///
 /// The inputs are read as by `run_serial`: the first fault is answered. Then comes the first of these that applies: `Start` where a
 /// thread could not be started, `Memory`, `Lost`, `Unfinished`. Nothing is written before all workers have ended: with any fault but
 /// `Write` the sink is asked nothing. Want of memory may be answered at each growth. It may wait, as workers do for one another and
 /// at the gate.
-pub fn run_workers<R: Threads + Wait + Sync, G: Gate + Sync, W: Sink>(
+pub fn run_workers<R: Threads + Wait + Clock + Sync, G: Gate + Sync, W: Sink>(
     rt: &R,
     alloc: Global,
     inputs: Inputs<'_>,
@@ -47,11 +50,54 @@ pub fn run_workers<R: Threads + Wait + Sync, G: Gate + Sync, W: Sink>(
 ) -> Result<Summary, RunFault>
     requires { 1 ≤ inputs.processors }
     ensures report { Writes (λ s. s.all_ok) suite_report inputs.entry ByWorkers (W.account sink.old) (W.account sink.new) result }
-    ensures told { OnOk result (TellsOf inputs.entry tells.old tells.new) }
+    ensures told { OnOk result ((times : List (Option ℕ)) × TellsOf inputs.entry times tells.old tells.new) }
 {
     let suite = read_inputs(alloc, inputs, tells.wants_places())?;
-    let book = run_on_floor::<Brand, R, G>(rt, alloc, &suite, gate)?;
-    write_results(&suite, inputs.scripts, book.results(), tells, sink)
+    let timed = tells.wants_times();
+    let RanBook { book, times } = run_timed::<Brand, R, G>(rt, alloc, &suite, gate, timed)?;
+    write_results(
+        alloc,
+        &suite,
+        inputs.scripts,
+        book.results(),
+        &times,
+        tells,
+        sink,
+    )
+}
+
+/// The book of a suite's run, and how many microseconds the bodies of its nodes took, where that was measured.
+#[derive(Drop)]
+struct RanBook<'s> {
+    book: Book<'s>,
+    times: Vec<Option<u64>>,
+}
+
+/// Has its workers run a suite, and measures how long its bodies take, if it is to.
+fn run_timed<'s, L: Ground + Send + Sync, R: Threads + Wait + Clock + Sync, G: Gate + Sync>(
+    rt: &R,
+    alloc: Global,
+    suite: &'s Suite,
+    gate: &G,
+    timed: bool,
+) -> Result<RanBook<'s>, RunFault>
+    requires plan { suite.now.plan ≡ L.plan }
+    requires start { suite.now.world ≡ L.start }
+    requires workers { suite.now.settings.worker_count ≡ L.workers }
+    ensures book { IfOk result (λ r. IsBookOf L.plan L.start L.workers r.book) }
+    ensures complete { IfOk result (λ r. is_complete r.book ≡ true) }
+    ensures fault { IfErr result (IsOfWorkers suite.now.settings.worker_count) }
+{
+    if !timed {
+        return Ok(RanBook {
+            book: run_on_floor::<L, R, G>(rt, alloc, suite, gate)?,
+            times: Vec::new(alloc),
+        });
+    }
+    let timed = TimesGate::new(alloc, rt, gate, suite.plan.len())?;
+    let book = run_on_floor::<L, R, TimesGate<'_, R, G>>(rt, alloc, suite, &timed)?;
+    let times = node_times(alloc, &timed.into_times(), &suite.plan)?;
+    Ok(RanBook { book, times })
 }
 
 /// Has its workers run a suite, each in a seat of its own, and answers the book of the run. A worker whom the suite can't keep busy isn't

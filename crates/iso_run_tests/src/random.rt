@@ -151,7 +151,7 @@ fn schedules_at_random_give_the_report_of_the_serial_run(rt: HostRuntime) {
     let mut serial = MemorySink::new(rt.alloc());
     expect(
         &rt,
-        run_serial(rt.alloc(), inputs, &mut tells, &mut serial).is_ok(),
+        run_serial(&rt, rt.alloc(), inputs, &mut tells, &mut serial).is_ok(),
         "the serial run fails",
     );
     check_inputs(&rt, rt.alloc(), inputs, &GiveReport(serial.bytes()));

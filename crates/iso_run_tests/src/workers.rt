@@ -12,11 +12,12 @@ use iso_tap::memory::MemorySink;
 use iso_telling::tells::Tells;
 use std::alloc::Global;
 use std::process::Abort;
+use std::rt::Clock;
 use std::sync::Wait;
 use std::thread::Threads;
 
 /// Runs inputs by workers whose bodies come to a gate, and asserts the report and whether all is ok in it.
-fn expect_report<R: Abort + Threads + Wait + Sync, G: Gate + Sync>(
+fn expect_report<R: Abort + Clock + Threads + Wait + Sync, G: Gate + Sync>(
     rt: &R,
     alloc: Global,
     inputs: Inputs<'_>,

@@ -1,5 +1,6 @@
 pub mod Examples
 pub mod Explained
+pub mod NodePlaces
 pub mod Telling
 pub mod ToldLines
 pub mod ToldNodes

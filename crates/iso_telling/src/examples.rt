@@ -7,6 +7,7 @@ ghost use Rattle.iso_model.specs.declared.place.Place.TheVariants.{Disabled, Row
 ghost use Rattle.iso_places.specs.Examples.{line_in};
 ghost use Rattle.iso_telling.specs.Examples.{failed_at, faulted_of, skipped_at, till_sites, two_names, two_texts, unassumed_of};
 ghost use Rattle.iso_telling.specs.Explained.{hints_told};
+ghost use Rattle.iso_telling.specs.NodePlaces.{node_place, nowhere};
 ghost use Rattle.iso_telling.specs.ToldLines.{line_told};
 ghost use Rattle.iso_telling.specs.ToldNodes.{told_nodes};
 ghost use Rattle.iso_telling.specs.ToldPlaces.{located};
@@ -80,4 +81,16 @@ pub fn lines_have_their_files()
 pub fn lines_of_standard_input_have_no_file()
     ensures { located [] (codes "team a\nclass A { }\n" ∷ []) (line_in 0 2)
         ≡ record { file = codes "stdin"; named = false; line = 2; source = codes "class A { }"; hints = [] } }
+{}
+
+/// The XML and GitHub get each node's file, the line of its own name, and the line of what ended it; of the root nothing.
+#[tactic(auto, unfolding(iso_plan::specs::Paths::path))]
+pub fn nodes_have_their_files_and_lines()
+    ensures row { node_place two_names till_in_cart till_sites (failed_at (Row N.Test 3)) 7
+        ≡ record { file = codes "a.jtap"; line = 23; ended = 26 } }
+    ensures class_block { node_place two_names till_in_cart till_sites (failed_at (Row (N.Class 1 BeforeEach) 2)) 4
+        ≡ record { file = codes "a.jtap"; line = 15; ended = 7 } }
+    ensures unnamed { node_place [] till_in_cart till_sites (skipped_at Disabled) 10
+        ≡ record { file = codes "stdin"; line = 33; ended = 33 } }
+    ensures root { node_place two_names till_in_cart till_sites (failed_at (Row N.Test 1)) 0 ≡ nowhere }
 {}

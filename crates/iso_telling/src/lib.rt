@@ -7,6 +7,7 @@ pub mod laws;
 mod lines;
 mod located;
 mod nodes;
+mod places;
 mod summary;
 mod table;
 pub mod tells;

@@ -60,7 +60,7 @@ fn told(
 }
 
 /// The line that is told of a node: where what ended it stands, else that of its name.
-fn line_told(plan: &Plan, results: &Results<'_>, sites: &Sites, node: u32) -> ScriptLine
+pub(crate) fn line_told(plan: &Plan, results: &Results<'_>, sites: &Sites, node: u32) -> ScriptLine
     requires plan { results.now.plan ≡ plan.now }
     requires complete { AreComplete results.now }
     requires above { 0 < node }
@@ -104,7 +104,7 @@ fn place_of(verdict: ViewVerdict<'_>) -> Option<Place>
 }
 
 /// The line of a node's name.
-fn name_line(plan: &Plan, sites: &Sites, node: u32) -> ScriptLine
+pub(crate) fn name_line(plan: &Plan, sites: &Sites, node: u32) -> ScriptLine
     requires { node < length plan.now.rows }
     ensures { result ≡ name_line sites.now node }
 {

@@ -58,7 +58,7 @@ fn with_file<'a>(
 }
 
 /// The name of a script, or `stdin` where it has none.
-fn name_of<'a>(names: &'a [&'a str], script: u32) -> &'a str
+pub(crate) fn name_of<'a>(names: &'a [&'a str], script: u32) -> &'a str
     ensures { result.now ≡ slice_index_or (lent names.now) script (codes "stdin") }
 {
     match names.get(script as usize) {

@@ -2,38 +2,37 @@
 ghost use Rattle.std.specs.Prelude.{◌≡◌, OnOk};
 ghost use Rattle.iso_lifecycle.specs.ResultViews.{AreComplete, outcome_in};
 ghost use Rattle.iso_plan.specs.RowView.{tree_of};
-ghost use Rattle.iso_telling.specs.Telling.{AddsSummary};
-ghost use Rattle.iso_telling.specs.Written.{written_of};
+ghost use Rattle.iso_telling.specs.Telling.{AddsSummary, summary_of};
+ghost use Rattle.iso_telling.specs.Written.{lent};
 
 use crate::lines::lines_told;
 use crate::located::all_located;
 use crate::nodes::told_nodes;
 use crate::tells::SummaryText;
-use crate::written::Written;
 use iso_lifecycle::results::Results;
-use iso_places::locate::locate;
+use iso_places::site::Sites;
 use iso_plan::plan::Plan;
 use iso_summary::summary::write_summary;
-use std::alloc::AllocError;
+use std::alloc::{AllocError, Global};
 
-/// Adds the summary of results to a summary's text.
+/// Adds the summary of results to a summary's text, of scripts with these names and bytes.
 pub(crate) fn add_summary(
+    alloc: Global,
     summary: &mut SummaryText<'_>,
-    written: &Written<'_>,
+    names: &[&str],
+    texts: &[&[u8]],
+    sites: &Sites,
     plan: &Plan,
     results: &Results<'_>,
 ) -> Result<(), AllocError>
     requires plan { results.now.plan ≡ plan.now }
     requires complete { AreComplete results.now }
-    ensures { OnOk result (AddsSummary (written_of written.now) (tree_of plan.now) (outcome_in results.now) summary.old summary.new) }
+    ensures { OnOk result (AddsSummary
+        (summary_of (lent texts.now) (tree_of plan.now) (outcome_in results.now) sites.now (lent names.now) summary.old) summary.old summary.new) }
 {
-    let alloc = summary.alloc;
-    let Ok(sites) = locate(alloc, written.scripts, written.places, plan) else {
-        return Err(AllocError);
-    };
     let nodes = told_nodes(alloc, plan, results, summary.skipped)?;
-    let lines = lines_told(alloc, plan, results, &sites, summary.explain, &nodes)?;
-    let places = all_located(alloc, summary.names, written.texts, &lines)?;
+    let lines = lines_told(alloc, plan, results, sites, summary.explain, &nodes)?;
+    let places = all_located(alloc, names, texts, &lines)?;
     match write_summary(
         plan,
         results,

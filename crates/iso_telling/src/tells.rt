@@ -1,15 +1,26 @@
 //! What a run tells besides its report.
-ghost use Rattle.std.specs.Prelude.{◌≡◌, None, OnOk, Some, is_some};
+ghost use Rattle.std.specs.Prelude.{◌≡◌, None, OnOk, length, map};
 ghost use Rattle.iso_failures.specs.Failures.{failed_text};
+ghost use Rattle.iso_github.specs.Errors.{errors_text};
+ghost use Rattle.iso_junit.specs.Documents.{junit_text};
+ghost use Rattle.iso_junit.specs.Runs.{placed_of};
 ghost use Rattle.iso_lifecycle.specs.ResultViews.{AreComplete, outcome_in};
 ghost use Rattle.iso_plan.specs.RowView.{tree_of};
-ghost use Rattle.iso_telling.specs.Telling.{HasTold, IsSummarized, IsTold, nothing_yet};
-ghost use Rattle.iso_telling.specs.Written.{written_of};
+ghost use Rattle.iso_telling.specs.Telling.{AddsDurations, HasTold, HasToldPlaces, IsSummarized, IsTimed, IsTold, nothing_yet, summary_of, wants_places, wants_times};
+ghost use Rattle.iso_telling.specs.Written.{lent, written_of};
 
+use crate::places::node_places;
 use crate::summary::add_summary;
 use crate::written::Written;
+use iso_durations::durations::Durations;
+use iso_durations::text::write_durations;
 use iso_failures::text::write_failed;
+use iso_github::errors::write_errors;
+use iso_junit::junit::write_junit;
+use iso_junit::placed::Placed;
 use iso_lifecycle::results::Results;
+use iso_places::locate::locate;
+use iso_places::site::Sites;
 use iso_plan::plan::Plan;
 use iso_summary::again::Again;
 use iso_tap::memory::MemorySink;
@@ -18,10 +29,18 @@ use std::alloc::{AllocError, Global};
 /// What a run tells besides its report, each text in memory, where it is asked for.
 #[derive(Drop)]
 pub struct Tells<'a> {
+    /// The names of the scripts, in their order; none where the script is standard input.
+    pub names: &'a [&'a str],
     /// The paths of the failed classes and tests, one a line.
     pub failed: Option<MemorySink>,
     /// The summary for people.
     pub summary: Option<SummaryText<'a>>,
+    /// The results as JUnit's XML.
+    pub junit: Option<MemorySink>,
+    /// A line for GitHub of each that failed.
+    pub github: Option<MemorySink>,
+    /// The slowest classes and tests.
+    pub durations: Option<DurationsText>,
 }
 
 /// A summary: what it tells of, with which words, and its text.
@@ -31,11 +50,15 @@ pub struct SummaryText<'a> {
     pub skipped: bool,
     /// Whether it tells what mends a fault.
     pub explain: bool,
-    /// The names of the scripts, in their order; none where the script is standard input.
-    pub names: &'a [&'a str],
     pub again: Again<'a>,
     pub text: MemorySink,
-    pub(crate) alloc: Global,
+}
+
+/// The slowest classes and tests: how many of them at most, or 0 for all, and the text.
+#[derive(Drop)]
+pub struct DurationsText {
+    pub most: u32,
+    pub text: MemorySink,
 }
 
 impl Tells<'_> {
@@ -43,60 +66,148 @@ impl Tells<'_> {
     pub fn nothing() -> Self
         ensures failed { result.failed ≡ None }
         ensures summary { result.summary ≡ None }
+        ensures junit { result.junit ≡ None }
+        ensures github { result.github ≡ None }
+        ensures durations { result.durations ≡ None }
     {
         Tells {
+            names: &[],
             failed: None,
             summary: None,
+            junit: None,
+            github: None,
+            durations: None,
         }
     }
 
     /// Whether it has to be known where classes and tests stand.
     pub fn wants_places(&self) -> bool
-        ensures { result ≡ is_some self.now.summary }
+        ensures { result ≡ wants_places self.now }
     {
-        self.summary.is_some()
+        self.summary.is_some() || self.junit.is_some() || self.github.is_some()
     }
 
-    /// Tells of results what is asked for. Each text is added to what was told before. Want of memory is also answered where a node of the
-    /// plan has no place among those of the scripts.
+    /// Whether it has to be known how long the bodies took.
+    pub fn wants_times(&self) -> bool
+        ensures { result ≡ wants_times self.now }
+    {
+        self.junit.is_some() || self.durations.is_some()
+    }
+
+    /// Tells of results what is asked for. The times are those of the nodes by their numbers, in microseconds: what isn't there wasn't
+    /// measured. Each text is added to what was told before. Want of memory is also answered where a node of the plan has no place among
+    /// those of the scripts.
     pub fn tell(
         &mut self,
+        alloc: Global,
         written: &Written<'_>,
         plan: &Plan,
         results: &Results<'_>,
+        times: &[Option<u64>],
     ) -> Result<(), AllocError>
         requires plan { results.now.plan ≡ plan.now }
         requires complete { AreComplete results.now }
-        ensures { OnOk result (HasTold (written_of written.now) (tree_of plan.now) (outcome_in results.now) self.old self.new) }
+        ensures { OnOk result (HasTold (written_of written.now) (tree_of plan.now) (outcome_in results.now) times.now self.old self.new) }
     {
         tell_failed(&mut self.failed, plan, results)?;
-        tell_summary(&mut self.summary, written, plan, results)
+        tell_durations(alloc, &mut self.durations, plan, times)?;
+        if !self.wants_places() {
+            return Ok(());
+        }
+        let Ok(sites) = locate(alloc, written.scripts, written.places, plan) else {
+            return Err(AllocError);
+        };
+        self.tell_places(alloc, written, &sites, plan, results, times)
+    }
+
+    /// Tells what stands with its place.
+    fn tell_places(
+        &mut self,
+        alloc: Global,
+        written: &Written<'_>,
+        sites: &Sites,
+        plan: &Plan,
+        results: &Results<'_>,
+        times: &[Option<u64>],
+    ) -> Result<(), AllocError>
+        requires plan { results.now.plan ≡ plan.now }
+        requires complete { AreComplete results.now }
+        ensures { OnOk result (HasToldPlaces (written_of written.now) (tree_of plan.now) (outcome_in results.now) times.now sites.now self.old self.new) }
+    {
+        let texts = written.texts;
+        tell_summary(
+            alloc,
+            &mut self.summary,
+            self.names,
+            texts,
+            sites,
+            plan,
+            results,
+        )?;
+        let places = node_places(alloc, self.names, plan, results, sites)?;
+        tell_junit(&mut self.junit, plan, results, &places, times)?;
+        tell_errors(&mut self.github, plan, results, &places)
     }
 }
 
 impl SummaryText<'_> {
     /// A summary of which nothing was told. It grows in this allocator's memory.
-    pub fn new<'a>(
-        alloc: Global,
-        skipped: bool,
-        explain: bool,
-        names: &'a [&'a str],
-        again: Again<'a>,
-    ) -> SummaryText<'a>
+    pub fn new(alloc: Global, skipped: bool, explain: bool, again: Again<'_>) -> SummaryText<'_>
         ensures skipped { result.skipped ≡ skipped }
         ensures explain { result.explain ≡ explain }
-        ensures names { result.names.now ≡ names.now }
         ensures again { result.again ≡ again.entry }
         ensures text { result.text ≡ nothing_yet }
     {
         SummaryText {
             skipped,
             explain,
-            names,
             again,
             text: MemorySink::new(alloc),
-            alloc,
         }
+    }
+}
+
+impl DurationsText {
+    /// A text of which nothing was told. It grows in this allocator's memory.
+    pub fn new(alloc: Global, most: u32) -> DurationsText
+        ensures most { result.most ≡ most }
+        ensures text { result.text ≡ nothing_yet }
+    {
+        DurationsText {
+            most,
+            text: MemorySink::new(alloc),
+        }
+    }
+}
+
+/// Tells the slowest classes and tests, where they are asked for.
+fn tell_durations(
+    alloc: Global,
+    asked: &mut Option<DurationsText>,
+    plan: &Plan,
+    times: &[Option<u64>],
+) -> Result<(), AllocError>
+    ensures { OnOk result (IsTimed (tree_of plan.now) times.now asked.old asked.new) }
+{
+    match asked {
+        Some(durations) => add_durations(alloc, durations, plan, times),
+        None => Ok(()),
+    }
+}
+
+/// Adds the slowest classes and tests to their text.
+fn add_durations(
+    alloc: Global,
+    durations: &mut DurationsText,
+    plan: &Plan,
+    times: &[Option<u64>],
+) -> Result<(), AllocError>
+    ensures { OnOk result (AddsDurations (tree_of plan.now) times.now durations.old durations.new) }
+{
+    let room = Durations::new(alloc, plan.len())?;
+    match write_durations(room, plan, times, durations.most, &mut durations.text) {
+        Ok(()) => Ok(()),
+        Err(_) => Err(AllocError),
     }
 }
 
@@ -121,17 +232,69 @@ fn tell_failed(
 
 /// Tells the summary, where it is asked for.
 fn tell_summary(
+    alloc: Global,
     asked: &mut Option<SummaryText<'_>>,
-    written: &Written<'_>,
+    names: &[&str],
+    texts: &[&[u8]],
+    sites: &Sites,
     plan: &Plan,
     results: &Results<'_>,
 ) -> Result<(), AllocError>
     requires plan { results.now.plan ≡ plan.now }
     requires complete { AreComplete results.now }
-    ensures { OnOk result (IsSummarized (written_of written.now) (tree_of plan.now) (outcome_in results.now) asked.old asked.new) }
+    ensures { OnOk result (IsSummarized
+        (summary_of (lent texts.now) (tree_of plan.now) (outcome_in results.now) sites.now (lent names.now)) asked.old asked.new) }
 {
     match asked {
-        Some(summary) => add_summary(summary, written, plan, results),
+        Some(summary) => add_summary(alloc, summary, names, texts, sites, plan, results),
+        None => Ok(()),
+    }
+}
+
+/// Tells the results as JUnit's XML, where it is asked for.
+fn tell_junit(
+    asked: &mut Option<MemorySink>,
+    plan: &Plan,
+    results: &Results<'_>,
+    places: &[Placed<'_>],
+    times: &[Option<u64>],
+) -> Result<(), AllocError>
+    requires plan { results.now.plan ≡ plan.now }
+    requires complete { AreComplete results.now }
+    requires places { length places.now ≡ length plan.now.rows }
+    ensures { OnOk result (IsTold (junit_text (record {
+      tree = tree_of plan.now;
+      outcome = outcome_in results.now;
+      places = map placed_of places.now;
+      times = times.now;
+    })) asked.old asked.new) }
+{
+    match asked {
+        Some(sink) => match write_junit(plan, results, places, times, sink) {
+            Ok(()) => Ok(()),
+            Err(_) => Err(AllocError),
+        },
+        None => Ok(()),
+    }
+}
+
+/// Tells GitHub of what failed, where it is asked for.
+fn tell_errors(
+    asked: &mut Option<MemorySink>,
+    plan: &Plan,
+    results: &Results<'_>,
+    places: &[Placed<'_>],
+) -> Result<(), AllocError>
+    requires plan { results.now.plan ≡ plan.now }
+    requires complete { AreComplete results.now }
+    requires places { length places.now ≡ length plan.now.rows }
+    ensures { OnOk result (IsTold (errors_text (tree_of plan.now) (outcome_in results.now) (map placed_of places.now)) asked.old asked.new) }
+{
+    match asked {
+        Some(sink) => match write_errors(plan, results, places, sink) {
+            Ok(()) => Ok(()),
+            Err(_) => Err(AllocError),
+        },
         None => Ok(()),
     }
 }

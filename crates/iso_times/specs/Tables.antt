@@ -1,5 +1,6 @@
 -- What the table of a run's bodies has, and what is answered of it.
-use Rattle.std.specs.Prelude.{ℕ, ◌+◌, ◌-◌, ◌*◌, ◌/◌, List, [], ◌∷◌, min, Option, Some, None, slice_index_or}
+use Rattle.std.specs.Prelude.{◌||◌, cond, is_some, ℕ, ◌+◌, ◌-◌, ◌*◌, ◌/◌, List, [], ◌∷◌, map, min, Option, Some, None, slice_index_or}
+use Rattle.std.specs.List.{range_with_len}
 use Rattle.iso_lifecycle.specs.declared.kind.BodyKind.{BodyKind}
 use Rattle.iso_lifecycle.specs.declared.kind.BodyKind.TheVariants.{BeforeAll, Test, AfterAll}
 use Rattle.iso_times.specs.declared.times.BodyTime.{BodyTime}
@@ -40,3 +41,14 @@ micros (Some b) = took b
 -- the microseconds that the bodies of a node took: a test's, or a class's own two
 abbrev pub micros_of : List (Option BodyTime) → ℕ → ℕ
 micros_of bodies node = micros (time_in bodies node BeforeAll) + micros (time_in bodies node AfterAll)
+
+-- the same, none where neither body has a time
+abbrev pub node_time : List (Option BodyTime) → ℕ → Option ℕ
+node_time bodies node =
+    let opening = time_in bodies node BeforeAll in
+    let closing = time_in bodies node AfterAll in
+    cond (is_some opening || is_some closing) (Some (micros opening + micros closing)) None
+
+-- the same of each of so many nodes
+abbrev pub times_by_node : List (Option BodyTime) → (nodes : ℕ) → List (Option ℕ)
+times_by_node bodies nodes = map (node_time bodies) (range_with_len 0 nodes)

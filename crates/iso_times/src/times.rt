@@ -1,10 +1,11 @@
 //! The times of a run's bodies, once it has ended.
-ghost use Rattle.std.specs.Prelude.{◌≡◌};
+ghost use Rattle.std.specs.Prelude.{◌≡◌, IfOk};
 ghost use Rattle.std.specs.Option.{option_map};
-ghost use Rattle.iso_times.specs.Tables.{earlier, first_begin, micros, micros_of, since, time_in, took};
+ghost use Rattle.iso_times.specs.Tables.{earlier, first_begin, micros, micros_of, node_time, since, time_in, times_by_node, took};
 
 use crate::table::slot_of;
 use iso_lifecycle::kind::BodyKind;
+use std::alloc::{AllocError, Global};
 use std::marker::Model;
 
 /// When a body began and ended, in nanoseconds, and its worker.
@@ -79,6 +80,30 @@ impl Times {
         ensures { result ≡ micros_of self.now node }
     {
         micros(self.kept(node, BodyKind::BeforeAll)) + micros(self.kept(node, BodyKind::AfterAll))
+    }
+
+    /// How many microseconds the bodies of each of so many nodes took, by the nodes' numbers; none of a node none of whose bodies has a time.
+    pub fn by_node(&self, alloc: Global, nodes: u32) -> Result<Vec<Option<u64>>, AllocError>
+        ensures { IfOk result (λ v. v.items ≡ times_by_node self.now nodes) }
+    {
+        let mut times = Vec::with_capacity(alloc, nodes as usize)?;
+        'nodes: for node in 0..nodes {
+            times.push(self.node(node))?;
+        }
+        Ok(times)
+    }
+
+    /// How many microseconds the bodies of a node took; none where none of them has a time.
+    fn node(&self, node: u32) -> Option<u64>
+        ensures { result ≡ node_time self.now node }
+    {
+        let opening = self.kept(node, BodyKind::BeforeAll);
+        let closing = self.kept(node, BodyKind::AfterAll);
+        if opening.is_some() || closing.is_some() {
+            Some(micros(opening) + micros(closing))
+        } else {
+            None
+        }
     }
 
     /// The time of a node's body, as it was kept.

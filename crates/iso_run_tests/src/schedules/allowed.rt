@@ -16,6 +16,7 @@ use iso_tap::memory::MemorySink;
 use iso_telling::tells::Tells;
 use std::alloc::{AllocError, Global};
 use std::process::Abort;
+use std::rt::Clock;
 
 /// The events that a core allows and takes, until it allows none.
 fn allowed_events(alloc: Global, core: &mut Core<'_>) -> Result<Vec<Event>, AllocError> {
@@ -116,7 +117,7 @@ impl Check for Give<'_> {
 }
 
 /// Asserts that what is allowed on so many workers leads to the serial run's report of a script.
-fn expect_serial_report<R: Abort>(rt: &R, alloc: Global, script: &str, workers: u32) {
+fn expect_serial_report<R: Abort + Clock>(rt: &R, alloc: Global, script: &str, workers: u32) {
     let scripts = [script.as_bytes()];
     let surroundings = Surroundings {
         settings: TWO_WORKERS,
@@ -127,7 +128,7 @@ fn expect_serial_report<R: Abort>(rt: &R, alloc: Global, script: &str, workers: 
     let mut tells = Tells::nothing();
     expect(
         rt,
-        run_serial(alloc, inputs, &mut tells, &mut serial).is_ok(),
+        run_serial(rt, alloc, inputs, &mut tells, &mut serial).is_ok(),
         script,
     );
     let report = serial.bytes();

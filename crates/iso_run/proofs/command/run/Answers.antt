@@ -4,7 +4,7 @@ use Rattle.iso_run.specs.Commands.{shard_asked}
 use Rattle.iso_run.specs.Runs.{suite_report}
 use Rattle.iso_run.specs.Suites.{texts}
 use Rattle.iso_run.specs.declared.report.Summary.{Summary}
-use Rattle.iso_run.proofs.Answering.{still-unasked}
+use Rattle.iso_run.proofs.Answering.{still-quiet, still-quiet-untimed}
 use Rattle.iso_run.proofs.Lending.{are-for, are-of-bytes, inputs-for, out-of-memory}
 use Rattle.iso_run.proofs.command.run.Goals as goal
 
@@ -24,10 +24,10 @@ returns-in-ByWorkers-clause-report g c = λ input read.
     (c.inputs_of-inputs.result, are-for c.args.files.now input c.args.bytes.now c.inputs_of-inputs.result read scripts is.settings is.world is.listed is.only is.patterns (ap (option_map shard_asked) is.shard ∙ c.shard_of-shard.ensures) is.processors, rw c.in-ByWorkers.is c.run_workers.ensures.report)
 
 pub returns-in-Serial-clause-quiet : goal.returns-in-Serial-clause-quiet
-returns-in-Serial-clause-quiet g c = still-unasked c.inputs_of-inputs.result c.args.tells.now c.run_serial.new.tells c.run_serial.result c.run_serial.ensures.told
+returns-in-Serial-clause-quiet g c = still-quiet c.inputs_of-inputs.result c.args.tells.now c.run_serial.new.tells c.run_serial.result c.run_serial.ensures.told
 
 pub returns-in-ByWorkers-clause-quiet : goal.returns-in-ByWorkers-clause-quiet
-returns-in-ByWorkers-clause-quiet g c = still-unasked c.inputs_of-inputs.result c.args.tells.now c.run_workers.new.tells c.run_workers.result c.run_workers.ensures.told
+returns-in-ByWorkers-clause-quiet g c = still-quiet c.inputs_of-inputs.result c.args.tells.now c.run_workers.new.tells c.run_workers.result c.run_workers.ensures.told
 
 pub returns-clause-quiet : goal.returns-clause-quiet
-returns-clause-quiet g c = still-unasked c.inputs_of-inputs.result c.args.tells.now c.run_schedule.new.tells c.run_schedule.result c.run_schedule.ensures.told
+returns-clause-quiet g c = still-quiet-untimed c.inputs_of-inputs.result c.args.tells.now c.run_schedule.new.tells c.run_schedule.result c.run_schedule.ensures.told

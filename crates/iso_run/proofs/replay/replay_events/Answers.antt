@@ -1,4 +1,4 @@
-use Rattle.std.proofs.Common.{◌≡◌, true, false, is_some, sym, refl, ◌∙◌}
+use Rattle.std.proofs.Common.{◌≡◌, [], true, false, sym, refl, ◌∙◌}
 use Rattle.std.proofs.lemmas.Result.{err_from_is_err_and}
 use Rattle.iso_core.specs.Cores.{is_complete}
 use Rattle.iso_run.specs.Runs.{as_written}
@@ -6,13 +6,14 @@ use Rattle.iso_run.specs.Suites.{suite_of}
 use Rattle.iso_run.specs.declared.way.Way.TheVariants.{BySchedule}
 use Rattle.iso_run.proofs.Replaying.{played, results-plan, results-start, stopped}
 use Rattle.iso_run.proofs.Reporting.{reported, told}
+use Rattle.iso_telling.specs.Telling.{wants_places}
 use Rattle.iso_run.proofs.replay.replay_events.Goals as goal
 
 pub returns-in_err-core-clause-report : goal.returns-in_err-core-clause-report
 returns-in_err-core-clause-report g c = λ schedule read.
     let inputs = c.args.inputs in
     let is = c.requires in
-    let keeps = is_some c.args.tells.now.summary in
+    let keeps = wants_places c.args.tells.now in
     let p = err_from_is_err_and c.from_residual.result c.from_residual.ensures.1 in
     rw (p.1, p.2) (stopped inputs schedule c.args.suite.now c.args.events.now keeps is read (g.W.Sink.account c.args.sink.now) c.in_err-core.field-0.0.index c.in_err-core.field-0.0.fault (rw c.workers-workers.ensures at c.in_err-core.ensures))
 
@@ -20,7 +21,7 @@ pub returns-then-not-is_complete-clause-report : goal.returns-then-not-is_comple
 returns-then-not-is_complete-clause-report g c = λ schedule read.
     let inputs = c.args.inputs in
     let is = c.requires in
-    let keeps = is_some c.args.tells.now.summary in
+    let keeps = wants_places c.args.tells.now in
     let ran = rw c.workers-workers.ensures at c.in_ok-core.ensures in
     let left : is_complete c.in_ok-core.core ≡ false = sym c.is_complete.ensures ∙ c.if-not-is_complete.true in
     record { cause = played inputs schedule c.args.suite.now c.args.events.now keeps is read c.in_ok-core.core false ran left; leaves = refl }
@@ -29,7 +30,7 @@ pub returns-clause-report : goal.returns-clause-report
 returns-clause-report g c = λ schedule read.
     let inputs = c.args.inputs in
     let is = c.requires in
-    let keeps = is_some c.args.tells.now.summary in
+    let keeps = wants_places c.args.tells.now in
     let suite = c.args.suite.now in
     let events = c.args.events.now in
     let core = c.in_ok-core.core in
@@ -51,4 +52,4 @@ returns-clause-told g c =
     let ran = rw c.workers-workers.ensures at c.in_ok-core.ensures in
     told inputs (g.W.Sink.account c.args.sink.now) (g.W.Sink.account c.write_results.new.sink) (suite_of inputs suite) suite.plan results is.is_suite is.planned_as
     (results-plan suite events core results ran c.results.ensures.plan) (results-start suite events core results ran c.results.ensures.start)
-    (as_written suite inputs.scripts.now) c.args.tells.now c.write_results.new.tells refl is.placed c.write_results.result c.write_results.ensures.told
+    (as_written suite inputs.scripts.now) [] c.args.tells.now c.write_results.new.tells refl is.placed c.write_results.result c.write_results.ensures.told

@@ -4,7 +4,7 @@ use Rattle.iso_run.specs.Runs.{suite_report, as_written}
 use Rattle.iso_run.specs.Suites.{suite_of}
 use Rattle.iso_run.specs.declared.report.Summary.{Summary}
 use Rattle.iso_run.specs.declared.way.Way.TheVariants.{Serial}
-use Rattle.iso_run.proofs.Reporting.{reported, told}
+use Rattle.iso_run.proofs.Reporting.{reported, told-timed}
 use Rattle.iso_run.proofs.Unread.{unread-unwritten}
 use Rattle.iso_run.proofs.run.run_serial.Goals as goal
 
@@ -16,12 +16,12 @@ returns-in_err-suite-clause-report g c =
 pub returns-in-Ok-clause-report : goal.returns-in-Ok-clause-report
 returns-in-Ok-clause-report g c =
     let is = c.in_ok-suite.ensures in
-    reported c.args.inputs (g.W.Sink.account c.args.sink.now) (g.W.Sink.account c.write_results.new.sink) (suite_of c.args.inputs c.in_ok-suite.suite) c.in_ok-suite.suite.plan c.in-Ok.results
+    reported c.args.inputs (g.W.Sink.account c.args.sink.now) (g.W.Sink.account c.write_results.new.sink) (suite_of c.args.inputs c.in_ok-suite.suite) c.in_ok-suite.suite.plan c.in-Ok.ran.results
     is.is_suite is.planned_as c.in-Ok.ensures.plan c.in-Ok.ensures.start Serial refl c.write_results.result c.write_results.ensures.report
 
 pub returns-in-Ok-clause-told : goal.returns-in-Ok-clause-told
 returns-in-Ok-clause-told g c =
     let is = c.in_ok-suite.ensures in
-    told c.args.inputs (g.W.Sink.account c.args.sink.now) (g.W.Sink.account c.write_results.new.sink) (suite_of c.args.inputs c.in_ok-suite.suite) c.in_ok-suite.suite.plan c.in-Ok.results
-    is.is_suite is.planned_as c.in-Ok.ensures.plan c.in-Ok.ensures.start (as_written c.in_ok-suite.suite c.args.inputs.scripts.now) c.args.tells.now c.write_results.new.tells
+    told-timed c.args.inputs (g.W.Sink.account c.args.sink.now) (g.W.Sink.account c.write_results.new.sink) (suite_of c.args.inputs c.in_ok-suite.suite) c.in_ok-suite.suite.plan c.in-Ok.ran.results
+    is.is_suite is.planned_as c.in-Ok.ensures.plan c.in-Ok.ensures.start (as_written c.in_ok-suite.suite c.args.inputs.scripts.now) c.deref.result.now c.args.tells.now c.write_results.new.tells
     refl (λ wants. is.placed (c.wants_places.ensures ∙ wants)) c.write_results.result c.write_results.ensures.told

@@ -3,10 +3,11 @@ use Rattle.std.proofs.lemmas.Result.{err_from_is_err_and}
 use Rattle.iso_run.specs.Commands.{shard_asked}
 use Rattle.iso_run.specs.Suites.{suite_of, texts}
 use Rattle.iso_run.proofs.Lending.{are-for, are-of-bytes, inputs-for}
-use Rattle.iso_run.proofs.check.accept.Goals as goal
+use Rattle.iso_run.proofs.Unread.{gives-up-early, unread-ends-early}
+use Rattle.iso_run.proofs.mending.suite_of.Goals as goal
 
-pub returns-in_err-scripts : goal.returns-in_err-scripts
-returns-in_err-scripts c = λ input read.
+pub returns-in_err-scripts-clause-read : goal.returns-in_err-scripts-clause-read
+returns-in_err-scripts-clause-read c = λ input read.
     let p = err_from_is_err_and c.from_residual.result c.from_residual.ensures.1 in
     let files = c.args.files.now in
     let bytes = c.args.bytes.now in
@@ -14,11 +15,19 @@ returns-in_err-scripts c = λ input read.
     let inputs = inputs-for files bytes shard.result in
     (inputs, are-of-bytes files input bytes shard.result read shard.ensures, rw (p.1, p.2) tt)
 
-pub returns-in-Ok : goal.returns-in-Ok
-returns-in-Ok c = λ input read.
+pub returns-in-Ok-clause-read : goal.returns-in-Ok-clause-read
+returns-in-Ok-clause-read c = λ input read.
     let is = c.inputs_of-inputs.ensures in
     let scripts = ap texts (is.scripts ∙ c.deref-2.ensures.value) ∙ c.in_ok-scripts.ensures ∙ ap (map (λ v. v.items)) c.deref.ensures.value in (
       c.inputs_of-inputs.result,
       are-for c.args.files.now input c.args.bytes.now c.inputs_of-inputs.result read scripts is.settings is.world is.listed is.only is.patterns (ap (option_map shard_asked) is.shard ∙ c.shard_of-shard.ensures) is.processors,
-      (suite_of c.inputs_of-inputs.result c.in-Ok.field-0, c.in-Ok.ensures.is_suite, tt),
+      (suite_of c.inputs_of-inputs.result c.in-Ok.suite, c.in-Ok.ensures.is_suite, tt),
     )
+
+pub returns-in_err-scripts-clause-early : goal.returns-in_err-scripts-clause-early
+returns-in_err-scripts-clause-early c =
+    let p = err_from_is_err_and c.from_residual.result c.from_residual.ensures.1 in
+    rw (p.1, p.2) gives-up-early
+
+pub returns-clause-early : goal.returns-clause-early
+returns-clause-early c = unread-ends-early c.inputs_of-inputs.result c.in-Err.fault c.in-Err.ensures

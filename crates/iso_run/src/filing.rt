@@ -1,0 +1,67 @@
+//! The files that a command writes besides its report.
+ghost use Rattle.std.specs.Prelude.{◌≡◌, None, OnOk};
+ghost use Rattle.iso_run.specs.Besides.{files_of};
+ghost use Rattle.iso_run.specs.Ends.{IsFiled, IsOneOf};
+
+use crate::besides::Besides;
+use crate::command_fault::CommandFault;
+use crate::files::write_file;
+use crate::lines::say;
+use crate::parts::{has_parts, text_bytes};
+use iso_tap::printer::Printer;
+use iso_tap::sink::Sink;
+use std::fs::Files;
+
+/// Writes what is asked for to the files that are named for it, each though another one can't be written, and answers whether all is ok. The last
+/// of the files that can't be written is answered, and each other one is told at once.
+pub(crate) fn filed<'a, G: Files, E: Sink>(
+    rt: &G,
+    ok: bool,
+    besides: &Besides<'_, 'a>,
+    errors: &mut E,
+) -> Result<bool, CommandFault<'a>>
+    ensures filed { IsFiled ok (files_of besides.now) result }
+    ensures quiet { OnOk result (errors.new ≡ errors.old) }
+{
+    let after = has_parts(&besides.tells);
+    let failed = text_bytes(&besides.tells.failed);
+    let lost = unwritten(rt, None, after, besides.failed, failed, errors);
+    let junit = text_bytes(&besides.tells.junit);
+    match unwritten(rt, lost, after, besides.junit, junit, errors) {
+        Some(name) => Err(CommandFault::Unwritable(name)),
+        None => Ok(ok),
+    }
+}
+
+/// Writes a text to a file, if one is named for it. Answers the file's name where it can't be written, else that of the one that was lost before,
+/// which is told where another one is. A line that comes after parts has an empty line before it.
+fn unwritten<'a, G: Files, E: Sink>(
+    rt: &G,
+    lost: Option<&'a str>,
+    after: bool,
+    file: Option<&'a str>,
+    text: &[u8],
+    errors: &mut E,
+) -> Option<&'a str>
+    ensures one { IsOneOf lost.entry file.entry result }
+    ensures quiet { result ≡ None → errors.new ≡ errors.old }
+{
+    let Some(name) = file else {
+        return lost;
+    };
+    if write_file(rt, name, text).is_ok() {
+        return lost;
+    }
+    match lost {
+        Some(earlier) => say(errors, &CommandFault::Unwritable(earlier)),
+        None => say_gap(after, errors),
+    }
+    Some(name)
+}
+
+/// Writes the empty line between parts and what comes after them, where there are any.
+fn say_gap<E: Sink>(after: bool, errors: &mut E) {
+    if after {
+        let _ = Printer::new(errors).bytes(b"\n");
+    }
+}
