@@ -34,13 +34,15 @@ class Told(NamedTuple):
 
 
 class Node:
-    """A class or test that was written: its path, where its name stands, the blocks that it has with how they end, and what is in it."""
+    """A class or test that was written: its path, where its name stands, the blocks that it has with how they end, those that have a statement,
+    and what is in it."""
 
     def __init__(self, path, place, disabled):
         self.path = path
         self.place = place
         self.disabled = disabled
         self.blocks = {}
+        self.filled = set()
         self.members = None
         self.told = None
         self.blocks_tests = 0
@@ -158,10 +160,13 @@ class Script(Draft):
     def body(self, may_end, static, block):
         """Writes the body of a block, and answers how it ends, if not well. Row 1 is the line of its brace."""
         brace, _ = self.token("{")
-        for _ in range(self.below(3)):
+        before = self.below(3)
+        for _ in range(before):
             self.tokens(self.one_of(WELL))
         told = self.ending(static, brace, block) if may_end else None
-        for _ in range(self.below(3)):
+        after = self.below(3)
+        self.last_is_filled = before + after > 0 or told is not None
+        for _ in range(after):
             self.tokens(self.one_of(WELL + ('fail "line~LINE" ;',)) if told else self.one_of(WELL))
         self.token("}")
         return told
@@ -223,6 +228,8 @@ class Script(Draft):
             if self.once_in(2):
                 self.token(kind)
                 node.blocks[kind] = self.body(self.once_in(9), static, f"class {depth} {kind}")
+                if self.last_is_filled:
+                    node.filled.add(kind)
         node.members = [self.test(node.path, static) for _ in range(self.below(2) + (depth == deepest))]
         for _ in range(depth < deepest and 1 + self.once_in(6)):
             node.members.append(self.class_of(node.path, depth + 1, deepest))
