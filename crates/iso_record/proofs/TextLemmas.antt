@@ -1,5 +1,5 @@
 -- Lines of schedules are read back.
-use Rattle.std.proofs.Common.{◌≡◌, ◌∙◌, ◌<◌, ◌≤◌, ◌+◌, ◌-◌, ◌==◌, ℕ, zero, suc, List, [], ◌∷◌, ◌++◌, Bool, true, false, Some, None, cond, not, nat_lt, length, get_or, take, drop, position, refl, ap, ap₂, arith, length-append, ne_eqb, one-add, ◌≢◌, ◌^◌, append_assoc, codes, sym, subst, subst₂, leb, leb-true}
+use Rattle.std.proofs.Common.{◌≡◌, ◌∙◌, ◌<◌, ◌≤◌, ◌+◌, ◌-◌, ◌==◌, ℕ, zero, suc, List, [], ◌∷◌, ◌++◌, true, Some, None, cond, not, nat_lt, length, get_or, take, position, refl, ap, ap₂, arith, length-append, ne_eqb, one-add, ◌≢◌, ◌^◌, append_assoc, codes, sym, subst, subst₂, leb, leb-true}
 use Rattle.std.proofs.lemmas.Bool.{and_parts}
 use Rattle.std.proofs.lemmas.Bool.Decides.{nat_tests}
 use Rattle.std.proofs.lemmas.Str.Parse.{digit_from_value}

@@ -3,4 +3,7 @@
 
 pub mod examples;
 pub mod laws;
+pub mod record;
+mod recording;
+pub mod serial;
 pub mod text;
