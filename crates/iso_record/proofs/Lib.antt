@@ -6,5 +6,6 @@ pub mod SerialNodes
 pub mod SerialStates
 pub mod SerialTrees
 pub mod SerialTurns
+pub mod SerialWorkers
 pub mod ShortLemmas
 pub mod TextLemmas

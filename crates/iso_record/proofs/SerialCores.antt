@@ -15,6 +15,7 @@ use Rattle.iso_record.proofs.RecordLemmas.{moved, same_on, stands}
 use Rattle.iso_record.proofs.SerialNodes.{may_close, may_inside, may_next, out_next, ran_class, run_next, closed, enter_history, first_history, last_history, opened, run_complete, run_test, shut_history}
 use Rattle.iso_record.proofs.SerialStates.{NodeStatus}
 use Rattle.iso_record.proofs.SerialEvents.{finished_by}
+use Rattle.iso_record.proofs.SerialWorkers.{all_firsts}
 use Rattle.iso_record.specs.Recordings.{GoesOnBy, HasGoneOnBy, HasTaken, OfSameSuite, history_in}
 use Rattle.iso_record.specs.SerialRuns.{AreSerialRecordOf, IsSerialHistory, HasClosed, HasOpened, HasRun, HasRunInside, HasRunSome, HasRunTest, MayClose, MayRun, MayRunInside, after_history}
 use Rattle.iso_settings.specs.Worlds.{Start}
@@ -109,6 +110,8 @@ are_serial plan world workers tree c same taken run es are =
     ap events_of are
     ∙ moved (λ (p : Planned) (w : Start) (k : ℕ). events_of c.events ≡ full scripts (suite_at p w) (first scripts (suite_at p w)) (history_in c)) c (new_core plan world workers) to taken.events in
     record {
+      alone = all_firsts x (first scripts x) (tree_of plan) (children (tree_of plan) 0) (history_in c) es
+          (subst (λ (g : List E.Event). IsSerialHistory (tree_of plan) g) (sym run.more) run.history) in_full_is;
       serial = subst (λ (g : List E.Event). IsSerialHistory (tree_of plan) g) (sym (h ∙ run.more)) run.history;
       in_full = in_full_is ∙ ap (full scripts x (first scripts x)) (sym h);
       accepted = subst (λ (t : List E.Event). is_run scripts x workers (first scripts x) t ≡ true) (sym in_full_is) run.at.history.run;

@@ -1,6 +1,7 @@
 -- Runs by worker 0 alone, node by node in the order in which they are written.
 use Rattle.std.specs.Prelude.{◌≡◌, ℕ, ◌<◌, List, [], ◌∷◌, ◌++◌, Bool, true, length, take, slice_index_or, ◌≤◌}
 use Rattle.iso_isolation.specs.Events.{Event, Enter, Leave, Shut}
+use Rattle.std.specs.List.{AllByRecursion}
 use Rattle.iso_core.specs.Cores as Cores
 use Rattle.iso_core.specs.EventRuns.{AreAccepted, core_after}
 use Rattle.iso_isolation.specs.Histories.{IsHistory, state_of}
@@ -13,7 +14,7 @@ use Rattle.iso_plan.specs.RowView.{tree_of}
 use Rattle.iso_plan.specs.Tree.{Row}
 use Rattle.iso_record.specs.SerialWalks.{BetweenNodes, ComesNext, IsDone, IsOpened, left_in, phase_in, rest_of}
 use Rattle.iso_settings.specs.Worlds.{Start}
-use Rattle.iso_standing.specs.CodeEvents.{events_of}
+use Rattle.iso_standing.specs.CodeEvents.{events_of, worker_of}
 use Rattle.iso_standing.specs.declared.event.Event as Code
 use Rattle.iso_standing.specs.declared.phase.Phase.TheVariants.{Finished}
 use Rattle.iso_suites.specs.ScriptLanguage.{scripts}
@@ -122,9 +123,10 @@ module _ (plan : Planned) (world : Start) (workers : ℕ) where
     pub history : AreHistories (tree_of plan) (take i (children (tree_of plan) c)) events
     pub more : g ≡ h ++ events
 
--- Events of a whole run by worker 0: a history by worker 0 in full, each accepted after those before it, and all nodes are finished at
--- the end.
+-- Events of a whole run by worker 0: all are its own, they are a history by worker 0 in full, each is accepted after those before it, and
+-- all nodes are finished at the end.
 pub record AreSerialRecordOf (plan : Planned) (world : Start) (workers : ℕ) (es : List Code.Event) : Type 0 where
+  pub alone : AllByRecursion (λ e. worker_of e ≡ 0) es
   pub serial : IsSerialHistory (tree_of plan) (history_of (events_of es))
   pub in_full : events_of es ≡ full scripts (suite_at plan world) (first scripts (suite_at plan world)) (history_of (events_of es))
   pub accepted : AreAccepted plan world workers es
