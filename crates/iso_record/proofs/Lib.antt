@@ -1,0 +1,11 @@
+pub mod HistoryLemmas
+pub mod RecordLemmas
+pub mod SerialCores
+pub mod SerialEvents
+pub mod SerialNodes
+pub mod SerialStates
+pub mod SerialTrees
+pub mod SerialTurns
+pub mod SerialWorkers
+pub mod ShortLemmas
+pub mod TextLemmas

@@ -1,0 +1,4 @@
+pub mod Recordings
+pub mod SerialRuns
+pub mod SerialWalks
+pub mod Texts
