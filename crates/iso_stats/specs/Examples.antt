@@ -5,7 +5,6 @@ use Rattle.iso_stats.specs.declared.figures.Chain.{Chain}
 use Rattle.iso_stats.specs.declared.figures.Figures.{Figures}
 use Rattle.iso_stats.specs.declared.figures.Link.TheVariants.{Key, Class}
 use Rattle.iso_stats.specs.declared.figures.Waited.{Waited}
-use Rattle.iso_stats.specs.declared.figures.Without.{Without}
 
 -- node 2 waited 1.9 s for node 4, by K, and more was waited for it
 abbrev pub waited_for_k : Waited

@@ -1,5 +1,5 @@
 -- What is measured of a run: its tests, how long its bodies took together, and when the last one ended.
-use Rattle.std.specs.Prelude.{ℕ, zero, suc, ◌+◌, ◌-◌, List, Option, Some, None, Bool, cond, length, max, min}
+use Rattle.std.specs.Prelude.{ℕ, zero, suc, ◌+◌, ◌-◌, List, Option, Some, None, cond, length, max, min}
 use Rattle.iso_lifecycle.specs.declared.kind.BodyKind.TheVariants.{BeforeAll, AfterAll}
 use Rattle.iso_plan.specs.Paths.{is_test, row_at}
 use Rattle.iso_plan.specs.Tree.{Row}

@@ -1,5 +1,5 @@
 -- The events of a trace, one after another.
-use Rattle.std.proofs.Common.{◌≡◌, ◌<◌, ℕ, suc, ◌+◌, ◌-◌, List, ◌∷◌, ◌++◌, Option, drop, get_or, length, ap, sym, ◌∙◌, arith}
+use Rattle.std.proofs.Common.{◌≡◌, ◌<◌, ℕ, suc, ◌+◌, ◌-◌, List, ◌++◌, Option, drop, get_or, length, ap, sym, ◌∙◌, arith}
 use Rattle.iso_lifecycle.specs.ResultViews.{ResultsView}
 use Rattle.iso_plan.specs.Tree.{Row}
 use Rattle.iso_tap.proofs.PrinterLemmas.{drop_next}

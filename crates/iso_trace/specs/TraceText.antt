@@ -1,5 +1,5 @@
 -- A trace in the format of Chrome (Trace Event Format): what each worker did, and what nodes waited for.
-use Rattle.std.specs.Prelude.{ℕ, zero, suc, ◌+◌, ◌-◌, List, [], ◌∷◌, ◌++◌, Option, Some, None, cond, codes, length}
+use Rattle.std.specs.Prelude.{ℕ, zero, suc, ◌-◌, List, [], ◌∷◌, ◌++◌, Option, Some, None, cond, codes, length}
 use Rattle.std.specs.Fmt.{decimal}
 use Rattle.iso_lifecycle.specs.ResultViews.{ResultsView, result_in}
 use Rattle.iso_lifecycle.specs.declared.kind.BodyKind.TheVariants.{BeforeAll, AfterAll}

@@ -1,11 +1,11 @@
 -- What holds of each node that is in the way holds of each one that is waited for.
-use Rattle.std.proofs.Common.{◌≡◌, ℕ, zero, suc, ◌+◌, ◌-◌, ◌<◌, List, [], ◌∷◌, ◌++◌, length, Option, Some, None, Bool, true, false, ◌||◌, ◌&&◌, ◌==◌, cond, ap, ap₂, sym, ◌∙◌, refl}
+use Rattle.std.proofs.Common.{◌≡◌, ℕ, zero, suc, ◌+◌, ◌-◌, ◌<◌, List, [], ◌∷◌, ◌++◌, length, Option, Some, None, Bool, true, false, ◌||◌, ◌&&◌, ◌==◌, cond, ap, ◌∙◌, refl}
 use Rattle.std.proofs.lemmas.List.Elements.{All-append, All-cons, All-nil, All-weaker}
 use Rattle.std.specs.Bool.{⊤}
 use Rattle.std.specs.List.{All}
 use Rattle.std.specs.Option.{is_some}
 use Rattle.iso_plan.proofs.ConflictLemmas.{conflicts-is}
-use Rattle.iso_plan.specs.Conflicts.{conflicts, is_in_the_way, lowest, shares}
+use Rattle.iso_plan.specs.Conflicts.{conflicts, is_in_the_way, shares}
 use Rattle.iso_plan.specs.Locks.{conflict, locks}
 use Rattle.iso_plan.specs.Tree.{Row}
 use Rattle.iso_plan.specs.declared.lock.Lock.{Lock}
@@ -14,7 +14,7 @@ use Rattle.iso_times.specs.declared.times.BodyTime.{BodyTime}
 use Rattle.iso_waits.proofs.RivalLemmas.{lowest-is}
 use Rattle.iso_waits.specs.AllWaits.{IsFor}
 use Rattle.iso_waits.specs.ContendedKeys.{contended_key, first_shared}
-use Rattle.iso_waits.specs.Moments.{Waited, all_of, goes_on, held, listed, waited, waits_within}
+use Rattle.iso_waits.specs.Moments.{Waited, goes_on, held, listed, waited, waits_within}
 use Rattle.iso_waits.specs.Stays.{holder, is_entered, stayed}
 use Rattle.iso_waits.specs.Waits.{ready, waits, waits_until}
 use Rattle.iso_waits.specs.declared.stay.Stay.{Stay}

@@ -1,9 +1,9 @@
 -- Who is in the way at a moment, of stays in the order of their begins.
-use Rattle.std.proofs.Common.{◌≡◌, ℕ, zero, suc, ◌+◌, ◌<◌, ◌≤◌, List, [], ◌∷◌, length, get_or, get_or-drop, drop, Option, Some, None, true, false, ap, ap₂, sym, ◌∙◌, refl, arith, add-one, drop-cons, length-drop}
+use Rattle.std.proofs.Common.{◌≡◌, ℕ, suc, ◌+◌, ◌<◌, ◌≤◌, List, [], ◌∷◌, length, get_or, get_or-drop, drop, Option, Some, None, ap, ap₂, sym, ◌∙◌, refl, arith, add-one, drop-cons, length-drop}
 use Rattle.std.proofs.lemmas.List.{get_or_default}
 use Rattle.std.proofs.lemmas.Bool.Decides.{nat_tests}
 use Rattle.std.specs.List.Sorted.{IsNonDecreasingBy}
-use Rattle.iso_waits.specs.Moments.{begin_of, is_at, lower, lower_of, lowest_at, node_at}
+use Rattle.iso_waits.specs.Moments.{begin_of, lower, lower_of, lowest_at, node_at}
 use Rattle.iso_waits.specs.declared.stay.Stay.{Stay}
 
 pub node-over : (t : ℕ) (s : Stay) → s.end ≤ t → node_at t s ≡ None

@@ -1,5 +1,5 @@
 -- The last sibling before a node.
-use Rattle.std.proofs.Common.{◌≡◌, ℕ, zero, suc, ◌+◌, ◌<◌, ◌≤◌, List, Option, Some, None, Bool, true, false, ◌==◌, ap, sym, ◌∙◌, refl, arith}
+use Rattle.std.proofs.Common.{◌≡◌, ℕ, zero, suc, ◌<◌, ◌≤◌, List, Option, Some, None, Bool, true, false, ◌==◌, ◌∙◌, refl, arith}
 use Rattle.iso_plan.proofs.PathLemmas.{eq_not}
 use Rattle.iso_plan.specs.Paths.{parent, parent_of}
 use Rattle.iso_plan.specs.Tree.{Row}

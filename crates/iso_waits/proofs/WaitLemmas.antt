@@ -6,7 +6,6 @@ use Rattle.iso_plan.proofs.ConflictLemmas.{conflict-none, conflicts-is}
 use Rattle.iso_plan.specs.Conflicts.{conflicts}
 use Rattle.iso_plan.specs.Locks.{conflict, locks}
 use Rattle.iso_plan.specs.Tree.{Row}
-use Rattle.iso_plan.specs.declared.lock.Lock.{Lock}
 use Rattle.iso_settings.specs.declared.settings.Settings.{Settings}
 use Rattle.iso_times.specs.declared.times.BodyTime.{BodyTime}
 use Rattle.iso_waits.proofs.RivalLemmas.{rivals-holder, waits-same}
@@ -15,7 +14,6 @@ use Rattle.iso_waits.specs.Rivals.{AreKnown, AreStays, IsAlike, is_rival, rivals
 use Rattle.iso_waits.specs.Stays.{holder, stayed}
 use Rattle.iso_waits.specs.Waits.{ready, waits, waits_until}
 use Rattle.iso_waits.specs.declared.stay.Stay.{Stay}
-use Rattle.iso_waits.specs.declared.wait.Wait.{Wait}
 
 -- nobody is a rival of a node that takes no key
 pub rivals-none : (tree : List Row) (stays : List Stay) (n : ℕ) → locks tree n ≡ [] → rivals tree stays n ≡ []

@@ -1,7 +1,7 @@
 -- What was waited for while one node is in the way, or none is.
-use Rattle.std.proofs.Common.{◌≡◌, ℕ, zero, suc, ◌+◌, ◌-◌, ◌<◌, ◌≤◌, List, [], ◌∷◌, ◌++◌, Option, Some, None, Bool, true, false, ◌==◌, cond, ap, ap₂, sym, ◌∙◌, refl, arith}
+use Rattle.std.proofs.Common.{◌≡◌, ℕ, zero, suc, ◌+◌, ◌-◌, ◌<◌, ◌≤◌, List, [], ◌∷◌, ◌++◌, Option, Some, None, Bool, true, false, ◌==◌, ap, refl, arith}
 use Rattle.std.proofs.lemmas.List.{append-nil}
-use Rattle.iso_waits.specs.Moments.{Waited, all_of, closed, goes_on, held, listed, waited, waiting}
+use Rattle.iso_waits.specs.Moments.{Waited, all_of, goes_on, held, waited, waiting}
 use Rattle.iso_waits.specs.declared.wait.Wait.{Wait}
 
 eq_same : (n : ℕ) → (n == n) ≡ true

@@ -1,4 +1,4 @@
-use Rattle.std.proofs.Common.{List, ℕ, Option, codes, ap, ap₂}
+use Rattle.std.proofs.Common.{codes, ap, ap₂}
 use Rattle.std.proofs.lemmas.Result.{err_from_is_err_and}
 use Rattle.iso_lifecycle.specs.declared.kind.BodyKind.TheVariants.{BeforeAll, AfterAll}
 use Rattle.iso_plan.specs.RowView.{tree_of}

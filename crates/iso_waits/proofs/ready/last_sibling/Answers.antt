@@ -1,4 +1,4 @@
-use Rattle.std.proofs.Common.{◌≡◌, ℕ, suc, ◌+◌, ◌-◌, ◌<◌, Some, Bool, true, ap, sym, ◌∙◌, arith}
+use Rattle.std.proofs.Common.{◌≡◌, ℕ, suc, ◌+◌, ◌-◌, Bool, ap, sym, ◌∙◌, arith}
 use Rattle.iso_plan.specs.Paths.{parent}
 use Rattle.iso_plan.specs.RowView.{tree_of}
 use Rattle.iso_waits.proofs.SiblingLemmas.{highest-found, highest-none, highest-passed, no-sibling, parent-some}

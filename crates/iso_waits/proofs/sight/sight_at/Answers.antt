@@ -1,4 +1,4 @@
-use Rattle.std.proofs.Common.{◌≡◌, ap, sym, ◌∙◌, arith}
+use Rattle.std.proofs.Common.{ap, sym, ◌∙◌, arith}
 use Rattle.iso_waits.proofs.MomentLemmas.{lowest-later}
 use Rattle.iso_waits.specs.Moments.{lower_of}
 use Rattle.iso_waits.specs.declared.stay.Stay.{Stay}

@@ -1,4 +1,4 @@
-use Rattle.std.proofs.Common.{◌≡◌, ◌∙◌, sym, arith}
+use Rattle.std.proofs.Common.{◌∙◌, sym, arith}
 use Rattle.iso_waits.proofs.WaitedLemmas.{waited-next}
 use Rattle.iso_waits.specs.Moments.{lowest_at}
 use Rattle.iso_waits.proofs.within.waits_within.Goals as goal

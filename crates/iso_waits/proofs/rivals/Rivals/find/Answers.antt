@@ -1,4 +1,3 @@
-use Rattle.std.proofs.Common.{◌≡◌}
 use Rattle.iso_plan.specs.RowView.{tree_of}
 use Rattle.iso_waits.proofs.WaitLemmas.{known-alike, known-below}
 use Rattle.iso_waits.proofs.rivals.Rivals.find.Goals as goal

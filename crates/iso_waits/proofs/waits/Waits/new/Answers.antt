@@ -1,4 +1,4 @@
-use Rattle.std.proofs.Common.{◌≡◌, ℕ, Option, length, subst, sym}
+use Rattle.std.proofs.Common.{ℕ, Option, length, subst, sym}
 use Rattle.std.specs.List.Sorted.{IsPermutation}
 use Rattle.iso_plan.specs.RowView.{tree_of}
 use Rattle.iso_waits.proofs.RivalLemmas.{stays-among}
