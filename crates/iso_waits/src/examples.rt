@@ -1,0 +1,27 @@
+//! Worked examples of the definitions: each function does nothing, and its contract is what is computed.
+ghost use Rattle.std.specs.Prelude.{◌≡◌, ◌∷◌, [], None, Some};
+ghost use Rattle.iso_plan.specs.Examples.{concurrent_by_default, one_thread, writing_children};
+ghost use Rattle.iso_waits.specs.ContendedKeys.{contended_key};
+ghost use Rattle.iso_waits.specs.Examples.{a_without_time, b_before_a, wait};
+ghost use Rattle.iso_waits.specs.Waits.{earlier, ready, waits};
+
+/// A node is ready once its class is open, and on one thread once the sibling before it has finished. Times count from the first begin.
+pub fn when_nodes_are_ready()
+    ensures top { ready writing_children concurrent_by_default b_before_a 1 ≡ Some 0 }
+    ensures open { ready writing_children concurrent_by_default b_before_a 2 ≡ Some 2 }
+    ensures beside { ready writing_children concurrent_by_default b_before_a 3 ≡ Some 2 }
+    ensures after { ready writing_children one_thread b_before_a 3 ≡ Some 9 }
+    ensures sibling { earlier writing_children one_thread b_before_a 3 ≡ Some 2 }
+    ensures unmeasured { earlier writing_children one_thread a_without_time 3 ≡ None }
+{}
+
+/// The test a waits for b, which has the key, from when their class is open; not before b begins, and not once b has ended. Nobody waits for
+/// a class that they stand in, and b for nobody.
+pub fn one_test_waits_for_another()
+    ensures waits { waits writing_children concurrent_by_default b_before_a 2 ≡ wait 3 3 6 ∷ [] }
+    ensures first { waits writing_children concurrent_by_default b_before_a 3 ≡ [] }
+    ensures class { waits writing_children concurrent_by_default b_before_a 1 ≡ [] }
+    ensures unmeasured { waits writing_children concurrent_by_default a_without_time 2 ≡ [] }
+    ensures key { contended_key writing_children 2 3 ≡ Some 1 }
+    ensures apart { contended_key writing_children 1 2 ≡ None }
+{}

@@ -1,0 +1,16 @@
+//! What each node of a run waited for, worked out from the plan and the times of its bodies.
+#![tactic(auto)]
+
+pub mod all;
+pub mod examples;
+pub mod key;
+pub mod laws;
+mod order;
+mod ready;
+mod rivals;
+mod sight;
+pub mod stay;
+mod told;
+pub mod wait;
+pub mod waits;
+mod within;
