@@ -128,8 +128,8 @@ fn test<W: Sink>(
     Ok(())
 }
 
-/// Writes the line of a node.
-fn line<W: Sink>(
+/// Writes the line of a node, as `write_placed_plan` has it.
+pub fn line<W: Sink>(
     printer: &mut Printer<'_, W>,
     plan: &Plan,
     sites: &Sites,

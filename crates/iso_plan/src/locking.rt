@@ -78,7 +78,7 @@ fn declaring(alloc: Global, rows: &[Row], isolated: &[bool]) -> Result<Vec<bool>
 
 impl Kind {
     /// Whether the node asks for isolation.
-    fn isolates(&self) -> bool
+    pub(crate) fn isolates(&self) -> bool
         ensures { result ≡ (is_isolated (kind_of self.now) || marks_global (kind_marks (kind_of self.now))) }
     {
         matches!(self, Kind::Class { isolated: true, .. }) || marks_global(self.marks())

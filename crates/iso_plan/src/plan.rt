@@ -8,7 +8,7 @@ ghost use Rattle.iso_model.specs.ScriptView.{script_of, test_head_of};
 ghost use Rattle.iso_model.specs.declared.limits.TheConstants.{KEYS, NODES};
 ghost use Rattle.iso_plan.specs.Faults.{IsFaultOf, keys_fault, plan_fault};
 ghost use Rattle.iso_plan.specs.KeyTable.{keys};
-ghost use Rattle.iso_plan.specs.Locks.{locking_node, locks};
+ghost use Rattle.iso_plan.specs.Locks.{effective_marks, isolates, locking_node, locks};
 ghost use Rattle.iso_plan.specs.Modes.{mode};
 ghost use Rattle.iso_plan.specs.NodeChains.{chain_classes, chain_test, depth, node_rights};
 ghost use Rattle.iso_plan.specs.Paths.{IsTree, children, is_test, parent_of, row_at};
@@ -27,7 +27,7 @@ use crate::paths::is_path_of;
 use crate::row::{Kind, Row};
 use crate::same::same_rows;
 use iso_model::chain::Chain;
-use iso_model::heads::ClassHead;
+use iso_model::heads::{ClassHead, Mark};
 use iso_model::rights::Rights;
 use iso_model::script::{Mode, Script};
 use iso_model::text::Text;
@@ -260,6 +260,37 @@ impl Plan {
         ensures { result ≡ locking_node (tree_of self.now) node }
     {
         self.locking[node as usize]
+    }
+
+    /// Whether its nodes may run in parallel at all, by its settings.
+    pub fn is_parallel(&self) -> bool
+        ensures { result ≡ self.now.settings.parallel }
+    {
+        self.settings.parallel
+    }
+
+    /// The execution mode that is marked on a node itself, if one is.
+    pub fn marked_mode(&self, node: u32) -> Option<Mode>
+        requires { node < length self.now.rows }
+        ensures { result ≡ (row_at (tree_of self.now) node).mode }
+    {
+        self.rows[node as usize].mode
+    }
+
+    /// The marks that count for a node: its effective marks.
+    pub fn marks(&self, node: u32) -> &[Mark]
+        requires { node < length self.now.rows }
+        ensures { result.now ≡ effective_marks (tree_of self.now) node }
+    {
+        self.rows[node as usize].kind.marks()
+    }
+
+    /// Whether a node asks for isolation, as an isolated class does.
+    pub fn isolates(&self, node: u32) -> bool
+        requires { node < length self.now.rows }
+        ensures { result ≡ isolates (tree_of self.now) node }
+    {
+        self.rows[node as usize].kind.isolates()
     }
 
     /// A node's access rights: those that its class chain gives.

@@ -1,0 +1,5 @@
+pub mod LineLemmas
+pub mod LongestLemmas
+pub mod RangeLemmas
+pub mod TakerLemmas
+pub mod TestLemmas

@@ -1,0 +1,4 @@
+pub mod Chains
+pub mod ConflictsText
+pub mod Examples
+pub mod Takers
