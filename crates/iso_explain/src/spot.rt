@@ -5,6 +5,7 @@ ghost use Rattle.std.specs.Str.Lines.{strip_carriage_return};
 ghost use Rattle.iso_explain.specs.Spots.{IsSpotOf, first_line, start_of};
 
 use iso_hints::place::{Place, place_at};
+use iso_hints::position::line_start;
 use iso_script_statements::fault::ScriptFault;
 
 /// Where a fault is.
@@ -32,18 +33,7 @@ fn start_of(bytes: &[u8], line: u32) -> usize
     ensures value { result ≡ start_of bytes.now line }
     ensures within { result ≤ length bytes.now }
 {
-    let mut above = line.saturating_sub(1);
-    let mut passed = 0;
-    'bytes: for byte in bytes {
-        if above == 0 {
-            return passed;
-        }
-        if *byte == b'\n' {
-            above -= 1;
-        }
-        passed += 1;
-    }
-    passed
+    line_start(bytes, line.saturating_sub(1))
 }
 
 /// The first line of what stands here.

@@ -1,3 +1,4 @@
+pub mod DistanceLemmas
 pub mod HintLemmas
 pub mod KeyLemmas
 pub mod NameLemmas
@@ -5,4 +6,5 @@ pub mod NearestLemmas
 pub mod OrderLemmas
 pub mod PictureLemmas
 pub mod PositionLemmas
+pub mod RunLemmas
 pub mod ScanLemmas

@@ -1,5 +1,5 @@
 -- Where the statement at a place begins, and where it ends so far, beside texts and comments.
-use Rattle.std.specs.Prelude.{ℕ, ◌+◌, List, Bool, true, false, ◌&&◌, ◌==◌, cond, fold, not}
+use Rattle.std.specs.Prelude.{◌≡◌, ℕ, ◌+◌, ◌<◌, ◌≤◌, List, Bool, true, false, ◌&&◌, ◌==◌, cond, fold, length, not, slice_index, take}
 use Rattle.iso_hints.specs.Bytes.{ends_statement, is_blank}
 use Rattle.iso_hints.specs.declared.scan.Inside.{Inside}
 use Rattle.iso_hints.specs.declared.scan.Inside.TheVariants.{Code, Text, Escape, Comment}
@@ -46,3 +46,34 @@ nothing_passed = record { passed = 0; start = 0; end = 0; inside = Code }
 -- what is known of these bytes
 abbrev pub scan_of : List ℕ → Seen
 scan_of bytes = fold step nothing_passed bytes
+
+-- what is known behind so many bytes more of a token, which begins with the first of them where none is begun
+abbrev pub past_token : Seen → ℕ → Seen
+past_token seen n =
+    cond (n == 0) seen record {
+      passed = seen.passed + n;
+      start = cond (seen.start == seen.end) seen.passed seen.start;
+      end = seen.passed + n;
+      inside = seen.inside;
+    }
+
+-- what is known behind so many bytes more that are of no token
+abbrev pub past_others : Seen → ℕ → Seen
+past_others seen n = record { passed = seen.passed + n; start = seen.start; end = seen.end; inside = seen.inside }
+
+-- a byte that is of a token, or of none, ends no statement, and is followed by what it stands in
+pub record GoesOn (inside : Inside) (of_token : Bool) (b : ℕ) : Type 0 where
+  pub same : inside_next inside b ≡ inside
+  pub token : is_of_token inside b ≡ of_token
+  pub ends : ends_here inside b ≡ false
+
+-- so many first bytes go on so
+pub record IsRun (inside : Inside) (of_token : Bool) (bytes : List ℕ) (n : ℕ) : Type 0 where
+  pub within : n ≤ length bytes
+  pub each : (k : ℕ) → k < n → GoesOn inside of_token (slice_index bytes k)
+
+-- it is known behind some of these bytes
+pub record IsBehind (seen : Seen) (bytes : List ℕ) (next : Seen) : Type 0 where
+  pub count : ℕ
+  pub within : count ≤ length bytes
+  pub is : next ≡ fold step seen (take count bytes)

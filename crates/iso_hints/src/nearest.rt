@@ -1,6 +1,7 @@
 //! Near words: what was meant, of what there is.
-ghost use Rattle.std.specs.Prelude.{◌≡◌, ◌≤◌, IfOk, OnOk, cond, length, map, nat_le, option_map, Some, None, slice_get, take};
+ghost use Rattle.std.specs.Prelude.{◌≡◌, ◌≤◌, IfOk, OnOk, cond, false, length, map, nat_le, option_map, Some, None, slice_get, take, true};
 ghost use Rattle.std.specs.List.{prefix_len};
+ghost use Rattle.std.specs.Str.{chars};
 ghost use Rattle.iso_hints.specs.Nearest.{distance, is_near, may_be_near, near_words};
 ghost use Rattle.iso_hints.specs.Ranks.{IsRanked, kept, put_near};
 
@@ -109,7 +110,7 @@ pub(crate) fn distance_if_near(
 ) -> Result<Option<usize>, AllocError>
     ensures { IfOk result (λ d. d ≡ cond (is_near word.now candidate.now) (Some (distance word.now candidate.now)) None) }
 {
-    if !may_be_near(word, candidate) {
+    if !may_be_near(word, candidate) || differ_in_length(word, candidate) {
         return Ok(None);
     }
     let distance = osa_distance(alloc, word, candidate)?;
@@ -127,4 +128,18 @@ fn may_be_near(word: &str, candidate: &str) -> bool
     candidate.len() <= CANDIDATE_BYTES
         && candidate.len() <= 2 * word.len()
         && word.len() <= 2 * candidate.len()
+}
+
+/// Whether the lengths of two words alone put them too far apart: their distance takes more time.
+fn differ_in_length(word: &str, candidate: &str) -> bool
+    ensures { result ≡ true → is_near word.now candidate.now ≡ false }
+{
+    character_count(word).abs_diff(character_count(candidate)) > word.len().max(candidate.len()) / 3
+}
+
+/// How many characters a word has.
+fn character_count(word: &str) -> usize
+    ensures { result ≡ length (chars word.now) }
+{
+    word.chars().count()
 }

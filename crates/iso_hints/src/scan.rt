@@ -1,8 +1,10 @@
 //! Where the statement at a place begins, and where it ends so far, beside texts and comments.
-ghost use Rattle.std.specs.Prelude.{◌≡◌, ◌<◌, ◌≤◌, ◌^◌, ◌+◌, length};
-ghost use Rattle.iso_hints.specs.Scans.{ends_here, inside_next, is_of_token, scan_of, start_behind, step};
+ghost use Rattle.std.specs.Prelude.{◌≡◌, ◌<◌, ◌≤◌, ◌^◌, ◌+◌, ◌==◌, ◌||◌, false, length, true};
+ghost use Rattle.iso_hints.specs.Scans.{IsBehind, IsRun, ends_here, inside_next, is_of_token, past_others, past_token, scan_of, start_behind, step};
+ghost use Rattle.iso_hints.specs.declared.scan.Inside.TheVariants.{Code, Comment, Text};
 
 use crate::byte::{ends_statement, is_blank};
+use memchr::{memchr, memchr2};
 
 /// What the next byte stands in.
 #[derive(Clone, Copy, PartialEq, Eq)]
@@ -39,10 +41,111 @@ pub(crate) fn scan(bytes: &[u8]) -> Seen
         end: 0,
         inside: Inside::Code,
     };
-    for byte in bytes {
-        seen = step(seen, *byte);
+    'runs: while seen.passed < bytes.len() {
+        let next = step(seen, bytes[seen.passed]);
+        seen = behind_run(next, &bytes[next.passed..]);
     }
     seen
+}
+
+/// What is known behind the bytes that come next and stand in the same: most are in runs, and these are passed at once.
+fn behind_run(seen: Seen, bytes: &[u8]) -> Seen
+    requires order { seen.start ≤ seen.end }
+    requires within { seen.end ≤ seen.passed }
+    requires room { seen.passed + length bytes.now < 2 ^ 64 }
+    ensures { IsBehind seen bytes.now result }
+{
+    match seen.inside {
+        Inside::Code => behind_code(seen, bytes),
+        Inside::Text => past_token(seen, text_run(bytes)),
+        Inside::Escape => seen,
+        Inside::Comment => past_others(seen, comment_run(bytes)),
+    }
+}
+
+/// What is known behind the bytes before the next text or comment.
+fn behind_code(seen: Seen, bytes: &[u8]) -> Seen
+    requires code { seen.inside ≡ Code }
+    requires room { seen.passed + length bytes.now < 2 ^ 64 }
+    ensures { IsBehind seen bytes.now result }
+{
+    let mut next = seen;
+    for byte in bytes {
+        if leaves_code(*byte) {
+            return next;
+        }
+        next = step_in_code(next, *byte);
+    }
+    next
+}
+
+/// Whether a byte begins a text or a comment.
+fn leaves_code(byte: u8) -> bool
+    ensures { result ≡ ((byte == 34) || (byte == 47)) }
+{
+    matches!(byte, b'"' | b'/')
+}
+
+/// What is known behind a byte of code more. That it is one is told again, so that it isn't asked of each byte.
+fn step_in_code(seen: Seen, byte: u8) -> Seen
+    requires code { seen.inside ≡ Code }
+    requires room { seen.passed + 1 < 2 ^ 64 }
+    ensures { result ≡ step seen byte }
+{
+    let in_code = Seen {
+        passed: seen.passed,
+        start: seen.start,
+        end: seen.end,
+        inside: Inside::Code,
+    };
+    step(in_code, byte)
+}
+
+/// How many bytes of a text stand before its next quote or backslash.
+fn text_run(bytes: &[u8]) -> usize
+    ensures { IsRun Text true bytes.now result }
+{
+    memchr2(b'"', b'\\', bytes).unwrap_or(bytes.len())
+}
+
+/// How many bytes of a comment stand before the end of its line.
+fn comment_run(bytes: &[u8]) -> usize
+    ensures { IsRun Comment false bytes.now result }
+{
+    memchr(b'\n', bytes).unwrap_or(bytes.len())
+}
+
+/// What is known behind so many bytes of a token more.
+fn past_token(seen: Seen, bytes: usize) -> Seen
+    requires { seen.passed + bytes < 2 ^ 64 }
+    ensures { result ≡ past_token seen bytes }
+{
+    if bytes == 0 {
+        return seen;
+    }
+    Seen {
+        passed: seen.passed + bytes,
+        start: if seen.start == seen.end {
+            seen.passed
+        } else {
+            seen.start
+        },
+        end: seen.passed + bytes,
+        inside: seen.inside,
+    }
+}
+
+/// What is known behind so many bytes more that are of no token.
+fn past_others(seen: Seen, bytes: usize) -> Seen
+    requires { seen.passed + bytes < 2 ^ 64 }
+    ensures { result ≡ past_others seen bytes }
+{
+    Seen {
+        passed: seen.passed + bytes,
+        start: seen.start,
+        end: seen.end,
+        inside: seen.inside,
+    }
 }
 
 /// What is known behind one byte more.

@@ -1,24 +1,42 @@
-use Rattle.std.proofs.Common.{◌≡◌, ◌<◌, ◌+◌, arith, drop, length}
+use Rattle.std.proofs.Common.{◌≡◌, ℕ, suc, ◌+◌, ◌-◌, List, Some, drop, length, ap, ap₂, subst, ◌∙◌, arith}
+use Rattle.std.proofs.lemmas.List.{drop-drop, length-drop}
+use Rattle.memchr.specs.Find.{IsFirstByte, Nowhere, is_byte}
 use Rattle.iso_hints.specs.Positions.{line_start}
-use Rattle.iso_hints.proofs.PositionLemmas.{start-end, start-next, start-zero}
+use Rattle.iso_hints.proofs.PositionLemmas.{Feed, slice-rest, start-behind, start-last}
 use Rattle.iso_hints.proofs.position.line_start.Goals as goal
 
-pub returns-then-left-eq0-clause-start : goal.returns-then-left-eq0-clause-start
-returns-then-left-eq0-clause-start c =
-    let so_far : line_start c.args.lines c.args.text.now ≡ c.loop-i.i + line_start c.loop-i.left (drop c.loop-i.i c.args.text.now) = c.loop-i.invariant in
-    let none = start-zero c.loop-i.left (drop c.loop-i.i c.args.text.now) c.if-left-eq0.true in
-    omega arith
+pub returns-in_default-clause-start : goal.returns-in_default-clause-start
+returns-in_default-clause-start c =
+    let text = c.args.text.now in
+    let start = c.lines.start in
+    let left = c.args.lines - c.lines._line in
+    let some : left ≡ suc (left - 1) = omega arith in
+    let none = subst (λ (bs : List ℕ). Nowhere (Feed bs) 0 (length bs)) (slice-rest start text) c.in_default.ensures in
+    let last = ap (λ (n : ℕ). line_start n (drop start text)) some ∙ start-last (left - 1) (drop start text) none in
+    let long = length-drop start text in
+    let within = c.lines.invariant.within in
+    let same = c.lines.invariant.same in
+    omega (arith, last, long, within, same)
 
-pub loop-i-preserved : goal.loop-i-preserved
-loop-i-preserved c =
-    let so_far : line_start c.args.lines c.args.text.now ≡ c.loop-i.i + line_start c.loop-i.left (drop c.loop-i.i c.args.text.now) = c.loop-i.invariant in
-    let some : 0 < c.loop-i.left = omega arith in
-    let next = start-next c.loop-i.left c.args.text.now c.loop-i.i c.lines_ended-left.result c.loop-i-test.true some c.lines_ended-left.ensures in
-    omega arith
-
-pub returns-clause-start : goal.returns-clause-start
-returns-clause-start c =
-    let so_far : line_start c.args.lines c.args.text.now ≡ c.loop-i.i + line_start c.loop-i.left (drop c.loop-i.i c.args.text.now) = c.loop-i.invariant in
-    let none = start-end c.loop-i.left c.args.text.now c.loop-i.i c.loop-i-test.false in
-    let whole : c.loop-i.i ≡ length c.args.text.now = omega arith in
-    omega arith
+pub lines-preserved : goal.lines-preserved
+lines-preserved c =
+    let text = c.args.text.now in
+    let start = c.lines.start in
+    let feed = c.in-Some.feed in
+    let left = c.args.lines - c.lines._line in
+    let some : left ≡ suc (left - 1) = omega arith in
+    let found = subst (λ (bs : List ℕ). IsFirstByte (is_byte 10) bs (Some feed)) (slice-rest start text) c.in-Some.ensures in
+    let first = found.0 in
+    let high = first.high in
+    let behind = ap (λ (n : ℕ). line_start n (drop start text)) some
+    ∙ start-behind (left - 1) (drop start text) feed high (λ j low. first.before j (omega arith) low) found.1 in
+    let fewer : left - 1 ≡ c.args.lines - (c.lines._line + 1) = omega arith in
+    let further : start + suc feed ≡ start + (feed + 1) = omega arith in
+    let more = ap₂ line_start fewer (drop-drop (suc feed) start text ∙ ap (λ (n : ℕ). drop n text) further) in
+    let long = length-drop start text in
+    let within = c.lines.invariant.within in
+    let same = c.lines.invariant.same in
+    record {
+      within = omega (arith, high, long, within);
+      same = omega (arith, behind, more, same);
+    }

@@ -1,6 +1,9 @@
-use Rattle.std.proofs.Common.{◌≡◌, take}
-use Rattle.iso_hints.specs.Scans.{scan_of}
+use Rattle.std.proofs.Common.{◌-◌, length}
+use Rattle.iso_hints.proofs.ScanLemmas.{IsPassed}
 use Rattle.iso_hints.proofs.scan.scan.Given as goal
 
-abbrev pub invariant-loop-byte : goal.invariant-loop-byte
-invariant-loop-byte l = l.seen ≡ scan_of (take l.byte-index l.bytes)
+abbrev pub invariant-runs : goal.invariant-runs
+invariant-runs l = IsPassed l.bytes l.seen
+
+abbrev pub decreases-runs : goal.decreases-runs
+decreases-runs l = length l.bytes - l.seen.passed
