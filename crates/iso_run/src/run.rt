@@ -63,14 +63,12 @@ fn run_timed<'s, C: Clock>(
     ensures start { IfOk result (λ r. r.results.start ≡ suite.now.world) }
     ensures complete { IfOk result (λ r. AreComplete r.results) }
 {
-    if !timed {
-        return Ok(Ran {
-            results: iso_serial::run::run(alloc, &suite.plan, &suite.world)?,
-            times: Vec::new(alloc),
-        });
-    }
-    let gate = TimesGate::new(alloc, clock, &OpenGate, suite.plan.len())?;
+    let gate = if timed {
+        TimesGate::new(alloc, clock, &OpenGate, suite.plan.len())?
+    } else {
+        TimesGate::untimed(alloc, clock, &OpenGate)
+    };
     let results = run_at(alloc, &suite.plan, &suite.world, &gate)?;
-    let times = node_times(alloc, &gate.into_times(), &suite.plan)?;
+    let times = node_times(alloc, timed, gate.into_times(), &suite.plan)?;
     Ok(Ran { results, times })
 }

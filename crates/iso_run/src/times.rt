@@ -6,13 +6,17 @@ use iso_plan::plan::Plan;
 use iso_times::times::Times;
 use std::alloc::{AllocError, Global};
 
-/// How many microseconds the bodies of each node took, as far as they were measured. A node has no time where nothing of it was to be run: it
+/// How many microseconds the bodies of each node took, as far as they were measured; none at all where they weren't. A node has no time where nothing of it was to be run: it
 /// is disabled, or a class without blocks of its own.
 pub(crate) fn node_times(
     alloc: Global,
-    times: &Times,
+    timed: bool,
+    times: Times,
     plan: &Plan,
 ) -> Result<Vec<Option<u64>>, AllocError> {
+    if !timed {
+        return Ok(Vec::new(alloc));
+    }
     let mut all = times.by_node(alloc, plan.len())?;
     for node in 0..plan.len() {
         if !has_body(plan, node) {

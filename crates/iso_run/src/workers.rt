@@ -88,15 +88,13 @@ fn run_timed<'s, L: Ground + Send + Sync, R: Threads + Wait + Clock + Sync, G: G
     ensures complete { IfOk result (λ r. is_complete r.book ≡ true) }
     ensures fault { IfErr result (IsOfWorkers suite.now.settings.worker_count) }
 {
-    if !timed {
-        return Ok(RanBook {
-            book: run_on_floor::<L, R, G>(rt, alloc, suite, gate)?,
-            times: Vec::new(alloc),
-        });
-    }
-    let timed = TimesGate::new(alloc, rt, gate, suite.plan.len())?;
-    let book = run_on_floor::<L, R, TimesGate<'_, R, G>>(rt, alloc, suite, &timed)?;
-    let times = node_times(alloc, &timed.into_times(), &suite.plan)?;
+    let times_gate = if timed {
+        TimesGate::new(alloc, rt, gate, suite.plan.len())?
+    } else {
+        TimesGate::untimed(alloc, rt, gate)
+    };
+    let book = run_on_floor::<L, R, TimesGate<'_, R, G>>(rt, alloc, suite, &times_gate)?;
+    let times = node_times(alloc, timed, times_gate.into_times(), &suite.plan)?;
     Ok(RanBook { book, times })
 }
 

@@ -48,6 +48,18 @@ impl<'g, C: Clock, G: Gate> TimesGate<'g, C, G> {
         })
     }
 
+    /// A gate that keeps no times and never reads the clock. It takes no memory.
+    pub fn untimed(alloc: Global, clock: &'g C, inner: &'g G) -> TimesGate<'g, C, G>
+        ensures { result ≡ 0 }
+    {
+        TimesGate {
+            clock,
+            inner,
+            start: None,
+            table: Table::empty(alloc),
+        }
+    }
+
     /// The times that were kept. It takes no memory.
     pub fn into_times(self) -> Times
         ensures { length result ≡ 2 * self.entry }

@@ -37,6 +37,17 @@ impl Table {
         Ok(Table { nodes, cells, room })
     }
 
+    /// A table for no nodes. It takes no memory.
+    pub(crate) fn empty(alloc: Global) -> Table
+        ensures { result ≡ 0 }
+    {
+        Table {
+            nodes: 0,
+            cells: Vec::new(alloc),
+            room: Vec::new(alloc),
+        }
+    }
+
     /// The cell of a node's body; none where the table has no such node.
     pub(crate) fn cell(&self, node: u32, kind: BodyKind) -> Option<&Cell> {
         self.cells.get(slot_of(node, kind))
