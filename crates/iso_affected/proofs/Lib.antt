@@ -1,0 +1,6 @@
+pub mod AgreeSteps
+pub mod FateLemmas
+pub mod HeadLemmas
+pub mod MarkLemmas
+pub mod NamesakeLemmas
+pub mod SameRuns

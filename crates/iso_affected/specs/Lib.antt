@@ -1,0 +1,3 @@
+pub mod Agreeing
+pub mod Fates
+pub mod Namesakes

@@ -1,0 +1,36 @@
+//! Laws of what agrees. Each function does nothing: its contract is the law, and is proved.
+ghost use Rattle.std.specs.Prelude.{◌≡◌, ◌<◌, ℕ, List, Some, None, ◌∷◌, length};
+ghost use Rattle.iso_affected.specs.Agreeing.{MayComeTo, NodesAgree};
+ghost use Rattle.iso_lifecycle.specs.Subjects.{started, subject};
+ghost use Rattle.iso_model.specs.Agreement.{ClassesAgree, TestsAgree};
+ghost use Rattle.iso_model.specs.Chains.{ClassHead, TestHead};
+ghost use Rattle.iso_model.specs.declared.outcome.Outcome.{Outcome};
+ghost use Rattle.iso_plan.specs.NodeChains.{chain_classes, chain_test};
+ghost use Rattle.iso_plan.specs.RowView.{tree_of};
+ghost use Rattle.iso_settings.specs.Worlds.{Start};
+
+use iso_plan::laws::nodes_are_a_tree;
+use iso_plan::plan::Plan;
+
+/// A node that agrees with one of another plan has in each run the outcome that the other has in each run of its plan, on any numbers of
+/// workers, in any orders of events that the locks allow and under whatever settings.
+pub fn nodes_that_agree_have_equal_outcomes(old: &Plan, new: &Plan)
+    ensures { (before after : Start) (m n : ℕ) (p q : Outcome) → m < length old.now.rows
+        → NodesAgree (subject old.now before m) (subject new.now after n)
+        → MayComeTo old.now before m p → MayComeTo new.now after n q → p ≡ q }
+{
+    nodes_are_a_tree(old);
+    nodes_are_a_tree(new);
+}
+
+/// Tests, and classes, that agree so agree as the law `iso_suites::laws::what_agrees_has_equal_outcomes` asks: on their heads, on those of
+/// the classes around them, and on the starting values of the keys that these are marked with.
+pub fn nodes_that_agree_keep_the_premises_of_the_theorem(old: &Plan, new: &Plan)
+    ensures tests { (before after : Start) (m n : ℕ) (t u : TestHead) → chain_test (tree_of old.now) m ≡ Some t → chain_test (tree_of new.now) n ≡ Some u
+        → NodesAgree (subject old.now before m) (subject new.now after n)
+        → TestsAgree t (chain_classes (tree_of old.now) m) (started before) u (chain_classes (tree_of new.now) n) (started after) }
+    ensures classes { (before after : Start) (m n : ℕ) (c d : ClassHead) (cs ds : List ClassHead) → chain_test (tree_of old.now) m ≡ None
+        → chain_classes (tree_of old.now) m ≡ c ∷ cs → chain_classes (tree_of new.now) n ≡ d ∷ ds
+        → NodesAgree (subject old.now before m) (subject new.now after n)
+        → ClassesAgree c cs (started before) d ds (started after) }
+{}

@@ -1,0 +1,8 @@
+//! What a change of scripts or of starting values can alter: which nodes of a new suite agree with their namesakes in the old one.
+#![tactic(auto)]
+
+pub mod affected;
+pub mod laws;
+mod namesake;
+mod own;
+mod starts;
