@@ -1,11 +1,15 @@
 //! Laws of what agrees. Each function does nothing: its contract is the law, and is proved.
 ghost use Rattle.std.specs.Prelude.{◌≡◌, ◌<◌, ℕ, List, Some, None, ◌∷◌, length};
 ghost use Rattle.iso_affected.specs.Agreeing.{MayComeTo, NodesAgree};
+ghost use Rattle.iso_affected.specs.Fates.{IsFate, suites};
+ghost use Rattle.iso_affected.specs.Namesakes.{namesake};
+ghost use Rattle.iso_affected.specs.declared.affected.Fate.TheVariants.{Same};
 ghost use Rattle.iso_lifecycle.specs.Subjects.{started, subject};
 ghost use Rattle.iso_model.specs.Agreement.{ClassesAgree, TestsAgree};
 ghost use Rattle.iso_model.specs.Chains.{ClassHead, TestHead};
 ghost use Rattle.iso_model.specs.declared.outcome.Outcome.{Outcome};
 ghost use Rattle.iso_plan.specs.NodeChains.{chain_classes, chain_test};
+ghost use Rattle.iso_plan.specs.PathTexts.{path_text};
 ghost use Rattle.iso_plan.specs.RowView.{tree_of};
 ghost use Rattle.iso_settings.specs.Worlds.{Start};
 
@@ -18,6 +22,23 @@ pub fn nodes_that_agree_have_equal_outcomes(old: &Plan, new: &Plan)
     ensures { (before after : Start) (m n : ℕ) (p q : Outcome) → m < length old.now.rows
         → NodesAgree (subject old.now before m) (subject new.now after n)
         → MayComeTo old.now before m p → MayComeTo new.now after n q → p ≡ q }
+{
+    nodes_are_a_tree(old);
+    nodes_are_a_tree(new);
+}
+
+/// What a change doesn't alter: a node of the new suite whose fate is `Same` has in each run the outcome that its namesake in the old suite
+/// has in each run of that.
+pub fn same_nodes_have_the_outcomes_that_they_had(old: &Plan, new: &Plan)
+    ensures { (before after : Start) (n m : ℕ) (p q : Outcome) → IsFate (suites old.now before new.now after) n (Same m)
+        → MayComeTo old.now before m p → MayComeTo new.now after n q → p ≡ q }
+{
+    nodes_that_agree_have_equal_outcomes(old, new);
+}
+
+/// A node and its namesake have one path, as `jtap plan` prints it.
+pub fn namesakes_have_equal_paths(old: &Plan, new: &Plan)
+    ensures { (n m : ℕ) → namesake (tree_of old.now) (tree_of new.now) n ≡ Some m → path_text (tree_of old.now) m ≡ path_text (tree_of new.now) n }
 {
     nodes_are_a_tree(old);
     nodes_are_a_tree(new);
