@@ -22,7 +22,7 @@ no-classes tree = ap (heads_on tree) (path-root tree)
 no-test : (tree : List Row) → IsTree tree → chain_test tree 0 ≡ None
 no-test tree t = ap (λ (r : Row). own_test r.kind) t.root_is
 
-roots-agree : (s : Suites) → IsTree (tree_of s.old) → IsTree (tree_of s.new) → NodesAgree (in_old s 0) (in_new s 0)
+pub roots-agree : (s : Suites) → IsTree (tree_of s.old) → IsTree (tree_of s.new) → NodesAgree (in_old s 0) (in_new s 0)
 roots-agree s t u = record {
   classes = no-classes (tree_of s.old) ∙ sym (no-classes (tree_of s.new));
   test = no-test (tree_of s.old) t ∙ sym (no-test (tree_of s.new) u);

@@ -3,4 +3,5 @@ pub mod FateLemmas
 pub mod HeadLemmas
 pub mod MarkLemmas
 pub mod NamesakeLemmas
+pub mod PathAgreement
 pub mod SameRuns

@@ -1,12 +1,15 @@
 -- Starting values that are equal at the keys of marks.
-use Rattle.std.proofs.Common.{◌≡◌, ℕ, zero, suc, ◌<◌, List, [], ◌∷◌, ◌++◌, length, get_or, Bool, true, false, cond, Option, Some, None, bytes_eq, refl, sym, ap, ◌∙◌, arith, true≢false, ◌⊎◌, inl, inr}
+use Rattle.std.proofs.Common.{◌≡◌, ℕ, zero, suc, ◌<◌, List, [], ◌∷◌, ◌++◌, length, get_or, Bool, true, false, cond, Option, Some, None, bytes_eq, refl, sym, ap, ◌∙◌, arith, true≢false, ◌⊎◌, inl, inr, ◌↔◌, IsTrue, is_some, not}
 use Rattle.std.specs.Cmp.Lexicographic.{bytes_decides}
+use Rattle.iso_affected.specs.Reasons.{IsFirstApart}
 use Rattle.iso_lifecycle.specs.Subjects.{started}
 use Rattle.iso_model.proofs.RightsLemmas.{rights_of-append}
 use Rattle.iso_model.specs.Agreement.{EqualAt}
 use Rattle.iso_model.specs.Rights.{declared_by, is_readable, rights_of, strongest}
 use Rattle.iso_model.specs.declared.access.Access.{Access}
+use Rattle.iso_model.specs.declared.access.Access.TheVariants.{Read}
 use Rattle.iso_model.specs.declared.heads.Mark.{Mark}
+use Rattle.iso_model.specs.declared.heads.Target.TheVariants.{Itself}
 use Rattle.iso_settings.specs.Worlds.{Start, starting_value_in}
 
 abbrev pub Alike : Start → Start → List Mark → Type 0
@@ -69,3 +72,13 @@ pub at-mark : (s t : Start) (ms : List Mark) (i : ℕ) (d : Mark) → i < length
 at-mark s t ms i d h alike =
     let whole : Some (starting_value_in s (get_or ms i d).key) ≡ Some (starting_value_in t (get_or ms i d).key) = alike.same (get_or ms i d).key (mark-readable ms i d h) in
     cc
+
+some_mark : Mark
+some_mark = record { access = Read; target = Itself; key = [] }
+
+-- where no mark is the first whose key starts with another value, all start alike
+pub none-apart : (s t : Start) (ms : List Mark) (o : Option ℕ) (b : Bool) → is_some o ≡ not b → IsFirstApart s t ms o → IsTrue b ↔ Alike s t ms
+none-apart s t ms None true e p = (λ yes_. p, λ alike. refl)
+none-apart s t ms None false e p = let wrong : false ≡ true = e in absurd (cc)
+none-apart s t ms (Some place) true e p = let wrong : true ≡ false = e in absurd (cc)
+none-apart s t ms (Some place) false e p = (λ yes_. absurd (true≢false (sym yes_)), λ alike. absurd (p.apart some_mark (at-mark s t ms place some_mark p.within alike)))

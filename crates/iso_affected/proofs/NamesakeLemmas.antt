@@ -31,6 +31,9 @@ named-is P tree name (n ∷ ns) all =
 pub named-child : (tree : List Row) (class : ℕ) (name : List ℕ) → IfSome (named tree name (children tree class)) (IsChild tree class (length tree))
 named-child tree class name = named-is (IsChild tree class (length tree)) tree name (children tree class) (child-below tree class (length tree))
 
+pub child-of : (tree : List Row) (class : ℕ) (name : List ℕ) (m : ℕ) → named tree name (children tree class) ≡ Some m → IsChild tree class (length tree) m
+child-of tree class name m e = subst (λ (p : Option ℕ). IfSome p (IsChild tree class (length tree))) e (named-child tree class name)
+
 child-within : (tree : List Row) (name : List ℕ) (o : Option ℕ) (m : ℕ) → child_named tree name o ≡ Some m → m < length tree
 child-within tree name None m e = let wrong : None ≡ Some m = e in absurd (cc)
 child-within tree name (Some class) m e =

@@ -1,3 +1,4 @@
 pub mod Agreeing
 pub mod Fates
 pub mod Namesakes
+pub mod Reasons

@@ -1,8 +1,9 @@
 //! Laws of what agrees. Each function does nothing: its contract is the law, and is proved.
-ghost use Rattle.std.specs.Prelude.{◌≡◌, ◌<◌, ℕ, List, Some, None, ◌∷◌, length};
+ghost use Rattle.std.specs.Prelude.{◌≡◌, ◌↔◌, ◌<◌, ℕ, List, Some, None, ◌∷◌, length};
 ghost use Rattle.iso_affected.specs.Agreeing.{MayComeTo, NodesAgree};
 ghost use Rattle.iso_affected.specs.Fates.{IsFate, suites};
 ghost use Rattle.iso_affected.specs.Namesakes.{namesake};
+ghost use Rattle.iso_affected.specs.Reasons.{AllAgree};
 ghost use Rattle.iso_affected.specs.declared.affected.Fate.TheVariants.{Same};
 ghost use Rattle.iso_lifecycle.specs.Subjects.{started, subject};
 ghost use Rattle.iso_model.specs.Agreement.{ClassesAgree, TestsAgree};
@@ -34,6 +35,16 @@ pub fn same_nodes_have_the_outcomes_that_they_had(old: &Plan, new: &Plan)
         → MayComeTo old.now before m p → MayComeTo new.now after n q → p ≡ q }
 {
     nodes_that_agree_have_equal_outcomes(old, new);
+}
+
+/// Why a node is changed: it agrees with its namesake just where each node on its path, the node and the classes that it stands in, agrees
+/// with its own on what it has itself. So where it doesn't, one of these has another head or a mark whose key starts with another value.
+pub fn nodes_agree_where_all_on_their_paths_do(old: &Plan, new: &Plan)
+    ensures { (before after : Start) (n m : ℕ) → n < length new.now.rows → namesake (tree_of old.now) (tree_of new.now) n ≡ Some m
+        → (AllAgree (suites old.now before new.now after) n ↔ NodesAgree (subject old.now before m) (subject new.now after n)) }
+{
+    nodes_are_a_tree(old);
+    nodes_are_a_tree(new);
 }
 
 /// A node and its namesake have one path, as `jtap plan` prints it.

@@ -1,5 +1,6 @@
 //! Where keys start with equal values in two worlds.
 ghost use Rattle.std.specs.Prelude.{◌≡◌, ◌↔◌, IfOk, IsTrue};
+ghost use Rattle.iso_affected.specs.Reasons.{IsFirstApart};
 ghost use Rattle.iso_lifecycle.specs.Subjects.{started};
 ghost use Rattle.iso_model.specs.Agreement.{EqualAt};
 ghost use Rattle.iso_model.specs.Rights.{rights_of};
@@ -46,6 +47,23 @@ fn starts_alike(alloc: Global, before: &World, after: &World, key: &Key) -> Resu
     Ok(same_value(&old, &new))
 }
 
+/// The first of some marks whose key starts with another value in the second world, by its place.
+pub(crate) fn first_apart(
+    alloc: Global,
+    before: &World,
+    after: &World,
+    marks: &[Mark],
+) -> Result<Option<usize>, AllocError>
+    ensures { IfOk result (IsFirstApart before.now after.now marks.now) }
+{
+    'marks: for i in 0..marks.len() {
+        if !starts_alike(alloc, before, after, &marks[i].key)? {
+            return Ok(Some(i));
+        }
+    }
+    Ok(None)
+}
+
 /// Whether all keys that marks name start with equal values in two worlds.
 pub(crate) fn start_alike(
     alloc: Global,
@@ -56,10 +74,5 @@ pub(crate) fn start_alike(
     ensures { IfOk result (λ alike. IsTrue alike
         ↔ EqualAt (rights_of marks.now) (started before.now) (started after.now)) }
 {
-    'marks: for i in 0..marks.len() {
-        if !starts_alike(alloc, before, after, &marks[i].key)? {
-            return Ok(false);
-        }
-    }
-    Ok(true)
+    Ok(first_apart(alloc, before, after, marks)?.is_none())
 }
