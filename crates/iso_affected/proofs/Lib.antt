@@ -1,4 +1,5 @@
 pub mod AgreeSteps
+pub mod DifferenceLemmas
 pub mod FateLemmas
 pub mod HeadLemmas
 pub mod MarkLemmas

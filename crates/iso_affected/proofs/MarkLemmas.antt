@@ -73,7 +73,7 @@ at-mark s t ms i d h alike =
     let whole : Some (starting_value_in s (get_or ms i d).key) ≡ Some (starting_value_in t (get_or ms i d).key) = alike.same (get_or ms i d).key (mark-readable ms i d h) in
     cc
 
-some_mark : Mark
+pub some_mark : Mark
 some_mark = record { access = Read; target = Itself; key = [] }
 
 -- where no mark is the first whose key starts with another value, all start alike

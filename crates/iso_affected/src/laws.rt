@@ -1,9 +1,10 @@
 //! Laws of what agrees. Each function does nothing: its contract is the law, and is proved.
-ghost use Rattle.std.specs.Prelude.{◌≡◌, ◌↔◌, ◌<◌, ℕ, List, Some, None, ◌∷◌, length};
-ghost use Rattle.iso_affected.specs.Agreeing.{MayComeTo, NodesAgree};
+ghost use Rattle.std.specs.Prelude.{◌≡◌, ◌↔◌, ◌<◌, ℕ, List, Some, None, IsFalse, ◌∷◌, length};
+ghost use Rattle.iso_affected.specs.Agreeing.{MayComeTo, NodesAgree, OwnAgree};
 ghost use Rattle.iso_affected.specs.Fates.{IsFate, suites};
 ghost use Rattle.iso_affected.specs.Namesakes.{namesake};
-ghost use Rattle.iso_affected.specs.Reasons.{AllAgree};
+ghost use Rattle.iso_affected.specs.Reasons.{AllAgree, IsDifference};
+ghost use Rattle.iso_affected.specs.declared.difference.Difference.{Difference};
 ghost use Rattle.iso_affected.specs.declared.affected.Fate.TheVariants.{Same};
 ghost use Rattle.iso_lifecycle.specs.Subjects.{started, subject};
 ghost use Rattle.iso_model.specs.Agreement.{ClassesAgree, TestsAgree};
@@ -13,6 +14,7 @@ ghost use Rattle.iso_plan.specs.NodeChains.{chain_classes, chain_test};
 ghost use Rattle.iso_plan.specs.PathTexts.{path_text};
 ghost use Rattle.iso_plan.specs.RowView.{tree_of};
 ghost use Rattle.iso_settings.specs.Worlds.{Start};
+ghost use Rattle.iso_suites.specs.ScriptLanguage.{Head};
 
 use iso_plan::laws::nodes_are_a_tree;
 use iso_plan::plan::Plan;
@@ -46,6 +48,12 @@ pub fn nodes_agree_where_all_on_their_paths_do(old: &Plan, new: &Plan)
     nodes_are_a_tree(old);
     nodes_are_a_tree(new);
 }
+
+/// Each reason is a difference, and there is one where two heads don't agree: they agree just where nothing is told to differ.
+pub fn heads_agree_where_nothing_differs()
+    ensures { (before after : Start) (h g : Head) (d : Difference) → IsDifference before after h g d
+        → ((IsFalse d.head × (d.start ≡ None)) ↔ OwnAgree before after h g) }
+{}
 
 /// A node and its namesake have one path, as `jtap plan` prints it.
 pub fn namesakes_have_equal_paths(old: &Plan, new: &Plan)

@@ -2,6 +2,7 @@
 #![tactic(auto)]
 
 pub mod affected;
+pub mod difference;
 pub mod laws;
 mod namesake;
 mod own;

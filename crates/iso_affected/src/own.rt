@@ -3,14 +3,13 @@ ghost use Rattle.std.specs.Prelude.{◌≡◌, ◌<◌, ◌↔◌, ◌∷◌, If
 ghost use Rattle.iso_affected.specs.Agreeing.{OwnAgree};
 ghost use Rattle.iso_model.specs.ChainView.{innermost_first};
 ghost use Rattle.iso_model.specs.Chains as C;
-ghost use Rattle.iso_model.specs.ScriptView.{class_head_of, test_head_of};
 ghost use Rattle.iso_plan.specs.Paths.{row_at};
 ghost use Rattle.iso_plan.specs.RowView.{tree_of};
 ghost use Rattle.iso_suites.specs.PlanSuites.{head_of};
-ghost use Rattle.iso_suites.specs.ScriptLanguage.{of_class, of_test};
+ghost use Rattle.iso_suites.specs.ScriptLanguage.{marks_on};
 
 use crate::starts::start_alike;
-use iso_model::heads::{ClassHead, TestHead};
+use iso_model::heads::{ClassHead, Mark};
 use iso_model::same::heads::{same_class_head, same_test_head};
 use iso_plan::laws::nodes_are_a_tree;
 use iso_plan::plan::Plan;
@@ -18,54 +17,57 @@ use iso_settings::world::World;
 use std::alloc::{AllocError, Global};
 use std::sync::Arc;
 
-/// Whether two tests have equal heads, and the keys that these are marked with start alike.
-fn tests_agree(
-    alloc: Global,
-    before: &World,
-    after: &World,
-    a: &TestHead,
-    b: &TestHead,
-) -> Result<bool, AllocError>
-    ensures { IfOk result (λ agree. IsTrue agree
-        ↔ OwnAgree before.now after.now (of_test (test_head_of a.now)) (of_test (test_head_of b.now))) }
-{
-    if !same_test_head(a, b) {
-        return Ok(false);
-    }
-    start_alike(alloc, before, after, &a.marks)
-}
-
-/// The same of two classes.
-fn classes_agree(
-    alloc: Global,
-    before: &World,
-    after: &World,
-    a: &ClassHead,
-    b: &ClassHead,
-) -> Result<bool, AllocError>
-    ensures { IfOk result (λ agree. IsTrue agree
-        ↔ OwnAgree before.now after.now (of_class (class_head_of a.now)) (of_class (class_head_of b.now))) }
-{
-    if !same_class_head(a, b) {
-        return Ok(false);
-    }
-    start_alike(alloc, before, after, &a.marks)
-}
-
-/// The same of the innermost classes of two chains.
-fn innermost_agree(
-    alloc: Global,
-    before: &World,
-    after: &World,
-    a: &[Arc<ClassHead>],
-    b: &[Arc<ClassHead>],
-) -> Result<bool, AllocError>
+/// Whether the innermost classes of two chains have equal heads.
+fn same_innermost(a: &[Arc<ClassHead>], b: &[Arc<ClassHead>]) -> bool
     ensures { (c d : C.ClassHead) (cs ds : List C.ClassHead) → innermost_first a.now ≡ c ∷ cs → innermost_first b.now ≡ d ∷ ds
-        → IfOk result (λ agree. IsTrue agree ↔ OwnAgree before.now after.now (of_class c) (of_class d)) }
+        → (IsTrue result ↔ (c ≡ d)) }
 {
     match (a.last(), b.last()) {
-        (Some(old), Some(new)) => classes_agree(alloc, before, after, old, new),
-        _ => Ok(false),
+        (Some(old), Some(new)) => same_class_head(old, new),
+        _ => false,
+    }
+}
+
+/// The marks of the innermost class of a chain.
+fn innermost_marks(classes: &[Arc<ClassHead>]) -> &[Mark]
+    ensures { (c : C.ClassHead) (cs : List C.ClassHead) → innermost_first classes.now ≡ c ∷ cs → result.now ≡ c.marks }
+{
+    match classes.last() {
+        Some(class) => &class.marks,
+        None => &[],
+    }
+}
+
+/// Whether a node of one plan and a node of another, neither of them the root, have equal heads of their own.
+pub(crate) fn same_head(old: &Plan, node: u32, new: &Plan, other: u32) -> bool
+    requires above { 0 < node }
+    requires within { node < length old.now.rows }
+    requires further { 0 < other }
+    requires inside { other < length new.now.rows }
+    ensures { IsTrue result ↔ (head_of (row_at (tree_of old.now) node).kind ≡ head_of (row_at (tree_of new.now) other).kind) }
+{
+    nodes_are_a_tree(old);
+    nodes_are_a_tree(new);
+    let a = old.chain(node);
+    let b = new.chain(other);
+    match (a.test, b.test) {
+        (Some(test), Some(another)) => same_test_head(test, another),
+        (None, None) => same_innermost(a.classes, b.classes),
+        _ => false,
+    }
+}
+
+/// The marks of a node's own head. The node isn't the root.
+pub(crate) fn own_marks(plan: &Plan, node: u32) -> &[Mark]
+    requires above { 0 < node }
+    requires within { node < length plan.now.rows }
+    ensures { result.now ≡ marks_on (head_of (row_at (tree_of plan.now) node).kind) }
+{
+    nodes_are_a_tree(plan);
+    let chain = plan.chain(node);
+    match chain.test {
+        Some(test) => &test.marks,
+        None => innermost_marks(chain.classes),
     }
 }
 
@@ -87,13 +89,8 @@ pub(crate) fn own_agree(
     ensures { IfOk result (λ agree. IsTrue agree ↔ OwnAgree before.now after.now
         (head_of (row_at (tree_of old.now) node).kind) (head_of (row_at (tree_of new.now) other).kind)) }
 {
-    nodes_are_a_tree(old);
-    nodes_are_a_tree(new);
-    let a = old.chain(node);
-    let b = new.chain(other);
-    match (a.test, b.test) {
-        (Some(test), Some(another)) => tests_agree(alloc, before, after, test, another),
-        (None, None) => innermost_agree(alloc, before, after, a.classes, b.classes),
-        _ => Ok(false),
+    if !same_head(old, node, new, other) {
+        return Ok(false);
     }
+    start_alike(alloc, before, after, own_marks(old, node))
 }

@@ -1,6 +1,5 @@
-use Rattle.std.proofs.Common.{◌≡◌, ◌↔◌, ◌∷◌, ◌++◌, IfOk, IsTrue, Bool, List, None, option_map, sym, ap, ◌∙◌, subst}
-use Rattle.iso_affected.proofs.HeadLemmas.{IsClassHead, class-head}
-use Rattle.iso_affected.specs.Agreeing.{OwnAgree}
+use Rattle.std.proofs.Common.{◌≡◌, ◌∷◌, ◌++◌, List, None, option_map, sym, ap, ◌∙◌}
+use Rattle.iso_affected.proofs.HeadLemmas.{IsClassHead, class-head, one-class}
 use Rattle.iso_model.specs.ChainView.{innermost_first}
 use Rattle.iso_model.specs.Chains.{ClassHead}
 use Rattle.iso_model.specs.ScriptView.{test_head_of}
@@ -9,9 +8,8 @@ use Rattle.iso_plan.specs.NodeChains.{chain_classes, own_test}
 use Rattle.iso_plan.specs.Paths.{parent, row_at}
 use Rattle.iso_plan.specs.RowView.{tree_of}
 use Rattle.iso_plan.specs.Tree.{Kind}
-use Rattle.iso_suites.specs.PlanSuites.{head_of}
-use Rattle.iso_suites.specs.ScriptLanguage.{Head, of_class}
-use Rattle.iso_affected.proofs.own.own_agree.Goals as goal
+use Rattle.iso_suites.specs.ScriptLanguage.{of_class}
+use Rattle.iso_affected.proofs.own.same_head.Goals as goal
 
 pub returns-in-None-None : goal.returns-in-None-None
 returns-in-None-None c =
@@ -32,6 +30,5 @@ returns-in-None-None c =
     c.chain-a.ensures.classes ∙ chain-step one c.nodes_are_a_tree.ensures.below m r.above ∙ ap (λ (es : List ClassHead). es ++ cs) h.heads in
     let second : innermost_first c.chain-b.result.classes.now ≡ g.class ∷ ds =
     c.chain-b.ensures.classes ∙ chain-step other c.nodes_are_a_tree-2.ensures.below n r.further ∙ ap (λ (es : List ClassHead). es ++ ds) g.heads in
-    let told = c.innermost_agree.ensures h.class g.class cs ds first second in
-    subst (λ (x : Head). IfOk c.innermost_agree.result (λ (agree : Bool). IsTrue agree ↔ OwnAgree c.args.before.now c.args.after.now x (head_of l))) (sym h.head)
-    (subst (λ (y : Head). IfOk c.innermost_agree.result (λ (agree : Bool). IsTrue agree ↔ OwnAgree c.args.before.now c.args.after.now (of_class h.class) y)) (sym g.head) told)
+    let told = c.same_innermost.ensures h.class g.class cs ds first second in
+    (λ yes_. h.head ∙ ap of_class (told.0 yes_) ∙ sym g.head, λ e. told.1 (one-class h.class g.class (sym h.head ∙ e ∙ g.head)))
