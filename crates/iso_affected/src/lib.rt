@@ -4,6 +4,7 @@
 pub mod affected;
 pub mod difference;
 pub mod laws;
+pub mod listed;
 mod namesake;
 mod own;
 mod starts;
