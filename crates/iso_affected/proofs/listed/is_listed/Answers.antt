@@ -1,0 +1,24 @@
+use Rattle.std.proofs.Common.{◌≡◌, ◌∷◌, ◌++◌, List, None, option_map, sym, ap, ◌∙◌}
+use Rattle.iso_affected.proofs.HeadLemmas.{IsClassHead, class-head}
+use Rattle.iso_model.specs.ChainView.{innermost_first}
+use Rattle.iso_model.specs.Chains.{ClassHead}
+use Rattle.iso_model.specs.ScriptView.{test_head_of}
+use Rattle.iso_plan.proofs.PathLemmas.{chain-step}
+use Rattle.iso_plan.specs.NodeChains.{chain_classes, own_test}
+use Rattle.iso_plan.specs.Paths.{parent, row_at}
+use Rattle.iso_plan.specs.RowView.{tree_of}
+use Rattle.iso_plan.specs.Tree.{Kind}
+use Rattle.iso_affected.specs.Listed as L
+use Rattle.iso_affected.proofs.listed.is_listed.Goals as goal
+
+pub returns-in-None : goal.returns-in-None
+returns-in-None c =
+    let one = tree_of c.args.plan.now in
+    let m = c.args.node in
+    let k : Kind = (row_at one m).kind in
+    let no_test : own_test k ≡ None = sym c.chain-chain.ensures.test ∙ ap (option_map (λ t. test_head_of t.now)) c.in-None.is in
+    let h : IsClassHead k = class-head k no_test (c.nodes_are_a_tree.ensures.full m c.requires.above c.requires.within) in
+    let cs = chain_classes one (parent one m) in
+    let first : innermost_first c.chain-chain.result.classes.now ≡ h.class ∷ cs =
+    c.chain-chain.ensures.classes ∙ chain-step one c.nodes_are_a_tree.ensures.below m c.requires.above ∙ ap (λ (es : List ClassHead). es ++ cs) h.heads in
+    c.innermost_has_own_block.ensures h.class cs first ∙ ap L.is_listed (sym h.head)

@@ -1,0 +1,5 @@
+pub mod Agreeing
+pub mod Fates
+pub mod Listed
+pub mod Namesakes
+pub mod Reasons

@@ -1,0 +1,94 @@
+//! Which nodes of a new suite agree with their namesakes in the old one.
+ghost use Rattle.std.specs.Prelude.{◌≡◌, ◌<◌, IfOk, length};
+ghost use Rattle.iso_affected.specs.Fates.{AreFates, IsFate, gone, suites};
+ghost use Rattle.iso_plan.specs.Paths.{parent};
+ghost use Rattle.iso_plan.specs.RowView.{tree_of};
+
+use crate::namesake::{namesake_in, namesakes};
+use crate::own::own_agree;
+use iso_plan::laws::nodes_are_a_tree;
+use iso_plan::plan::Plan;
+use iso_settings::world::World;
+use std::alloc::{AllocError, Global};
+
+/// What a change makes of a node of the new suite. Its namesake in the old one is told by its number.
+#[derive(Clone, Copy, PartialEq, Eq)]
+pub enum Fate {
+    /// It agrees with its namesake, and so has the same outcome.
+    Same(u32),
+    /// It doesn't agree with its namesake.
+    Changed(u32),
+    /// It has no namesake.
+    New,
+}
+
+/// The fate of each node of the new suite by its number, that of the root among them.
+pub fn fates(
+    alloc: Global,
+    old: &Plan,
+    before: &World,
+    new: &Plan,
+    after: &World,
+) -> Result<Vec<Fate>, AllocError>
+    ensures count { IfOk result (λ fates. length fates.items ≡ length new.now.rows) }
+    ensures fates { IfOk result (AreFates (suites old.now before.now new.now after.now)) }
+{
+    nodes_are_a_tree(old);
+    nodes_are_a_tree(new);
+    let mut fates = Vec::with_capacity(alloc, new.len() as usize)?;
+    fates.push(Fate::Same(0))?;
+    'nodes: for node in 1..new.len() {
+        let class = new.parent(node).unwrap_or(0);
+        let above = fates[class as usize];
+        let fate = fate_in(alloc, old, before, new, after, node, above)?;
+        fates.push(fate)?;
+    }
+    Ok(fates)
+}
+
+/// The fate of a node, from that of the class that it stands in.
+fn fate_in(
+    alloc: Global,
+    old: &Plan,
+    before: &World,
+    new: &Plan,
+    after: &World,
+    node: u32,
+    above: Fate,
+) -> Result<Fate, AllocError>
+    requires above { 0 < node }
+    requires within { node < length new.now.rows }
+    requires class { IsFate (suites old.now before.now new.now after.now) (parent (tree_of new.now) node) above }
+    ensures { IfOk result (IsFate (suites old.now before.now new.now after.now) node) }
+{
+    nodes_are_a_tree(old);
+    nodes_are_a_tree(new);
+    match above {
+        Fate::Same(class) => match namesake_in(old, class, new, node) {
+            Some(namesake) if own_agree(alloc, old, before, namesake, new, after, node)? => {
+                Ok(Fate::Same(namesake))
+            }
+            Some(namesake) => Ok(Fate::Changed(namesake)),
+            None => Ok(Fate::New),
+        },
+        Fate::Changed(class) => match namesake_in(old, class, new, node) {
+            Some(namesake) => Ok(Fate::Changed(namesake)),
+            None => Ok(Fate::New),
+        },
+        Fate::New => Ok(Fate::New),
+    }
+}
+
+/// The nodes of the old suite that have no namesake in the new one, in order.
+pub fn gone(alloc: Global, old: &Plan, new: &Plan) -> Result<Vec<u32>, AllocError>
+    ensures { IfOk result (λ v. v.items ≡ gone (tree_of old.now) (tree_of new.now)) }
+{
+    let namesakes = namesakes(alloc, new, old)?;
+    let mut gone = Vec::new(alloc);
+    'nodes: for node in 0..old.len() {
+        if namesakes[node as usize].is_none() {
+            gone.push(node)?;
+        }
+    }
+    Ok(gone)
+}

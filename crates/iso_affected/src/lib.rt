@@ -1,0 +1,10 @@
+//! What a change of scripts or of starting values can alter: which nodes of a new suite agree with their namesakes in the old one.
+#![tactic(auto)]
+
+pub mod affected;
+pub mod difference;
+pub mod laws;
+pub mod listed;
+mod namesake;
+mod own;
+mod starts;
