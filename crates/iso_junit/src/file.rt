@@ -11,7 +11,7 @@ use iso_tap::printer::Printer;
 use iso_tap::sink::{Sink, SinkFailed};
 
 /// Writes a file's name, with control characters and those that XML doesn't allow by their escapes.
-pub(crate) fn file<W: Sink>(printer: &mut Printer<'_, W>, file: &str) -> Result<(), SinkFailed>
+pub fn file<W: Sink>(printer: &mut Printer<'_, W>, file: &str) -> Result<(), SinkFailed>
     ensures { Prints printer.old printer.new (escaped (file_name file.now)) result }
 {
     for c in file.chars() {

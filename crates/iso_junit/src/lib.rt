@@ -3,17 +3,17 @@
 
 mod case;
 mod count;
-mod escape;
+pub mod escape;
 pub mod examples;
-mod file;
+pub mod file;
 pub mod junit;
 pub mod laws;
 mod output;
-mod part;
-mod path;
+pub mod part;
+pub mod path;
 pub mod placed;
-mod run;
-mod seconds;
+pub mod run;
+pub mod seconds;
 mod suite;
-mod tally;
-mod writing;
+pub mod tally;
+pub mod writing;

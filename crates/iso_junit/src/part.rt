@@ -4,7 +4,7 @@ use crate::tally::Tally;
 
 /// A part of an element.
 #[derive(Clone, Copy)]
-pub(crate) enum Part<'a> {
+pub enum Part<'a> {
     Plain(&'a str),
     /// A number in decimal.
     Number(u32),

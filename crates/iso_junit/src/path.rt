@@ -13,11 +13,7 @@ use iso_tap::sink::{Sink, SinkFailed};
 
 /// Writes a node's path. It calls itself once for each class that the node stands in.
 #[cycle(path)]
-pub(crate) fn path<W: Sink>(
-    printer: &mut Printer<'_, W>,
-    plan: &Plan,
-    node: u32,
-) -> Result<(), SinkFailed>
+pub fn path<W: Sink>(printer: &mut Printer<'_, W>, plan: &Plan, node: u32) -> Result<(), SinkFailed>
     requires above { 0 < node }
     requires within { node < length plan.now.rows }
     ensures { Prints printer.old printer.new (escaped (path_text (tree_of plan.now) node)) result }

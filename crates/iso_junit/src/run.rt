@@ -9,11 +9,11 @@ use iso_plan::plan::Plan;
 
 /// A plan, the results of all its nodes, and by node where they stand and how many microseconds their bodies took.
 #[derive(Clone, Copy)]
-pub(crate) struct Run<'r, 'p> {
-    pub(crate) plan: &'r Plan,
-    pub(crate) results: &'r Results<'p>,
-    pub(crate) places: &'r [Placed<'r>],
-    pub(crate) times: &'r [Option<u64>],
+pub struct Run<'r, 'p> {
+    pub plan: &'r Plan,
+    pub results: &'r Results<'p>,
+    pub places: &'r [Placed<'r>],
+    pub times: &'r [Option<u64>],
     ghost planned: { results.now.plan ≡ plan.now },
     ghost placed: { length places.now ≡ length plan.now.rows },
 }
@@ -22,7 +22,7 @@ impl<'r, 'p> Run<'r, 'p> {
     ghost use Rattle.iso_junit.specs.Runs.{place, placed_of, run_of, time};
 
     /// What a node came to.
-    pub(crate) fn view(&self, node: u32) -> View<'_>
+    pub fn view(&self, node: u32) -> View<'_>
         requires complete { AreComplete self.now.results.now }
         requires above { 0 < node }
         requires within { node < length self.now.plan.now.rows }
@@ -32,7 +32,7 @@ impl<'r, 'p> Run<'r, 'p> {
     }
 
     /// Where a node stands.
-    pub(crate) fn place(&self, node: u32) -> Placed<'r>
+    pub fn place(&self, node: u32) -> Placed<'r>
         requires { node < length self.now.plan.now.rows }
         ensures { placed_of result ≡ place (run_of self.now) node }
     {
@@ -40,7 +40,7 @@ impl<'r, 'p> Run<'r, 'p> {
     }
 
     /// How many microseconds its bodies took.
-    pub(crate) fn time(&self, node: u32) -> Option<u64>
+    pub fn time(&self, node: u32) -> Option<u64>
         ensures { result ≡ time (run_of self.now) node }
     {
         match self.times.get(node as usize) {

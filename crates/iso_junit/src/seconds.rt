@@ -26,7 +26,7 @@ pub(crate) fn time_attribute<W: Sink>(
 }
 
 /// Six digits of a number below a million.
-fn six_digits(number: u64) -> [u8; 6]
+pub fn six_digits(number: u64) -> [u8; 6]
     ensures { result ≡ six_digits number }
 {
     [

@@ -7,15 +7,15 @@ use iso_lifecycle::view::ViewVerdict;
 
 /// Counts of testcases, and the sum of their times.
 #[derive(Clone, Copy)]
-pub(crate) struct Tally {
-    pub(crate) tests: u64,
+pub struct Tally {
+    pub tests: u64,
     /// By a fail.
-    pub(crate) failures: u64,
+    pub failures: u64,
     /// By a fault, or blocked.
-    pub(crate) errors: u64,
-    pub(crate) skipped: u64,
+    pub errors: u64,
+    pub skipped: u64,
     /// In microseconds, none where none was measured.
-    pub(crate) time: Option<u64>,
+    pub time: Option<u64>,
 }
 
 impl Tally {

@@ -22,10 +22,7 @@ use iso_tap::printer::{Piece, Printer};
 use iso_tap::sink::{Sink, SinkFailed};
 
 /// Writes parts, one after another.
-pub(crate) fn parts<W: Sink>(
-    printer: &mut Printer<'_, W>,
-    parts: &[Part<'_>],
-) -> Result<(), SinkFailed>
+pub fn parts<W: Sink>(printer: &mut Printer<'_, W>, parts: &[Part<'_>]) -> Result<(), SinkFailed>
     ensures { Prints printer.old printer.new (joined (map part_text parts.now)) result }
 {
     for part in parts {
@@ -35,7 +32,7 @@ pub(crate) fn parts<W: Sink>(
 }
 
 /// Writes parts with the path of a node between them.
-pub(crate) fn parts_with_path<W: Sink>(
+pub fn parts_with_path<W: Sink>(
     printer: &mut Printer<'_, W>,
     before: &[Part<'_>],
     plan: &Plan,
@@ -78,7 +75,7 @@ fn display<W: Sink>(printer: &mut Printer<'_, W>, title: &str) -> Result<(), Sin
 }
 
 /// Writes printed lines.
-pub(crate) fn all_lines<W: Sink>(
+pub fn all_lines<W: Sink>(
     printer: &mut Printer<'_, W>,
     lines: LineSlice<'_>,
 ) -> Result<(), SinkFailed>

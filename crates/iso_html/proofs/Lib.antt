@@ -1,0 +1,4 @@
+pub mod MarkupLemmas
+pub mod NodeLemmas
+pub mod QuoteLemmas
+pub mod TreeLemmas

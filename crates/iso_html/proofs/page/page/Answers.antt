@@ -1,0 +1,15 @@
+use Rattle.std.proofs.Common.{Ok, ap₂, map}
+use Rattle.iso_html.specs.Heads.{head_text}
+use Rattle.iso_html.specs.Pages.{body_text}
+use Rattle.iso_html.specs.Quotes.{excerpt_of}
+use Rattle.iso_junit.specs.Runs.{run_of}
+use Rattle.iso_tap.proofs.PrinterLemmas.{prints_as, prints_stopped, prints_then}
+use Rattle.iso_html.proofs.page.page.Goals as goal
+
+pub returns-in_err-head : goal.returns-in_err-head
+returns-in_err-head g c =
+    prints_stopped (body_text (run_of c.args.run.now) (map excerpt_of c.args.quotes.now)) _ c.from_residual.ensures.0 (prints_as c.in_err-head.ensures _ (ap₂ head_text c.all_ok.ensures c.count-counts.ensures))
+
+pub returns : goal.returns
+returns g c =
+    prints_then _ (prints_as {r = Ok tt} c.in_ok-head.ensures _ (ap₂ head_text c.all_ok.ensures c.count-counts.ensures)) c.body.ensures

@@ -1,0 +1,20 @@
+-- Signs and words.
+use Rattle.std.specs.Prelude.{ℕ, List, Bool, ◌==◌, cond, codes}
+use Rattle.iso_model.specs.declared.outcome.Verdict.{Verdict}
+use Rattle.iso_model.specs.declared.outcome.Verdict.TheVariants.{Pass, Fail, Fault, Skipped, Blocked}
+
+-- the word for one thing, or the word for several
+abbrev pub word_for : ℕ → (one many : List ℕ) → List ℕ
+word_for n one many = cond (n == 1) one many
+
+-- a check mark, or a cross
+abbrev pub ok_sign : Bool → List ℕ
+ok_sign ok = cond ok (codes "<span class=\"ok\">&#10003; ok</span>") (codes "<span class=\"bad\">&#10007; not ok</span>")
+
+-- the sign of a node with a verdict; one that passed is not ok where something in it isn't
+abbrev pub sign : (ok : Bool) → Verdict → List ℕ
+sign ok Pass = ok_sign ok
+sign ok (Fail note) = codes "<span class=\"bad\">&#10007; fail</span>"
+sign ok (Fault kind note) = codes "<span class=\"bad\">&#10007; fault</span>"
+sign ok (Skipped note) = codes "<span class=\"skip\">&#8211; skipped</span>"
+sign ok (Blocked note) = codes "<span class=\"block\">&#9632; blocked</span>"

@@ -1,0 +1,38 @@
+-- The tree of classes and tests: nested lists, a `details` for each node.
+use Rattle.std.specs.Prelude.{ℕ, zero, suc, List, [], ◌++◌, cond, codes, flat_map, length}
+use Rattle.iso_junit.specs.Cases.{is_a_test}
+use Rattle.iso_junit.specs.Runs.{RunView, place, time}
+use Rattle.iso_plan.specs.Paths.{children, row_at}
+use Rattle.iso_plan.specs.PathTexts.{path_text}
+use Rattle.iso_tap.specs.Reports.{is_ok}
+use Rattle.iso_html.specs.Nodes.{message_text, name_text, place_text, printed_text, time_text}
+
+-- a node up to what stands in it: what it came to, its title and time, its path and place, why it didn't pass, and what it printed
+abbrev pub opening_text : RunView → ℕ → List ℕ
+opening_text r n =
+    name_text (is_ok r.tree r.outcome n) (r.outcome n).verdict (row_at r.tree n).title n
+    ++ time_text (time r n)
+    ++ place_text (path_text r.tree n) (place r n)
+    ++ message_text (r.outcome n).verdict
+    ++ printed_text (r.outcome n).output
+
+-- a list of nodes, of which each has a text
+abbrev pub list_text : (text : ℕ → List ℕ) → List ℕ → List ℕ
+list_text text ns = codes "<ul>\n" ++ flat_map text ns ++ codes "</ul>\n"
+
+-- what stands in a class; nothing stands in a test
+abbrev pub inside_text : RunView → (text : ℕ → List ℕ) → ℕ → List ℕ
+inside_text r text n = cond (is_a_test r n) [] (list_text text (children r.tree n))
+
+-- A node with what stands in it. The definition counts how deep it may still go, and nodes stand in one another no deeper than there are
+-- nodes; the law `pages_go_down_the_tree` says it without.
+abbrev pub node_within : (depth : ℕ) → RunView → ℕ → List ℕ
+node_within zero r n = []
+node_within (suc depth) r n = opening_text r n ++ inside_text r (node_within depth r) n ++ codes "</details></li>\n"
+
+abbrev pub node_text : RunView → ℕ → List ℕ
+node_text r = node_within (length r.tree) r
+
+-- the tree
+abbrev pub tree_text : RunView → List ℕ
+tree_text r = list_text (node_text r) (children r.tree 0)

@@ -1,0 +1,108 @@
+//! Worked examples of the definitions, as public laws.
+ghost use Rattle.std.specs.Prelude.{◌≡◌, ◌++◌, ◌∷◌, [], codes};
+ghost use Rattle.iso_html.specs.Pages.{body_text, failure_text, tree_heading};
+ghost use Rattle.iso_html.specs.Quotes.{quote_text};
+ghost use Rattle.iso_html.specs.Trees.{node_text, tree_text};
+ghost use Rattle.iso_junit.specs.Examples.{cart_run, holders_failed, no_nodes, text_of};
+
+/// A test that passed is closed, with its time, its path and its place.
+pub fn passed_test_is_closed()
+    ensures { node_text cart_run 2 ≡ text_of
+        ("<li id=\"n2\"><details><summary><span class=\"ok\">&#10003; ok</span> a <small>0.000002 s</small></summary>"
+        ∷ "<p><code>shop.Cart.a</code> <code><bdi>cart.jtap</bdi>:3</code></p>"
+        ∷ "</details></li>"
+        ∷ []) }
+{}
+
+/// A test that failed is open, with its message and what it printed, by its display text.
+pub fn failed_test_is_open()
+    ensures { node_text cart_run 7 ≡ text_of
+        ("<li id=\"n7\"><details open><summary><span class=\"bad\">&#10007; fail</span> the last <small>1.500000 s</small></summary>"
+        ∷ "<p><code>shop.Cart.d</code> <code><bdi>cart.jtap</bdi>:10</code></p>"
+        ∷ "<p>expected: &lt;6&gt; but was: &lt;5&gt;</p>"
+        ∷ "<pre>"
+        ∷ "say &quot;hi&quot; &amp; go"
+        ∷ "</pre>"
+        ∷ "</details></li>"
+        ∷ []) }
+{}
+
+/// What went wrong is told with the place of what ended it, and leads to the node in the tree.
+pub fn failed_test_has_an_entry()
+    ensures { failure_text cart_run [] 7 ≡ text_of
+        ("<article>"
+        ∷ "<h3><span class=\"bad\">&#10007; fail</span> <a href=\"#n7\">shop.Cart.d</a></h3>"
+        ∷ "<p><code><bdi>cart.jtap</bdi>:11</code>: expected: &lt;6&gt; but was: &lt;5&gt;</p>"
+        ∷ "<pre>"
+        ∷ "say &quot;hi&quot; &amp; go"
+        ∷ "</pre>"
+        ∷ "</article>"
+        ∷ []) }
+{}
+
+/// A class whose own blocks ended by a fault tells how many tests it blocks.
+pub fn fault_of_a_class_has_an_entry()
+    ensures { failure_text cart_run [] 3
+        ≡ text_of
+        ("<article>"
+        ∷ "<h3><span class=\"bad\">&#10007; fault</span> <a href=\"#n3\">shop.Cart.Till</a></h3>"
+        ∷ "<p><code><bdi>cart.jtap</bdi>:5</code>: n is frozen</p>"
+        ∷ "<p>blocks 2 tests</p>"
+        ∷ "</article>"
+        ∷ []) }
+{}
+
+/// A class that failed is open, and so is the class in it that it blocks.
+pub fn classes_hold_what_stands_in_them()
+    ensures { tree_text holders_failed ≡ text_of
+        ("<ul>"
+        ∷ "<li id=\"n1\"><details open><summary><span class=\"bad\">&#10007; fail</span> shop.A</summary>"
+        ∷ "<p><code>shop.A</code> <code><bdi>cart.jtap</bdi>:2</code></p>"
+        ∷ "<p>no</p>"
+        ∷ "<ul>"
+        ∷ "<li id=\"n2\"><details open><summary><span class=\"block\">&#9632; blocked</span> B</summary>"
+        ∷ "<p><code>shop.A.B</code> <code><bdi>cart.jtap</bdi>:3</code></p>"
+        ∷ "<p>no</p>"
+        ∷ "<ul>"
+        ∷ "</ul>"
+        ∷ "</details></li>"
+        ∷ "</ul>"
+        ∷ "</details></li>"
+        ∷ "</ul>"
+        ∷ []) }
+{}
+
+/// A skipped test is closed, with its reason; what is skipped lets its class be ok.
+pub fn skipped_tests_have_their_reason()
+    ensures { node_text cart_run 9 ≡ text_of
+        ("<li id=\"n9\"><details><summary><span class=\"skip\">&#8211; skipped</span> e <small>0.000004 s</small></summary>"
+        ∷ "<p><code>shop.Desk.e</code> <code><bdi>cart.jtap</bdi>:14</code></p>"
+        ∷ "<p>no #1</p>"
+        ∷ "</details></li>"
+        ∷ []) }
+{}
+
+/// A run of no nodes is ok, and has an empty list; nothing went wrong in it.
+pub fn empty_run_has_an_empty_page()
+    ensures { body_text no_nodes [] ≡ tree_heading ++ text_of
+        ("<ul>"
+        ∷ "</ul>"
+        ∷ "</section>"
+        ∷ "</main>"
+        ∷ "</body>"
+        ∷ "</html>"
+        ∷ []) }
+{}
+
+/// Of the lines of a script the one that ended a block is marked, and what isn't printable ASCII is told by a question mark.
+pub fn line_that_ended_a_block_is_marked()
+    ensures some { quote_text 11 (record {
+      number = 10;
+      text = codes "test d {";
+    } ∷ record {
+      number = 11;
+      text = codes "\tassert 1 < x;" ++ 195 ∷ [];
+    } ∷ [])
+        ≡ text_of ("<pre>" ∷ "  10 | test d {" ∷ "<mark>&gt; 11 |  assert 1 &lt; x;?</mark>" ∷ "</pre>" ∷ []) }
+    ensures none { quote_text 11 [] ≡ [] }
+{}

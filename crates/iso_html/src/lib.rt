@@ -1,0 +1,13 @@
+//! What a run came to, as a page to look at.
+#![tactic(auto)]
+
+pub mod examples;
+mod head;
+pub mod laws;
+mod node;
+mod ok;
+pub mod page;
+pub mod quote;
+mod sign;
+mod style;
+mod tree;

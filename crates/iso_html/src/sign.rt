@@ -1,0 +1,37 @@
+//! Signs and words.
+ghost use Rattle.std.specs.Prelude.{◌≡◌};
+ghost use Rattle.iso_html.specs.Signs.{ok_sign, sign, word_for};
+ghost use Rattle.iso_lifecycle.specs.ResultViews.{verdict_of_view};
+
+use iso_lifecycle::view::ViewVerdict;
+
+/// A check mark, or a cross.
+pub(crate) fn ok_sign(ok: bool) -> &'static str
+    ensures { result.now ≡ ok_sign ok }
+{
+    if ok {
+        "<span class=\"ok\">&#10003; ok</span>"
+    } else {
+        "<span class=\"bad\">&#10007; not ok</span>"
+    }
+}
+
+/// The sign of a node with this verdict; one that passed is not ok where something in it isn't.
+pub(crate) fn sign(ok: bool, verdict: ViewVerdict<'_>) -> &'static str
+    ensures { result.now ≡ sign ok (verdict_of_view verdict.entry) }
+{
+    match verdict {
+        ViewVerdict::Pass => ok_sign(ok),
+        ViewVerdict::Fail(_) => "<span class=\"bad\">&#10007; fail</span>",
+        ViewVerdict::Fault(_, _) => "<span class=\"bad\">&#10007; fault</span>",
+        ViewVerdict::Skipped(_) => "<span class=\"skip\">&#8211; skipped</span>",
+        ViewVerdict::Blocked(_) => "<span class=\"block\">&#9632; blocked</span>",
+    }
+}
+
+/// The word for one thing, or the word for several.
+pub(crate) fn word_for<'a>(count: u32, one: &'a str, many: &'a str) -> &'a str
+    ensures { result.now ≡ word_for count one.now many.now }
+{
+    if count == 1 { one } else { many }
+}
