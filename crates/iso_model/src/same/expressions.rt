@@ -4,8 +4,8 @@ ghost use Rattle.iso_model.specs.SyntaxView.{term_of};
 use crate::data::Data;
 use crate::tree::{Comparison, Expr, Function, Operator};
 
-/// Whether two values are equal.
-pub(crate) fn same_data(a: &Data, b: &Data) -> bool
+/// Whether two values are equal. Takes no memory.
+pub fn same_data(a: &Data, b: &Data) -> bool
     ensures { IsTrue result ↔ (a.now ≡ b.now) }
 {
     match (a, b) {

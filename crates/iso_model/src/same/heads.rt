@@ -7,8 +7,8 @@ use crate::same::expressions::same_data;
 use crate::same::statements::same_block;
 use crate::text::Text;
 
-/// Whether two marks declare one key with one access and for one target.
-fn same_mark(a: &Mark, b: &Mark) -> bool
+/// Whether two marks declare one key with one access and for one target. Takes no memory.
+pub fn same_mark(a: &Mark, b: &Mark) -> bool
     ensures { IsTrue result ↔ (a.now ≡ b.now) }
 {
     a.access == b.access && a.target == b.target && a.key.as_str() == b.key.as_str()
@@ -29,8 +29,8 @@ pub fn same_marks(a: &[Mark], b: &[Mark]) -> bool
     true
 }
 
-/// Whether two statics, or two fields, have one name and one literal.
-fn same_variable(a: &Variable, b: &Variable) -> bool
+/// Whether two statics, or two fields, have one name and one literal. Takes no memory.
+pub fn same_variable(a: &Variable, b: &Variable) -> bool
     ensures { IsTrue result ↔ (a.now ≡ b.now) }
 {
     a.name.as_str() == b.name.as_str() && same_data(&a.value, &b.value)
@@ -51,8 +51,8 @@ fn same_variables(a: &[Variable], b: &[Variable]) -> bool
     true
 }
 
-/// Whether two nodes are disabled for one reason, or neither is.
-fn same_reason(a: &Option<Text>, b: &Option<Text>) -> bool
+/// Whether two nodes are disabled for one reason, or neither is. Takes no memory.
+pub fn same_reason(a: &Option<Text>, b: &Option<Text>) -> bool
     ensures { IsTrue result ↔ (a.now ≡ b.now) }
 {
     match (a, b) {

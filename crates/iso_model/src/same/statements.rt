@@ -31,9 +31,9 @@ fn same_form(a: &Form, b: &Form) -> bool
     }
 }
 
-/// Whether two statements stand on one row and do the same.
+/// Whether two statements stand on one row of their blocks and do the same. Takes no memory, and recurses down their nesting alone.
 #[cycle(statement)]
-fn same_stmt(a: &Stmt, b: &Stmt) -> bool
+pub fn same_stmt(a: &Stmt, b: &Stmt) -> bool
     ensures { IsTrue result ↔ (stmt_of a.now ≡ stmt_of b.now) }
 {
     a.row == b.row && same_form(&a.form, &b.form)
@@ -55,8 +55,8 @@ fn same_stmts(a: &[Stmt], b: &[Stmt]) -> bool
     true
 }
 
-/// Whether two blocks say the same.
-pub(crate) fn same_block(a: &[Stmt], b: &[Stmt]) -> bool
+/// Whether two blocks say the same. Takes no memory, and recurses down their nesting alone.
+pub fn same_block(a: &[Stmt], b: &[Stmt]) -> bool
     ensures { IsTrue result ↔ (block_of a.now ≡ block_of b.now) }
 {
     same_stmts(a, b)
