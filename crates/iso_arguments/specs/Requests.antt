@@ -5,7 +5,7 @@ use Rattle.iso_arguments.specs.declared.processors.Processors.TheVariants.{Count
 use Rattle.iso_arguments.specs.declared.request.Extras.{Extras}
 use Rattle.iso_arguments.specs.declared.request.InputFiles.{InputFiles}
 use Rattle.iso_arguments.specs.declared.request.Request.{Request}
-use Rattle.iso_arguments.specs.declared.request.Request.TheVariants.{Run, Plan, Replay, Check, Settings, Show}
+use Rattle.iso_arguments.specs.declared.request.Request.TheVariants.{Run, Plan, Conflicts, Replay, Check, Settings, Show}
 use Rattle.iso_arguments.specs.declared.shard.Shard.{Shard}
 
 -- the numbers of processors that may be counted with
@@ -27,7 +27,8 @@ AreInBounds files = IfSome files.processors IsWithin × IsShard files.shard
 
 abbrev pub AsksInBounds : Request → Type 0
 AsksInBounds (Run serial extras files) = AreInBounds files
-AsksInBounds (Plan tests places files) = AreInBounds files
+AsksInBounds (Plan tests places why files) = AreInBounds files
+AsksInBounds (Conflicts files) = AreInBounds files
 AsksInBounds (Replay schedule extras files) = AreInBounds files
 AsksInBounds (Check files) = AreInBounds files
 AsksInBounds (Settings settings processors explain) = IfSome processors IsWithin
@@ -53,7 +54,8 @@ AsksForNoMore extras =
 -- a run of all of one script from standard input, without settings or world, without a number of processors, and nothing besides its report
 abbrev pub IsPlainRun : Request → Type 0
 IsPlainRun (Run serial extras files) = NamesNothing files × AsksForNoMore extras
-IsPlainRun (Plan tests places files) = ⊥
+IsPlainRun (Plan tests places why files) = ⊥
+IsPlainRun (Conflicts files) = ⊥
 IsPlainRun (Replay schedule extras files) = ⊥
 IsPlainRun (Check files) = ⊥
 IsPlainRun (Settings settings processors explain) = ⊥

@@ -25,7 +25,9 @@ static RUN_END: &str = "Examples:
 static PLAN_END: &str = "Examples:
   jtap plan --settings junit.toml cart.jtap
   jtap plan --tests --match 'shop.*' cart.jtap
-  jtap plan --tests --places cart.jtap";
+  jtap plan --tests --places cart.jtap
+  jtap plan --why --only shop.Cart.adds cart.jtap
+  jtap plan --conflicts --settings junit.toml cart.jtap desk.jtap";
 
 static REPLAY_END: &str = "Example:
   jtap replay --schedule cart.schedule --settings junit.toml cart.jtap";
@@ -55,6 +57,12 @@ beginning with the I-th";
 
 static PLACES: &str = "Add to each line where the name stands,
 as FILE:LINE:COLUMN";
+
+static WHY: &str = "Tell below each line what gave the mode, and which
+nodes gave each lock";
+
+static CONFLICTS: &str = "Print who takes each key, and how many tests wait
+for one another, in place of nodes";
 
 static SUMMARY: &str = "Tell on standard error what failed, with file and
 line; with `=all` what was skipped, too";
@@ -114,7 +122,8 @@ fn run<'a>(alloc: Global) -> Result<Command<'a>, AllocError> {
 fn plan<'a>(alloc: Global) -> Result<Command<'a>, AllocError> {
     let about = "Print how scripts would run: workers, and each node's mode and locks";
     let command = subcommand(alloc, "plan", about, PLAN_END);
-    let command = command.arg(tests(alloc))?.arg(places(alloc));
+    let command = command.arg(tests(alloc))?.arg(places(alloc))?;
+    let command = command.arg(why(alloc))?.arg(conflicts(alloc)?);
     with_inputs(alloc, command)
 }
 
@@ -193,6 +202,23 @@ fn places<'a>(alloc: Global) -> Arg<'a> {
         .long("places")
         .action(ArgAction::SetTrue)
         .help(PLACES)
+}
+
+fn why<'a>(alloc: Global) -> Arg<'a> {
+    Arg::new(alloc, "why")
+        .long("why")
+        .action(ArgAction::SetTrue)
+        .help(WHY)
+}
+
+fn conflicts<'a>(alloc: Global) -> Result<Arg<'a>, AllocError> {
+    Arg::new(alloc, "conflicts")
+        .long("conflicts")
+        .action(ArgAction::SetTrue)
+        .help(CONFLICTS)
+        .conflicts_with("tests")?
+        .conflicts_with("places")?
+        .conflicts_with("why")
 }
 
 fn schedule<'a>(alloc: Global) -> Arg<'a> {

@@ -114,12 +114,15 @@ pub enum Request<'a> {
         extras: Extras<'a>,
         files: InputFiles<'a>,
     },
-    /// The printed plan; `tests` of its tests alone, `places` with where each node's name stands.
+    /// The printed plan; `tests` of its tests alone, `places` with where each node's name stands, `why` with what gave it its mode and locks.
     Plan {
         tests: bool,
         places: bool,
+        why: bool,
         files: InputFiles<'a>,
     },
+    /// The printed keys of a plan, with who takes them.
+    Conflicts(InputFiles<'a>),
     /// A replay of the schedule in a file of this name, and its report.
     Replay {
         schedule: &'a str,
@@ -261,10 +264,12 @@ fn requested<'a>(alloc: Global, matches: &ArgMatches<'a>) -> Result<Request<'a>,
     }
     let files = files_of(alloc, found)?;
     match name {
+        "plan" if found.get_flag("conflicts") => return Ok(Request::Conflicts(files)),
         "plan" => {
             return Ok(Request::Plan {
                 tests: found.get_flag("tests"),
                 places: found.get_flag("places"),
+                why: found.get_flag("why"),
                 files,
             });
         }
