@@ -82,6 +82,18 @@ lines classes and tests failed";
 static DURATIONS: &str = "Tell on standard error the N slowest classes and
 tests, with their times; with 0 all";
 
+static RECORD: &str = "Write the events of the run to FILE, one a line, for
+`jtap replay --schedule`";
+
+static TRACE: &str = "Write to FILE when each worker ran what, as a trace
+that Perfetto and Chrome show";
+
+static STATS: &str = "Tell on standard error how busy the workers were,
+and for which key tests waited longest";
+
+static PROGRESS: &str = "Show on standard error how far the run has come,
+if that is a terminal";
+
 /// The whole command line. The words begin with the subcommand's name.
 pub(crate) fn command_line<'a>(alloc: Global) -> Result<Command<'a>, AllocError> {
     let command = with_subcommand(first_page(alloc), run(alloc));
@@ -115,7 +127,7 @@ fn run<'a>(alloc: Global) -> Result<Command<'a>, AllocError> {
     let about = "Run scripts, and write their report in TAP 14 to standard output";
     let command = subcommand(alloc, "run", about, RUN_END);
     let command = with_inputs(alloc, command.arg(serial(alloc)));
-    with_extras(alloc, command)?.arg(durations(alloc))
+    with_observations(alloc, with_extras(alloc, command))
 }
 
 /// The subcommand that prints the plan.
@@ -164,6 +176,19 @@ fn with_extras<'a>(
         .arg(file(alloc, "failed", FAILED))?
         .arg(file(alloc, "junit", JUNIT))?
         .arg(github(alloc))
+}
+
+/// A command with the options for what can be told of a run alone, if it could be made.
+fn with_observations<'a>(
+    alloc: Global,
+    command: Result<Command<'a>, AllocError>,
+) -> Result<Command<'a>, AllocError> {
+    command?
+        .arg(durations(alloc))?
+        .arg(file(alloc, "record", RECORD))?
+        .arg(file(alloc, "trace", TRACE))?
+        .arg(stats(alloc))?
+        .arg(progress(alloc))
 }
 
 /// A command with the options for what it reads, if it could be made.
@@ -248,6 +273,20 @@ fn durations<'a>(alloc: Global) -> Arg<'a> {
         .long("durations")
         .value_name("N")
         .help(DURATIONS)
+}
+
+fn stats<'a>(alloc: Global) -> Arg<'a> {
+    Arg::new(alloc, "stats")
+        .long("stats")
+        .action(ArgAction::SetTrue)
+        .help(STATS)
+}
+
+fn progress<'a>(alloc: Global) -> Arg<'a> {
+    Arg::new(alloc, "progress")
+        .long("progress")
+        .action(ArgAction::SetTrue)
+        .help(PROGRESS)
 }
 
 fn settings<'a>(alloc: Global) -> Arg<'a> {

@@ -88,6 +88,14 @@ pub struct Extras<'a> {
     pub github: bool,
     /// How many of the slowest classes and tests are told on standard error; 0 for all.
     pub durations: Option<u32>,
+    /// The file into which the events of a run are written, as a replay takes them.
+    pub record: Option<&'a str>,
+    /// The file into which it is written when each worker ran what, as a trace.
+    pub trace: Option<&'a str>,
+    /// Whether standard error tells how busy workers were, and what was waited for.
+    pub stats: bool,
+    /// Whether standard error, if it is a terminal, shows how far a run has come.
+    pub progress: bool,
 }
 
 impl Extras<'_> {
@@ -101,6 +109,10 @@ impl Extras<'_> {
             junit: None,
             github: false,
             durations: None,
+            record: None,
+            trace: None,
+            stats: false,
+            progress: false,
         }
     }
 }
@@ -302,17 +314,17 @@ fn extras_of<'a>(
 ) -> Result<Extras<'a>, WordsFault> {
     let failed = found.get_str("failed");
     let junit = found.get_str("junit");
+    let record = found.get_str("record");
+    let trace = found.get_str("trace");
     let written = [
         Written {
             option: "--failed <FILE>",
             file: failed,
             may_be_list: true,
         },
-        Written {
-            option: "--junit <FILE>",
-            file: junit,
-            may_be_list: false,
-        },
+        Written::new("--junit <FILE>", junit),
+        Written::new("--record <FILE>", record),
+        Written::new("--trace <FILE>", trace),
     ];
     check_written(alloc, &written, schedule, files)?;
     let durations = durations_of(alloc, found)?;
@@ -322,6 +334,10 @@ fn extras_of<'a>(
         junit,
         github: found.get_flag("github"),
         durations,
+        record,
+        trace,
+        stats: found.get_flag("stats"),
+        progress: found.get_flag("progress"),
     })
 }
 

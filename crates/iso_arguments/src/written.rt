@@ -12,6 +12,17 @@ pub(crate) struct Written<'a> {
     pub(crate) may_be_list: bool,
 }
 
+impl<'a> Written<'a> {
+    /// One whose file may be none that is read.
+    pub(crate) fn new(option: &'a str, file: Option<&'a str>) -> Written<'a> {
+        Written {
+            option,
+            file,
+            may_be_list: false,
+        }
+    }
+}
+
 /// Refuses the first of these files that can't be written: standard output, one that is read, or one that an option before it names.
 pub(crate) fn check_written(
     alloc: Global,
