@@ -1,8 +1,9 @@
 //! Where nodes stand.
-ghost use Rattle.std.specs.Prelude.{◌≡◌};
+ghost use Rattle.std.specs.Prelude.{◌≡◌, []};
 ghost use Rattle.iso_places.specs.Sites.{site_at};
 
 use iso_script::place::NodePlace;
+use std::alloc::Global;
 use std::marker::Model;
 
 /// Where a node stands: in which script, by its number from 0, and where there.
@@ -35,6 +36,15 @@ impl Sites {
         ensures { result ≡ list.items }
     {
         Sites { list }
+    }
+
+    /// No sites, where places aren't asked for.
+    pub fn none(alloc: Global) -> Sites
+        ensures { result ≡ [] }
+    {
+        Sites {
+            list: Vec::new(alloc),
+        }
     }
 
     /// The site of a node by its number; the root has none.
