@@ -2,7 +2,7 @@
 use Rattle.std.proofs.Common.{◌≡◌, ℕ, ◌≤◌, List, [], Bool, true, false, Option, None, Some, IfSome, refl, arith}
 use Rattle.iso_arguments.specs.Requests.{IsPlainRun}
 use Rattle.iso_arguments.specs.declared.request.Request.{Request}
-use Rattle.iso_arguments.specs.declared.request.Request.TheVariants.{Run, Plan, Replay, Check, Settings, Show}
+use Rattle.iso_arguments.specs.declared.request.Request.TheVariants.{Run, Plan, Conflicts, Replay, Check, Settings, Show}
 use Rattle.iso_run.specs.Commands.{Answered, Did, RanOn}
 use Rattle.iso_run.specs.Ends.{Refuses, Whole, command_end, exit_status, run_end}
 use Rattle.iso_run.specs.declared.command_fault.CommandFault.{CommandFault}
@@ -40,7 +40,8 @@ at-least-two (C.Explained fault word text) = run-at-least-two fault
 -- a plain run reported on what stood on the input
 plain-ran : (request : Request) (script : List ℕ) (old new : Account) (ok : Bool) → IsPlainRun request → Did request (Some script) old new ok → RanOn script old new (exit_status (Whole ok))
 plain-ran (Show text) script old new ok is did = absurd is
-plain-ran (Plan tests places files) script old new ok is did = absurd is
+plain-ran (Plan tests places why files) script old new ok is did = absurd is
+plain-ran (Conflicts files) script old new ok is did = absurd is
 plain-ran (Check files) script old new ok is did = absurd is
 plain-ran (Settings name processors explain) script old new ok is did = absurd is
 plain-ran (Replay name extras files) script old new ok is did = absurd is

@@ -8,7 +8,7 @@ use Rattle.iso_arguments.specs.declared.processors.Processors.{Processors}
 use Rattle.iso_arguments.specs.declared.processors.Processors.TheVariants.{Count, Auto}
 use Rattle.iso_arguments.specs.declared.request.InputFiles.{InputFiles}
 use Rattle.iso_arguments.specs.declared.request.Request.{Request}
-use Rattle.iso_arguments.specs.declared.request.Request.TheVariants.{Run, Plan, Replay, Check, Settings, Show}
+use Rattle.iso_arguments.specs.declared.request.Request.TheVariants.{Run, Plan, Conflicts, Replay, Check, Settings, Show}
 use Rattle.iso_arguments.specs.declared.request.Summarized.{Summarized}
 use Rattle.iso_arguments.specs.declared.request.Summarized.TheVariants.{Failed, All}
 use Rattle.iso_arguments.specs.declared.shard.Shard as A
@@ -18,8 +18,9 @@ use Rattle.iso_run.specs.Ends.{End, NamesFile, Whole, Refuses, Leaves, exit_stat
 use Rattle.iso_run.specs.Replays.{Cause}
 use Rattle.iso_places.specs.declared.site.Site.{Site}
 use Rattle.iso_plan.specs.Selections.{texts_of}
-use Rattle.iso_run.specs.Runs.{AreSitesOf, IsWritten, Product, suite_places, suite_plan, suite_report, suite_tests}
+use Rattle.iso_run.specs.Runs.{AreSitesOf, IsWritten, Product, suite_conflicts, suite_places, suite_plan, suite_report, suite_tests, suite_why}
 use Rattle.iso_run.specs.Suites.{OfSuite, Suite, document, settings_from, texts}
+use Rattle.iso_run.specs.declared.command.Printed.{Printed}
 use Rattle.iso_run.specs.declared.command_fault.CommandFault.{CommandFault}
 use Rattle.iso_run.specs.declared.fault.RunFault.{RunFault}
 use Rattle.iso_run.specs.declared.files.FileReads.{FileReads}
@@ -89,18 +90,20 @@ IsWrittenFor product files input way old new ok = (inputs : Inputs) × AreFor fi
 abbrev pub way_of : (serial : Bool) → Way
 way_of serial = cond serial Serial ByWorkers
 
--- what is printed of a plan: all of it, or its tests alone; without the sites of its nodes, or with them
-abbrev pub plan_of : (tests places : Bool) → (names : List (List ℕ)) → List Site → Suite → Product
-plan_of tests places names sites = cond places (suite_places tests names sites) (cond tests suite_tests suite_plan)
+-- what is printed of a plan: all of it, or its tests alone; without the sites of its nodes, or with them; with why its modes and locks are so
+abbrev pub plan_of : Printed → (names : List (List ℕ)) → List Site → Suite → Product
+plan_of printed names sites =
+    cond printed.why (suite_why printed.tests names sites) (cond printed.places (suite_places printed.tests names sites) (cond printed.tests suite_tests suite_plan))
 
--- where sites are asked for, they are those of the suite that inputs are
+-- where sites are asked for, they are those of the suite that inputs are; else there are none
 abbrev pub ArePlaces : (places : Bool) → Inputs → List Site → Type 0
-ArePlaces places inputs sites = places ≡ true → OfSuite inputs (λ suite. AreSitesOf inputs suite sites)
+ArePlaces true inputs sites = OfSuite inputs (λ suite. AreSitesOf inputs suite sites)
+ArePlaces false inputs sites = sites ≡ []
 
 -- a plan was printed, whole
-abbrev pub IsPrintedFor : (tests places : Bool) → InputFiles → Option (List ℕ) → (old new : Account) → (ok : Bool) → Type 0
-IsPrintedFor tests places files input old new ok = (sites : List Site) × ((inputs : Inputs) × AreFor files input inputs × ArePlaces places inputs sites
-    × IsWritten (plan_of tests places (texts_of files.scripts.items) sites) inputs Serial old new ok)
+abbrev pub IsPrintedFor : Printed → InputFiles → Option (List ℕ) → (old new : Account) → (ok : Bool) → Type 0
+IsPrintedFor printed files input old new ok = (sites : List Site) × ((inputs : Inputs) × AreFor files input inputs × ArePlaces printed.places inputs sites
+    × IsWritten (plan_of printed (texts_of files.scripts.items) sites) inputs Serial old new ok)
 
 -- the inputs for these files are a suite
 abbrev pub IsAcceptedFor : InputFiles → Option (List ℕ) → Type 0
@@ -121,7 +124,8 @@ pub record IsListedFor (name : Option (Bor (List ℕ))) (asked : Option Processo
 -- what a request asks for was done: its text was written, or the plan or the report for its files, of a replay after some schedule
 abbrev pub Did : Request → Option (List ℕ) → (old new : Account) → (ok : Bool) → Type 0
 Did (Show text) input old new ok = (ok ≡ true) × Wrote old new (string_bytes text)
-Did (Plan tests places files) input old new ok = IsPrintedFor tests places files input old new ok
+Did (Plan tests places why files) input old new ok = IsPrintedFor (record { tests = tests; places = places; why = why }) files input old new ok
+Did (Conflicts files) input old new ok = IsWrittenFor suite_conflicts files input Serial old new ok
 Did (Check files) input old new ok = (ok ≡ true) × (new ≡ old) × IsAcceptedFor files input
 Did (Settings name processors explain) input old new ok = (ok ≡ true) × IsListedFor name processors old new
 Did (Run serial extras files) input old new ok = IsWrittenFor suite_report files input (way_of serial) old new ok
@@ -136,7 +140,8 @@ pub record Answered {A : Type 0} (words : List A) (input : Option (List ℕ)) (o
 -- the files that a request has written besides, where it names them
 abbrev pub files_named : Request → List (Option (Bor (List ℕ)))
 files_named (Show text) = []
-files_named (Plan tests places files) = []
+files_named (Plan tests places why files) = []
+files_named (Conflicts files) = []
 files_named (Check files) = []
 files_named (Settings name processors explain) = []
 files_named (Run serial extras files) = extras.failed ∷ extras.junit ∷ []

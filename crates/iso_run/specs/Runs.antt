@@ -13,6 +13,7 @@ use Rattle.iso_lifecycle.specs.Subjects.{outcome_alone, started}
 use Rattle.iso_model.specs.ScriptView.{script_of}
 use Rattle.iso_model.specs.Scripts.{Script}
 use Rattle.iso_model.specs.declared.outcome.Outcome.{Outcome}
+use Rattle.iso_conflicts.specs.Conflicts.{conflicts_text}
 use Rattle.iso_placed_plan.specs.PlacedPlan.{placed_plan_text, placed_tests_text}
 use Rattle.iso_places.specs.Located.{AreSites}
 use Rattle.iso_places.specs.Sites.{all_sites, places_in}
@@ -23,6 +24,7 @@ use Rattle.iso_settings.specs.declared.settings.Settings.{Settings}
 use Rattle.iso_tap.specs.PlanText.{plan_text, tests_text}
 use Rattle.iso_tap.specs.Reports.{all_ok, report}
 use Rattle.iso_tap.specs.Sinks.{Account, HasFailed, Took, Wrote}
+use Rattle.iso_why.specs.PlanWhy.{plan_why, tests_why}
 use Rattle.iso_telling.specs.Telling.{HasTold, wants_places}
 use Rattle.iso_telling.specs.Written.{ArePlaced, WrittenView}
 use Rattle.iso_telling.specs.declared.tells.Tells.{Tells}
@@ -103,6 +105,17 @@ pub record AreSitesOf (inputs : Inputs) (suite : Suite) (sites : List Site) : Ty
 abbrev pub places_text : (tests : Bool) → (names : List (List ℕ)) → List Site → List Row → Settings → (workers : ℕ) → List ℕ
 places_text tests names sites nodes settings workers =
     cond tests (placed_tests_text nodes settings sites names) (placed_plan_text nodes settings workers sites names)
+
+-- the same with why modes and locks are so
+abbrev pub why_text : (tests : Bool) → (names : List (List ℕ)) → List Site → List Row → Settings → (workers : ℕ) → List ℕ
+why_text tests names sites nodes settings workers = cond tests (tests_why nodes settings sites names) (plan_why nodes settings workers sites names)
+
+abbrev pub suite_why : (tests : Bool) → (names : List (List ℕ)) → List Site → Suite → Product
+suite_why tests names sites suite = record { text = why_text tests names sites suite.nodes suite.settings suite.settings.worker_count; ok = true }
+
+-- the keys of the plan, with who takes them
+abbrev pub suite_conflicts : Suite → Product
+suite_conflicts suite = record { text = conflicts_text suite.nodes suite.settings suite.settings.worker_count; ok = true }
 
 abbrev pub suite_places : (tests : Bool) → (names : List (List ℕ)) → List Site → Suite → Product
 suite_places tests names sites suite =

@@ -7,7 +7,7 @@ ghost use Rattle.iso_plan.specs.Selections.{texts_of};
 ghost use Rattle.iso_run.specs.Besides.{IsQuiet, IsSaid, files_of, parted, parts_of};
 ghost use Rattle.iso_run.specs.Commands.{Answered, AnsweredBesides, ArePlaces, AreFor, Did, DidBesides, Ended, IsRefused, RanOn, WereRead, plan_of, shard_asked, way_of};
 ghost use Rattle.iso_run.specs.Ends.{Answers, IfLate, IsEnded, IsFlushed, Refuses, command_end, end_of, exit_status, run_end, words_fault};
-ghost use Rattle.iso_run.specs.Runs.{Writes, suite_report};
+ghost use Rattle.iso_run.specs.Runs.{Writes, suite_conflicts, suite_report};
 ghost use Rattle.iso_run.specs.declared.inputs.Inputs.{Inputs};
 ghost use Rattle.iso_run.specs.declared.way.Way.TheVariants.{Serial};
 ghost use Rattle.iso_tap.specs.Sinks.{Wrote};
@@ -23,7 +23,7 @@ use crate::inputs::Inputs;
 use crate::lines::say;
 use crate::mending::after_fault;
 use crate::parts::say_parts;
-use crate::plan::{show_places, show_plan, show_tests};
+use crate::plan::{show_conflicts, show_places, show_plan, show_tests, show_why};
 use crate::replay::run_schedule;
 use crate::report::Summary;
 use crate::run::run_serial;
@@ -132,11 +132,28 @@ fn answer_request<
         Request::Plan {
             tests,
             places,
+            why,
             files,
         } => {
             let read = read_files(rt, files, None, input)?;
             let bytes = looked_over(rt.alloc(), read, files, false, errors)?;
-            let shown = plan(rt.alloc(), &bytes, *tests, *places, &*files, output);
+            let shown = plan(
+                rt.alloc(),
+                &bytes,
+                Printed {
+                    tests: *tests,
+                    places: *places,
+                    why: *why,
+                },
+                &*files,
+                output,
+            );
+            told(rt, shown, bytes, files, &Besides::nothing(), output, errors)
+        }
+        Request::Conflicts(files) => {
+            let read = read_files(rt, files, None, input)?;
+            let bytes = looked_over(rt.alloc(), read, files, false, errors)?;
+            let shown = conflicts(rt.alloc(), &bytes, &*files, output);
             told(rt, shown, bytes, files, &Besides::nothing(), output, errors)
         }
         Request::Check(files) => {
@@ -224,25 +241,53 @@ fn run<'b, G: AllocGlobal + Clock + Threads + Wait + Sync, W: Sink>(
     }
 }
 
-/// Prints the plan of what these bytes are, as it is asked for with these files.
-fn plan<'b, W: Sink>(
+/// What is printed of a plan: its tests alone, its places, and why its modes and locks are so.
+#[derive(Clone, Copy)]
+pub(crate) struct Printed {
+    pub tests: bool,
+    pub places: bool,
+    pub why: bool,
+}
+
+/// Prints who takes which key of what these bytes are, as it is asked for with these files.
+fn conflicts<'b, W: Sink>(
     alloc: Global,
     bytes: &'b InputBytes,
-    tests: bool,
-    places: bool,
     files: &'b InputFiles<'b>,
     output: &mut W,
 ) -> Result<Summary, RunFault>
     requires bounds { AreInBounds files.now }
     requires counted { 1 ≤ bytes.now.processors }
     ensures { (input : Option (List ℕ)) → WereRead files.now input bytes.now → (inputs : Inputs) × AreFor files.now input inputs
-        × ((sites : List Site) × IfLate (end_of (λ s. s.all_ok) run_end result) (ArePlaces places inputs sites)
-        × Writes (λ s. s.all_ok) (plan_of tests places (texts_of files.now.scripts.items) sites) inputs Serial (W.account output.old) (W.account output.new) result) }
+        × Writes (λ s. s.all_ok) suite_conflicts inputs Serial (W.account output.old) (W.account output.new) result }
 {
     let shard = shard_of(files.shard);
     let scripts = lent(alloc, &bytes.scripts)?;
     let inputs = inputs_of(bytes, &scripts, files, shard);
-    match print_plan(alloc, inputs, tests, places, &files.scripts, output) {
+    match show_conflicts(alloc, inputs, output) {
+        Ok(()) => Ok(Summary { all_ok: true }),
+        Err(fault) => Err(fault),
+    }
+}
+
+/// Prints the plan of what these bytes are, as it is asked for with these files.
+fn plan<'b, W: Sink>(
+    alloc: Global,
+    bytes: &'b InputBytes,
+    printed: Printed,
+    files: &'b InputFiles<'b>,
+    output: &mut W,
+) -> Result<Summary, RunFault>
+    requires bounds { AreInBounds files.now }
+    requires counted { 1 ≤ bytes.now.processors }
+    ensures { (input : Option (List ℕ)) → WereRead files.now input bytes.now → (inputs : Inputs) × AreFor files.now input inputs
+        × ((sites : List Site) × IfLate (end_of (λ s. s.all_ok) run_end result) (ArePlaces printed.places inputs sites)
+        × Writes (λ s. s.all_ok) (plan_of printed (texts_of files.now.scripts.items) sites) inputs Serial (W.account output.old) (W.account output.new) result) }
+{
+    let shard = shard_of(files.shard);
+    let scripts = lent(alloc, &bytes.scripts)?;
+    let inputs = inputs_of(bytes, &scripts, files, shard);
+    match print_plan(alloc, inputs, printed, &files.scripts, output) {
         Ok(()) => Ok(Summary { all_ok: true }),
         Err(fault) => Err(fault),
     }
@@ -252,16 +297,18 @@ fn plan<'b, W: Sink>(
 fn print_plan<W: Sink>(
     alloc: Global,
     inputs: Inputs<'_>,
-    tests: bool,
-    places: bool,
+    printed: Printed,
     names: &[&str],
     output: &mut W,
 ) -> Result<(), RunFault>
     requires { 1 ≤ inputs.processors }
-    ensures { (sites : List Site) × IfLate (end_of (λ _. true) run_end result) (ArePlaces places inputs.entry sites)
-        × Writes (λ _. true) (plan_of tests places (texts_of names.now) sites) inputs.entry Serial (W.account output.old) (W.account output.new) result }
+    ensures { (sites : List Site) × IfLate (end_of (λ _. true) run_end result) (ArePlaces printed.places inputs.entry sites)
+        × Writes (λ _. true) (plan_of printed (texts_of names.now) sites) inputs.entry Serial (W.account output.old) (W.account output.new) result }
 {
-    if places {
+    let Printed { tests, places, why } = printed;
+    if why {
+        show_why(alloc, inputs, tests, places, names, output)
+    } else if places {
         show_places(alloc, inputs, tests, names, output)
     } else if tests {
         show_tests(alloc, inputs, output)

@@ -8,7 +8,9 @@ ghost use Rattle.iso_plan.specs.RowView.{tree_of};
 ghost use Rattle.iso_plan.specs.Selections.{texts_of};
 ghost use Rattle.iso_plan.specs.Tree.{tree};
 ghost use Rattle.iso_run.specs.Ends.{IfLate, end_of, run_end};
-ghost use Rattle.iso_run.specs.Runs.{AreSitesOf, Writes, places_text, suite_places, suite_plan, suite_tests};
+ghost use Rattle.iso_run.specs.Runs.{AreSitesOf, Writes, places_text, suite_conflicts, suite_places, suite_plan, suite_tests, suite_why, why_text};
+ghost use Rattle.iso_run.specs.Commands.{ArePlaces};
+ghost use Rattle.iso_why.specs.Reach.{IsReach};
 ghost use Rattle.iso_run.specs.Suites.{OfSuite};
 ghost use Rattle.iso_tap.specs.Printers as P;
 ghost use Rattle.iso_run.specs.declared.fault.RunFault.TheVariants.{Memory};
@@ -16,12 +18,16 @@ ghost use Rattle.iso_run.specs.declared.way.Way.TheVariants.{Serial};
 
 use crate::fault::RunFault;
 use crate::inputs::{Inputs, Suite, read_inputs};
+use iso_conflicts::conflicts::write_conflicts;
+use iso_conflicts::tests::tests_in;
 use iso_placed_plan::plan::{write_placed_plan, write_placed_tests};
 use iso_places::locate::locate;
 use iso_places::site::Sites;
 use iso_tap::fault::TapFault;
 use iso_tap::plan::{write_plan, write_tests};
 use iso_tap::sink::Sink;
+use iso_why::plan::{write_plan_why, write_tests_why};
+use iso_why::reach::reach;
 use std::alloc::Global;
 
 /// Reads inputs as `run_serial` does, for every script, and writes their plan to the sink: the line `workers W`, and then
@@ -73,6 +79,82 @@ pub fn show_places<W: Sink>(
     match write_places(&suite, &sites, tests, names, sink) {
         Ok(()) => Ok(()),
         Err(fault) => Err(RunFault::Write(fault.written)),
+    }
+}
+
+/// Reads inputs as `show_plan` does, and writes their plan, or of it the lines of its tests alone, with the place of each node's name as
+/// a last field where places are asked for, and below the line of each node why its mode and its locks are so.
+///
+/// The first fault of the inputs is answered; with any but `Write` the sink is asked nothing.
+pub fn show_why<W: Sink>(
+    alloc: Global,
+    inputs: Inputs<'_>,
+    tests: bool,
+    places: bool,
+    names: &[&str],
+    sink: &mut W,
+) -> Result<(), RunFault>
+    requires { 1 ≤ inputs.processors }
+    ensures { (sites : List Site) × IfLate (end_of (λ _. true) run_end result) (ArePlaces places inputs.entry sites)
+        × Writes (λ _. true) (suite_why tests (texts_of names.now) sites) inputs.entry Serial (W.account sink.old) (W.account sink.new) result }
+{
+    let suite = read_inputs(alloc, inputs, places)?;
+    let sites = if places {
+        sites_of(alloc, &suite)?
+    } else {
+        Sites::none(alloc)
+    };
+    let ends = reach(alloc, &suite.plan)?;
+    match write_why(&suite, &ends, &sites, tests, names, sink) {
+        Ok(()) => Ok(()),
+        Err(fault) => Err(RunFault::Write(fault.written)),
+    }
+}
+
+/// Reads inputs as `show_plan` does, and writes for each key of their plan which classes and tests take it, and how many tests can't run
+/// beside one another for it.
+///
+/// The first fault of the inputs is answered; with any but `Write` the sink is asked nothing.
+pub fn show_conflicts<W: Sink>(
+    alloc: Global,
+    inputs: Inputs<'_>,
+    sink: &mut W,
+) -> Result<(), RunFault>
+    requires { 1 ≤ inputs.processors }
+    ensures { Writes (λ _. true) suite_conflicts inputs.entry Serial (W.account sink.old) (W.account sink.new) result }
+{
+    let suite = read_inputs(alloc, inputs, false)?;
+    let tests = tests_in(alloc, &suite.plan)?;
+    match write_conflicts(&suite.plan, suite.settings.workers(), &tests, sink) {
+        Ok(()) => Ok(()),
+        Err(fault) => Err(RunFault::Write(fault.written)),
+    }
+}
+
+/// Writes the plan of a suite with reasons, or the lines of its tests alone.
+fn write_why<W: Sink>(
+    suite: &Suite,
+    ends: &[u32],
+    sites: &Sites,
+    tests: bool,
+    names: &[&str],
+    sink: &mut W,
+) -> Result<(), TapFault>
+    requires { IsReach (tree_of suite.now.plan) ends.now }
+    ensures { P.Writes (W.account sink.old) (W.account sink.new)
+        (why_text tests (texts_of names.now) sites.now (tree_of suite.now.plan) suite.now.plan.settings suite.now.settings.worker_count) result }
+{
+    if tests {
+        write_tests_why(&suite.plan, ends, sites, names, sink)
+    } else {
+        write_plan_why(
+            &suite.plan,
+            ends,
+            suite.settings.workers(),
+            sites,
+            names,
+            sink,
+        )
     }
 }
 

@@ -1,0 +1,4 @@
+pub mod GiverLemmas
+pub mod ModeReasons
+pub mod ReachLemmas
+pub mod ReasonLemmas

@@ -1,0 +1,8 @@
+use Rattle.std.proofs.Common.{refl}
+use Rattle.iso_plan.specs.Paths.{path}
+use Rattle.std.specs.Fmt.{digits}
+use Rattle.iso_why.proofs.examples.plan_has_its_reasons.Goals as goal
+
+pub returns : goal.returns
+unfolding digits path
+returns c = refl
