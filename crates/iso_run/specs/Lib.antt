@@ -1,4 +1,5 @@
 pub mod Besides
+pub mod Courses
 pub mod Commands
 pub mod Ends
 pub mod Replays

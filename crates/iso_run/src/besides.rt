@@ -5,6 +5,7 @@ ghost use Rattle.iso_run.specs.Besides.{IsPlain};
 ghost use Rattle.iso_run.specs.Commands.{again_of, tells_of_skipped};
 ghost use Rattle.iso_telling.specs.Telling.{nothing_yet, told_nothing};
 
+use crate::course::Course;
 use iso_arguments::request::{Extras, InputFiles, Summarized};
 use iso_summary::again::Again;
 use iso_tap::memory::MemorySink;
@@ -19,6 +20,11 @@ pub(crate) struct Besides<'b, 'a> {
     pub failed: Option<&'a str>,
     /// The file into which the results are written as JUnit's XML.
     pub junit: Option<&'a str>,
+    pub course: Course,
+    /// The file into which the events of the run are written.
+    pub schedule: Option<&'a str>,
+    /// The file into which its trace is written.
+    pub trace: Option<&'a str>,
 }
 
 impl<'b, 'a> Besides<'b, 'a> {
@@ -30,6 +36,9 @@ impl<'b, 'a> Besides<'b, 'a> {
             tells: Tells::nothing(),
             failed: None,
             junit: None,
+            course: Course::nothing(),
+            schedule: None,
+            trace: None,
         }
     }
 
@@ -77,6 +86,13 @@ impl<'b, 'a> Besides<'b, 'a> {
             },
             failed: extras.failed,
             junit: extras.junit,
+            course: Course {
+                schedule: asked_text(alloc, extras.record.is_some()),
+                trace: asked_text(alloc, extras.trace.is_some()),
+                stats: asked_text(alloc, extras.stats),
+            },
+            schedule: extras.record,
+            trace: extras.trace,
         }
     }
 }

@@ -15,6 +15,7 @@ ghost use Rattle.iso_tap.specs.Sinks.{Wrote};
 use crate::besides::Besides;
 use crate::check::check;
 use crate::command_fault::CommandFault;
+use crate::course::Course;
 use crate::exit::{ALL_OK, NOT_ALL_OK};
 use crate::fault::RunFault;
 use crate::files::{InputBytes, lent, read_files};
@@ -179,6 +180,7 @@ fn answer_request<
                 asked_way(*serial),
                 &*files,
                 &mut besides.tells,
+                &mut besides.course,
                 output,
             );
             told(rt, ran, bytes, files, &besides, output, errors)
@@ -192,7 +194,15 @@ fn answer_request<
             let bytes = looked_over(rt.alloc(), read, files, extras.github, errors)?;
             let mut besides = Besides::new(rt.alloc(), *extras, &*files, bytes.processors);
             let way = Way::BySchedule(&bytes.schedule);
-            let ran = run(rt, &bytes, way, &*files, &mut besides.tells, output);
+            let ran = run(
+                rt,
+                &bytes,
+                way,
+                &*files,
+                &mut besides.tells,
+                &mut besides.course,
+                output,
+            );
             told(rt, ran, bytes, files, &besides, output, errors)
         }
     }
@@ -223,6 +233,7 @@ fn run<'b, G: AllocGlobal + Clock + Threads + Wait + Sync, W: Sink>(
     way: Way<'_>,
     files: &'b InputFiles<'b>,
     tells: &mut Tells<'_>,
+    course: &mut Course,
     output: &mut W,
 ) -> Result<Summary, RunFault>
     requires bounds { AreInBounds files.now }
@@ -235,8 +246,8 @@ fn run<'b, G: AllocGlobal + Clock + Threads + Wait + Sync, W: Sink>(
     let scripts = lent(rt.alloc(), &bytes.scripts)?;
     let inputs = inputs_of(bytes, &scripts, files, shard);
     match way {
-        Way::Serial => run_serial(rt, rt.alloc(), inputs, tells, output),
-        Way::ByWorkers => run_workers(rt, rt.alloc(), inputs, &OpenGate, tells, output),
+        Way::Serial => run_serial(rt, rt.alloc(), inputs, tells, course, output),
+        Way::ByWorkers => run_workers(rt, rt.alloc(), inputs, &OpenGate, tells, course, output),
         Way::BySchedule(schedule) => run_schedule(rt.alloc(), inputs, schedule, tells, output),
     }
 }
@@ -378,8 +389,8 @@ fn told<'a, G: AllocGlobal + Files, W: Sink, E: Sink>(
     match ran {
         Ok(summary) => {
             let ok = flushed(summary.all_ok, output)?;
-            say_parts(&besides.tells, errors);
-            filed(rt, ok, besides, errors)
+            let after = say_parts(besides, files, bytes.processors, errors);
+            filed(rt, ok, besides, after, errors)
         }
         Err(fault) => {
             let github = besides.tells.github.is_some();

@@ -4,8 +4,11 @@ ghost use Rattle.iso_lifecycle.specs.ResultViews.{AreComplete};
 ghost use Rattle.iso_run.specs.Runs.{TellsOf, Writes, suite_report};
 ghost use Rattle.iso_run.specs.declared.way.Way.TheVariants.{Serial};
 
+use crate::course::Course;
 use crate::fault::RunFault;
 use crate::inputs::{Inputs, Suite, read_inputs};
+use crate::observed::{Observed, observe};
+use crate::recorded::tell_alone;
 use crate::report::{Summary, write_results};
 use crate::times::node_times;
 use iso_lifecycle::gate::OpenGate;
@@ -28,6 +31,7 @@ pub fn run_serial<C: Clock, W: Sink>(
     alloc: Global,
     inputs: Inputs<'_>,
     tells: &mut Tells<'_>,
+    course: &mut Course,
     sink: &mut W,
 ) -> Result<Summary, RunFault>
     requires { 1 ≤ inputs.processors }
@@ -36,7 +40,7 @@ pub fn run_serial<C: Clock, W: Sink>(
 {
     let suite = read_inputs(alloc, inputs, tells.wants_places())?;
     let timed = tells.wants_times();
-    match run_timed(clock, alloc, &suite, timed) {
+    match run_timed(clock, alloc, &suite, timed, course) {
         Ok(ran) => {
             let Ran { results, times } = &ran;
             write_results(alloc, &suite, inputs.scripts, results, times, tells, sink)
@@ -58,17 +62,28 @@ fn run_timed<'s, C: Clock>(
     alloc: Global,
     suite: &'s Suite,
     timed: bool,
+    course: &mut Course,
 ) -> Result<Ran<'s>, AllocError>
     ensures plan { IfOk result (λ r. r.results.plan ≡ suite.now.plan) }
     ensures start { IfOk result (λ r. r.results.start ≡ suite.now.world) }
     ensures complete { IfOk result (λ r. AreComplete r.results) }
 {
-    let gate = if timed {
+    let gate = if timed || course.wants_times() {
         TimesGate::new(alloc, clock, &OpenGate, suite.plan.len())?
     } else {
         TimesGate::untimed(alloc, clock, &OpenGate)
     };
     let results = run_at(alloc, &suite.plan, &suite.world, &gate)?;
-    let times = node_times(alloc, timed, gate.into_times(), &suite.plan)?;
+    let times = gate.into_times();
+    let run = Observed {
+        plan: &suite.plan,
+        results: &results,
+        times: &times,
+        started: 1,
+        of: suite.settings.workers(),
+    };
+    observe(alloc, &run, course)?;
+    tell_alone(alloc, suite, &mut course.schedule)?;
+    let times = node_times(alloc, timed, &times, &suite.plan)?;
     Ok(Ran { results, times })
 }

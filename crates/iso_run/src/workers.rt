@@ -8,8 +8,11 @@ ghost use Rattle.iso_run.specs.declared.way.Way.TheVariants.{ByWorkers};
 ghost use Rattle.iso_run.specs.Replays.{IsOfWorkers};
 ghost use Rattle.iso_run.specs.Runs.{TellsOf, Writes, suite_report};
 
+use crate::course::Course;
 use crate::fault::RunFault;
 use crate::inputs::{Inputs, Suite, read_inputs};
+use crate::observed::{Observed, observe};
+use crate::recorded::tell_book;
 use crate::report::{Summary, write_results};
 use crate::times::node_times;
 use iso_book::book::Book;
@@ -46,6 +49,7 @@ pub fn run_workers<R: Threads + Wait + Clock + Sync, G: Gate + Sync, W: Sink>(
     inputs: Inputs<'_>,
     gate: &G,
     tells: &mut Tells<'_>,
+    course: &mut Course,
     sink: &mut W,
 ) -> Result<Summary, RunFault>
     requires { 1 ≤ inputs.processors }
@@ -54,7 +58,8 @@ pub fn run_workers<R: Threads + Wait + Clock + Sync, G: Gate + Sync, W: Sink>(
 {
     let suite = read_inputs(alloc, inputs, tells.wants_places())?;
     let timed = tells.wants_times();
-    let RanBook { book, times } = run_timed::<Brand, R, G>(rt, alloc, &suite, gate, timed)?;
+    let RanBook { book, times } =
+        run_timed::<Brand, R, G>(rt, alloc, &suite, gate, timed, course)?;
     write_results(
         alloc,
         &suite,
@@ -80,6 +85,7 @@ fn run_timed<'s, L: Ground + Send + Sync, R: Threads + Wait + Clock + Sync, G: G
     suite: &'s Suite,
     gate: &G,
     timed: bool,
+    course: &mut Course,
 ) -> Result<RanBook<'s>, RunFault>
     requires plan { suite.now.plan ≡ L.plan }
     requires start { suite.now.world ≡ L.start }
@@ -88,14 +94,32 @@ fn run_timed<'s, L: Ground + Send + Sync, R: Threads + Wait + Clock + Sync, G: G
     ensures complete { IfOk result (λ r. is_complete r.book ≡ true) }
     ensures fault { IfErr result (IsOfWorkers suite.now.settings.worker_count) }
 {
-    let times_gate = if timed {
+    let times_gate = if timed || course.wants_times() {
         TimesGate::new(alloc, rt, gate, suite.plan.len())?
     } else {
         TimesGate::untimed(alloc, rt, gate)
     };
-    let book = run_on_floor::<L, R, TimesGate<'_, R, G>>(rt, alloc, suite, &times_gate)?;
-    let times = node_times(alloc, timed, times_gate.into_times(), &suite.plan)?;
+    let FloorRun { book, started } =
+        run_on_floor::<L, R, TimesGate<'_, R, G>>(rt, alloc, suite, &times_gate)?;
+    let times = times_gate.into_times();
+    let run = Observed {
+        plan: &suite.plan,
+        results: book.results(),
+        times: &times,
+        started,
+        of: suite.settings.workers(),
+    };
+    observe(alloc, &run, course)?;
+    tell_book(alloc, &book, &mut course.schedule)?;
+    let times = node_times(alloc, timed, &times, &suite.plan)?;
     Ok(RanBook { book, times })
+}
+
+/// The book of a run, and how many workers were started.
+#[derive(Drop)]
+struct FloorRun<'s> {
+    book: Book<'s>,
+    started: u32,
 }
 
 /// Has its workers run a suite, each in a seat of its own, and answers the book of the run. A worker whom the suite can't keep busy isn't
@@ -105,12 +129,13 @@ fn run_on_floor<'s, L: Ground + Send + Sync, R: Threads + Wait + Sync, G: Gate +
     alloc: Global,
     suite: &'s Suite,
     gate: &G,
-) -> Result<Book<'s>, RunFault>
+) -> Result<FloorRun<'s>, RunFault>
     requires plan { suite.now.plan ≡ L.plan }
     requires start { suite.now.world ≡ L.start }
     requires workers { suite.now.settings.worker_count ≡ L.workers }
-    ensures book { IfOk result (IsBookOf L.plan L.start L.workers) }
-    ensures complete { IfOk result (λ b. is_complete b ≡ true) }
+    ensures book { IfOk result (λ r. IsBookOf L.plan L.start L.workers r.book) }
+    ensures complete { IfOk result (λ r. is_complete r.book ≡ true) }
+    ensures started { IfOk result (λ r. 1 ≤ r.started) }
     ensures fault { IfErr result (IsOfWorkers suite.now.settings.worker_count) }
 {
     let workers = suite.settings.workers();
@@ -119,7 +144,11 @@ fn run_on_floor<'s, L: Ground + Send + Sync, R: Threads + Wait + Sync, G: Gate +
     let busy = busy_workers(alloc, &suite.plan, workers)?;
     let others = seats_on(rt, alloc, &floor, busy)?;
     let seats = run_seats(rt, alloc, &floor, first, others, gate)?;
-    close(floor, seats)
+    let book = close(floor, seats)?;
+    Ok(FloorRun {
+        book,
+        started: busy,
+    })
 }
 
 /// The seat of a worker on a floor.
