@@ -1,9 +1,10 @@
 //! The parts of a command.
-ghost use Rattle.std.specs.Prelude.{◌≡◌, ◌∷◌, [], map};
+ghost use Rattle.std.specs.Prelude.{◌++◌, codes, map};
 ghost use Rattle.std.specs.Option.{option_map};
 ghost use Rattle.iso_commands.specs.Lent.{lent};
 ghost use Rattle.iso_commands.specs.Parts.{each_file, each_word, number_option, part_text, shard_option};
 ghost use Rattle.iso_summary.specs.Lines.{file_option, line};
+ghost use Rattle.iso_summary.specs.Words.{file_word, shell_word};
 ghost use Rattle.iso_tap.specs.Printers.{Prints};
 
 use crate::word::{file, word};
@@ -109,7 +110,7 @@ fn one_word<W: Sink>(
     option: &str,
     given: &str,
 ) -> Result<(), SinkFailed>
-    ensures { Prints printer.old printer.new (each_word option.now (given.now ∷ [])) result }
+    ensures { Prints printer.old printer.new (option.now ++ shell_word given.now) result }
 {
     printer.bytes(option.as_bytes())?;
     word(printer, given.as_bytes())
@@ -127,7 +128,7 @@ fn each_file<W: Sink>(printer: &mut Printer<'_, W>, names: &[&str]) -> Result<()
 
 /// Writes a file behind a space.
 fn one_file<W: Sink>(printer: &mut Printer<'_, W>, name: &str) -> Result<(), SinkFailed>
-    ensures { Prints printer.old printer.new (each_file (name.now ∷ [])) result }
+    ensures { Prints printer.old printer.new (codes " " ++ file_word name.now) result }
 {
     printer.bytes(b" ")?;
     file(printer, name)

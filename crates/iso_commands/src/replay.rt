@@ -2,7 +2,7 @@
 ghost use Rattle.std.specs.Prelude.{◌≡◌};
 ghost use Rattle.std.specs.Option.{option_map};
 ghost use Rattle.iso_commands.specs.Lent.{lent};
-ghost use Rattle.iso_commands.specs.Replays.{can_be_told, given_has_control, has_control_in, has_control_option, has_control_word, is_dash, is_stdin, replay_line, too_large_line};
+ghost use Rattle.iso_commands.specs.Replays.{can_be_told, given_has_control, has_control_in, has_control_option, has_control_word, is_dash, is_stdin, recorded_of, replay_line, too_large_line};
 ghost use Rattle.iso_tap.specs.Printers.{Prints};
 
 use crate::part::{Part, line};
@@ -25,7 +25,7 @@ pub fn replay_line<W: Sink>(
     printer: &mut Printer<'_, W>,
     run: &Recorded<'_>,
 ) -> Result<(), SinkFailed>
-    ensures { Prints printer.old printer.new (replay_line run.now) result }
+    ensures { Prints printer.old printer.new (replay_line (recorded_of run.now)) result }
 {
     let files = run.files;
     line(
@@ -57,7 +57,7 @@ fn processors(run: &Recorded<'_>) -> Option<u32>
 
 /// Whether that command can be told: nothing is read from standard input, and no word has a control character.
 pub fn can_be_told(run: &Recorded<'_>) -> bool
-    ensures { result ≡ can_be_told run.now }
+    ensures { result ≡ can_be_told (recorded_of run.now) }
 {
     !run.files.scripts.is_empty()
         && !is_stdin(run.files.only_from)
@@ -67,7 +67,7 @@ pub fn can_be_told(run: &Recorded<'_>) -> bool
 
 /// Whether some option of a run has a control character.
 fn has_control_option(run: &Recorded<'_>) -> bool
-    ensures { result ≡ has_control_option run.now }
+    ensures { result ≡ has_control_option (recorded_of run.now) }
 {
     has_control(run.schedule)
         || given_has_control(run.files.settings)
@@ -77,7 +77,7 @@ fn has_control_option(run: &Recorded<'_>) -> bool
 
 /// Whether some path, pattern or script of a run has one.
 fn has_control_word(run: &Recorded<'_>) -> bool
-    ensures { result ≡ has_control_word run.now }
+    ensures { result ≡ has_control_word (recorded_of run.now) }
 {
     has_control_in(&run.files.only)
         || has_control_in(&run.files.patterns)

@@ -1,5 +1,6 @@
 mod Answering
 mod Captures
+mod Coursing
 mod Documents
 mod Ending
 mod Late

@@ -51,10 +51,15 @@ impl<'b, 'a> Besides<'b, 'a> {
     ) -> Besides<'b, 'a>
         ensures failed_file { result.failed ≡ extras.entry.failed }
         ensures junit_file { result.junit ≡ extras.entry.junit }
+        ensures schedule_file { result.schedule ≡ extras.entry.«record» }
+        ensures trace_file { result.trace ≡ extras.entry.trace }
         ensures names { result.tells.names.now ≡ files.now.scripts.items }
         ensures failed { result.tells.failed ≡ told_nothing (is_some extras.entry.failed) }
         ensures junit { result.tells.junit ≡ told_nothing (is_some extras.entry.junit) }
         ensures github { result.tells.github ≡ told_nothing extras.entry.github }
+        ensures schedule { result.course.schedule ≡ told_nothing (is_some extras.entry.«record») }
+        ensures trace { result.course.trace ≡ told_nothing (is_some extras.entry.trace) }
+        ensures stats { result.course.stats ≡ told_nothing extras.entry.stats }
         ensures untimed { extras.entry.durations ≡ None → result.tells.durations ≡ None }
         ensures durations { IfSome extras.entry.durations (λ most. IsSomeAnd result.tells.durations (λ d. (d.most ≡ most) × (d.text ≡ nothing_yet))) }
         ensures unasked { extras.entry.summary ≡ None → result.tells.summary ≡ None }

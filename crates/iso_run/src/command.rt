@@ -4,7 +4,8 @@ ghost use Rattle.std.specs.Option.{option_copied};
 ghost use Rattle.iso_arguments.specs.Requests.{AreInBounds, AsksInBounds, IsPlainRun, IsShard};
 ghost use Rattle.iso_places.specs.declared.site.Site.{Site};
 ghost use Rattle.iso_plan.specs.Selections.{texts_of};
-ghost use Rattle.iso_run.specs.Besides.{IsQuiet, IsSaid, files_of, parted, parts_of};
+ghost use Rattle.iso_run.specs.Besides.{IsQuiet, IsSaid, NamesNone, files_of, parted, parts_of};
+ghost use Rattle.iso_run.specs.Courses.{IsUnasked};
 ghost use Rattle.iso_run.specs.Commands.{Answered, AnsweredBesides, ArePlaces, AreFor, Did, DidBesides, Ended, IsRefused, RanOn, WereRead, plan_of, shard_asked, way_of};
 ghost use Rattle.iso_run.specs.Ends.{Answers, IfLate, IsEnded, IsFlushed, Refuses, command_end, end_of, exit_status, run_end, words_fault};
 ghost use Rattle.iso_run.specs.Runs.{Writes, suite_conflicts, suite_report};
@@ -241,6 +242,7 @@ fn run<'b, G: AllocGlobal + Clock + Threads + Wait + Sync, W: Sink>(
     ensures report { (input : Option (List ℕ)) → WereRead files.now input bytes.now → (inputs : Inputs) × AreFor files.now input inputs
         × Writes (λ s. s.all_ok) suite_report inputs way.entry (W.account output.old) (W.account output.new) result }
     ensures quiet { IsQuiet tells.old → OnOk result (IsQuiet tells.new) }
+    ensures unasked { IsUnasked course.old → OnOk result (IsUnasked course.new) }
 {
     let shard = shard_of(files.shard);
     let scripts = lent(rt.alloc(), &bytes.scripts)?;
@@ -383,8 +385,8 @@ fn told<'a, G: AllocGlobal + Files, W: Sink, E: Sink>(
     ensures answer { MatchResult ran
         (λ s. IsEnded s.all_ok (files_of besides.now) (W.account output.old) (W.account output.new) result)
         (λ fault. (W.account output.new ≡ W.account output.old) × IsErrAnd result (λ told. command_end told ≡ run_end fault)) }
-    ensures said { OnOk result (IsSaid (parted false (parts_of besides.now.tells)) (E.account errors.old) (E.account errors.new)) }
-    ensures quiet { OnOk ran (IsQuiet besides.now.tells) → besides.now.failed ≡ None → besides.now.junit ≡ None → errors.new ≡ errors.old }
+    ensures said { OnOk result (IsSaid (parted false (parts_of files.now bytes.processors besides.now)) (E.account errors.old) (E.account errors.new)) }
+    ensures quiet { OnOk ran (IsQuiet besides.now.tells) → OnOk ran (IsUnasked besides.now.course) → NamesNone besides.now → errors.new ≡ errors.old }
 {
     match ran {
         Ok(summary) => {

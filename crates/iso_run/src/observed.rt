@@ -1,5 +1,10 @@
 //! What a run tells of its times: a trace, and figures.
-ghost use Rattle.std.specs.Prelude.{◌≡◌, OnOk};
+ghost use Rattle.std.specs.Prelude.{◌≡◌, OnOk, Some};
+ghost use Rattle.iso_plan.specs.RowView.{tree_of};
+ghost use Rattle.iso_run.specs.Courses.{HasObserved, IsCounted, observed_of, trace_of};
+ghost use Rattle.iso_tap.specs.Sinks.{Wrote};
+ghost use Rattle.iso_telling.specs.Telling.{IsTold};
+ghost use Rattle.iso_waits.specs.AllWaits.{all_waits};
 
 use crate::course::Course;
 use iso_lifecycle::results::Results;
@@ -22,6 +27,7 @@ pub(crate) struct Observed<'r, 'p> {
     pub times: &'r Times,
     pub started: u32,
     pub of: u32,
+    ghost planned: { results.now.plan ≡ plan.now },
 }
 
 /// Tells what is asked for of the times of a run. What nodes waited for is worked out only where it is.
@@ -30,6 +36,7 @@ pub(crate) fn observe(
     run: &Observed<'_, '_>,
     course: &mut Course,
 ) -> Result<(), AllocError>
+    ensures { OnOk result (HasObserved (observed_of run.now) course.old course.new) }
 {
     if !course.wants_times() {
         return Ok(());
@@ -46,6 +53,8 @@ fn tell_trace(
     waits: &[NodeWait],
     asked: &mut Option<MemorySink>,
 ) -> Result<(), AllocError>
+    requires { waits.now ≡ all_waits (tree_of run.now.plan.now) run.now.plan.now.settings run.now.times.now }
+    ensures { OnOk result (IsTold (trace_of (observed_of run.now)) asked.old asked.new) }
 {
     match asked {
         Some(sink) => add_trace(alloc, run, waits, sink),
@@ -60,6 +69,8 @@ fn add_trace(
     waits: &[NodeWait],
     sink: &mut MemorySink,
 ) -> Result<(), AllocError>
+    requires { waits.now ≡ all_waits (tree_of run.now.plan.now) run.now.plan.now.settings run.now.times.now }
+    ensures { OnOk result (Wrote sink.old sink.new (trace_of (observed_of run.now))) }
 {
     let names = Names::new(alloc, run.plan)?;
     let traced = Run {
@@ -81,6 +92,7 @@ fn tell_stats(
     waits: &[NodeWait],
     asked: &mut Option<MemorySink>,
 ) -> Result<(), AllocError>
+    ensures { OnOk result (IsCounted (observed_of run.now) asked.old asked.new) }
 {
     match asked {
         Some(sink) => add_stats(alloc, run, waits, sink),
@@ -95,6 +107,7 @@ fn add_stats(
     waits: &[NodeWait],
     sink: &mut MemorySink,
 ) -> Result<(), AllocError>
+    ensures { OnOk result (IsCounted (observed_of run.now) (Some sink.old) (Some sink.new)) }
 {
     let told = figures(alloc, run.plan, run.times, waits, run.started, run.of)?;
     match write_stats(run.plan, &told, sink) {

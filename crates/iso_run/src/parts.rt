@@ -1,8 +1,9 @@
 //! What stands on standard error after a report.
-ghost use Rattle.std.specs.Prelude.{◌≡◌, ◌∷◌, false, option_map};
-ghost use Rattle.iso_run.specs.Besides.{IsQuiet, IsSaid, goes_on, part_text, parted, parts_of, text_in};
+ghost use Rattle.std.specs.Prelude.{◌≡◌, ◌∷◌, ◌==◌, None, false, length, map, not, option_map};
+ghost use Rattle.std.specs.List.{list_any};
+ghost use Rattle.iso_run.specs.Besides.{IsQuiet, IsSaid, goes_on, part_text, parted, parts_of, replay_text, text_in};
+ghost use Rattle.iso_run.specs.Parts.{text_of};
 ghost use Rattle.iso_tap.specs.Printers.{Prints};
-ghost use Rattle.iso_telling.specs.Written.{lent};
 
 use crate::besides::Besides;
 use iso_arguments::request::InputFiles;
@@ -31,6 +32,8 @@ pub(crate) fn say_parts<E: Sink>(
     processors: u32,
     errors: &mut E,
 ) -> bool
+    ensures said { IsSaid (parted false (parts_of files.now processors besides.now)) (E.account errors.old) (E.account errors.new) }
+    ensures quiet { IsQuiet besides.now.tells → besides.now.course.stats ≡ None → besides.now.schedule ≡ None → errors.new ≡ errors.old }
 {
     let tells = &besides.tells;
     let parts = [
@@ -53,6 +56,7 @@ fn replay_part<'p>(
     files: &'p InputFiles<'_>,
     processors: u32,
 ) -> Part<'p>
+    ensures { text_of result ≡ replay_text files.now processors besides.now }
 {
     let Some(schedule) = besides.schedule else {
         return Part::Text(&[]);
@@ -74,6 +78,7 @@ fn replay_part<'p>(
 
 /// Whether one of these is a part.
 fn has_part(parts: &[Part<'_>]) -> bool
+    ensures { result ≡ list_any (λ part. not (length (text_of part) == 0)) parts.now }
 {
     for part in parts {
         if !is_empty(part) {
@@ -88,6 +93,7 @@ fn print_parts<E: Sink>(
     printer: &mut Printer<'_, E>,
     parts: &[Part<'_>],
 ) -> Result<(), SinkFailed>
+    ensures { Prints printer.old printer.new (parted false (map text_of parts.now)) result }
 {
     let mut after = false;
     'parts: for part in parts {
@@ -99,12 +105,14 @@ fn print_parts<E: Sink>(
 
 /// Whether what follows a text comes after a part.
 fn goes_on(after: bool, part: &Part<'_>) -> bool
+    ensures { result ≡ goes_on after (text_of part.now) }
 {
     after || !is_empty(part)
 }
 
 /// Whether nothing is told by a part.
 fn is_empty(part: &Part<'_>) -> bool
+    ensures { result ≡ (length (text_of part.now) == 0) }
 {
     match part {
         Part::Text(text) => text.is_empty(),
@@ -118,6 +126,7 @@ fn print_part<E: Sink>(
     after: bool,
     part: &Part<'_>,
 ) -> Result<(), SinkFailed>
+    ensures { Prints printer.old printer.new (part_text after (text_of part.now)) result }
 {
     if is_empty(part) {
         Ok(())
@@ -130,6 +139,7 @@ fn print_part<E: Sink>(
 
 /// Writes a part that comes after another one.
 fn print_after<E: Sink>(printer: &mut Printer<'_, E>, part: &Part<'_>) -> Result<(), SinkFailed>
+    ensures { Prints printer.old printer.new (10 ∷ text_of part.now) result }
 {
     printer.bytes(b"\n")?;
     print_alone(printer, part)
@@ -137,6 +147,7 @@ fn print_after<E: Sink>(printer: &mut Printer<'_, E>, part: &Part<'_>) -> Result
 
 /// Writes what a part tells.
 fn print_alone<E: Sink>(printer: &mut Printer<'_, E>, part: &Part<'_>) -> Result<(), SinkFailed>
+    ensures { Prints printer.old printer.new (text_of part.now) result }
 {
     match part {
         Part::Text(text) => printer.bytes(text),

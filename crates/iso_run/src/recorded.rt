@@ -1,9 +1,10 @@
 //! The events of a run, as a replay takes them.
-ghost use Rattle.std.specs.Prelude.{◌≡◌, ◌<◌, OnOk, true};
+ghost use Rattle.std.specs.Prelude.{◌≡◌, ◌≤◌, OnOk, Some, true};
 ghost use Rattle.iso_book.specs.Books.{is_complete};
-ghost use Rattle.iso_run.specs.Courses.{IsScheduled, RunsAlone, RunsWhole};
 ghost use Rattle.iso_record.specs.Texts.{schedule_text};
-ghost use Rattle.iso_telling.specs.Telling.{IsTold};
+ghost use Rattle.iso_run.specs.Courses.{AreEvents, IsScheduled};
+ghost use Rattle.iso_run.specs.declared.way.Way.TheVariants.{ByWorkers, Serial};
+ghost use Rattle.iso_tap.specs.Sinks.{Wrote};
 
 use crate::inputs::Suite;
 use iso_book::book::Book;
@@ -20,11 +21,22 @@ pub(crate) fn tell_book(
     book: &Book<'_>,
     asked: &mut Option<MemorySink>,
 ) -> Result<(), AllocError>
+    requires { is_complete book.now ≡ true }
+    ensures { OnOk result (IsScheduled (AreEvents ByWorkers book.now.plan book.now.world book.now.workers) asked.old asked.new) }
 {
     match asked {
-        Some(sink) => add_events(&record(alloc, book)?, sink),
+        Some(sink) => add_book(alloc, book, sink),
         None => Ok(()),
     }
+}
+
+/// Adds the events of a book's run to their text.
+fn add_book(alloc: Global, book: &Book<'_>, sink: &mut MemorySink) -> Result<(), AllocError>
+    requires { is_complete book.now ≡ true }
+    ensures { OnOk result (IsScheduled (AreEvents ByWorkers book.now.plan book.now.world book.now.workers) (Some sink.old) (Some sink.new)) }
+{
+    let events = record(alloc, book)?;
+    add_events(&events, sink)
 }
 
 /// Tells the events of a run of a suite by worker 0 alone, where they are asked for.
@@ -33,19 +45,28 @@ pub(crate) fn tell_alone(
     suite: &Suite,
     asked: &mut Option<MemorySink>,
 ) -> Result<(), AllocError>
+    requires { 1 ≤ suite.now.settings.worker_count }
+    ensures { OnOk result (IsScheduled (AreEvents Serial suite.now.plan suite.now.world suite.now.settings.worker_count) asked.old asked.new) }
 {
-    let workers = suite.settings.workers();
     match asked {
-        Some(sink) => add_events(
-            &record_serial(alloc, &suite.plan, &suite.world, workers)?,
-            sink,
-        ),
+        Some(sink) => add_alone(alloc, suite, sink),
         None => Ok(()),
     }
 }
 
+/// Adds the events of a run of a suite by worker 0 alone to their text.
+fn add_alone(alloc: Global, suite: &Suite, sink: &mut MemorySink) -> Result<(), AllocError>
+    requires { 1 ≤ suite.now.settings.worker_count }
+    ensures { OnOk result (IsScheduled (AreEvents Serial suite.now.plan suite.now.world suite.now.settings.worker_count) (Some sink.old) (Some sink.new)) }
+{
+    let workers = suite.settings.workers();
+    let events = record_serial(alloc, &suite.plan, &suite.world, workers)?;
+    add_events(&events, sink)
+}
+
 /// Adds events to their text.
 fn add_events(events: &[Event], sink: &mut MemorySink) -> Result<(), AllocError>
+    ensures { OnOk result (Wrote sink.old sink.new (schedule_text events.now)) }
 {
     match write_schedule(events, sink) {
         Ok(()) => Ok(()),

@@ -1,5 +1,6 @@
 //! Runs of a suite on one thread, from its inputs to its report.
 ghost use Rattle.std.specs.Prelude.{◌≡◌, ◌≤◌, ℕ, IfOk, List, OnOk, Option};
+ghost use Rattle.iso_run.specs.Courses.{AreEvents, IsCourse, TellsCourse};
 ghost use Rattle.iso_lifecycle.specs.ResultViews.{AreComplete};
 ghost use Rattle.iso_run.specs.Runs.{TellsOf, Writes, suite_report};
 ghost use Rattle.iso_run.specs.declared.way.Way.TheVariants.{Serial};
@@ -37,6 +38,7 @@ pub fn run_serial<C: Clock, W: Sink>(
     requires { 1 ≤ inputs.processors }
     ensures report { Writes (λ s. s.all_ok) suite_report inputs.entry Serial (W.account sink.old) (W.account sink.new) result }
     ensures told { OnOk result ((times : List (Option ℕ)) × TellsOf inputs.entry times tells.old tells.new) }
+    ensures course { OnOk result (TellsCourse inputs.entry Serial course.old course.new) }
 {
     let suite = read_inputs(alloc, inputs, tells.wants_places())?;
     let timed = tells.wants_times();
@@ -56,7 +58,7 @@ struct Ran<'s> {
     times: Vec<Option<u64>>,
 }
 
-/// Runs a suite, and measures how long its bodies take, if it is to.
+/// Runs a suite, tells of its course, and measures how long its bodies take, if it is to.
 fn run_timed<'s, C: Clock>(
     clock: &C,
     alloc: Global,
@@ -64,9 +66,12 @@ fn run_timed<'s, C: Clock>(
     timed: bool,
     course: &mut Course,
 ) -> Result<Ran<'s>, AllocError>
+    requires { 1 ≤ suite.now.settings.worker_count }
     ensures plan { IfOk result (λ r. r.results.plan ≡ suite.now.plan) }
     ensures start { IfOk result (λ r. r.results.start ≡ suite.now.world) }
     ensures complete { IfOk result (λ r. AreComplete r.results) }
+    ensures course { OnOk result (IsCourse (AreEvents Serial suite.now.plan suite.now.world suite.now.settings.worker_count)
+        Serial suite.now.plan suite.now.world suite.now.settings.worker_count course.old course.new) }
 {
     let gate = if timed || course.wants_times() {
         TimesGate::new(alloc, clock, &OpenGate, suite.plan.len())?

@@ -3,6 +3,7 @@ ghost use Rattle.std.specs.Prelude.{◌≡◌, ◌<◌, ◌≤◌, ℕ, IfErr, I
 ghost use denote.Param.Send.{IsSend, IsSync};
 ghost use Rattle.iso_book.specs.Books.{is_complete};
 ghost use Rattle.iso_floor.specs.Grounds.{IsBookOf};
+ghost use Rattle.iso_run.specs.Courses.{AreEvents, IsCourse, TellsCourse};
 ghost use Rattle.iso_run.specs.declared.fault.RunFault.TheVariants.{Memory};
 ghost use Rattle.iso_run.specs.declared.way.Way.TheVariants.{ByWorkers};
 ghost use Rattle.iso_run.specs.Replays.{IsOfWorkers};
@@ -55,6 +56,7 @@ pub fn run_workers<R: Threads + Wait + Clock + Sync, G: Gate + Sync, W: Sink>(
     requires { 1 ≤ inputs.processors }
     ensures report { Writes (λ s. s.all_ok) suite_report inputs.entry ByWorkers (W.account sink.old) (W.account sink.new) result }
     ensures told { OnOk result ((times : List (Option ℕ)) × TellsOf inputs.entry times tells.old tells.new) }
+    ensures course { OnOk result (TellsCourse inputs.entry ByWorkers course.old course.new) }
 {
     let suite = read_inputs(alloc, inputs, tells.wants_places())?;
     let timed = tells.wants_times();
@@ -78,7 +80,7 @@ struct RanBook<'s> {
     times: Vec<Option<u64>>,
 }
 
-/// Has its workers run a suite, and measures how long its bodies take, if it is to.
+/// Has its workers run a suite, tells of its course, and measures how long its bodies take, if it is to.
 fn run_timed<'s, L: Ground + Send + Sync, R: Threads + Wait + Clock + Sync, G: Gate + Sync>(
     rt: &R,
     alloc: Global,
@@ -87,11 +89,13 @@ fn run_timed<'s, L: Ground + Send + Sync, R: Threads + Wait + Clock + Sync, G: G
     timed: bool,
     course: &mut Course,
 ) -> Result<RanBook<'s>, RunFault>
+    requires some { 1 ≤ L.workers }
     requires plan { suite.now.plan ≡ L.plan }
     requires start { suite.now.world ≡ L.start }
     requires workers { suite.now.settings.worker_count ≡ L.workers }
     ensures book { IfOk result (λ r. IsBookOf L.plan L.start L.workers r.book) }
     ensures complete { IfOk result (λ r. is_complete r.book ≡ true) }
+    ensures course { OnOk result (IsCourse (AreEvents ByWorkers L.plan L.start L.workers) ByWorkers L.plan L.start L.workers course.old course.new) }
     ensures fault { IfErr result (IsOfWorkers suite.now.settings.worker_count) }
 {
     let times_gate = if timed || course.wants_times() {
@@ -130,12 +134,13 @@ fn run_on_floor<'s, L: Ground + Send + Sync, R: Threads + Wait + Sync, G: Gate +
     suite: &'s Suite,
     gate: &G,
 ) -> Result<FloorRun<'s>, RunFault>
+    requires some { 1 ≤ L.workers }
     requires plan { suite.now.plan ≡ L.plan }
     requires start { suite.now.world ≡ L.start }
     requires workers { suite.now.settings.worker_count ≡ L.workers }
     ensures book { IfOk result (λ r. IsBookOf L.plan L.start L.workers r.book) }
     ensures complete { IfOk result (λ r. is_complete r.book ≡ true) }
-    ensures started { IfOk result (λ r. 1 ≤ r.started) }
+    ensures started { IfOk result (λ r. (1 ≤ r.started) × (r.started ≤ L.workers)) }
     ensures fault { IfErr result (IsOfWorkers suite.now.settings.worker_count) }
 {
     let workers = suite.settings.workers();
