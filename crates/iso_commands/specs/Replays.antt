@@ -2,6 +2,7 @@
 use Rattle.std.specs.Prelude.{ℕ, List, [], ◌∷◌, ◌++◌, Option, None, Some, Bool, false, not, ◌&&◌, ◌||◌, ◌==◌, codes, length, option_map}
 use Rattle.std.specs.List.{list_any}
 use Rattle.iso_arguments.specs.declared.request.InputFiles.{InputFiles}
+use Rattle.iso_arguments.specs.declared.shard.Shard.{Shard}
 use Rattle.iso_commands.specs.Lent.{lent}
 use Rattle.iso_commands.specs.Parts.{each_file, each_word, shard_option}
 use Rattle.iso_commands.specs.declared.replay.Recorded.{Recorded}
@@ -9,30 +10,50 @@ use Rattle.iso_summary.specs.Lines.{file_option, line, number_option}
 use Rattle.iso_summary.specs.Names.{shown_name}
 use Rattle.iso_summary.specs.Words.{file_word, has_control}
 
--- a recorded run: the file of its schedule, the files that it was made of, and how many processors it counted with
+-- a recorded run: the file of its schedule, and the words of its command that decide its results
 pub record RecordedView : Type 0 where
   pub schedule : List ℕ
-  pub files : InputFiles
-  pub processors : ℕ
+  pub settings : Option (List ℕ)
+  pub world : Option (List ℕ)
+  pub processors : Option ℕ
+  pub only : List (List ℕ)
+  pub patterns : List (List ℕ)
+  pub only_from : Option (List ℕ)
+  pub shard : Option Shard
+  pub scripts : List (List ℕ)
+
+-- of these files, where so many processors were counted with, and the schedule is in a file of this name
+abbrev pub recorded : InputFiles → (processors : ℕ) → (name : List ℕ) → RecordedView
+recorded files processors name =
+    record {
+      schedule = name;
+      settings = option_map (λ f. f.now) files.settings;
+      world = option_map (λ f. f.now) files.world;
+      processors = option_map (λ asked. processors) files.processors;
+      only = lent files.only.items;
+      patterns = lent files.patterns.items;
+      only_from = option_map (λ f. f.now) files.only_from;
+      shard = files.shard;
+      scripts = lent files.scripts.items;
+    }
 
 abbrev pub recorded_of : Recorded → RecordedView
-recorded_of run = record { schedule = run.schedule.now; files = run.files.now; processors = run.processors }
+recorded_of run = recorded run.files.now run.processors run.schedule.now
 
 -- the command, with the same settings, world, processors, selections and scripts
 abbrev pub replay_line : RecordedView → List ℕ
 replay_line run =
-    let files = run.files in
     line
     (codes "replay: jtap replay --schedule "
     ∷ file_word run.schedule
-    ∷ file_option (codes " --settings ") (option_map (λ f. f.now) files.settings)
-    ∷ file_option (codes " --world ") (option_map (λ f. f.now) files.world)
-    ∷ number_option (codes " --processors ") (option_map (λ asked. run.processors) files.processors)
-    ∷ each_word (codes " --only ") (lent files.only.items)
-    ∷ each_word (codes " --match ") (lent files.patterns.items)
-    ∷ file_option (codes " --only-from ") (option_map (λ f. f.now) files.only_from)
-    ∷ shard_option files.shard
-    ∷ each_file (lent files.scripts.items)
+    ∷ file_option (codes " --settings ") run.settings
+    ∷ file_option (codes " --world ") run.world
+    ∷ number_option (codes " --processors ") run.processors
+    ∷ each_word (codes " --only ") run.only
+    ∷ each_word (codes " --match ") run.patterns
+    ∷ file_option (codes " --only-from ") run.only_from
+    ∷ shard_option run.shard
+    ∷ each_file run.scripts
     ∷ [])
 
 -- whether a word was given and has a control character
@@ -55,26 +76,17 @@ abbrev pub is_stdin : Option (List ℕ) → Bool
 is_stdin None = false
 is_stdin (Some name) = is_dash name
 
--- whether some option of a run has a control character
+-- whether some file of an option has a control character
 abbrev pub has_control_option : RecordedView → Bool
-has_control_option run =
-    let files = run.files in
-    has_control run.schedule
-    || (given_has_control (option_map (λ f. f.now) files.settings)
-    || (given_has_control (option_map (λ f. f.now) files.world) || given_has_control (option_map (λ f. f.now) files.only_from)))
+has_control_option run = has_control run.schedule || (given_has_control run.settings || (given_has_control run.world || given_has_control run.only_from))
 
 -- whether some path, pattern or script has one
 abbrev pub has_control_word : RecordedView → Bool
-has_control_word run =
-    let files = run.files in
-    has_control_in (lent files.only.items) || (has_control_in (lent files.patterns.items) || has_control_in (lent files.scripts.items))
+has_control_word run = has_control_in run.only || (has_control_in run.patterns || has_control_in run.scripts)
 
--- whether the command can be told: nothing is read from standard input, and no word has a control character
+-- whether the command can be told: a script is named, nothing is read from standard input, and no word has a control character
 abbrev pub can_be_told : RecordedView → Bool
-can_be_told run =
-    let files = run.files in
-    not (length files.scripts.items == 0)
-    && (not (is_stdin (option_map (λ f. f.now) files.only_from)) && (not (has_control_option run) && not (has_control_word run)))
+can_be_told run = not (length run.scripts == 0) && (not (is_stdin run.only_from) && (not (has_control_option run) && not (has_control_word run)))
 
 -- the line of a run whose schedule, in a file of this name, is longer than what is replayed
 abbrev pub too_large_line : List ℕ → List ℕ

@@ -91,8 +91,8 @@ module _ (inputs : Inputs) (keeps : Bool) (suite : ReadSuite) (is : IsRead input
         in_order = subst (λ (p : Planned). AreInOrder way p events) is.planned_as h.1;
         replays =
             λ schedule same fits.
-                let read = as_events (subst (λ (t : List ℕ). length t ≤ FILE_BYTES) same fits) (events_read events short) in
-                (s, is.is_suite, (events, subst (λ (t : List ℕ). AreRead t (Ok events)) (sym same) read, (all.accepted, all.complete)));
+            let read = as_events (subst (λ (t : List ℕ). length t ≤ FILE_BYTES) same fits) (events_read events short) in
+            (s, is.is_suite, (events, subst (λ (t : List ℕ). AreRead t (Ok events)) (sym same) read, (all.accepted, all.complete)));
       }
 
   scheduled : (way : Way) (old new : Option Account) → IsScheduled (AreEvents way suite.plan suite.world suite.settings.worker_count) old new → IsScheduled (AreRecord inputs (suite_of inputs suite) way) old new

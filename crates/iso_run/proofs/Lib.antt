@@ -5,6 +5,7 @@ mod Documents
 mod Ending
 mod Late
 mod Lending
+mod Parting
 mod Plans
 mod Reading
 mod Replaying

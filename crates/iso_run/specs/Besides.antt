@@ -2,7 +2,7 @@
 use Rattle.std.specs.Borrow.{Bor}
 use Rattle.std.specs.Prelude.{◌≡◌, ◌⊎◌, ℕ, List, [], ◌∷◌, ◌++◌, length, nat_lt, Bool, ◌==◌, ◌||◌, cond, not, Option, None, Some, option_map, unwrap_or}
 use Rattle.iso_arguments.specs.declared.request.InputFiles.{InputFiles}
-use Rattle.iso_commands.specs.Replays.{RecordedView, can_be_told, replay_line, too_large_line}
+use Rattle.iso_commands.specs.Replays.{RecordedView, can_be_told, recorded, replay_line, too_large_line}
 use Rattle.iso_model.specs.declared.limits.TheConstants.{FILE_BYTES}
 use Rattle.iso_run.specs.Courses.{IsUnasked}
 use Rattle.iso_run.specs.declared.besides.Besides.{Besides}
@@ -13,10 +13,6 @@ use Rattle.iso_telling.specs.declared.tells.Tells.{Tells}
 abbrev pub text_in : Option Account → List ℕ
 text_in None = []
 text_in (Some text) = unwrap_or text.bytes []
-
--- a recorded run of these files, whose schedule is in a file of this name
-abbrev pub recorded : InputFiles → (processors : ℕ) → (name : List ℕ) → RecordedView
-recorded files processors name = record { schedule = name; files = files; processors = processors }
 
 -- how a recorded run is replayed: by a command, where one can be told, but not where its schedule is longer than what is replayed
 abbrev pub replayed : (schedule : List ℕ) → RecordedView → List ℕ

@@ -89,10 +89,7 @@ fn has_part(parts: &[Part<'_>]) -> bool
 }
 
 /// Writes parts one after another, with an empty line between two. An empty text is no part.
-fn print_parts<E: Sink>(
-    printer: &mut Printer<'_, E>,
-    parts: &[Part<'_>],
-) -> Result<(), SinkFailed>
+fn print_parts<E: Sink>(printer: &mut Printer<'_, E>, parts: &[Part<'_>]) -> Result<(), SinkFailed>
     ensures { Prints printer.old printer.new (parted false (map text_of parts.now)) result }
 {
     let mut after = false;

@@ -60,8 +60,7 @@ pub fn run_workers<R: Threads + Wait + Clock + Sync, G: Gate + Sync, W: Sink>(
 {
     let suite = read_inputs(alloc, inputs, tells.wants_places())?;
     let timed = tells.wants_times();
-    let RanBook { book, times } =
-        run_timed::<Brand, R, G>(rt, alloc, &suite, gate, timed, course)?;
+    let RanBook { book, times } = run_timed::<Brand, R, G>(rt, alloc, &suite, gate, timed, course)?;
     write_results(
         alloc,
         &suite,
@@ -103,8 +102,12 @@ fn run_timed<'s, L: Ground + Send + Sync, R: Threads + Wait + Clock + Sync, G: G
     } else {
         TimesGate::untimed(alloc, rt, gate)
     };
-    let FloorRun { book, started } =
-        run_on_floor::<L, R, TimesGate<'_, R, G>>(rt, alloc, suite, &times_gate)?;
+    let FloorRun { book, started } = run_on_floor::<L, R, TimesGate<'_, R, G>>(
+        rt,
+        alloc,
+        suite,
+        &times_gate,
+    )?;
     let times = times_gate.into_times();
     let run = Observed {
         plan: &suite.plan,
