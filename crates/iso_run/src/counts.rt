@@ -119,6 +119,7 @@ fn tests_in(alloc: Global, plan: &Plan) -> Result<Vec<u32>, AllocError> {
 }
 
 /// A gate that counts how far a run has come, if that is to be shown, and is another gate for all else.
+#[derive(Drop)]
 pub(crate) struct CountingGate<'g, G> {
     inner: &'g G,
     counts: Option<&'g Counts>,

@@ -33,6 +33,7 @@ pub(crate) trait Progress {
 }
 
 /// Nowhere.
+#[derive(Drop)]
 pub(crate) struct Unshown;
 
 impl Progress for Unshown {
