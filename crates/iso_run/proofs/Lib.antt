@@ -5,6 +5,7 @@ mod Ending
 mod Late
 mod Lending
 mod Plans
+mod Printing
 mod Reading
 mod Replaying
 mod Reporting
