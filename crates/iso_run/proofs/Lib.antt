@@ -1,9 +1,11 @@
 mod Answering
 mod Captures
+mod Coursing
 mod Documents
 mod Ending
 mod Late
 mod Lending
+mod Parting
 mod Plans
 mod Reading
 mod Replaying

@@ -5,6 +5,7 @@ ghost use Rattle.iso_run.specs.Besides.{IsPlain};
 ghost use Rattle.iso_run.specs.Commands.{again_of, tells_of_skipped};
 ghost use Rattle.iso_telling.specs.Telling.{nothing_yet, told_nothing};
 
+use crate::course::Course;
 use iso_arguments::request::{Extras, InputFiles, Summarized};
 use iso_summary::again::Again;
 use iso_tap::memory::MemorySink;
@@ -19,6 +20,11 @@ pub(crate) struct Besides<'b, 'a> {
     pub failed: Option<&'a str>,
     /// The file into which the results are written as JUnit's XML.
     pub junit: Option<&'a str>,
+    pub course: Course,
+    /// The file into which the events of the run are written.
+    pub schedule: Option<&'a str>,
+    /// The file into which its trace is written.
+    pub trace: Option<&'a str>,
 }
 
 impl<'b, 'a> Besides<'b, 'a> {
@@ -30,6 +36,9 @@ impl<'b, 'a> Besides<'b, 'a> {
             tells: Tells::nothing(),
             failed: None,
             junit: None,
+            course: Course::nothing(),
+            schedule: None,
+            trace: None,
         }
     }
 
@@ -42,10 +51,15 @@ impl<'b, 'a> Besides<'b, 'a> {
     ) -> Besides<'b, 'a>
         ensures failed_file { result.failed ≡ extras.entry.failed }
         ensures junit_file { result.junit ≡ extras.entry.junit }
+        ensures schedule_file { result.schedule ≡ extras.entry.«record» }
+        ensures trace_file { result.trace ≡ extras.entry.trace }
         ensures names { result.tells.names.now ≡ files.now.scripts.items }
         ensures failed { result.tells.failed ≡ told_nothing (is_some extras.entry.failed) }
         ensures junit { result.tells.junit ≡ told_nothing (is_some extras.entry.junit) }
         ensures github { result.tells.github ≡ told_nothing extras.entry.github }
+        ensures schedule { result.course.schedule ≡ told_nothing (is_some extras.entry.«record») }
+        ensures trace { result.course.trace ≡ told_nothing (is_some extras.entry.trace) }
+        ensures stats { result.course.stats ≡ told_nothing extras.entry.stats }
         ensures untimed { extras.entry.durations ≡ None → result.tells.durations ≡ None }
         ensures durations { IfSome extras.entry.durations (λ most. IsSomeAnd result.tells.durations (λ d. (d.most ≡ most) × (d.text ≡ nothing_yet))) }
         ensures unasked { extras.entry.summary ≡ None → result.tells.summary ≡ None }
@@ -77,6 +91,13 @@ impl<'b, 'a> Besides<'b, 'a> {
             },
             failed: extras.failed,
             junit: extras.junit,
+            course: Course {
+                schedule: asked_text(alloc, extras.record.is_some()),
+                trace: asked_text(alloc, extras.trace.is_some()),
+                stats: asked_text(alloc, extras.stats),
+            },
+            schedule: extras.record,
+            trace: extras.trace,
         }
     }
 }

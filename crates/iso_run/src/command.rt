@@ -4,7 +4,8 @@ ghost use Rattle.std.specs.Option.{option_copied};
 ghost use Rattle.iso_arguments.specs.Requests.{AreInBounds, AsksInBounds, IsPlainRun, IsShard};
 ghost use Rattle.iso_places.specs.declared.site.Site.{Site};
 ghost use Rattle.iso_plan.specs.Selections.{texts_of};
-ghost use Rattle.iso_run.specs.Besides.{IsQuiet, IsSaid, files_of, parted, parts_of};
+ghost use Rattle.iso_run.specs.Besides.{IsQuiet, IsSaid, NamesNone, files_of, parted, parts_of};
+ghost use Rattle.iso_run.specs.Courses.{IsUnasked};
 ghost use Rattle.iso_run.specs.Commands.{Answered, AnsweredBesides, ArePlaces, AreFor, Did, DidBesides, Ended, IsRefused, RanOn, WereRead, plan_of, shard_asked, way_of};
 ghost use Rattle.iso_run.specs.Ends.{Answers, IfLate, IsEnded, IsFlushed, Refuses, command_end, end_of, exit_status, run_end, words_fault};
 ghost use Rattle.iso_run.specs.Runs.{Writes, suite_conflicts, suite_report};
@@ -15,6 +16,7 @@ ghost use Rattle.iso_tap.specs.Sinks.{Wrote};
 use crate::besides::Besides;
 use crate::check::check;
 use crate::command_fault::CommandFault;
+use crate::course::Course;
 use crate::exit::{ALL_OK, NOT_ALL_OK};
 use crate::fault::RunFault;
 use crate::files::{InputBytes, lent, read_files};
@@ -193,6 +195,7 @@ fn answer_request<
                 &*files,
                 &mut Shown::new(*rt, terminal, shows),
                 &mut besides.tells,
+                &mut besides.course,
                 output,
             );
             told(rt, ran, bytes, files, &besides, output, errors)
@@ -213,6 +216,7 @@ fn answer_request<
                 &*files,
                 &mut Unshown,
                 &mut besides.tells,
+                &mut besides.course,
                 output,
             );
             told(rt, ran, bytes, files, &besides, output, errors)
@@ -246,6 +250,7 @@ fn run<'b, G: AllocGlobal + Clock + Threads + Wait + Sync, P: Progress, W: Sink>
     files: &'b InputFiles<'b>,
     progress: &mut P,
     tells: &mut Tells<'_>,
+    course: &mut Course,
     output: &mut W,
 ) -> Result<Summary, RunFault>
     requires bounds { AreInBounds files.now }
@@ -253,12 +258,13 @@ fn run<'b, G: AllocGlobal + Clock + Threads + Wait + Sync, P: Progress, W: Sink>
     ensures report { (input : Option (List ℕ)) → WereRead files.now input bytes.now → (inputs : Inputs) × AreFor files.now input inputs
         × Writes (λ s. s.all_ok) suite_report inputs way.entry (W.account output.old) (W.account output.new) result }
     ensures quiet { IsQuiet tells.old → OnOk result (IsQuiet tells.new) }
+    ensures unasked { IsUnasked course.old → OnOk result (IsUnasked course.new) }
 {
     let shard = shard_of(files.shard);
     let scripts = lent(rt.alloc(), &bytes.scripts)?;
     let inputs = inputs_of(bytes, &scripts, files, shard);
     match way {
-        Way::Serial => run_serial_shown(rt, rt.alloc(), inputs, progress, tells, output),
+        Way::Serial => run_serial_shown(rt, rt.alloc(), inputs, progress, tells, course, output),
         Way::ByWorkers => run_workers_shown(
             rt,
             rt.alloc(),
@@ -266,6 +272,7 @@ fn run<'b, G: AllocGlobal + Clock + Threads + Wait + Sync, P: Progress, W: Sink>
             &OpenGate,
             progress,
             tells,
+            course,
             output,
         ),
         Way::BySchedule(schedule) => run_schedule(rt.alloc(), inputs, schedule, tells, output),
@@ -403,14 +410,14 @@ fn told<'a, G: AllocGlobal + Files, W: Sink, E: Sink>(
     ensures answer { MatchResult ran
         (λ s. IsEnded s.all_ok (files_of besides.now) (W.account output.old) (W.account output.new) result)
         (λ fault. (W.account output.new ≡ W.account output.old) × IsErrAnd result (λ told. command_end told ≡ run_end fault)) }
-    ensures said { OnOk result (IsSaid (parted false (parts_of besides.now.tells)) (E.account errors.old) (E.account errors.new)) }
-    ensures quiet { OnOk ran (IsQuiet besides.now.tells) → besides.now.failed ≡ None → besides.now.junit ≡ None → errors.new ≡ errors.old }
+    ensures said { OnOk result (IsSaid (parted false (parts_of files.now bytes.processors besides.now)) (E.account errors.old) (E.account errors.new)) }
+    ensures quiet { OnOk ran (IsQuiet besides.now.tells) → OnOk ran (IsUnasked besides.now.course) → NamesNone besides.now → errors.new ≡ errors.old }
 {
     match ran {
         Ok(summary) => {
             let ok = flushed(summary.all_ok, output)?;
-            say_parts(&besides.tells, errors);
-            filed(rt, ok, besides, errors)
+            let after = say_parts(besides, files, bytes.processors, errors);
+            filed(rt, ok, besides, after, errors)
         }
         Err(fault) => {
             let github = besides.tells.github.is_some();

@@ -1,4 +1,5 @@
 //! What a run is given, read as a suite.
+ghost use Rattle.std.specs.Int.{IsInRange};
 ghost use Rattle.std.specs.Prelude.{◌≡◌, ◌≤◌, ◌++◌, ◌∷◌, [], IfErr, IfOk, List, MatchResult, map, true};
 ghost use Rattle.iso_model.specs.ScriptView.{script_of};
 ghost use Rattle.iso_script.specs.Faults.{HasScriptFault, UnlessMemory};
@@ -97,7 +98,8 @@ pub(crate) fn settings_from(
     processors: u32,
 ) -> Result<Settings, SettingsError>
     requires { 1 ≤ processors }
-    ensures { Gives (settings_from bytes.now processors) result }
+    ensures exact { Gives (settings_from bytes.now processors) result }
+    ensures within { IfOk result (λ settings. IsInRange 1 64 settings.worker_count) }
 {
     match str::from_utf8(bytes) {
         Ok(text) => read_settings(alloc, text, processors),

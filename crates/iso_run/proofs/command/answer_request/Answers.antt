@@ -29,7 +29,7 @@ returns-in_ok-bytes-in-Plan-clause-answers g c =
     let file = files_of c.nothing.result in
     let answered = run-answered (ArePlaces places made.0 sites) P (plan_of tests places (texts_of files.scripts.items) sites) made.0 Serial old (g.W.Sink.account c.plan-shown.new.output)
     (λ late ok w. (sites, (made.0, made.1, late, w))) file new c.plan-shown.result made.2.1 made.2.2 c.told.result c.told.ensures.answer in
-    rw c.in-Plan.is (answered-as (P new) _ (λ ok h. h) (Lacking P file new) _ (λ h. (h.0, h.1, absurd (no-file c.nothing.result.failed c.nothing.result.junit c.nothing.ensures.1 c.nothing.ensures.2 h.2))) old new c.told.result answered)
+    rw c.in-Plan.is (answered-as (P new) _ (λ ok h. h) (Lacking P file new) _ (λ h. (h.0, h.1, absurd (no-file c.nothing.result c.nothing.ensures.2 h.2))) old new c.told.result answered)
 
 pub returns-in_ok-bytes-in-Run-clause-answers : goal.returns-in_ok-bytes-in-Run-clause-answers
 returns-in_ok-bytes-in-Run-clause-answers g c =
@@ -45,7 +45,7 @@ returns-in_ok-bytes-in-Run-clause-answers g c =
     (late-so ⊤ (end_of (λ (s : Summary). s.all_ok) run_end c.run-ran.result) tt) made.2 c.told-in-Run.result c.told-in-Run.ensures.answer in
     let asked : (ok : Bool) → P new ok → IsWrittenFor suite_report files input (way_of c.in-Run.serial) old new ok =
     λ ok h. subst (λ (w : Way). IsWrittenFor suite_report files input w old new ok) c.asked_way.ensures h in
-    rw c.in-Run.is (answered-as (P new) _ asked (Lacking P file new) _ (λ h. (h.0, asked h.0 h.1, subst NamesFile (files-named c.new-besides.result _ _ c.new-besides.ensures.failed_file c.new-besides.ensures.junit_file) h.2)) old new c.told-in-Run.result answered)
+    rw c.in-Run.is (answered-as (P new) _ asked (Lacking P file new) _ (λ h. (h.0, asked h.0 h.1, subst NamesFile (files-named c.new-besides.result c.in-Run.extras c.new-besides.ensures.failed_file c.new-besides.ensures.junit_file c.new-besides.ensures.schedule_file c.new-besides.ensures.trace_file) h.2)) old new c.told-in-Run.result answered)
 
 pub returns-in_ok-bytes-in-Replay-clause-answers : goal.returns-in_ok-bytes-in-Replay-clause-answers
 returns-in_ok-bytes-in-Replay-clause-answers g c =
@@ -59,7 +59,7 @@ returns-in_ok-bytes-in-Replay-clause-answers g c =
     let file = files_of c.new-besides-in-Replay.result in
     let answered = run-answered ⊤ P suite_report made.0 way old (g.W.Sink.account c.run-ran-in-Replay.new.output) (λ late ok w. (made.0, made.1, w)) file new c.run-ran-in-Replay.result
     (late-so ⊤ (end_of (λ (s : Summary). s.all_ok) run_end c.run-ran-in-Replay.result) tt) made.2 c.told-in-Replay.result c.told-in-Replay.ensures.answer in
-    rw c.in-Replay.is (answered-as (P new) _ (λ ok h. (c.deref.result, h)) (Lacking P file new) _ (λ h. (h.0, (c.deref.result, h.1), subst NamesFile (files-named c.new-besides-in-Replay.result _ _ c.new-besides-in-Replay.ensures.failed_file c.new-besides-in-Replay.ensures.junit_file) h.2)) old new c.told-in-Replay.result answered)
+    rw c.in-Replay.is (answered-as (P new) _ (λ ok h. (c.deref.result, h)) (Lacking P file new) _ (λ h. (h.0, (c.deref.result, h.1), subst NamesFile (files-named c.new-besides-in-Replay.result c.in-Replay.extras c.new-besides-in-Replay.ensures.failed_file c.new-besides-in-Replay.ensures.junit_file c.new-besides-in-Replay.ensures.schedule_file c.new-besides-in-Replay.ensures.trace_file) h.2)) old new c.told-in-Replay.result answered)
 
 pub returns-in_ok-bytes-in-Run-clause-refused : goal.returns-in_ok-bytes-in-Run-clause-refused
 returns-in_ok-bytes-in-Run-clause-refused g c = λ plain.
@@ -72,4 +72,4 @@ pub returns-in_ok-bytes-in-Run-clause-quiet : goal.returns-in_ok-bytes-in-Run-cl
 returns-in_ok-bytes-in-Run-clause-quiet g c = λ plain.
     let asks = subst IsPlainRun c.in-Run.is plain in
     let plain = c.new-besides.ensures.plain asks.1 in
-    c.told-in-Run.ensures.quiet (c.run-ran.ensures.quiet plain.0) plain.1 plain.2 ∙ c.looked_over-in-Run.ensures.quiet asks.0.explain
+    c.told-in-Run.ensures.quiet (c.run-ran.ensures.quiet plain.0) (c.run-ran.ensures.unasked plain.1) plain.2 ∙ c.looked_over-in-Run.ensures.quiet asks.0.explain

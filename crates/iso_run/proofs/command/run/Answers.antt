@@ -4,7 +4,9 @@ use Rattle.iso_run.specs.Commands.{shard_asked}
 use Rattle.iso_run.specs.Runs.{suite_report}
 use Rattle.iso_run.specs.Suites.{texts}
 use Rattle.iso_run.specs.declared.report.Summary.{Summary}
+use Rattle.iso_run.specs.declared.way.Way.TheVariants.{Serial, ByWorkers}
 use Rattle.iso_run.proofs.Answering.{still-quiet, still-quiet-untimed}
+use Rattle.iso_run.proofs.Coursing.{still-unasked}
 use Rattle.iso_run.proofs.Lending.{are-for, are-of-bytes, inputs-for, out-of-memory}
 use Rattle.iso_run.proofs.command.run.Goals as goal
 
@@ -31,3 +33,9 @@ returns-in-ByWorkers-clause-quiet g c = still-quiet c.inputs_of-inputs.result c.
 
 pub returns-clause-quiet : goal.returns-clause-quiet
 returns-clause-quiet g c = still-quiet-untimed c.inputs_of-inputs.result c.args.tells.now c.run_schedule.new.tells c.run_schedule.result c.run_schedule.ensures.told
+
+pub returns-in-Serial-clause-unasked : goal.returns-in-Serial-clause-unasked
+returns-in-Serial-clause-unasked g c = still-unasked c.inputs_of-inputs.result Serial c.args.course.now c.run_serial.new.course c.run_serial.result c.run_serial.ensures.course
+
+pub returns-in-ByWorkers-clause-unasked : goal.returns-in-ByWorkers-clause-unasked
+returns-in-ByWorkers-clause-unasked g c = still-unasked c.inputs_of-inputs.result ByWorkers c.args.course.now c.run_workers.new.course c.run_workers.result c.run_workers.ensures.course

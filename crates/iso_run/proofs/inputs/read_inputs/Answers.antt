@@ -12,7 +12,7 @@ returns-in-Ok-plan_kept c =
     let read = ap (map script_of) c.deref.ensures.value in
     record {
       is_suite = record {
-        settings = c.in-Ok.ensures;
+        settings = c.in-Ok.ensures.exact;
         world = c.in-Ok-world_from.ensures;
         scripts = map script_of c.in_ok-read.read.scripts.items;
         read = c.in_ok-read.ensures.scripts;
@@ -20,12 +20,13 @@ returns-in-Ok-plan_kept c =
         planned = ap (kept_fault c.args.inputs) (sym read) ∙ is.accepted;
       };
       planned_as = planned-by _ _ _ (is.nodes ∙ ap (kept_nodes c.args.inputs) read) is.settings;
+      manned = c.in-Ok.ensures.within;
       placed = c.in_ok-read.ensures.places;
     }
 
 pub returns : goal.returns
 returns c = (
-  (ap is_ok c.in-Ok.ensures, ap is_ok c.in-Ok-world_from.ensures),
+  (ap is_ok c.in-Ok.ensures.exact, ap is_ok c.in-Ok-world_from.ensures),
   (
     map script_of c.in_ok-read.read.scripts.items,
     c.in_ok-read.ensures.scripts,

@@ -4,6 +4,7 @@ use Rattle.iso_run.specs.Runs.{suite_report, as_written}
 use Rattle.iso_run.specs.Suites.{suite_of}
 use Rattle.iso_run.specs.declared.report.Summary.{Summary}
 use Rattle.iso_run.specs.declared.way.Way.TheVariants.{Serial}
+use Rattle.iso_run.proofs.Coursing.{course-told}
 use Rattle.iso_run.proofs.Reporting.{reported, told-timed}
 use Rattle.iso_run.proofs.Unread.{unread-unwritten}
 use Rattle.iso_run.proofs.run.run_serial.Goals as goal
@@ -25,3 +26,7 @@ returns-in-Ok-clause-told g c =
     told-timed c.args.inputs (g.W.Sink.account c.args.sink.now) (g.W.Sink.account c.write_results.new.sink) (suite_of c.args.inputs c.in_ok-suite.suite) c.in_ok-suite.suite.plan c.in-Ok.ran.results
     is.is_suite is.planned_as c.in-Ok.ensures.plan c.in-Ok.ensures.start (as_written c.in_ok-suite.suite c.args.inputs.scripts.now) c.deref.result.now c.args.tells.now c.write_results.new.tells
     refl (λ wants. is.placed (c.wants_places.ensures ∙ wants)) c.write_results.result c.write_results.ensures.told
+
+pub returns-in-Ok-clause-course : goal.returns-in-Ok-clause-course
+returns-in-Ok-clause-course g c =
+    course-told c.args.inputs _ c.in_ok-suite.suite c.in_ok-suite.ensures Serial c.args.course.now c.run_timed.new.course c.write_results.result c.in-Ok.ensures.course

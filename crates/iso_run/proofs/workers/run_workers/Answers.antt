@@ -4,6 +4,7 @@ use Rattle.iso_run.specs.Runs.{suite_report, as_written}
 use Rattle.iso_run.specs.Suites.{suite_of}
 use Rattle.iso_run.specs.declared.report.Summary.{Summary}
 use Rattle.iso_run.specs.declared.way.Way.TheVariants.{ByWorkers}
+use Rattle.iso_run.proofs.Coursing.{course-told}
 use Rattle.iso_run.proofs.Reporting.{reported, told-timed}
 use Rattle.iso_run.proofs.Unread.{unread-unwritten}
 use Rattle.iso_run.proofs.Working.{unworked}
@@ -40,3 +41,7 @@ returns-clause-told g c =
     told-timed c.args.inputs (g.W.Sink.account c.args.sink.now) (g.W.Sink.account c.write_results.new.sink) (suite_of c.args.inputs suite) suite.plan c.results.result.now is.is_suite is.planned_as
     (c.results.ensures.plan ∙ on.plan_is) (c.results.ensures.start ∙ on.world_is) (as_written suite c.args.inputs.scripts.now) c.deref.result.now c.args.tells.now c.write_results.new.tells
     refl (λ wants. is.placed (c.wants_places.ensures ∙ wants)) c.write_results.result c.write_results.ensures.told
+
+pub returns-clause-course : goal.returns-clause-course
+returns-clause-course g c =
+    course-told c.args.inputs _ c.in_ok-suite.suite c.in_ok-suite.ensures ByWorkers c.args.course.now c.run_timed-book.new.course c.write_results.result c.in_ok-book.ensures.course
