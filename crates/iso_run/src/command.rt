@@ -26,7 +26,7 @@ use crate::lines::say;
 use crate::mending::after_fault;
 use crate::parts::say_parts;
 use crate::plan::{show_conflicts, show_places, show_plan, show_tests, show_why};
-use crate::progress::{Progress, Shown, Unshown};
+use crate::progress::{Progress, Unshown, show as show_progress};
 use crate::replay::run_schedule;
 use crate::report::Summary;
 use crate::run::run_serial_shown;
@@ -187,17 +187,19 @@ fn answer_request<
             let read = read_files(rt, files, None, input)?;
             let bytes = looked_over(rt.alloc(), read, files, extras.github, errors)?;
             let mut besides = Besides::new(rt.alloc(), *extras, &*files, bytes.processors);
-            let shows = extras.progress && terminal.is_terminal();
+            let asked = extras.progress && terminal.is_terminal();
+            let mut progress = show_progress(*rt, rt.alloc(), terminal, asked);
             let ran = run(
                 rt,
                 &bytes,
                 asked_way(*serial),
                 &*files,
-                &mut Shown::new(*rt, terminal, shows),
+                &mut progress,
                 &mut besides.tells,
                 &mut besides.course,
                 output,
             );
+            progress.ends();
             told(rt, ran, bytes, files, &besides, output, errors)
         }
         Request::Replay {

@@ -62,15 +62,9 @@ pub(crate) fn run_serial_shown<C: Clock, P: Progress, W: Sink>(
 {
     let suite = read_inputs(alloc, inputs, tells.wants_places())?;
     let timed = tells.wants_times();
-    progress.begins(alloc, &suite.plan);
-    let ran = run_timed(
-        clock,
-        alloc,
-        &suite,
-        &CountingGate::new(&OpenGate, progress.counts()),
-        timed,
-        course,
-    );
+    let gate = CountingGate::new(alloc, &OpenGate, &suite.plan, progress.counts());
+    let ran = run_timed(clock, alloc, &suite, &gate, timed, course);
+    drop(gate);
     progress.ends();
     match ran {
         Ok(ran) => {

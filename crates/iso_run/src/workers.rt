@@ -86,11 +86,11 @@ pub(crate) fn run_workers_shown<
 {
     let suite = read_inputs(alloc, inputs, tells.wants_places())?;
     let timed = tells.wants_times();
-    progress.begins(alloc, &suite.plan);
-    let counting = CountingGate::new(gate, progress.counts());
+    let counting = CountingGate::new(alloc, gate, &suite.plan, progress.counts());
     let ran = run_timed::<Brand, R, CountingGate<'_, G>>(
         rt, alloc, &suite, &counting, timed, course,
     );
+    drop(counting);
     progress.ends();
     let RanBook { book, times } = ran?;
     write_results(
