@@ -39,7 +39,7 @@ use Rattle.iso_standing.specs.CodeEvents.{events_of}
 use Rattle.iso_standing.specs.declared.event.Event.{Event}
 use Rattle.iso_suites.specs.ScriptLanguage.{scripts}
 use Rattle.iso_suites.specs.SuiteStates.{suite_at}
-use Rattle.iso_tap.specs.Sinks.{Account}
+use Rattle.iso_tap.specs.Sinks.{Account, Wrote}
 use Rattle.iso_telling.specs.Telling.{IsTold}
 
 -- what a book's record and a record of worker 0 alone are
@@ -51,6 +51,12 @@ whole-of_book b es r same whole =
 
 pub whole-of_serial : (plan : Planned) (start : Start) (workers : ℕ) (es : List Event) → AreSerialRecordOf plan start workers es → AreEvents Serial plan start workers es
 whole-of_serial plan start workers es r = (record { accepted = r.accepted; in_full = r.in_full; complete = r.complete }, (r.alone, r.serial))
+
+-- lines of events that were written are told
+pub scheduled-told : {A F : Type 0} (Are : List Event → Type 0) (old new : Account) (es : List Event) (result : Result A F) → Are es → OnOk result (Wrote old new (schedule_text es))
+    → OnOk result (IsScheduled Are (Some old) (Some new))
+scheduled-told Are old new es (Ok a) are wrote = (es, are, wrote)
+scheduled-told Are old new es (Err e) are wrote = tt
 
 -- where no fault is found, none is found by either part
 or-none : (a b : Option PlanFault) → option_or a b ≡ None → (a ≡ None) × (b ≡ None)
