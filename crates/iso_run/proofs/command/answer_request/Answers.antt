@@ -43,7 +43,7 @@ returns-in_ok-bytes-in-Conflicts-clause-answers g c =
     let file = files_of nothing.result in
     let answered = run-answered ⊤ P suite_conflicts made.0 Serial old (g.W.Sink.account c.conflicts-shown.new.output) (λ late ok w. (made.0, made.1, w)) file new c.conflicts-shown.result
     (late-so ⊤ (end_of (λ (s : Summary). s.all_ok) run_end c.conflicts-shown.result) tt) made.2 c.told-in-Conflicts.result c.told-in-Conflicts.ensures.answer in
-    rw c.in-Conflicts.is (answered-as (P new) _ (λ ok h. h) (Lacking P file new) _ (λ h. (h.0, h.1, absurd (no-file nothing.result.failed nothing.result.junit nothing.ensures.1 nothing.ensures.2 h.2))) old new c.told-in-Conflicts.result answered)
+    rw c.in-Conflicts.is (answered-as (P new) _ (λ ok h. h) (Lacking P file new) _ (λ h. (h.0, h.1, absurd (no-file nothing.result nothing.ensures.2 h.2))) old new c.told-in-Conflicts.result answered)
 
 pub returns-in_ok-bytes-in-Run-clause-answers : goal.returns-in_ok-bytes-in-Run-clause-answers
 returns-in_ok-bytes-in-Run-clause-answers g c =
