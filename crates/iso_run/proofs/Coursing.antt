@@ -81,6 +81,9 @@ kept-few inputs ss = by (asks_for_paths inputs)
 most : NODES ≤ 10 ^ 9
 most = leb-true NODES (10 ^ 9) refl
 
+many : 64 ≤ 10 ^ 9
+many = leb-true 64 (10 ^ 9) refl
+
 module _ (inputs : Inputs) (keeps : Bool) (suite : ReadSuite) (is : IsRead inputs keeps suite) where
   -- the events of a run of a suite that was read are the record of the suite that its inputs are
   record-of : (way : Way) (events : List Event) → AreEvents way suite.plan suite.world suite.settings.worker_count events → AreRecord inputs (suite_of inputs suite) way events
@@ -89,8 +92,9 @@ module _ (inputs : Inputs) (keeps : Bool) (suite : ReadSuite) (is : IsRead input
       let workers = suite.settings.worker_count in
       let all = subst (λ (p : Planned). AreWhole p suite.world workers events) is.planned_as h.0 in
       let x = suite_at (planned s) s.start in
-      let small : length s.nodes ≤ 10 ^ 9 = let fits = kept-few inputs is.is_suite.scripts is.is_suite.planned in let same = ap length is.is_suite.kept in omega (arith, rw same fits, most) in
-      let few : workers ≤ 10 ^ 9 = omega (arith, is.manned.1, most) in
+      let fits = subst (λ (ns : List Row). length ns ≤ NODES) (sym is.is_suite.kept) (kept-few inputs is.is_suite.scripts is.is_suite.planned) in
+      let small : length s.nodes ≤ 10 ^ 9 = omega (arith, fits, most) in
+      let few : workers ≤ 10 ^ 9 = omega (arith, is.manned.1, many) in
       let short = short_run x workers few small (first scripts x) events all.accepted in
       record {
         whole = all;

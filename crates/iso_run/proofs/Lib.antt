@@ -7,6 +7,7 @@ mod Late
 mod Lending
 mod Parting
 mod Plans
+mod Printing
 mod Reading
 mod Replaying
 mod Reporting

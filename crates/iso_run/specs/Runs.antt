@@ -14,7 +14,7 @@ use Rattle.iso_lifecycle.specs.Subjects.{outcome_alone, started}
 use Rattle.iso_model.specs.ScriptView.{script_of}
 use Rattle.iso_model.specs.Scripts.{Script}
 use Rattle.iso_model.specs.declared.outcome.Outcome.{Outcome}
-use Rattle.iso_conflicts.specs.Conflicts.{conflicts_text}
+use Rattle.iso_conflicts.specs.ConflictsText.{conflicts_text}
 use Rattle.iso_placed_plan.specs.PlacedPlan.{placed_plan_text, placed_tests_text}
 use Rattle.iso_places.specs.Located.{AreSites}
 use Rattle.iso_places.specs.Sites.{all_sites, places_in}

@@ -9,7 +9,8 @@ use Rattle.iso_run.specs.Commands.{ArePlaces, IsPrintedFor, IsWrittenFor, WereRe
 use Rattle.iso_plan.specs.Selections.{texts_of}
 use Rattle.iso_run.specs.Besides.{files_of}
 use Rattle.iso_run.specs.Ends.{NamesFile, end_of, run_end}
-use Rattle.iso_run.specs.Runs.{suite_report}
+use Rattle.iso_run.specs.Runs.{suite_conflicts, suite_report}
+use Rattle.iso_run.specs.declared.command.Printed.{Printed}
 use Rattle.iso_run.specs.declared.report.Summary.{Summary}
 use Rattle.iso_run.specs.declared.way.Way.{Way}
 use Rattle.iso_run.specs.declared.way.Way.TheVariants.{Serial, BySchedule}
@@ -22,14 +23,27 @@ returns-in_ok-bytes-in-Plan-clause-answers g c =
     let new = g.W.Sink.account c.told.new.output in
     let made = c.plan-shown.ensures input (subst (WereRead c.in-Plan.files input) (sym c.in_ok-bytes-in-Plan.ensures.same) c.in_ok-read-in-Plan.ensures.read) in
     let sites = made.2.0 in
-    let tests = c.in-Plan.tests in
-    let places = c.in-Plan.places in
+    let printed : Printed = record { tests = c.in-Plan.tests; places = c.in-Plan.places; why = c.in-Plan.why } in
     let files = c.in-Plan.files in
-    let P : Account → Bool → Type 0 = λ a ok. IsPrintedFor tests places files input old a ok in
+    let P : Account → Bool → Type 0 = λ a ok. IsPrintedFor printed files input old a ok in
     let file = files_of c.nothing.result in
-    let answered = run-answered (ArePlaces places made.0 sites) P (plan_of tests places (texts_of files.scripts.items) sites) made.0 Serial old (g.W.Sink.account c.plan-shown.new.output)
+    let answered = run-answered (ArePlaces printed.places made.0 sites) P (plan_of printed (texts_of files.scripts.items) sites) made.0 Serial old (g.W.Sink.account c.plan-shown.new.output)
     (λ late ok w. (sites, (made.0, made.1, late, w))) file new c.plan-shown.result made.2.1 made.2.2 c.told.result c.told.ensures.answer in
     rw c.in-Plan.is (answered-as (P new) _ (λ ok h. h) (Lacking P file new) _ (λ h. (h.0, h.1, absurd (no-file c.nothing.result c.nothing.ensures.2 h.2))) old new c.told.result answered)
+
+pub returns-in_ok-bytes-in-Conflicts-clause-answers : goal.returns-in_ok-bytes-in-Conflicts-clause-answers
+returns-in_ok-bytes-in-Conflicts-clause-answers g c =
+    let input = g.R.Read.remaining c.args.input.now in
+    let old = g.W.Sink.account c.args.output.now in
+    let new = g.W.Sink.account c.told-in-Conflicts.new.output in
+    let files = c.in-Conflicts.files in
+    let made = c.conflicts-shown.ensures input (subst (WereRead files input) (sym c.in_ok-bytes-in-Conflicts.ensures.same) c.in_ok-read-in-Conflicts.ensures.read) in
+    let P : Account → Bool → Type 0 = λ a ok. IsWrittenFor suite_conflicts files input Serial old a ok in
+    let nothing = c.nothing-in-Conflicts in
+    let file = files_of nothing.result in
+    let answered = run-answered ⊤ P suite_conflicts made.0 Serial old (g.W.Sink.account c.conflicts-shown.new.output) (λ late ok w. (made.0, made.1, w)) file new c.conflicts-shown.result
+    (late-so ⊤ (end_of (λ (s : Summary). s.all_ok) run_end c.conflicts-shown.result) tt) made.2 c.told-in-Conflicts.result c.told-in-Conflicts.ensures.answer in
+    rw c.in-Conflicts.is (answered-as (P new) _ (λ ok h. h) (Lacking P file new) _ (λ h. (h.0, h.1, absurd (no-file nothing.result nothing.ensures.2 h.2))) old new c.told-in-Conflicts.result answered)
 
 pub returns-in_ok-bytes-in-Run-clause-answers : goal.returns-in_ok-bytes-in-Run-clause-answers
 returns-in_ok-bytes-in-Run-clause-answers g c =
