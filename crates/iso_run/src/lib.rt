@@ -24,6 +24,7 @@ pub mod replay;
 pub mod report;
 mod resource;
 pub mod run;
+mod script_mending;
 mod settings;
 mod times;
 mod warning;
