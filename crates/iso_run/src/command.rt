@@ -29,6 +29,7 @@ use crate::plan::{show_conflicts, show_places, show_plan, show_tests, show_why};
 use crate::replay::run_schedule;
 use crate::report::Summary;
 use crate::run::run_serial;
+use crate::script_mending::ScriptMending;
 use crate::settings::show_settings;
 use crate::warning::looked_over;
 use crate::way::Way;
@@ -396,7 +397,8 @@ fn told<'a, G: AllocGlobal + Files, W: Sink, E: Sink>(
         }
         Err(fault) => {
             let github = besides.tells.github.is_some();
-            Err(named(rt.alloc(), fault, bytes, files, github))
+            let mending = ScriptMending::unasked();
+            Err(named(rt.alloc(), fault, mending, bytes, files, github))
         }
     }
 }
@@ -416,6 +418,7 @@ pub(crate) fn flushed<W: Sink>(ok: bool, output: &mut W) -> Result<bool, Command
 pub(crate) fn named<'a>(
     alloc: Global,
     fault: RunFault,
+    mending: ScriptMending,
     bytes: InputBytes,
     files: &InputFiles<'a>,
     github: bool,
@@ -424,7 +427,7 @@ pub(crate) fn named<'a>(
     requires counted { 1 ≤ bytes.processors }
     ensures { command_end result ≡ run_end fault }
 {
-    let text = after_fault(alloc, &fault, &bytes, files, github);
+    let text = after_fault(alloc, &fault, mending, &bytes, files, github);
     match fault {
         RunFault::Plan(PlanFault::NotSelected(index)) => not_selected(index, bytes, files, text),
         RunFault::Script(index, _) => {

@@ -22,6 +22,7 @@ pub mod replay;
 pub mod report;
 mod resource;
 pub mod run;
+mod script_mending;
 mod settings;
 mod times;
 mod warning;

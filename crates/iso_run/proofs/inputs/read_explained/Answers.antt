@@ -4,7 +4,7 @@ use Rattle.iso_model.specs.ScriptView.{script_of}
 use Rattle.iso_plan.specs.Faults.{IsFaultOf}
 use Rattle.iso_run.specs.Suites.{kept_fault, kept_nodes}
 use Rattle.iso_run.proofs.Plans.{planned-by}
-use Rattle.iso_run.proofs.inputs.read_inputs.Goals as goal
+use Rattle.iso_run.proofs.inputs.read_explained.Goals as goal
 
 pub returns-in-Ok-plan_kept : goal.returns-in-Ok-plan_kept
 returns-in-Ok-plan_kept c =
