@@ -2,8 +2,8 @@
 ghost use Rattle.std.specs.Prelude.{◌++◌, codes, map};
 ghost use Rattle.std.specs.Option.{option_map};
 ghost use Rattle.iso_commands.specs.Lent.{lent};
-ghost use Rattle.iso_commands.specs.Parts.{each_file, each_word, number_option, part_text, shard_option};
-ghost use Rattle.iso_summary.specs.Lines.{file_option, line};
+ghost use Rattle.iso_commands.specs.Parts.{each_file, each_word, part_text, shard_option};
+ghost use Rattle.iso_summary.specs.Lines.{file_option, line, number_option};
 ghost use Rattle.iso_summary.specs.Words.{file_word, shell_word};
 ghost use Rattle.iso_tap.specs.Printers.{Prints};
 

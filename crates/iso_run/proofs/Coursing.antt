@@ -39,7 +39,7 @@ use Rattle.iso_standing.specs.CodeEvents.{events_of}
 use Rattle.iso_standing.specs.declared.event.Event.{Event}
 use Rattle.iso_suites.specs.ScriptLanguage.{scripts}
 use Rattle.iso_suites.specs.SuiteStates.{suite_at}
-use Rattle.iso_tap.specs.Sinks.{Account}
+use Rattle.iso_tap.specs.Sinks.{Account, Wrote}
 use Rattle.iso_telling.specs.Telling.{IsTold}
 
 -- what a book's record and a record of worker 0 alone are
@@ -51,6 +51,12 @@ whole-of_book b es r same whole =
 
 pub whole-of_serial : (plan : Planned) (start : Start) (workers : ℕ) (es : List Event) → AreSerialRecordOf plan start workers es → AreEvents Serial plan start workers es
 whole-of_serial plan start workers es r = (record { accepted = r.accepted; in_full = r.in_full; complete = r.complete }, (r.alone, r.serial))
+
+-- lines of events that were written are told
+pub scheduled-told : {A F : Type 0} (Are : List Event → Type 0) (old new : Account) (es : List Event) (result : Result A F) → Are es → OnOk result (Wrote old new (schedule_text es))
+    → OnOk result (IsScheduled Are (Some old) (Some new))
+scheduled-told Are old new es (Ok a) are wrote = (es, are, wrote)
+scheduled-told Are old new es (Err e) are wrote = tt
 
 -- where no fault is found, none is found by either part
 or-none : (a b : Option PlanFault) → option_or a b ≡ None → (a ≡ None) × (b ≡ None)
@@ -75,6 +81,9 @@ kept-few inputs ss = by (asks_for_paths inputs)
 most : NODES ≤ 10 ^ 9
 most = leb-true NODES (10 ^ 9) refl
 
+many : 64 ≤ 10 ^ 9
+many = leb-true 64 (10 ^ 9) refl
+
 module _ (inputs : Inputs) (keeps : Bool) (suite : ReadSuite) (is : IsRead inputs keeps suite) where
   -- the events of a run of a suite that was read are the record of the suite that its inputs are
   record-of : (way : Way) (events : List Event) → AreEvents way suite.plan suite.world suite.settings.worker_count events → AreRecord inputs (suite_of inputs suite) way events
@@ -83,8 +92,9 @@ module _ (inputs : Inputs) (keeps : Bool) (suite : ReadSuite) (is : IsRead input
       let workers = suite.settings.worker_count in
       let all = subst (λ (p : Planned). AreWhole p suite.world workers events) is.planned_as h.0 in
       let x = suite_at (planned s) s.start in
-      let small : length s.nodes ≤ 10 ^ 9 = let fits = kept-few inputs is.is_suite.scripts is.is_suite.planned in let same = ap length is.is_suite.kept in omega (arith, rw same fits, most) in
-      let few : workers ≤ 10 ^ 9 = omega (arith, is.manned.1, most) in
+      let fits = subst (λ (ns : List Row). length ns ≤ NODES) (sym is.is_suite.kept) (kept-few inputs is.is_suite.scripts is.is_suite.planned) in
+      let small : length s.nodes ≤ 10 ^ 9 = omega (arith, fits, most) in
+      let few : workers ≤ 10 ^ 9 = omega (arith, is.manned.1, many) in
       let short = short_run x workers few small (first scripts x) events all.accepted in
       record {
         whole = all;

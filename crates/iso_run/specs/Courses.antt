@@ -16,7 +16,7 @@ use Rattle.iso_run.specs.Replays.{IsPlayed}
 use Rattle.iso_run.specs.Suites.{OfSuite, Suite, planned}
 use Rattle.iso_run.specs.declared.course.Course.{Course}
 use Rattle.iso_run.specs.declared.inputs.Inputs.{Inputs}
-use Rattle.iso_run.specs.declared.observed.Observed.{Observed}
+use Rattle.iso_run.specs.declared.observation.Observed.{Observed}
 use Rattle.iso_run.specs.declared.way.Way.{Way}
 use Rattle.iso_run.specs.declared.way.Way.TheVariants.{Serial, ByWorkers, BySchedule}
 use Rattle.iso_settings.specs.Worlds.{Start}

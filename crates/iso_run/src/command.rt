@@ -26,7 +26,7 @@ use crate::lines::say;
 use crate::mending::after_fault;
 use crate::parts::say_parts;
 use crate::plan::{show_conflicts, show_places, show_plan, show_tests, show_why};
-use crate::progress::{Progress, Shown, Unshown};
+use crate::progress::{Progress, Unshown, show as show_progress};
 use crate::replay::run_schedule;
 use crate::report::Summary;
 use crate::run::run_serial_shown;
@@ -188,13 +188,13 @@ fn answer_request<
             let read = read_files(rt, files, None, input)?;
             let bytes = looked_over(rt.alloc(), read, files, extras.github, errors)?;
             let mut besides = Besides::new(rt.alloc(), *extras, &*files, bytes.processors);
-            let shows = extras.progress && terminal.is_terminal();
-            let ran = run(
+            let ran = run_shown(
                 rt,
                 &bytes,
                 asked_way(*serial),
                 &*files,
-                &mut Shown::new(*rt, terminal, shows),
+                extras.progress,
+                terminal,
                 &mut besides.tells,
                 &mut besides.course,
                 output,
@@ -243,6 +243,38 @@ fn asked_way(serial: bool) -> Way<'static>
     if serial { Way::Serial } else { Way::ByWorkers }
 }
 
+/// Runs what these bytes are as `run` does, and shows on the terminal how far the run has come, if that is asked for and it is one.
+fn run_shown<
+    'b,
+    G: AllocGlobal + Clock + Threads + Wait + Copy + Send + Sync + Drop + 'static,
+    T: Eprint + IsTerminal + Copy + Send + Drop + 'static,
+    W: Sink,
+>(
+    rt: &G,
+    bytes: &'b InputBytes,
+    way: Way<'_>,
+    files: &'b InputFiles<'b>,
+    asked: bool,
+    terminal: T,
+    tells: &mut Tells<'_>,
+    course: &mut Course,
+    output: &mut W,
+) -> Result<Summary, RunFault>
+    requires bounds { AreInBounds files.now }
+    requires counted { 1 ≤ bytes.now.processors }
+    ensures report { (input : Option (List ℕ)) → WereRead files.now input bytes.now → (inputs : Inputs) × AreFor files.now input inputs
+        × Writes (λ s. s.all_ok) suite_report inputs way.entry (W.account output.old) (W.account output.new) result }
+    ensures quiet { IsQuiet tells.old → OnOk result (IsQuiet tells.new) }
+    ensures unasked { IsUnasked course.old → OnOk result (IsUnasked course.new) }
+{
+    let shown = asked && terminal.is_terminal();
+    let mut progress = show_progress(*rt, rt.alloc(), terminal, shown);
+    let ran = run(rt, bytes, way, files, &mut progress, tells, course, output);
+    // The inputs may have been refused before the run.
+    progress.ends();
+    ran
+}
+
 /// Runs in some way what these bytes are, as it is asked for with these files, and writes its report.
 fn run<'b, G: AllocGlobal + Clock + Threads + Wait + Sync, P: Progress, W: Sink>(
     rt: &G,
@@ -265,7 +297,7 @@ fn run<'b, G: AllocGlobal + Clock + Threads + Wait + Sync, P: Progress, W: Sink>
     let scripts = lent(rt.alloc(), &bytes.scripts)?;
     let inputs = inputs_of(bytes, &scripts, files, shard);
     match way {
-        Way::Serial => { run_serial_shown(rt, rt.alloc(), inputs, progress, tells, course, output) }
+        Way::Serial => run_serial_shown(rt, rt.alloc(), inputs, progress, tells, course, output),
         Way::ByWorkers => run_workers_shown(
             rt,
             rt.alloc(),

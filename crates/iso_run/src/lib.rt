@@ -15,6 +15,7 @@ pub mod inputs;
 mod kept;
 mod lines;
 mod mending;
+mod observation;
 mod observed;
 mod parts;
 pub mod plan;

@@ -7,28 +7,15 @@ ghost use Rattle.iso_telling.specs.Telling.{IsTold};
 ghost use Rattle.iso_waits.specs.AllWaits.{all_waits};
 
 use crate::course::Course;
-use iso_lifecycle::results::Results;
-use iso_plan::plan::Plan;
+use crate::observation::Observed;
 use iso_stats::measures::figures;
 use iso_stats::text::write_stats;
 use iso_tap::memory::MemorySink;
-use iso_times::times::Times;
 use iso_trace::names::Names;
 use iso_trace::trace::{Run, write_trace};
 use iso_waits::all::all_waits;
 use iso_waits::wait::NodeWait;
 use std::alloc::{AllocError, Global};
-
-/// A run that was observed: its plan, its results, the times of its bodies, and how many workers were started of how many.
-#[derive(Clone, Copy)]
-pub(crate) struct Observed<'r, 'p> {
-    pub plan: &'r Plan,
-    pub results: &'r Results<'p>,
-    pub times: &'r Times,
-    pub started: u32,
-    pub of: u32,
-    ghost planned: { results.now.plan ≡ plan.now },
-}
 
 /// Tells what is asked for of the times of a run. What nodes waited for is worked out only where it is.
 pub(crate) fn observe(

@@ -1,30 +1,25 @@
 //! How far a run has come, shown on a terminal while it goes on.
 
 use crate::counts::{Counts, Line};
-use iso_plan::plan::Plan;
-use std::alloc::{AllocError, Global};
+use std::alloc::Global;
 use std::fmt;
-use std::fmt::{Formatter, Write};
 use std::io::Eprint;
 use std::rt::Clock;
 use std::sync::{Arc, Condvar, Mutex, Wait};
 use std::thread::{Builder, JoinHandle, Threads};
 use std::time::Duration;
 
-/// How many milliseconds a run goes on before anything is shown.
+/// How many milliseconds pass before anything is shown.
 const FIRST_PAUSE: u64 = 200;
 
 /// For how many milliseconds at least what is shown stands.
 const PAUSE: u64 = 100;
 
 /// The stack of the thread that shows, in bytes.
-const STACK: usize = 2 << 20;
+const STACK: usize = 1 << 18;
 
 /// Where a run shows how far it has come, or doesn't.
 pub(crate) trait Progress {
-    /// A run of a plan begins.
-    fn begins(&mut self, alloc: Global, plan: &Plan);
-
     /// Where it is counted how far the run has come, if that is shown.
     fn counts(&self) -> Option<&Counts>;
 
@@ -37,8 +32,6 @@ pub(crate) trait Progress {
 pub(crate) struct Unshown;
 
 impl Progress for Unshown {
-    fn begins(&mut self, _alloc: Global, _plan: &Plan) {}
-
     fn counts(&self) -> Option<&Counts> {
         None
     }
@@ -46,50 +39,40 @@ impl Progress for Unshown {
     fn ends(&mut self) {}
 }
 
-/// A line of a terminal, if it is asked for, which a thread of its own writes over while a run goes on. Where there is no memory or no
+/// A line of a terminal, if it is asked for, which a thread of its own writes over until the run has ended. Where there is no memory or no
 /// thread for it nothing is shown, and the run goes on. So it does where the terminal fails.
 #[derive(Drop)]
-pub(crate) struct Shown<R, T> {
+pub(crate) struct Shown<R> {
     rt: R,
-    terminal: T,
-    asked: bool,
-    running: Option<Showing>,
+    showing: Option<Showing>,
 }
 
-impl<R: Copy, T: Copy> Shown<R, T> {
-    /// Of a run that hasn't begun.
-    pub fn new(rt: R, terminal: T, asked: bool) -> Shown<R, T> {
-        Shown {
-            rt,
-            terminal,
-            asked,
-            running: None,
-        }
-    }
-}
-
-impl<
-    R: Threads + Wait + Clock + Copy + Send + Drop + 'static,
-    T: Eprint + Copy + Send + Drop + 'static,
-> Progress for Shown<R, T> {
-    fn begins(&mut self, alloc: Global, plan: &Plan) {
-        if self.asked {
-            self.running = begin_showing(self.rt, self.terminal, alloc, plan);
-        }
-    }
-
+impl<R: Threads + Wait> Progress for Shown<R> {
     fn counts(&self) -> Option<&Counts> {
-        match &self.running {
+        match &self.showing {
             Some(showing) => Some(&showing.board.counts),
             None => None,
         }
     }
 
     fn ends(&mut self) {
-        if let Some(showing) = self.running.take() {
+        if let Some(showing) = self.showing.take() {
             showing.end(&self.rt);
         }
     }
+}
+
+/// A line of a terminal for a run that is to begin, if it is asked for.
+pub(crate) fn show<
+    R: Threads + Wait + Clock + Copy + Send + Drop + 'static,
+    T: Eprint + Copy + Send + Drop + 'static,
+>(rt: R, alloc: Global, terminal: T, asked: bool) -> Shown<R> {
+    let showing = if asked {
+        begin_showing(rt, alloc, terminal)
+    } else {
+        None
+    };
+    Shown { rt, showing }
 }
 
 /// What the thread that shows a run has in common with those that run it.
@@ -101,13 +84,13 @@ struct Board {
 }
 
 impl Board {
-    /// Of a run of a plan that hasn't begun.
-    fn new(alloc: Global, plan: &Plan) -> Result<Board, AllocError> {
-        Ok(Board {
-            counts: Counts::new(alloc, plan)?,
+    /// Of a run that hasn't begun.
+    fn new() -> Board {
+        Board {
+            counts: Counts::new(),
             ended: Mutex::new(false),
             changed: Condvar::new(),
-        })
+        }
     }
 }
 
@@ -128,22 +111,22 @@ impl Showing {
     }
 }
 
-/// Begins to show a run of a plan, if there are memory and a thread for it.
+/// Begins to show a run, if there are memory and a thread for it.
 fn begin_showing<
     R: Threads + Wait + Clock + Copy + Send + Drop + 'static,
     T: Eprint + Copy + Send + Drop + 'static,
->(rt: R, terminal: T, alloc: Global, plan: &Plan) -> Option<Showing> {
-    let board = Arc::new(alloc, Board::new(alloc, plan).ok()?).ok()?;
+>(rt: R, alloc: Global, terminal: T) -> Option<Showing> {
+    let board = Arc::new(alloc, Board::new()).ok()?;
     let seen = Arc::try_clone(&board).ok()?;
     let thread = Builder::new()
         .stack_size(STACK)
-        .spawn(&rt, move || show(&rt, &terminal, &*seen))
+        .spawn(&rt, move || write_over(&rt, &terminal, &*seen))
         .ok()?;
     Some(Showing { board, thread })
 }
 
-/// Shows how far a run has come until it has ended, and clears what was shown then.
-fn show<R: Wait + Clock, T: Eprint>(rt: &R, terminal: &T, board: &Board) {
+/// Writes how far a run has come until it has ended, each line over the last, and clears the last one then.
+fn write_over<R: Wait + Clock, T: Eprint>(rt: &R, terminal: &T, board: &Board) {
     let mut shown = false;
     let mut pause = FIRST_PAUSE;
     let mut ended = board.ended.lock(rt);
@@ -156,12 +139,20 @@ fn show<R: Wait + Clock, T: Eprint>(rt: &R, terminal: &T, board: &Board) {
             .wait_timeout(rt, ended, Duration::from_millis(pause));
         ended = guard;
         if waited.timed_out() && !*ended {
-            shown = terminal.eprint(Over(board.counts.line())).is_ok() || shown;
+            shown = write_line(terminal, board.counts.line()) || shown;
             pause = PAUSE;
         }
     }
     if shown {
         let _ = terminal.eprint(CLEARED);
+    }
+}
+
+/// Writes a line over what stands there, if there is one, and answers whether it did.
+fn write_line<T: Eprint>(terminal: &T, line: Option<Line>) -> bool {
+    match line {
+        Some(line) => terminal.eprint(Over(line)).is_ok(),
+        None => false,
     }
 }
 
@@ -173,7 +164,7 @@ const CLEARED: &str = "\r\x1b[K";
 struct Over(Line);
 
 impl fmt::Display for Over {
-    fn fmt<W: Write>(&self, f: &mut Formatter<W>) -> fmt::Result {
+    fn fmt<W: fmt::Write>(&self, f: &mut fmt::Formatter<W>) -> fmt::Result {
         write!(f, "\r{}\x1b[K", self.0)
     }
 }

@@ -9,7 +9,8 @@ use crate::counts::CountingGate;
 use crate::course::Course;
 use crate::fault::RunFault;
 use crate::inputs::{Inputs, Suite, read_inputs};
-use crate::observed::{Observed, observe};
+use crate::observation::Observed;
+use crate::observed::observe;
 use crate::progress::{Progress, Unshown};
 use crate::recorded::tell_alone;
 use crate::report::{Summary, write_results};
@@ -62,9 +63,9 @@ pub(crate) fn run_serial_shown<C: Clock, P: Progress, W: Sink>(
 {
     let suite = read_inputs(alloc, inputs, tells.wants_places())?;
     let timed = tells.wants_times();
-    progress.begins(alloc, &suite.plan);
-    let gate = CountingGate::new(&OpenGate, progress.counts());
+    let gate = CountingGate::new(alloc, &OpenGate, &suite.plan, progress.counts());
     let ran = run_timed(clock, alloc, &suite, &gate, timed, course);
+    drop(gate);
     progress.ends();
     match ran {
         Ok(ran) => {
@@ -87,7 +88,7 @@ fn run_timed<'s, C: Clock, G: Gate>(
     clock: &C,
     alloc: Global,
     suite: &'s Suite,
-    gate: &G,
+    counting: &G,
     timed: bool,
     course: &mut Course,
 ) -> Result<Ran<'s>, AllocError>
@@ -98,13 +99,13 @@ fn run_timed<'s, C: Clock, G: Gate>(
     ensures course { OnOk result (IsCourse (AreEvents Serial suite.now.plan suite.now.world suite.now.settings.worker_count)
         Serial suite.now.plan suite.now.world suite.now.settings.worker_count course.old course.new) }
 {
-    let times_gate = if timed || course.wants_times() {
-        TimesGate::new(alloc, clock, gate, suite.plan.len())?
+    let gate = if timed || course.wants_times() {
+        TimesGate::new(alloc, clock, counting, suite.plan.len())?
     } else {
-        TimesGate::untimed(alloc, clock, gate)
+        TimesGate::untimed(alloc, clock, counting)
     };
-    let results = run_at(alloc, &suite.plan, &suite.world, &times_gate)?;
-    let times = times_gate.into_times();
+    let results = run_at(alloc, &suite.plan, &suite.world, &gate)?;
+    let times = gate.into_times();
     let run = Observed {
         plan: &suite.plan,
         results: &results,

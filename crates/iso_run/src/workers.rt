@@ -13,7 +13,8 @@ use crate::counts::CountingGate;
 use crate::course::Course;
 use crate::fault::RunFault;
 use crate::inputs::{Inputs, Suite, read_inputs};
-use crate::observed::{Observed, observe};
+use crate::observation::Observed;
+use crate::observed::observe;
 use crate::progress::{Progress, Unshown};
 use crate::recorded::tell_book;
 use crate::report::{Summary, write_results};
@@ -86,11 +87,11 @@ pub(crate) fn run_workers_shown<
 {
     let suite = read_inputs(alloc, inputs, tells.wants_places())?;
     let timed = tells.wants_times();
-    progress.begins(alloc, &suite.plan);
-    let counting = CountingGate::new(gate, progress.counts());
+    let counting = CountingGate::new(alloc, gate, &suite.plan, progress.counts());
     let ran = run_timed::<Brand, R, CountingGate<'_, G>>(
         rt, alloc, &suite, &counting, timed, course,
     );
+    drop(counting);
     progress.ends();
     let RanBook { book, times } = ran?;
     write_results(

@@ -8,7 +8,7 @@ use Rattle.iso_run.proofs.Coursing.{course-told}
 use Rattle.iso_run.proofs.Reporting.{reported, told-timed}
 use Rattle.iso_run.proofs.Unread.{unread-unwritten}
 use Rattle.iso_run.proofs.Working.{unworked}
-use Rattle.iso_run.proofs.workers.run_workers.Goals as goal
+use Rattle.iso_run.proofs.workers.run_workers_shown.Goals as goal
 
 pub returns-in_err-suite-clause-report : goal.returns-in_err-suite-clause-report
 returns-in_err-suite-clause-report g c =
@@ -44,4 +44,4 @@ returns-clause-told g c =
 
 pub returns-clause-course : goal.returns-clause-course
 returns-clause-course g c =
-    course-told c.args.inputs _ c.in_ok-suite.suite c.in_ok-suite.ensures ByWorkers c.args.course.now c.run_timed-book.new.course c.write_results.result c.in_ok-book.ensures.course
+    course-told c.args.inputs _ c.in_ok-suite.suite c.in_ok-suite.ensures ByWorkers c.args.course.now c.run_timed-ran.new.course c.write_results.result c.in_ok-book.ensures.course

@@ -7,7 +7,7 @@ use Rattle.iso_run.specs.declared.way.Way.TheVariants.{Serial}
 use Rattle.iso_run.proofs.Coursing.{course-told}
 use Rattle.iso_run.proofs.Reporting.{reported, told-timed}
 use Rattle.iso_run.proofs.Unread.{unread-unwritten}
-use Rattle.iso_run.proofs.run.run_serial.Goals as goal
+use Rattle.iso_run.proofs.run.run_serial_shown.Goals as goal
 
 pub returns-in_err-suite-clause-report : goal.returns-in_err-suite-clause-report
 returns-in_err-suite-clause-report g c =
@@ -29,4 +29,4 @@ returns-in-Ok-clause-told g c =
 
 pub returns-in-Ok-clause-course : goal.returns-in-Ok-clause-course
 returns-in-Ok-clause-course g c =
-    course-told c.args.inputs _ c.in_ok-suite.suite c.in_ok-suite.ensures Serial c.args.course.now c.run_timed.new.course c.write_results.result c.in-Ok.ensures.course
+    course-told c.args.inputs _ c.in_ok-suite.suite c.in_ok-suite.ensures Serial c.args.course.now c.run_timed-ran.new.course c.write_results.result c.in-Ok.ensures.course
