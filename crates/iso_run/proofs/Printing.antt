@@ -30,21 +30,24 @@ are-places true inputs suite sites is found none = (
 are-places false inputs suite sites is found none = none refl
 
 module _ (printed : Printed) (names : List (List ℕ)) (sites : List Site) where
-  -- of tests and places, where reasons aren't asked for
-  unreasoned : (places tests : Bool) → Suite → Product
+  -- what is printed where reasons aren't asked for
+  abbrev unreasoned : (places tests : Bool) → Suite → Product
   unreasoned places tests = cond places (suite_places printed.tests names sites) (cond tests suite_tests suite_plan)
 
+  abbrev reasoned : (why : Bool) → Suite → Product
+  reasoned why = cond why (suite_why printed.tests names sites) (unreasoned printed.places printed.tests)
+
   without-why : false ≡ printed.why → unreasoned printed.places printed.tests ≡ plan_of printed names sites
-  without-why no = ap (λ (w : Bool). cond w (suite_why printed.tests names sites) (unreasoned printed.places printed.tests)) no
+  without-why unasked = ap reasoned unasked
 
   pub prints-why : true ≡ printed.why → suite_why printed.tests names sites ≡ plan_of printed names sites
-  prints-why is = ap (λ (w : Bool). cond w (suite_why printed.tests names sites) (unreasoned printed.places printed.tests)) is
+  prints-why asked = ap reasoned asked
 
   pub prints-places : false ≡ printed.why → true ≡ printed.places → suite_places printed.tests names sites ≡ plan_of printed names sites
-  prints-places no is = ap (λ (p : Bool). unreasoned p printed.tests) is ∙ without-why no
+  prints-places unasked is = ap (λ (p : Bool). unreasoned p printed.tests) is ∙ without-why unasked
 
   pub prints-tests : false ≡ printed.why → false ≡ printed.places → true ≡ printed.tests → suite_tests ≡ plan_of printed names sites
-  prints-tests no none is = ap₂ unreasoned none is ∙ without-why no
+  prints-tests unasked unplaced is = ap₂ unreasoned unplaced is ∙ without-why unasked
 
   pub prints-all : false ≡ printed.why → false ≡ printed.places → false ≡ printed.tests → suite_plan ≡ plan_of printed names sites
-  prints-all no none isnt = ap₂ unreasoned none isnt ∙ without-why no
+  prints-all unasked unplaced whole = ap₂ unreasoned unplaced whole ∙ without-why unasked
