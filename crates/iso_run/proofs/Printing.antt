@@ -18,15 +18,15 @@ pub are-places : (places : Bool) (inputs : Inputs) (suite : ReadSuite) (sites : 
     → (places ≡ true → AreSites (tree (map script_of suite.scripts.items)) (all_sites (places_in suite.places.items)) (tree_of suite.plan) sites)
     → (places ≡ false → sites ≡ []) → ArePlaces places inputs sites
 are-places true inputs suite sites is found none = (
-      suite_of inputs suite,
-      is.is_suite,
-      record {
-        scripts = map script_of suite.scripts.items;
-        places = places_in suite.places.items;
-        placed = is.placed refl;
-        are = rw is.planned_as at (found refl);
-      },
-    )
+  suite_of inputs suite,
+  is.is_suite,
+  record {
+    scripts = map script_of suite.scripts.items;
+    places = places_in suite.places.items;
+    placed = is.placed refl;
+    are = rw is.planned_as at (found refl);
+  },
+)
 are-places false inputs suite sites is found none = none refl
 
 module _ (printed : Printed) (names : List (List ℕ)) (sites : List Site) where

@@ -24,14 +24,15 @@ use crate::lines::say;
 use crate::mending::after_fault;
 use crate::parts::say_parts;
 use crate::plan::{show_conflicts, show_places, show_plan, show_tests, show_why};
+use crate::progress::{Progress, Unshown, show as show_progress};
 use crate::replay::run_schedule;
 use crate::report::Summary;
-use crate::run::run_serial;
+use crate::run::run_serial_shown;
 use crate::script_mending::ScriptMending;
 use crate::settings::show_settings;
 use crate::warning::looked_over;
 use crate::way::Way;
-use crate::workers::run_workers;
+use crate::workers::run_workers_shown;
 use iso_arguments::request::{InputFiles, Request, WordsFault, read_words};
 use iso_arguments::shard::Shard as AskedShard;
 use iso_lifecycle::gate::OpenGate;
@@ -43,7 +44,7 @@ use iso_tap::text::write_text;
 use iso_telling::tells::Tells;
 use std::alloc::{AllocGlobal, Global};
 use std::fs::Files;
-use std::io::Read;
+use std::io::{Eprint, IsTerminal, Read};
 use std::rt::Clock;
 use std::sync::Wait;
 use std::thread::Threads;
@@ -53,13 +54,14 @@ use std::thread::Threads;
 /// from `input`. Answers the exit status: 0 where every top-level point is ok, or a plan or help was printed, 1 where
 /// some top-level point is not ok, 2 for refused input, 3 for want of memory, failed reads and writes, and workers that couldn't be
 /// started or lost a receipt. A failed write to `errors` changes nothing. It may wait for the workers of a run.
-pub fn command<G: AllocGlobal + Clock + Files + Threads + Wait + Sync, R: Read, W: Sink, E: Sink>(
-    rt: &G,
-    words: &[String],
-    input: &mut R,
-    output: &mut W,
-    errors: &mut E,
-) -> u8
+/// How far a run has come, where that is asked for, is shown on the terminal that standard error is, if it is one.
+pub fn command<
+    G: AllocGlobal + Clock + Files + Threads + Wait + Copy + Send + Sync + Drop + 'static,
+    R: Read,
+    W: Sink,
+    E: Sink,
+    T: Eprint + IsTerminal + Copy + Send + Drop + 'static,
+>(rt: &G, words: &[String], input: &mut R, output: &mut W, errors: &mut E, terminal: T) -> u8
     ensures ended { Ended words.now (R.remaining input.old) (W.account output.old) (W.account output.new) result }
     // Without words, what was run is the script on the input.
     ensures no_word { words.now ≡ [] → IfSome (R.remaining input.old) (λ script. result ≤ 1
@@ -69,7 +71,7 @@ pub fn command<G: AllocGlobal + Clock + Files + Threads + Wait + Sync, R: Read, 
     // and standard error is asked nothing where it was run.
     ensures quiet { words.now ≡ [] → result ≤ 1 → errors.new ≡ errors.old }
 {
-    match answer(rt, words, input, output, errors) {
+    match answer(rt, words, input, output, errors, terminal) {
         Ok(true) => ALL_OK,
         Ok(false) => NOT_ALL_OK,
         Err(fault) => {
@@ -89,12 +91,20 @@ pub fn refuse_words<E: Sink>(fault: WordsFault, errors: &mut E) -> u8
 }
 
 /// Does what the words ask for, and answers whether all is ok.
-fn answer<'a, G: AllocGlobal + Clock + Files + Threads + Wait + Sync, R: Read, W: Sink, E: Sink>(
+fn answer<
+    'a,
+    G: AllocGlobal + Clock + Files + Threads + Wait + Copy + Send + Sync + Drop + 'static,
+    R: Read,
+    W: Sink,
+    E: Sink,
+    T: Eprint + IsTerminal + Copy + Send + Drop + 'static,
+>(
     rt: &G,
     words: &'a [String],
     input: &mut R,
     output: &mut W,
     errors: &mut E,
+    terminal: T,
 ) -> Result<bool, CommandFault<'a>>
     ensures answers { Answers (Answered words.now (R.remaining input.old) (W.account output.old) (W.account output.new))
         (AnsweredBesides words.now (R.remaining input.old) (W.account output.old) (W.account output.new))
@@ -103,22 +113,24 @@ fn answer<'a, G: AllocGlobal + Clock + Files + Threads + Wait + Sync, R: Read, W
     ensures quiet { words.now ≡ [] → errors.new ≡ errors.old }
 {
     let request = read_words(rt.alloc(), words)?;
-    answer_request(rt, &request, input, output, errors)
+    answer_request(rt, &request, input, output, errors, terminal)
 }
 
 /// Does what is asked for, and answers whether all is ok.
 fn answer_request<
     'a,
-    G: AllocGlobal + Clock + Files + Threads + Wait + Sync,
+    G: AllocGlobal + Clock + Files + Threads + Wait + Copy + Send + Sync + Drop + 'static,
     R: Read,
     W: Sink,
     E: Sink,
+    T: Eprint + IsTerminal + Copy + Send + Drop + 'static,
 >(
     rt: &G,
     request: &Request<'a>,
     input: &mut R,
     output: &mut W,
     errors: &mut E,
+    terminal: T,
 ) -> Result<bool, CommandFault<'a>>
     requires { AsksInBounds request.now }
     ensures answers { Answers (Did request.now (R.remaining input.old) (W.account output.old) (W.account output.new))
@@ -174,11 +186,13 @@ fn answer_request<
             let read = read_files(rt, files, None, input)?;
             let bytes = looked_over(rt.alloc(), read, files, extras.github, errors)?;
             let mut besides = Besides::new(rt.alloc(), *extras, &*files, bytes.processors);
-            let ran = run(
+            let ran = run_shown(
                 rt,
                 &bytes,
                 asked_way(*serial),
                 &*files,
+                extras.progress,
+                terminal,
                 &mut besides.tells,
                 output,
             );
@@ -193,7 +207,15 @@ fn answer_request<
             let bytes = looked_over(rt.alloc(), read, files, extras.github, errors)?;
             let mut besides = Besides::new(rt.alloc(), *extras, &*files, bytes.processors);
             let way = Way::BySchedule(&bytes.schedule);
-            let ran = run(rt, &bytes, way, &*files, &mut besides.tells, output);
+            let ran = run(
+                rt,
+                &bytes,
+                way,
+                &*files,
+                &mut Unshown,
+                &mut besides.tells,
+                output,
+            );
             told(rt, ran, bytes, files, &besides, output, errors)
         }
     }
@@ -217,12 +239,43 @@ fn asked_way(serial: bool) -> Way<'static>
     if serial { Way::Serial } else { Way::ByWorkers }
 }
 
-/// Runs in some way what these bytes are, as it is asked for with these files, and writes its report.
-fn run<'b, G: AllocGlobal + Clock + Threads + Wait + Sync, W: Sink>(
+/// Runs what these bytes are as `run` does, and shows on the terminal how far the run has come, if that is asked for and it is one.
+fn run_shown<
+    'b,
+    G: AllocGlobal + Clock + Threads + Wait + Copy + Send + Sync + Drop + 'static,
+    T: Eprint + IsTerminal + Copy + Send + Drop + 'static,
+    W: Sink,
+>(
     rt: &G,
     bytes: &'b InputBytes,
     way: Way<'_>,
     files: &'b InputFiles<'b>,
+    asked: bool,
+    terminal: T,
+    tells: &mut Tells<'_>,
+    output: &mut W,
+) -> Result<Summary, RunFault>
+    requires bounds { AreInBounds files.now }
+    requires counted { 1 ≤ bytes.now.processors }
+    ensures report { (input : Option (List ℕ)) → WereRead files.now input bytes.now → (inputs : Inputs) × AreFor files.now input inputs
+        × Writes (λ s. s.all_ok) suite_report inputs way.entry (W.account output.old) (W.account output.new) result }
+    ensures quiet { IsQuiet tells.old → OnOk result (IsQuiet tells.new) }
+{
+    let shown = asked && terminal.is_terminal();
+    let mut progress = show_progress(*rt, rt.alloc(), terminal, shown);
+    let ran = run(rt, bytes, way, files, &mut progress, tells, output);
+    // The inputs may have been refused before the run.
+    progress.ends();
+    ran
+}
+
+/// Runs in some way what these bytes are, as it is asked for with these files, and writes its report.
+fn run<'b, G: AllocGlobal + Clock + Threads + Wait + Sync, P: Progress, W: Sink>(
+    rt: &G,
+    bytes: &'b InputBytes,
+    way: Way<'_>,
+    files: &'b InputFiles<'b>,
+    progress: &mut P,
     tells: &mut Tells<'_>,
     output: &mut W,
 ) -> Result<Summary, RunFault>
@@ -236,8 +289,16 @@ fn run<'b, G: AllocGlobal + Clock + Threads + Wait + Sync, W: Sink>(
     let scripts = lent(rt.alloc(), &bytes.scripts)?;
     let inputs = inputs_of(bytes, &scripts, files, shard);
     match way {
-        Way::Serial => run_serial(rt, rt.alloc(), inputs, tells, output),
-        Way::ByWorkers => run_workers(rt, rt.alloc(), inputs, &OpenGate, tells, output),
+        Way::Serial => run_serial_shown(rt, rt.alloc(), inputs, progress, tells, output),
+        Way::ByWorkers => run_workers_shown(
+            rt,
+            rt.alloc(),
+            inputs,
+            &OpenGate,
+            progress,
+            tells,
+            output,
+        ),
         Way::BySchedule(schedule) => run_schedule(rt.alloc(), inputs, schedule, tells, output),
     }
 }

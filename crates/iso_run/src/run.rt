@@ -4,11 +4,13 @@ ghost use Rattle.iso_lifecycle.specs.ResultViews.{AreComplete};
 ghost use Rattle.iso_run.specs.Runs.{TellsOf, Writes, suite_report};
 ghost use Rattle.iso_run.specs.declared.way.Way.TheVariants.{Serial};
 
+use crate::counts::CountingGate;
 use crate::fault::RunFault;
 use crate::inputs::{Inputs, Suite, read_inputs};
+use crate::progress::{Progress, Unshown};
 use crate::report::{Summary, write_results};
 use crate::times::node_times;
-use iso_lifecycle::gate::OpenGate;
+use iso_lifecycle::gate::{Gate, OpenGate};
 use iso_lifecycle::results::Results;
 use iso_serial::run::run_at;
 use iso_tap::sink::Sink;
@@ -34,9 +36,29 @@ pub fn run_serial<C: Clock, W: Sink>(
     ensures report { Writes (λ s. s.all_ok) suite_report inputs.entry Serial (W.account sink.old) (W.account sink.new) result }
     ensures told { OnOk result ((times : List (Option ℕ)) × TellsOf inputs.entry times tells.old tells.new) }
 {
+    run_serial_shown(clock, alloc, inputs, &mut Unshown, tells, sink)
+}
+
+/// Runs a suite as `run_serial` does, and shows how far it has come.
+pub(crate) fn run_serial_shown<C: Clock, P: Progress, W: Sink>(
+    clock: &C,
+    alloc: Global,
+    inputs: Inputs<'_>,
+    progress: &mut P,
+    tells: &mut Tells<'_>,
+    sink: &mut W,
+) -> Result<Summary, RunFault>
+    requires { 1 ≤ inputs.processors }
+    ensures report { Writes (λ s. s.all_ok) suite_report inputs.entry Serial (W.account sink.old) (W.account sink.new) result }
+    ensures told { OnOk result ((times : List (Option ℕ)) × TellsOf inputs.entry times tells.old tells.new) }
+{
     let suite = read_inputs(alloc, inputs, tells.wants_places())?;
     let timed = tells.wants_times();
-    match run_timed(clock, alloc, &suite, timed) {
+    let gate = CountingGate::new(alloc, &OpenGate, &suite.plan, progress.counts());
+    let ran = run_timed(clock, alloc, &suite, &gate, timed);
+    drop(gate);
+    progress.ends();
+    match ran {
         Ok(ran) => {
             let Ran { results, times } = &ran;
             write_results(alloc, &suite, inputs.scripts, results, times, tells, sink)
@@ -52,11 +74,12 @@ struct Ran<'s> {
     times: Vec<Option<u64>>,
 }
 
-/// Runs a suite, and measures how long its bodies take, if it is to.
-fn run_timed<'s, C: Clock>(
+/// Runs a suite at a gate, and measures how long its bodies take, if it is to.
+fn run_timed<'s, C: Clock, G: Gate>(
     clock: &C,
     alloc: Global,
     suite: &'s Suite,
+    counting: &G,
     timed: bool,
 ) -> Result<Ran<'s>, AllocError>
     ensures plan { IfOk result (λ r. r.results.plan ≡ suite.now.plan) }
@@ -64,9 +87,9 @@ fn run_timed<'s, C: Clock>(
     ensures complete { IfOk result (λ r. AreComplete r.results) }
 {
     let gate = if timed {
-        TimesGate::new(alloc, clock, &OpenGate, suite.plan.len())?
+        TimesGate::new(alloc, clock, counting, suite.plan.len())?
     } else {
-        TimesGate::untimed(alloc, clock, &OpenGate)
+        TimesGate::untimed(alloc, clock, counting)
     };
     let results = run_at(alloc, &suite.plan, &suite.world, &gate)?;
     let times = node_times(alloc, timed, gate.into_times(), &suite.plan)?;

@@ -8,8 +8,10 @@ ghost use Rattle.iso_run.specs.declared.way.Way.TheVariants.{ByWorkers};
 ghost use Rattle.iso_run.specs.Replays.{IsOfWorkers};
 ghost use Rattle.iso_run.specs.Runs.{TellsOf, Writes, suite_report};
 
+use crate::counts::CountingGate;
 use crate::fault::RunFault;
 use crate::inputs::{Inputs, Suite, read_inputs};
+use crate::progress::{Progress, Unshown};
 use crate::report::{Summary, write_results};
 use crate::times::node_times;
 use iso_book::book::Book;
@@ -52,9 +54,35 @@ pub fn run_workers<R: Threads + Wait + Clock + Sync, G: Gate + Sync, W: Sink>(
     ensures report { Writes (λ s. s.all_ok) suite_report inputs.entry ByWorkers (W.account sink.old) (W.account sink.new) result }
     ensures told { OnOk result ((times : List (Option ℕ)) × TellsOf inputs.entry times tells.old tells.new) }
 {
+    run_workers_shown(rt, alloc, inputs, gate, &mut Unshown, tells, sink)
+}
+
+/// Runs a suite as `run_workers` does, and shows how far it has come.
+pub(crate) fn run_workers_shown<
+    R: Threads + Wait + Clock + Sync,
+    G: Gate + Sync,
+    P: Progress,
+    W: Sink,
+>(
+    rt: &R,
+    alloc: Global,
+    inputs: Inputs<'_>,
+    gate: &G,
+    progress: &mut P,
+    tells: &mut Tells<'_>,
+    sink: &mut W,
+) -> Result<Summary, RunFault>
+    requires { 1 ≤ inputs.processors }
+    ensures report { Writes (λ s. s.all_ok) suite_report inputs.entry ByWorkers (W.account sink.old) (W.account sink.new) result }
+    ensures told { OnOk result ((times : List (Option ℕ)) × TellsOf inputs.entry times tells.old tells.new) }
+{
     let suite = read_inputs(alloc, inputs, tells.wants_places())?;
     let timed = tells.wants_times();
-    let RanBook { book, times } = run_timed::<Brand, R, G>(rt, alloc, &suite, gate, timed)?;
+    let counting = CountingGate::new(alloc, gate, &suite.plan, progress.counts());
+    let ran = run_timed::<Brand, R, CountingGate<'_, G>>(rt, alloc, &suite, &counting, timed);
+    drop(counting);
+    progress.ends();
+    let RanBook { book, times } = ran?;
     write_results(
         alloc,
         &suite,

@@ -7,7 +7,7 @@ use Rattle.iso_run.specs.declared.way.Way.TheVariants.{ByWorkers}
 use Rattle.iso_run.proofs.Reporting.{reported, told-timed}
 use Rattle.iso_run.proofs.Unread.{unread-unwritten}
 use Rattle.iso_run.proofs.Working.{unworked}
-use Rattle.iso_run.proofs.workers.run_workers.Goals as goal
+use Rattle.iso_run.proofs.workers.run_workers_shown.Goals as goal
 
 pub returns-in_err-suite-clause-report : goal.returns-in_err-suite-clause-report
 returns-in_err-suite-clause-report g c =

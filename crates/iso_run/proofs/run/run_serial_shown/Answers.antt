@@ -6,7 +6,7 @@ use Rattle.iso_run.specs.declared.report.Summary.{Summary}
 use Rattle.iso_run.specs.declared.way.Way.TheVariants.{Serial}
 use Rattle.iso_run.proofs.Reporting.{reported, told-timed}
 use Rattle.iso_run.proofs.Unread.{unread-unwritten}
-use Rattle.iso_run.proofs.run.run_serial.Goals as goal
+use Rattle.iso_run.proofs.run.run_serial_shown.Goals as goal
 
 pub returns-in_err-suite-clause-report : goal.returns-in_err-suite-clause-report
 returns-in_err-suite-clause-report g c =
