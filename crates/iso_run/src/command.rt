@@ -176,15 +176,17 @@ fn answer_request<
             let read = read_files(rt, files, None, input)?;
             let bytes = looked_over(rt.alloc(), read, files, extras.github, errors)?;
             let mut besides = Besides::new(rt.alloc(), *extras, &*files, bytes.processors);
+            let mut course = Course::asked(rt.alloc(), *extras);
             let ran = run(
                 rt,
                 &bytes,
                 asked_way(*serial),
                 &*files,
                 &mut besides.tells,
-                &mut besides.course,
+                &mut course,
                 output,
             );
+            besides.course = course;
             told(rt, ran, bytes, files, &besides, output, errors)
         }
         Request::Replay {
@@ -202,7 +204,7 @@ fn answer_request<
                 way,
                 &*files,
                 &mut besides.tells,
-                &mut besides.course,
+                &mut Course::nothing(),
                 output,
             );
             told(rt, ran, bytes, files, &besides, output, errors)
