@@ -82,11 +82,11 @@ trace_of run = trace_text (tree_of run.plan) run.times run.results run.started (
 
 -- its figures, as far as it is said what they are
 pub record AreFigures (run : ObservedView) (figures : Figures) : Type 0 where
-  pub tests : figures.tests ≡ test_count (tree_of run.plan)
-  pub workers : figures.workers ≡ run.started
-  pub of : figures.of ≡ run.of
-  pub span : figures.span ≡ span (tree_of run.plan) run.times
-  pub busy : figures.busy ≡ percent (work (tree_of run.plan) run.times) run.started (span (tree_of run.plan) run.times)
+  pub tests_are : figures.tests ≡ test_count (tree_of run.plan)
+  pub workers_are : figures.workers ≡ run.started
+  pub of_is : figures.of ≡ run.of
+  pub span_is : figures.span ≡ span (tree_of run.plan) run.times
+  pub busy_is : figures.busy ≡ percent (work (tree_of run.plan) run.times) run.started (span (tree_of run.plan) run.times)
 
 -- its figures were told where they are asked for, and nothing where they aren't
 abbrev pub IsCounted : ObservedView → (old new : Option Account) → Type 0

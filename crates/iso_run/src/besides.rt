@@ -20,6 +20,7 @@ pub(crate) struct Besides<'b, 'a> {
     pub failed: Option<&'a str>,
     /// The file into which the results are written as JUnit's XML.
     pub junit: Option<&'a str>,
+    /// What is told of the course of the run.
     pub course: Course,
     /// The file into which the events of the run are written.
     pub schedule: Option<&'a str>,
@@ -42,7 +43,7 @@ impl<'b, 'a> Besides<'b, 'a> {
         }
     }
 
-    /// What is asked for with these files, where so many processors are counted with.
+    /// What is asked for with these files, where so many processors are counted with, and nothing of the course of a run.
     pub fn new(
         alloc: Global,
         extras: Extras<'a>,
@@ -57,9 +58,6 @@ impl<'b, 'a> Besides<'b, 'a> {
         ensures failed { result.tells.failed ≡ told_nothing (is_some extras.entry.failed) }
         ensures junit { result.tells.junit ≡ told_nothing (is_some extras.entry.junit) }
         ensures github { result.tells.github ≡ told_nothing extras.entry.github }
-        ensures schedule { result.course.schedule ≡ told_nothing (is_some extras.entry.«record») }
-        ensures trace { result.course.trace ≡ told_nothing (is_some extras.entry.trace) }
-        ensures stats { result.course.stats ≡ told_nothing extras.entry.stats }
         ensures untimed { extras.entry.durations ≡ None → result.tells.durations ≡ None }
         ensures durations { IfSome extras.entry.durations (λ most. IsSomeAnd result.tells.durations (λ d. (d.most ≡ most) × (d.text ≡ nothing_yet))) }
         ensures unasked { extras.entry.summary ≡ None → result.tells.summary ≡ None }
@@ -91,11 +89,7 @@ impl<'b, 'a> Besides<'b, 'a> {
             },
             failed: extras.failed,
             junit: extras.junit,
-            course: Course {
-                schedule: asked_text(alloc, extras.record.is_some()),
-                trace: asked_text(alloc, extras.trace.is_some()),
-                stats: asked_text(alloc, extras.stats),
-            },
+            course: Course::nothing(),
             schedule: extras.record,
             trace: extras.trace,
         }
@@ -103,7 +97,7 @@ impl<'b, 'a> Besides<'b, 'a> {
 }
 
 /// A text of which nothing was told, where one is asked for.
-fn asked_text(alloc: Global, asked: bool) -> Option<MemorySink>
+pub(crate) fn asked_text(alloc: Global, asked: bool) -> Option<MemorySink>
     ensures { result ≡ told_nothing asked }
 {
     if asked {

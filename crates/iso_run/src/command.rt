@@ -188,6 +188,7 @@ fn answer_request<
             let read = read_files(rt, files, None, input)?;
             let bytes = looked_over(rt.alloc(), read, files, extras.github, errors)?;
             let mut besides = Besides::new(rt.alloc(), *extras, &*files, bytes.processors);
+            let mut course = Course::asked(rt.alloc(), *extras);
             let ran = run_shown(
                 rt,
                 &bytes,
@@ -196,9 +197,10 @@ fn answer_request<
                 extras.progress,
                 terminal,
                 &mut besides.tells,
-                &mut besides.course,
+                &mut course,
                 output,
             );
+            besides.course = course;
             told(rt, ran, bytes, files, &besides, output, errors)
         }
         Request::Replay {
@@ -217,7 +219,7 @@ fn answer_request<
                 &*files,
                 &mut Unshown,
                 &mut besides.tells,
-                &mut besides.course,
+                &mut Course::nothing(),
                 output,
             );
             told(rt, ran, bytes, files, &besides, output, errors)

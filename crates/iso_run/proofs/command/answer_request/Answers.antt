@@ -86,4 +86,4 @@ pub returns-in_ok-bytes-in-Run-clause-quiet : goal.returns-in_ok-bytes-in-Run-cl
 returns-in_ok-bytes-in-Run-clause-quiet g c = λ plain.
     let asks = subst IsPlainRun c.in-Run.is plain in
     let plain = c.new-besides.ensures.plain asks.1 in
-    c.told-in-Run.ensures.quiet (c.run_shown-ran.ensures.quiet plain.0) (c.run_shown-ran.ensures.unasked plain.1) plain.2 ∙ c.looked_over-in-Run.ensures.quiet asks.0.explain
+    c.told-in-Run.ensures.quiet (c.run_shown-ran.ensures.quiet plain.0) (c.run_shown-ran.ensures.unasked (c.asked-course.ensures.plain asks.1)) plain.2 ∙ c.looked_over-in-Run.ensures.quiet asks.0.explain
