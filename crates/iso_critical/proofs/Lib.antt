@@ -1,0 +1,4 @@
+pub mod HolderLemmas
+pub mod MarkLemmas
+pub mod OrderLemmas
+pub mod WalkLemmas

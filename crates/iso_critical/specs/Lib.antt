@@ -1,0 +1,5 @@
+pub mod Bodies
+pub mod Critical
+pub mod Needs
+pub mod Orders
+pub mod Paths
