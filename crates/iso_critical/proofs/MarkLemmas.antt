@@ -1,5 +1,5 @@
 -- Marks, place by place.
-use Rattle.std.proofs.Common.{◌≡◌, ◌<◌, ℕ, List, ◌+◌, Bool, true, false, ◌==◌, ◌||◌, cond, get_or, set, take, length, refl, ap, ap₂, sym, ◌∙◌, get_or-set_same, get_or-set_other, arith}
+use Rattle.std.proofs.Common.{◌≡◌, ◌<◌, ℕ, List, ◌+◌, Bool, true, false, ◌==◌, ◌||◌, get_or, set, take, length, refl, ap, ap₂, sym, ◌∙◌, get_or-set_same, get_or-set_other, arith}
 use Rattle.std.proofs.lemmas.Bool.Decides.{nat_tests}
 use Rattle.std.proofs.lemmas.List.Folds.{list_any_more}
 use Rattle.std.specs.List.{list_any}

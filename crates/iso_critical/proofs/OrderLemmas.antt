@@ -1,13 +1,13 @@
 -- The bodies of a run, in the order in which they ended.
-use Rattle.std.proofs.Common.{◌≡◌, ◌<◌, ◌≤◌, ℕ, zero, suc, ◌+◌, ◌*◌, ◌/◌, List, [], ◌∷◌, ◌++◌, Option, Bool, true, false, true≢false, ◌==◌, ◌&&◌, ◌||◌, not, cond, nat_lt, length, map, is_some, All, get_or, is_lt, nat_cmp, refl, ap, ap₂, sym, subst, ◌∙◌, append-nil, arith}
+use Rattle.std.proofs.Common.{◌≡◌, ◌<◌, ◌≤◌, ℕ, zero, suc, ◌+◌, ◌*◌, ◌/◌, List, [], ◌∷◌, ◌++◌, Option, Bool, true, false, true≢false, ◌==◌, ◌&&◌, ◌||◌, not, cond, nat_lt, length, map, All, get_or, is_lt, nat_cmp, refl, ap, ap₂, sym, subst, ◌∙◌, append-nil, arith}
 use Rattle.std.proofs.lemmas.Bool.Decides.{nat_tests}
 use Rattle.std.proofs.lemmas.List.{get_or-map, map-append, length-map}
 use Rattle.std.proofs.lemmas.List.Elements.{All-cons, All-head, All-map, All-nil, All-tail}
 use Rattle.std.proofs.lemmas.List.Sorted.{All-permutation, IsPermutation-map}
-use Rattle.std.specs.List.{AllByRecursion, list_all}
+use Rattle.std.specs.List.{list_all}
 use Rattle.std.specs.List.Sorted.{IsPermutation}
 use Rattle.std.specs.Ordering.{ordering_then}
-use Rattle.iso_critical.specs.Bodies.{IsWithin, body_at, end_at, has_run, latest_first, ran, time_at}
+use Rattle.iso_critical.specs.Bodies.{IsWithin, body_at, end_at, has_run, latest_first, ran}
 use Rattle.iso_critical.specs.Orders.{placed}
 use Rattle.iso_critical.specs.declared.body.Body.{Body}
 use Rattle.iso_critical.proofs.WalkLemmas.{AreNoLater, Falls}
@@ -20,7 +20,6 @@ use Rattle.iso_durations.specs.Orders.{is_before, slowest_first}
 use Rattle.iso_durations.specs.declared.timed.Timed.{Timed}
 use Rattle.iso_plan.specs.Paths.{is_root}
 use Rattle.iso_plan.specs.Selections.{those_below}
-use Rattle.iso_times.specs.Tables.{slot_of}
 use Rattle.iso_times.specs.declared.times.BodyTime.{BodyTime}
 
 module _ (bodies : List (Option BodyTime)) where

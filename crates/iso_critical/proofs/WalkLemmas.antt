@@ -1,12 +1,12 @@
 -- One way through the bodies, from the one that ended last on, finds the critical ones.
-use Rattle.std.proofs.Common.{◌≡◌, ◌<◌, ◌≤◌, ℕ, zero, suc, ◌+◌, List, [], ◌∷◌, ◌++◌, Option, Some, None, Bool, true, false, ◌&&◌, cond, nat_le, nat_lt, length, find, IfSome, All, refl, ap, sym, ◌∙◌, append_assoc, append-nil, arith}
+use Rattle.std.proofs.Common.{◌≡◌, ◌≤◌, ℕ, zero, suc, List, [], ◌∷◌, ◌++◌, Option, Some, None, Bool, true, false, cond, length, find, IfSome, All, refl, ap, sym, ◌∙◌, append_assoc, arith}
 use Rattle.std.proofs.lemmas.Bool.Decides.{nat_tests}
 use Rattle.std.proofs.lemmas.List.Elements.{All-cons, All-head, All-nil, All-tail}
 use Rattle.std.specs.List.{AllByRecursion}
 use Rattle.std.specs.Option.{option_map}
 use Rattle.iso_critical.specs.Bodies.{Run, latest_first}
 use Rattle.iso_critical.specs.Critical.{back_from, previous}
-use Rattle.iso_critical.specs.Needs.{comes_before, ended_by, had_to_end, is_needed, needs}
+use Rattle.iso_critical.specs.Needs.{comes_before, ended_by, had_to_end, needs}
 use Rattle.iso_critical.specs.declared.body.Body.{Body}
 use Rattle.iso_critical.specs.declared.needs.Needs.{Needs}
 use Rattle.iso_plan.specs.Tree.{Row}

@@ -4,7 +4,7 @@ use Rattle.std.specs.Option.{option_or}
 use Rattle.iso_critical.specs.Bodies.{Run}
 use Rattle.iso_critical.specs.declared.body.Body.{Body}
 use Rattle.iso_critical.specs.declared.needs.Needs.{Needs}
-use Rattle.iso_plan.specs.Paths.{column, parent_of}
+use Rattle.iso_plan.specs.Paths.{column, is_under, parent_of}
 use Rattle.iso_plan.specs.Tree.{Row}
 use Rattle.iso_times.specs.declared.times.BodyTime.{BodyTime}
 use Rattle.iso_waits.specs.Waits.{earlier}
@@ -38,17 +38,13 @@ is_node (Some m) n = m == n
 abbrev pub ended_by : BodyTime → BodyTime → Bool
 ended_by p b = nat_le p.end b.begin && nat_lt p.end b.end
 
--- it is a body of a class, or of a node that stands in it
-abbrev pub is_inside : List Row → ℕ → Body → Bool
-is_inside tree class p = p.node == class || is_node (parent_of tree p.node) class
-
 -- it opens the class, or is a body of the sibling or of the node that was waited for
 abbrev pub lets_in : Needs → Body → Bool
 lets_in needs p = is_node needs.class p.node && not p.closes || is_node needs.earlier p.node || is_node needs.holder p.node
 
--- it had to end before a class closed, or before a node was entered
+-- it is a body of the class that closes, or of what stands in it; or else it had to end before the node was entered
 abbrev pub is_needed : List Row → Needs → Body → Bool
-is_needed tree needs p = cond needs.body.closes (is_inside tree needs.body.node p) (lets_in needs p)
+is_needed tree needs p = cond needs.body.closes (is_under tree needs.body.node p.node) (lets_in needs p)
 
 -- Whether a body had to end before another: it did, and is on its worker, or had to end before the class closed or the node was entered.
 abbrev pub had_to_end : List Row → Needs → Body → Bool

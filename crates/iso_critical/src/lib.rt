@@ -3,8 +3,11 @@
 
 pub mod body;
 pub mod critical;
+pub mod examples;
 mod holders;
+pub mod laws;
 mod marks;
 mod needs;
 mod order;
 mod path;
+mod under;

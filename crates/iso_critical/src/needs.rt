@@ -1,11 +1,12 @@
 //! What had to end before a body.
 ghost use Rattle.std.specs.Prelude.{◌≡◌, ◌<◌, length};
-ghost use Rattle.iso_critical.specs.Needs.{comes_before, ended_by, had_to_end, is_inside, is_needed, is_node, lets_in, needs};
+ghost use Rattle.iso_critical.specs.Needs.{comes_before, ended_by, had_to_end, is_needed, is_node, lets_in, needs};
 ghost use Rattle.iso_critical.specs.Paths.{run_with};
 ghost use Rattle.iso_plan.specs.RowView.{tree_of};
 
 use crate::body::Body;
 use crate::holders::holder_of;
+use crate::under::is_under;
 use iso_plan::plan::Plan;
 use iso_times::times::BodyTime;
 use iso_waits::waits::Waits;
@@ -61,7 +62,7 @@ fn is_needed(plan: &Plan, needs: Needs, body: Body) -> bool
     ensures { result ≡ is_needed (tree_of plan.now) needs body }
 {
     if needs.body.closes {
-        is_inside(plan, needs.body.node, body)
+        is_under(plan, needs.body.node, body.node)
     } else {
         lets_in(needs, body)
     }
@@ -72,14 +73,6 @@ fn ended_by(time: BodyTime, next: BodyTime) -> bool
     ensures { result ≡ ended_by time next }
 {
     time.end <= next.begin && time.end < next.end
-}
-
-/// Whether it is a body of a class, or of a node that stands in it.
-fn is_inside(plan: &Plan, class: u32, body: Body) -> bool
-    requires { body.node < length plan.now.rows }
-    ensures { result ≡ is_inside (tree_of plan.now) class body }
-{
-    body.node == class || is_node(plan.parent(body.node), class)
 }
 
 /// Whether a body opens the class, or is one of the sibling or of the node that was waited for.

@@ -2,7 +2,7 @@
 ghost use Rattle.std.specs.Prelude.{◌≡◌, ◌<◌, length};
 ghost use Rattle.iso_plan.specs.RowView.{tree_of};
 ghost use Rattle.iso_tap.specs.Printers.{Prints};
-ghost use Rattle.iso_trace.specs.TraceText.{body_event, first_kind, node_events, timed_event};
+ghost use Rattle.iso_trace.specs.TraceText.{body_event, category, critical_mark, first_kind, node_events, timed_event};
 
 use crate::part::Part;
 use crate::trace::Run;
@@ -22,12 +22,14 @@ pub(crate) fn node_events<W: Sink>(
 ) -> Result<(), SinkFailed>
     requires { node < length run.now.plan.now.rows }
     ensures { Prints printer.old printer.new
-        (node_events (tree_of run.now.plan.now) run.now.times.now run.now.results.now node) result }
+        (node_events (tree_of run.now.plan.now) run.now.times.now run.now.results.now run.now.critical.now node) result }
 {
     let first = run.times.body(node, BodyKind::BeforeAll);
     let last = run.times.body(node, BodyKind::AfterAll);
-    event(printer, run, node, first_kind(run.plan, node), first)?;
-    event(printer, run, node, " after_all", last)
+    let opens = run.critical.has(node, BodyKind::BeforeAll);
+    let closes = run.critical.has(node, BodyKind::AfterAll);
+    event(printer, run, node, first_kind(run.plan, node), opens, first)?;
+    event(printer, run, node, " after_all", closes, last)
 }
 
 /// What stands behind a node's path in the name of its first body.
@@ -42,20 +44,39 @@ fn first_kind(plan: &Plan, node: u32) -> &'static str
     }
 }
 
+/// The categories of a body.
+fn category(critical: bool) -> &'static str
+    ensures { result.now ≡ category critical }
+{
+    if critical { "body,critical" } else { "body" }
+}
+
+/// What stands behind the verdict of a body among its arguments.
+fn critical_mark(critical: bool) -> &'static str
+    ensures { result.now ≡ critical_mark critical }
+{
+    if critical {
+        "\",\"critical\":true"
+    } else {
+        "\""
+    }
+}
+
 /// Writes a body, if it has a time.
 fn event<'x, W: Sink>(
     printer: &mut Printer<'_, W>,
     run: &Run<'x, '_>,
     node: u32,
     kind: &'x str,
+    critical: bool,
     time: Option<BodyTime>,
 ) -> Result<(), SinkFailed>
     requires { node < length run.now.plan.now.rows }
     ensures { Prints printer.old printer.new
-        (body_event (tree_of run.now.plan.now) run.now.results.now node kind.now time) result }
+        (body_event (tree_of run.now.plan.now) run.now.results.now node kind.now critical time) result }
 {
     match time {
-        Some(time) => timed(printer, run, word(run.results, node), node, kind, time),
+        Some(time) => timed(printer, run, word(run.results, node), node, kind, critical, time),
         None => printer.bytes(b""),
     }
 }
@@ -67,10 +88,11 @@ fn timed<'x, W: Sink>(
     word: &'x str,
     node: u32,
     kind: &'x str,
+    critical: bool,
     time: BodyTime,
 ) -> Result<(), SinkFailed>
     requires { node < length run.now.plan.now.rows }
-    ensures { Prints printer.old printer.new (timed_event (tree_of run.now.plan.now) word.now node kind.now time) result }
+    ensures { Prints printer.old printer.new (timed_event (tree_of run.now.plan.now) word.now node kind.now critical time) result }
 {
     parts(
         printer,
@@ -78,7 +100,9 @@ fn timed<'x, W: Sink>(
         &[
             Part::Plain(",\n{\"ph\":\"X\",\"pid\":1,\"tid\":"),
             Part::Lane(time.worker),
-            Part::Plain(",\"cat\":\"body\",\"name\":\""),
+            Part::Plain(",\"cat\":\""),
+            Part::Plain(category(critical)),
+            Part::Plain("\",\"name\":\""),
             Part::Node(node),
             Part::Plain(kind),
             Part::Plain("\",\"ts\":"),
@@ -89,7 +113,7 @@ fn timed<'x, W: Sink>(
             Part::Node(node),
             Part::Plain("\",\"verdict\":\""),
             Part::Plain(word),
-            Part::Plain("\""),
+            Part::Plain(critical_mark(critical)),
             Part::Locks(node),
             Part::Plain("}}"),
         ],

@@ -1,4 +1,4 @@
-use Rattle.std.proofs.Common.{◌≡◌, ◌<◌, ℕ, List, Option, None, get_or, length, take, ap, ◌∙◌, take_all, arith}
+use Rattle.std.proofs.Common.{◌<◌, List, None, get_or, length, ap, ◌∙◌, take_all, arith}
 use Rattle.std.proofs.lemmas.List.{get_or_default}
 use Rattle.iso_critical.specs.Needs.{last_holder}
 use Rattle.iso_critical.proofs.HolderLemmas.{more}
