@@ -1,5 +1,5 @@
 -- A trace in the format of Chrome (Trace Event Format): what each worker did, and what nodes waited for.
-use Rattle.std.specs.Prelude.{ℕ, zero, suc, ◌-◌, List, [], ◌∷◌, ◌++◌, Option, Some, None, Bool, true, false, cond, codes, length}
+use Rattle.std.specs.Prelude.{ℕ, zero, suc, ◌-◌, List, [], ◌∷◌, ◌++◌, Option, Some, None, Bool, cond, codes, length}
 use Rattle.std.specs.Fmt.{decimal}
 use Rattle.iso_critical.specs.Critical.{is_among}
 use Rattle.iso_critical.specs.declared.body.Body.{Body}
@@ -10,7 +10,7 @@ use Rattle.iso_plan.specs.Paths.{is_test, row_at}
 use Rattle.iso_plan.specs.Tree.{Row}
 use Rattle.iso_tap.specs.ReportBlocks.{verdict_word}
 use Rattle.iso_times.specs.declared.times.BodyTime.{BodyTime}
-use Rattle.iso_trace.specs.Parts.{joined, micros, node_locks, node_text, wait_name}
+use Rattle.iso_trace.specs.Parts.{category, critical_argument, joined, micros, node_locks, node_text, wait_name}
 use Rattle.iso_trace.specs.declared.trace.Section.{Section}
 use Rattle.iso_trace.specs.declared.trace.Section.TheVariants.{Plain, Threads, Bodies, Waits}
 use Rattle.iso_waits.specs.Stays.{body_time}
@@ -37,16 +37,6 @@ abbrev pub word_of : Option Outcome → List ℕ
 word_of None = codes "none"
 word_of (Some o) = verdict_word o.verdict
 
--- the categories of a body
-abbrev pub category : Bool → List ℕ
-category true = codes "body,critical"
-category false = codes "body"
-
--- what stands behind the verdict of a critical body among its arguments
-abbrev pub critical_mark : Bool → List ℕ
-critical_mark true = codes "\",\"critical\":true"
-critical_mark false = codes "\""
-
 -- a body of a node, from its begin until its end, in the lane of its worker
 abbrev pub timed_event : List Row → List ℕ → ℕ → List ℕ → Bool → BodyTime → List ℕ
 timed_event tree word n kind critical t =
@@ -66,7 +56,8 @@ timed_event tree word n kind critical t =
     ∷ node_text tree n
     ∷ codes "\",\"verdict\":\""
     ∷ word
-    ∷ critical_mark critical
+    ∷ codes "\""
+    ∷ critical_argument critical
     ∷ node_locks tree n
     ∷ codes "}}"
     ∷ [])

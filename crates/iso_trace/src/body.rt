@@ -2,7 +2,7 @@
 ghost use Rattle.std.specs.Prelude.{◌≡◌, ◌<◌, length};
 ghost use Rattle.iso_plan.specs.RowView.{tree_of};
 ghost use Rattle.iso_tap.specs.Printers.{Prints};
-ghost use Rattle.iso_trace.specs.TraceText.{body_event, category, critical_mark, first_kind, node_events, timed_event};
+ghost use Rattle.iso_trace.specs.TraceText.{body_event, first_kind, node_events, timed_event};
 
 use crate::part::Part;
 use crate::trace::Run;
@@ -44,24 +44,6 @@ fn first_kind(plan: &Plan, node: u32) -> &'static str
     }
 }
 
-/// The categories of a body.
-fn category(critical: bool) -> &'static str
-    ensures { result.now ≡ category critical }
-{
-    if critical { "body,critical" } else { "body" }
-}
-
-/// What stands behind the verdict of a body among its arguments.
-fn critical_mark(critical: bool) -> &'static str
-    ensures { result.now ≡ critical_mark critical }
-{
-    if critical {
-        "\",\"critical\":true"
-    } else {
-        "\""
-    }
-}
-
 /// Writes a body, if it has a time.
 fn event<'x, W: Sink>(
     printer: &mut Printer<'_, W>,
@@ -76,7 +58,15 @@ fn event<'x, W: Sink>(
         (body_event (tree_of run.now.plan.now) run.now.results.now node kind.now critical time) result }
 {
     match time {
-        Some(time) => timed(printer, run, word(run.results, node), node, kind, critical, time),
+        Some(time) => timed(
+            printer,
+            run,
+            word(run.results, node),
+            node,
+            kind,
+            critical,
+            time,
+        ),
         None => printer.bytes(b""),
     }
 }
@@ -101,7 +91,7 @@ fn timed<'x, W: Sink>(
             Part::Plain(",\n{\"ph\":\"X\",\"pid\":1,\"tid\":"),
             Part::Lane(time.worker),
             Part::Plain(",\"cat\":\""),
-            Part::Plain(category(critical)),
+            Part::Category(critical),
             Part::Plain("\",\"name\":\""),
             Part::Node(node),
             Part::Plain(kind),
@@ -113,7 +103,8 @@ fn timed<'x, W: Sink>(
             Part::Node(node),
             Part::Plain("\",\"verdict\":\""),
             Part::Plain(word),
-            Part::Plain(critical_mark(critical)),
+            Part::Plain("\""),
+            Part::Critical(critical),
             Part::Locks(node),
             Part::Plain("}}"),
         ],
