@@ -2,8 +2,8 @@
 ghost use Rattle.std.specs.Prelude.{◌≡◌, ◌∷◌, [], None, Some};
 ghost use Rattle.iso_critical.specs.Examples.{a_then_b, b_before_a, critical_places, end_together, two_workers, unclosed};
 
-/// A class closes after the last body in it, which comes after the node that it waited for, and that one after the opening of the class. Who
-/// wasn't waited for isn't critical.
+/// A class closes after the last body in it, which comes after the node that it waited for, and that one after the opening of the
+/// class. Who wasn't waited for isn't critical.
 pub fn nodes_wait_for_others()
     ensures waited { critical_places (b_before_a (None ∷ None ∷ Some 3 ∷ None ∷ [])) ≡ 3 ∷ 4 ∷ 6 ∷ 2 ∷ [] }
     ensures alone { critical_places (b_before_a []) ≡ 3 ∷ 4 ∷ 2 ∷ [] }

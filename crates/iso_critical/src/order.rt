@@ -40,7 +40,8 @@ fn by_place(alloc: Global, times: &Times, nodes: u32) -> Result<Vec<Body>, Alloc
 /// Adds a body of a node other than the root, if it has a time.
 fn add(bodies: &mut Vec<Body>, times: &Times, node: u32, kind: BodyKind) -> Result<(), AllocError>
     requires { 0 < node }
-    ensures { OnOk result (bodies.new.items ≡ bodies.old.items ++ map (body_at times.now) (placed times.now (slot_of node kind))) }
+    ensures { OnOk result (bodies.new.items
+        ≡ bodies.old.items ++ map (body_at times.now) (placed times.now (slot_of node kind))) }
 {
     if let Some(body) = body_of(times, node, kind) {
         bodies.push(body)?;
