@@ -4,6 +4,7 @@ use Rattle.std.specs.List.{AllByRecursion}
 use Rattle.std.specs.Prelude.{◌≡◌, ⊤, ℕ, ◌≤◌, List, Bool, true, Option, None, Some, Result, ◌||◌, is_some, length}
 use Rattle.iso_core.specs.Cores.{is_complete}
 use Rattle.iso_core.specs.EventRuns.{AreAccepted, core_after}
+use Rattle.iso_critical.specs.Critical.{critical, run_of}
 use Rattle.iso_isolation.specs.Runs.{full, history_of}
 use Rattle.iso_isolation.specs.States.{first}
 use Rattle.iso_lifecycle.specs.ResultViews.{AreComplete, ResultsView}
@@ -33,6 +34,7 @@ use Rattle.iso_telling.specs.Telling.{IsTold}
 use Rattle.iso_times.specs.declared.times.BodyTime.{BodyTime}
 use Rattle.iso_trace.specs.TraceText.{trace_text}
 use Rattle.iso_waits.specs.AllWaits.{all_waits}
+use Rattle.iso_waits.specs.declared.wait.NodeWait.{NodeWait}
 
 -- nothing is asked for
 abbrev pub IsUnasked : Course → Type 0
@@ -76,9 +78,14 @@ pub record ObservedView : Type 0 where
 abbrev pub observed_of : Observed → ObservedView
 observed_of run = record { plan = run.plan.now; results = run.results.now; times = run.times.now; started = run.started; of = run.of }
 
--- its trace
+-- what its nodes waited for
+abbrev pub waits_of : ObservedView → List NodeWait
+waits_of run = all_waits (tree_of run.plan) run.plan.settings run.times
+
+-- its trace, with its critical bodies
 abbrev pub trace_of : ObservedView → List ℕ
-trace_of run = trace_text (tree_of run.plan) run.times run.results run.started (all_waits (tree_of run.plan) run.plan.settings run.times)
+trace_of run =
+    trace_text (tree_of run.plan) run.times run.results run.started (waits_of run) (critical (run_of run.plan run.times (waits_of run)))
 
 -- its figures, as far as it is said what they are
 pub record AreFigures (run : ObservedView) (figures : Figures) : Type 0 where

@@ -8,6 +8,7 @@ ghost use Rattle.iso_waits.specs.AllWaits.{all_waits};
 
 use crate::course::Course;
 use crate::observation::Observed;
+use iso_critical::critical::critical;
 use iso_stats::measures::figures;
 use iso_stats::text::write_stats;
 use iso_tap::memory::MemorySink;
@@ -60,10 +61,12 @@ fn add_trace(
     ensures { OnOk result (Wrote sink.old sink.new (trace_of (observed_of run.now))) }
 {
     let names = Names::new(alloc, run.plan)?;
+    let critical = critical(alloc, run.plan, run.times, waits)?;
     let traced = Run {
         plan: run.plan,
         results: run.results,
         times: run.times,
+        critical: &critical,
         names: &names,
     };
     match write_trace(&traced, run.started, waits, sink) {
