@@ -37,6 +37,7 @@ class Walk:
                 around = self.class_of(around)
         for bodies in self.lanes.values():
             bodies.sort(key=lambda body: body.end)
+        self.ends = {lane: [body.end for body in bodies] for lane, bodies in self.lanes.items()}
 
     def class_of(self, path):
         """The path of the class around a node, or nothing at the top level."""
@@ -53,11 +54,11 @@ class Walk:
 
     def needed(self, body):
         """The bodies that had to end before another."""
-        lane = self.lanes[body.lane]
-        at = bisect_right(lane, body.begin, key=lambda other: other.end)
-        while at and lane[at - 1].end >= body.end:
+        lane, ends = self.lanes[body.lane], self.ends[body.lane]
+        at = bisect_right(ends, body.begin)
+        while at and ends[at - 1] >= body.end:
             at -= 1
-        first = bisect_left(lane, lane[at - 1].end, key=lambda other: other.end) if at else 0
+        first = bisect_left(ends, ends[at - 1]) if at else 0
         yield from lane[first:at]
         if body.name == body.path + CLOSES:
             yield from self.inside[body.path]
