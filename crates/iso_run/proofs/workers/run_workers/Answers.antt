@@ -44,4 +44,4 @@ returns-clause-told g c =
 
 pub returns-clause-course : goal.returns-clause-course
 returns-clause-course g c =
-    course-told c.args.inputs _ c.in_ok-suite.suite c.in_ok-suite.ensures ByWorkers c.args.course.now c.run_timed-book.new.course c.write_results.result c.in_ok-book.ensures.course
+    course-told c.args.inputs _ c.in_ok-suite.suite c.in_ok-suite.ensures ByWorkers c.args.course.now c.run_timed.new.course c.write_results.result c.in_ok-book.ensures.course
