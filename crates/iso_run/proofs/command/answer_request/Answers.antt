@@ -68,11 +68,11 @@ returns-in_ok-bytes-in-Replay-clause-answers g c =
     let new = g.W.Sink.account c.told-in-Replay.new.output in
     let way = BySchedule c.deref.result in
     let files = c.in-Replay.files in
-    let made = c.run-ran-in-Replay.ensures.report input (subst (WereRead c.in-Replay.files input) (sym c.in_ok-bytes-in-Replay.ensures.same) c.in_ok-read-in-Replay.ensures.read) in
+    let made = c.run-ran.ensures.report input (subst (WereRead c.in-Replay.files input) (sym c.in_ok-bytes-in-Replay.ensures.same) c.in_ok-read-in-Replay.ensures.read) in
     let P : Account → Bool → Type 0 = λ a ok. IsWrittenFor suite_report files input way old a ok in
     let file = files_of c.new-besides-in-Replay.result in
-    let answered = run-answered ⊤ P suite_report made.0 way old (g.W.Sink.account c.run-ran-in-Replay.new.output) (λ late ok w. (made.0, made.1, w)) file new c.run-ran-in-Replay.result
-    (late-so ⊤ (end_of (λ (s : Summary). s.all_ok) run_end c.run-ran-in-Replay.result) tt) made.2 c.told-in-Replay.result c.told-in-Replay.ensures.answer in
+    let answered = run-answered ⊤ P suite_report made.0 way old (g.W.Sink.account c.run-ran.new.output) (λ late ok w. (made.0, made.1, w)) file new c.run-ran.result
+    (late-so ⊤ (end_of (λ (s : Summary). s.all_ok) run_end c.run-ran.result) tt) made.2 c.told-in-Replay.result c.told-in-Replay.ensures.answer in
     rw c.in-Replay.is (answered-as (P new) _ (λ ok h. (c.deref.result, h)) (Lacking P file new) _ (λ h. (h.0, (c.deref.result, h.1), subst NamesFile (files-named c.new-besides-in-Replay.result c.in-Replay.extras c.new-besides-in-Replay.ensures.failed_file c.new-besides-in-Replay.ensures.junit_file c.new-besides-in-Replay.ensures.schedule_file c.new-besides-in-Replay.ensures.trace_file) h.2)) old new c.told-in-Replay.result answered)
 
 pub returns-in_ok-bytes-in-Run-clause-refused : goal.returns-in_ok-bytes-in-Run-clause-refused
