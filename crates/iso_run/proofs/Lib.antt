@@ -5,7 +5,6 @@ mod Documents
 mod Ending
 mod Late
 mod Lending
-mod Parting
 mod Plans
 mod Printing
 mod Reading
