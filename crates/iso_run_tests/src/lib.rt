@@ -2,8 +2,6 @@
 #![tactic(auto)]
 
 #[cfg(test)]
-mod figures;
-#[cfg(test)]
 mod random;
 #[cfg(test)]
 mod schedules;
