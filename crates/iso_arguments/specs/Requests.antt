@@ -49,8 +49,8 @@ pub record NamesNothing (files : InputFiles) : Type 0 where
 -- nothing is asked for besides the report
 abbrev pub AsksForNoMore : Extras → Type 0
 AsksForNoMore extras =
-    (extras.summary ≡ None) × (extras.failed ≡ None) × (extras.junit ≡ None) × (extras.github ≡ false) × (extras.durations ≡ None)
-    × (extras.«record» ≡ None) × (extras.trace ≡ None) × (extras.stats ≡ false) × (extras.progress ≡ false)
+    (extras.summary ≡ None) × (extras.failed ≡ None) × (extras.junit ≡ None) × (extras.html ≡ None) × (extras.github ≡ false)
+    × (extras.durations ≡ None) × (extras.«record» ≡ None) × (extras.trace ≡ None) × (extras.stats ≡ false) × (extras.progress ≡ false)
 
 -- a run of all of one script from standard input, without settings or world, without a number of processors, and nothing besides its report
 abbrev pub IsPlainRun : Request → Type 0

@@ -76,6 +76,9 @@ FILE, one a line, for `--only-from`";
 static JUNIT: &str = "Write the results to FILE as JUnit's XML, which
 Jenkins and GitLab show";
 
+static HTML: &str = "Write the results to FILE as a page to look at,
+with what ran beside what";
+
 static GITHUB: &str = "Tell GitHub Actions, on standard error, at which
 lines classes and tests failed";
 
@@ -175,6 +178,7 @@ fn with_extras<'a>(
         .arg(summary(alloc))?
         .arg(file(alloc, "failed", FAILED))?
         .arg(file(alloc, "junit", JUNIT))?
+        .arg(file(alloc, "html", HTML))?
         .arg(github(alloc))
 }
 

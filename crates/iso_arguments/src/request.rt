@@ -84,6 +84,8 @@ pub struct Extras<'a> {
     pub failed: Option<&'a str>,
     /// The file into which the results are written as JUnit's XML.
     pub junit: Option<&'a str>,
+    /// The file into which the results are written as a page to look at.
+    pub html: Option<&'a str>,
     /// Whether standard error has a line for GitHub Actions of each that failed.
     pub github: bool,
     /// How many of the slowest classes and tests are told on standard error; 0 for all.
@@ -107,6 +109,7 @@ impl Extras<'_> {
             summary: None,
             failed: None,
             junit: None,
+            html: None,
             github: false,
             durations: None,
             record: None,
@@ -314,6 +317,7 @@ fn extras_of<'a>(
 ) -> Result<Extras<'a>, WordsFault> {
     let failed = found.get_str("failed");
     let junit = found.get_str("junit");
+    let html = found.get_str("html");
     let record = found.get_str("record");
     let trace = found.get_str("trace");
     let written = [
@@ -323,6 +327,7 @@ fn extras_of<'a>(
             may_be_list: true,
         },
         Written::new("--junit <FILE>", junit),
+        Written::new("--html <FILE>", html),
         Written::new("--record <FILE>", record),
         Written::new("--trace <FILE>", trace),
     ];
@@ -332,6 +337,7 @@ fn extras_of<'a>(
         summary: summary_of(found),
         failed,
         junit,
+        html,
         github: found.get_flag("github"),
         durations,
         record,
