@@ -4,5 +4,6 @@ pub mod Examples
 pub mod Moments
 pub mod Rivals
 pub mod Stays
+pub mod Sums
 pub mod Turns
 pub mod Waits
