@@ -1,5 +1,6 @@
 pub mod AllWaits
 pub mod ContendedKeys
+pub mod Covers
 pub mod Examples
 pub mod Moments
 pub mod Rivals

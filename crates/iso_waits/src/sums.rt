@@ -2,6 +2,7 @@
 ghost use Rattle.std.specs.Prelude.{◌≡◌, ◌==◌, ◌++◌, ◌<◌, ℕ, [], None, OnOk, Some, cond, length, slice_index_or};
 ghost use Rattle.iso_plan.specs.RowView.{tree_of};
 ghost use Rattle.std.specs.List.{All};
+ghost use Rattle.std.specs.Option.{option_to_list};
 ghost use Rattle.iso_waits.specs.AllWaits.{IsFor, alone, and_then, key_of, took, with_later};
 ghost use Rattle.iso_waits.specs.Sums.{AreSums, of_node, sum_at, sums_of};
 
@@ -122,9 +123,7 @@ pub(crate) fn append(
     ensures { OnOk result (all.new.items ≡ all.old.items ++ sums_of node sums.now locks.now) }
 {
     for lock in locks {
-        if let Some(sum) = sum_at(sums, node, lock.key) {
-            all.push(sum)?;
-        }
+        add(all, sum_at(sums, node, lock.key))?;
     }
     Ok(())
 }
@@ -134,4 +133,14 @@ fn sum_at(sums: &[Option<NodeWait>], node: u32, key: u32) -> Option<NodeWait>
     ensures { result ≡ sum_at node sums.now key }
 {
     of_node(*sums.get(key as usize)?, node)
+}
+
+/// Adds a wait, if there is one.
+fn add(all: &mut Vec<NodeWait>, wait: Option<NodeWait>) -> Result<(), AllocError>
+    ensures { OnOk result (all.new.items ≡ all.old.items ++ option_to_list wait) }
+{
+    if let Some(wait) = wait {
+        all.push(wait)?;
+    }
+    Ok(())
 }
