@@ -11,5 +11,5 @@ nodes-preserved c =
     let n = c.nodes.node in
     let here : n < c.args.nodes = omega arith in
     let read = column-read (λ n. last_wait n None waits) c.deref.result.now c.args.nodes n None (c.deref.ensures.value ∙ c.in_ok-last.ensures) here in
-    c.in_ok-push.ensures
+    c.in_ok-push.ensures.items
     ∙ column-push (last_holder waits) c.nodes.holders.items n c.last_holder.result c.nodes.invariant (c.last_holder.ensures ∙ ap (option_map (λ (w : NodeWait). w.last)) read)
