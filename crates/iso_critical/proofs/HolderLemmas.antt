@@ -1,5 +1,5 @@
 -- The wait of a node that ended last, wait by wait.
-use Rattle.std.proofs.Common.{◌≡◌, ◌<◌, ℕ, List, [], ◌∷◌, ◌++◌, ◌+◌, Option, Some, None, get_or, take, length, refl, ap, sym, ◌∙◌}
+use Rattle.std.proofs.Common.{◌≡◌, ◌<◌, ℕ, List, [], ◌∷◌, ◌++◌, ◌+◌, Option, None, get_or, take, length, refl, ap, sym, ◌∙◌}
 use Rattle.std.proofs.lemmas.List.{take_more}
 use Rattle.iso_critical.specs.Needs.{last_wait, noted}
 use Rattle.iso_waits.specs.declared.wait.NodeWait.{NodeWait}

@@ -1,4 +1,4 @@
-use Rattle.std.proofs.Common.{◌<◌, List, None, Option, get_or, ap, ◌∙◌, arith}
+use Rattle.std.proofs.Common.{◌<◌, None, ap, ◌∙◌, arith}
 use Rattle.std.specs.Option.{option_map}
 use Rattle.iso_critical.specs.Needs.{last_holder, last_wait}
 use Rattle.iso_plan.proofs.ColumnLemmas.{column-push, column-read}
