@@ -1,15 +1,15 @@
-"""The critical bodies of a trace, found by its bars, its waits and the printed plan, as `traces.py` reads them. Nothing here comes from which
-bodies the trace tells are critical; `told_critical` reads that.
+"""The critical bodies of a trace, found by its bars, the waits that follow from them and the printed plan, as `traces.py` reads them. Nothing here
+comes from which bodies the trace tells are critical; `told_critical` reads that.
 """
 from bisect import bisect_left, bisect_right
 
 OPENS, CLOSES = " before_all", " after_all"
 
 
-def critical_of(trace, nodes):
+def critical_of(suite):
     """The names of the critical bodies, from the one that ended last on: that one, and from each critical one the body before it."""
-    walk = Walk(trace, nodes)
-    found, body = [], walk.last(trace.bodies)
+    walk = Walk(suite)
+    found, body = [], walk.last(suite.trace.bodies)
     while body is not None:
         found.append(body.name)
         body = walk.previous(body)
@@ -21,10 +21,11 @@ class Walk:
     SAME_THREAD sibling before its node that ran, where the node is SAME_THREAD too, and after the node that its own one waited for last. Each
     body comes after the one before it on its lane."""
 
-    def __init__(self, trace, nodes):
+    def __init__(self, suite):
+        trace, nodes = suite.trace, suite.nodes
         self.by_path = {node.path: node for node in nodes}
         self.number = {body.name: number for number, body in enumerate(trace.bodies)}
-        self.holder = {wait.node: wait.holder for wait in trace.waits}
+        self.holder = {wait.node: wait.holder for wait in suite.single_waits}
         self.bodies_of, self.inside, self.children, self.lanes = {}, {}, {}, {}
         for node in nodes:
             self.children.setdefault(self.class_of(node.path), []).append(node)

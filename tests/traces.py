@@ -2,6 +2,7 @@
 in nanoseconds. Nothing here comes from what the program says but the begin and end of each body.
 """
 import json
+from heapq import heappop, heappush
 from typing import NamedTuple
 
 LONGEST_TOLD = 3
@@ -31,13 +32,29 @@ class Body(NamedTuple):
 
 
 class Wait(NamedTuple):
-    """A wait of a node for a key that another one has."""
+    """A single wait of a node for a key that another one has."""
 
     node: str
     holder: str
     key: str
     begin: int
     end: int
+
+    @property
+    def time(self):
+        return self.end - self.begin
+
+
+class NodeWait(NamedTuple):
+    """What a trace tells of the single waits of a node for a key: from when until when, for whom the longest was, how many, and how long together."""
+
+    node: str
+    holder: str
+    key: str
+    begin: int
+    end: int
+    count: int
+    time: int
 
 
 class Trace(NamedTuple):
@@ -86,7 +103,8 @@ def read(text):
             if [begin[field] for field in ("cat", "name", "pid")] != ["wait", event["name"], event["pid"]]:
                 raise ValueError(f"{begin} doesn't end by {event}")
             told = begin["args"]
-            waits.append(Wait(told["node"], told["for"], event["name"][len("wait "):], nanos(begin["ts"]), nanos(event["ts"])))
+            waits.append(NodeWait(told["node"], told["for"], event["name"][len("wait "):], nanos(begin["ts"]), nanos(event["ts"]),
+                                  told["waits"], nanos(told["waited"])))
         elif kind != "M":
             raise ValueError(f"{event} is no event of a trace")
     if begun:
@@ -125,6 +143,12 @@ def overlaps_of_keys(trace, nodes):
     return found
 
 
+def together(waits):
+    """What is told of single waits of a node for a key, which stand in the order of time."""
+    longest = max(waits, key=lambda wait: wait.time)
+    return NodeWait(longest.node, longest.holder, longest.key, waits[0].begin, waits[-1].end, len(waits), sum(wait.time for wait in waits))
+
+
 class Suite:
     """The nodes of a plan, with the stays that a trace has of them."""
 
@@ -135,6 +159,8 @@ class Suite:
         self.opened = {body.path: body.end for body in trace.bodies if body.name.endswith(" before_all")}
         for node in nodes:
             self.children.setdefault(self.class_of(node), []).append(node)
+        self.order = self.orders()
+        self.single_waits = self.all_single_waits()
 
     def class_of(self, node):
         """The path of the class around a node, or nothing at the top level."""
@@ -151,7 +177,14 @@ class Suite:
         return moment
 
     def waits(self):
-        """The waits of all nodes, in the order of the nodes."""
+        """The waits of all nodes, in the order of the nodes and of each in the order of keys: one for each key that it waited for."""
+        by_key = {}
+        for wait in self.single_waits:
+            by_key.setdefault((self.by_path[wait.node].number, self.order[wait.key]), []).append(wait)
+        return [together(by_key[place]) for place in sorted(by_key)]
+
+    def all_single_waits(self):
+        """The single waits of all nodes, in the order of the nodes and of each in the order of time."""
         takers = {}
         for node in self.nodes:
             if node.path in self.stays:
@@ -160,33 +193,36 @@ class Suite:
         return [wait for node in self.nodes if node.path in self.stays for wait in self.waits_of(node, takers)]
 
     def waits_of(self, node, takers):
-        """The waits of a node: at each moment for the lowest node that is entered and excludes it."""
+        """The single waits of a node: at each moment for the lowest node that is entered and excludes it."""
         ready, entered = self.ready(node), self.stays[node.path][0]
         rivals = {}
-        for key in sorted(node.locks, key=lambda key: self.order(key)):
+        for key in sorted(node.locks, key=self.order.get):
             for other in takers[key]:
                 if other.number != node.number and "write" in (node.locks[key], other.locks[key]):
                     rivals.setdefault(other.number, (*self.stays[other.path], other, key))
         rivals = [(max(begin, ready), min(end, entered), other, key) for begin, end, other, key in rivals.values()]
-        rivals = [rival for rival in rivals if rival[0] < rival[1]]
+        rivals = sorted((rival for rival in rivals if rival[0] < rival[1]), key=lambda rival: rival[0])
         moments = sorted({moment for rival in rivals for moment in rival[:2]})
-        found = []
+        found, there, come = [], [], 0
         for begin, end in zip(moments, moments[1:]):
-            there = [rival for rival in rivals if rival[0] <= begin < rival[1]]
+            while come < len(rivals) and rivals[come][0] <= begin:
+                heappush(there, (rivals[come][2].number, *rivals[come][1:]))
+                come += 1
+            while there and there[0][1] <= begin:
+                heappop(there)
             if not there:
                 continue
-            _, _, other, key = min(there, key=lambda rival: rival[2].number)
+            _, _, other, key = there[0]
             if found and found[-1].holder == other.path and found[-1].end == begin:
                 found[-1] = found[-1]._replace(end=end)
             else:
                 found.append(Wait(node.path, other.path, key, begin, end))
         return found
 
-    def order(self, key):
-        """A key's number: the global one is the first, the others follow as they are first taken."""
-        if key == GLOBAL:
-            return 0
-        return 1 + list(dict.fromkeys(key for node in self.nodes for key in node.locks if key != GLOBAL)).index(key)
+    def orders(self):
+        """The numbers of the keys: the global one is the first, the others follow as they are first taken."""
+        others = dict.fromkeys(key for node in self.nodes for key in node.locks if key != GLOBAL)
+        return {key: number for number, key in enumerate([GLOBAL, *others])}
 
     def own(self, node):
         """How long the bodies of a node took."""
@@ -227,7 +263,7 @@ class Suite:
         """What makes chains, each with the times of its nodes."""
         freed = self.freed(without)
         least = self.least(freed)
-        for key in sorted({key for node in self.nodes for key in node.locks} - {without}, key=self.order):
+        for key in sorted({key for node in self.nodes for key in node.locks} - {without}, key=self.order.get):
             writers = [(least[node.path], node.path) for node in self.nodes if node.locks.get(key) == "write"]
             readers = [(least[node.path], node.path) for node in self.nodes if node.locks.get(key) == "read"]
             if writers:
@@ -264,14 +300,14 @@ def stats(suite, started, workers):
     of = f"{workers} worker" + "s" * (workers != 1)
     yield f"{tests} test{'s' * (tests != 1)}, {started} of {of}, {told_time(span)}; busy {busy} %"
     by_key = {}
-    for wait in suite.trace.waits:
+    for wait in suite.single_waits:
         by_key.setdefault(wait.key, []).append(wait)
     if by_key:
-        total = lambda key: sum(wait.end - wait.begin for wait in by_key[key])
-        key = max(sorted(by_key, key=suite.order), key=total)
-        wait = max(by_key[key], key=lambda wait: wait.end - wait.begin)
+        totals = {key: sum(wait.time for wait in waits) for key, waits in by_key.items()}
+        key = max(sorted(by_key, key=suite.order.get), key=totals.get)
+        wait = max(by_key[key], key=lambda wait: wait.time)
         more = "; .." if len(by_key[key]) > 1 else ""
-        yield f"waited {told_time(total(key))} for {key} ({wait.node} for {wait.holder} {told_time(wait.end - wait.begin)}{more})"
+        yield f"waited {told_time(totals[key])} for {key} ({wait.node} for {wait.holder} {told_time(wait.time)}{more})"
     longest = suite.longest()
     if longest is None:
         return

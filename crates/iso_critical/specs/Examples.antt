@@ -4,6 +4,7 @@ use Rattle.iso_critical.specs.Bodies.{Run}
 use Rattle.iso_critical.specs.Critical.{critical}
 use Rattle.iso_plan.specs.Examples.{concurrent_by_default, isolated_deep, one_thread, two_classes, writing_children}
 use Rattle.iso_times.specs.declared.times.BodyTime.{BodyTime}
+use Rattle.iso_waits.specs.declared.wait.NodeWait.{NodeWait}
 
 -- a body of a worker, from a moment until another
 abbrev pub by : (worker begin end : ℕ) → Option BodyTime
@@ -63,3 +64,8 @@ unclosed =
       bodies = None ∷ None ∷ by 0 0 1 ∷ by 0 9 10 ∷ by 1 1 2 ∷ None ∷ by 1 2 3 ∷ None ∷ by 1 4 5 ∷ None ∷ [];
       holders = [];
     }
+
+-- a wait of a node until a moment, longest for node 1 and last for another
+abbrev pub wait_until : (node end last : ℕ) → NodeWait
+wait_until node end last =
+    record { node = node; key = 0; begin = 0; end = end; time = end; count = 2; longest = end; holder = 1; last = last }

@@ -1,6 +1,6 @@
 -- What had to end before a body.
 use Rattle.std.specs.Prelude.{ℕ, List, [], ◌∷◌, Option, Some, None, Bool, false, true, ◌&&◌, ◌||◌, ◌==◌, cond, nat_le, nat_lt, not, slice_index_or}
-use Rattle.std.specs.Option.{option_or}
+use Rattle.std.specs.Option.{option_map}
 use Rattle.iso_critical.specs.Bodies.{Run}
 use Rattle.iso_critical.specs.declared.body.Body.{Body}
 use Rattle.iso_critical.specs.declared.needs.Needs.{Needs}
@@ -10,16 +10,29 @@ use Rattle.iso_times.specs.declared.times.BodyTime.{BodyTime}
 use Rattle.iso_waits.specs.Waits.{earlier}
 use Rattle.iso_waits.specs.declared.wait.NodeWait.{NodeWait}
 
--- the node that a node waited for: the holder of its last wait
+-- of two waits the one that ended later, of those that ended together the second; where there is one alone, this one
+abbrev pub later : Option NodeWait → NodeWait → NodeWait
+later None w = w
+later (Some v) w = cond (nat_lt w.end v.end) v w
+
+-- with a wait more, where it is node n's
+abbrev pub noted : ℕ → Option NodeWait → NodeWait → Option NodeWait
+noted n found w = cond (w.node == n) (Some (later found w)) found
+
+-- of the waits of node n the one that ended last, where one was found before
+abbrev pub last_wait : ℕ → Option NodeWait → List NodeWait → Option NodeWait
+last_wait n found [] = found
+last_wait n found (w ∷ ws) = last_wait n (noted n found w) ws
+
+-- the node that a node waited for last: in its wait that ended last, the node of the last single wait
 abbrev pub last_holder : List NodeWait → ℕ → Option ℕ
-last_holder [] n = None
-last_holder (w ∷ ws) n = option_or (last_holder ws n) (cond (w.node == n) (Some w.holder) None)
+last_holder waits n = option_map (λ (w : NodeWait). w.last) (last_wait n None waits)
 
 -- the same of each of so many nodes
 abbrev pub last_holders : List NodeWait → (nodes : ℕ) → List (Option ℕ)
 last_holders waits nodes = column (last_holder waits) nodes
 
--- whose bodies had to end before a body: the class of its node, the earlier sibling, and the node that its node waited for
+-- whose bodies had to end before a body: the class of its node, the earlier sibling, and the node that its node waited for last
 abbrev pub needs : Run → Body → Needs
 needs run b =
     record {

@@ -1,6 +1,7 @@
 //! Worked examples of the definitions: each function does nothing, and its contract is what is computed.
 ghost use Rattle.std.specs.Prelude.{◌≡◌, ◌∷◌, [], None, Some};
-ghost use Rattle.iso_critical.specs.Examples.{a_then_b, b_before_a, critical_places, end_together, two_workers, unclosed};
+ghost use Rattle.iso_critical.specs.Needs.{last_holder};
+ghost use Rattle.iso_critical.specs.Examples.{a_then_b, b_before_a, critical_places, end_together, two_workers, unclosed, wait_until};
 
 /// A class closes after the last body in it, which comes after the node that it waited for, and that one after the opening of the
 /// class. Who wasn't waited for isn't critical.
@@ -28,4 +29,12 @@ pub fn ends_may_be_equal()
 /// A class closes after whatever stands in it, at any depth.
 pub fn classes_close_after_all_in_them()
     ensures { critical_places unclosed ≡ 3 ∷ 8 ∷ 6 ∷ 4 ∷ 2 ∷ [] }
+{}
+
+/// Of the waits of a node the one that ended last counts, with the node for which it was at its end.
+pub fn last_waits_count()
+    ensures before { last_holder (wait_until 2 17 4 ∷ wait_until 2 9 3 ∷ []) 2 ≡ Some 4 }
+    ensures behind { last_holder (wait_until 2 9 3 ∷ wait_until 2 17 4 ∷ []) 2 ≡ Some 4 }
+    ensures others { last_holder (wait_until 2 9 3 ∷ wait_until 5 17 4 ∷ []) 2 ≡ Some 3 }
+    ensures none { last_holder (wait_until 2 17 4 ∷ []) 3 ≡ None }
 {}

@@ -16,7 +16,7 @@ pub struct Figures {
     pub best: Option<Best>,
 }
 
-/// The key that was waited for longest, and the longest wait for it.
+/// The key that was waited for longest, and the longest single wait for it.
 #[derive(Clone, Copy)]
 pub struct Waited {
     pub key: u32,
@@ -24,7 +24,7 @@ pub struct Waited {
     pub node: u32,
     pub holder: u32,
     pub longest: u64,
-    /// Whether there were more waits for the key.
+    /// Whether there were more single waits for the key.
     pub more: bool,
 }
 

@@ -5,7 +5,7 @@ use iso_plan::plan::Plan;
 use iso_waits::wait::NodeWait;
 use std::alloc::{AllocError, Global};
 
-/// The waits for a key: how long they were together, how many, and the longest.
+/// The single waits for a key: how long they were together, how many, and the longest.
 #[derive(Clone, Copy)]
 struct Total {
     time: u64,
@@ -42,16 +42,15 @@ impl Total {
         }
     }
 
-    /// With one wait more.
+    /// With the single waits of one node more.
     fn with(self, wait: NodeWait) -> Total {
-        let took = wait.end.saturating_sub(wait.begin);
-        let longer = self.longest < took;
+        let longer = self.longest < wait.longest;
         Total {
-            time: self.time.saturating_add(took),
-            count: self.count.saturating_add(1),
+            time: self.time.saturating_add(wait.time),
+            count: self.count.saturating_add(wait.count),
             node: if longer { wait.node } else { self.node },
             holder: if longer { wait.holder } else { self.holder },
-            longest: self.longest.max(took),
+            longest: self.longest.max(wait.longest),
         }
     }
 }

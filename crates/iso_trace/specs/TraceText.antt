@@ -83,7 +83,8 @@ body_events tree bodies results critical zero n = []
 body_events tree bodies results critical (suc count) n =
     node_events tree bodies results critical n ++ body_events tree bodies results critical count (suc n)
 
--- a wait with a number: its begin, and its end
+-- a wait of a node for a key, with a number: its begin, and its end. Told are the node that it waited for longest, how many single waits there
+-- were, and how long they were together.
 abbrev pub wait_event : List Row → ℕ → NodeWait → List ℕ
 wait_event tree id w =
     joined
@@ -97,7 +98,11 @@ wait_event tree id w =
     ∷ node_text tree w.node
     ∷ codes "\",\"for\":\""
     ∷ node_text tree w.holder
-    ∷ codes "\"}},\n{\"ph\":\"e\",\"pid\":1,\"tid\":0,\"cat\":\"wait\",\"id\":"
+    ∷ codes "\",\"waits\":"
+    ∷ decimal w.count
+    ∷ codes ",\"waited\":"
+    ∷ micros w.time
+    ∷ codes "}},\n{\"ph\":\"e\",\"pid\":1,\"tid\":0,\"cat\":\"wait\",\"id\":"
     ∷ decimal id
     ∷ codes ",\"name\":"
     ∷ wait_name tree w.key

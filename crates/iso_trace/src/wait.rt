@@ -24,7 +24,8 @@ pub(crate) fn wait_events<W: Sink>(
     Ok(())
 }
 
-/// Writes a wait with a number: its begin, and its end.
+/// Writes a wait of a node for a key, with a number: its begin, and its end. Among its arguments are the node that it waited for longest, how
+/// many single waits there were, and how long they were together.
 fn wait_event<W: Sink>(
     printer: &mut Printer<'_, W>,
     run: &Run<'_, '_>,
@@ -47,7 +48,11 @@ fn wait_event<W: Sink>(
             Part::Node(wait.node),
             Part::Plain("\",\"for\":\""),
             Part::Node(wait.holder),
-            Part::Plain("\"}},\n{\"ph\":\"e\",\"pid\":1,\"tid\":0,\"cat\":\"wait\",\"id\":"),
+            Part::Plain("\",\"waits\":"),
+            Part::Number(wait.count),
+            Part::Plain(",\"waited\":"),
+            Part::Micros(wait.time),
+            Part::Plain("}},\n{\"ph\":\"e\",\"pid\":1,\"tid\":0,\"cat\":\"wait\",\"id\":"),
             Part::Number(id),
             Part::Plain(",\"name\":"),
             Part::Wait(wait.key),

@@ -1,7 +1,9 @@
+pub mod CoverLemmas
 pub mod HolderLemmas
 pub mod MomentLemmas
 pub mod RivalLemmas
 pub mod SiblingLemmas
+pub mod SumLemmas
 pub mod TurnLemmas
 pub mod WaitLemmas
 pub mod WaitedLemmas

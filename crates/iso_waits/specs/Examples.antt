@@ -1,6 +1,7 @@
 -- Times of bodies, for examples.
 use Rattle.std.specs.Prelude.{ℕ, List, [], ◌∷◌, Option, Some, None}
 use Rattle.iso_times.specs.declared.times.BodyTime.{BodyTime}
+use Rattle.iso_waits.specs.declared.wait.NodeWait.{NodeWait}
 use Rattle.iso_waits.specs.declared.wait.Wait.{Wait}
 
 -- a body, from a moment until another
@@ -18,3 +19,15 @@ b_before_a = None ∷ None ∷ body 100 102 ∷ body 110 111 ∷ body 107 109 �
 -- the same where a has no time
 abbrev pub a_without_time : List (Option BodyTime)
 a_without_time = None ∷ None ∷ body 100 102 ∷ body 110 111 ∷ None ∷ None ∷ body 103 106 ∷ None ∷ []
+
+-- a, which is node 2, waited for b, which is node 3, by key 1
+abbrev pub wait_for_b : NodeWait
+wait_for_b = record { node = 2; key = 1; begin = 3; end = 6; time = 3; count = 1; holder = 3; longest = 3; last = 3 }
+
+-- the same twice, from 3 until 6 and from 8 until 9
+abbrev pub for_b_and_then_for_b : NodeWait
+for_b_and_then_for_b = record { node = 2; key = 1; begin = 3; end = 9; time = 4; count = 2; holder = 3; longest = 3; last = 3 }
+
+-- node 2 waited by key 1 for node 3 until 6, for node 5 from 7 until 12, and as long for node 4 until 17
+abbrev pub three_waits : NodeWait
+three_waits = record { node = 2; key = 1; begin = 3; end = 17; time = 13; count = 3; holder = 5; longest = 5; last = 4 }

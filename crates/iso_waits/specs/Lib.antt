@@ -1,8 +1,10 @@
 pub mod AllWaits
 pub mod ContendedKeys
+pub mod Covers
 pub mod Examples
 pub mod Moments
 pub mod Rivals
 pub mod Stays
+pub mod Sums
 pub mod Turns
 pub mod Waits

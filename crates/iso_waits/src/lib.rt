@@ -10,6 +10,7 @@ mod ready;
 mod rivals;
 mod sight;
 pub mod stay;
+mod sums;
 mod told;
 pub mod wait;
 pub mod waits;

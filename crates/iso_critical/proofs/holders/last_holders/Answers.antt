@@ -1,28 +1,15 @@
-use Rattle.std.proofs.Common.{◌<◌, List, None, get_or, length, ap, ◌∙◌, take_all, arith}
-use Rattle.std.proofs.lemmas.List.{get_or_default}
-use Rattle.iso_critical.specs.Needs.{last_holder}
-use Rattle.iso_critical.proofs.HolderLemmas.{more}
-use Rattle.iso_plan.proofs.ColumnLemmas.{column-from}
+use Rattle.std.proofs.Common.{◌<◌, None, ap, ◌∙◌, arith}
+use Rattle.std.specs.Option.{option_map}
+use Rattle.iso_critical.specs.Needs.{last_holder, last_wait}
+use Rattle.iso_plan.proofs.ColumnLemmas.{column-push, column-read}
 use Rattle.iso_waits.specs.declared.wait.NodeWait.{NodeWait}
 use Rattle.iso_critical.proofs.holders.last_holders.Goals as goal
 
-pub loop-wait-preserved : goal.loop-wait-preserved
-loop-wait-preserved c =
-    let i = c.loop-wait.wait-index in
+pub nodes-preserved : goal.nodes-preserved
+nodes-preserved c =
     let waits = c.args.waits.now in
-    record {
-      size = c.note.ensures.size ∙ c.loop-wait.invariant.size;
-      found = λ n h.
-          more c.loop-wait.holders.items c.note.new.holders.items waits i (get_or waits i _) n c.loop-wait-test.true
-          (get_or_default waits i _ _ c.loop-wait-test.true) (c.note.ensures.noted n (let size = c.loop-wait.invariant.size in omega arith)) (c.loop-wait.invariant.found n h);
-    }
-
-pub returns : goal.returns
-returns c =
-    let waits = c.args.waits.now in
-    let xs = c.loop-wait.holders.items in
-    column-from (last_holder waits) xs c.args.nodes c.loop-wait.invariant.size
-    (λ m d h.
-    let inside : m < length xs = let size = c.loop-wait.invariant.size in omega arith in
-    get_or_default xs m d None inside ∙ c.loop-wait.invariant.found m h
-    ∙ ap (λ (ws : List NodeWait). last_holder ws m) (take_all c.loop-wait.wait-index waits (omega arith)))
+    let n = c.nodes.node in
+    let here : n < c.args.nodes = omega arith in
+    let read = column-read (λ n. last_wait n None waits) c.deref.result.now c.args.nodes n None (c.deref.ensures.value ∙ c.in_ok-last.ensures) here in
+    c.in_ok-push.ensures.items
+    ∙ column-push (last_holder waits) c.nodes.holders.items n c.last_holder.result c.nodes.invariant (c.last_holder.ensures ∙ ap (option_map (λ (w : NodeWait). w.last)) read)

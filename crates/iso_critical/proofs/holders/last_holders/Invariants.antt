@@ -1,9 +1,7 @@
-use Rattle.std.proofs.Common.{◌≡◌, ◌<◌, ℕ, None, get_or, length, take}
+use Rattle.std.proofs.Common.{◌≡◌}
 use Rattle.iso_critical.specs.Needs.{last_holder}
+use Rattle.iso_plan.specs.Paths.{column}
 use Rattle.iso_critical.proofs.holders.last_holders.Given as goal
 
-abbrev pub invariant-loop-wait : goal.invariant-loop-wait
-invariant-loop-wait l = record {
-  size : length l.holders.items ≡ l.nodes;
-  found : (n : ℕ) → n < l.nodes → get_or l.holders.items n None ≡ last_holder (take l.wait-index l.waits) n;
-}
+abbrev pub invariant-nodes : goal.invariant-nodes
+invariant-nodes l = l.holders.items ≡ column (last_holder l.waits) l.node

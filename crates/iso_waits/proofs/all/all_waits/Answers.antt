@@ -1,20 +1,23 @@
-use Rattle.std.proofs.Common.{◌≡◌, ℕ, suc, ◌+◌, ◌-◌, ◌<◌, List, ◌++◌, Option, length, map, ap, ap₂, ◌∙◌, arith}
+use Rattle.std.proofs.Common.{◌≡◌, ℕ, suc, ◌+◌, ◌-◌, ◌<◌, List, ◌++◌, Option, length, ap, ap₂, subst, sym, ◌∙◌, arith}
 use Rattle.std.proofs.lemmas.List.Elements.{All-same}
+use Rattle.std.specs.List.{filter_map}
+use Rattle.iso_plan.specs.declared.lock.Lock.{Lock}
 use Rattle.iso_plan.specs.Planned.{Planned}
 use Rattle.iso_plan.specs.RowView.{tree_of}
 use Rattle.iso_plan.specs.Tree.{Row}
 use Rattle.iso_settings.specs.declared.settings.Settings.{Settings}
 use Rattle.iso_times.specs.declared.times.BodyTime.{BodyTime}
 use Rattle.iso_waits.proofs.HolderLemmas.{waits-for}
-use Rattle.iso_waits.specs.AllWaits.{IsFor, node_waits, waits_of_first, with_key}
+use Rattle.iso_waits.proofs.SumLemmas.{sums-are, sums-next}
+use Rattle.iso_waits.specs.AllWaits.{IsFor, key_waits, node_waits, wait_for, waits_of_first}
 use Rattle.iso_waits.specs.Rivals.{Ran}
+use Rattle.iso_waits.specs.Sums.{AreSums, sums_of}
 use Rattle.iso_waits.specs.Waits.{waits}
 use Rattle.iso_waits.specs.declared.wait.NodeWait.{NodeWait}
-use Rattle.iso_waits.specs.declared.wait.Wait.{Wait}
 use Rattle.iso_waits.proofs.all.all_waits.Goals as goal
 
-pub add-requires-clause-waits : goal.add-requires-clause-waits
-add-requires-clause-waits c =
+pub add_up-requires-clause-waits : goal.add_up-requires-clause-waits
+add_up-requires-clause-waits c =
     let plan = c.args.plan.now in
     let n = c.nodes.node in
     let same = ap₂ (λ (p : Planned) (b : List (Option BodyTime)). waits (tree_of p) p.settings b n) c.nodes.invariant.plan c.nodes.invariant.bodies in
@@ -33,15 +36,22 @@ nodes-preserved c =
     let plan = c.args.plan.now in
     let tree = tree_of plan in
     let n = c.nodes.node in
+    let sums = c.deref-in-nodes.result.now in
+    let ls = c.locks.result.now in
+    let ws = c.deref.result.now in
     let same = ap₂ (λ (p : Planned) (b : List (Option BodyTime)). waits (tree_of p) p.settings b n) c.nodes.invariant.plan c.nodes.invariant.bodies in
-    let found = c.deref.ensures.value ∙ c.in_ok-found.ensures.waits ∙ same in
+    let found : ws ≡ waits tree plan.settings c.args.times.now n = c.deref.ensures.value ∙ c.in_ok-found.ensures.waits ∙ same in
+    let are : AreSums tree n ws sums = subst (AreSums tree n ws) (sym c.deref-in-nodes.ensures.value) c.add_up.ensures in
+    let told : sums_of n sums ls ≡ key_waits tree n ws =
+    sums-are tree n ws sums ls are c.locks.ensures.known ∙ ap (filter_map (λ (l : Lock). wait_for tree n ws l.key)) c.locks.ensures.locks in
     let above : 0 < n = omega arith in
     record {
-      plan = ap (λ (r : Ran). r.plan) c.waits.ensures.same ∙ c.nodes.invariant.plan;
-      bodies = ap (λ (r : Ran). r.bodies) c.waits.ensures.same ∙ c.nodes.invariant.bodies;
+      plan = ap (λ (r : Ran). r.plan) c.waits-in-nodes.ensures.same ∙ c.nodes.invariant.plan;
+      bodies = ap (λ (r : Ran). r.bodies) c.waits-in-nodes.ensures.same ∙ c.nodes.invariant.bodies;
+      sums = sums-next tree n ws c.add_up.new.sums.items c.add_up.ensures;
       found =
-          c.in_ok-add.ensures
-          ∙ ap₂ (λ (a : List NodeWait) (ws : List Wait). a ++ map (with_key tree n) ws) c.nodes.invariant.found found
+          c.in_ok-append.ensures
+          ∙ ap₂ (λ (all more : List NodeWait). all ++ more) c.nodes.invariant.found (told ∙ ap (key_waits tree n) found)
           ∙ next tree plan.settings c.args.times.now n above;
     }
 
