@@ -39,6 +39,13 @@ impl LineTable {
         Ok(LineTable { starts })
     }
 
+    /// The number of its last line, which is empty where the script ends in a line feed.
+    pub fn last(&self) -> u64
+        ensures { result ≡ length self.now }
+    {
+        self.starts.len() as u64
+    }
+
     /// A line of the script of this table by its number, without its line end, LF or CR LF. Lines count from 1; one that isn't there is
     /// empty. Takes no memory, and no longer where the script or the line is longer.
     pub fn line<'a>(&self, bytes: &'a [u8], number: u64) -> &'a [u8]
