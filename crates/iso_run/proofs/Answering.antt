@@ -9,6 +9,8 @@ use Rattle.iso_run.proofs.Late.{late-so}
 use Rattle.iso_run.specs.Commands.{AreFor, IsRefused, files_asked, way_of}
 use Rattle.iso_run.specs.Ends.{End, Whole, LacksFile, Refuses, GivesUp, BreaksOff, Answers, IfLate, IsEnded, IsOfFile, Leaves, NamesFile, command_end, end_of, run_end}
 use Rattle.iso_run.specs.Replays.{Cause}
+use Rattle.iso_run.specs.Watches.{TellsRun}
+use Rattle.iso_telling.specs.Pages.{WatchedView}
 use Rattle.iso_run.specs.Runs.{IsWritten, Product, TellsOf, Writes, suite_outcome, suite_report}
 use Rattle.iso_run.specs.Suites.{Suite}
 use Rattle.iso_run.specs.declared.command_fault.CommandFault.{CommandFault}
@@ -41,16 +43,17 @@ answered-as P Q f C D k old new result h =
     weaker ⊤ P Q (λ late ok h. f ok h) C D k _ _ (λ failed. failed) old new end (late-so ⊤ end tt) h
 
 -- the files of what is told besides, by their names
-pub files-named : (besides : Besides) (extras : Extras) → besides.failed ≡ extras.failed → besides.junit ≡ extras.junit → besides.schedule ≡ extras.«record» → besides.trace ≡ extras.trace
+pub files-named : (besides : Besides) (extras : Extras) → besides.failed ≡ extras.failed → besides.junit ≡ extras.junit → besides.html ≡ extras.html → besides.schedule ≡ extras.«record» → besides.trace ≡ extras.trace
     → files_of besides ≡ files_asked extras
-files-named besides extras failed junit schedule trace = rw (failed, junit, schedule, trace) refl
+files-named besides extras failed junit html schedule trace = rw (failed, junit, html, schedule, trace) refl
 
 pub no-file : (besides : Besides) → NamesNone besides → NamesFile (files_of besides) → ⊥
 no-file besides none (inl named) = named none.0
 no-file besides none (inr (inl named)) = named none.1
 no-file besides none (inr (inr (inl named))) = named none.2
 no-file besides none (inr (inr (inr (inl named)))) = named none.3
-no-file besides none (inr (inr (inr (inr nothing)))) = nothing
+no-file besides none (inr (inr (inr (inr (inl named))))) = named none.4
+no-file besides none (inr (inr (inr (inr (inr nothing))))) = nothing
 
 -- what is left beside a file that is lacking of these, where this is true of a whole output
 abbrev pub Lacking : (Account → Bool → Type 0) → List (Option (Bor (List ℕ))) → Account → Type 0
@@ -121,8 +124,8 @@ run-refused files input inputs serial way nothing are is file old mid new (Err f
       cause = subst (λ (w : Way). Cause inputs w fault) is writes.cause;
     }
 
-quiet-told : (inputs : Inputs) (times : List (Option ℕ)) (old new : Tells) → TellsOf inputs times old new → IsQuiet old → IsQuiet new
-quiet-told inputs times old new h quiet =
+quiet-told : (inputs : Inputs) (times : List (Option ℕ)) (watched : Option WatchedView) (old new : Tells) → TellsOf inputs times watched old new → IsQuiet old → IsQuiet new
+quiet-told inputs times watched old new h quiet =
     let suite = h.0 in
     let placed = h.2.told.placed in
     let sites = h.2.told.sites in
@@ -134,12 +137,12 @@ quiet-told inputs times old new h quiet =
     )
 
 -- where nothing is to be told on standard error, nothing was told
-pub still-quiet : {A F : Type 0} (inputs : Inputs) (old new : Tells) (result : Result A F) → OnOk result ((times : List (Option ℕ)) × TellsOf inputs times old new)
+pub still-quiet : {A F : Type 0} (inputs : Inputs) (way : Way) (old new : Tells) (result : Result A F) → OnOk result (TellsRun inputs way old new)
     → IsQuiet old → OnOk result (IsQuiet new)
-still-quiet inputs old new (Ok a) h quiet = quiet-told inputs h.0 old new h.1 quiet
-still-quiet inputs old new (Err e) h quiet = tt
+still-quiet inputs way old new (Ok a) h quiet = quiet-told inputs h.0 h.1 old new h.3 quiet
+still-quiet inputs way old new (Err e) h quiet = tt
 
-pub still-quiet-untimed : {A F : Type 0} (inputs : Inputs) (old new : Tells) (result : Result A F) → OnOk result (TellsOf inputs [] old new)
+pub still-quiet-untimed : {A F : Type 0} (inputs : Inputs) (old new : Tells) (result : Result A F) → OnOk result (TellsOf inputs [] None old new)
     → IsQuiet old → OnOk result (IsQuiet new)
-still-quiet-untimed inputs old new (Ok a) h quiet = quiet-told inputs [] old new h quiet
+still-quiet-untimed inputs old new (Ok a) h quiet = quiet-told inputs [] None old new h quiet
 still-quiet-untimed inputs old new (Err e) h quiet = tt

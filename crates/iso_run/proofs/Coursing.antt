@@ -4,7 +4,7 @@ use Rattle.std.proofs.Math.Dec.{ltb}
 use Rattle.std.proofs.lemmas.Bool.{leb-true, ltb-false}
 use Rattle.std.specs.Borrow.{Bor}
 use Rattle.std.specs.List.{AllByRecursion}
-use Rattle.std.specs.Option.{option_or}
+use Rattle.std.specs.Option.{option_map, option_or}
 use Rattle.iso_book.specs.Books as Books
 use Rattle.iso_book.specs.Books.{BookView}
 use Rattle.iso_core.specs.Cores.{is_complete}
@@ -26,6 +26,8 @@ use Rattle.iso_record.specs.SerialRuns.{AreSerialRecordOf}
 use Rattle.iso_record.specs.Texts.{schedule_text}
 use Rattle.iso_run.specs.Courses.{AreEvents, AreInOrder, AreRecord, AreWhole, HasObserved, IsCounted, IsCourse, IsRunOf, IsScheduled, IsUnasked, ObservedView, TellsCourse, trace_of, wants_times}
 use Rattle.iso_run.specs.Runs.{IsRead}
+use Rattle.iso_run.specs.Watches.{IsWatch, WasWatched, WasWatchedOf, watched_with}
+use Rattle.iso_run.specs.declared.observation.Watch.{Watch}
 use Rattle.iso_run.specs.Suites.{asks_for_paths, kept_fault, kept_nodes, planned, suite_of, wishes_in}
 use Rattle.iso_run.specs.declared.course.Course.{Course}
 use Rattle.iso_run.specs.declared.inputs.Inputs.{Inputs}
@@ -40,6 +42,7 @@ use Rattle.iso_standing.specs.declared.event.Event.{Event}
 use Rattle.iso_suites.specs.ScriptLanguage.{scripts}
 use Rattle.iso_suites.specs.SuiteStates.{suite_at}
 use Rattle.iso_tap.specs.Sinks.{Account, Wrote}
+use Rattle.iso_telling.specs.Pages.{WatchedView}
 use Rattle.iso_telling.specs.Telling.{IsTold}
 
 -- what a book's record and a record of worker 0 alone are
@@ -123,6 +126,18 @@ module _ (inputs : Inputs) (keeps : Bool) (suite : ReadSuite) (is : IsRead input
       → OnOk result (TellsCourse inputs way old new)
   course-told way old new (Ok a) h = course_of_suite way old new h
   course-told way old new (Err e) h = tt
+
+  -- what was watched of a run of a suite that was read was watched of the suite that its inputs are
+  pub watched-of : (way : Way) (asked : Bool) (watched : Option WatchedView) → WasWatched way suite.plan suite.world suite.settings.worker_count asked watched → WasWatchedOf inputs way asked watched
+  watched-of way asked watched h =
+      (suite_of inputs suite, is.is_suite, subst (λ (p : Planned). WasWatched way p suite.world suite.settings.worker_count asked watched) is.planned_as h)
+
+-- what is known of a run where it is watched was watched of it
+pub watched-by : (way : Way) (plan : Planned) (start : Start) (workers : ℕ) (run : ObservedView) → IsRunOf way plan start workers run → (asked : Bool) (watch : Option Watch)
+    → IsWatch run asked watch → WasWatched way plan start workers asked (option_map (watched_with run.times) watch)
+watched-by way plan start workers run is false watch h = ap (option_map (watched_with run.times)) h
+watched-by way plan start workers run is true None h = absurd h
+watched-by way plan start workers run is true (Some w) h = record { run = run; is_run = is; bodies = refl; figures = h.0; waits = h.1 }
 
 -- where nothing is asked for of times, nothing is told of them
 pub nothing-observed : (run : ObservedView) (course : Course) → wants_times course ≡ false → HasObserved run course course

@@ -1,5 +1,5 @@
 -- The report of results is that of their suite.
-use Rattle.std.proofs.Common.{◌≡◌, ℕ, List, Bool, true, Result, Ok, Err, MatchResult, OnOk, Option, refl, subst, sym, ap, ap₂, ◌∙◌}
+use Rattle.std.proofs.Common.{◌≡◌, ℕ, List, Bool, true, Result, Ok, Err, MatchResult, OnOk, Option, is_some, refl, subst, sym, ap, ap₂, ◌∙◌}
 use Rattle.iso_run.specs.Suites.{IsSuite, Suite, planned, texts}
 use Rattle.iso_run.specs.declared.inputs.Inputs.{Inputs}
 use Rattle.iso_lifecycle.specs.ResultViews.{ResultsView, outcome_in}
@@ -11,6 +11,8 @@ use Rattle.iso_tap.specs.Reports.{all_ok, report}
 use Rattle.iso_tap.specs.Sinks.{Account, Wrote}
 use Rattle.iso_run.specs.Replays.{IsPlayed}
 use Rattle.iso_run.specs.Runs.{IsCutOff, IsUnwritten, Product, TellsOf, Writes, suite_report}
+use Rattle.iso_run.specs.Watches.{TellsRun, WasWatchedOf}
+use Rattle.iso_telling.specs.Pages.{WatchedView}
 use Rattle.iso_telling.specs.Telling.{HasTold, wants_places}
 use Rattle.iso_telling.specs.Written.{ArePlaced, WrittenView}
 use Rattle.iso_telling.specs.declared.tells.Tells.{Tells}
@@ -63,25 +65,25 @@ module _ (inputs : Inputs) (old new : Account) (suite : Suite) (plan : Planned) 
   reported way played (Err fault) h = unreported way played fault h
 
   -- what was told of the results of a suite was told of it
-  told_of : (w : WrittenView) (times : List (Option ℕ)) (before after : Tells) → w.texts ≡ texts inputs.scripts.now
+  told_of : (w : WrittenView) (times : List (Option ℕ)) (watched : Option WatchedView) (before after : Tells) → w.texts ≡ texts inputs.scripts.now
       → (wants_places before ≡ true → ArePlaced w.texts w.scripts w.places)
-      → HasTold w (tree_of plan) (outcome_in v) times before after → TellsOf inputs times before after
-  told_of w times before after same placed h =
-      let started_so = subst (λ (s : Start). HasTold w (tree_of plan) (outcome_alone (tree_of v.plan) (started s)) times before after) on h in
-      let planned_so = subst (λ (p : Planned). HasTold w (tree_of plan) (outcome_alone (tree_of p) (started suite.start)) times before after) of started_so in
-      let all = subst (λ (p : Planned). HasTold w (tree_of p) (outcome_alone (tree_of p) (started suite.start)) times before after) made planned_so in
+      → HasTold w (tree_of plan) (outcome_in v) times watched before after → TellsOf inputs times watched before after
+  told_of w times watched before after same placed h =
+      let started_so = subst (λ (s : Start). HasTold w (tree_of plan) (outcome_alone (tree_of v.plan) (started s)) times watched before after) on h in
+      let planned_so = subst (λ (p : Planned). HasTold w (tree_of plan) (outcome_alone (tree_of p) (started suite.start)) times watched before after) of started_so in
+      let all = subst (λ (p : Planned). HasTold w (tree_of p) (outcome_alone (tree_of p) (started suite.start)) times watched before after) made planned_so in
       (suite, is, record { written = w; texts_are = same; placed = placed; told = all })
 
-  pub told : {A F : Type 0} (w : WrittenView) (times : List (Option ℕ)) (before after : Tells) → w.texts ≡ texts inputs.scripts.now
+  pub told : {A F : Type 0} (w : WrittenView) (times : List (Option ℕ)) (watched : Option WatchedView) (before after : Tells) → w.texts ≡ texts inputs.scripts.now
       → (wants_places before ≡ true → ArePlaced w.texts w.scripts w.places)
-      → (result : Result A F) → OnOk result (HasTold w (tree_of plan) (outcome_in v) times before after) → OnOk result (TellsOf inputs times before after)
-  told w times before after same placed (Ok a) h = told_of w times before after same placed h
-  told w times before after same placed (Err e) h = tt
+      → (result : Result A F) → OnOk result (HasTold w (tree_of plan) (outcome_in v) times watched before after) → OnOk result (TellsOf inputs times watched before after)
+  told w times watched before after same placed (Ok a) h = told_of w times watched before after same placed h
+  told w times watched before after same placed (Err e) h = tt
 
-  -- the same, with times that may be any
-  pub told-timed : {A F : Type 0} (w : WrittenView) (times : List (Option ℕ)) (before after : Tells) → w.texts ≡ texts inputs.scripts.now
+  -- the same of a run that was watched, with times that may be any
+  pub told-run : {A F : Type 0} (way : Way) (w : WrittenView) (times : List (Option ℕ)) (watched : Option WatchedView) (before after : Tells) → WasWatchedOf inputs way (is_some before.html) watched → w.texts ≡ texts inputs.scripts.now
       → (wants_places before ≡ true → ArePlaced w.texts w.scripts w.places)
-      → (result : Result A F) → OnOk result (HasTold w (tree_of plan) (outcome_in v) times before after)
-      → OnOk result ((any : List (Option ℕ)) × TellsOf inputs any before after)
-  told-timed w times before after same placed (Ok a) h = (times, told_of w times before after same placed h)
-  told-timed w times before after same placed (Err e) h = tt
+      → (result : Result A F) → OnOk result (HasTold w (tree_of plan) (outcome_in v) times watched before after)
+      → OnOk result (TellsRun inputs way before after)
+  told-run way w times watched before after seen same placed (Ok a) h = (times, (watched, (seen, told_of w times watched before after same placed h)))
+  told-run way w times watched before after seen same placed (Err e) h = tt

@@ -57,11 +57,11 @@ IsQuiet tells = (tells.summary ≡ None) × (tells.durations ≡ None) × (tells
 
 -- the files that are to be written besides, where they are named
 abbrev pub files_of : Besides → List (Option (Bor (List ℕ)))
-files_of besides = besides.failed ∷ besides.junit ∷ besides.schedule ∷ besides.trace ∷ []
+files_of besides = besides.failed ∷ besides.junit ∷ besides.html ∷ besides.schedule ∷ besides.trace ∷ []
 
 -- no file is to be written
 abbrev pub NamesNone : Besides → Type 0
-NamesNone besides = (besides.failed ≡ None) × (besides.junit ≡ None) × (besides.schedule ≡ None) × (besides.trace ≡ None)
+NamesNone besides = (besides.failed ≡ None) × (besides.junit ≡ None) × (besides.html ≡ None) × (besides.schedule ≡ None) × (besides.trace ≡ None)
 
 -- nothing is to be told on standard error, nothing of the course of a run, and no file is to be written
 abbrev pub IsPlain : Besides → Type 0

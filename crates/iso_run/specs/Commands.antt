@@ -15,6 +15,7 @@ use Rattle.iso_arguments.specs.declared.request.Summarized.TheVariants.{Failed, 
 use Rattle.iso_arguments.specs.declared.shard.Shard as A
 use Rattle.iso_explain_settings.specs.Listing.{listing_text}
 use Rattle.iso_model.specs.declared.limits.TheConstants.{FILE_BYTES}
+use Rattle.iso_html.specs.declared.again.Commands as P
 use Rattle.iso_run.specs.Ends.{End, NamesFile, Whole, Refuses, Leaves, exit_status, run_end}
 use Rattle.iso_run.specs.Replays.{Cause}
 use Rattle.iso_places.specs.declared.site.Site.{Site}
@@ -140,7 +141,7 @@ pub record Answered {A : Type 0} (words : List A) (input : Option (List ℕ)) (o
 
 -- the files that are asked for besides, where they are named
 abbrev pub files_asked : Extras → List (Option (Bor (List ℕ)))
-files_asked extras = extras.failed ∷ extras.junit ∷ extras.«record» ∷ extras.trace ∷ []
+files_asked extras = extras.failed ∷ extras.junit ∷ extras.html ∷ extras.«record» ∷ extras.trace ∷ []
 
 -- the files that a request has written besides, where it names them
 abbrev pub files_named : Request → List (Option (Bor (List ℕ)))
@@ -201,3 +202,7 @@ again_of files processors =
       world = files.world;
       processors = option_map (λ asked. processors) files.processors;
     }
+
+-- the commands that a page tells, of a command with these files where so many processors were counted with
+abbrev pub page_commands : InputFiles → (processors : ℕ) → P.Commands
+page_commands files processors = record { again = again_of files processors; named = not (length files.scripts.items == 0) }

@@ -6,3 +6,4 @@ pub mod Parts
 pub mod Replays
 pub mod Runs
 pub mod Suites
+pub mod Watches

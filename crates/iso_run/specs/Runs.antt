@@ -26,6 +26,7 @@ use Rattle.iso_tap.specs.PlanText.{plan_text, tests_text}
 use Rattle.iso_tap.specs.Reports.{all_ok, report}
 use Rattle.iso_tap.specs.Sinks.{Account, HasFailed, Took, Wrote}
 use Rattle.iso_why.specs.PlanWhy.{plan_why, tests_why}
+use Rattle.iso_telling.specs.Pages.{WatchedView}
 use Rattle.iso_telling.specs.Telling.{HasTold, wants_places}
 use Rattle.iso_telling.specs.Written.{ArePlaced, WrittenView}
 use Rattle.iso_telling.specs.declared.tells.Tells.{Tells}
@@ -86,15 +87,16 @@ pub record IsRead (inputs : Inputs) (keeps : Bool) (suite : ReadSuite) : Type 0 
 abbrev pub as_written : ReadSuite → List (Bor (List ℕ)) → WrittenView
 as_written suite scripts = record { scripts = map script_of suite.scripts.items; places = places_in suite.places.items; texts = texts scripts }
 
--- Of a suite all that is asked for was told besides, with these times of its nodes. What is told with places is told with those that stand in the bytes of its scripts.
-pub record IsToldOf (inputs : Inputs) (suite : Suite) (times : List (Option ℕ)) (old new : Tells) : Type 0 where
+-- Of a suite all that is asked for was told besides, with these times of its nodes, and with what was watched of a run. What is told with places is
+-- told with those that stand in the bytes of its scripts.
+pub record IsToldOf (inputs : Inputs) (suite : Suite) (times : List (Option ℕ)) (watched : Option WatchedView) (old new : Tells) : Type 0 where
   pub written : WrittenView
   pub texts_are : written.texts ≡ texts inputs.scripts.now
   pub placed : wants_places old ≡ true → ArePlaced written.texts written.scripts written.places
-  pub told : HasTold written suite.nodes (suite_outcome suite) times old new
+  pub told : HasTold written suite.nodes (suite_outcome suite) times watched old new
 
-abbrev pub TellsOf : Inputs → (times : List (Option ℕ)) → (old new : Tells) → Type 0
-TellsOf inputs times old new = OfSuite inputs (λ suite. IsToldOf inputs suite times old new)
+abbrev pub TellsOf : Inputs → (times : List (Option ℕ)) → (watched : Option WatchedView) → (old new : Tells) → Type 0
+TellsOf inputs times watched old new = OfSuite inputs (λ suite. IsToldOf inputs suite times watched old new)
 
 -- Sites are those of the nodes of the suite that inputs are, by what stands in the bytes of its scripts.
 pub record AreSitesOf (inputs : Inputs) (suite : Suite) (sites : List Site) : Type 0 where

@@ -7,7 +7,7 @@ use crate::besides::Besides;
 use crate::command_fault::CommandFault;
 use crate::files::write_file;
 use crate::lines::say;
-use crate::parts::text_bytes;
+use crate::parts::{page_bytes, text_bytes};
 use iso_tap::printer::Printer;
 use iso_tap::sink::Sink;
 use std::fs::Files;
@@ -26,10 +26,12 @@ pub(crate) fn filed<'a, G: Files, E: Sink>(
 {
     let failed = text_bytes(&besides.tells.failed);
     let junit = text_bytes(&besides.tells.junit);
+    let html = page_bytes(&besides.tells.html);
     let schedule = text_bytes(&besides.course.schedule);
     let trace = text_bytes(&besides.course.trace);
     let lost = unwritten(rt, None, after, besides.failed, failed, errors);
     let lost = unwritten(rt, lost, after, besides.junit, junit, errors);
+    let lost = unwritten(rt, lost, after, besides.html, html, errors);
     let lost = unwritten(rt, lost, after, besides.schedule, schedule, errors);
     match unwritten(rt, lost, after, besides.trace, trace, errors) {
         Some(name) => Err(CommandFault::Unwritable(name)),

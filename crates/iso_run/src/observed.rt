@@ -1,13 +1,14 @@
 //! What a run tells of its times: a trace, and figures.
-ghost use Rattle.std.specs.Prelude.{◌≡◌, OnOk, Some};
+ghost use Rattle.std.specs.Prelude.{◌≡◌, IfOk, OnOk, Some};
 ghost use Rattle.iso_plan.specs.RowView.{tree_of};
-ghost use Rattle.iso_run.specs.Courses.{HasObserved, IsCounted, observed_of, trace_of};
+ghost use Rattle.iso_run.specs.Courses.{HasObserved, IsCounted, observed_of, trace_of, waits_of};
+ghost use Rattle.iso_run.specs.Watches.{IsWatch};
 ghost use Rattle.iso_tap.specs.Sinks.{Wrote};
 ghost use Rattle.iso_telling.specs.Telling.{IsTold};
 ghost use Rattle.iso_waits.specs.AllWaits.{all_waits};
 
 use crate::course::Course;
-use crate::observation::Observed;
+use crate::observation::{Observed, Watch};
 use iso_critical::critical::critical;
 use iso_stats::measures::figures;
 use iso_stats::text::write_stats;
@@ -18,20 +19,41 @@ use iso_waits::all::all_waits;
 use iso_waits::wait::NodeWait;
 use std::alloc::{AllocError, Global};
 
-/// Tells what is asked for of the times of a run. What nodes waited for is worked out only where it is.
+/// Tells what is asked for of the times of a run, and answers what was watched of it, if that is asked for. What nodes waited for is worked
+/// out only where it is.
 pub(crate) fn observe(
     alloc: Global,
     run: &Observed<'_, '_>,
+    asked: bool,
     course: &mut Course,
-) -> Result<(), AllocError>
-    ensures { OnOk result (HasObserved (observed_of run.now) course.old course.new) }
+) -> Result<Option<Watch>, AllocError>
+    ensures course { OnOk result (HasObserved (observed_of run.now) course.old course.new) }
+    ensures watch { IfOk result (λ w. IsWatch (observed_of run.now) asked w) }
 {
-    if !course.wants_times() {
-        return Ok(());
+    if !asked && !course.wants_times() {
+        return Ok(None);
     }
     let waits = all_waits(alloc, run.plan, run.times)?;
     tell_trace(alloc, run, &waits, &mut course.trace)?;
-    tell_stats(alloc, run, &waits, &mut course.stats)
+    tell_stats(alloc, run, &waits, &mut course.stats)?;
+    watch(alloc, run, asked, waits)
+}
+
+/// What was watched of a run whose nodes had these waits, if that is asked for.
+fn watch(
+    alloc: Global,
+    run: &Observed<'_, '_>,
+    asked: bool,
+    waits: Vec<NodeWait>,
+) -> Result<Option<Watch>, AllocError>
+    requires { waits.items ≡ waits_of (observed_of run.now) }
+    ensures { IfOk result (λ w. IsWatch (observed_of run.now) asked w) }
+{
+    if !asked {
+        return Ok(None);
+    }
+    let figures = figures(alloc, run.plan, run.times, &waits, run.started, run.of)?;
+    Ok(Some(Watch { figures, waits }))
 }
 
 /// Tells the trace of a run whose nodes had these waits, where it is asked for.

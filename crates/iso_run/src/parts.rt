@@ -12,7 +12,7 @@ use iso_model::limits::FILE_BYTES;
 use iso_tap::memory::MemorySink;
 use iso_tap::printer::Printer;
 use iso_tap::sink::{Sink, SinkFailed};
-use iso_telling::tells::{DurationsText, SummaryText};
+use iso_telling::tells::{DurationsText, PageText, SummaryText};
 
 /// What stands on standard error after a report, or nothing.
 #[derive(Clone, Copy)]
@@ -179,6 +179,16 @@ pub(crate) fn text_bytes(text: &Option<MemorySink>) -> &[u8]
 {
     match text {
         Some(text) => text.bytes(),
+        None => &[],
+    }
+}
+
+/// The text of a page, where one is asked for.
+pub(crate) fn page_bytes<'a>(page: &'a Option<PageText<'_>>) -> &'a [u8]
+    ensures { result.now ≡ text_in (option_map (λ p. p.text) page.now) }
+{
+    match page {
+        Some(page) => page.text.bytes(),
         None => &[],
     }
 }

@@ -1,6 +1,6 @@
 //! Replays of recorded schedules, from their inputs to the report.
 ghost use Rattle.std.specs.Borrow.{Bor};
-ghost use Rattle.std.specs.Prelude.{◌≤◌, [], List, Ok, OnOk, ℕ};
+ghost use Rattle.std.specs.Prelude.{◌≤◌, [], List, None, Ok, OnOk, ℕ};
 ghost use Rattle.iso_run.specs.declared.way.Way.TheVariants.{BySchedule};
 ghost use Rattle.iso_run.specs.Runs.{IsRead, TellsOf, Writes, suite_report};
 ghost use Rattle.iso_schedule.specs.Schedules.{AreRead};
@@ -8,7 +8,7 @@ ghost use Rattle.iso_telling.specs.Telling.{wants_places};
 
 use crate::fault::RunFault;
 use crate::inputs::{Inputs, Suite, read_inputs};
-use crate::report::{Summary, write_results};
+use crate::report::{Finished, Summary, write_results};
 use iso_core::run_events::run_events;
 use iso_schedule::reader::read_schedule;
 use iso_standing::event::Event;
@@ -32,7 +32,7 @@ pub fn run_schedule<W: Sink>(
     requires { 1 ≤ inputs.processors }
     ensures report { Writes (λ s. s.all_ok) suite_report inputs.entry (BySchedule schedule.entry)
         (W.account sink.old) (W.account sink.new) result }
-    ensures told { OnOk result (TellsOf inputs.entry [] tells.old tells.new) }
+    ensures told { OnOk result (TellsOf inputs.entry [] None tells.old tells.new) }
 {
     let suite = read_inputs(alloc, inputs, tells.wants_places())?;
     replay_on(alloc, inputs, &suite, schedule, tells, sink)
@@ -50,7 +50,7 @@ fn replay_on<W: Sink>(
     requires { IsRead inputs (wants_places tells.old) suite.now }
     ensures report { Writes (λ s. s.all_ok) suite_report inputs.entry (BySchedule schedule.entry)
         (W.account sink.old) (W.account sink.new) result }
-    ensures told { OnOk result (TellsOf inputs.entry [] tells.old tells.new) }
+    ensures told { OnOk result (TellsOf inputs.entry [] None tells.old tells.new) }
 {
     let events = read_schedule(alloc, schedule)?;
     replay_events(alloc, inputs, suite, &events, tells, sink)
@@ -68,21 +68,18 @@ fn replay_events<W: Sink>(
     requires { IsRead inputs (wants_places tells.old) suite.now }
     ensures report { (schedule : Bor (List ℕ)) → AreRead schedule.now (Ok events.now)
         → Writes (λ s. s.all_ok) suite_report inputs.entry (BySchedule schedule) (W.account sink.old) (W.account sink.new) result }
-    ensures told { OnOk result (TellsOf inputs.entry [] tells.old tells.new) }
+    ensures told { OnOk result (TellsOf inputs.entry [] None tells.old tells.new) }
 {
     let workers = suite.settings.workers();
     let core = run_events(alloc, &suite.plan, &suite.world, workers, events)?;
     if !core.is_complete() {
         Err(RunFault::Unfinished)
     } else {
-        write_results(
-            alloc,
-            suite,
-            inputs.scripts,
-            core.results(),
-            &[],
-            tells,
-            sink,
-        )
+        let run = Finished {
+            results: core.results(),
+            times: &[],
+            watched: None,
+        };
+        write_results(alloc, suite, inputs.scripts, &run, tells, sink)
     }
 }

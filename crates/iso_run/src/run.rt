@@ -1,19 +1,21 @@
 //! Runs of a suite on one thread, from its inputs to its report.
-ghost use Rattle.std.specs.Prelude.{◌≡◌, ◌≤◌, ℕ, IfOk, List, OnOk, Option};
+ghost use Rattle.std.specs.Prelude.{◌≡◌, ◌≤◌, IfOk, OnOk, is_some};
+ghost use Rattle.std.specs.Option.{option_map};
 ghost use Rattle.iso_run.specs.Courses.{AreEvents, IsCourse, TellsCourse};
 ghost use Rattle.iso_lifecycle.specs.ResultViews.{AreComplete};
-ghost use Rattle.iso_run.specs.Runs.{TellsOf, Writes, suite_report};
+ghost use Rattle.iso_run.specs.Runs.{Writes, suite_report};
+ghost use Rattle.iso_run.specs.Watches.{TellsRun, WasWatched, watched_with};
 ghost use Rattle.iso_run.specs.declared.way.Way.TheVariants.{Serial};
 
 use crate::counts::CountingGate;
 use crate::course::Course;
 use crate::fault::RunFault;
 use crate::inputs::{Inputs, Suite, read_inputs};
-use crate::observation::Observed;
+use crate::observation::{Observed, Watch, watched};
 use crate::observed::observe;
 use crate::progress::{Progress, Unshown};
 use crate::recorded::tell_alone;
-use crate::report::{Summary, write_results};
+use crate::report::{Finished, Summary, write_results};
 use crate::times::node_times;
 use iso_lifecycle::gate::{Gate, OpenGate};
 use iso_lifecycle::results::Results;
@@ -21,6 +23,7 @@ use iso_serial::run::run_at;
 use iso_tap::sink::Sink;
 use iso_telling::tells::Tells;
 use iso_times::gate::TimesGate;
+use iso_times::times::Times;
 use std::alloc::{AllocError, Global};
 use std::rt::Clock;
 
@@ -40,7 +43,7 @@ pub fn run_serial<C: Clock, W: Sink>(
 ) -> Result<Summary, RunFault>
     requires { 1 ≤ inputs.processors }
     ensures report { Writes (λ s. s.all_ok) suite_report inputs.entry Serial (W.account sink.old) (W.account sink.new) result }
-    ensures told { OnOk result ((times : List (Option ℕ)) × TellsOf inputs.entry times tells.old tells.new) }
+    ensures told { OnOk result (TellsRun inputs.entry Serial tells.old tells.new) }
     ensures course { OnOk result (TellsCourse inputs.entry Serial course.old course.new) }
 {
     run_serial_shown(clock, alloc, inputs, &mut Unshown, tells, course, sink)
@@ -58,47 +61,55 @@ pub(crate) fn run_serial_shown<C: Clock, P: Progress, W: Sink>(
 ) -> Result<Summary, RunFault>
     requires { 1 ≤ inputs.processors }
     ensures report { Writes (λ s. s.all_ok) suite_report inputs.entry Serial (W.account sink.old) (W.account sink.new) result }
-    ensures told { OnOk result ((times : List (Option ℕ)) × TellsOf inputs.entry times tells.old tells.new) }
+    ensures told { OnOk result (TellsRun inputs.entry Serial tells.old tells.new) }
     ensures course { OnOk result (TellsCourse inputs.entry Serial course.old course.new) }
 {
     let suite = read_inputs(alloc, inputs, tells.wants_places())?;
-    let timed = tells.wants_times();
     let gate = CountingGate::new(alloc, &OpenGate, &suite.plan, progress.counts());
-    let ran = run_timed(clock, alloc, &suite, &gate, timed, course);
+    let ran = run_timed(clock, alloc, &suite, &gate, tells, course);
     drop(gate);
     progress.ends();
     match ran {
         Ok(ran) => {
-            let Ran { results, times } = &ran;
-            write_results(alloc, &suite, inputs.scripts, results, times, tells, sink)
+            let run = Finished {
+                results: &ran.results,
+                times: &ran.node_times,
+                watched: watched(&ran.times, &ran.watch),
+            };
+            write_results(alloc, &suite, inputs.scripts, &run, tells, sink)
         }
         Err(_) => Err(RunFault::Memory),
     }
 }
 
-/// The results of a suite, and how many microseconds the bodies of its nodes took, where that was measured.
+/// The results of a suite, when its bodies ran, how many microseconds those of its nodes took, and what was watched, where that was measured.
 #[derive(Drop)]
 struct Ran<'s> {
     results: Results<'s>,
-    times: Vec<Option<u64>>,
+    times: Times,
+    node_times: Vec<Option<u64>>,
+    watch: Option<Watch>,
 }
 
-/// Runs a suite at a gate, tells of its course, and measures how long its bodies take, if it is to.
+/// Runs a suite at a gate, tells of its course, and measures and watches it as far as what is told asks for it.
 fn run_timed<'s, C: Clock, G: Gate>(
     clock: &C,
     alloc: Global,
     suite: &'s Suite,
     counting: &G,
-    timed: bool,
+    tells: &Tells<'_>,
     course: &mut Course,
 ) -> Result<Ran<'s>, AllocError>
     requires { 1 ≤ suite.now.settings.worker_count }
     ensures plan { IfOk result (λ r. r.results.plan ≡ suite.now.plan) }
     ensures start { IfOk result (λ r. r.results.start ≡ suite.now.world) }
     ensures complete { IfOk result (λ r. AreComplete r.results) }
+    ensures watched { IfOk result (λ r. WasWatched Serial suite.now.plan suite.now.world suite.now.settings.worker_count
+        (is_some tells.now.html) (option_map (watched_with r.times) r.watch)) }
     ensures course { OnOk result (IsCourse (AreEvents Serial suite.now.plan suite.now.world suite.now.settings.worker_count)
         Serial suite.now.plan suite.now.world suite.now.settings.worker_count course.old course.new) }
 {
+    let timed = tells.wants_times();
     let gate = if timed || course.wants_times() {
         TimesGate::new(alloc, clock, counting, suite.plan.len())?
     } else {
@@ -113,8 +124,13 @@ fn run_timed<'s, C: Clock, G: Gate>(
         started: 1,
         of: suite.settings.workers(),
     };
-    observe(alloc, &run, course)?;
+    let watch = observe(alloc, &run, tells.wants_watched(), course)?;
     tell_alone(alloc, suite, &mut course.schedule)?;
-    let times = node_times(alloc, timed, &times, &suite.plan)?;
-    Ok(Ran { results, times })
+    let node_times = node_times(alloc, timed, &times, &suite.plan)?;
+    Ok(Ran {
+        results,
+        times,
+        node_times,
+        watch,
+    })
 }

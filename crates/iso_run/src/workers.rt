@@ -1,5 +1,6 @@
 //! Runs of a suite by several workers, from its inputs to its report.
-ghost use Rattle.std.specs.Prelude.{◌≡◌, ◌<◌, ◌≤◌, ℕ, IfErr, IfOk, List, OnOk, Option, length, true};
+ghost use Rattle.std.specs.Prelude.{◌≡◌, ◌<◌, ◌≤◌, IfErr, IfOk, OnOk, is_some, length, true};
+ghost use Rattle.std.specs.Option.{option_map};
 ghost use denote.Param.Send.{IsSend, IsSync};
 ghost use Rattle.iso_book.specs.Books.{is_complete};
 ghost use Rattle.iso_floor.specs.Grounds.{IsBookOf};
@@ -7,17 +8,18 @@ ghost use Rattle.iso_run.specs.Courses.{AreEvents, IsCourse, TellsCourse};
 ghost use Rattle.iso_run.specs.declared.fault.RunFault.TheVariants.{Memory};
 ghost use Rattle.iso_run.specs.declared.way.Way.TheVariants.{ByWorkers};
 ghost use Rattle.iso_run.specs.Replays.{IsOfWorkers};
-ghost use Rattle.iso_run.specs.Runs.{TellsOf, Writes, suite_report};
+ghost use Rattle.iso_run.specs.Runs.{Writes, suite_report};
+ghost use Rattle.iso_run.specs.Watches.{TellsRun, WasWatched, watched_with};
 
 use crate::counts::CountingGate;
 use crate::course::Course;
 use crate::fault::RunFault;
 use crate::inputs::{Inputs, Suite, read_inputs};
-use crate::observation::Observed;
+use crate::observation::{Observed, Watch, watched};
 use crate::observed::observe;
 use crate::progress::{Progress, Unshown};
 use crate::recorded::tell_book;
-use crate::report::{Summary, write_results};
+use crate::report::{Finished, Summary, write_results};
 use crate::times::node_times;
 use iso_book::book::Book;
 use iso_floor::busy::busy_workers;
@@ -30,6 +32,7 @@ use iso_lifecycle::gate::Gate;
 use iso_tap::sink::Sink;
 use iso_telling::tells::Tells;
 use iso_times::gate::TimesGate;
+use iso_times::times::Times;
 use std::alloc::Global;
 use std::marker::Brand;
 use std::rt::Clock;
@@ -58,7 +61,7 @@ pub fn run_workers<R: Threads + Wait + Clock + Sync, G: Gate + Sync, W: Sink>(
 ) -> Result<Summary, RunFault>
     requires { 1 ≤ inputs.processors }
     ensures report { Writes (λ s. s.all_ok) suite_report inputs.entry ByWorkers (W.account sink.old) (W.account sink.new) result }
-    ensures told { OnOk result ((times : List (Option ℕ)) × TellsOf inputs.entry times tells.old tells.new) }
+    ensures told { OnOk result (TellsRun inputs.entry ByWorkers tells.old tells.new) }
     ensures course { OnOk result (TellsCourse inputs.entry ByWorkers course.old course.new) }
 {
     run_workers_shown(rt, alloc, inputs, gate, &mut Unshown, tells, course, sink)
@@ -82,43 +85,41 @@ pub(crate) fn run_workers_shown<
 ) -> Result<Summary, RunFault>
     requires { 1 ≤ inputs.processors }
     ensures report { Writes (λ s. s.all_ok) suite_report inputs.entry ByWorkers (W.account sink.old) (W.account sink.new) result }
-    ensures told { OnOk result ((times : List (Option ℕ)) × TellsOf inputs.entry times tells.old tells.new) }
+    ensures told { OnOk result (TellsRun inputs.entry ByWorkers tells.old tells.new) }
     ensures course { OnOk result (TellsCourse inputs.entry ByWorkers course.old course.new) }
 {
     let suite = read_inputs(alloc, inputs, tells.wants_places())?;
-    let timed = tells.wants_times();
     let counting = CountingGate::new(alloc, gate, &suite.plan, progress.counts());
     let ran = run_timed::<Brand, R, CountingGate<'_, G>>(
-        rt, alloc, &suite, &counting, timed, course,
+        rt, alloc, &suite, &counting, tells, course,
     );
     drop(counting);
     progress.ends();
-    let RanBook { book, times } = ran?;
-    write_results(
-        alloc,
-        &suite,
-        inputs.scripts,
-        book.results(),
-        &times,
-        tells,
-        sink,
-    )
+    let ran = ran?;
+    let run = Finished {
+        results: ran.book.results(),
+        times: &ran.node_times,
+        watched: watched(&ran.times, &ran.watch),
+    };
+    write_results(alloc, &suite, inputs.scripts, &run, tells, sink)
 }
 
-/// The book of a suite's run, and how many microseconds the bodies of its nodes took, where that was measured.
+/// The book of a suite's run, when its bodies ran, how many microseconds those of its nodes took, and what was watched, where that was measured.
 #[derive(Drop)]
 struct RanBook<'s> {
     book: Book<'s>,
-    times: Vec<Option<u64>>,
+    times: Times,
+    node_times: Vec<Option<u64>>,
+    watch: Option<Watch>,
 }
 
-/// Has its workers run a suite, tells of its course, and measures how long its bodies take, if it is to.
+/// Has its workers run a suite, tells of its course, and measures and watches it as far as what is told asks for it.
 fn run_timed<'s, L: Ground + Send + Sync, R: Threads + Wait + Clock + Sync, G: Gate + Sync>(
     rt: &R,
     alloc: Global,
     suite: &'s Suite,
     gate: &G,
-    timed: bool,
+    tells: &Tells<'_>,
     course: &mut Course,
 ) -> Result<RanBook<'s>, RunFault>
     requires some { 1 ≤ L.workers }
@@ -127,9 +128,12 @@ fn run_timed<'s, L: Ground + Send + Sync, R: Threads + Wait + Clock + Sync, G: G
     requires workers { suite.now.settings.worker_count ≡ L.workers }
     ensures book { IfOk result (λ r. IsBookOf L.plan L.start L.workers r.book) }
     ensures complete { IfOk result (λ r. is_complete r.book ≡ true) }
+    ensures watched { IfOk result (λ r. WasWatched ByWorkers L.plan L.start L.workers (is_some tells.now.html)
+        (option_map (watched_with r.times) r.watch)) }
     ensures course { OnOk result (IsCourse (AreEvents ByWorkers L.plan L.start L.workers) ByWorkers L.plan L.start L.workers course.old course.new) }
     ensures fault { IfErr result (IsOfWorkers suite.now.settings.worker_count) }
 {
+    let timed = tells.wants_times();
     let times_gate = if timed || course.wants_times() {
         TimesGate::new(alloc, rt, gate, suite.plan.len())?
     } else {
@@ -149,10 +153,15 @@ fn run_timed<'s, L: Ground + Send + Sync, R: Threads + Wait + Clock + Sync, G: G
         started,
         of: suite.settings.workers(),
     };
-    observe(alloc, &run, course)?;
+    let watch = observe(alloc, &run, tells.wants_watched(), course)?;
     tell_book(alloc, &book, &mut course.schedule)?;
-    let times = node_times(alloc, timed, &times, &suite.plan)?;
-    Ok(RanBook { book, times })
+    let node_times = node_times(alloc, timed, &times, &suite.plan)?;
+    Ok(RanBook {
+        book,
+        times,
+        node_times,
+        watch,
+    })
 }
 
 /// The book of a run, and how many workers were started.

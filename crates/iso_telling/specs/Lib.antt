@@ -1,6 +1,8 @@
 pub mod Examples
+pub mod Excerpts
 pub mod Explained
 pub mod NodePlaces
+pub mod Pages
 pub mod Telling
 pub mod ToldLines
 pub mod ToldNodes

@@ -14,7 +14,9 @@ use Rattle.iso_plan.specs.Tree.{Row}
 use Rattle.iso_summary.specs.Summaries.{summary_text}
 use Rattle.iso_summary.specs.Views.{again_of}
 use Rattle.iso_tap.specs.Sinks.{Account, Wrote}
+use Rattle.iso_telling.specs.Excerpts.{excerpts}
 use Rattle.iso_telling.specs.NodePlaces.{node_places}
+use Rattle.iso_telling.specs.Pages.{IsPaged, WatchedView, page_of}
 use Rattle.iso_telling.specs.ToldNodes.{told_nodes}
 use Rattle.iso_telling.specs.ToldPlaces.{located_told, told}
 use Rattle.iso_telling.specs.Written.{WrittenView, lent}
@@ -66,31 +68,33 @@ IsTimed tree times (Some old) (Some new) = AddsDurations tree times old new
 
 -- whether it has to be known where nodes stand
 abbrev pub wants_places : Tells → Bool
-wants_places asked = is_some asked.summary || (is_some asked.junit || is_some asked.github)
+wants_places asked = is_some asked.summary || (is_some asked.junit || (is_some asked.html || is_some asked.github))
 
 -- whether it has to be known how long bodies took
 abbrev pub wants_times : Tells → Bool
-wants_times asked = is_some asked.junit || is_some asked.durations
+wants_times asked = is_some asked.junit || (is_some asked.html || is_some asked.durations)
 
--- a run whose nodes stand at these sites and whose bodies took these times, as it is told in JUnit's XML
+-- a run whose nodes stand at these sites and whose bodies took these times, as it is told in JUnit's XML and on a page
 abbrev pub run_told : (names : List (List ℕ)) → List Row → (ℕ → Outcome) → (times : List (Option ℕ)) → List Site → RunView
 run_told names tree outcome times sites =
     record { tree = tree; outcome = outcome; places = node_places names tree sites outcome; times = times }
 
--- Of the outcomes of a tree's nodes, which stand at these sites and whose bodies took these times, all was told that is asked for with places.
-pub record HasToldPlaces (written : WrittenView) (tree : List Row) (outcome : ℕ → Outcome) (times : List (Option ℕ)) (sites : List Site) (old new : Tells) : Type 0 where
+-- Of the outcomes of a tree's nodes, which stand at these sites and whose bodies took these times, all was told that is asked for with places,
+-- and with what was watched of the run.
+pub record HasToldPlaces (written : WrittenView) (tree : List Row) (outcome : ℕ → Outcome) (times : List (Option ℕ)) (watched : Option WatchedView) (sites : List Site) (old new : Tells) : Type 0 where
   pub names : new.names ≡ old.names
   pub failed : new.failed ≡ old.failed
   pub durations : new.durations ≡ old.durations
   pub summary : IsSummarized (summary_of written.texts tree outcome sites (lent old.names.now)) old.summary new.summary
   pub junit : IsTold (junit_text (run_told (lent old.names.now) tree outcome times sites)) old.junit new.junit
+  pub html : IsPaged (page_of (run_told (lent old.names.now) tree outcome times sites) (excerpts written.texts tree sites outcome) watched) old.html new.html
   pub github : IsTold (errors_text tree outcome (node_places (lent old.names.now) tree sites outcome)) old.github new.github
 
 -- All that is asked for was told of them. Where places are wanted, each node stands where the first node of all scripts stands that has its
 -- path.
-pub record HasTold (written : WrittenView) (tree : List Row) (outcome : ℕ → Outcome) (times : List (Option ℕ)) (old new : Tells) : Type 0 where
+pub record HasTold (written : WrittenView) (tree : List Row) (outcome : ℕ → Outcome) (times : List (Option ℕ)) (watched : Option WatchedView) (old new : Tells) : Type 0 where
   pub failed : IsTold (failed_text tree outcome) old.failed new.failed
   pub durations : IsTimed tree times old.durations new.durations
   pub sites : List Site
   pub are : wants_places old ≡ true → AreSites (T.tree written.scripts) (all_sites written.places) tree sites
-  pub placed : HasToldPlaces written tree outcome times sites (record old { failed = new.failed; durations = new.durations }) new
+  pub placed : HasToldPlaces written tree outcome times watched sites (record old { failed = new.failed; durations = new.durations }) new

@@ -1,23 +1,30 @@
 //! What a run tells besides its report.
-ghost use Rattle.std.specs.Prelude.{◌≡◌, None, OnOk, length, map};
+ghost use Rattle.std.specs.Prelude.{◌≡◌, None, OnOk, is_some, length, map};
+ghost use Rattle.std.specs.Option.{option_map};
 ghost use Rattle.iso_failures.specs.Failures.{failed_text};
 ghost use Rattle.iso_github.specs.Errors.{errors_text};
 ghost use Rattle.iso_junit.specs.Documents.{junit_text};
-ghost use Rattle.iso_junit.specs.Runs.{placed_of};
+ghost use Rattle.iso_junit.specs.Runs.{placed_of, run_of};
 ghost use Rattle.iso_lifecycle.specs.ResultViews.{AreComplete, outcome_in};
 ghost use Rattle.iso_plan.specs.RowView.{tree_of};
+ghost use Rattle.iso_telling.specs.Excerpts.{excerpts};
+ghost use Rattle.iso_telling.specs.Pages.{IsPaged, page_of, watched_of};
 ghost use Rattle.iso_telling.specs.Telling.{AddsDurations, HasTold, HasToldPlaces, IsSummarized, IsTimed, IsTold, nothing_yet, summary_of, wants_places, wants_times};
 ghost use Rattle.iso_telling.specs.Written.{lent, written_of};
 
+use crate::page::add_page;
 use crate::places::node_places;
 use crate::summary::add_summary;
+use crate::watched::Watched;
 use crate::written::Written;
 use iso_durations::durations::Durations;
 use iso_durations::text::write_durations;
 use iso_failures::text::write_failed;
 use iso_github::errors::write_errors;
+use iso_html::again::Commands;
 use iso_junit::junit::write_junit;
 use iso_junit::placed::Placed;
+use iso_junit::run::Run;
 use iso_lifecycle::results::Results;
 use iso_places::locate::locate;
 use iso_places::site::Sites;
@@ -37,6 +44,8 @@ pub struct Tells<'a> {
     pub summary: Option<SummaryText<'a>>,
     /// The results as JUnit's XML.
     pub junit: Option<MemorySink>,
+    /// The results as a page to look at.
+    pub html: Option<PageText<'a>>,
     /// A line for GitHub of each that failed.
     pub github: Option<MemorySink>,
     /// The slowest classes and tests.
@@ -54,6 +63,13 @@ pub struct SummaryText<'a> {
     pub text: MemorySink,
 }
 
+/// A page to look at: the commands that it tells, and its text.
+#[derive(Drop)]
+pub struct PageText<'a> {
+    pub commands: Commands<'a>,
+    pub text: MemorySink,
+}
+
 /// The slowest classes and tests: how many of them at most, or 0 for all, and the text.
 #[derive(Drop)]
 pub struct DurationsText {
@@ -67,6 +83,7 @@ impl Tells<'_> {
         ensures failed { result.failed ≡ None }
         ensures summary { result.summary ≡ None }
         ensures junit { result.junit ≡ None }
+        ensures html { result.html ≡ None }
         ensures github { result.github ≡ None }
         ensures durations { result.durations ≡ None }
     {
@@ -75,6 +92,7 @@ impl Tells<'_> {
             failed: None,
             summary: None,
             junit: None,
+            html: None,
             github: None,
             durations: None,
         }
@@ -84,18 +102,28 @@ impl Tells<'_> {
     pub fn wants_places(&self) -> bool
         ensures { result ≡ wants_places self.now }
     {
-        self.summary.is_some() || self.junit.is_some() || self.github.is_some()
+        self.summary.is_some()
+            || self.junit.is_some()
+            || self.html.is_some()
+            || self.github.is_some()
     }
 
     /// Whether it has to be known how long the bodies took.
     pub fn wants_times(&self) -> bool
         ensures { result ≡ wants_times self.now }
     {
-        self.junit.is_some() || self.durations.is_some()
+        self.junit.is_some() || self.html.is_some() || self.durations.is_some()
+    }
+
+    /// Whether what was watched of a run is told.
+    pub fn wants_watched(&self) -> bool
+        ensures { result ≡ is_some self.now.html }
+    {
+        self.html.is_some()
     }
 
     /// Tells of results what is asked for. The times are those of the nodes by their numbers, in microseconds: what isn't there wasn't
-    /// measured. Each text is added to what was told before. Want of memory is also answered where a node of the plan has no place among
+    /// measured; nor was the rest, where nothing was watched. Each text is added to what was told before. Want of memory is also answered where a node of the plan has no place among
     /// those of the scripts.
     pub fn tell(
         &mut self,
@@ -104,10 +132,12 @@ impl Tells<'_> {
         plan: &Plan,
         results: &Results<'_>,
         times: &[Option<u64>],
+        watched: Option<Watched<'_>>,
     ) -> Result<(), AllocError>
         requires plan { results.now.plan ≡ plan.now }
         requires complete { AreComplete results.now }
-        ensures { OnOk result (HasTold (written_of written.now) (tree_of plan.now) (outcome_in results.now) times.now self.old self.new) }
+        ensures { OnOk result (HasTold (written_of written.now) (tree_of plan.now) (outcome_in results.now) times.now
+            (option_map watched_of watched.entry) self.old self.new) }
     {
         tell_failed(&mut self.failed, plan, results)?;
         tell_durations(alloc, &mut self.durations, plan, times)?;
@@ -117,7 +147,7 @@ impl Tells<'_> {
         let Ok(sites) = locate(alloc, written.scripts, written.places, plan) else {
             return Err(AllocError);
         };
-        self.tell_places(alloc, written, &sites, plan, results, times)
+        self.tell_places(alloc, written, &sites, plan, results, times, watched)
     }
 
     /// Tells what stands with its place.
@@ -129,10 +159,12 @@ impl Tells<'_> {
         plan: &Plan,
         results: &Results<'_>,
         times: &[Option<u64>],
+        watched: Option<Watched<'_>>,
     ) -> Result<(), AllocError>
         requires plan { results.now.plan ≡ plan.now }
         requires complete { AreComplete results.now }
-        ensures { OnOk result (HasToldPlaces (written_of written.now) (tree_of plan.now) (outcome_in results.now) times.now sites.now self.old self.new) }
+        ensures { OnOk result (HasToldPlaces (written_of written.now) (tree_of plan.now) (outcome_in results.now) times.now
+            (option_map watched_of watched.entry) sites.now self.old self.new) }
     {
         let texts = written.texts;
         tell_summary(
@@ -146,6 +178,13 @@ impl Tells<'_> {
         )?;
         let places = node_places(alloc, self.names, plan, results, sites)?;
         tell_junit(&mut self.junit, plan, results, &places, times)?;
+        let run = Run {
+            plan,
+            results,
+            places: &places,
+            times,
+        };
+        tell_page(alloc, &mut self.html, texts, sites, &run, watched)?;
         tell_errors(&mut self.github, plan, results, &places)
     }
 }
@@ -162,6 +201,19 @@ impl SummaryText<'_> {
             skipped,
             explain,
             again,
+            text: MemorySink::new(alloc),
+        }
+    }
+}
+
+impl PageText<'_> {
+    /// A page of which nothing was told. It grows in this allocator's memory.
+    pub fn new(alloc: Global, commands: Commands<'_>) -> PageText<'_>
+        ensures commands { result.commands ≡ commands.entry }
+        ensures text { result.text ≡ nothing_yet }
+    {
+        PageText {
+            commands,
             text: MemorySink::new(alloc),
         }
     }
@@ -274,6 +326,26 @@ fn tell_junit(
             Ok(()) => Ok(()),
             Err(_) => Err(AllocError),
         },
+        None => Ok(()),
+    }
+}
+
+/// Tells the page, where it is asked for.
+fn tell_page(
+    alloc: Global,
+    asked: &mut Option<PageText<'_>>,
+    texts: &[&[u8]],
+    sites: &Sites,
+    run: &Run<'_, '_>,
+    watched: Option<Watched<'_>>,
+) -> Result<(), AllocError>
+    requires { AreComplete run.now.results.now }
+    ensures { OnOk result (IsPaged (page_of (run_of run.now)
+        (excerpts (lent texts.now) (tree_of run.now.plan.now) sites.now (outcome_in run.now.results.now))
+        (option_map watched_of watched.entry)) asked.old asked.new) }
+{
+    match asked {
+        Some(page) => add_page(alloc, page, texts, sites, run, watched),
         None => Ok(()),
     }
 }

@@ -26,10 +26,10 @@ returns-in-ByWorkers-clause-report g c = λ input read.
     (c.inputs_of-inputs.result, are-for c.args.files.now input c.args.bytes.now c.inputs_of-inputs.result read scripts is.settings is.world is.listed is.only is.patterns (ap (option_map shard_asked) is.shard ∙ c.shard_of-shard.ensures) is.processors, rw c.in-ByWorkers.is c.run_workers_shown.ensures.report)
 
 pub returns-in-Serial-clause-quiet : goal.returns-in-Serial-clause-quiet
-returns-in-Serial-clause-quiet g c = still-quiet c.inputs_of-inputs.result c.args.tells.now c.run_serial_shown.new.tells c.run_serial_shown.result c.run_serial_shown.ensures.told
+returns-in-Serial-clause-quiet g c = still-quiet c.inputs_of-inputs.result Serial c.args.tells.now c.run_serial_shown.new.tells c.run_serial_shown.result c.run_serial_shown.ensures.told
 
 pub returns-in-ByWorkers-clause-quiet : goal.returns-in-ByWorkers-clause-quiet
-returns-in-ByWorkers-clause-quiet g c = still-quiet c.inputs_of-inputs.result c.args.tells.now c.run_workers_shown.new.tells c.run_workers_shown.result c.run_workers_shown.ensures.told
+returns-in-ByWorkers-clause-quiet g c = still-quiet c.inputs_of-inputs.result ByWorkers c.args.tells.now c.run_workers_shown.new.tells c.run_workers_shown.result c.run_workers_shown.ensures.told
 
 pub returns-clause-quiet : goal.returns-clause-quiet
 returns-clause-quiet g c = still-quiet-untimed c.inputs_of-inputs.result c.args.tells.now c.run_schedule.new.tells c.run_schedule.result c.run_schedule.ensures.told

@@ -1,4 +1,4 @@
-use Rattle.std.proofs.Common.{◌≡◌, [], true, false, sym, refl, ◌∙◌}
+use Rattle.std.proofs.Common.{◌≡◌, [], None, true, false, sym, refl, ◌∙◌}
 use Rattle.std.proofs.lemmas.Result.{err_from_is_err_and}
 use Rattle.iso_core.specs.Cores.{is_complete}
 use Rattle.iso_run.specs.Runs.{as_written}
@@ -52,4 +52,4 @@ returns-clause-told g c =
     let ran = rw c.workers-workers.ensures at c.in_ok-core.ensures in
     told inputs (g.W.Sink.account c.args.sink.now) (g.W.Sink.account c.write_results.new.sink) (suite_of inputs suite) suite.plan results is.is_suite is.planned_as
     (results-plan suite events core results ran c.results.ensures.plan) (results-start suite events core results ran c.results.ensures.start)
-    (as_written suite inputs.scripts.now) [] c.args.tells.now c.write_results.new.tells refl is.placed c.write_results.result c.write_results.ensures.told
+    (as_written suite inputs.scripts.now) [] None c.args.tells.now c.write_results.new.tells refl is.placed c.write_results.result c.write_results.ensures.told

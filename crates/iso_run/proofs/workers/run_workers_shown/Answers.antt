@@ -1,11 +1,13 @@
-use Rattle.std.proofs.Common.{refl, ◌∙◌}
+use Rattle.std.proofs.Common.{refl, sym, subst, is_some, Option, option_map, ◌∙◌}
 use Rattle.std.proofs.lemmas.Result.{err_from_is_err_and}
 use Rattle.iso_run.specs.Runs.{suite_report, as_written}
 use Rattle.iso_run.specs.Suites.{suite_of}
 use Rattle.iso_run.specs.declared.report.Summary.{Summary}
 use Rattle.iso_run.specs.declared.way.Way.TheVariants.{ByWorkers}
-use Rattle.iso_run.proofs.Coursing.{course-told}
-use Rattle.iso_run.proofs.Reporting.{reported, told-timed}
+use Rattle.iso_run.proofs.Coursing.{course-told, watched-of}
+use Rattle.iso_run.proofs.Reporting.{reported, told-run}
+use Rattle.iso_run.specs.Watches.{WasWatched}
+use Rattle.iso_telling.specs.Pages.{WatchedView, watched_of}
 use Rattle.iso_run.proofs.Unread.{unread-unwritten}
 use Rattle.iso_run.proofs.Working.{unworked}
 use Rattle.iso_run.proofs.workers.run_workers_shown.Goals as goal
@@ -38,9 +40,14 @@ returns-clause-told g c =
     let suite = c.in_ok-suite.suite in
     let is = c.in_ok-suite.ensures in
     let on = c.in_ok-book.ensures.book in
-    told-timed c.args.inputs (g.W.Sink.account c.args.sink.now) (g.W.Sink.account c.write_results.new.sink) (suite_of c.args.inputs suite) suite.plan c.results.result.now is.is_suite is.planned_as
-    (c.results.ensures.plan ∙ on.plan_is) (c.results.ensures.start ∙ on.world_is) (as_written suite c.args.inputs.scripts.now) c.deref.result.now c.args.tells.now c.write_results.new.tells
-    refl (λ wants. is.placed (c.wants_places.ensures ∙ wants)) c.write_results.result c.write_results.ensures.told
+    let seen = option_map watched_of c.watched.result in
+    let asked = is_some c.args.tells.now.html in
+    let of = watched-of c.args.inputs _ c.in_ok-suite.suite c.in_ok-suite.ensures ByWorkers asked seen
+    (subst (λ (w : Option WatchedView). WasWatched ByWorkers c.in_ok-suite.suite.plan c.in_ok-suite.suite.world c.in_ok-suite.suite.settings.worker_count asked w) (sym c.watched.ensures) c.in_ok-ran.ensures.watched) in
+    told-run c.args.inputs (g.W.Sink.account c.args.sink.now) (g.W.Sink.account c.write_results.new.sink) (suite_of c.args.inputs suite) suite.plan c.results.result.now is.is_suite is.planned_as
+    (c.results.ensures.plan ∙ on.plan_is) (c.results.ensures.start ∙ on.world_is) ByWorkers (as_written suite c.args.inputs.scripts.now) c.deref.result.now
+    seen c.args.tells.now c.write_results.new.tells
+    of refl (λ wants. is.placed (c.wants_places.ensures ∙ wants)) c.write_results.result c.write_results.ensures.told
 
 pub returns-clause-course : goal.returns-clause-course
 returns-clause-course g c =

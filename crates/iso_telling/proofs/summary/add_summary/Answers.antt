@@ -1,4 +1,4 @@
-use Rattle.std.proofs.Common.{◌≡◌, List, ℕ, map, refl, subst, sym, ap, ap₂, ◌∙◌}
+use Rattle.std.proofs.Common.{List, ℕ, map, refl, subst, ap, ap₂, ◌∙◌}
 use Rattle.iso_lifecycle.specs.ResultViews.{outcome_in}
 use Rattle.iso_plan.specs.RowView.{tree_of}
 use Rattle.iso_summary.specs.Summaries.{summary_text}

@@ -1,0 +1,13 @@
+//! What was watched of a run.
+
+use iso_stats::figures::Figures;
+use iso_times::times::Times;
+use iso_waits::wait::NodeWait;
+
+/// What was watched of a run: the times of its bodies, its figures, and what its nodes waited for.
+#[derive(Clone, Copy)]
+pub struct Watched<'a> {
+    pub times: &'a Times,
+    pub figures: &'a Figures,
+    pub waits: &'a [NodeWait],
+}
