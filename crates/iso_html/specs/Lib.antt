@@ -1,7 +1,10 @@
+pub mod Commands
+pub mod Examples
 pub mod Heads
 pub mod Markup
 pub mod Nodes
 pub mod Pages
+pub mod Parts
 pub mod Quotes
 pub mod Signs
 pub mod Styles

@@ -8,6 +8,7 @@ use Rattle.iso_junit.specs.Runs.{RunView, place}
 use Rattle.iso_junit.specs.Texts.{joined}
 use Rattle.iso_plan.specs.PathTexts.{path_text}
 use Rattle.iso_tap.specs.Reports.{all_ok}
+use Rattle.iso_html.specs.Commands.{CommandsView, again_text}
 use Rattle.iso_html.specs.Heads.{head_text}
 use Rattle.iso_html.specs.Nodes.{wrong_text}
 use Rattle.iso_html.specs.Quotes.{LineView, quoted}
@@ -17,13 +18,15 @@ use Rattle.iso_html.specs.Trees.{tree_text}
 abbrev pub wrong_heading : Counts → List ℕ
 wrong_heading c = cond (c.not_ok == 0 && c.classes_not_ok == 0) [] (codes "<h2>What went wrong</h2>\n")
 
--- what went wrong in a node, with the lines that are shown of its script
-abbrev pub failure_text : RunView → List (List LineView) → ℕ → List ℕ
-failure_text r quotes n = wrong_text (r.outcome n).verdict (path_text r.tree n) n (place r n) (quoted quotes n) (blocked_by r.tree r.outcome n) (r.outcome n).output
+-- what went wrong in a node, with the lines that are shown of its script, and the command that runs it again
+abbrev pub failure_text : RunView → List (List LineView) → CommandsView → ℕ → List ℕ
+failure_text r quotes commands n =
+    wrong_text (r.outcome n).verdict (path_text r.tree n) n (place r n) (quoted quotes n) (blocked_by r.tree r.outcome n) (r.outcome n).output
+    (again_text commands r.tree n (place r n))
 
 -- what went wrong, in the order in which it is written
-abbrev pub wrongs_text : RunView → List (List LineView) → List ℕ
-wrongs_text r quotes = flat_map (failure_text r quotes) (failures r.tree r.outcome)
+abbrev pub wrongs_text : RunView → List (List LineView) → CommandsView → List ℕ
+wrongs_text r quotes commands = flat_map (failure_text r quotes commands) (failures r.tree r.outcome)
 
 -- the heading above the tree, and what of it is shown
 abbrev pub tree_heading : List ℕ
@@ -36,14 +39,14 @@ tree_heading =
     ∷ [])
 
 -- what follows the beginning: what went wrong, and the tree
-abbrev pub body_text : RunView → List (List LineView) → List ℕ
-body_text r quotes =
+abbrev pub body_text : RunView → List (List LineView) → CommandsView → List ℕ
+body_text r quotes commands =
     wrong_heading (counts r.tree r.outcome)
-    ++ wrongs_text r quotes
+    ++ wrongs_text r quotes commands
     ++ tree_heading
     ++ tree_text r
     ++ codes "</section>\n</main>\n</body>\n</html>\n"
 
 -- the page
-abbrev pub page_text : RunView → List (List LineView) → List ℕ
-page_text r quotes = head_text (all_ok r.tree r.outcome) (counts r.tree r.outcome) ++ body_text r quotes
+abbrev pub page_text : RunView → List (List LineView) → CommandsView → List ℕ
+page_text r quotes commands = head_text (all_ok r.tree r.outcome) (counts r.tree r.outcome) ++ body_text r quotes commands

@@ -1,4 +1,5 @@
 use Rattle.std.proofs.Common.{Ok, ap, codes, map}
+use Rattle.iso_html.specs.Commands.{commands_of}
 use Rattle.iso_html.specs.Pages.{tree_heading, wrong_heading, wrongs_text}
 use Rattle.iso_html.specs.Trees.{tree_text}
 use Rattle.iso_html.specs.Quotes.{excerpt_of}
@@ -9,7 +10,7 @@ use Rattle.iso_html.proofs.page.body.Goals as goal
 pub returns-in_err-wrong_heading : goal.returns-in_err-wrong_heading
 returns-in_err-wrong_heading g c =
     let r = run_of c.args.run.now in
-    prints_stopped (codes "</section>\n</main>\n</body>\n</html>\n") _ c.from_residual.ensures.0 (prints_cut (tree_text r) _ _ (prints_cut tree_heading _ _ (prints_cut (wrongs_text r (map excerpt_of c.args.quotes.now)) _ _ (prints_as c.in_err-wrong_heading.ensures _ (ap wrong_heading c.requires.totals)))))
+    prints_stopped (codes "</section>\n</main>\n</body>\n</html>\n") _ c.from_residual.ensures.0 (prints_cut (tree_text r) _ _ (prints_cut tree_heading _ _ (prints_cut (wrongs_text r (map excerpt_of c.args.quotes.now) (commands_of c.args.commands.now)) _ _ (prints_as c.in_err-wrong_heading.ensures _ (ap wrong_heading c.requires.totals)))))
 
 pub returns-in_err-wrongs : goal.returns-in_err-wrongs
 returns-in_err-wrongs g c =

@@ -1,4 +1,5 @@
 use Rattle.std.proofs.Common.{Ok, ap₂, map}
+use Rattle.iso_html.specs.Commands.{commands_of}
 use Rattle.iso_html.specs.Heads.{head_text}
 use Rattle.iso_html.specs.Pages.{body_text}
 use Rattle.iso_html.specs.Quotes.{excerpt_of}
@@ -8,7 +9,7 @@ use Rattle.iso_html.proofs.page.page.Goals as goal
 
 pub returns-in_err-head : goal.returns-in_err-head
 returns-in_err-head g c =
-    prints_stopped (body_text (run_of c.args.run.now) (map excerpt_of c.args.quotes.now)) _ c.from_residual.ensures.0 (prints_as c.in_err-head.ensures _ (ap₂ head_text c.all_ok.ensures c.count-counts.ensures))
+    prints_stopped (body_text (run_of c.args.run.now) (map excerpt_of c.args.quotes.now) (commands_of c.args.commands.now)) _ c.from_residual.ensures.0 (prints_as c.in_err-head.ensures _ (ap₂ head_text c.all_ok.ensures c.count-counts.ensures))
 
 pub returns : goal.returns
 returns g c =
