@@ -1,5 +1,5 @@
 -- The page.
-use Rattle.std.specs.Prelude.{ℕ, List, [], ◌∷◌, ◌++◌, ◌&&◌, ◌==◌, cond, codes, flat_map}
+use Rattle.std.specs.Prelude.{ℕ, List, [], ◌∷◌, ◌++◌, Option, ◌&&◌, ◌==◌, cond, codes, flat_map}
 use Rattle.iso_failures.specs.Blocking.{blocked_by}
 use Rattle.iso_failures.specs.Counting.{counts}
 use Rattle.iso_failures.specs.Failures.{failures}
@@ -10,8 +10,10 @@ use Rattle.iso_plan.specs.PathTexts.{path_text}
 use Rattle.iso_tap.specs.Reports.{all_ok}
 use Rattle.iso_html.specs.Commands.{CommandsView, again_text}
 use Rattle.iso_html.specs.Heads.{head_text}
+use Rattle.iso_html.specs.Measured.{MeasuredView}
 use Rattle.iso_html.specs.Nodes.{wrong_text}
 use Rattle.iso_html.specs.Quotes.{LineView, quoted}
+use Rattle.iso_html.specs.Sections.{sections_text}
 use Rattle.iso_html.specs.Trees.{tree_text}
 
 -- the heading above what went wrong, where something did
@@ -38,15 +40,18 @@ tree_heading =
     ∷ codes "<label><input type=\"radio\" name=\"show\" id=\"skipped\"> skipped ones</label>\n</fieldset>\n"
     ∷ [])
 
--- what follows the beginning: what went wrong, and the tree
-abbrev pub body_text : RunView → List (List LineView) → CommandsView → List ℕ
-body_text r quotes commands =
+-- what follows the beginning: what went wrong, the tree, and what was measured
+abbrev pub body_text : RunView → List (List LineView) → CommandsView → Option MeasuredView → List ℕ
+body_text r quotes commands measured =
     wrong_heading (counts r.tree r.outcome)
     ++ wrongs_text r quotes commands
     ++ tree_heading
     ++ tree_text r
-    ++ codes "</section>\n</main>\n</body>\n</html>\n"
+    ++ codes "</section>\n"
+    ++ sections_text r measured
+    ++ codes "</main>\n</body>\n</html>\n"
 
 -- the page
-abbrev pub page_text : RunView → List (List LineView) → CommandsView → List ℕ
-page_text r quotes commands = head_text (all_ok r.tree r.outcome) (counts r.tree r.outcome) ++ body_text r quotes commands
+abbrev pub page_text : RunView → List (List LineView) → CommandsView → Option MeasuredView → List ℕ
+page_text r quotes commands measured =
+    head_text (all_ok r.tree r.outcome) (counts r.tree r.outcome) measured ++ body_text r quotes commands measured

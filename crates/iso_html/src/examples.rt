@@ -1,5 +1,5 @@
 //! Worked examples of the definitions, as public laws.
-ghost use Rattle.std.specs.Prelude.{◌≡◌, ◌++◌, ◌∷◌, [], codes};
+ghost use Rattle.std.specs.Prelude.{◌≡◌, ◌++◌, ◌∷◌, [], None, codes};
 ghost use Rattle.iso_html.specs.Examples.{of_files, of_input};
 ghost use Rattle.iso_html.specs.Pages.{body_text, failure_text, tree_heading};
 ghost use Rattle.iso_html.specs.Quotes.{quote_text};
@@ -86,7 +86,7 @@ pub fn skipped_tests_have_their_reason()
 
 /// A run of no nodes is ok, and has an empty list; nothing went wrong in it.
 pub fn empty_run_has_an_empty_page()
-    ensures { body_text no_nodes [] of_files ≡ tree_heading ++ text_of
+    ensures { body_text no_nodes [] of_files None ≡ tree_heading ++ text_of
         ("<ul>"
         ∷ "</ul>"
         ∷ "</section>"

@@ -1,5 +1,6 @@
 //! What a run came to, as a page to look at.
 ghost use Rattle.std.specs.Prelude.{◌≡◌, ◌<◌, ◌&&◌, ◌==◌, [], cond, length, map};
+ghost use Rattle.std.specs.Option.{option_map};
 ghost use Rattle.iso_failures.specs.Counting.{counts};
 ghost use Rattle.iso_failures.specs.Failures.{is_failure};
 ghost use Rattle.iso_html.specs.Commands.{commands_of};
@@ -12,8 +13,10 @@ ghost use Rattle.iso_tap.specs.Printers.{Prints, Writes};
 
 use crate::again::Commands;
 use crate::head::head;
+use crate::measured::Measured;
 use crate::node::wrong;
 use crate::quote::{Excerpt, quoted};
+use crate::section::sections;
 use crate::tree::list;
 use iso_failures::blocked::blocked_by;
 use iso_failures::counts::{Counts, count};
@@ -33,7 +36,7 @@ use iso_tap::sink::{Sink, SinkFailed};
 /// the tree of classes and tests, in which those are open that aren't ok. It needs no script, fetches nothing, and says so in its policy.
 /// All nodes but the root must have results. Each node, the root too, has its place at its number. So have times, in microseconds: what
 /// isn't there wasn't measured. So has each node the lines that are shown of its script where something went wrong in it: they can be none.
-/// The commands that run again what went wrong are told where they can be. Takes no memory.
+/// The commands that run again what went wrong are told where they can be, and what was measured where it was. Takes no memory.
 ///
 /// The sink is asked again where it takes only some bytes, and no more once it has failed.
 pub fn write_html<W: Sink>(
@@ -43,6 +46,7 @@ pub fn write_html<W: Sink>(
     times: &[Option<u64>],
     quotes: &[Excerpt<'_>],
     commands: &Commands<'_>,
+    measured: Option<&Measured<'_>>,
     sink: &mut W,
 ) -> Result<(), TapFault>
     requires plan { results.now.plan ≡ plan.now }
@@ -54,7 +58,7 @@ pub fn write_html<W: Sink>(
       outcome = outcome_in results.now;
       places = map placed_of places.now;
       times = times.now;
-    }) (map excerpt_of quotes.now) (commands_of commands.now)) result }
+    }) (map excerpt_of quotes.now) (commands_of commands.now) (option_map (λ m. m.now) measured.entry)) result }
 {
     let run = Run {
         plan,
@@ -63,7 +67,7 @@ pub fn write_html<W: Sink>(
         times,
     };
     let mut printer = Printer::new(sink);
-    match page(&mut printer, &run, quotes, commands) {
+    match page(&mut printer, &run, quotes, commands, measured) {
         Ok(()) => Ok(()),
         Err(_) => Err(TapFault {
             written: printer.written(),
@@ -77,14 +81,17 @@ fn page<W: Sink>(
     run: &Run<'_, '_>,
     quotes: &[Excerpt<'_>],
     commands: &Commands<'_>,
+    measured: Option<&Measured<'_>>,
 ) -> Result<(), SinkFailed>
     requires complete { AreComplete run.now.results.now }
     requires quotes { length quotes.now ≡ length run.now.plan.now.rows }
-    ensures { Prints printer.old printer.new (page_text (run_of run.now) (map excerpt_of quotes.now) (commands_of commands.now)) result }
+    ensures { Prints printer.old printer.new
+        (page_text (run_of run.now) (map excerpt_of quotes.now) (commands_of commands.now) (option_map (λ m. m.now) measured.entry)) result }
 {
     let counts = count(run.plan, run.results);
-    head(printer, all_ok(run.plan, run.results), counts)?;
-    body(printer, run, quotes, commands, counts)
+    let ok = all_ok(run.plan, run.results);
+    head(printer, run.plan, ok, counts, measured)?;
+    body(printer, run, quotes, commands, measured, counts)
 }
 
 /// Writes what follows the beginning of the page of a run with these counts.
@@ -93,19 +100,23 @@ fn body<W: Sink>(
     run: &Run<'_, '_>,
     quotes: &[Excerpt<'_>],
     commands: &Commands<'_>,
+    measured: Option<&Measured<'_>>,
     totals: Counts,
 ) -> Result<(), SinkFailed>
     requires complete { AreComplete run.now.results.now }
     requires quotes { length quotes.now ≡ length run.now.plan.now.rows }
     requires totals { totals ≡ counts (tree_of run.now.plan.now) (outcome_in run.now.results.now) }
-    ensures { Prints printer.old printer.new (body_text (run_of run.now) (map excerpt_of quotes.now) (commands_of commands.now)) result }
+    ensures { Prints printer.old printer.new
+        (body_text (run_of run.now) (map excerpt_of quotes.now) (commands_of commands.now) (option_map (λ m. m.now) measured.entry)) result }
 {
     laws::nodes_are_a_tree(run.plan);
     wrong_heading(printer, totals)?;
     wrongs(printer, run, quotes, commands)?;
     tree_heading(printer)?;
     list(printer, run, 0)?;
-    printer.bytes(b"</section>\n</main>\n</body>\n</html>\n")
+    printer.bytes(b"</section>\n")?;
+    sections(printer, run, measured)?;
+    printer.bytes(b"</main>\n</body>\n</html>\n")
 }
 
 /// Writes the heading above what went wrong, and nothing where nothing did.

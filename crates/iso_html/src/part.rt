@@ -1,5 +1,7 @@
 //! What texts are made of.
 
+use iso_stats::figures::Link;
+
 /// A part of a text.
 #[derive(Clone, Copy)]
 pub(crate) enum Part<'a> {
@@ -18,8 +20,12 @@ pub(crate) enum Part<'a> {
     Node(u32),
     /// The path of a node, as a link to it in the tree.
     Link(u32),
+    /// A comma and such a link, if there is a node.
+    Next(Option<u32>),
     /// A key, by its number.
     Key(u32),
+    /// What makes a chain.
+    Chain(Link),
     /// An option with its file, where one was given.
     FileOption(&'a str, Option<&'a str>),
     /// An option with its number, where one was given.

@@ -1,7 +1,7 @@
 //! Texts that are written part by part.
 ghost use Rattle.std.specs.Prelude.{◌≡◌, map};
 ghost use Rattle.std.specs.Option.{option_map};
-ghost use Rattle.iso_html.specs.Parts.{hundredths, is_none, key_text, link_text, node_text, part_text, seconds, tenths};
+ghost use Rattle.iso_html.specs.Parts.{chain_name, hundredths, is_none, key_text, link_text, next_text, node_text, part_text, seconds, tenths};
 ghost use Rattle.iso_junit.specs.Escapes.{escaped};
 ghost use Rattle.iso_junit.specs.Texts.{joined};
 ghost use Rattle.iso_plan.specs.RowView.{tree_of};
@@ -16,6 +16,7 @@ use iso_junit::path::path;
 use iso_junit::seconds::six_digits;
 use iso_junit::writing::parts_with_path;
 use iso_plan::plan::Plan;
+use iso_stats::figures::Link;
 use iso_tap::printer::{Piece as Bytes, Printer};
 use iso_tap::sink::{Sink, SinkFailed};
 
@@ -49,7 +50,9 @@ fn write_part<W: Sink>(
         Part::Tenths(number) => tenths(printer, number),
         Part::Hundredths(number) => hundredths(printer, number),
         Part::Node(number) => node(printer, plan, number),
-        Part::Link(number) => link(printer, plan, number),
+        Part::Link(number) => anchor(printer, plan, number),
+        Part::Next(number) => next(printer, plan, number),
+        Part::Chain(found) => chain(printer, plan, found),
         Part::Key(number) => escaped(printer, key(plan, number).as_bytes()),
         Part::FileOption(option, name) => file_option(printer, option, name),
         Part::NumberOption(option, number) => number_option(printer, option, number),
@@ -110,7 +113,7 @@ fn node<W: Sink>(printer: &mut Printer<'_, W>, plan: &Plan, number: u32) -> Resu
 }
 
 /// Writes a node's path as a link to the node in the tree.
-fn link<W: Sink>(printer: &mut Printer<'_, W>, plan: &Plan, number: u32) -> Result<(), SinkFailed>
+fn anchor<W: Sink>(printer: &mut Printer<'_, W>, plan: &Plan, number: u32) -> Result<(), SinkFailed>
     ensures { Prints printer.old printer.new (link_text (tree_of plan.now) number) result }
 {
     if number == 0 || plan.len() <= number {
@@ -127,6 +130,33 @@ fn link<W: Sink>(printer: &mut Printer<'_, W>, plan: &Plan, number: u32) -> Resu
         number,
         &[Piece::Plain("</a>")],
     )
+}
+
+/// Writes a comma and a link to a node, and nothing where there is none.
+fn next<W: Sink>(
+    printer: &mut Printer<'_, W>,
+    plan: &Plan,
+    number: Option<u32>,
+) -> Result<(), SinkFailed>
+    ensures { Prints printer.old printer.new (next_text (tree_of plan.now) number) result }
+{
+    match number {
+        Some(number) => {
+            printer.bytes(b", ")?;
+            anchor(printer, plan, number)
+        }
+        None => Ok(()),
+    }
+}
+
+/// Writes what makes a chain.
+fn chain<W: Sink>(printer: &mut Printer<'_, W>, plan: &Plan, link: Link) -> Result<(), SinkFailed>
+    ensures { Prints printer.old printer.new (chain_name (tree_of plan.now) link) result }
+{
+    match link {
+        Link::Key(number) => escaped(printer, key(plan, number).as_bytes()),
+        Link::Class(class) => anchor(printer, plan, class),
+    }
 }
 
 /// A key by its number.

@@ -1,0 +1,76 @@
+//! What was measured of a run.
+ghost use Rattle.std.specs.Prelude.{◌≡◌, IfOk};
+ghost use Rattle.iso_html.specs.Measured.{measured_of};
+ghost use Rattle.iso_junit.specs.Runs.{run_of};
+ghost use Rattle.iso_lifecycle.specs.ResultViews.{AreComplete};
+
+use crate::picture::picture;
+use crate::shape::Shape;
+use crate::slowest::{Timed, slowest};
+use iso_junit::run::Run;
+use iso_stats::figures::Figures;
+use iso_times::times::Times;
+use iso_waits::wait::NodeWait;
+use std::alloc::{AllocError, Global};
+use std::marker::Model;
+
+/// How many pixels wide the picture is.
+const PIXELS: u32 = 1_000;
+
+/// What was measured of a run, with what the page shows of it: the times of its bodies, its figures and waits, the picture of it, and the
+/// slowest of its nodes.
+#[derive(Drop)]
+pub struct Measured<'a> {
+    pub(crate) times: &'a Times,
+    pub(crate) figures: &'a Figures,
+    pub(crate) waits: &'a [NodeWait],
+    pub(crate) shapes: Vec<Shape>,
+    pub(crate) slowest: Vec<Timed>,
+}
+
+impl Model for Measured<'_> {
+    ghost use Rattle.iso_html.specs.Measured.{MeasuredView};
+
+    ghost Value = { MeasuredView };
+
+    ghost view = { λ m. record {
+      bodies = m.times.now;
+      figures = m.figures.now;
+      waits = m.waits.now;
+      shapes = m.shapes.items;
+      slowest = m.slowest.items;
+    } };
+}
+
+impl<'a> Measured<'a> {
+    /// Of a run whose bodies had these times, whose figures these are and whose nodes had these waits. All nodes but the root must have
+    /// results.
+    pub fn new(
+        alloc: Global,
+        run: &Run<'_, '_>,
+        times: &'a Times,
+        figures: &'a Figures,
+        waits: &'a [NodeWait],
+    ) -> Result<Measured<'a>, AllocError>
+        requires complete { AreComplete run.now.results.now }
+        ensures { IfOk result (λ m. m ≡ measured_of (run_of run.now) times.now figures.now waits.now) }
+    {
+        let shapes = picture(
+            alloc,
+            run,
+            times,
+            waits,
+            PIXELS,
+            figures.span,
+            figures.workers,
+        )?;
+        let slowest = slowest(alloc, run.plan, run.times)?;
+        Ok(Measured {
+            times,
+            figures,
+            waits,
+            shapes,
+            slowest,
+        })
+    }
+}
