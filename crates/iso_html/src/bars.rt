@@ -156,7 +156,8 @@ fn add_holder(marks: &mut Vec<Mark>, node: u32, group: Group) -> Result<(), Allo
     marks.push(Mark {
         bar: holder_bar(node, group),
         what: What::Waits(group.count, group.first),
-    })
+    })?;
+    Ok(())
 }
 
 /// A node for which there are waits as a bar.

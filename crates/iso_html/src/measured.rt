@@ -28,7 +28,7 @@ pub struct Measured<'a> {
     pub(crate) slowest: Vec<Timed>,
 }
 
-impl Model for Measured<'_> {
+impl<'a> Model for Measured<'a> {
     ghost use Rattle.iso_html.specs.Measured.{MeasuredView};
 
     ghost Value = { MeasuredView };

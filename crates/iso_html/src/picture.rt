@@ -104,7 +104,8 @@ fn key_row(
     let marks = key_marks(alloc, nodes, waits, key)?;
     shapes.push(Shape::Waits(key))?;
     row(alloc, shapes, pixels, span, 0, &marks)?;
-    shapes.push(Shape::End)
+    shapes.push(Shape::End)?;
+    Ok(())
 }
 
 /// Adds a row of bars.
@@ -140,7 +141,8 @@ fn add_wide(shapes: &mut Vec<Shape>, span: u64, row: u32, mark: Mark) -> Result<
     if is_thin(span, mark.bar.begin, mark.bar.end) {
         return Ok(());
     }
-    shapes.push(Shape::One(row, mark))
+    shapes.push(Shape::One(row, mark))?;
+    Ok(())
 }
 
 /// The thinner ones, by the pixel in which they begin.
@@ -195,5 +197,6 @@ fn add_several(
     if group.count == 0 {
         return Ok(());
     }
-    shapes.push(Shape::Several(row, place, group))
+    shapes.push(Shape::Several(row, place, group))?;
+    Ok(())
 }
