@@ -28,10 +28,14 @@ first_kind r n = cond (is_a_test r n) Test BeforeAll
 abbrev pub body_bar : ℕ → Look → BodyTime → Bar
 body_bar n look t = record { node = n; look = look; begin = t.begin; end = t.end }
 
--- a body, where it has a time and is this worker's
+-- a body with its time, where it is this worker's
+abbrev pub timed_marks : (worker : ℕ) → ℕ → Look → BodyKind → BodyTime → List Mark
+timed_marks worker n look kind t = cond (t.worker == worker) (record { bar = body_bar n look t; what = Body kind } ∷ []) []
+
+-- the same, where it has one
 abbrev pub body_marks : (worker : ℕ) → ℕ → Look → BodyKind → Option BodyTime → List Mark
 body_marks worker n look kind None = []
-body_marks worker n look kind (Some t) = cond (t.worker == worker) (record { bar = body_bar n look t; what = Body kind } ∷ []) []
+body_marks worker n look kind (Some t) = timed_marks worker n look kind t
 
 -- both bodies of a node, where a worker did them
 abbrev pub both_marks : RunView → List (Option BodyTime) → (worker : ℕ) → ℕ → List Mark

@@ -1,5 +1,5 @@
 -- The commands that run nodes again, as the summary tells them.
-use Rattle.std.specs.Prelude.{ℕ, List, [], ◌∷◌, Bool, cond, codes}
+use Rattle.std.specs.Prelude.{ℕ, List, [], ◌∷◌, ◌++◌, Bool, cond, codes}
 use Rattle.iso_junit.specs.Escapes.{escaped}
 use Rattle.iso_junit.specs.Runs.{PlacedView}
 use Rattle.iso_junit.specs.Texts.{joined}
@@ -23,9 +23,9 @@ commands_of c = record { again = again_of c.again; named = c.named }
 abbrev pub script_at : (named : Bool) → PlacedView → LocatedView
 script_at named at = record { file = at.file; named = named; line = at.ended; source = []; hints = [] }
 
--- the command, of the one script in which the node stands
-abbrev pub command_text : AgainView → List Row → ℕ → (file : List ℕ) → List ℕ
-command_text again tree n file =
+-- the command up to its script
+abbrev pub command_text : AgainView → List Row → ℕ → List ℕ
+command_text again tree n =
     joined
     (codes "<p>again: <code><bdi>jtap run"
     ∷ escaped (file_option (codes " --settings ") again.settings)
@@ -34,10 +34,12 @@ command_text again tree n file =
     ∷ codes " --only "
     ∷ node_text tree n
     ∷ codes " "
-    ∷ escaped (file_word file)
-    ∷ codes "</bdi></code></p>\n"
     ∷ [])
+
+-- the one script in which the node stands
+abbrev pub script_text : (file : List ℕ) → List ℕ
+script_text file = joined (escaped (file_word file) ∷ codes "</bdi></code></p>\n" ∷ [])
 
 -- the same, where it can be told
 abbrev pub again_text : CommandsView → List Row → ℕ → PlacedView → List ℕ
-again_text c tree n at = cond (can_be_told c.again (script_at c.named at)) (command_text c.again tree n at.file) []
+again_text c tree n at = cond (can_be_told c.again (script_at c.named at)) (command_text c.again tree n ++ script_text at.file) []

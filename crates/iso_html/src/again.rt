@@ -1,7 +1,7 @@
 //! The commands that run nodes again.
-ghost use Rattle.std.specs.Prelude.{◌≡◌};
+ghost use Rattle.std.specs.Prelude.{◌≡◌, ◌++◌};
 ghost use Rattle.std.specs.Option.{option_map};
-ghost use Rattle.iso_html.specs.Commands.{again_text, commands_of, script_at};
+ghost use Rattle.iso_html.specs.Commands.{again_text, command_text, commands_of, script_at, script_text};
 ghost use Rattle.iso_junit.specs.Runs.{placed_of};
 ghost use Rattle.iso_plan.specs.RowView.{tree_of};
 ghost use Rattle.iso_summary.specs.Entries.{can_be_told, given_has_control};
@@ -35,23 +35,58 @@ pub(crate) fn again<W: Sink>(
 ) -> Result<(), SinkFailed>
     ensures { Prints printer.old printer.new (again_text (commands_of commands.now) (tree_of plan.now) node (placed_of at.now)) result }
 {
-    if !can_be_told(at, commands) {
-        return Ok(());
+    if can_be_told(at, commands) {
+        return told(printer, plan, node, at.file, &commands.again);
     }
+    Ok(())
+}
+
+/// Writes the command.
+fn told<W: Sink>(
+    printer: &mut Printer<'_, W>,
+    plan: &Plan,
+    node: u32,
+    file: &str,
+    again: &Again<'_>,
+) -> Result<(), SinkFailed>
+    ensures { Prints printer.old printer.new (command_text (again_of again.now) (tree_of plan.now) node ++ script_text file.now) result }
+{
+    command(printer, plan, node, again)?;
+    script(printer, plan, file)
+}
+
+/// Writes the command up to its script.
+fn command<W: Sink>(
+    printer: &mut Printer<'_, W>,
+    plan: &Plan,
+    node: u32,
+    again: &Again<'_>,
+) -> Result<(), SinkFailed>
+    ensures { Prints printer.old printer.new (command_text (again_of again.now) (tree_of plan.now) node) result }
+{
     write_parts(
         printer,
         plan,
         &[
             Part::Plain("<p>again: <code><bdi>jtap run"),
-            Part::FileOption(" --settings ", commands.again.settings),
-            Part::FileOption(" --world ", commands.again.world),
-            Part::NumberOption(" --processors ", commands.again.processors),
+            Part::FileOption(" --settings ", again.settings),
+            Part::FileOption(" --world ", again.world),
+            Part::NumberOption(" --processors ", again.processors),
             Part::Plain(" --only "),
             Part::Node(node),
             Part::Plain(" "),
-            Part::File(at.file),
-            Part::Plain("</bdi></code></p>\n"),
         ],
+    )
+}
+
+/// Writes the script of a command.
+fn script<W: Sink>(printer: &mut Printer<'_, W>, plan: &Plan, file: &str) -> Result<(), SinkFailed>
+    ensures { Prints printer.old printer.new (script_text file.now) result }
+{
+    write_parts(
+        printer,
+        plan,
+        &[Part::File(file), Part::Plain("</bdi></code></p>\n")],
     )
 }
 

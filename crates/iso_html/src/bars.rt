@@ -1,6 +1,6 @@
 //! The bars of a run.
 ghost use Rattle.std.specs.Prelude.{◌≡◌, ◌<◌, ◌++◌, IfOk, OnOk, length};
-ghost use Rattle.iso_html.specs.Bars.{body_bar, body_marks, both_marks, first_kind, held_up, holder_bar, holder_marks, holders_below, is_waited, key_marks, lane_marks, look_of, marks_below, node_marks, wait_bar, with_wait};
+ghost use Rattle.iso_html.specs.Bars.{body_bar, body_marks, both_marks, first_kind, held_up, holder_bar, holder_marks, holders_below, is_waited, key_marks, lane_marks, look_of, marks_below, node_marks, timed_marks, wait_bar, with_wait};
 ghost use Rattle.iso_junit.specs.Runs.{run_of};
 ghost use Rattle.iso_lifecycle.specs.ResultViews.{AreComplete};
 ghost use Rattle.iso_waits.specs.Stays.{body_time};
@@ -79,14 +79,30 @@ fn add_body(
 ) -> Result<(), AllocError>
     ensures { OnOk result (marks.new.items ≡ marks.old.items ++ body_marks worker node look kind time) }
 {
-    if let Some(time) = time {
-        if time.worker == worker {
-            marks.push(Mark {
-                bar: body_bar(node, look, time),
-                what: What::Body(kind),
-            })?;
-        }
+    match time {
+        Some(time) => add_timed(marks, worker, node, look, kind, time),
+        None => Ok(()),
     }
+}
+
+/// Adds a body with its time, where it is this worker's.
+fn add_timed(
+    marks: &mut Vec<Mark>,
+    worker: u32,
+    node: u32,
+    look: Look,
+    kind: BodyKind,
+    time: BodyTime,
+) -> Result<(), AllocError>
+    ensures { OnOk result (marks.new.items ≡ marks.old.items ++ timed_marks worker node look kind time) }
+{
+    if time.worker != worker {
+        return Ok(());
+    }
+    marks.push(Mark {
+        bar: body_bar(node, look, time),
+        what: What::Body(kind),
+    })?;
     Ok(())
 }
 

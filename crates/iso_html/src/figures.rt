@@ -23,8 +23,8 @@ pub(crate) fn figures<W: Sink>(
 {
     match measured {
         Some(measured) => {
-            workers(printer, plan, measured.figures)?;
-            best(printer, plan, measured.figures.best)
+            workers(printer, plan, measured.figures())?;
+            best(printer, plan, measured.figures().best)
         }
         None => Ok(()),
     }

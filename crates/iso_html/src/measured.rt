@@ -21,11 +21,11 @@ const PIXELS: u32 = 1_000;
 /// slowest of its nodes.
 #[derive(Drop)]
 pub struct Measured<'a> {
-    pub(crate) times: &'a Times,
-    pub(crate) figures: &'a Figures,
-    pub(crate) waits: &'a [NodeWait],
-    pub(crate) shapes: Vec<Shape>,
-    pub(crate) slowest: Vec<Timed>,
+    times: &'a Times,
+    figures: &'a Figures,
+    waits: &'a [NodeWait],
+    shapes: Vec<Shape>,
+    slowest: Vec<Timed>,
 }
 
 impl<'a> Model for Measured<'a> {
@@ -72,5 +72,40 @@ impl<'a> Measured<'a> {
             shapes,
             slowest,
         })
+    }
+
+    /// The times of its bodies.
+    pub(crate) fn times(&self) -> &Times
+        ensures { result.now ≡ self.now.bodies }
+    {
+        self.times
+    }
+
+    /// Its figures.
+    pub(crate) fn figures(&self) -> &Figures
+        ensures { result.now ≡ self.now.figures }
+    {
+        self.figures
+    }
+
+    /// Its waits.
+    pub(crate) fn waits(&self) -> &[NodeWait]
+        ensures { result.now ≡ self.now.waits }
+    {
+        self.waits
+    }
+
+    /// The picture of it.
+    pub(crate) fn shapes(&self) -> &[Shape]
+        ensures { result.now ≡ self.now.shapes }
+    {
+        &self.shapes
+    }
+
+    /// The slowest of its nodes.
+    pub(crate) fn slowest(&self) -> &[Timed]
+        ensures { result.now ≡ self.now.slowest }
+    {
+        &self.slowest
     }
 }

@@ -110,11 +110,11 @@ fn write_section<W: Sink>(
 {
     match *section {
         Section::Plain(text) => printer.bytes(text.as_bytes()),
-        Section::Picture => shapes(printer, run, measured.figures.span, &measured.shapes),
-        Section::Axis => axis(printer, run.plan, measured.figures.span),
+        Section::Picture => shapes(printer, run, measured.figures().span, measured.shapes()),
+        Section::Axis => axis(printer, run.plan, measured.figures().span),
         Section::Keys => keys(printer, run, measured),
-        Section::LongestChain => chain(printer, run.plan, measured.figures.chain),
-        Section::Slowest => slowest(printer, run.plan, &measured.slowest),
+        Section::LongestChain => chain(printer, run.plan, measured.figures().chain),
+        Section::Slowest => slowest(printer, run.plan, measured.slowest()),
     }
 }
 
@@ -159,8 +159,8 @@ fn one_key<W: Sink>(
 ) -> Result<(), SinkFailed>
     ensures { Prints printer.old printer.new (one_key (run_of run.now) measured.now key) result }
 {
-    let usage = usage_of(run.plan, measured.times, key);
-    let waited = waited_time(measured.waits, key);
+    let usage = usage_of(run.plan, measured.times(), key);
+    let waited = waited_time(measured.waits(), key);
     key_line(printer, run.plan, key, usage, waited)
 }
 

@@ -3,4 +3,4 @@ use Rattle.iso_html.specs.Groups.{blank}
 use Rattle.iso_html.proofs.group.blank.Given as goal
 
 abbrev pub invariant-groups : goal.invariant-groups
-invariant-groups l = l.groups.items ≡ blank l.n-_place
+invariant-groups l = l.groups.items ≡ blank l._place
