@@ -1,5 +1,6 @@
 //! The bars of a run.
 ghost use Rattle.std.specs.Prelude.{◌≡◌, ◌<◌, ◌++◌, IfOk, OnOk, length};
+ghost use Rattle.iso_failures.specs.Failures.{is_failure};
 ghost use Rattle.iso_html.specs.Bars.{body_bar, body_marks, both_marks, first_kind, held_up, holder_bar, holder_marks, holders_below, is_waited, key_marks, lane_marks, look_of, marks_below, node_marks, timed_marks, wait_bar, with_wait};
 ghost use Rattle.iso_junit.specs.Runs.{run_of};
 ghost use Rattle.iso_lifecycle.specs.ResultViews.{AreComplete};
@@ -124,13 +125,24 @@ fn look_of(run: &Run<'_, '_>, node: u32) -> Look
     requires within { node < length run.now.plan.now.rows }
     ensures { result ≡ look_of (run_of run.now) node }
 {
-    if node == 0 {
-        return Look::Well;
+    if node > 0 && is_failure(run, node) {
+        Look::Failed
+    } else {
+        Look::Well
     }
-    match run.view(node).verdict {
-        ViewVerdict::Fail(_) | ViewVerdict::Fault(_, _) => Look::Failed,
-        ViewVerdict::Pass | ViewVerdict::Skipped(_) | ViewVerdict::Blocked(_) => Look::Well,
-    }
+}
+
+/// Whether a node's own verdict is a fail or a fault.
+fn is_failure(run: &Run<'_, '_>, node: u32) -> bool
+    requires complete { AreComplete run.now.results.now }
+    requires above { 0 < node }
+    requires within { node < length run.now.plan.now.rows }
+    ensures { result ≡ is_failure (run_of run.now).outcome node }
+{
+    matches!(
+        run.view(node).verdict,
+        ViewVerdict::Fail(_) | ViewVerdict::Fault(_, _)
+    )
 }
 
 /// The first body of a node.

@@ -185,10 +185,11 @@ fn word(run: &Run<'_, '_>, node: u32) -> &'static str
     requires complete { AreComplete run.now.results.now }
     ensures { result.now ≡ word_text (run_of run.now) node }
 {
-    if node == 0 || run.plan.len() <= node {
-        return "";
+    if is_none(run.plan, node) {
+        ""
+    } else {
+        verdict_word(run.view(node).verdict)
     }
-    verdict_word(run.view(node).verdict)
 }
 
 /// Writes the title of the waits for a node.
