@@ -10,7 +10,7 @@ use crate::axis::{at, width};
 use crate::part::Part;
 use crate::shape::{Bar, Group, Look, Mark, Shape, What};
 use crate::sign::verdict_word;
-use crate::writing::{is_none, write_parts};
+use crate::writing::write_parts;
 use iso_junit::run::Run;
 use iso_lifecycle::kind::BodyKind;
 use iso_plan::plan::Plan;
@@ -185,11 +185,10 @@ fn word(run: &Run<'_, '_>, node: u32) -> &'static str
     requires complete { AreComplete run.now.results.now }
     ensures { result.now ≡ word_text (run_of run.now) node }
 {
-    if is_none(run.plan, node) {
-        ""
-    } else {
-        verdict_word(run.view(node).verdict)
+    if node == 0 || run.plan.len() <= node {
+        return "";
     }
+    verdict_word(run.view(node).verdict)
 }
 
 /// Writes the title of the waits for a node.

@@ -1,7 +1,7 @@
 //! Texts that are written part by part.
 ghost use Rattle.std.specs.Prelude.{◌≡◌, map};
 ghost use Rattle.std.specs.Option.{option_map};
-ghost use Rattle.iso_html.specs.Parts.{chain_name, hundredths, is_none, key_text, link_text, next_text, node_text, part_text, seconds, tenths};
+ghost use Rattle.iso_html.specs.Parts.{chain_name, hundredths, key_text, link_text, next_text, node_text, part_text, seconds, tenths};
 ghost use Rattle.iso_junit.specs.Escapes.{escaped};
 ghost use Rattle.iso_junit.specs.Texts.{joined};
 ghost use Rattle.iso_plan.specs.RowView.{tree_of};
@@ -93,13 +93,6 @@ fn hundredths<W: Sink>(printer: &mut Printer<'_, W>, number: u64) -> Result<(), 
         Bytes::Number(number / 10 % 10),
         Bytes::Number(number % 10),
     ])
-}
-
-/// Whether a number is none of a test's or a class's.
-pub(crate) fn is_none(plan: &Plan, number: u32) -> bool
-    ensures { result ≡ is_none (tree_of plan.now) number }
-{
-    number == 0 || plan.len() <= number
 }
 
 /// Writes a node's path.
