@@ -83,8 +83,9 @@ pub(crate) fn style<W: Sink>(printer: &mut Printer<'_, W>) -> Result<(), SinkFai
                 ".run p{grid-column:2;display:flex;justify-content:space-between;margin:0;color:var(--dim);font-size:.8125rem;white-space:nowrap}\n",
             ),
             Part::Plain(
-                "rect{fill:var(--bar);stroke:var(--bg);stroke-width:1;vector-effect:non-scaling-stroke}\n",
+                "rect{fill:var(--bar);stroke:var(--bg);stroke-width:.5;vector-effect:non-scaling-stroke}\n",
             ),
+            Part::Plain("rect[width=\"1.00\"]{stroke:none}\n"),
             Part::Plain("rect.f{fill:var(--bad)}\n"),
             Part::Plain("rect.w{fill:var(--skip);opacity:.6}\n"),
             Part::Plain(".wide{overflow-x:auto}\n"),
