@@ -3,6 +3,7 @@ pub mod MarkupLemmas
 pub mod NodeLemmas
 pub mod QuoteLemmas
 pub mod RangeLemmas
+pub mod SlowLemmas
 pub mod SortLemmas
 pub mod TreeLemmas
 pub mod WordLemmas

@@ -1,5 +1,5 @@
 -- The slowest tests and classes.
-use Rattle.std.specs.Prelude.{ℕ, List, Option, map}
+use Rattle.std.specs.Prelude.{ℕ, List, [], ◌∷◌, Option, None, Some, map}
 use Rattle.iso_durations.specs.Listed.{listed}
 use Rattle.iso_durations.specs.Times.{micros}
 use Rattle.iso_plan.specs.Tree.{Row}
@@ -11,6 +11,11 @@ entry micros n = record { micros = micros n; node = n }
 
 abbrev pub node_of : Timed → ℕ
 node_of t = t.node
+
+-- a node with its time, where it was measured
+abbrev pub timed_of : ℕ → Option ℕ → List Timed
+timed_of n None = []
+timed_of n (Some t) = record { micros = t; node = n } ∷ []
 
 -- the ten slowest
 abbrev pub slowest : List Row → (times : List (Option ℕ)) → List Timed

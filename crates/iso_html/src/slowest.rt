@@ -1,8 +1,8 @@
 //! The slowest tests and classes.
-ghost use Rattle.std.specs.Prelude.{◌≡◌, IfOk, map};
+ghost use Rattle.std.specs.Prelude.{◌≡◌, ◌++◌, IfOk, OnOk, map};
 ghost use Rattle.iso_durations.specs.Orders.{slowest_first};
 ghost use Rattle.iso_durations.specs.Times.{measured, micros, time};
-ghost use Rattle.iso_html.specs.Slowest.{entry, slowest};
+ghost use Rattle.iso_html.specs.Slowest.{entry, slowest, timed_of};
 ghost use Rattle.iso_plan.specs.RowView.{tree_of};
 
 use iso_plan::plan::Plan;
@@ -45,11 +45,22 @@ fn measured(alloc: Global, plan: &Plan, times: &[Option<u64>]) -> Result<Vec<Tim
 {
     let mut timed = Vec::new(alloc);
     'nodes: for node in 1..plan.len() {
-        if let Some(micros) = time(times, node) {
-            timed.push(Timed { micros, node })?;
-        }
+        add(&mut timed, node, time(times, node))?;
     }
     Ok(timed)
+}
+
+/// Adds a node, where it was measured.
+fn add(timed: &mut Vec<Timed>, node: u32, time: Option<u64>) -> Result<(), AllocError>
+    ensures { OnOk result (timed.new.items ≡ timed.old.items ++ timed_of node time) }
+{
+    match time {
+        Some(micros) => {
+            timed.push(Timed { micros, node })?;
+            Ok(())
+        }
+        None => Ok(()),
+    }
 }
 
 /// How many microseconds a node's bodies took, none where none of them was measured.
