@@ -14,5 +14,5 @@ returns c =
     let times = c.args.times.now in
     let after = c.sort_unstable_by_key.new.self.items in
     let sorted = c.sort_unstable_by_key.ensures.sorted (λ t. (record { 0 = t.micros }, t.node)) (answers_always _ _ _ (λ f a r g h. search rules)) in
-    let moved = subst (λ (l : List Timed). IsPermutation l after) c.in_ok-measured.ensures c.sort_unstable_by_key.ensures.permutation in
+    let moved = subst (λ (l : List Timed). IsPermutation l after) c.in_ok-timed.ensures c.sort_unstable_by_key.ensures.permutation in
     sorted-is (micros times) (measured tree times) after (those-differ (is_measured times) (length tree)) moved sorted

@@ -11,5 +11,5 @@ pub returns : goal.returns
 returns c =
     let times = c.args.times.now in
     c.truncate.ensures
-    ∙ ap (λ (l : List Timed). take 10 l) c.in_ok-in_order.ensures
+    ∙ ap (λ (l : List Timed). take 10 l) c.in_ok-timed.ensures
     ∙ take-map (entry (micros times)) 10 (slowest_first (micros times) (measured (tree_of c.args.plan.now) times))
