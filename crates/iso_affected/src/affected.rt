@@ -1,15 +1,18 @@
 //! Which nodes of a new suite agree with their namesakes in the old one.
 ghost use Rattle.std.specs.Prelude.{◌≡◌, ◌<◌, IfOk, length};
-ghost use Rattle.iso_affected.specs.Fates.{AreFates, IsFate, gone, suites};
+ghost use Rattle.std.specs.List.{All};
+ghost use Rattle.iso_affected.specs.Fates.{AreFates, IsFate, IsNode, gone, suites};
+ghost use Rattle.iso_affected.specs.NameTables.{FindChildren};
 ghost use Rattle.iso_plan.specs.Paths.{parent};
 ghost use Rattle.iso_plan.specs.RowView.{tree_of};
 
-use crate::namesake::{namesake_in, namesakes};
+use crate::namesake::{names, namesake_in, namesakes};
 use crate::own::own_agree;
 use iso_plan::laws::nodes_are_a_tree;
 use iso_plan::plan::Plan;
 use iso_settings::world::World;
 use std::alloc::{AllocError, Global};
+use std::collections::BTreeMap;
 
 /// What a change makes of a node of the new suite. Its namesake in the old one is told by its number.
 #[derive(Clone, Copy, PartialEq, Eq)]
@@ -31,16 +34,17 @@ pub fn fates(
     after: &World,
 ) -> Result<Vec<Fate>, AllocError>
     ensures count { IfOk result (λ fates. length fates.items ≡ length new.now.rows) }
-    ensures fates { IfOk result (AreFates (suites old.now before.now new.now after.now)) }
+    ensures fates { IfOk result (λ fates. AreFates (suites old.now before.now new.now after.now) fates.items) }
 {
     nodes_are_a_tree(old);
     nodes_are_a_tree(new);
+    let names = names(alloc, old)?;
     let mut fates = Vec::with_capacity(alloc, new.len() as usize)?;
     fates.push(Fate::Same(0))?;
     'nodes: for node in 1..new.len() {
         let class = new.parent(node).unwrap_or(0);
         let above = fates[class as usize];
-        let fate = fate_in(alloc, old, before, new, after, node, above)?;
+        let fate = fate_in(alloc, old, before, &names, new, after, node, above)?;
         fates.push(fate)?;
     }
     Ok(fates)
@@ -51,6 +55,7 @@ fn fate_in(
     alloc: Global,
     old: &Plan,
     before: &World,
+    names: &[BTreeMap<&str, u32>],
     new: &Plan,
     after: &World,
     node: u32,
@@ -59,19 +64,20 @@ fn fate_in(
     requires above { 0 < node }
     requires within { node < length new.now.rows }
     requires class { IsFate (suites old.now before.now new.now after.now) (parent (tree_of new.now) node) above }
+    requires names { FindChildren (tree_of old.now) names.now }
     ensures { IfOk result (IsFate (suites old.now before.now new.now after.now) node) }
 {
     nodes_are_a_tree(old);
     nodes_are_a_tree(new);
     match above {
-        Fate::Same(class) => match namesake_in(old, class, new, node) {
+        Fate::Same(class) => match namesake_in(old, names, class, new, node) {
             Some(namesake) if own_agree(alloc, old, before, namesake, new, after, node)? => {
                 Ok(Fate::Same(namesake))
             }
             Some(namesake) => Ok(Fate::Changed(namesake)),
             None => Ok(Fate::New),
         },
-        Fate::Changed(class) => match namesake_in(old, class, new, node) {
+        Fate::Changed(class) => match namesake_in(old, names, class, new, node) {
             Some(namesake) => Ok(Fate::Changed(namesake)),
             None => Ok(Fate::New),
         },
@@ -81,7 +87,8 @@ fn fate_in(
 
 /// The nodes of the old suite that have no namesake in the new one, in order.
 pub fn gone(alloc: Global, old: &Plan, new: &Plan) -> Result<Vec<u32>, AllocError>
-    ensures { IfOk result (λ v. v.items ≡ gone (tree_of old.now) (tree_of new.now)) }
+    ensures gone { IfOk result (λ v. v.items ≡ gone (tree_of old.now) (tree_of new.now)) }
+    ensures nodes { IfOk result (λ v. All (IsNode (tree_of old.now)) v.items) }
 {
     let namesakes = namesakes(alloc, new, old)?;
     let mut gone = Vec::new(alloc);
