@@ -1,21 +1,22 @@
--- The bars of a run: of the bodies that each worker did, and of nodes that were waited for.
-use Rattle.std.specs.Prelude.{ℕ, zero, suc, List, [], ◌∷◌, ◌++◌, Option, Some, None, Bool, ◌==◌, cond, is_some, length}
-use Rattle.std.specs.List.{fold, list_any}
+-- The bars of a run: of the bodies that each worker did, and of the nodes that had each key.
+use Rattle.std.specs.Prelude.{ℕ, zero, suc, List, [], ◌∷◌, ◌++◌, Option, Some, None, ◌==◌, cond, flat_map, is_some, length}
 use Rattle.iso_failures.specs.Failures.{is_failure}
 use Rattle.iso_junit.specs.Cases.{is_a_test}
 use Rattle.iso_junit.specs.Runs.{RunView, time}
 use Rattle.iso_lifecycle.specs.declared.kind.BodyKind.{BodyKind}
 use Rattle.iso_lifecycle.specs.declared.kind.BodyKind.TheVariants.{BeforeAll, Test, AfterAll}
+use Rattle.iso_model.specs.declared.access.Access.{Access}
+use Rattle.iso_model.specs.declared.access.Access.TheVariants.{Read, Write}
+use Rattle.iso_plan.specs.Locks.{locks}
+use Rattle.iso_plan.specs.Tree.{Row}
+use Rattle.iso_plan.specs.declared.lock.Lock.{Lock}
 use Rattle.iso_times.specs.declared.times.BodyTime.{BodyTime}
-use Rattle.iso_waits.specs.Stays.{body_time}
-use Rattle.iso_waits.specs.declared.wait.NodeWait.{NodeWait}
-use Rattle.iso_html.specs.Groups.{added, blank, group_at}
-use Rattle.iso_html.specs.declared.shape.Bar.{Bar}
-use Rattle.iso_html.specs.declared.shape.Group.{Group}
+use Rattle.iso_waits.specs.Stays.{body_time, stayed}
+use Rattle.iso_waits.specs.declared.stay.Stay.{Stay}
 use Rattle.iso_html.specs.declared.shape.Look.{Look}
-use Rattle.iso_html.specs.declared.shape.Look.TheVariants.{Well, Failed, Waiting}
+use Rattle.iso_html.specs.declared.shape.Look.TheVariants.{Well, Failed, Reading, Writing}
 use Rattle.iso_html.specs.declared.shape.Mark.{Mark}
-use Rattle.iso_html.specs.declared.shape.What.TheVariants.{Body, Waits}
+use Rattle.iso_html.specs.declared.shape.What.TheVariants.{Body, Taken}
 
 -- a body looks as its node came out
 abbrev pub look_of : RunView → ℕ → Look
@@ -25,17 +26,14 @@ look_of r n = cond (is_failure r.outcome n) Failed Well
 abbrev pub first_kind : RunView → ℕ → BodyKind
 first_kind r n = cond (is_a_test r n) Test BeforeAll
 
-abbrev pub body_bar : ℕ → Look → BodyTime → Bar
-body_bar n look t = record { node = n; look = look; begin = t.begin; end = t.end }
+-- a body, from its begin until its end
+abbrev pub body_mark : ℕ → Look → BodyKind → BodyTime → Mark
+body_mark n look kind t = record { bar = record { node = n; look = look; begin = t.begin; end = t.end }; what = Body kind }
 
--- a body with its time, where it is this worker's
-abbrev pub timed_marks : (worker : ℕ) → ℕ → Look → BodyKind → BodyTime → List Mark
-timed_marks worker n look kind t = cond (t.worker == worker) (record { bar = body_bar n look t; what = Body kind } ∷ []) []
-
--- the same, where it has one
+-- the same in the lane of a worker, where it has a time and this worker did it
 abbrev pub body_marks : (worker : ℕ) → ℕ → Look → BodyKind → Option BodyTime → List Mark
 body_marks worker n look kind None = []
-body_marks worker n look kind (Some t) = timed_marks worker n look kind t
+body_marks worker n look kind (Some t) = cond (t.worker == worker) (body_mark n look kind t ∷ []) []
 
 -- both bodies of a node, where a worker did them
 abbrev pub both_marks : RunView → List (Option BodyTime) → (worker : ℕ) → ℕ → List Mark
@@ -56,33 +54,29 @@ marks_below r bodies worker (suc n) = marks_below r bodies worker n ++ node_mark
 abbrev pub lane_marks : RunView → List (Option BodyTime) → (worker : ℕ) → List Mark
 lane_marks r bodies worker = marks_below r bodies worker (length r.tree)
 
--- a wait
-abbrev pub wait_bar : NodeWait → Bar
-wait_bar w = record { node = w.node; look = Waiting; begin = w.begin; end = w.end }
+-- a node looks as it took a key
+abbrev pub taking_look : Access → Look
+taking_look Read = Reading
+taking_look Write = Writing
 
--- by the node that is waited for, the waits for a key, with one more
-abbrev pub with_wait : (key : ℕ) → List Group → NodeWait → List Group
-with_wait key gs w = cond (w.key == key) (added w.holder (wait_bar w) gs) gs
+-- a node that took a key, from when it was entered until it had finished
+abbrev pub taken_mark : Stay → Access → Mark
+taken_mark s a = record { bar = record { node = s.node; look = taking_look a; begin = s.begin; end = s.end }; what = Taken a }
 
-abbrev pub held_up : (nodes : ℕ) → List NodeWait → (key : ℕ) → List Group
-held_up nodes waits key = fold (with_wait key) (blank nodes) waits
+-- the same of one of its locks, where it is on the key
+abbrev pub lock_marks : (key : ℕ) → Stay → Lock → List Mark
+lock_marks key s l = cond (l.key == key) (taken_mark s l.access ∷ []) []
 
--- a node for which there are waits
-abbrev pub holder_bar : ℕ → Group → Bar
-holder_bar n g = record { node = n; look = Waiting; begin = g.begin; end = g.end }
+-- of a node with these locks, where it was entered; no key stands twice among them
+abbrev pub stay_marks : (key : ℕ) → List Lock → Option Stay → List Mark
+stay_marks key ls None = []
+stay_marks key ls (Some s) = flat_map (lock_marks key s) ls
 
-abbrev pub holder_marks : ℕ → Group → List Mark
-holder_marks n g = cond (g.count == 0) [] (record { bar = holder_bar n g; what = Waits g.count g.first } ∷ [])
+-- those of the nodes with a number below n
+abbrev pub takers_below : List Row → List (Option BodyTime) → (key : ℕ) → ℕ → List Mark
+takers_below tree bodies key zero = []
+takers_below tree bodies key (suc n) = takers_below tree bodies key n ++ stay_marks key (locks tree n) (stayed bodies n)
 
--- those among the nodes with a number below n
-abbrev pub holders_below : List Group → ℕ → List Mark
-holders_below gs zero = []
-holders_below gs (suc n) = holders_below gs n ++ holder_marks n (group_at gs n)
-
--- the nodes that were waited for by a key, each with its waits, in their order
-abbrev pub key_marks : (nodes : ℕ) → List NodeWait → (key : ℕ) → List Mark
-key_marks nodes waits key = holders_below (held_up nodes waits key) nodes
-
--- whether anybody waited for a key
-abbrev pub is_waited : List NodeWait → (key : ℕ) → Bool
-is_waited waits key = list_any (λ (w : NodeWait). w.key == key) waits
+-- the nodes that had a key, in their order
+abbrev pub key_marks : List Row → List (Option BodyTime) → (key : ℕ) → List Mark
+key_marks tree bodies key = takers_below tree bodies key (length tree)

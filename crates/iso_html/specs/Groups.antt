@@ -4,17 +4,24 @@ use Rattle.iso_stats.specs.Measures.{plus}
 use Rattle.iso_html.specs.declared.shape.Bar.{Bar}
 use Rattle.iso_html.specs.declared.shape.Group.{Group}
 use Rattle.iso_html.specs.declared.shape.Look.{Look}
-use Rattle.iso_html.specs.declared.shape.Look.TheVariants.{Well, Failed, Waiting}
+use Rattle.iso_html.specs.declared.shape.Look.TheVariants.{Well, Failed, Reading, Writing}
 
 -- no bar
 abbrev pub no_group : Group
 no_group = record { count = 0; first = 0; look = Well; begin = 0; end = 0 }
 
--- the look of two: where one failed, as that
+abbrev pub with_reader : Look → Look
+with_reader Well = Reading
+with_reader Failed = Reading
+with_reader Reading = Reading
+with_reader Writing = Writing
+
+-- the look of two: where one failed or took a key for READ_WRITE, as that
 abbrev pub worse : Look → Look → Look
 worse Well b = b
 worse Failed b = Failed
-worse Waiting b = Waiting
+worse Reading b = with_reader b
+worse Writing b = Writing
 
 -- one bar, and one more
 abbrev pub alone : Bar → Group

@@ -6,6 +6,7 @@ pub mod Figures
 pub mod Groups
 pub mod Heads
 pub mod KeyUses
+pub mod Lists
 pub mod Markup
 pub mod Measured
 pub mod Nodes

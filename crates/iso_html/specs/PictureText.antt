@@ -6,34 +6,40 @@ use Rattle.iso_junit.specs.Runs.{RunView}
 use Rattle.iso_junit.specs.Texts.{joined}
 use Rattle.iso_lifecycle.specs.declared.kind.BodyKind.{BodyKind}
 use Rattle.iso_lifecycle.specs.declared.kind.BodyKind.TheVariants.{BeforeAll, Test, AfterAll}
+use Rattle.iso_model.specs.Texts.{access_word}
+use Rattle.iso_model.specs.declared.access.Access.{Access}
+use Rattle.iso_plan.specs.Tree.{Row}
 use Rattle.iso_html.specs.Axes.{at, width}
 use Rattle.iso_html.specs.Parts.{hundredths, is_none, key_text, node_text, seconds}
 use Rattle.iso_html.specs.Signs.{verdict_word}
 use Rattle.iso_html.specs.declared.shape.Bar.{Bar}
 use Rattle.iso_html.specs.declared.shape.Group.{Group}
 use Rattle.iso_html.specs.declared.shape.Look.{Look}
-use Rattle.iso_html.specs.declared.shape.Look.TheVariants.{Well, Failed, Waiting}
+use Rattle.iso_html.specs.declared.shape.Look.TheVariants.{Well, Failed, Reading, Writing}
 use Rattle.iso_html.specs.declared.shape.Mark.{Mark}
 use Rattle.iso_html.specs.declared.shape.Shape.{Shape}
-use Rattle.iso_html.specs.declared.shape.Shape.TheVariants.{Label, Lanes, Waits, One, Several, End}
+use Rattle.iso_html.specs.declared.shape.Shape.TheVariants.{Label, Lanes, Key, One, Several, End}
 use Rattle.iso_html.specs.declared.shape.What.{What}
-use Rattle.iso_html.specs.declared.shape.What.TheVariants.{Body, Waits as Held}
+use Rattle.iso_html.specs.declared.shape.What.TheVariants.{Body, Taken}
 
 -- how a bar looks: its class, how far from the top of its lane it begins, and how high it is
 abbrev pub class_text : Look → List ℕ
 class_text Well = codes "b"
 class_text Failed = codes "f"
-class_text Waiting = codes "w"
+class_text Reading = codes "r"
+class_text Writing = codes "w"
 
 abbrev pub top : Look → ℕ
 top Well = 6
 top Failed = 2
-top Waiting = 2
+top Reading = 6
+top Writing = 2
 
 abbrev pub height_text : Look → List ℕ
 height_text Well = codes "12"
 height_text Failed = codes "20"
-height_text Waiting = codes "20"
+height_text Reading = codes "12"
+height_text Writing = codes "20"
 
 -- the beginning of a bar in a lane, at a place and so wide, both in hundredths of a pixel
 abbrev pub rect_text : Look → (row place wide : ℕ) → List ℕ
@@ -81,20 +87,13 @@ body_title r b kind =
     ∷ codes "</title></rect>\n"
     ∷ [])
 
--- what is said before the node that was waited for
-abbrev pub waits_word : ℕ → List ℕ
-waits_word n = cond (n == 1) (codes " wait for ") (codes " waits for ")
-
--- the title of the waits for a node: how many they are, the first node that waited, and from when until when
-abbrev pub held_title : RunView → Bar → (count first : ℕ) → List ℕ
-held_title r b count first =
+-- the title of a node that took a key: its path, how it took it, and from when until when it had it
+abbrev pub taken_title : List Row → Bar → Access → List ℕ
+taken_title tree b access =
     joined
-    (decimal count
-    ∷ waits_word count
-    ∷ node_text r.tree b.node
+    (node_text tree b.node
     ∷ codes ": "
-    ∷ node_text r.tree first
-    ∷ more count
+    ∷ access_word access
     ∷ codes ", "
     ∷ seconds (b.begin / 1000)
     ∷ codes " to "
@@ -104,23 +103,24 @@ held_title r b count first =
 
 abbrev pub title_of : RunView → Bar → What → List ℕ
 title_of r b (Body kind) = body_title r b kind
-title_of r b (Held count first) = held_title r b count first
+title_of r b (Taken access) = taken_title r.tree b access
 
 -- a bar of its own
 abbrev pub mark_text : RunView → (span row : ℕ) → Mark → List ℕ
 mark_text r span row m = rect_text m.bar.look row (at span m.bar.begin) (width span m.bar.begin m.bar.end) ++ title_of r m.bar m.what
 
--- what bars that are drawn as one are called: bodies, or nodes that were waited for
+-- what bars that are drawn as one are called: bodies, or nodes that had a key
 abbrev pub bodies_word : ℕ → List ℕ
 bodies_word n = cond (n == 1) (codes " body: ") (codes " bodies: ")
 
 abbrev pub nodes_word : ℕ → List ℕ
-nodes_word n = cond (n == 1) (codes " node waited for: ") (codes " nodes waited for: ")
+nodes_word n = cond (n == 1) (codes " node: ") (codes " nodes: ")
 
 abbrev pub group_word : Look → ℕ → List ℕ
 group_word Well n = bodies_word n
 group_word Failed n = bodies_word n
-group_word Waiting n = nodes_word n
+group_word Reading n = nodes_word n
+group_word Writing n = nodes_word n
 
 -- their title: how many they are, the first, and from when until when
 abbrev pub group_title : RunView → Group → List ℕ
@@ -159,11 +159,11 @@ lanes_text height =
 abbrev pub key_row_text : RunView → ℕ → List ℕ
 key_row_text r key =
     joined
-    (codes "<div class=\"run\">\n<ol>\n<li title=\"waits for "
+    (codes "<div class=\"run\">\n<ol>\n<li title=\"who had "
     ∷ escaped (key_text r.tree key)
-    ∷ codes "\">waits: "
+    ∷ codes "\">key "
     ∷ escaped (key_text r.tree key)
-    ∷ codes "</li>\n</ol>\n<svg role=\"img\" aria-label=\"Waits for "
+    ∷ codes "</li>\n</ol>\n<svg role=\"img\" aria-label=\"Who had "
     ∷ escaped (key_text r.tree key)
     ∷ codes "\" viewBox=\"0 0 1000 24\" height=\"24\" preserveAspectRatio=\"none\">\n"
     ∷ [])
@@ -172,7 +172,7 @@ key_row_text r key =
 abbrev pub shape_text : RunView → (span : ℕ) → Shape → List ℕ
 shape_text r span (Label worker) = label_text worker
 shape_text r span (Lanes workers) = lanes_text (workers * 24)
-shape_text r span (Waits key) = key_row_text r key
+shape_text r span (Key key) = key_row_text r key
 shape_text r span (One row m) = mark_text r span row m
 shape_text r span (Several row place g) = group_text r row place g
 shape_text r span End = codes "</svg>\n</div>\n"

@@ -8,7 +8,7 @@ use Rattle.iso_junit.specs.Texts.{joined}
 use Rattle.iso_plan.specs.KeyTable.{keys}
 use Rattle.iso_plan.specs.Tree.{Row}
 use Rattle.iso_stats.specs.declared.figures.Chain.{Chain}
-use Rattle.iso_html.specs.KeyUses.{usage_of, waited_time}
+use Rattle.iso_html.specs.KeyUses.{usage_at}
 use Rattle.iso_html.specs.Measured.{MeasuredView}
 use Rattle.iso_html.specs.Parts.{chain_name, key_text, link_text, next_text, seconds}
 use Rattle.iso_html.specs.PictureText.{shape_text}
@@ -26,7 +26,7 @@ axis_text span =
     joined
     (codes "<div class=\"run\">\n<p><span>0.000000 s</span><span>"
     ∷ seconds (span / 1000)
-    ∷ codes "</span></p>\n</div>\n<p><small>A high red bar is a body of a node that failed. What is thinner than a pixel is drawn as one bar, with its number.</small></p>\n"
+    ∷ codes "</span></p>\n</div>\n<p><small>A high red bar is a body of a node that failed. In the row of a key that was waited for are the nodes that had it, high ones for READ_WRITE. What is thinner than a pixel is drawn as one bar, with its number.</small></p>\n"
     ∷ [])
 
 -- the begin of the table of locks
@@ -35,8 +35,8 @@ locks_heading =
     codes "<h2>Locks</h2>\n<div class=\"wide\">\n<table>\n<thead><tr><th scope=\"col\">key</th><th scope=\"col\" class=\"n\">readers</th><th scope=\"col\" class=\"n\">writers</th><th scope=\"col\" class=\"n\">held</th><th scope=\"col\" class=\"n\">waited for</th></tr></thead>\n<tbody>\n"
 
 -- the line of a key: how many nodes take it, how long they were entered, and how long it was waited for
-abbrev pub key_line : List Row → (key : ℕ) → Usage → (waited : ℕ) → List ℕ
-key_line tree key u waited =
+abbrev pub key_line : List Row → (key : ℕ) → Usage → List ℕ
+key_line tree key u =
     joined
     (codes "<tr><th scope=\"row\">"
     ∷ escaped (key_text tree key)
@@ -47,13 +47,13 @@ key_line tree key u waited =
     ∷ codes "</td><td class=\"n\">"
     ∷ seconds (u.held / 1000)
     ∷ codes "</td><td class=\"n\">"
-    ∷ seconds (waited / 1000)
+    ∷ seconds (u.waited / 1000)
     ∷ codes "</td></tr>\n"
     ∷ [])
 
 -- those of all keys, by their numbers
 abbrev pub one_key : RunView → MeasuredView → (key : ℕ) → List ℕ
-one_key r m key = key_line r.tree key (usage_of r.tree m.bodies key) (waited_time m.waits key)
+one_key r m key = key_line r.tree key (usage_at m.usages key)
 
 abbrev pub keys_text : RunView → MeasuredView → (count key : ℕ) → List ℕ
 keys_text r m count key = flat_map (one_key r m) (range_with_len key count)

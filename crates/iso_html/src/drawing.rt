@@ -1,6 +1,6 @@
 //! The picture of a run as SVG.
 ghost use Rattle.std.specs.Prelude.{◌≡◌, flat_map};
-ghost use Rattle.iso_html.specs.PictureText.{body_title, class_text, group_text, group_title, group_word, height_text, held_title, key_row_text, kind_text, lanes_text, mark_text, more, rect_text, shape_text, title_of, top, waits_word, word_text};
+ghost use Rattle.iso_html.specs.PictureText.{body_title, class_text, group_text, group_title, group_word, height_text, key_row_text, kind_text, lanes_text, mark_text, more, rect_text, shape_text, taken_title, title_of, top, word_text};
 ghost use Rattle.iso_junit.specs.Runs.{run_of};
 ghost use Rattle.iso_lifecycle.specs.ResultViews.{AreComplete};
 ghost use Rattle.iso_plan.specs.RowView.{tree_of};
@@ -13,6 +13,7 @@ use crate::sign::verdict_word;
 use crate::writing::write_parts;
 use iso_junit::run::Run;
 use iso_lifecycle::kind::BodyKind;
+use iso_model::access::Access;
 use iso_plan::plan::Plan;
 use iso_tap::printer::Printer;
 use iso_tap::sink::{Sink, SinkFailed};
@@ -54,7 +55,7 @@ fn shape<W: Sink>(
             ],
         ),
         Shape::Lanes(workers) => lanes(printer, run.plan, u64::from(workers) * 24),
-        Shape::Waits(key) => key_row(printer, run, key),
+        Shape::Key(key) => key_row(printer, run, key),
         Shape::One(row, found) => mark(printer, run, span, row, found),
         Shape::Several(row, place, found) => group(printer, run, row, place, found),
         Shape::End => printer.bytes(b"</svg>\n</div>\n"),
@@ -92,11 +93,11 @@ fn key_row<W: Sink>(
         printer,
         run.plan,
         &[
-            Part::Plain("<div class=\"run\">\n<ol>\n<li title=\"waits for "),
+            Part::Plain("<div class=\"run\">\n<ol>\n<li title=\"who had "),
             Part::Key(key),
-            Part::Plain("\">waits: "),
+            Part::Plain("\">key "),
             Part::Key(key),
-            Part::Plain("</li>\n</ol>\n<svg role=\"img\" aria-label=\"Waits for "),
+            Part::Plain("</li>\n</ol>\n<svg role=\"img\" aria-label=\"Who had "),
             Part::Key(key),
             Part::Plain("\" viewBox=\"0 0 1000 24\" height=\"24\" preserveAspectRatio=\"none\">\n"),
         ],
@@ -138,7 +139,7 @@ fn title<W: Sink>(
 {
     match what {
         What::Body(kind) => body_title(printer, run, bar, kind),
-        What::Waits(count, first) => held_title(printer, run, bar, count, first),
+        What::Taken(access) => taken_title(printer, run.plan, bar, access),
     }
 }
 
@@ -191,26 +192,22 @@ fn word(run: &Run<'_, '_>, node: u32) -> &'static str
     verdict_word(run.view(node).verdict)
 }
 
-/// Writes the title of the waits for a node.
-fn held_title<W: Sink>(
+/// Writes the title of a node that took a key so.
+fn taken_title<W: Sink>(
     printer: &mut Printer<'_, W>,
-    run: &Run<'_, '_>,
+    plan: &Plan,
     bar: Bar,
-    count: u64,
-    first: u32,
+    access: Access,
 ) -> Result<(), SinkFailed>
-    ensures { Prints printer.old printer.new (held_title (run_of run.now) bar count first) result }
+    ensures { Prints printer.old printer.new (taken_title (tree_of plan.now) bar access) result }
 {
     write_parts(
         printer,
-        run.plan,
+        plan,
         &[
-            Part::Number(count),
-            Part::Plain(waits_word(count)),
             Part::Node(bar.node),
             Part::Plain(": "),
-            Part::Node(first),
-            Part::Plain(more(count)),
+            Part::Plain(access.word()),
             Part::Plain(", "),
             Part::Seconds(bar.begin),
             Part::Plain(" to "),
@@ -218,17 +215,6 @@ fn held_title<W: Sink>(
             Part::Plain("</title></rect>\n"),
         ],
     )
-}
-
-/// What is said before the node that was waited for.
-fn waits_word(count: u64) -> &'static str
-    ensures { result.now ≡ waits_word count }
-{
-    if count == 1 {
-        " wait for "
-    } else {
-        " waits for "
-    }
 }
 
 /// That there are more.
@@ -289,10 +275,10 @@ fn group_word(look: Look, count: u64) -> &'static str
     ensures { result.now ≡ group_word look count }
 {
     match (look, count) {
-        (Look::Waiting, 1) => " node waited for: ",
-        (Look::Waiting, _) => " nodes waited for: ",
-        (_, 1) => " body: ",
-        (_, _) => " bodies: ",
+        (Look::Well | Look::Failed, 1) => " body: ",
+        (Look::Well | Look::Failed, _) => " bodies: ",
+        (Look::Reading | Look::Writing, 1) => " node: ",
+        (Look::Reading | Look::Writing, _) => " nodes: ",
     }
 }
 
@@ -333,7 +319,8 @@ fn class_text(look: Look) -> &'static str
     match look {
         Look::Well => "b",
         Look::Failed => "f",
-        Look::Waiting => "w",
+        Look::Reading => "r",
+        Look::Writing => "w",
     }
 }
 
@@ -342,8 +329,8 @@ fn top(look: Look) -> u64
     ensures { result ≡ top look }
 {
     match look {
-        Look::Well => 6,
-        Look::Failed | Look::Waiting => 2,
+        Look::Well | Look::Reading => 6,
+        Look::Failed | Look::Writing => 2,
     }
 }
 
@@ -352,7 +339,7 @@ fn height_text(look: Look) -> &'static str
     ensures { result.now ≡ height_text look }
 {
     match look {
-        Look::Well => "12",
-        Look::Failed | Look::Waiting => "20",
+        Look::Well | Look::Reading => "12",
+        Look::Failed | Look::Writing => "20",
     }
 }

@@ -6,14 +6,18 @@ use crate::shape::{Bar, Group, Look};
 use std::alloc::{AllocError, Global};
 
 impl Look {
-    /// The look of two: where one failed, as that.
+    /// The look of two: where one failed or took a key for READ_WRITE, as that.
     fn or_worse(self, other: Look) -> Look
         ensures { result ≡ worse self other }
     {
         match self {
             Look::Well => other,
             Look::Failed => Look::Failed,
-            Look::Waiting => Look::Waiting,
+            Look::Reading => match other {
+                Look::Writing => Look::Writing,
+                _ => Look::Reading,
+            },
+            Look::Writing => Look::Writing,
         }
     }
 }
@@ -74,11 +78,7 @@ impl Group {
 pub(crate) fn blank(alloc: Global, count: u32) -> Result<Vec<Group>, AllocError>
     ensures { IfOk result (λ v. v.items ≡ blank count) }
 {
-    let mut groups = Vec::with_capacity(alloc, count as usize)?;
-    'groups: for _place in 0..count {
-        groups.push(Group::none())?;
-    }
-    Ok(groups)
+    vec![in alloc; Group::none(); count as usize]
 }
 
 /// Adds a bar to the group at a place, where there is one.

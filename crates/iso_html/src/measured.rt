@@ -7,6 +7,7 @@ ghost use Rattle.iso_lifecycle.specs.ResultViews.{AreComplete};
 use crate::picture::picture;
 use crate::shape::Shape;
 use crate::slowest::{Timed, slowest};
+use crate::usage::{Usage, usages};
 use iso_junit::run::Run;
 use iso_stats::figures::Figures;
 use iso_times::times::Times;
@@ -17,13 +18,11 @@ use std::marker::Model;
 /// How many pixels wide the picture is.
 const PIXELS: u32 = 1_000;
 
-/// What was measured of a run, with what the page shows of it: the times of its bodies, its figures and waits, the picture of it, and the
-/// slowest of its nodes.
+/// What the page shows of what was measured of a run: its figures, how its keys were used, the picture of it, and the slowest of its nodes.
 #[derive(Drop)]
 pub struct Measured<'a> {
-    times: &'a Times,
     figures: &'a Figures,
-    waits: &'a [NodeWait],
+    usages: Vec<Usage>,
     shapes: Vec<Shape>,
     slowest: Vec<Timed>,
 }
@@ -34,9 +33,8 @@ impl<'a> Model for Measured<'a> {
     ghost Value = { MeasuredView };
 
     ghost view = { λ m. record {
-      bodies = m.times.now;
       figures = m.figures.now;
-      waits = m.waits.now;
+      usages = m.usages.items;
       shapes = m.shapes.items;
       slowest = m.slowest.items;
     } };
@@ -55,30 +53,23 @@ impl<'a> Measured<'a> {
         requires complete { AreComplete run.now.results.now }
         ensures { IfOk result (λ m. m ≡ measured_of (run_of run.now) times.now figures.now waits.now) }
     {
+        let usages = usages(alloc, run.plan, times, waits)?;
         let shapes = picture(
             alloc,
             run,
             times,
-            waits,
+            &usages,
             PIXELS,
             figures.span,
             figures.workers,
         )?;
         let slowest = slowest(alloc, run.plan, run.times)?;
         Ok(Measured {
-            times,
             figures,
-            waits,
+            usages,
             shapes,
             slowest,
         })
-    }
-
-    /// The times of its bodies.
-    pub(crate) fn times(&self) -> &Times
-        ensures { result.now ≡ self.now.bodies }
-    {
-        self.times
     }
 
     /// Its figures.
@@ -88,11 +79,11 @@ impl<'a> Measured<'a> {
         self.figures
     }
 
-    /// Its waits.
-    pub(crate) fn waits(&self) -> &[NodeWait]
-        ensures { result.now ≡ self.now.waits }
+    /// How its keys were used, by their numbers.
+    pub(crate) fn usages(&self) -> &[Usage]
+        ensures { result.now ≡ self.now.usages }
     {
-        self.waits
+        &self.usages
     }
 
     /// The picture of it.

@@ -1,19 +1,18 @@
 //! The picture of a run, piece by piece.
-ghost use Rattle.std.specs.Prelude.{◌≡◌, ◌++◌, IfOk, OnOk, flat_map, length};
+ghost use Rattle.std.specs.Prelude.{◌≡◌, ◌++◌, IfOk, OnOk, flat_map, map};
 ghost use Rattle.iso_html.specs.Pictures.{key_shapes, keys_below, labels_below, lanes_below, picture, row_shapes, several_below, several_shapes, thin_groups, wide_shapes, with_thin};
 ghost use Rattle.iso_junit.specs.Runs.{run_of};
 ghost use Rattle.iso_lifecycle.specs.ResultViews.{AreComplete};
-ghost use Rattle.iso_plan.specs.KeyTable.{keys};
-ghost use Rattle.iso_plan.specs.RowView.{tree_of};
 
 use crate::axis::{is_thin, pixel};
-use crate::bars::{is_waited, key_marks, lane_marks};
 use crate::group::{add, blank, group_at};
+use crate::lanes::lanes;
+use crate::lists::list_at;
 use crate::shape::{Group, Mark, Shape};
+use crate::takers::takers;
+use crate::usage::{Usage, usage_at};
 use iso_junit::run::Run;
-use iso_plan::plan::Plan;
 use iso_times::times::Times;
-use iso_waits::wait::NodeWait;
 use std::alloc::{AllocError, Global};
 
 /// The picture of a run that took so long, on so many workers, so many pixels wide.
@@ -21,25 +20,35 @@ pub(crate) fn picture(
     alloc: Global,
     run: &Run<'_, '_>,
     times: &Times,
-    waits: &[NodeWait],
+    usages: &[Usage],
     pixels: u32,
     span: u64,
     workers: u32,
 ) -> Result<Vec<Shape>, AllocError>
     requires complete { AreComplete run.now.results.now }
-    ensures { IfOk result (λ v. v.items ≡ picture (run_of run.now) times.now waits.now pixels span workers) }
+    ensures { IfOk result (λ v. v.items ≡ picture (run_of run.now) times.now usages.now pixels span workers) }
 {
+    let lanes = lanes(alloc, run, times, workers)?;
+    let takers = takers(alloc, run.plan, times)?;
     let mut shapes = Vec::new(alloc);
-    labels(&mut shapes, workers)?;
+    add_labels(&mut shapes, workers)?;
     shapes.push(Shape::Lanes(workers))?;
-    lanes(alloc, &mut shapes, run, times, pixels, span, workers)?;
+    add_lanes(alloc, &mut shapes, &lanes, pixels, span, workers)?;
     shapes.push(Shape::End)?;
-    keys(alloc, &mut shapes, run.plan, waits, pixels, span)?;
+    add_keys(
+        alloc,
+        &mut shapes,
+        &takers,
+        usages,
+        pixels,
+        span,
+        run.plan.key_count(),
+    )?;
     Ok(shapes)
 }
 
 /// Adds the labels of so many workers.
-fn labels(shapes: &mut Vec<Shape>, workers: u32) -> Result<(), AllocError>
+fn add_labels(shapes: &mut Vec<Shape>, workers: u32) -> Result<(), AllocError>
     ensures { OnOk result (shapes.new.items ≡ shapes.old.items ++ labels_below workers) }
 {
     'workers: for worker in 0..workers {
@@ -49,67 +58,72 @@ fn labels(shapes: &mut Vec<Shape>, workers: u32) -> Result<(), AllocError>
 }
 
 /// Adds the lanes of so many workers.
-fn lanes(
+fn add_lanes(
     alloc: Global,
     shapes: &mut Vec<Shape>,
-    run: &Run<'_, '_>,
-    times: &Times,
+    lanes: &[Vec<Mark>],
     pixels: u32,
     span: u64,
     workers: u32,
 ) -> Result<(), AllocError>
-    requires complete { AreComplete run.now.results.now }
-    ensures { OnOk result (shapes.new.items ≡ shapes.old.items ++ lanes_below (run_of run.now) times.now pixels span workers) }
+    ensures { OnOk result (shapes.new.items ≡ shapes.old.items ++ lanes_below (map (λ l. l.items) lanes.now) pixels span workers) }
 {
     'workers: for worker in 0..workers {
-        let marks = lane_marks(alloc, run, times, worker)?;
-        row(alloc, shapes, pixels, span, worker, &marks)?;
+        add_row(alloc, shapes, pixels, span, worker, list_at(lanes, worker))?;
     }
     Ok(())
 }
 
-/// Adds the rows of the keys that somebody waited for.
-fn keys(
+/// Adds the rows of those of so many keys that somebody waited for.
+fn add_keys(
     alloc: Global,
     shapes: &mut Vec<Shape>,
-    plan: &Plan,
-    waits: &[NodeWait],
+    takers: &[Vec<Mark>],
+    usages: &[Usage],
     pixels: u32,
     span: u64,
+    count: u32,
 ) -> Result<(), AllocError>
-    ensures { OnOk result (shapes.new.items ≡ shapes.old.items
-        ++ keys_below (length plan.now.rows) waits.now pixels span (length (keys (tree_of plan.now)))) }
+    ensures { OnOk result (shapes.new.items ≡ shapes.old.items ++ keys_below (map (λ l. l.items) takers.now) usages.now pixels span count) }
 {
-    'keys: for key in 0..plan.key_count() {
-        key_row(alloc, shapes, plan.len(), waits, pixels, span, key)?;
+    'keys: for key in 0..count {
+        let usage = usage_at(usages, key);
+        add_key(
+            alloc,
+            shapes,
+            pixels,
+            span,
+            key,
+            usage,
+            list_at(takers, key),
+        )?;
     }
     Ok(())
 }
 
-/// Adds the row of a key, where somebody waited for it.
-fn key_row(
+/// Adds the row of a key that was used so, where somebody waited for it.
+fn add_key(
     alloc: Global,
     shapes: &mut Vec<Shape>,
-    nodes: u32,
-    waits: &[NodeWait],
     pixels: u32,
     span: u64,
     key: u32,
+    usage: Usage,
+    marks: &[Mark],
 ) -> Result<(), AllocError>
-    ensures { OnOk result (shapes.new.items ≡ shapes.old.items ++ key_shapes nodes waits.now pixels span key) }
+    ensures { OnOk result (shapes.new.items ≡ shapes.old.items ++ key_shapes pixels span key usage marks.now) }
 {
-    if !is_waited(waits, key) {
+    if usage.waits == 0 {
         return Ok(());
     }
-    let marks = key_marks(alloc, nodes, waits, key)?;
-    shapes.push(Shape::Waits(key))?;
-    row(alloc, shapes, pixels, span, 0, &marks)?;
+    shapes.push(Shape::Key(key))?;
+    add_row(alloc, shapes, pixels, span, 0, marks)?;
     shapes.push(Shape::End)?;
     Ok(())
 }
 
 /// Adds a row of bars.
-fn row(
+fn add_row(
     alloc: Global,
     shapes: &mut Vec<Shape>,
     pixels: u32,
@@ -120,12 +134,17 @@ fn row(
     ensures { OnOk result (shapes.new.items ≡ shapes.old.items ++ row_shapes pixels span row marks.now) }
 {
     let groups = thin_groups(alloc, pixels, span, marks)?;
-    wide(shapes, span, row, marks)?;
-    several(shapes, row, &groups, pixels)
+    add_all_wide(shapes, span, row, marks)?;
+    add_all_several(shapes, row, &groups, pixels)
 }
 
 /// Adds the bars that are as wide as a pixel, or wider.
-fn wide(shapes: &mut Vec<Shape>, span: u64, row: u32, marks: &[Mark]) -> Result<(), AllocError>
+fn add_all_wide(
+    shapes: &mut Vec<Shape>,
+    span: u64,
+    row: u32,
+    marks: &[Mark],
+) -> Result<(), AllocError>
     ensures { OnOk result (shapes.new.items ≡ shapes.old.items ++ flat_map (wide_shapes span row) marks.now) }
 {
     for mark in marks {
@@ -171,7 +190,7 @@ fn add_thin(groups: &mut [Group], span: u64, mark: Mark)
 }
 
 /// Adds the bars of so many pixels, those of a pixel as one.
-fn several(
+fn add_all_several(
     shapes: &mut Vec<Shape>,
     row: u32,
     groups: &[Group],

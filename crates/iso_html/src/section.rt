@@ -1,7 +1,6 @@
 //! What the page tells of what was measured.
 ghost use Rattle.std.specs.Prelude.{◌≡◌, flat_map, length, map};
 ghost use Rattle.std.specs.Option.{option_map};
-ghost use Rattle.iso_html.specs.KeyUses.{usage_of, waited_time};
 ghost use Rattle.iso_html.specs.Sections.{axis_text, chain_end, chain_line, chain_text, key_line, keys_text, measures_text, one_key, section_text, sections_text, slow_line};
 ghost use Rattle.iso_junit.specs.Runs.{run_of};
 ghost use Rattle.iso_junit.specs.Texts.{joined};
@@ -14,7 +13,7 @@ use crate::drawing::shapes;
 use crate::measured::Measured;
 use crate::part::Part;
 use crate::slowest::Timed;
-use crate::usage::{Usage, usage_of, waited_time};
+use crate::usage::{Usage, usage_at};
 use crate::writing::write_parts;
 use iso_junit::run::Run;
 use iso_plan::plan::Plan;
@@ -129,7 +128,7 @@ fn axis<W: Sink>(printer: &mut Printer<'_, W>, plan: &Plan, span: u64) -> Result
             Part::Plain("<div class=\"run\">\n<p><span>0.000000 s</span><span>"),
             Part::Seconds(span),
             Part::Plain(
-                "</span></p>\n</div>\n<p><small>A high red bar is a body of a node that failed. What is thinner than a pixel is drawn as one bar, with its number.</small></p>\n",
+                "</span></p>\n</div>\n<p><small>A high red bar is a body of a node that failed. In the row of a key that was waited for are the nodes that had it, high ones for READ_WRITE. What is thinner than a pixel is drawn as one bar, with its number.</small></p>\n",
             ),
         ],
     )
@@ -159,20 +158,18 @@ fn one_key<W: Sink>(
 ) -> Result<(), SinkFailed>
     ensures { Prints printer.old printer.new (one_key (run_of run.now) measured.now key) result }
 {
-    let usage = usage_of(run.plan, measured.times(), key);
-    let waited = waited_time(measured.waits(), key);
-    key_line(printer, run.plan, key, usage, waited)
+    let usage = usage_at(measured.usages(), key);
+    key_line(printer, run.plan, key, usage)
 }
 
-/// Writes the line of a key that was used so, and waited for so long.
+/// Writes the line of a key that was used so.
 fn key_line<W: Sink>(
     printer: &mut Printer<'_, W>,
     plan: &Plan,
     key: u32,
     usage: Usage,
-    waited: u64,
 ) -> Result<(), SinkFailed>
-    ensures { Prints printer.old printer.new (key_line (tree_of plan.now) key usage waited) result }
+    ensures { Prints printer.old printer.new (key_line (tree_of plan.now) key usage) result }
 {
     write_parts(
         printer,
@@ -187,7 +184,7 @@ fn key_line<W: Sink>(
             Part::Plain("</td><td class=\"n\">"),
             Part::Seconds(usage.held),
             Part::Plain("</td><td class=\"n\">"),
-            Part::Seconds(waited),
+            Part::Seconds(usage.waited),
             Part::Plain("</td></tr>\n"),
         ],
     )

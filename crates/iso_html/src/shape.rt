@@ -1,16 +1,18 @@
 //! What the picture of a run is made of.
 
 use iso_lifecycle::kind::BodyKind;
+use iso_model::access::Access;
 
-/// How a bar looks.
+/// How a bar looks: of a body of a node that failed or of another, or of a node that took a key for READ or for READ_WRITE.
 #[derive(Clone, Copy)]
 pub enum Look {
     Well,
     Failed,
-    Waiting,
+    Reading,
+    Writing,
 }
 
-/// A bar: what a node did, or what it was waited for, from a moment until another, in nanoseconds from the first begin.
+/// A bar: what a node did, or that it had a key, from a moment until another, in nanoseconds from the first begin.
 #[derive(Clone, Copy)]
 pub struct Bar {
     pub node: u32,
@@ -23,8 +25,8 @@ pub struct Bar {
 #[derive(Clone, Copy)]
 pub enum What {
     Body(BodyKind),
-    /// So many waits for the node, and the first node that waited.
-    Waits(u64, u32),
+    /// That the node had a key, and how it took it.
+    Taken(Access),
 }
 
 /// A bar with what it stands for.
@@ -51,8 +53,8 @@ pub enum Shape {
     Label(u32),
     /// The begin of the lanes of so many workers.
     Lanes(u32),
-    /// The begin of the row of what waited for a key.
-    Waits(u32),
+    /// The begin of the row of who had a key.
+    Key(u32),
     /// A bar in a lane.
     One(u32, Mark),
     /// Bars in a pixel of a lane.

@@ -1,9 +1,10 @@
 //! How the keys of a run were used.
-ghost use Rattle.std.specs.Prelude.{◌≡◌, ◌-◌};
-ghost use Rattle.iso_conflicts.specs.Takers.{access_on};
-ghost use Rattle.iso_html.specs.KeyUses.{no_usage, stay_time, usage_of, waited_time, with_taker, with_wait_time};
+ghost use Rattle.std.specs.Prelude.{◌≡◌, ◌<◌, ℕ, IfOk, length, slice_index_or};
+ghost use Rattle.std.specs.List.{fold};
+ghost use Rattle.iso_html.specs.KeyUses.{no_usage, stay_time, with_wait_for, usage_at, usage_below, usages, with_lock, with_taker, with_wait};
+ghost use Rattle.iso_plan.specs.KeyTable.{keys};
+ghost use Rattle.iso_plan.specs.Paths.{column};
 ghost use Rattle.iso_plan.specs.RowView.{tree_of};
-ghost use Rattle.iso_stats.specs.Measures.{plus};
 ghost use Rattle.iso_waits.specs.Stays.{stayed};
 
 use iso_model::access::Access;
@@ -12,13 +13,17 @@ use iso_plan::plan::Plan;
 use iso_times::times::Times;
 use iso_waits::stay::stayed;
 use iso_waits::wait::NodeWait;
+use std::alloc::{AllocError, Global};
 
-/// How a key was taken: how many nodes take it for READ and for READ_WRITE, and how many nanoseconds they were entered, added up.
+/// How a key was used: how many nodes take it for READ and for READ_WRITE, how many nanoseconds they were entered, added up, how many nodes
+/// waited for it, and how many nanoseconds, added up.
 #[derive(Clone, Copy)]
-pub(crate) struct Usage {
+pub struct Usage {
     pub readers: u64,
     pub writers: u64,
     pub held: u64,
+    pub waits: u64,
+    pub waited: u64,
 }
 
 impl Usage {
@@ -30,50 +35,85 @@ impl Usage {
             readers: 0,
             writers: 0,
             held: 0,
+            waits: 0,
+            waited: 0,
         }
     }
 
-    /// The same with one node more, which takes it so, if it does, and was entered for a time.
-    fn with(self, access: Option<Access>, time: u64) -> Usage
+    /// The same with one node more, which takes it so and was entered for a time.
+    fn with_taker(self, access: Access, time: u64) -> Usage
         ensures { result ≡ with_taker access time self }
     {
+        let held = self.held.saturating_add(time);
         match access {
-            None => self,
-            Some(Access::Read) => Usage {
+            Access::Read => Usage {
                 readers: self.readers.saturating_add(1),
-                writers: self.writers,
-                held: self.held.saturating_add(time),
+                held,
+                ..self
             },
-            Some(Access::Write) => Usage {
-                readers: self.readers,
+            Access::Write => Usage {
                 writers: self.writers.saturating_add(1),
-                held: self.held.saturating_add(time),
+                held,
+                ..self
             },
+        }
+    }
+
+    /// The same with one node more, which waited for it for a time.
+    fn with_wait(self, time: u64) -> Usage
+        ensures { result ≡ with_wait time self }
+    {
+        Usage {
+            waits: self.waits.saturating_add(1),
+            waited: self.waited.saturating_add(time),
+            ..self
         }
     }
 }
 
-/// How a key was taken.
-pub(crate) fn usage_of(plan: &Plan, times: &Times, key: u32) -> Usage
-    ensures { result ≡ usage_of (tree_of plan.now) times.now key }
+/// How each key of a run was used, by its number.
+pub(crate) fn usages(
+    alloc: Global,
+    plan: &Plan,
+    times: &Times,
+    waits: &[NodeWait],
+) -> Result<Vec<Usage>, AllocError>
+    ensures { IfOk result (λ v. v.items ≡ usages (tree_of plan.now) times.now waits.now) }
 {
-    let mut usage = Usage::none();
-    'nodes: for node in 0..plan.len() {
-        usage = usage.with(access_on(plan.locks(node), key), stay_time(times, node));
-    }
-    usage
+    let mut usages = taken(alloc, plan, times)?;
+    add_waits(&mut usages, waits);
+    Ok(usages)
 }
 
-/// The access with which locks take a key, if they do.
-fn access_on(locks: &[Lock], key: u32) -> Option<Access>
-    ensures { result ≡ access_on key locks.now }
+/// How each key was taken.
+fn taken(alloc: Global, plan: &Plan, times: &Times) -> Result<Vec<Usage>, AllocError>
+    ensures { IfOk result (λ v. v.items
+        ≡ column (λ key. usage_below (tree_of plan.now) times.now key (length plan.now.rows)) (length (keys (tree_of plan.now)))) }
+{
+    let mut usages = vec![in alloc; Usage::none(); plan.key_count() as usize]?;
+    'nodes: for node in 0..plan.len() {
+        add_locks(&mut usages, plan.locks(node), stay_time(times, node));
+    }
+    Ok(usages)
+}
+
+/// Adds a node that takes these locks and was entered for a time.
+fn add_locks(usages: &mut [Usage], locks: &[Lock], time: u64)
+    ensures { (k : ℕ) → k < length usages.old → usage_at usages.new k ≡ fold (with_lock k time) (usage_at usages.old k) locks.now }
 {
     'locks: for lock in locks {
-        if lock.key == key {
-            return Some(lock.access);
-        }
+        add_lock(usages, *lock, time);
     }
-    None
+}
+
+/// Adds a lock of such a node to the usage of its key.
+fn add_lock(usages: &mut [Usage], lock: Lock, time: u64)
+    ensures { (k : ℕ) → k < length usages.old → usage_at usages.new k ≡ with_lock k time (usage_at usages.old k) lock }
+{
+    let place = lock.key as usize;
+    if place < usages.len() {
+        usages[place] = usages[place].with_taker(lock.access, time);
+    }
 }
 
 /// How long a node was entered.
@@ -86,24 +126,31 @@ fn stay_time(times: &Times, node: u32) -> u64
     }
 }
 
-/// How long nodes waited for a key, added up.
-pub(crate) fn waited_time(waits: &[NodeWait], key: u32) -> u64
-    ensures { result ≡ waited_time waits.now key }
+/// Adds waits to the usages of their keys.
+fn add_waits(usages: &mut [Usage], waits: &[NodeWait])
+    ensures { (k : ℕ) → k < length usages.old → usage_at usages.new k ≡ fold (with_wait_for k) (usage_at usages.old k) waits.now }
 {
-    let mut time = 0;
     for wait in waits {
-        time = with_wait_time(time, key, *wait);
+        add_wait(usages, *wait);
     }
-    time
 }
 
-/// A time, and that of a wait where it is for a key.
-fn with_wait_time(time: u64, key: u32, wait: NodeWait) -> u64
-    ensures { result ≡ with_wait_time key time wait }
+/// Adds a wait to the usage of its key.
+fn add_wait(usages: &mut [Usage], wait: NodeWait)
+    ensures { (k : ℕ) → k < length usages.old → usage_at usages.new k ≡ with_wait_for k (usage_at usages.old k) wait }
 {
-    if wait.key == key {
-        time.saturating_add(wait.end.saturating_sub(wait.begin))
-    } else {
-        time
+    let place = wait.key as usize;
+    if place < usages.len() {
+        usages[place] = usages[place].with_wait(wait.time);
+    }
+}
+
+/// The usage of the key with a number.
+pub(crate) fn usage_at(usages: &[Usage], key: u32) -> Usage
+    ensures { result ≡ usage_at usages.now key }
+{
+    match usages.get(key as usize) {
+        Some(usage) => *usage,
+        None => Usage::none(),
     }
 }

@@ -1,6 +1,6 @@
 use Rattle.std.proofs.Common.{◌≡◌, ◌++◌, drop, flat_map}
 use Rattle.iso_html.specs.Pictures.{wide_shapes}
-use Rattle.iso_html.proofs.picture.wide.Given as goal
+use Rattle.iso_html.proofs.picture.add_all_wide.Given as goal
 
 -- the pieces so far and those of the bars to come
 abbrev pub invariant-loop-mark : goal.invariant-loop-mark
