@@ -1,4 +1,5 @@
 pub mod GroupLemmas
+pub mod ListLemmas
 pub mod MarkupLemmas
 pub mod NodeLemmas
 pub mod QuoteLemmas

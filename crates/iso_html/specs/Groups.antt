@@ -1,5 +1,5 @@
 -- Bars that are drawn as one.
-use Rattle.std.specs.Prelude.{ℕ, zero, suc, ◌+◌, List, [], ◌∷◌, ◌==◌, cond, max, min, replicate, slice_index_or}
+use Rattle.std.specs.Prelude.{ℕ, zero, suc, List, [], ◌∷◌, ◌==◌, cond, max, min, replicate, slice_index_or}
 use Rattle.iso_stats.specs.Measures.{plus}
 use Rattle.iso_html.specs.declared.shape.Bar.{Bar}
 use Rattle.iso_html.specs.declared.shape.Group.{Group}

@@ -1,5 +1,5 @@
 -- What the page shows of what was measured of a run.
-use Rattle.std.specs.Prelude.{ℕ, List, Option}
+use Rattle.std.specs.Prelude.{List, Option}
 use Rattle.iso_junit.specs.Runs.{RunView}
 use Rattle.iso_stats.specs.declared.figures.Figures.{Figures}
 use Rattle.iso_times.specs.declared.times.BodyTime.{BodyTime}

@@ -1,5 +1,5 @@
 -- The picture of a run as SVG.
-use Rattle.std.specs.Prelude.{ℕ, ◌+◌, ◌*◌, ◌/◌, List, [], ◌∷◌, ◌++◌, Bool, ◌==◌, cond, codes}
+use Rattle.std.specs.Prelude.{ℕ, ◌+◌, ◌*◌, ◌/◌, List, [], ◌∷◌, ◌++◌, ◌==◌, cond, codes}
 use Rattle.std.specs.Fmt.{decimal}
 use Rattle.iso_junit.specs.Escapes.{escaped}
 use Rattle.iso_junit.specs.Runs.{RunView}

@@ -1,5 +1,5 @@
 -- What the page tells of what was measured: the picture of the run, the locks, and the slowest tests and classes.
-use Rattle.std.specs.Prelude.{ℕ, ◌/◌, ◌-◌, List, [], ◌∷◌, ◌++◌, Option, Some, None, Bool, ◌==◌, cond, codes, flat_map, length}
+use Rattle.std.specs.Prelude.{ℕ, ◌/◌, List, [], ◌∷◌, Option, Some, None, Bool, cond, codes, flat_map, length}
 use Rattle.std.specs.Fmt.{decimal}
 use Rattle.std.specs.List.{range_with_len}
 use Rattle.iso_junit.specs.Escapes.{escaped}

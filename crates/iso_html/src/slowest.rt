@@ -5,6 +5,7 @@ ghost use Rattle.iso_durations.specs.Times.{measured, micros, time};
 ghost use Rattle.iso_html.specs.Slowest.{entry, slowest, timed_of};
 ghost use Rattle.iso_plan.specs.RowView.{tree_of};
 
+use iso_plan::laws;
 use iso_plan::plan::Plan;
 use std::alloc::{AllocError, Global};
 use std::cmp::Reverse;
@@ -43,6 +44,7 @@ fn in_order(alloc: Global, plan: &Plan, times: &[Option<u64>]) -> Result<Vec<Tim
 fn measured(alloc: Global, plan: &Plan, times: &[Option<u64>]) -> Result<Vec<Timed>, AllocError>
     ensures { IfOk result (λ v. v.items ≡ map (entry (micros times.now)) (measured (tree_of plan.now) times.now)) }
 {
+    laws::nodes_are_a_tree(plan);
     let mut timed = Vec::new(alloc);
     'nodes: for node in 1..plan.len() {
         add(&mut timed, node, time(times, node))?;

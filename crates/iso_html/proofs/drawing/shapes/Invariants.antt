@@ -1,4 +1,4 @@
-use Rattle.std.proofs.Common.{drop, flat_map, map}
+use Rattle.std.proofs.Common.{drop, flat_map}
 use Rattle.iso_html.specs.PictureText.{shape_text}
 use Rattle.iso_junit.specs.Runs.{run_of}
 use Rattle.iso_tap.proofs.PrinterLemmas.{LeftToPrint}

@@ -2,7 +2,7 @@ use Rattle.std.proofs.Common.{Ok, codes}
 use Rattle.std.specs.Option.{option_map}
 use Rattle.iso_html.specs.Figures.{measured_figures}
 use Rattle.iso_html.specs.Heads.{classes_text}
-use Rattle.iso_tap.proofs.PrinterLemmas.{prints_as, prints_cut, prints_stopped, prints_then}
+use Rattle.iso_tap.proofs.PrinterLemmas.{prints_cut, prints_stopped, prints_then}
 use Rattle.iso_html.proofs.head.figures.Goals as goal
 
 pub returns-in_err-tests : goal.returns-in_err-tests

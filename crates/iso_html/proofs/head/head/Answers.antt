@@ -2,7 +2,7 @@ use Rattle.std.proofs.Common.{Ok}
 use Rattle.std.specs.Option.{option_map}
 use Rattle.iso_html.specs.Heads.{figures_text, heading_text, title_text}
 use Rattle.iso_html.specs.Styles.{style_text}
-use Rattle.iso_tap.proofs.PrinterLemmas.{prints_as, prints_cut, prints_stopped, prints_then}
+use Rattle.iso_tap.proofs.PrinterLemmas.{prints_cut, prints_stopped, prints_then}
 use Rattle.iso_html.proofs.head.head.Goals as goal
 
 pub returns-in_err-first_lines : goal.returns-in_err-first_lines

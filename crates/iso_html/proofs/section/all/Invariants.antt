@@ -1,4 +1,4 @@
-use Rattle.std.proofs.Common.{drop, flat_map, map}
+use Rattle.std.proofs.Common.{drop, map}
 use Rattle.iso_html.specs.Sections.{section_text}
 use Rattle.iso_junit.specs.Runs.{run_of}
 use Rattle.iso_junit.specs.Texts.{joined}

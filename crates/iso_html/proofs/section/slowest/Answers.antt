@@ -1,4 +1,4 @@
-use Rattle.std.proofs.Common.{List, ap, flat_map, map}
+use Rattle.std.proofs.Common.{List, ap, flat_map}
 use Rattle.std.proofs.lemmas.Result.{err_from_is_err_and}
 use Rattle.iso_html.specs.Sections.{slow_line}
 use Rattle.iso_html.specs.declared.slowest.Timed.{Timed}

@@ -1,4 +1,4 @@
-use Rattle.std.proofs.Common.{drop, flat_map, map}
+use Rattle.std.proofs.Common.{drop, flat_map}
 use Rattle.iso_html.specs.Sections.{slow_line}
 use Rattle.iso_plan.specs.RowView.{tree_of}
 use Rattle.iso_tap.proofs.PrinterLemmas.{LeftToPrint}

@@ -1,4 +1,4 @@
-use Rattle.std.proofs.Common.{◌≡◌, ◌++◌, length, map}
+use Rattle.std.proofs.Common.{◌≡◌, map}
 use Rattle.iso_durations.specs.Times.{micros}
 use Rattle.iso_durations.proofs.TimesLemmas.{so_far}
 use Rattle.iso_html.specs.Slowest.{entry}

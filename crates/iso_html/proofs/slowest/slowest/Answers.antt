@@ -10,6 +10,6 @@ use Rattle.iso_html.proofs.slowest.slowest.Goals as goal
 pub returns : goal.returns
 returns c =
     let times = c.args.times.now in
-    c.truncate.ensures
+    c.truncate.ensures.items
     ∙ ap (λ (l : List Timed). take 10 l) c.in_ok-timed.ensures
     ∙ take-map (entry (micros times)) 10 (slowest_first (micros times) (measured (tree_of c.args.plan.now) times))

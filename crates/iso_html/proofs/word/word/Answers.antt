@@ -1,4 +1,4 @@
-use Rattle.std.proofs.Common.{◌≡◌, ◌++◌, List, ℕ, Ok, codes, false, sym, ◌∙◌}
+use Rattle.std.proofs.Common.{◌≡◌, Ok, codes, false, sym, ◌∙◌}
 use Rattle.std.specs.List.{flat_map}
 use Rattle.iso_html.proofs.WordLemmas.{quoted-is}
 use Rattle.iso_junit.specs.Escapes.{escaped}
