@@ -1,4 +1,10 @@
+pub mod GroupLemmas
+pub mod ListLemmas
 pub mod MarkupLemmas
 pub mod NodeLemmas
 pub mod QuoteLemmas
+pub mod RangeLemmas
+pub mod SlowLemmas
+pub mod SortLemmas
 pub mod TreeLemmas
+pub mod WordLemmas

@@ -1,8 +1,10 @@
 -- The beginning of the page.
-use Rattle.std.specs.Prelude.{ℕ, List, [], ◌∷◌, ◌++◌, Bool, cond, codes}
+use Rattle.std.specs.Prelude.{ℕ, List, [], ◌∷◌, ◌++◌, Option, Bool, cond, codes}
 use Rattle.std.specs.Fmt.{decimal}
 use Rattle.iso_failures.specs.declared.counts.Counts.{Counts}
 use Rattle.iso_junit.specs.Texts.{joined}
+use Rattle.iso_html.specs.Figures.{measured_figures}
+use Rattle.iso_html.specs.Measured.{MeasuredView}
 use Rattle.iso_html.specs.Signs.{ok_sign, word_for}
 use Rattle.iso_html.specs.Styles.{style_text}
 
@@ -15,7 +17,7 @@ abbrev pub first_lines : List ℕ
 first_lines =
     joined
     (codes "<!DOCTYPE html>\n<html lang=\"en\">\n<head>\n<meta charset=\"utf-8\">\n"
-    ∷ codes "<meta http-equiv=\"Content-Security-Policy\" content=\"default-src 'none'; style-src 'sha256-OLM8rKuyrqc4jjdHt3ipS21hYUYOWzYQxTPlv2kWpnw='\">\n"
+    ∷ codes "<meta http-equiv=\"Content-Security-Policy\" content=\"default-src 'none'; style-src 'sha256-X1uJPY6iP/Z2gfxOcl+A4HX9kyhJhTR+zSSuTaMENfU='\">\n"
     ∷ codes "<meta name=\"viewport\" content=\"width=device-width, initial-scale=1\">\n"
     ∷ [])
 
@@ -39,7 +41,7 @@ heading_text ok c = joined (codes "</style>\n</head>\n<body>\n<main>\n<h1>" ∷ 
 
 -- how many classes failed by themselves
 abbrev pub classes_text : ℕ → List ℕ
-classes_text n = joined (decimal n ∷ word_for n (codes "</b> class not ok</li>\n</ul>\n") (codes "</b> classes not ok</li>\n</ul>\n") ∷ [])
+classes_text n = joined (decimal n ∷ word_for n (codes "</b> class not ok</li>\n") (codes "</b> classes not ok</li>\n") ∷ [])
 
 -- how many tests came to what
 abbrev pub tests_text : Counts → List ℕ
@@ -56,10 +58,10 @@ tests_text c =
     ∷ codes "</b> blocked</li>\n<li><b>"
     ∷ [])
 
--- the counts of the summary
-abbrev pub figures_text : Counts → List ℕ
-figures_text c = tests_text c ++ classes_text c.classes_not_ok
+-- the counts of the summary, and the figures of what was measured
+abbrev pub figures_text : Counts → Option MeasuredView → List ℕ
+figures_text c measured = tests_text c ++ classes_text c.classes_not_ok ++ measured_figures measured ++ codes "</ul>\n"
 
 -- the beginning of the page
-abbrev pub head_text : (ok : Bool) → Counts → List ℕ
-head_text ok c = first_lines ++ title_text ok c ++ style_text ++ heading_text ok c ++ figures_text c
+abbrev pub head_text : (ok : Bool) → Counts → Option MeasuredView → List ℕ
+head_text ok c measured = first_lines ++ title_text ok c ++ style_text ++ heading_text ok c ++ figures_text c measured

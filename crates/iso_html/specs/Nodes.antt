@@ -76,15 +76,21 @@ wrong_head sign path message n at =
 abbrev pub blocks_text : ℕ → List ℕ
 blocks_text n = cond (n == 0) [] (joined (codes "<p>blocks " ∷ decimal n ∷ word_for n (codes " test</p>\n") (codes " tests</p>\n") ∷ []))
 
--- what went wrong in a node: that, the lines of the script there, how many tests it blocks, and what it printed
-abbrev pub entry_text : Verdict → (path message : List ℕ) → (n : ℕ) → PlacedView → (lines : List LineView) → (blocked : ℕ) → (output : List (List ℕ)) → List ℕ
-entry_text verdict path message n at lines blocked output =
-    wrong_head (sign false verdict) path message n at ++ quote_text at.ended lines ++ blocks_text blocked ++ printed_text output ++ codes "</article>\n"
+-- What went wrong in a node: that, the lines of the script there, how many tests it blocks, what it printed, and the command that runs it
+-- again.
+abbrev pub entry_text : Verdict → (path message : List ℕ) → (n : ℕ) → PlacedView → (lines : List LineView) → (blocked : ℕ) → (output : List (List ℕ)) → (again : List ℕ) → List ℕ
+entry_text verdict path message n at lines blocked output again =
+    wrong_head (sign false verdict) path message n at
+    ++ quote_text at.ended lines
+    ++ blocks_text blocked
+    ++ printed_text output
+    ++ again
+    ++ codes "</article>\n"
 
 -- the same by the verdict, and nothing where it is no fail and no fault
-abbrev pub wrong_text : Verdict → (path : List ℕ) → (n : ℕ) → PlacedView → (lines : List LineView) → (blocked : ℕ) → (output : List (List ℕ)) → List ℕ
-wrong_text Pass path n at lines blocked output = []
-wrong_text (Fail note) path n at lines blocked output = entry_text (Fail note) path note.message n at lines blocked output
-wrong_text (Fault kind note) path n at lines blocked output = entry_text (Fault kind note) path note.message n at lines blocked output
-wrong_text (Skipped note) path n at lines blocked output = []
-wrong_text (Blocked note) path n at lines blocked output = []
+abbrev pub wrong_text : Verdict → (path : List ℕ) → (n : ℕ) → PlacedView → (lines : List LineView) → (blocked : ℕ) → (output : List (List ℕ)) → (again : List ℕ) → List ℕ
+wrong_text Pass path n at lines blocked output again = []
+wrong_text (Fail note) path n at lines blocked output again = entry_text (Fail note) path note.message n at lines blocked output again
+wrong_text (Fault kind note) path n at lines blocked output again = entry_text (Fault kind note) path note.message n at lines blocked output again
+wrong_text (Skipped note) path n at lines blocked output again = []
+wrong_text (Blocked note) path n at lines blocked output again = []

@@ -18,3 +18,11 @@ sign ok (Fail note) = codes "<span class=\"bad\">&#10007; fail</span>"
 sign ok (Fault kind note) = codes "<span class=\"bad\">&#10007; fault</span>"
 sign ok (Skipped note) = codes "<span class=\"skip\">&#8211; skipped</span>"
 sign ok (Blocked note) = codes "<span class=\"block\">&#9632; blocked</span>"
+
+-- a verdict in a word
+abbrev pub verdict_word : Verdict → List ℕ
+verdict_word Pass = codes "ok"
+verdict_word (Fail note) = codes "fail"
+verdict_word (Fault kind note) = codes "fault"
+verdict_word (Skipped note) = codes "skipped"
+verdict_word (Blocked note) = codes "blocked"

@@ -1,5 +1,6 @@
 //! Worked examples of the definitions, as public laws.
-ghost use Rattle.std.specs.Prelude.{◌≡◌, ◌++◌, ◌∷◌, [], codes};
+ghost use Rattle.std.specs.Prelude.{◌≡◌, ◌++◌, ◌∷◌, [], None, codes};
+ghost use Rattle.iso_html.specs.Examples.{of_files, of_input};
 ghost use Rattle.iso_html.specs.Pages.{body_text, failure_text, tree_heading};
 ghost use Rattle.iso_html.specs.Quotes.{quote_text};
 ghost use Rattle.iso_html.specs.Trees.{node_text, tree_text};
@@ -27,22 +28,23 @@ pub fn failed_test_is_open()
         ∷ []) }
 {}
 
-/// What went wrong is told with the place of what ended it, and leads to the node in the tree.
+/// What went wrong is told with the place of what ended it and the command that runs it again, and leads to the node in the tree.
 pub fn failed_test_has_an_entry()
-    ensures { failure_text cart_run [] 7 ≡ text_of
+    ensures { failure_text cart_run [] of_files 7 ≡ text_of
         ("<article>"
         ∷ "<h3><span class=\"bad\">&#10007; fail</span> <a href=\"#n7\">shop.Cart.d</a></h3>"
         ∷ "<p><code><bdi>cart.jtap</bdi>:11</code>: expected: &lt;6&gt; but was: &lt;5&gt;</p>"
         ∷ "<pre>"
         ∷ "say &quot;hi&quot; &amp; go"
         ∷ "</pre>"
+        ∷ "<p>again: <code><bdi>jtap run --world 'my world.toml' --processors 4 --only shop.Cart.d cart.jtap</bdi></code></p>"
         ∷ "</article>"
         ∷ []) }
 {}
 
-/// A class whose own blocks ended by a fault tells how many tests it blocks.
+/// A class whose own blocks ended by a fault tells how many tests it blocks. Of a script from standard input no command is told.
 pub fn fault_of_a_class_has_an_entry()
-    ensures { failure_text cart_run [] 3
+    ensures { failure_text cart_run [] of_input 3
         ≡ text_of
         ("<article>"
         ∷ "<h3><span class=\"bad\">&#10007; fault</span> <a href=\"#n3\">shop.Cart.Till</a></h3>"
@@ -84,7 +86,7 @@ pub fn skipped_tests_have_their_reason()
 
 /// A run of no nodes is ok, and has an empty list; nothing went wrong in it.
 pub fn empty_run_has_an_empty_page()
-    ensures { body_text no_nodes [] ≡ tree_heading ++ text_of
+    ensures { body_text no_nodes [] of_files None ≡ tree_heading ++ text_of
         ("<ul>"
         ∷ "</ul>"
         ∷ "</section>"

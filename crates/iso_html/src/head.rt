@@ -1,29 +1,35 @@
 //! The beginning of the page.
 ghost use Rattle.std.specs.Prelude.{◌≡◌};
+ghost use Rattle.std.specs.Option.{option_map};
 ghost use Rattle.iso_html.specs.Heads.{classes_text, figures_text, first_lines, head_text, heading_text, ok_word, size_text, tests_text, title_text};
 ghost use Rattle.iso_tap.specs.Printers.{Prints};
 
+use crate::figures::figures as measured_figures;
+use crate::measured::Measured;
 use crate::sign::{ok_sign, word_for};
 use crate::style::style;
 use iso_failures::counts::Counts;
 use iso_junit::part::Part;
 use iso_junit::writing::parts;
+use iso_plan::plan::Plan;
 use iso_tap::printer::Printer;
 use iso_tap::sink::{Sink, SinkFailed};
 
 /// Writes the beginning of the page of a run with these counts.
 pub(crate) fn head<W: Sink>(
     printer: &mut Printer<'_, W>,
+    plan: &Plan,
     ok: bool,
     counts: Counts,
+    measured: Option<&Measured<'_>>,
 ) -> Result<(), SinkFailed>
-    ensures { Prints printer.old printer.new (head_text ok counts) result }
+    ensures { Prints printer.old printer.new (head_text ok counts (option_map (λ m. m.now) measured.entry)) result }
 {
     first_lines(printer)?;
     title(printer, ok, counts)?;
     style(printer)?;
     heading(printer, ok, counts)?;
-    figures(printer, counts)
+    figures(printer, plan, counts, measured)
 }
 
 /// Writes the first lines: no script and nothing from elsewhere is allowed, and as style the one below alone, by its SHA-256.
@@ -35,7 +41,7 @@ fn first_lines<W: Sink>(printer: &mut Printer<'_, W>) -> Result<(), SinkFailed>
         &[
             Part::Plain("<!DOCTYPE html>\n<html lang=\"en\">\n<head>\n<meta charset=\"utf-8\">\n"),
             Part::Plain(
-                "<meta http-equiv=\"Content-Security-Policy\" content=\"default-src 'none'; style-src 'sha256-OLM8rKuyrqc4jjdHt3ipS21hYUYOWzYQxTPlv2kWpnw='\">\n",
+                "<meta http-equiv=\"Content-Security-Policy\" content=\"default-src 'none'; style-src 'sha256-X1uJPY6iP/Z2gfxOcl+A4HX9kyhJhTR+zSSuTaMENfU='\">\n",
             ),
             Part::Plain(
                 "<meta name=\"viewport\" content=\"width=device-width, initial-scale=1\">\n",
@@ -95,12 +101,19 @@ fn size<W: Sink>(printer: &mut Printer<'_, W>, counts: Counts) -> Result<(), Sin
     )
 }
 
-/// Writes the counts.
-fn figures<W: Sink>(printer: &mut Printer<'_, W>, counts: Counts) -> Result<(), SinkFailed>
-    ensures { Prints printer.old printer.new (figures_text counts) result }
+/// Writes the counts, and the figures of what was measured.
+fn figures<W: Sink>(
+    printer: &mut Printer<'_, W>,
+    plan: &Plan,
+    counts: Counts,
+    measured: Option<&Measured<'_>>,
+) -> Result<(), SinkFailed>
+    ensures { Prints printer.old printer.new (figures_text counts (option_map (λ m. m.now) measured.entry)) result }
 {
     tests(printer, counts)?;
-    classes(printer, counts.classes_not_ok)
+    classes(printer, counts.classes_not_ok)?;
+    measured_figures(printer, plan, measured)?;
+    printer.bytes(b"</ul>\n")
 }
 
 /// Writes how many tests came to what.
@@ -133,8 +146,8 @@ fn classes<W: Sink>(printer: &mut Printer<'_, W>, count: u32) -> Result<(), Sink
             Part::Number(count),
             Part::Plain(word_for(
                 count,
-                "</b> class not ok</li>\n</ul>\n",
-                "</b> classes not ok</li>\n</ul>\n",
+                "</b> class not ok</li>\n",
+                "</b> classes not ok</li>\n",
             )),
         ],
     )

@@ -1,5 +1,6 @@
 //! What is told of a node.
 ghost use Rattle.std.specs.Prelude.{◌≡◌, ◌<◌, ◌==◌, length, map};
+ghost use Rattle.iso_html.specs.Commands.{again_text, commands_of};
 ghost use Rattle.iso_html.specs.Nodes.{blocks_text, entry_text, message_text, name_text, open_word, place_text, printed_text, reason_text, time_text, wrong_head, wrong_text};
 ghost use Rattle.iso_html.specs.Quotes.{line_of};
 ghost use Rattle.iso_junit.specs.Runs.{placed_of};
@@ -8,6 +9,7 @@ ghost use Rattle.iso_plan.specs.PathTexts.{path_text};
 ghost use Rattle.iso_plan.specs.RowView.{tree_of};
 ghost use Rattle.iso_tap.specs.Printers.{Prints};
 
+use crate::again::{Commands, again};
 use crate::quote::{Line, quote};
 use crate::sign::{sign, word_for};
 use iso_junit::part::Part;
@@ -160,12 +162,14 @@ pub(crate) fn wrong<W: Sink>(
     lines: &[Line<'_>],
     blocked: u32,
     view: View<'_>,
+    commands: &Commands<'_>,
 ) -> Result<(), SinkFailed>
     requires above { 0 < node }
     requires within { node < length plan.now.rows }
     ensures { let outcome = outcome_of_view view.entry in
         Prints printer.old printer.new
-        (wrong_text outcome.verdict (path_text (tree_of plan.now) node) node (placed_of at.now) (map line_of lines.now) blocked outcome.output) result }
+        (wrong_text outcome.verdict (path_text (tree_of plan.now) node) node (placed_of at.now) (map line_of lines.now) blocked outcome.output
+        (again_text (commands_of commands.now) (tree_of plan.now) node (placed_of at.now))) result }
 {
     match view.verdict {
         ViewVerdict::Pass => Ok(()),
@@ -179,6 +183,7 @@ pub(crate) fn wrong<W: Sink>(
             lines,
             blocked,
             view,
+            commands,
         ),
         ViewVerdict::Fault(kind, note) => entry(
             printer,
@@ -190,13 +195,15 @@ pub(crate) fn wrong<W: Sink>(
             lines,
             blocked,
             view,
+            commands,
         ),
         ViewVerdict::Skipped(_) => Ok(()),
         ViewVerdict::Blocked(_) => Ok(()),
     }
 }
 
-/// Writes what went wrong in a node, the lines of the script there, how many tests it blocks, and what it printed.
+/// Writes what went wrong in a node, the lines of the script there, how many tests it blocks, what it printed, and the command that runs it
+/// again.
 fn entry<'x, W: Sink>(
     printer: &mut Printer<'_, W>,
     verdict: ViewVerdict<'_>,
@@ -207,17 +214,19 @@ fn entry<'x, W: Sink>(
     lines: &[Line<'_>],
     blocked: u32,
     view: View<'_>,
+    commands: &Commands<'_>,
 ) -> Result<(), SinkFailed>
     requires above { 0 < node }
     requires within { node < length plan.now.rows }
     ensures { Prints printer.old printer.new
         (entry_text (verdict_of_view verdict.entry) (path_text (tree_of plan.now) node) message.now node (placed_of at.now) (map line_of lines.now) blocked
-        (outcome_of_view view.entry).output) result }
+        (outcome_of_view view.entry).output (again_text (commands_of commands.now) (tree_of plan.now) node (placed_of at.now))) result }
 {
     wrong_head(printer, sign(false, verdict), plan, node, at, message)?;
     quote(printer, at.ended, lines)?;
     blocks(printer, blocked)?;
     printed(printer, view)?;
+    again(printer, plan, node, at, commands)?;
     printer.bytes(b"</article>\n")
 }
 

@@ -1,6 +1,6 @@
 //! Signs and words.
 ghost use Rattle.std.specs.Prelude.{◌≡◌};
-ghost use Rattle.iso_html.specs.Signs.{ok_sign, sign, word_for};
+ghost use Rattle.iso_html.specs.Signs.{ok_sign, sign, verdict_word, word_for};
 ghost use Rattle.iso_lifecycle.specs.ResultViews.{verdict_of_view};
 
 use iso_lifecycle::view::ViewVerdict;
@@ -26,6 +26,19 @@ pub(crate) fn sign(ok: bool, verdict: ViewVerdict<'_>) -> &'static str
         ViewVerdict::Fault(_, _) => "<span class=\"bad\">&#10007; fault</span>",
         ViewVerdict::Skipped(_) => "<span class=\"skip\">&#8211; skipped</span>",
         ViewVerdict::Blocked(_) => "<span class=\"block\">&#9632; blocked</span>",
+    }
+}
+
+/// A verdict in a word.
+pub(crate) fn verdict_word(verdict: ViewVerdict<'_>) -> &'static str
+    ensures { result.now ≡ verdict_word (verdict_of_view verdict.entry) }
+{
+    match verdict {
+        ViewVerdict::Pass => "ok",
+        ViewVerdict::Fail(_) => "fail",
+        ViewVerdict::Fault(_, _) => "fault",
+        ViewVerdict::Skipped(_) => "skipped",
+        ViewVerdict::Blocked(_) => "blocked",
     }
 }
 

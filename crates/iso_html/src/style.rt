@@ -72,9 +72,9 @@ pub(crate) fn style<W: Sink>(printer: &mut Printer<'_, W>) -> Result<(), SinkFai
                 "section:has(#skipped:checked) li>details::details-content{content-visibility:visible;block-size:auto}\n",
             ),
             Part::Plain(
-                ".run{display:grid;grid-template-columns:minmax(5rem,auto) 1fr;column-gap:.5rem}\n",
+                ".run{display:grid;grid-template-columns:clamp(5rem,22vw,12rem) 1fr;column-gap:.5rem}\n",
             ),
-            Part::Plain(".run ol{list-style:none;margin:0;padding:0;max-width:12rem}\n"),
+            Part::Plain(".run ol{list-style:none;margin:0;padding:0;min-width:0}\n"),
             Part::Plain(
                 ".run li{height:24px;font-size:.8125rem;line-height:24px;overflow:hidden;text-overflow:ellipsis;white-space:nowrap}\n",
             ),
@@ -83,11 +83,12 @@ pub(crate) fn style<W: Sink>(printer: &mut Printer<'_, W>) -> Result<(), SinkFai
                 ".run p{grid-column:2;display:flex;justify-content:space-between;margin:0;color:var(--dim);font-size:.8125rem;white-space:nowrap}\n",
             ),
             Part::Plain(
-                "rect{fill:var(--bar);stroke:var(--bg);stroke-width:1;vector-effect:non-scaling-stroke}\n",
+                "rect{fill:var(--bar);stroke:var(--bg);stroke-width:.5;vector-effect:non-scaling-stroke}\n",
             ),
+            Part::Plain("rect[width=\"1.00\"]{stroke:none}\n"),
             Part::Plain("rect.f{fill:var(--bad)}\n"),
-            Part::Plain("rect.w{fill:var(--skip);opacity:.6}\n"),
-            Part::Plain("rect.c{stroke:var(--fg);stroke-width:3}\n"),
+            Part::Plain("rect.r,rect.w{fill:var(--skip);opacity:.6}\n"),
+            Part::Plain("rect.w{fill:var(--block)}\n"),
             Part::Plain(".wide{overflow-x:auto}\n"),
             Part::Plain("table{border-collapse:collapse;width:100%}\n"),
             Part::Plain(
