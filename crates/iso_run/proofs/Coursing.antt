@@ -27,7 +27,7 @@ use Rattle.iso_record.specs.Texts.{schedule_text}
 use Rattle.iso_run.specs.Courses.{AreEvents, AreInOrder, AreRecord, AreWhole, HasObserved, IsCounted, IsCourse, IsRunOf, IsScheduled, IsUnasked, ObservedView, TellsCourse, trace_of, wants_times}
 use Rattle.iso_run.specs.Runs.{IsRead}
 use Rattle.iso_run.specs.Watches.{IsWatch, WasWatched, WasWatchedOf, watched_with}
-use Rattle.iso_run.specs.declared.observation.Watch.{Watch}
+use Rattle.iso_run.specs.declared.watch.Watch.{Watch}
 use Rattle.iso_run.specs.Suites.{asks_for_paths, kept_fault, kept_nodes, planned, suite_of, wishes_in}
 use Rattle.iso_run.specs.declared.course.Course.{Course}
 use Rattle.iso_run.specs.declared.inputs.Inputs.{Inputs}

@@ -5,7 +5,7 @@ use Rattle.iso_run.specs.Courses.{AreFigures, IsRunOf, ObservedView, waits_of}
 use Rattle.iso_run.specs.Runs.{TellsOf}
 use Rattle.iso_run.specs.Suites.{OfSuite, planned}
 use Rattle.iso_run.specs.declared.inputs.Inputs.{Inputs}
-use Rattle.iso_run.specs.declared.observation.Watch.{Watch}
+use Rattle.iso_run.specs.declared.watch.Watch.{Watch}
 use Rattle.iso_run.specs.declared.way.Way.{Way}
 use Rattle.iso_settings.specs.Worlds.{Start}
 use Rattle.iso_telling.specs.Pages.{WatchedView}

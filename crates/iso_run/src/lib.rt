@@ -29,5 +29,6 @@ mod script_mending;
 mod settings;
 mod times;
 mod warning;
+mod watch;
 mod way;
 pub mod workers;

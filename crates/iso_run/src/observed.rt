@@ -8,7 +8,8 @@ ghost use Rattle.iso_telling.specs.Telling.{IsTold};
 ghost use Rattle.iso_waits.specs.AllWaits.{all_waits};
 
 use crate::course::Course;
-use crate::observation::{Observed, Watch};
+use crate::observation::Observed;
+use crate::watch::Watch;
 use iso_critical::critical::critical;
 use iso_stats::measures::figures;
 use iso_stats::text::write_stats;

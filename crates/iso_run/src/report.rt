@@ -30,10 +30,10 @@ pub struct Summary {
 /// A run that is over: its results, how many microseconds the bodies of its nodes took, as far as that was measured, and what was watched of
 /// it.
 #[derive(Clone, Copy)]
-pub(crate) struct Finished<'r, 'p> {
+pub(crate) struct Finished<'r, 't, 'p> {
     pub results: &'r Results<'p>,
-    pub times: &'r [Option<u64>],
-    pub watched: Option<Watched<'r>>,
+    pub times: &'t [Option<u64>],
+    pub watched: Option<Watched<'t>>,
 }
 
 /// Tells what is asked for besides, and writes the report of the results of all nodes of a suite, whose scripts have these bytes.
@@ -41,7 +41,7 @@ pub(crate) fn write_results<W: Sink>(
     alloc: Global,
     suite: &Suite,
     texts: &[&[u8]],
-    run: &Finished<'_, '_>,
+    run: &Finished<'_, '_, '_>,
     tells: &mut Tells<'_>,
     sink: &mut W,
 ) -> Result<Summary, RunFault>
