@@ -23,7 +23,7 @@ returns-clause-course g c =
       started = c.in_ok-book.ensures.started;
       of = c.workers.ensures ∙ c.requires.workers;
     } in
-    let seen = c.observe-watch.new.course in
+    let seen = c.observe.new.course in
     let asked = c.tell_book.new.asked in
     let new : Course = record { schedule = asked; trace = seen.trace; stats = seen.stats } in
     let planned = subst (λ (p : Planned). IsScheduled (AreEvents ByWorkers p book.world book.workers) seen.schedule asked) on.plan_is c.in_ok-tell_book.ensures in
