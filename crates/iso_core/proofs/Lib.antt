@@ -9,5 +9,6 @@ pub mod CoreValues
 pub mod FlatStates
 pub mod FlatValues
 pub mod Isolating
+pub mod PathCounts
 pub mod Progressing
 pub mod Taking

@@ -99,6 +99,16 @@ fn first_kind(plan: &Plan, node: u32) -> BodyKind
     }
 }
 
+/// How many classes there are on the path of a class: it and those that it stands in.
+fn class_count(plan: &Plan, class: u32) -> usize
+    requires within { class < length plan.now.rows }
+    requires class { is_test (row_at (tree_of plan.now) class).kind ≡ false }
+    ensures { result ≡ length (path (tree_of plan.now) class) }
+{
+    nodes_are_a_tree(plan);
+    plan.chain(class).classes.len()
+}
+
 /// The frames of a class that was opened and of the classes that it stands in, outermost first; of the root there are none.
 fn opened_frames(
     alloc: Global,
@@ -113,7 +123,7 @@ fn opened_frames(
     ensures { IfOk result (λ v. v.items ≡ map (subject plan.now results.now.start) (reverse (path (tree_of plan.now) class))) }
 {
     nodes_are_a_tree(plan);
-    let mut frames = Vec::with_capacity(alloc, plan.depth())?;
+    let mut frames = Vec::with_capacity(alloc, class_count(plan, class))?;
     results.share_frames(class, &mut frames)?;
     Ok(frames)
 }

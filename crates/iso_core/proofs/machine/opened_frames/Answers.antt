@@ -1,6 +1,5 @@
 use Rattle.std.proofs.Common.{◌≤◌, length, sym, subst, arith}
 use Rattle.std.specs.Vec.{vec_capacity}
-use Rattle.iso_plan.proofs.DepthLemmas.{path-within}
 use Rattle.iso_plan.specs.Paths.{path}
 use Rattle.iso_plan.specs.Planned.{Planned}
 use Rattle.iso_plan.specs.RowView.{tree_of}
@@ -10,7 +9,6 @@ pub share_frames-requires-clause-room : goal.share_frames-requires-clause-room
 share_frames-requires-clause-room c =
     let n = c.args.class in
     let Fits : Planned → Type 0 = λ p. length (path (tree_of p) n) ≤ vec_capacity c.in_ok-frames.frames in
-    let deep = path-within (tree_of c.args.plan.now) c.nodes_are_a_tree.ensures n c.requires.within c.requires.class in
     let room = c.in_ok-frames.ensures.capacity in
-    let count = c.depth.ensures in
+    let count = c.class_count.ensures in
     subst Fits (sym c.requires.plan) (omega arith)
