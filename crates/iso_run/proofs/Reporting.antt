@@ -85,5 +85,5 @@ module _ (inputs : Inputs) (old new : Account) (suite : Suite) (plan : Planned) 
       → (wants_places before ≡ true → ArePlaced w.texts w.scripts w.places)
       → (result : Result A F) → OnOk result (HasTold w (tree_of plan) (outcome_in v) times watched before after)
       → OnOk result (TellsRun inputs way before after)
-  told-run way w times watched before after seen same placed (Ok a) h = (times, (watched, (seen, told_of w times watched before after same placed h)))
+  told-run way w times watched before after seen same placed (Ok a) h = (times, watched, seen, told_of w times watched before after same placed h)
   told-run way w times watched before after seen same placed (Err e) h = tt
