@@ -1,8 +1,9 @@
 -- Lines of scripts, as the page shows them.
 use Rattle.std.specs.Prelude.{ℕ, List, [], ◌∷◌, ◌++◌, Bool, ◌==◌, cond, codes, flat_map, length, map, slice_index_or}
+use Rattle.std.specs.declared.alloc.Global.{Global}
+use Rattle.std.specs.declared.vec.Vec.{Vec}
 use Rattle.std.specs.Fmt.{decimal}
 use Rattle.iso_html.specs.declared.quote.Line.{Line}
-use Rattle.iso_html.specs.declared.quote.Excerpt.{Excerpt}
 use Rattle.iso_junit.specs.Escapes.{escaped}
 use Rattle.iso_junit.specs.Texts.{joined}
 use Rattle.iso_summary.specs.Sources.{shown_byte}
@@ -16,8 +17,8 @@ abbrev pub line_of : Line → LineView
 line_of l = record { number = l.number; text = l.text.now }
 
 -- the lines that are shown of a node's script
-abbrev pub excerpt_of : Excerpt → List LineView
-excerpt_of q = map line_of q.lines.now
+abbrev pub excerpt_of : Vec Line Global → List LineView
+excerpt_of lines = map line_of lines.items
 
 abbrev pub quoted : List (List LineView) → ℕ → List LineView
 quoted quotes n = slice_index_or quotes n []

@@ -15,7 +15,7 @@ use crate::again::Commands;
 use crate::head::head;
 use crate::measured::Measured;
 use crate::node::wrong;
-use crate::quote::{Excerpt, quoted};
+use crate::quote::{Line, quoted};
 use crate::section::sections;
 use crate::tree::list;
 use iso_failures::blocked::blocked_by;
@@ -44,7 +44,7 @@ pub fn write_html<W: Sink>(
     results: &Results<'_>,
     places: &[Placed<'_>],
     times: &[Option<u64>],
-    quotes: &[Excerpt<'_>],
+    quotes: &[Vec<Line<'_>>],
     commands: &Commands<'_>,
     measured: Option<&Measured<'_>>,
     sink: &mut W,
@@ -79,7 +79,7 @@ pub fn write_html<W: Sink>(
 fn page<W: Sink>(
     printer: &mut Printer<'_, W>,
     run: &Run<'_, '_>,
-    quotes: &[Excerpt<'_>],
+    quotes: &[Vec<Line<'_>>],
     commands: &Commands<'_>,
     measured: Option<&Measured<'_>>,
 ) -> Result<(), SinkFailed>
@@ -98,7 +98,7 @@ fn page<W: Sink>(
 fn body<W: Sink>(
     printer: &mut Printer<'_, W>,
     run: &Run<'_, '_>,
-    quotes: &[Excerpt<'_>],
+    quotes: &[Vec<Line<'_>>],
     commands: &Commands<'_>,
     measured: Option<&Measured<'_>>,
     totals: Counts,
@@ -140,7 +140,7 @@ fn went_well(counts: Counts) -> bool
 fn wrongs<W: Sink>(
     printer: &mut Printer<'_, W>,
     run: &Run<'_, '_>,
-    quotes: &[Excerpt<'_>],
+    quotes: &[Vec<Line<'_>>],
     commands: &Commands<'_>,
 ) -> Result<(), SinkFailed>
     requires complete { AreComplete run.now.results.now }
@@ -158,7 +158,7 @@ fn wrongs<W: Sink>(
 fn failure<W: Sink>(
     printer: &mut Printer<'_, W>,
     run: &Run<'_, '_>,
-    quotes: &[Excerpt<'_>],
+    quotes: &[Vec<Line<'_>>],
     commands: &Commands<'_>,
     node: u32,
 ) -> Result<(), SinkFailed>

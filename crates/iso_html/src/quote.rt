@@ -18,18 +18,12 @@ pub struct Line<'a> {
     pub text: &'a [u8],
 }
 
-/// Lines of a node's script.
-#[derive(Clone, Copy)]
-pub struct Excerpt<'a> {
-    pub lines: &'a [Line<'a>],
-}
-
 /// The lines that are shown of a node's script.
-pub(crate) fn quoted<'a>(quotes: &[Excerpt<'a>], node: u32) -> &'a [Line<'a>]
+pub(crate) fn quoted<'q, 'a>(quotes: &'q [Vec<Line<'a>>], node: u32) -> &'q [Line<'a>]
     requires { node < length quotes.now }
     ensures { map line_of result.now ≡ quoted (map excerpt_of quotes.now) node }
 {
-    quotes[node as usize].lines
+    &quotes[node as usize]
 }
 
 /// Writes lines, of which the one with this number ended a block, and nothing where there are none.
