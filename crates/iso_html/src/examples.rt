@@ -1,10 +1,16 @@
 //! Worked examples of the definitions, as public laws.
 ghost use Rattle.std.specs.Prelude.{◌≡◌, ◌++◌, ◌∷◌, [], None, codes};
-ghost use Rattle.iso_html.specs.Examples.{of_files, of_input};
+ghost use Rattle.iso_html.specs.Bars.{key_marks};
+ghost use Rattle.iso_html.specs.Examples.{had, of_files, of_input, several, taken_by_two};
+ghost use Rattle.iso_html.specs.KeyUses.{no_usage, usage_of};
 ghost use Rattle.iso_html.specs.Pages.{body_text, failure_text, tree_heading};
+ghost use Rattle.iso_html.specs.Pictures.{row_shapes};
 ghost use Rattle.iso_html.specs.Quotes.{quote_text};
 ghost use Rattle.iso_html.specs.Trees.{node_text, tree_text};
+ghost use Rattle.iso_html.specs.declared.shape.Shape.TheVariants.{One, Several};
 ghost use Rattle.iso_junit.specs.Examples.{cart_run, holders_failed, no_nodes, text_of};
+ghost use Rattle.iso_plan.specs.Examples.{writing_children};
+ghost use Rattle.iso_waits.specs.Examples.{b_before_a, wait_for_b};
 
 /// A test that passed is closed, with its time, its path and its place.
 pub fn passed_test_is_closed()
@@ -107,4 +113,17 @@ pub fn line_that_ended_a_block_is_marked()
     } ∷ [])
         ≡ text_of ("<pre>" ∷ "  10 | test d {" ∷ "<mark>&gt; 11 |  assert 1 &lt; x;?</mark>" ∷ "</pre>" ∷ []) }
     ensures none { quote_text 11 [] ≡ [] }
+{}
+
+/// Who had a key: the nodes that take it, in their order, from when they were entered until they had finished. One waited for the other.
+pub fn takers_of_a_key_had_it()
+    ensures takers { key_marks writing_children b_before_a 1 ≡ had 2 7 9 ∷ had 3 3 6 ∷ [] }
+    ensures usage { usage_of writing_children b_before_a (wait_for_b ∷ []) 1 ≡ taken_by_two }
+    ensures another { usage_of writing_children b_before_a (wait_for_b ∷ []) 2 ≡ no_usage }
+{}
+
+/// In a row, here of two pixels, a bar as wide as a pixel stands by itself, and thinner ones are one bar for each pixel in which they begin.
+pub fn thin_bars_of_a_pixel_are_one()
+    ensures { row_shapes 2 100000 5 (had 1 0 50 ∷ had 2 150 180 ∷ had 3 20 90 ∷ had 4 20 120 ∷ [])
+        ≡ One 5 (had 4 20 120) ∷ Several 5 0 (several 2 1 0 90) ∷ Several 5 1 (several 1 2 150 180) ∷ [] }
 {}
