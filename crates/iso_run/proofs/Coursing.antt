@@ -137,7 +137,7 @@ pub watched-by : (way : Way) (plan : Planned) (start : Start) (workers : ℕ) (r
     → IsWatch run asked watch → WasWatched way plan start workers asked (option_map (watched_with run.times) watch)
 watched-by way plan start workers run is false watch h = ap (option_map (watched_with run.times)) h
 watched-by way plan start workers run is true None h = absurd h
-watched-by way plan start workers run is true (Some w) h = record { run = run; is_run = is; bodies = refl; figures = h.0; waits = h.1 }
+watched-by way plan start workers run is true (Some w) h = record { run = run; is_run = is; bodies = refl; figures = h.0; waits = h.1; critical = h.2 }
 
 -- where nothing is asked for of times, nothing is told of them
 pub nothing-observed : (run : ObservedView) (course : Course) → wants_times course ≡ false → HasObserved run course course
