@@ -2,8 +2,6 @@
 use Rattle.std.proofs.Common.{◌≡◌, ◌≤◌, ◌^◌, ◌∙◌, ℕ, List, Bool, true, false, cond, Option, None, Some, Result, Ok, Err, OnOk, length, is_some, ◌||◌, refl, sym, ap, subst, arith}
 use Rattle.std.proofs.Math.Dec.{ltb}
 use Rattle.std.proofs.lemmas.Bool.{leb-true, ltb-false}
-use Rattle.std.specs.Borrow.{Bor}
-use Rattle.std.specs.List.{AllByRecursion}
 use Rattle.std.specs.Option.{option_map, option_or}
 use Rattle.iso_book.specs.Books as Books
 use Rattle.iso_book.specs.Books.{BookView}
@@ -33,11 +31,10 @@ use Rattle.iso_run.specs.declared.course.Course.{Course}
 use Rattle.iso_run.specs.declared.inputs.Inputs.{Inputs}
 use Rattle.iso_run.specs.declared.inputs.Suite.{Suite as ReadSuite}
 use Rattle.iso_run.specs.declared.way.Way.{Way}
-use Rattle.iso_run.specs.declared.way.Way.TheVariants.{Serial, ByWorkers, BySchedule}
+use Rattle.iso_run.specs.declared.way.Way.TheVariants.{Serial, ByWorkers}
 use Rattle.iso_schedule.specs.Schedules.{AreRead, as_events}
 use Rattle.iso_selection.specs.PickedPlans.{picked_plan_fault, picked_tree}
 use Rattle.iso_settings.specs.Worlds.{Start}
-use Rattle.iso_standing.specs.CodeEvents.{events_of}
 use Rattle.iso_standing.specs.declared.event.Event.{Event}
 use Rattle.iso_suites.specs.ScriptLanguage.{scripts}
 use Rattle.iso_suites.specs.SuiteStates.{suite_at}

@@ -1,7 +1,7 @@
 -- What a run tells of its course: its events, when each body ran, and what was waited for.
 use Rattle.std.specs.Borrow.{Bor}
 use Rattle.std.specs.List.{AllByRecursion}
-use Rattle.std.specs.Prelude.{◌≡◌, ⊤, ℕ, ◌≤◌, List, Bool, true, Option, None, Some, Result, ◌||◌, is_some, length}
+use Rattle.std.specs.Prelude.{◌≡◌, ⊤, ℕ, ◌≤◌, List, Bool, true, Option, None, Some, ◌||◌, is_some, length}
 use Rattle.iso_core.specs.Cores.{is_complete}
 use Rattle.iso_core.specs.EventRuns.{AreAccepted, core_after}
 use Rattle.iso_critical.specs.Critical.{critical, run_of}

@@ -66,7 +66,5 @@ fn measured<'a>(
         waits,
         critical,
     } = watched;
-    Ok(Some(Measured::new(
-        alloc, run, times, figures, waits, critical,
-    )?))
+    Ok(Some(Measured::new(alloc, run, times, figures, waits, critical)?))
 }

@@ -1,7 +1,6 @@
 use Rattle.std.proofs.Common.{ℕ, Bool, ◌∙◌, is_some, refl, subst}
 use Rattle.iso_plan.specs.Planned.{Planned}
 use Rattle.iso_settings.specs.Worlds.{Start}
-use Rattle.iso_times.proofs.Sharing.{gate_shared}
 use Rattle.iso_run.specs.Courses.{AreEvents, IsRunOf, IsScheduled, ObservedView}
 use Rattle.iso_run.specs.Watches.{IsWatch}
 use Rattle.iso_run.specs.declared.course.Course.{Course}
