@@ -1,5 +1,6 @@
 use Rattle.std.proofs.Common.{List, ℕ, ◌/◌, [], ◌∷◌, codes, ap₂}
 use Rattle.iso_html.specs.Parts.{node_text, seconds}
+use Rattle.iso_html.specs.Signs.{critical_word}
 use Rattle.iso_junit.specs.Texts.{joined}
 use Rattle.iso_plan.specs.RowView.{tree_of}
 use Rattle.iso_tap.proofs.PrinterLemmas.{prints_as}
@@ -16,6 +17,7 @@ returns g c =
     ∷ k
     ∷ codes ": "
     ∷ w
+    ∷ critical_word b.critical
     ∷ codes ", "
     ∷ seconds (b.begin / 1000)
     ∷ codes " to "
