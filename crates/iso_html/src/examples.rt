@@ -1,15 +1,18 @@
 //! Worked examples of the definitions, as public laws.
-ghost use Rattle.std.specs.Prelude.{◌≡◌, ◌++◌, ◌∷◌, [], None, codes};
-ghost use Rattle.iso_html.specs.Bars.{key_marks};
+ghost use Rattle.std.specs.Prelude.{◌≡◌, ◌++◌, ◌∷◌, [], None, codes, true};
+ghost use Rattle.iso_html.specs.Bars.{body_mark, key_marks};
 ghost use Rattle.iso_html.specs.Examples.{had, of_files, of_input, several, taken_by_two};
 ghost use Rattle.iso_html.specs.KeyUses.{no_usage, usage_of};
 ghost use Rattle.iso_html.specs.Modes.{mode_text};
 ghost use Rattle.iso_html.specs.Pages.{body_text, failure_text, tree_heading};
+ghost use Rattle.iso_html.specs.PictureText.{mark_text};
 ghost use Rattle.iso_html.specs.Pictures.{row_shapes};
 ghost use Rattle.iso_html.specs.Quotes.{quote_text};
 ghost use Rattle.iso_html.specs.Trees.{node_text, tree_text};
+ghost use Rattle.iso_html.specs.declared.shape.Look.TheVariants.{Failed};
 ghost use Rattle.iso_html.specs.declared.shape.Shape.TheVariants.{One, Several};
 ghost use Rattle.iso_junit.specs.Examples.{cart_run, holders_failed, no_nodes, text_of};
+ghost use Rattle.iso_lifecycle.specs.declared.kind.BodyKind.TheVariants.{AfterAll};
 ghost use Rattle.iso_plan.specs.Examples.{cart_and_desk, concurrent_by_default, one_thread, writing_children};
 ghost use Rattle.iso_waits.specs.Examples.{b_before_a, wait_for_b};
 
@@ -133,6 +136,17 @@ pub fn takers_of_a_key_had_it()
     ensures takers { key_marks writing_children b_before_a 1 ≡ had 2 7 9 ∷ had 3 3 6 ∷ [] }
     ensures usage { usage_of writing_children b_before_a (wait_for_b ∷ []) 1 ≡ taken_by_two }
     ensures another { usage_of writing_children b_before_a (wait_for_b ∷ []) 2 ≡ no_usage }
+{}
+
+/// The bar of a critical body has a class more, and its title says so.
+pub fn critical_bodies_are_marked()
+    ensures { mark_text cart_run 1000000 2 (body_mark 1 Failed true AfterAll (record {
+      worker = 2;
+      begin = 250000;
+      end = 1000000;
+    })) ≡ text_of
+        ("<rect class=\"f c\" x=\"250.00\" y=\"50\" width=\"750.00\" height=\"20\"><title>shop.Cart after_all: fail, critical, 0.000250 s to 0.001000 s</title></rect>"
+        ∷ []) }
 {}
 
 /// In a row, here of two pixels, a bar as wide as a pixel stands by itself, and thinner ones are one bar for each pixel in which they begin.

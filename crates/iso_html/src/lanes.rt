@@ -71,7 +71,14 @@ fn add_both(
     let last = times.body(node, BodyKind::AfterAll);
     add_body(lanes, node, look, critical.has(node, kind), kind, first)?;
     let closing = BodyKind::AfterAll;
-    add_body(lanes, node, look, critical.has(node, closing), closing, last)
+    add_body(
+        lanes,
+        node,
+        look,
+        critical.has(node, closing),
+        closing,
+        last,
+    )
 }
 
 /// Adds a body to the lane of its worker, where it has a time.
@@ -87,7 +94,11 @@ fn add_body(
         (λ w. body_marks w node look critical kind time)) }
 {
     match time {
-        Some(time) => put(lanes, time.worker, body_mark(node, look, critical, kind, time)),
+        Some(time) => put(
+            lanes,
+            time.worker,
+            body_mark(node, look, critical, kind, time),
+        ),
         None => Ok(()),
     }
 }

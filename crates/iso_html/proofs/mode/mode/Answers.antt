@@ -1,7 +1,6 @@
 use Rattle.std.proofs.Common.{List, Ok, ap, codes, flat_map, ◌∙◌}
 use Rattle.iso_html.specs.Modes.{lock_text}
 use Rattle.iso_html.specs.Signs.{mode_word}
-use Rattle.iso_model.specs.declared.script.Mode.{Mode}
 use Rattle.iso_plan.specs.Locks.{locks}
 use Rattle.iso_plan.specs.Modes.{mode}
 use Rattle.iso_plan.specs.RowView.{tree_of}
