@@ -22,7 +22,7 @@ had node begin end = taken_mark (record { node = node; begin = begin; end = end 
 
 -- so many such nodes as one bar
 abbrev pub several : (count first begin end : ℕ) → Group
-several count first begin end = record { count = count; first = first; look = Writing; begin = begin; end = end }
+several count first begin end = record { count = count; first = first; look = Writing; critical = false; begin = begin; end = end }
 
 -- a key that two nodes take for READ_WRITE, which were entered for 5 ns together, and that one of them waited for, for 3 ns
 abbrev pub taken_by_two : Usage
