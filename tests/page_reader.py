@@ -149,8 +149,8 @@ def check_form(tag, attributes, parent):
 
 
 def is_so(form, value):
-    """Whether the value of an attribute has this form: None is one without a value."""
-    return value is None if form is None or value is None else re.fullmatch(form, value) is not None
+    """Whether the value of an attribute has this form: None is that of one without a value, which Chromium writes as an empty one."""
+    return not value if form is None else value is not None and re.fullmatch(form, value) is not None
 
 
 def read(page):
