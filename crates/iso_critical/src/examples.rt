@@ -1,7 +1,7 @@
 //! Worked examples of the definitions: each function does nothing, and its contract is what is computed.
 ghost use Rattle.std.specs.Prelude.{◌≡◌, ◌∷◌, [], None, Some};
-ghost use Rattle.iso_critical.specs.Needs.{last_holder};
 ghost use Rattle.iso_critical.specs.Examples.{a_then_b, b_before_a, critical_places, end_together, two_workers, unclosed, wait_until};
+ghost use Rattle.iso_critical.specs.Needs.{last_holder};
 
 /// A class closes after the last body in it, which comes after the node that it waited for, and that one after the opening of the
 /// class. Who wasn't waited for isn't critical.

@@ -9,6 +9,7 @@ use Rattle.iso_junit.specs.Runs.{RunView}
 use Rattle.iso_model.specs.declared.outcome.Outcome.{Outcome}
 use Rattle.iso_plan.specs.Paths.{IsTree, children}
 use Rattle.iso_plan.specs.Tree.{Row}
+use Rattle.iso_settings.specs.declared.settings.Settings.{Settings}
 use Rattle.iso_tap.proofs.PrinterLemmas.{drop_next}
 use Rattle.iso_tap.proofs.Within.{IsChild, children-are}
 
@@ -26,28 +27,28 @@ texts_same tree m f g same (n ∷ ns) h = ap₂ (λ (a b : List ℕ). a ++ b) (s
 pub name-same : (n : ℕ) {b c : Bool} {o p : Outcome} {s t : List ℕ} → b ≡ c → o ≡ p → s ≡ t → name_text b o.verdict s n ≡ name_text c p.verdict t n
 name-same n e f h = rw (e, f, h) refl
 
-module _ (r : RunView) (t : IsTree r.tree) where
+module _ (r : RunView) (s : Settings) (t : IsTree r.tree) where
   -- the text of a node, by that of its children
   abbrev pub shown : (text : ℕ → List ℕ) → ℕ → List ℕ
-  shown text n = opening_text r n ++ inside_text r text n ++ codes "</details></li>\n"
+  shown text n = opening_text r s n ++ inside_text r text n ++ codes "</details></li>\n"
 
   shown_same : (n : ℕ) (f g : ℕ → List ℕ) → ((c : ℕ) → IsChild r.tree n c → f c ≡ g c) → shown f n ≡ shown g n
   shown_same n f g same =
-      ap (λ (s : List ℕ). opening_text r n ++ cond (is_a_test r n) [] (codes "<ul>\n" ++ s ++ codes "</ul>\n") ++ codes "</details></li>\n")
+      ap (λ (inside : List ℕ). opening_text r s n ++ cond (is_a_test r n) [] (codes "<ul>\n" ++ inside ++ codes "</ul>\n") ++ codes "</details></li>\n")
       (texts_same r.tree n f g same (children r.tree n) (recursion_from_All (IsChild r.tree n) (children r.tree n) (children-are r.tree n t)))
 
-  text_enough : (d e n : ℕ) → n < length r.tree → length r.tree ≤ n + d → length r.tree ≤ n + e → node_within d r n ≡ node_within e r n
+  text_enough : (d e n : ℕ) → n < length r.tree → length r.tree ≤ n + d → length r.tree ≤ n + e → node_within d r s n ≡ node_within e r s n
   text_enough zero e n h k l = absurd (omega arith)
   text_enough (suc d) zero n h k l = absurd (omega arith)
   text_enough (suc d) (suc e) n h k l =
-      shown_same n (node_within d r) (node_within e r)
+      shown_same n (node_within d r s) (node_within e r s)
       (λ c is. text_enough d e c is.2 (let less = is.1 in omega arith) (let less = is.1 in omega arith))
 
-  text_from : (d n : ℕ) → 0 < n → n < length r.tree → length r.tree ≡ d → node_within d r n ≡ shown (node_text r) n
+  text_from : (d n : ℕ) → 0 < n → n < length r.tree → length r.tree ≡ d → node_within d r s n ≡ shown (node_text r s) n
   text_from zero n pos h e = absurd (omega arith)
   text_from (suc d) n pos h e =
-      shown_same n (node_within d r) (node_text r)
+      shown_same n (node_within d r s) (node_text r s)
       (λ c is. text_enough d (length r.tree) c is.2 (let less = is.1 in omega arith) (omega arith))
 
-  pub text-down : (n : ℕ) → 0 < n → n < length r.tree → node_text r n ≡ shown (node_text r) n
+  pub text-down : (n : ℕ) → 0 < n → n < length r.tree → node_text r s n ≡ shown (node_text r s) n
   text-down n pos h = text_from (length r.tree) n pos h refl

@@ -1,5 +1,5 @@
 -- Bars that are drawn as one.
-use Rattle.std.specs.Prelude.{ℕ, zero, suc, List, [], ◌∷◌, ◌==◌, cond, max, min, replicate, slice_index_or}
+use Rattle.std.specs.Prelude.{ℕ, zero, suc, List, [], ◌∷◌, false, ◌||◌, ◌==◌, cond, max, min, replicate, slice_index_or}
 use Rattle.iso_stats.specs.Measures.{plus}
 use Rattle.iso_html.specs.declared.shape.Bar.{Bar}
 use Rattle.iso_html.specs.declared.shape.Group.{Group}
@@ -8,7 +8,7 @@ use Rattle.iso_html.specs.declared.shape.Look.TheVariants.{Well, Failed, Reading
 
 -- no bar
 abbrev pub no_group : Group
-no_group = record { count = 0; first = 0; look = Well; begin = 0; end = 0 }
+no_group = record { count = 0; first = 0; look = Well; critical = false; begin = 0; end = 0 }
 
 abbrev pub with_reader : Look → Look
 with_reader Well = Reading
@@ -23,12 +23,12 @@ worse Failed b = Failed
 worse Reading b = with_reader b
 worse Writing b = Writing
 
--- one bar, and one more
+-- one bar, and one more; they are critical where one of them is
 abbrev pub alone : Bar → Group
-alone b = record { count = 1; first = b.node; look = b.look; begin = b.begin; end = b.end }
+alone b = record { count = 1; first = b.node; look = b.look; critical = b.critical; begin = b.begin; end = b.end }
 
 abbrev pub one_more : Bar → Group → Group
-one_more b g = record { count = plus g.count 1; first = g.first; look = worse g.look b.look; begin = min g.begin b.begin; end = max g.end b.end }
+one_more b g = record { count = plus g.count 1; first = g.first; look = worse g.look b.look; critical = g.critical || b.critical; begin = min g.begin b.begin; end = max g.end b.end }
 
 abbrev pub with_bar : Bar → Group → Group
 with_bar b g = cond (g.count == 0) (alone b) (one_more b g)

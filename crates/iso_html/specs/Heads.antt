@@ -17,7 +17,7 @@ abbrev pub first_lines : List ℕ
 first_lines =
     joined
     (codes "<!DOCTYPE html>\n<html lang=\"en\">\n<head>\n<meta charset=\"utf-8\">\n"
-    ∷ codes "<meta http-equiv=\"Content-Security-Policy\" content=\"default-src 'none'; style-src 'sha256-X1uJPY6iP/Z2gfxOcl+A4HX9kyhJhTR+zSSuTaMENfU='\">\n"
+    ∷ codes "<meta http-equiv=\"Content-Security-Policy\" content=\"default-src 'none'; style-src 'sha256-jDD970AdXK6Aocb0Dmc70CP1wN7D0GlIPyT/Ks9hnjs='\">\n"
     ∷ codes "<meta name=\"viewport\" content=\"width=device-width, initial-scale=1\">\n"
     ∷ [])
 

@@ -9,6 +9,7 @@ pub mod KeyUses
 pub mod Lists
 pub mod Markup
 pub mod Measured
+pub mod Modes
 pub mod Nodes
 pub mod Pages
 pub mod Parts

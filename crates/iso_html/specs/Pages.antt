@@ -7,6 +7,7 @@ use Rattle.iso_failures.specs.declared.counts.Counts.{Counts}
 use Rattle.iso_junit.specs.Runs.{RunView, place}
 use Rattle.iso_junit.specs.Texts.{joined}
 use Rattle.iso_plan.specs.PathTexts.{path_text}
+use Rattle.iso_settings.specs.declared.settings.Settings.{Settings}
 use Rattle.iso_tap.specs.Reports.{all_ok}
 use Rattle.iso_html.specs.Commands.{CommandsView, again_text}
 use Rattle.iso_html.specs.Heads.{head_text}
@@ -41,17 +42,17 @@ tree_heading =
     ∷ [])
 
 -- what follows the beginning: what went wrong, the tree, and what was measured
-abbrev pub body_text : RunView → List (List LineView) → CommandsView → Option MeasuredView → List ℕ
-body_text r quotes commands measured =
+abbrev pub body_text : RunView → Settings → List (List LineView) → CommandsView → Option MeasuredView → List ℕ
+body_text r settings quotes commands measured =
     wrong_heading (counts r.tree r.outcome)
     ++ wrongs_text r quotes commands
     ++ tree_heading
-    ++ tree_text r
+    ++ tree_text r settings
     ++ codes "</section>\n"
     ++ sections_text r measured
     ++ codes "</main>\n</body>\n</html>\n"
 
--- the page
-abbrev pub page_text : RunView → List (List LineView) → CommandsView → Option MeasuredView → List ℕ
-page_text r quotes commands measured =
-    head_text (all_ok r.tree r.outcome) (counts r.tree r.outcome) measured ++ body_text r quotes commands measured
+-- the page of a run by these settings
+abbrev pub page_text : RunView → Settings → List (List LineView) → CommandsView → Option MeasuredView → List ℕ
+page_text r settings quotes commands measured =
+    head_text (all_ok r.tree r.outcome) (counts r.tree r.outcome) measured ++ body_text r settings quotes commands measured

@@ -1,5 +1,5 @@
 -- The picture of a run as SVG.
-use Rattle.std.specs.Prelude.{ℕ, ◌+◌, ◌*◌, ◌/◌, List, [], ◌∷◌, ◌++◌, ◌==◌, cond, codes}
+use Rattle.std.specs.Prelude.{ℕ, ◌+◌, ◌*◌, ◌/◌, List, [], ◌∷◌, ◌++◌, Bool, ◌==◌, cond, codes}
 use Rattle.std.specs.Fmt.{decimal}
 use Rattle.iso_junit.specs.Escapes.{escaped}
 use Rattle.iso_junit.specs.Runs.{RunView}
@@ -11,7 +11,7 @@ use Rattle.iso_model.specs.declared.access.Access.{Access}
 use Rattle.iso_plan.specs.Tree.{Row}
 use Rattle.iso_html.specs.Axes.{at, width}
 use Rattle.iso_html.specs.Parts.{hundredths, is_none, key_text, node_text, seconds}
-use Rattle.iso_html.specs.Signs.{verdict_word}
+use Rattle.iso_html.specs.Signs.{critical_word, verdict_word}
 use Rattle.iso_html.specs.declared.shape.Bar.{Bar}
 use Rattle.iso_html.specs.declared.shape.Group.{Group}
 use Rattle.iso_html.specs.declared.shape.Look.{Look}
@@ -29,6 +29,10 @@ class_text Failed = codes "f"
 class_text Reading = codes "r"
 class_text Writing = codes "w"
 
+-- one of a critical body has another class beside it
+abbrev pub critical_class : Bool → List ℕ
+critical_class critical = cond critical (codes " c") []
+
 abbrev pub top : Look → ℕ
 top Well = 6
 top Failed = 2
@@ -42,11 +46,12 @@ height_text Reading = codes "12"
 height_text Writing = codes "20"
 
 -- the beginning of a bar in a lane, at a place and so wide, both in hundredths of a pixel
-abbrev pub rect_text : Look → (row place wide : ℕ) → List ℕ
-rect_text look row place wide =
+abbrev pub rect_text : Look → (critical : Bool) → (row place wide : ℕ) → List ℕ
+rect_text look critical row place wide =
     joined
     (codes "<rect class=\""
     ∷ class_text look
+    ∷ critical_class critical
     ∷ codes "\" x=\""
     ∷ hundredths place
     ∷ codes "\" y=\""
@@ -72,7 +77,7 @@ word_text r n = cond (is_none r.tree n) [] (verdict_word (r.outcome n).verdict)
 abbrev pub more : ℕ → List ℕ
 more n = cond (n == 1) [] (codes ", ..")
 
--- the title of a body: its path, what its node came to, and when it began and ended
+-- the title of a body: its path, what its node came to, whether it is critical, and when it began and ended
 abbrev pub body_title : RunView → Bar → BodyKind → List ℕ
 body_title r b kind =
     joined
@@ -80,6 +85,7 @@ body_title r b kind =
     ∷ kind_text kind
     ∷ codes ": "
     ∷ word_text r b.node
+    ∷ critical_word b.critical
     ∷ codes ", "
     ∷ seconds (b.begin / 1000)
     ∷ codes " to "
@@ -107,7 +113,7 @@ title_of r b (Taken access) = taken_title r.tree b access
 
 -- a bar of its own
 abbrev pub mark_text : RunView → (span row : ℕ) → Mark → List ℕ
-mark_text r span row m = rect_text m.bar.look row (at span m.bar.begin) (width span m.bar.begin m.bar.end) ++ title_of r m.bar m.what
+mark_text r span row m = rect_text m.bar.look m.bar.critical row (at span m.bar.begin) (width span m.bar.begin m.bar.end) ++ title_of r m.bar m.what
 
 -- what bars that are drawn as one are called: bodies, or nodes that had a key
 abbrev pub bodies_word : ℕ → List ℕ
@@ -122,7 +128,7 @@ group_word Failed n = bodies_word n
 group_word Reading n = nodes_word n
 group_word Writing n = nodes_word n
 
--- their title: how many they are, the first, and from when until when
+-- their title: how many they are, the first, whether one is critical, and from when until when
 abbrev pub group_title : RunView → Group → List ℕ
 group_title r g =
     joined
@@ -130,6 +136,7 @@ group_title r g =
     ∷ group_word g.look g.count
     ∷ node_text r.tree g.first
     ∷ more g.count
+    ∷ critical_word g.critical
     ∷ codes ", "
     ∷ seconds (g.begin / 1000)
     ∷ codes " to "
@@ -138,7 +145,7 @@ group_title r g =
     ∷ [])
 
 abbrev pub group_text : RunView → (row place : ℕ) → Group → List ℕ
-group_text r row place g = rect_text g.look row (place * 100) 100 ++ group_title r g
+group_text r row place g = rect_text g.look g.critical row (place * 100) 100 ++ group_title r g
 
 -- the label of a worker
 abbrev pub label_text : ℕ → List ℕ

@@ -1,6 +1,7 @@
 -- The picture of a run: a lane for each worker with the bars of its bodies, and a row for each key that was waited for with those who had it.
 use Rattle.std.specs.Prelude.{ℕ, zero, suc, List, [], ◌∷◌, ◌++◌, Option, ◌==◌, cond, flat_map, length, slice_index_or}
 use Rattle.std.specs.List.{fold}
+use Rattle.iso_critical.specs.declared.body.Body.{Body}
 use Rattle.iso_junit.specs.Runs.{RunView}
 use Rattle.iso_plan.specs.KeyTable.{keys}
 use Rattle.iso_plan.specs.Paths.{column}
@@ -59,9 +60,9 @@ keys_below takers usages pixels span zero = []
 keys_below takers usages pixels span (suc k) =
     keys_below takers usages pixels span k ++ key_shapes pixels span k (usage_at usages k) (slice_index_or takers k [])
 
--- the whole picture: the bodies by their workers, and the nodes by the keys that they took
-abbrev pub picture : RunView → List (Option BodyTime) → List Usage → (pixels span workers : ℕ) → List Shape
-picture r bodies usages pixels span workers =
+-- the whole picture: the bodies by their workers, with those that are critical, and the nodes by the keys that they took
+abbrev pub picture : RunView → List (Option BodyTime) → (critical : List Body) → List Usage → (pixels span workers : ℕ) → List Shape
+picture r bodies critical usages pixels span workers =
     labels_below workers
-    ++ Lanes workers ∷ lanes_below (column (lane_marks r bodies) workers) pixels span workers
+    ++ Lanes workers ∷ lanes_below (column (lane_marks r bodies critical) workers) pixels span workers
     ++ End ∷ keys_below (column (key_marks r.tree bodies) (length (keys r.tree))) usages pixels span (length (keys r.tree))

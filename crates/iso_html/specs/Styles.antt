@@ -46,6 +46,7 @@ style_text =
     ∷ codes "rect.f{fill:var(--bad)}\n"
     ∷ codes "rect.r,rect.w{fill:var(--skip);opacity:.6}\n"
     ∷ codes "rect.w{fill:var(--block)}\n"
+    ∷ codes "rect.c{stroke:var(--fg);stroke-width:2}\n"
     ∷ codes ".wide{overflow-x:auto}\n"
     ∷ codes "table{border-collapse:collapse;width:100%}\n"
     ∷ codes "th,td{padding:.25rem .75rem .25rem 0;border-bottom:1px solid var(--line);text-align:left;vertical-align:top}\n"

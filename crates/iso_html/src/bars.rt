@@ -13,14 +13,21 @@ use iso_model::access::Access;
 use iso_times::times::BodyTime;
 use iso_waits::stay::Stay;
 
-/// A body of a node that looks so.
-pub(crate) fn body_mark(node: u32, look: Look, kind: BodyKind, time: BodyTime) -> Mark
-    ensures { result ≡ body_mark node look kind time }
+/// A body of a node that looks so, which is critical or not.
+pub(crate) fn body_mark(
+    node: u32,
+    look: Look,
+    critical: bool,
+    kind: BodyKind,
+    time: BodyTime,
+) -> Mark
+    ensures { result ≡ body_mark node look critical kind time }
 {
     Mark {
         bar: Bar {
             node,
             look,
+            critical,
             begin: time.begin,
             end: time.end,
         },
@@ -74,6 +81,7 @@ pub(crate) fn taken_mark(stay: Stay, access: Access) -> Mark
         bar: Bar {
             node: stay.node,
             look: taking_look(access),
+            critical: false,
             begin: stay.begin,
             end: stay.end,
         },

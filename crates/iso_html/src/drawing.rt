@@ -1,6 +1,6 @@
 //! The picture of a run as SVG.
 ghost use Rattle.std.specs.Prelude.{◌≡◌, flat_map};
-ghost use Rattle.iso_html.specs.PictureText.{body_title, class_text, group_text, group_title, group_word, height_text, key_row_text, kind_text, lanes_text, mark_text, more, rect_text, shape_text, taken_title, title_of, top, word_text};
+ghost use Rattle.iso_html.specs.PictureText.{body_title, class_text, critical_class, group_text, group_title, group_word, height_text, key_row_text, kind_text, lanes_text, mark_text, more, rect_text, shape_text, taken_title, title_of, top, word_text};
 ghost use Rattle.iso_junit.specs.Runs.{run_of};
 ghost use Rattle.iso_lifecycle.specs.ResultViews.{AreComplete};
 ghost use Rattle.iso_plan.specs.RowView.{tree_of};
@@ -9,7 +9,7 @@ ghost use Rattle.iso_tap.specs.Printers.{Prints};
 use crate::axis::{at, width};
 use crate::part::Part;
 use crate::shape::{Bar, Group, Look, Mark, Shape, What};
-use crate::sign::verdict_word;
+use crate::sign::{critical_word, verdict_word};
 use crate::writing::write_parts;
 use iso_junit::run::Run;
 use iso_lifecycle::kind::BodyKind;
@@ -120,6 +120,7 @@ fn mark<W: Sink>(
         printer,
         run.plan,
         bar.look,
+        bar.critical,
         row,
         at(span, bar.begin),
         width(span, bar.begin, bar.end),
@@ -161,6 +162,7 @@ fn body_title<W: Sink>(
             Part::Plain(kind_text(kind)),
             Part::Plain(": "),
             Part::Plain(word(run, bar.node)),
+            Part::Plain(critical_word(bar.critical)),
             Part::Plain(", "),
             Part::Seconds(bar.begin),
             Part::Plain(" to "),
@@ -238,6 +240,7 @@ fn group<W: Sink>(
         printer,
         run.plan,
         group.look,
+        group.critical,
         row,
         u64::from(place) * 100,
         100,
@@ -261,6 +264,7 @@ fn group_title<W: Sink>(
             Part::Plain(group_word(group.look, group.count)),
             Part::Node(group.first),
             Part::Plain(more(group.count)),
+            Part::Plain(critical_word(group.critical)),
             Part::Plain(", "),
             Part::Seconds(group.begin),
             Part::Plain(" to "),
@@ -287,11 +291,12 @@ fn rect<W: Sink>(
     printer: &mut Printer<'_, W>,
     plan: &Plan,
     look: Look,
+    critical: bool,
     row: u32,
     place: u64,
     wide: u64,
 ) -> Result<(), SinkFailed>
-    ensures { Prints printer.old printer.new (rect_text look row place wide) result }
+    ensures { Prints printer.old printer.new (rect_text look critical row place wide) result }
 {
     write_parts(
         printer,
@@ -299,6 +304,7 @@ fn rect<W: Sink>(
         &[
             Part::Plain("<rect class=\""),
             Part::Plain(class_text(look)),
+            Part::Plain(critical_class(critical)),
             Part::Plain("\" x=\""),
             Part::Hundredths(place),
             Part::Plain("\" y=\""),
@@ -322,6 +328,13 @@ fn class_text(look: Look) -> &'static str
         Look::Reading => "r",
         Look::Writing => "w",
     }
+}
+
+/// The other class that the bar of a critical body has.
+fn critical_class(critical: bool) -> &'static str
+    ensures { result.now ≡ critical_class critical }
+{
+    if critical { " c" } else { "" }
 }
 
 /// How far from the top of its lane a bar begins.

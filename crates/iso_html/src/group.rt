@@ -31,6 +31,7 @@ impl Group {
             count: 0,
             first: 0,
             look: Look::Well,
+            critical: false,
             begin: 0,
             end: 0,
         }
@@ -44,6 +45,7 @@ impl Group {
             count: 1,
             first: bar.node,
             look: bar.look,
+            critical: bar.critical,
             begin: bar.begin,
             end: bar.end,
         }
@@ -57,6 +59,7 @@ impl Group {
             count: self.count.saturating_add(1),
             first: self.first,
             look: self.look.or_worse(bar.look),
+            critical: self.critical || bar.critical,
             begin: self.begin.min(bar.begin),
             end: self.end.max(bar.end),
         }

@@ -41,7 +41,7 @@ fn first_lines<W: Sink>(printer: &mut Printer<'_, W>) -> Result<(), SinkFailed>
         &[
             Part::Plain("<!DOCTYPE html>\n<html lang=\"en\">\n<head>\n<meta charset=\"utf-8\">\n"),
             Part::Plain(
-                "<meta http-equiv=\"Content-Security-Policy\" content=\"default-src 'none'; style-src 'sha256-X1uJPY6iP/Z2gfxOcl+A4HX9kyhJhTR+zSSuTaMENfU='\">\n",
+                "<meta http-equiv=\"Content-Security-Policy\" content=\"default-src 'none'; style-src 'sha256-jDD970AdXK6Aocb0Dmc70CP1wN7D0GlIPyT/Ks9hnjs='\">\n",
             ),
             Part::Plain(
                 "<meta name=\"viewport\" content=\"width=device-width, initial-scale=1\">\n",

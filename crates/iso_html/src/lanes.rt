@@ -9,24 +9,26 @@ ghost use Rattle.iso_plan.specs.Paths.{column};
 use crate::bars::{body_mark, first_kind, look_of};
 use crate::lists::{empty, put};
 use crate::shape::{Look, Mark};
+use iso_critical::critical::CriticalBodies;
 use iso_junit::run::Run;
 use iso_lifecycle::kind::BodyKind;
 use iso_times::times::{BodyTime, Times};
 use std::alloc::{AllocError, Global};
 
-/// The bodies that each of so many workers did, in the order of the nodes.
+/// The bodies that each of so many workers did, in the order of the nodes, of which these are critical.
 pub(crate) fn lanes(
     alloc: Global,
     run: &Run<'_, '_>,
     times: &Times,
+    critical: &CriticalBodies,
     workers: u32,
 ) -> Result<Vec<Vec<Mark>>, AllocError>
     requires complete { AreComplete run.now.results.now }
-    ensures { IfOk result (λ v. map (λ l. l.items) v.items ≡ column (lane_marks (run_of run.now) times.now) workers) }
+    ensures { IfOk result (λ v. map (λ l. l.items) v.items ≡ column (lane_marks (run_of run.now) times.now critical.now) workers) }
 {
     let mut lanes = empty(alloc, workers)?;
     'nodes: for node in 0..run.plan.len() {
-        add_node(&mut lanes, run, times, node)?;
+        add_node(&mut lanes, run, times, critical, node)?;
     }
     Ok(lanes)
 }
@@ -36,17 +38,18 @@ fn add_node(
     lanes: &mut Vec<Vec<Mark>>,
     run: &Run<'_, '_>,
     times: &Times,
+    critical: &CriticalBodies,
     node: u32,
 ) -> Result<(), AllocError>
     requires complete { AreComplete run.now.results.now }
     requires within { node < length run.now.plan.now.rows }
     ensures { OnOk result (AreLonger (map (λ l. l.items) lanes.old.items) (map (λ l. l.items) lanes.new.items)
-        (λ w. node_marks (run_of run.now) times.now w node)) }
+        (λ w. node_marks (run_of run.now) times.now critical.now w node)) }
 {
     if run.time(node).is_none() {
         return Ok(());
     }
-    add_both(lanes, run, times, node)
+    add_both(lanes, run, times, critical, node)
 }
 
 /// Adds both bodies of a node.
@@ -54,19 +57,28 @@ fn add_both(
     lanes: &mut Vec<Vec<Mark>>,
     run: &Run<'_, '_>,
     times: &Times,
+    critical: &CriticalBodies,
     node: u32,
 ) -> Result<(), AllocError>
     requires complete { AreComplete run.now.results.now }
     requires within { node < length run.now.plan.now.rows }
     ensures { OnOk result (AreLonger (map (λ l. l.items) lanes.old.items) (map (λ l. l.items) lanes.new.items)
-        (λ w. both_marks (run_of run.now) times.now w node)) }
+        (λ w. both_marks (run_of run.now) times.now critical.now w node)) }
 {
     let look = look_of(run, node);
     let kind = first_kind(run, node);
     let first = times.body(node, BodyKind::BeforeAll);
     let last = times.body(node, BodyKind::AfterAll);
-    add_body(lanes, node, look, kind, first)?;
-    add_body(lanes, node, look, BodyKind::AfterAll, last)
+    add_body(lanes, node, look, critical.has(node, kind), kind, first)?;
+    let closing = BodyKind::AfterAll;
+    add_body(
+        lanes,
+        node,
+        look,
+        critical.has(node, closing),
+        closing,
+        last,
+    )
 }
 
 /// Adds a body to the lane of its worker, where it has a time.
@@ -74,14 +86,19 @@ fn add_body(
     lanes: &mut Vec<Vec<Mark>>,
     node: u32,
     look: Look,
+    critical: bool,
     kind: BodyKind,
     time: Option<BodyTime>,
 ) -> Result<(), AllocError>
     ensures { OnOk result (AreLonger (map (λ l. l.items) lanes.old.items) (map (λ l. l.items) lanes.new.items)
-        (λ w. body_marks w node look kind time)) }
+        (λ w. body_marks w node look critical kind time)) }
 {
     match time {
-        Some(time) => put(lanes, time.worker, body_mark(node, look, kind, time)),
+        Some(time) => put(
+            lanes,
+            time.worker,
+            body_mark(node, look, critical, kind, time),
+        ),
         None => Ok(()),
     }
 }

@@ -5,12 +5,13 @@ ghost use Rattle.iso_html.specs.Markup.{is_no_markup};
 ghost use Rattle.iso_html.specs.Trees.{inside_text, node_text, opening_text};
 ghost use Rattle.iso_junit.specs.Escapes.{escaped};
 ghost use Rattle.iso_junit.specs.Runs.{RunView};
+ghost use Rattle.iso_settings.specs.declared.settings.Settings.{Settings};
 ghost use Rattle.iso_plan.specs.Paths.{IsTree};
 
 /// The text of a node has that of its children between its beginning and its end.
 pub fn pages_go_down_the_tree()
-    ensures { (r : RunView) → IsTree r.tree → (n : ℕ) → 0 < n → n < length r.tree
-        → node_text r n ≡ opening_text r n ++ inside_text r (node_text r) n ++ codes "</details></li>\n" }
+    ensures { (r : RunView) → (settings : Settings) → IsTree r.tree → (n : ℕ) → 0 < n → n < length r.tree
+        → node_text r settings n ≡ opening_text r settings n ++ inside_text r (node_text r settings) n ++ codes "</details></li>\n" }
 {}
 
 /// No byte of a text begins or ends a tag or a quoted attribute where the text stands escaped, whatever bytes it has.

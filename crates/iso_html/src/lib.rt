@@ -13,6 +13,7 @@ mod lanes;
 pub mod laws;
 mod lists;
 pub mod measured;
+mod mode;
 mod node;
 mod ok;
 pub mod page;

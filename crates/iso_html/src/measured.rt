@@ -8,6 +8,7 @@ use crate::picture::picture;
 use crate::shape::Shape;
 use crate::slowest::{Timed, slowest};
 use crate::usage::{Usage, usages};
+use iso_critical::critical::CriticalBodies;
 use iso_junit::run::Run;
 use iso_stats::figures::Figures;
 use iso_times::times::Times;
@@ -41,7 +42,7 @@ impl<'a> Model for Measured<'a> {
 }
 
 impl<'a> Measured<'a> {
-    /// Of a run whose bodies had these times, whose figures these are and whose nodes had these waits. All nodes but the root must have
+    /// Of a run whose bodies had these times, whose figures these are, whose nodes had these waits and whose critical bodies are these. All nodes but the root must have
     /// results.
     pub fn new(
         alloc: Global,
@@ -49,15 +50,17 @@ impl<'a> Measured<'a> {
         times: &'a Times,
         figures: &'a Figures,
         waits: &'a [NodeWait],
+        critical: &'a CriticalBodies,
     ) -> Result<Measured<'a>, AllocError>
         requires complete { AreComplete run.now.results.now }
-        ensures { IfOk result (λ m. m ≡ measured_of (run_of run.now) times.now figures.now waits.now) }
+        ensures { IfOk result (λ m. m ≡ measured_of (run_of run.now) times.now figures.now waits.now critical.now) }
     {
         let usages = usages(alloc, run.plan, times, waits)?;
         let shapes = picture(
             alloc,
             run,
             times,
+            critical,
             &usages,
             PIXELS,
             figures.span,

@@ -58,7 +58,7 @@ pub fn write_html<W: Sink>(
       outcome = outcome_in results.now;
       places = map placed_of places.now;
       times = times.now;
-    }) (map excerpt_of quotes.now) (commands_of commands.now) (option_map (λ m. m.now) measured.entry)) result }
+    }) plan.now.settings (map excerpt_of quotes.now) (commands_of commands.now) (option_map (λ m. m.now) measured.entry)) result }
 {
     let run = Run {
         plan,
@@ -86,7 +86,7 @@ fn page<W: Sink>(
     requires complete { AreComplete run.now.results.now }
     requires quotes { length quotes.now ≡ length run.now.plan.now.rows }
     ensures { Prints printer.old printer.new
-        (page_text (run_of run.now) (map excerpt_of quotes.now) (commands_of commands.now) (option_map (λ m. m.now) measured.entry)) result }
+        (page_text (run_of run.now) run.now.plan.now.settings (map excerpt_of quotes.now) (commands_of commands.now) (option_map (λ m. m.now) measured.entry)) result }
 {
     let counts = count(run.plan, run.results);
     let ok = all_ok(run.plan, run.results);
@@ -107,7 +107,7 @@ fn body<W: Sink>(
     requires quotes { length quotes.now ≡ length run.now.plan.now.rows }
     requires totals { totals ≡ counts (tree_of run.now.plan.now) (outcome_in run.now.results.now) }
     ensures { Prints printer.old printer.new
-        (body_text (run_of run.now) (map excerpt_of quotes.now) (commands_of commands.now) (option_map (λ m. m.now) measured.entry)) result }
+        (body_text (run_of run.now) run.now.plan.now.settings (map excerpt_of quotes.now) (commands_of commands.now) (option_map (λ m. m.now) measured.entry)) result }
 {
     laws::nodes_are_a_tree(run.plan);
     wrong_heading(printer, totals)?;

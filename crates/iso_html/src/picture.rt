@@ -11,24 +11,26 @@ use crate::lists::list_at;
 use crate::shape::{Group, Mark, Shape};
 use crate::takers::takers;
 use crate::usage::{Usage, usage_at};
+use iso_critical::critical::CriticalBodies;
 use iso_junit::run::Run;
 use iso_times::times::Times;
 use std::alloc::{AllocError, Global};
 
-/// The picture of a run that took so long, on so many workers, so many pixels wide.
+/// The picture of a run that took so long, on so many workers, so many pixels wide, whose critical bodies are these.
 pub(crate) fn picture(
     alloc: Global,
     run: &Run<'_, '_>,
     times: &Times,
+    critical: &CriticalBodies,
     usages: &[Usage],
     pixels: u32,
     span: u64,
     workers: u32,
 ) -> Result<Vec<Shape>, AllocError>
     requires complete { AreComplete run.now.results.now }
-    ensures { IfOk result (λ v. v.items ≡ picture (run_of run.now) times.now usages.now pixels span workers) }
+    ensures { IfOk result (λ v. v.items ≡ picture (run_of run.now) times.now critical.now usages.now pixels span workers) }
 {
-    let lanes = lanes(alloc, run, times, workers)?;
+    let lanes = lanes(alloc, run, times, critical, workers)?;
     let takers = takers(alloc, run.plan, times)?;
     let mut shapes = Vec::new(alloc);
     add_labels(&mut shapes, workers)?;

@@ -128,7 +128,7 @@ fn axis<W: Sink>(printer: &mut Printer<'_, W>, plan: &Plan, span: u64) -> Result
             Part::Plain("<div class=\"run\">\n<p><span>0.000000 s</span><span>"),
             Part::Seconds(span),
             Part::Plain(
-                "</span></p>\n</div>\n<p><small>A high red bar is a body of a node that failed. In the row of a key that was waited for are the nodes that had it, high ones for READ_WRITE. What is thinner than a pixel is drawn as one bar, with its number.</small></p>\n",
+                "</span></p>\n</div>\n<p><small>A framed bar is a critical body: each of them had to wait for the one before it, up to the end of the run. A high red bar is a body of a node that failed. In the row of a key that was waited for are the nodes that had it, high ones for READ_WRITE. What is thinner than a pixel is drawn as one bar, with its number, and framed where one of its bodies is critical.</small></p>\n",
             ),
         ],
     )

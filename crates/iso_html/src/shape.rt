@@ -12,11 +12,13 @@ pub enum Look {
     Writing,
 }
 
-/// A bar: what a node did, or that it had a key, from a moment until another, in nanoseconds from the first begin.
+/// A bar: what a node did, which is critical or not, or that it had a key, from a moment until another, in nanoseconds from the first
+/// begin.
 #[derive(Clone, Copy)]
 pub struct Bar {
     pub node: u32,
     pub look: Look,
+    pub critical: bool,
     pub begin: u64,
     pub end: u64,
 }
@@ -36,12 +38,13 @@ pub struct Mark {
     pub what: What,
 }
 
-/// Bars that are drawn as one: how many, the node of the first, and from the earliest begin until the latest end.
+/// Bars that are drawn as one: how many, the node of the first, whether one is critical, and from the earliest begin until the latest end.
 #[derive(Clone, Copy)]
 pub struct Group {
     pub count: u64,
     pub first: u32,
     pub look: Look,
+    pub critical: bool,
     pub begin: u64,
     pub end: u64,
 }

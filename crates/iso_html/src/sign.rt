@@ -1,9 +1,11 @@
 //! Signs and words.
 ghost use Rattle.std.specs.Prelude.{◌≡◌};
-ghost use Rattle.iso_html.specs.Signs.{ok_sign, sign, verdict_word, word_for};
+ghost use Rattle.iso_html.specs.Signs.{access_verb, critical_word, mode_word, ok_sign, sign, verdict_word, word_for};
 ghost use Rattle.iso_lifecycle.specs.ResultViews.{verdict_of_view};
 
 use iso_lifecycle::view::ViewVerdict;
+use iso_model::access::Access;
+use iso_model::script::Mode;
 
 /// A check mark, or a cross.
 pub(crate) fn ok_sign(ok: bool) -> &'static str
@@ -40,6 +42,33 @@ pub(crate) fn verdict_word(verdict: ViewVerdict<'_>) -> &'static str
         ViewVerdict::Skipped(_) => "skipped",
         ViewVerdict::Blocked(_) => "blocked",
     }
+}
+
+/// A mode in words.
+pub(crate) fn mode_word(mode: Mode) -> &'static str
+    ensures { result.now ≡ mode_word mode }
+{
+    match mode {
+        Mode::SameThread => "same thread",
+        Mode::Concurrent => "concurrent",
+    }
+}
+
+/// What a node does with a key that it takes.
+pub(crate) fn access_verb(access: Access) -> &'static str
+    ensures { result.now ≡ access_verb access }
+{
+    match access {
+        Access::Read => ", reads",
+        Access::Write => ", writes",
+    }
+}
+
+/// That a body is critical, or that one of several is.
+pub(crate) fn critical_word(critical: bool) -> &'static str
+    ensures { result.now ≡ critical_word critical }
+{
+    if critical { ", critical" } else { "" }
 }
 
 /// The word for one thing, or the word for several.

@@ -89,6 +89,7 @@ pub(crate) fn style<W: Sink>(printer: &mut Printer<'_, W>) -> Result<(), SinkFai
             Part::Plain("rect.f{fill:var(--bad)}\n"),
             Part::Plain("rect.r,rect.w{fill:var(--skip);opacity:.6}\n"),
             Part::Plain("rect.w{fill:var(--block)}\n"),
+            Part::Plain("rect.c{stroke:var(--fg);stroke-width:2}\n"),
             Part::Plain(".wide{overflow-x:auto}\n"),
             Part::Plain("table{border-collapse:collapse;width:100%}\n"),
             Part::Plain(

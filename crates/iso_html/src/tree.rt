@@ -7,6 +7,7 @@ ghost use Rattle.iso_plan.specs.Paths.{children};
 ghost use Rattle.iso_plan.specs.RowView.{tree_of};
 ghost use Rattle.iso_tap.specs.Printers.{Prints};
 
+use crate::mode::mode;
 use crate::node::{message, name, printed, seconds, stands};
 use crate::ok::is_ok;
 use iso_junit::run::Run;
@@ -24,7 +25,7 @@ pub(crate) fn list<W: Sink>(
     requires complete { AreComplete run.now.results.now }
     requires within { node < length run.now.plan.now.rows }
     ensures { Prints printer.old printer.new
-        (list_text (node_text (run_of run.now)) (children (tree_of run.now.plan.now) node)) result }
+        (list_text (node_text (run_of run.now) run.now.plan.now.settings) (children (tree_of run.now.plan.now) node)) result }
 {
     laws::nodes_are_a_tree(run.plan);
     printer.bytes(b"<ul>\n")?;
@@ -44,7 +45,7 @@ fn tree_node<W: Sink>(
     requires complete { AreComplete run.now.results.now }
     requires above { 0 < node }
     requires within { node < length run.now.plan.now.rows }
-    ensures { Prints printer.old printer.new (node_text (run_of run.now) node) result }
+    ensures { Prints printer.old printer.new (node_text (run_of run.now) run.now.plan.now.settings node) result }
 {
     laws::nodes_are_a_tree(run.plan);
     opening(printer, run, node)?;
@@ -63,7 +64,7 @@ fn inside<W: Sink>(
     requires above { 0 < node }
     requires within { node < length run.now.plan.now.rows }
     ensures { Prints printer.old printer.new
-        (inside_text (run_of run.now) (node_text (run_of run.now)) node) result }
+        (inside_text (run_of run.now) (node_text (run_of run.now) run.now.plan.now.settings) node) result }
 {
     if run.plan.is_test(node) {
         return Ok(());
@@ -80,7 +81,7 @@ fn opening<W: Sink>(
     requires complete { AreComplete run.now.results.now }
     requires above { 0 < node }
     requires within { node < length run.now.plan.now.rows }
-    ensures { Prints printer.old printer.new (opening_text (run_of run.now) node) result }
+    ensures { Prints printer.old printer.new (opening_text (run_of run.now) run.now.plan.now.settings node) result }
 {
     let view = run.view(node);
     let at = run.place(node);
@@ -88,6 +89,7 @@ fn opening<W: Sink>(
     name(printer, ok, view.verdict, run.plan.title(node), node)?;
     seconds(printer, run.time(node))?;
     stands(printer, run.plan, node, &at)?;
+    mode(printer, run.plan, node)?;
     message(printer, view.verdict)?;
     printed(printer, view)
 }

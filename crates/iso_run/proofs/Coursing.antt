@@ -2,8 +2,6 @@
 use Rattle.std.proofs.Common.{◌≡◌, ◌≤◌, ◌^◌, ◌∙◌, ℕ, List, Bool, true, false, cond, Option, None, Some, Result, Ok, Err, OnOk, length, is_some, ◌||◌, refl, sym, ap, subst, arith}
 use Rattle.std.proofs.Math.Dec.{ltb}
 use Rattle.std.proofs.lemmas.Bool.{leb-true, ltb-false}
-use Rattle.std.specs.Borrow.{Bor}
-use Rattle.std.specs.List.{AllByRecursion}
 use Rattle.std.specs.Option.{option_map, option_or}
 use Rattle.iso_book.specs.Books as Books
 use Rattle.iso_book.specs.Books.{BookView}
@@ -33,11 +31,10 @@ use Rattle.iso_run.specs.declared.course.Course.{Course}
 use Rattle.iso_run.specs.declared.inputs.Inputs.{Inputs}
 use Rattle.iso_run.specs.declared.inputs.Suite.{Suite as ReadSuite}
 use Rattle.iso_run.specs.declared.way.Way.{Way}
-use Rattle.iso_run.specs.declared.way.Way.TheVariants.{Serial, ByWorkers, BySchedule}
+use Rattle.iso_run.specs.declared.way.Way.TheVariants.{Serial, ByWorkers}
 use Rattle.iso_schedule.specs.Schedules.{AreRead, as_events}
 use Rattle.iso_selection.specs.PickedPlans.{picked_plan_fault, picked_tree}
 use Rattle.iso_settings.specs.Worlds.{Start}
-use Rattle.iso_standing.specs.CodeEvents.{events_of}
 use Rattle.iso_standing.specs.declared.event.Event.{Event}
 use Rattle.iso_suites.specs.ScriptLanguage.{scripts}
 use Rattle.iso_suites.specs.SuiteStates.{suite_at}
@@ -137,7 +134,7 @@ pub watched-by : (way : Way) (plan : Planned) (start : Start) (workers : ℕ) (r
     → IsWatch run asked watch → WasWatched way plan start workers asked (option_map (watched_with run.times) watch)
 watched-by way plan start workers run is false watch h = ap (option_map (watched_with run.times)) h
 watched-by way plan start workers run is true None h = absurd h
-watched-by way plan start workers run is true (Some w) h = record { run = run; is_run = is; bodies = refl; figures = h.0; waits = h.1 }
+watched-by way plan start workers run is true (Some w) h = record { run = run; is_run = is; bodies = refl; figures = h.0; waits = h.1; critical = h.2 }
 
 -- where nothing is asked for of times, nothing is told of them
 pub nothing-observed : (run : ObservedView) (course : Course) → wants_times course ≡ false → HasObserved run course course

@@ -67,23 +67,23 @@ module _ (inputs : Inputs) (old new : Account) (suite : Suite) (plan : Planned) 
   -- what was told of the results of a suite was told of it
   told_of : (w : WrittenView) (times : List (Option ℕ)) (watched : Option WatchedView) (before after : Tells) → w.texts ≡ texts inputs.scripts.now
       → (wants_places before ≡ true → ArePlaced w.texts w.scripts w.places)
-      → HasTold w (tree_of plan) (outcome_in v) times watched before after → TellsOf inputs times watched before after
+      → HasTold w (tree_of plan) plan.settings (outcome_in v) times watched before after → TellsOf inputs times watched before after
   told_of w times watched before after same placed h =
-      let started_so = subst (λ (s : Start). HasTold w (tree_of plan) (outcome_alone (tree_of v.plan) (started s)) times watched before after) on h in
-      let planned_so = subst (λ (p : Planned). HasTold w (tree_of plan) (outcome_alone (tree_of p) (started suite.start)) times watched before after) of started_so in
-      let all = subst (λ (p : Planned). HasTold w (tree_of p) (outcome_alone (tree_of p) (started suite.start)) times watched before after) made planned_so in
+      let started_so = subst (λ (s : Start). HasTold w (tree_of plan) plan.settings (outcome_alone (tree_of v.plan) (started s)) times watched before after) on h in
+      let planned_so = subst (λ (p : Planned). HasTold w (tree_of plan) plan.settings (outcome_alone (tree_of p) (started suite.start)) times watched before after) of started_so in
+      let all = subst (λ (p : Planned). HasTold w (tree_of p) p.settings (outcome_alone (tree_of p) (started suite.start)) times watched before after) made planned_so in
       (suite, is, record { written = w; texts_are = same; placed = placed; told = all })
 
   pub told : {A F : Type 0} (w : WrittenView) (times : List (Option ℕ)) (watched : Option WatchedView) (before after : Tells) → w.texts ≡ texts inputs.scripts.now
       → (wants_places before ≡ true → ArePlaced w.texts w.scripts w.places)
-      → (result : Result A F) → OnOk result (HasTold w (tree_of plan) (outcome_in v) times watched before after) → OnOk result (TellsOf inputs times watched before after)
+      → (result : Result A F) → OnOk result (HasTold w (tree_of plan) plan.settings (outcome_in v) times watched before after) → OnOk result (TellsOf inputs times watched before after)
   told w times watched before after same placed (Ok a) h = told_of w times watched before after same placed h
   told w times watched before after same placed (Err e) h = tt
 
   -- the same of a run that was watched, with times that may be any
   pub told-run : {A F : Type 0} (way : Way) (w : WrittenView) (times : List (Option ℕ)) (watched : Option WatchedView) (before after : Tells) → WasWatchedOf inputs way (is_some before.html) watched → w.texts ≡ texts inputs.scripts.now
       → (wants_places before ≡ true → ArePlaced w.texts w.scripts w.places)
-      → (result : Result A F) → OnOk result (HasTold w (tree_of plan) (outcome_in v) times watched before after)
+      → (result : Result A F) → OnOk result (HasTold w (tree_of plan) plan.settings (outcome_in v) times watched before after)
       → OnOk result (TellsRun inputs way before after)
-  told-run way w times watched before after seen same placed (Ok a) h = (times, (watched, (seen, told_of w times watched before after same placed h)))
+  told-run way w times watched before after seen same placed (Ok a) h = (times, watched, seen, told_of w times watched before after same placed h)
   told-run way w times watched before after seen same placed (Err e) h = tt

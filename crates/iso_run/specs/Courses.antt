@@ -1,10 +1,11 @@
 -- What a run tells of its course: its events, when each body ran, and what was waited for.
 use Rattle.std.specs.Borrow.{Bor}
 use Rattle.std.specs.List.{AllByRecursion}
-use Rattle.std.specs.Prelude.{◌≡◌, ⊤, ℕ, ◌≤◌, List, Bool, true, Option, None, Some, Result, ◌||◌, is_some, length}
+use Rattle.std.specs.Prelude.{◌≡◌, ⊤, ℕ, ◌≤◌, List, Bool, true, Option, None, Some, ◌||◌, is_some, length}
 use Rattle.iso_core.specs.Cores.{is_complete}
 use Rattle.iso_core.specs.EventRuns.{AreAccepted, core_after}
 use Rattle.iso_critical.specs.Critical.{critical, run_of}
+use Rattle.iso_critical.specs.declared.body.Body.{Body}
 use Rattle.iso_isolation.specs.Runs.{full, history_of}
 use Rattle.iso_isolation.specs.States.{first}
 use Rattle.iso_lifecycle.specs.ResultViews.{AreComplete, ResultsView}
@@ -82,10 +83,14 @@ observed_of run = record { plan = run.plan.now; results = run.results.now; times
 abbrev pub waits_of : ObservedView → List NodeWait
 waits_of run = all_waits (tree_of run.plan) run.plan.settings run.times
 
--- its trace, with its critical bodies
+-- its critical bodies
+abbrev pub critical_of : ObservedView → List Body
+critical_of run = critical (run_of run.plan run.times (waits_of run))
+
+-- its trace, with these
 abbrev pub trace_of : ObservedView → List ℕ
 trace_of run =
-    trace_text (tree_of run.plan) run.times run.results run.started (waits_of run) (critical (run_of run.plan run.times (waits_of run)))
+    trace_text (tree_of run.plan) run.times run.results run.started (waits_of run) (critical_of run)
 
 -- its figures, as far as it is said what they are
 pub record AreFigures (run : ObservedView) (figures : Figures) : Type 0 where

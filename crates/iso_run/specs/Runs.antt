@@ -93,7 +93,7 @@ pub record IsToldOf (inputs : Inputs) (suite : Suite) (times : List (Option ℕ)
   pub written : WrittenView
   pub texts_are : written.texts ≡ texts inputs.scripts.now
   pub placed : wants_places old ≡ true → ArePlaced written.texts written.scripts written.places
-  pub told : HasTold written suite.nodes (suite_outcome suite) times watched old new
+  pub told : HasTold written suite.nodes suite.settings (suite_outcome suite) times watched old new
 
 abbrev pub TellsOf : Inputs → (times : List (Option ℕ)) → (watched : Option WatchedView) → (old new : Tells) → Type 0
 TellsOf inputs times watched old new = OfSuite inputs (λ suite. IsToldOf inputs suite times watched old new)

@@ -1,7 +1,7 @@
 -- What is told of a run besides its report and its course, with what was watched of it.
 use Rattle.std.specs.Prelude.{◌≡◌, ℕ, List, Bool, true, false, Option, None, Some, is_some}
 use Rattle.iso_plan.specs.Planned.{Planned}
-use Rattle.iso_run.specs.Courses.{AreFigures, IsRunOf, ObservedView, waits_of}
+use Rattle.iso_run.specs.Courses.{AreFigures, IsRunOf, ObservedView, critical_of, waits_of}
 use Rattle.iso_run.specs.Runs.{TellsOf}
 use Rattle.iso_run.specs.Suites.{OfSuite, planned}
 use Rattle.iso_run.specs.declared.inputs.Inputs.{Inputs}
@@ -14,22 +14,23 @@ use Rattle.iso_times.specs.declared.times.BodyTime.{BodyTime}
 
 -- what was watched of a run, with the times of its bodies
 abbrev pub watched_with : List (Option BodyTime) → Watch → WatchedView
-watched_with bodies w = record { bodies = bodies; figures = w.figures; waits = w.waits.items }
+watched_with bodies w = record { bodies = bodies; figures = w.figures; waits = w.waits.items; critical = w.critical }
 
--- a run was watched where that is asked for, and else not: its figures, as far as it is said what they are, and its waits
+-- a run was watched where that is asked for, and else not: its figures, as far as it is said what they are, its waits and its critical bodies
 abbrev pub IsWatch : ObservedView → (asked : Bool) → Option Watch → Type 0
 IsWatch run false watch = watch ≡ None
 IsWatch run true None = ⊥
-IsWatch run true (Some w) = AreFigures run w.figures × (w.waits.items ≡ waits_of run)
+IsWatch run true (Some w) = AreFigures run w.figures × (w.waits.items ≡ waits_of run) × (w.critical ≡ critical_of run)
 
--- What was watched is that of a run of a plan by so many workers: the times of its bodies, its figures, as far as it is said what they are, and
--- its waits.
+-- What was watched is that of a run of a plan by so many workers: the times of its bodies, its figures, as far as it is said what they are,
+-- its waits and its critical bodies.
 pub record IsWatched (way : Way) (plan : Planned) (start : Start) (workers : ℕ) (w : WatchedView) : Type 0 where
   pub run : ObservedView
   pub is_run : IsRunOf way plan start workers run
   pub bodies : w.bodies ≡ run.times
   pub figures : AreFigures run w.figures
   pub waits : w.waits ≡ waits_of run
+  pub critical : w.critical ≡ critical_of run
 
 -- a run was watched where that is asked for, and else not
 abbrev pub WasWatched : Way → Planned → Start → (workers : ℕ) → (asked : Bool) → Option WatchedView → Type 0

@@ -54,7 +54,12 @@ fn watch(
         return Ok(None);
     }
     let figures = figures(alloc, run.plan, run.times, &waits, run.started, run.of)?;
-    Ok(Some(Watch { figures, waits }))
+    let critical = critical(alloc, run.plan, run.times, &waits)?;
+    Ok(Some(Watch {
+        figures,
+        waits,
+        critical,
+    }))
 }
 
 /// Tells the trace of a run whose nodes had these waits, where it is asked for.

@@ -51,7 +51,7 @@ pub(crate) fn write_results<W: Sink>(
         (λ s. Wrote (W.account sink.old) (W.account sink.new) (report (tree_of suite.now.plan) (outcome_in run.now.results.now))
         × (s.all_ok ≡ all_ok (tree_of suite.now.plan) (outcome_in run.now.results.now)))
         (IsUnwritten (report (tree_of suite.now.plan) (outcome_in run.now.results.now)) (W.account sink.old) (W.account sink.new)) }
-    ensures told { OnOk result (HasTold (as_written suite.now texts.now) (tree_of suite.now.plan) (outcome_in run.now.results.now) run.now.times.now
+    ensures told { OnOk result (HasTold (as_written suite.now texts.now) (tree_of suite.now.plan) suite.now.plan.settings (outcome_in run.now.results.now) run.now.times.now
         (option_map watched_of run.now.watched) tells.old tells.new) }
 {
     let written = Written {

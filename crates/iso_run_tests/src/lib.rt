@@ -2,6 +2,8 @@
 #![tactic(auto)]
 
 #[cfg(test)]
+mod figures;
+#[cfg(test)]
 mod random;
 #[cfg(test)]
 mod schedules;

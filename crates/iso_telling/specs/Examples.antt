@@ -1,6 +1,8 @@
 -- Example outcomes, and where the nodes stand that came to them.
+use Prim.Native.String.{String}
 use Rattle.std.specs.Prelude.{ℕ, List, [], ◌∷◌, codes, slice_index_or}
 use Rattle.iso_failures.specs.Examples.{at_place, in_class, with_verdict}
+use Rattle.iso_html.specs.Quotes.{LineView}
 use Rattle.iso_model.specs.declared.fault.FaultKind.TheVariants.{BadCount}
 use Rattle.iso_model.specs.declared.outcome.Outcome.{Outcome}
 use Rattle.iso_model.specs.declared.outcome.Verdict.{Verdict}
@@ -57,3 +59,10 @@ two_names = codes "a.jtap" ∷ codes "my b.jtap" ∷ []
 
 abbrev pub two_texts : List (List ℕ)
 two_texts = codes "team a\nclass A { }\n" ∷ codes "team b\r\nclass B { }\r\n" ∷ []
+
+-- a script of six lines, of which the last has no line end, and a line with its number
+abbrev pub six_lines : List ℕ
+six_lines = codes "a\nb\nc\nd\ne\nf"
+
+abbrev pub numbered : ℕ → String → LineView
+numbered k text = record { number = k; text = codes text }

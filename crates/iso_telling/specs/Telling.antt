@@ -11,6 +11,7 @@ use Rattle.iso_places.specs.Sites.{all_sites}
 use Rattle.iso_places.specs.declared.site.Site.{Site}
 use Rattle.iso_plan.specs.Tree as T
 use Rattle.iso_plan.specs.Tree.{Row}
+use Rattle.iso_settings.specs.declared.settings.Settings.{Settings}
 use Rattle.iso_summary.specs.Summaries.{summary_text}
 use Rattle.iso_summary.specs.Views.{again_of}
 use Rattle.iso_tap.specs.Sinks.{Account, Wrote}
@@ -81,20 +82,20 @@ run_told names tree outcome times sites =
 
 -- Of the outcomes of a tree's nodes, which stand at these sites and whose bodies took these times, all was told that is asked for with places,
 -- and with what was watched of the run.
-pub record HasToldPlaces (written : WrittenView) (tree : List Row) (outcome : ℕ → Outcome) (times : List (Option ℕ)) (watched : Option WatchedView) (sites : List Site) (old new : Tells) : Type 0 where
+pub record HasToldPlaces (written : WrittenView) (tree : List Row) (settings : Settings) (outcome : ℕ → Outcome) (times : List (Option ℕ)) (watched : Option WatchedView) (sites : List Site) (old new : Tells) : Type 0 where
   pub names : new.names ≡ old.names
   pub failed : new.failed ≡ old.failed
   pub durations : new.durations ≡ old.durations
   pub summary : IsSummarized (summary_of written.texts tree outcome sites (lent old.names.now)) old.summary new.summary
   pub junit : IsTold (junit_text (run_told (lent old.names.now) tree outcome times sites)) old.junit new.junit
-  pub html : IsPaged (page_of (run_told (lent old.names.now) tree outcome times sites) (excerpts written.texts tree sites outcome) watched) old.html new.html
+  pub html : IsPaged (page_of (run_told (lent old.names.now) tree outcome times sites) settings (excerpts written.texts tree sites outcome) watched) old.html new.html
   pub github : IsTold (errors_text tree outcome (node_places (lent old.names.now) tree sites outcome)) old.github new.github
 
 -- All that is asked for was told of them. Where places are wanted, each node stands where the first node of all scripts stands that has its
 -- path.
-pub record HasTold (written : WrittenView) (tree : List Row) (outcome : ℕ → Outcome) (times : List (Option ℕ)) (watched : Option WatchedView) (old new : Tells) : Type 0 where
+pub record HasTold (written : WrittenView) (tree : List Row) (settings : Settings) (outcome : ℕ → Outcome) (times : List (Option ℕ)) (watched : Option WatchedView) (old new : Tells) : Type 0 where
   pub failed : IsTold (failed_text tree outcome) old.failed new.failed
   pub durations : IsTimed tree times old.durations new.durations
   pub sites : List Site
   pub are : wants_places old ≡ true → AreSites (T.tree written.scripts) (all_sites written.places) tree sites
-  pub placed : HasToldPlaces written tree outcome times watched sites (record old { failed = new.failed; durations = new.durations }) new
+  pub placed : HasToldPlaces written tree settings outcome times watched sites (record old { failed = new.failed; durations = new.durations }) new

@@ -1,11 +1,12 @@
 //! Worked examples of the definitions, as public laws.
-ghost use Rattle.std.specs.Prelude.{◌≡◌, ◌∷◌, [], codes, false, true};
+ghost use Rattle.std.specs.Prelude.{◌≡◌, ◌∷◌, [], None, Some, codes, false, true};
 ghost use Rattle.iso_failures.specs.Examples.{outcome_of, till_in_cart, unopened_of};
 ghost use Rattle.iso_model.specs.declared.place.BlockName.TheVariants as N;
 ghost use Rattle.iso_model.specs.declared.place.Lifecycle.TheVariants.{AfterAll, BeforeAll, BeforeEach};
 ghost use Rattle.iso_model.specs.declared.place.Place.TheVariants.{Disabled, Row};
 ghost use Rattle.iso_places.specs.Examples.{line_in};
-ghost use Rattle.iso_telling.specs.Examples.{failed_at, faulted_of, skipped_at, till_sites, two_names, two_texts, unassumed_of};
+ghost use Rattle.iso_telling.specs.Examples.{failed_at, faulted_of, numbered, six_lines, skipped_at, till_sites, two_names, two_texts, unassumed_of};
+ghost use Rattle.iso_telling.specs.Excerpts.{around, failed_line};
 ghost use Rattle.iso_telling.specs.Explained.{hints_told};
 ghost use Rattle.iso_telling.specs.NodePlaces.{node_place, nowhere};
 ghost use Rattle.iso_telling.specs.ToldLines.{line_told};
@@ -93,4 +94,20 @@ pub fn nodes_have_their_files_and_lines()
     ensures unnamed { node_place [] till_in_cart till_sites (skipped_at Disabled) 10
         ≡ record { file = codes "stdin"; line = 33; ended = 33 } }
     ensures root { node_place two_names till_in_cart till_sites (failed_at (Row N.Test 1)) 0 ≡ nowhere }
+{}
+
+/// A page shows a line with two before and two after it, as far as there are so many.
+pub fn lines_stand_around_the_one_that_is_told()
+    ensures middle { around six_lines 4 ≡ numbered 2 "b" ∷ numbered 3 "c" ∷ numbered 4 "d" ∷ numbered 5 "e" ∷ numbered 6 "f" ∷ [] }
+    ensures first { around six_lines 1 ≡ numbered 1 "a" ∷ numbered 2 "b" ∷ numbered 3 "c" ∷ [] }
+    ensures second { around six_lines 2 ≡ numbered 1 "a" ∷ numbered 2 "b" ∷ numbered 3 "c" ∷ numbered 4 "d" ∷ [] }
+    ensures last { around six_lines 6 ≡ numbered 4 "d" ∷ numbered 5 "e" ∷ numbered 6 "f" ∷ [] }
+{}
+
+/// It shows none of a node that didn't fail, and none of the root.
+#[tactic(auto, unfolding(iso_plan::specs::Paths::path))]
+pub fn lines_are_shown_of_failures_alone()
+    ensures failed { failed_line till_in_cart till_sites (failed_at (Row N.Test 1)) 7 ≡ Some (line_in 0 24) }
+    ensures skipped { failed_line till_in_cart till_sites (skipped_at Disabled) 10 ≡ None }
+    ensures root { failed_line till_in_cart till_sites (failed_at (Row N.Test 1)) 0 ≡ None }
 {}

@@ -27,7 +27,7 @@ pub(crate) fn add_page(
     watched: Option<Watched<'_>>,
 ) -> Result<(), AllocError>
     requires { AreComplete run.now.results.now }
-    ensures { OnOk result (AddsPage (page_of (run_of run.now)
+    ensures { OnOk result (AddsPage (page_of (run_of run.now) run.now.plan.now.settings
         (excerpts (lent texts.now) (tree_of run.now.plan.now) sites.now (outcome_in run.now.results.now))
         (option_map watched_of watched.entry) page.old) page.old page.new) }
 {
@@ -64,6 +64,7 @@ fn measured<'a>(
         times,
         figures,
         waits,
+        critical,
     } = watched;
-    Ok(Some(Measured::new(alloc, run, times, figures, waits)?))
+    Ok(Some(Measured::new(alloc, run, times, figures, waits, critical)?))
 }

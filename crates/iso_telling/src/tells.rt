@@ -136,7 +136,7 @@ impl Tells<'_> {
     ) -> Result<(), AllocError>
         requires plan { results.now.plan ≡ plan.now }
         requires complete { AreComplete results.now }
-        ensures { OnOk result (HasTold (written_of written.now) (tree_of plan.now) (outcome_in results.now) times.now
+        ensures { OnOk result (HasTold (written_of written.now) (tree_of plan.now) plan.now.settings (outcome_in results.now) times.now
             (option_map watched_of watched.entry) self.old self.new) }
     {
         tell_failed(&mut self.failed, plan, results)?;
@@ -163,7 +163,7 @@ impl Tells<'_> {
     ) -> Result<(), AllocError>
         requires plan { results.now.plan ≡ plan.now }
         requires complete { AreComplete results.now }
-        ensures { OnOk result (HasToldPlaces (written_of written.now) (tree_of plan.now) (outcome_in results.now) times.now
+        ensures { OnOk result (HasToldPlaces (written_of written.now) (tree_of plan.now) plan.now.settings (outcome_in results.now) times.now
             (option_map watched_of watched.entry) sites.now self.old self.new) }
     {
         let texts = written.texts;
@@ -340,7 +340,7 @@ fn tell_page(
     watched: Option<Watched<'_>>,
 ) -> Result<(), AllocError>
     requires { AreComplete run.now.results.now }
-    ensures { OnOk result (IsPaged (page_of (run_of run.now)
+    ensures { OnOk result (IsPaged (page_of (run_of run.now) run.now.plan.now.settings
         (excerpts (lent texts.now) (tree_of run.now.plan.now) sites.now (outcome_in run.now.results.now))
         (option_map watched_of watched.entry)) asked.old asked.new) }
 {

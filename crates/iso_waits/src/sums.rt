@@ -1,8 +1,8 @@
 //! What single waits add up to, by the keys that they are for.
 ghost use Rattle.std.specs.Prelude.{◌≡◌, ◌==◌, ◌++◌, ◌<◌, ℕ, [], None, OnOk, Some, cond, length, slice_index_or};
-ghost use Rattle.iso_plan.specs.RowView.{tree_of};
 ghost use Rattle.std.specs.List.{All};
 ghost use Rattle.std.specs.Option.{option_to_list};
+ghost use Rattle.iso_plan.specs.RowView.{tree_of};
 ghost use Rattle.iso_waits.specs.AllWaits.{IsFor, alone, and_then, key_of, took, with_later};
 ghost use Rattle.iso_waits.specs.Sums.{AreSums, of_node, sum_at, sums_of};
 

@@ -13,7 +13,7 @@ pub returns-in_err-head : goal.returns-in_err-head
 returns-in_err-head g c =
     let measured = option_map (λ m. m.now) c.args.measured in
     let same = ap₂ (λ (ok : Bool) (counts : Counts). head_text ok counts measured) c.all_ok-ok.ensures c.count-counts.ensures in
-    prints_stopped (body_text (run_of c.args.run.now) (map excerpt_of c.args.quotes.now) (commands_of c.args.commands.now) measured) _ c.from_residual.ensures.0
+    prints_stopped (body_text (run_of c.args.run.now) c.args.run.now.plan.now.settings (map excerpt_of c.args.quotes.now) (commands_of c.args.commands.now) measured) _ c.from_residual.ensures.0
     (prints_as c.in_err-head.ensures _ same)
 
 pub returns : goal.returns

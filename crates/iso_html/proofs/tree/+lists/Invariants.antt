@@ -18,5 +18,5 @@ decreases-inside g l = 3 * (length l.run.now.plan.now.rows - l.node) + 1
 abbrev pub invariant-list-children : goal.invariant-list-children
 invariant-list-children g l =
     LeftToPrint l.fn.printer l.printer
-    (list_text (node_text (run_of l.run)) (children (tree_of l.run.plan.now) l.node))
-    (flat_map (node_text (run_of l.run)) (drop l.child-index l.child-items) ++ codes "</ul>\n")
+    (list_text (node_text (run_of l.run) l.run.plan.now.settings) (children (tree_of l.run.plan.now) l.node))
+    (flat_map (node_text (run_of l.run) l.run.plan.now.settings) (drop l.child-index l.child-items) ++ codes "</ul>\n")

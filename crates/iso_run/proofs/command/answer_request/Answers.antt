@@ -1,6 +1,5 @@
-use Rattle.std.proofs.Common.{◌≡◌, ◌∙◌, [], ◌∷◌, inl, inr, None, Option, Bool, List, ℕ, ap, ap₂, subst, sym}
+use Rattle.std.proofs.Common.{◌∙◌, Bool, subst, sym}
 use Rattle.std.specs.Bool.{⊤}
-use Rattle.std.specs.Borrow.{Bor}
 use Rattle.iso_run.proofs.Answering.{Lacking, answered-as, files-named, no-file, run-answered, run-refused}
 use Rattle.iso_run.proofs.Late.{late-so}
 use Rattle.iso_arguments.specs.Requests.{IsPlainRun}

@@ -1,5 +1,4 @@
 use Rattle.std.proofs.Common.{List, subst, sym}
-use Rattle.iso_record.specs.SerialRuns.{AreSerialRecordOf}
 use Rattle.iso_run.specs.Courses.{AreEvents}
 use Rattle.iso_run.specs.declared.way.Way.TheVariants.{Serial}
 use Rattle.iso_standing.specs.declared.event.Event.{Event}

@@ -1,4 +1,4 @@
-use Rattle.std.proofs.Common.{◌≡◌, ap, ◌∙◌}
+use Rattle.std.proofs.Common.{ap, ◌∙◌}
 use Rattle.iso_explain_settings.specs.Listing.{listing_text}
 use Rattle.iso_run.proofs.Documents.{document-is}
 use Rattle.iso_run.proofs.settings.listing.Goals as goal

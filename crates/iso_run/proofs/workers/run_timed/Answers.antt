@@ -1,7 +1,6 @@
 use Rattle.std.proofs.Common.{ℕ, Bool, ◌∙◌, is_some, refl, subst}
 use Rattle.iso_plan.specs.Planned.{Planned}
 use Rattle.iso_settings.specs.Worlds.{Start}
-use Rattle.iso_times.proofs.Sharing.{gate_shared}
 use Rattle.iso_run.specs.Courses.{AreEvents, IsRunOf, IsScheduled, ObservedView}
 use Rattle.iso_run.specs.Watches.{IsWatch}
 use Rattle.iso_run.specs.declared.course.Course.{Course}
@@ -23,7 +22,7 @@ returns-clause-course g c =
       started = c.in_ok-book.ensures.started;
       of = c.workers.ensures ∙ c.requires.workers;
     } in
-    let seen = c.observe-watch.new.course in
+    let seen = c.observe.new.course in
     let asked = c.tell_book.new.asked in
     let new : Course = record { schedule = asked; trace = seen.trace; stats = seen.stats } in
     let planned = subst (λ (p : Planned). IsScheduled (AreEvents ByWorkers p book.world book.workers) seen.schedule asked) on.plan_is c.in_ok-tell_book.ensures in

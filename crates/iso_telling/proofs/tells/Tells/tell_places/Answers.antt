@@ -22,7 +22,7 @@ returns c =
     c.args.self.now.junit c.tell_junit.new.asked) first c.in_ok-tell_junit.ensures in
     let third = ap (map placed_of) c.deref-2.ensures.value ∙ c.in_ok-places.ensures.places in
     let shown = excerpts (lent c.args.written.now.texts.now) tree c.args.sites.now outcome in
-    let html = subst (λ (ps : List PlacedView). IsPaged (page_of (record { tree = tree; outcome = outcome; places = ps; times = times }) shown
+    let html = subst (λ (ps : List PlacedView). IsPaged (page_of (record { tree = tree; outcome = outcome; places = ps; times = times }) c.args.plan.now.settings shown
     (option_map watched_of c.args.watched)) c.args.self.now.html c.tell_page.new.asked) third c.in_ok-tell_page.ensures in
     on_ok_weaker c.tell_errors.result
     (λ told. record {

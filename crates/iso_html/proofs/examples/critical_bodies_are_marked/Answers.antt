@@ -1,0 +1,10 @@
+use Rattle.std.proofs.Common.{refl}
+use Rattle.iso_plan.specs.Paths.{path}
+use Rattle.std.specs.Char.{encode_utf8}
+use Rattle.std.specs.Fmt.{digits}
+use Rattle.std.specs.Str.{chars}
+use Rattle.iso_html.proofs.examples.critical_bodies_are_marked.Goals as goal
+
+pub returns : goal.returns
+unfolding digits chars encode_utf8 path
+returns c = refl
