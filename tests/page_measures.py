@@ -4,6 +4,7 @@ for them from the bodies of a trace of the same run, by `traces.py` and the rule
 import re
 from typing import NamedTuple
 
+from critical import critical_of
 from page_reader import micros
 from traces import GLOBAL, LONGEST_TOLD, at_best
 
@@ -40,13 +41,19 @@ class Measures(NamedTuple):
 
 
 class Stretch(NamedTuple):
-    """What is drawn: a body or a node that had a key, from when until when."""
+    """What is drawn: a body, which may be critical, or a node that had a key, from when until when."""
 
     look: str
     path: str
     title: str
     begin: int
     end: int
+    is_critical: bool = False
+
+
+def shown(look, is_critical):
+    """The class of a bar, and what its title says of that."""
+    return (f"{look} c", ", critical") if is_critical else (look, "")
 
 
 def rows_of(svg):
@@ -55,7 +62,7 @@ def rows_of(svg):
     for rect in svg.elements:
         told = rect.attributes
         title, = rect.take("title")
-        top, height = HEIGHTS[told["class"]]
+        top, height = HEIGHTS[told["class"][0]]
         lane, rest = divmod(int(told["y"]) - top, LANE)
         if rest or told["height"] != height:
             raise ValueError(f"{title.text} stands in no lane")
@@ -140,10 +147,10 @@ def pixels(hundredths):
 
 def together(pixel, stretches, word, words):
     """The bar of those that are thinner than a pixel and begin in the same one. It looks as the worst of them."""
-    look = max((one.look for one in stretches), key="brfw".index)
+    look, critical = shown(max((one.look for one in stretches), key="brfw".index), any(one.is_critical for one in stretches))
     count, more = len(stretches), ", .." if len(stretches) > 1 else ""
     begin, end = min(one.begin for one in stretches), max(one.end for one in stretches)
-    what = f"{count} {word if count == 1 else words}: {stretches[0].path}{more}"
+    what = f"{count} {word if count == 1 else words}: {stretches[0].path}{more}{critical}"
     return Bar(look, pixels(pixel * HUNDREDTHS), "1.00", f"{what}, {seconds(begin)} to {seconds(end)}")
 
 
@@ -155,20 +162,22 @@ def row_of(span, stretches, word, words):
         if end - begin < HUNDREDTHS:
             thin.setdefault(min(begin // HUNDREDTHS, PIXELS - 1), []).append(one)
         else:
-            wide.append(Bar(one.look, pixels(begin), pixels(end - begin), f"{one.title}, {between(one)}"))
+            look, critical = shown(one.look, one.is_critical)
+            wide.append(Bar(look, pixels(begin), pixels(end - begin), f"{one.title}{critical}, {between(one)}"))
     return wide + [together(pixel, thin[pixel], word, words) for pixel in sorted(thin)]
 
 
-def body_of(body):
-    """What is drawn of a body."""
-    return Stretch("f" if body.verdict in BAD else "b", body.path, f"{body.name}: {WORDS.get(body.verdict, body.verdict)}", body.begin, body.end)
+def body_of(body, critical):
+    """What is drawn of a body, where those with these names are critical."""
+    title = f"{body.name}: {WORDS.get(body.verdict, body.verdict)}"
+    return Stretch("f" if body.verdict in BAD else "b", body.path, title, body.begin, body.end, body.name in critical)
 
 
 def lanes_of(suite, times):
     """The bars of each lane, in the order of the nodes: of the bodies of nodes that have a time of their own."""
-    order = {node.path: node.number for node in suite.nodes}
+    order, critical = {node.path: node.number for node in suite.nodes}, {*critical_of(suite)}
     bodies = sorted((body for body in suite.trace.bodies if body.path in times), key=lambda body: (order[body.path], body.name.endswith(" after_all")))
-    return {lane: row_of(suite.span(), [body_of(body) for body in bodies if body.lane == lane], "body", "bodies") for lane in suite.trace.lanes}
+    return {lane: row_of(suite.span(), [body_of(body, critical) for body in bodies if body.lane == lane], "body", "bodies") for lane in suite.trace.lanes}
 
 
 def takers_of(suite, key):

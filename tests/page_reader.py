@@ -28,7 +28,7 @@ FORM = {
     "div": [{"class": "run|wide"}],
     "svg": [{"role": "img", "aria-label": f"What each worker ran|Who had {PLAIN}", "viewbox": r"0 0 1000 \d+", "height": r"\d+",
              "preserveaspectratio": "none"}],
-    "rect": [{"class": "[bfrw]", "x": DECIMAL, "y": r"\d+", "width": DECIMAL, "height": "12|20"}],
+    "rect": [{"class": "[bf]( c)?|[rw]", "x": DECIMAL, "y": r"\d+", "width": DECIMAL, "height": "12|20"}],
     "th": [{"scope": "col|row"}, {"scope": "col", "class": "n"}],
     "td": [{}, {"class": "n"}],
     **{tag: [{}] for tag in ("head", "title", "style", "body", "main", "h1", "h2", "h3", "b", "small", "article", "p", "code", "bdi", "pre", "mark",
@@ -50,6 +50,8 @@ BARE = re.compile(r"&(?!(?:lt|gt|amp|quot|#\d+);)")
 NAMED = {"lt": "<", "gt": ">", "amp": "&", "quot": '"'}
 SIGNS = {"pass": ("ok", "\u2713 ok"), "fail": ("bad", "\u2717 fail"), "fault": ("bad", "\u2717 fault"), "skipped": ("skip", "\u2013 skipped"),
          "blocked": ("block", "\u25a0 blocked")}
+MODES = {True: "same thread", False: "concurrent"}
+ACCESSES = {"read": "reads", "write": "writes"}
 NOT_OK = "bad", "\u2717 not ok"
 SECONDS = re.compile(r"(\d+)\.(\d{6}) s")
 # What of a page is measured: the time of a node, the figures above, and what stands below the tree.
@@ -195,7 +197,7 @@ class Wrong(NamedTuple):
 
 
 class Shown(NamedTuple):
-    """What the tree tells of a node."""
+    """What the tree tells of a node, with its mode and, by their keys, whether it reads or writes."""
 
     depth: int
     number: int
@@ -206,6 +208,8 @@ class Shown(NamedTuple):
     path: str
     file: str
     line: int
+    mode: str
+    locks: dict
     message: Optional[str]
     output: list
 
@@ -287,7 +291,7 @@ def list_of(ul, depth, times):
 def node_of(item, depth, times):
     """A node, and those that stand in it."""
     details, = item.take("details")
-    summary, place, *rest = details.elements
+    summary, place, mode, *rest = details.elements
     sign, *time = summary.elements
     path, code = place.take("code", "code")
     message, output = next_of(rest, lambda one: one.tag == "p"), next_of(rest, lambda one: one.tag == "pre")
@@ -298,9 +302,18 @@ def node_of(item, depth, times):
     if time:
         title, times[path.text] = title[:-1], micros(time[0].text)
     yield Shown(depth, int(item.attributes["id"][1:]), inner is None, "open" in details.attributes, sign_of(sign), title, path.text, *place_of(code),
-                message and message.text, lines_of(output) if output else [])
+                *mode_of(mode), message and message.text, lines_of(output) if output else [])
     if inner is not None:
         yield from list_of(inner, depth + 1, times)
+
+
+def mode_of(line):
+    """The mode that a line tells, and how the node takes each key."""
+    mode, *accesses = line.own_text.split(", ")
+    accesses, keys = [access.rstrip(" ") for access in accesses], [key.text for key in line.elements]
+    if line.tag != "p" or mode not in MODES.values() or len(accesses) != len(keys) or {*accesses} - {*ACCESSES.values()}:
+        raise ValueError(f"{line.text!r} is no mode")
+    return mode, dict(zip(keys, accesses))
 
 
 def micros(text):
@@ -355,15 +368,15 @@ def wanted_wrong(number, site, point, script, blocks, again):
                  f"blocks {counted(blocks, 'test', 'tests')}" if blocks else None, point.output, again)
 
 
-def wanted_node(number, site, point):
+def wanted_node(number, site, point, planned):
     """What the tree has to tell of a node."""
     return Shown(point.depth, number, point.is_test, not point.line.startswith(b"ok"), sign_for(point), point.title, site.path, file_name(site.file), site.line,
-                 point.message, point.output)
+                 MODES[planned.same_thread], {key: ACCESSES[access] for key, access in planned.locks.items()}, point.message, point.output)
 
 
-def wanted_page(sites, points, scripts, blocks, again):
-    """What a page has to tell that is no time, of a run whose report has these points: of nodes that stand there, in these scripts by the names of
-    their files, which block so many tests and are run again so, both by their paths."""
+def wanted_page(sites, points, plan, scripts, blocks, again):
+    """What a page has to tell that is no time, of a run whose report has these points: of nodes that stand there and are planned so, in these scripts by
+    the names of their files, which block so many tests and are run again so, both by their paths."""
     nodes = list(zip(range(1, len(points) + 1), sites, points))
     tests, classes = [point.verdict for point in points if point.is_test], [point.verdict for point in points if not point.is_test]
     size = f"{counted(len(tests), 'test', 'tests')} in {counted(len(classes), 'class', 'classes')}"
@@ -375,7 +388,7 @@ def wanted_page(sites, points, scripts, blocks, again):
     wrong = [wanted_wrong(number, site, point, scripts[site.file], blocks.get(site.path, 0), again.get(site.path))
              for number, site, point in nodes if point.verdict in FAILS]
     return Page(f"{'ok' if is_ok else 'not ok'}: {size}", SIGNS["pass"] if is_ok else NOT_OK, f": {size}", counts, wrong,
-                [wanted_node(*node) for node in nodes], {}, [], [])
+                [wanted_node(*node, planned) for node, planned in zip(nodes, plan)], {}, [], [])
 
 
 def told_of(page):
