@@ -67,7 +67,8 @@ def nodes_of(plan):
     """The nodes of a printed plan, in the order of their numbers."""
     found = []
     for line in plan.decode().splitlines()[1:]:
-        number, kind, mode, locks, path = line.split(" ")
+        number, kind, mode, rest = line.split(" ", 3)
+        locks, _, path = rest.rpartition(" ")
         taken = dict((lock[2:], "write" if lock[0] == "w" else "read") for lock in locks[1:-1].split(",") if lock)
         found.append(Node(int(number), kind == "test", mode == "same_thread", taken, path))
     return found
