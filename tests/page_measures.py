@@ -1,7 +1,6 @@
 """What the scripts share that try the measured parts of pages (`--html`): a reader of the picture, of the locks and of the slowest, and what follows
 for them from the bodies of a trace of the same run, by `traces.py` and the rules of `docs/PAGE.md`. Times are in nanoseconds.
 """
-import re
 from typing import NamedTuple
 
 from critical import critical_of

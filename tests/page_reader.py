@@ -9,7 +9,7 @@ from html.parser import HTMLParser
 from typing import NamedTuple, Optional
 
 from documents import file_name
-from summaries import FAILS, WIDEST, counted
+from summaries import FAILS, counted
 
 AROUND = 2
 EMPTY = ("meta", "input")
