@@ -122,7 +122,12 @@ fn stats_of<R: Abort + Clock + Threads + Wait + Sync>(
         &mut sink,
     );
     expect(rt, ran.is_ok(), "the run fails");
-    match course.stats {
+    let Course {
+        schedule: _,
+        trace: _,
+        stats,
+    } = course;
+    match stats {
         Some(stats) => stats,
         None => MemorySink::new(alloc),
     }
