@@ -1,8 +1,10 @@
 pub mod AgreeSteps
 pub mod DifferenceLemmas
 pub mod FateLemmas
+pub mod FirstLemmas
 pub mod HeadLemmas
 pub mod MarkLemmas
+pub mod NameTableLemmas
 pub mod NamesakeLemmas
 pub mod PathAgreement
 pub mod SameRuns

@@ -1,5 +1,9 @@
 pub mod Agreeing
 pub mod Fates
+pub mod Firsts
 pub mod Listed
+pub mod NameTables
 pub mod Namesakes
+pub mod OwnHeads
+pub mod Parts
 pub mod Reasons

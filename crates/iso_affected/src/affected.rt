@@ -1,15 +1,17 @@
 //! Which nodes of a new suite agree with their namesakes in the old one.
 ghost use Rattle.std.specs.Prelude.{◌≡◌, ◌<◌, IfOk, length};
 ghost use Rattle.iso_affected.specs.Fates.{AreFates, IsFate, gone, suites};
+ghost use Rattle.iso_affected.specs.NameTables.{FindChildren};
 ghost use Rattle.iso_plan.specs.Paths.{parent};
 ghost use Rattle.iso_plan.specs.RowView.{tree_of};
 
-use crate::namesake::{namesake_in, namesakes};
+use crate::namesake::{names, namesake_in, namesakes};
 use crate::own::own_agree;
 use iso_plan::laws::nodes_are_a_tree;
 use iso_plan::plan::Plan;
 use iso_settings::world::World;
 use std::alloc::{AllocError, Global};
+use std::collections::BTreeMap;
 
 /// What a change makes of a node of the new suite. Its namesake in the old one is told by its number.
 #[derive(Clone, Copy, PartialEq, Eq)]
@@ -35,12 +37,13 @@ pub fn fates(
 {
     nodes_are_a_tree(old);
     nodes_are_a_tree(new);
+    let names = names(alloc, old)?;
     let mut fates = Vec::with_capacity(alloc, new.len() as usize)?;
     fates.push(Fate::Same(0))?;
     'nodes: for node in 1..new.len() {
         let class = new.parent(node).unwrap_or(0);
         let above = fates[class as usize];
-        let fate = fate_in(alloc, old, before, new, after, node, above)?;
+        let fate = fate_in(alloc, old, before, &names, new, after, node, above)?;
         fates.push(fate)?;
     }
     Ok(fates)
@@ -51,6 +54,7 @@ fn fate_in(
     alloc: Global,
     old: &Plan,
     before: &World,
+    names: &[BTreeMap<&str, u32>],
     new: &Plan,
     after: &World,
     node: u32,
@@ -59,19 +63,20 @@ fn fate_in(
     requires above { 0 < node }
     requires within { node < length new.now.rows }
     requires class { IsFate (suites old.now before.now new.now after.now) (parent (tree_of new.now) node) above }
+    requires names { FindChildren (tree_of old.now) names.now }
     ensures { IfOk result (IsFate (suites old.now before.now new.now after.now) node) }
 {
     nodes_are_a_tree(old);
     nodes_are_a_tree(new);
     match above {
-        Fate::Same(class) => match namesake_in(old, class, new, node) {
+        Fate::Same(class) => match namesake_in(old, names, class, new, node) {
             Some(namesake) if own_agree(alloc, old, before, namesake, new, after, node)? => {
                 Ok(Fate::Same(namesake))
             }
             Some(namesake) => Ok(Fate::Changed(namesake)),
             None => Ok(Fate::New),
         },
-        Fate::Changed(class) => match namesake_in(old, class, new, node) {
+        Fate::Changed(class) => match namesake_in(old, names, class, new, node) {
             Some(namesake) => Ok(Fate::Changed(namesake)),
             None => Ok(Fate::New),
         },

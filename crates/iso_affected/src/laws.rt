@@ -1,9 +1,9 @@
 //! Laws of what agrees. Each function does nothing: its contract is the law, and is proved.
-ghost use Rattle.std.specs.Prelude.{◌≡◌, ◌↔◌, ◌<◌, ℕ, List, Some, None, IsFalse, ◌∷◌, length};
+ghost use Rattle.std.specs.Prelude.{◌≡◌, ◌↔◌, ◌<◌, ℕ, List, Some, None, true, ◌∷◌, length};
 ghost use Rattle.iso_affected.specs.Agreeing.{MayComeTo, NodesAgree, OwnAgree};
 ghost use Rattle.iso_affected.specs.Fates.{IsFate, suites};
 ghost use Rattle.iso_affected.specs.Namesakes.{namesake};
-ghost use Rattle.iso_affected.specs.Reasons.{AllAgree, IsDifference};
+ghost use Rattle.iso_affected.specs.Reasons.{AllAgree, IsDifference, is_nothing};
 ghost use Rattle.iso_affected.specs.declared.difference.Difference.{Difference};
 ghost use Rattle.iso_affected.specs.declared.affected.Fate.TheVariants.{Same};
 ghost use Rattle.iso_lifecycle.specs.Subjects.{started, subject};
@@ -52,7 +52,7 @@ pub fn nodes_agree_where_all_on_their_paths_do(old: &Plan, new: &Plan)
 /// Each reason is a difference, and there is one where two heads don't agree: they agree just where nothing is told to differ.
 pub fn heads_agree_where_nothing_differs()
     ensures { (before after : Start) (h g : Head) (d : Difference) → IsDifference before after h g d
-        → ((IsFalse d.head × (d.start ≡ None)) ↔ OwnAgree before after h g) }
+        → ((is_nothing d ≡ true) ↔ OwnAgree before after h g) }
 {}
 
 /// A node and its namesake have one path, as `jtap plan` prints it.

@@ -3,8 +3,9 @@
 
 pub mod affected;
 pub mod difference;
+pub mod firsts;
 pub mod laws;
 pub mod listed;
 mod namesake;
-mod own;
+pub mod own;
 mod starts;

@@ -1,8 +1,6 @@
 //! Which nodes are told of.
-ghost use Rattle.std.specs.Prelude.{◌≡◌, ◌<◌, ◌∷◌, List, length};
+ghost use Rattle.std.specs.Prelude.{◌≡◌, ◌<◌, length};
 ghost use Rattle.iso_affected.specs.Listed.{has_statement, is_listed};
-ghost use Rattle.iso_model.specs.ChainView.{innermost_first};
-ghost use Rattle.iso_model.specs.Chains as C;
 ghost use Rattle.iso_model.specs.ScriptView.{class_head_of};
 ghost use Rattle.iso_model.specs.SyntaxView.{block_of};
 ghost use Rattle.iso_plan.specs.Paths.{row_at};
@@ -10,11 +8,10 @@ ghost use Rattle.iso_plan.specs.RowView.{tree_of};
 ghost use Rattle.iso_suites.specs.PlanSuites.{head_of};
 ghost use Rattle.iso_suites.specs.ScriptLanguage.{of_class};
 
+use crate::own::{OwnHead, own_head};
 use iso_model::heads::ClassHead;
 use iso_model::tree::Stmt;
-use iso_plan::laws::nodes_are_a_tree;
 use iso_plan::plan::Plan;
-use std::sync::Arc;
 
 /// Whether a block has a statement.
 fn has_statement(block: &[Stmt]) -> bool
@@ -30,26 +27,14 @@ fn has_own_block(class: &ClassHead) -> bool
     has_statement(&class.contents.before_all) || has_statement(&class.contents.after_all)
 }
 
-/// The same of the innermost class of a chain.
-fn innermost_has_own_block(classes: &[Arc<ClassHead>]) -> bool
-    ensures { (c : C.ClassHead) (cs : List C.ClassHead) → innermost_first classes.now ≡ c ∷ cs → result ≡ is_listed (of_class c) }
-{
-    match classes.last() {
-        Some(class) => has_own_block(class),
-        None => false,
-    }
-}
-
 /// Whether a node is told of: it is a test, or a class with a statement in its `before_all` or its `after_all`. It isn't the root.
 pub fn is_listed(plan: &Plan, node: u32) -> bool
     requires above { 0 < node }
     requires within { node < length plan.now.rows }
     ensures { result ≡ is_listed (head_of (row_at (tree_of plan.now) node).kind) }
 {
-    nodes_are_a_tree(plan);
-    let chain = plan.chain(node);
-    match chain.test {
-        Some(_) => true,
-        None => innermost_has_own_block(chain.classes),
+    match own_head(plan, node) {
+        OwnHead::Class(class) => has_own_block(class),
+        OwnHead::Test(_) => true,
     }
 }

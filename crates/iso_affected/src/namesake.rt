@@ -1,7 +1,8 @@
 //! The namesakes of nodes in another plan.
 ghost use Rattle.std.specs.Prelude.{◌≡◌, ◌<◌, IfOk, IfSome, Some, length};
 ghost use Rattle.std.specs.List.{All};
-ghost use Rattle.iso_affected.specs.Namesakes.{child_named, named, namesake};
+ghost use Rattle.iso_affected.specs.Namesakes.{child_named, namesake};
+ghost use Rattle.iso_affected.specs.NameTables.{FindChildren, FindsNamed};
 ghost use Rattle.iso_plan.specs.Children.{IsChild};
 ghost use Rattle.iso_plan.specs.Paths.{children, column, parent, row_at};
 ghost use Rattle.iso_plan.specs.RowView.{tree_of};
@@ -9,9 +10,10 @@ ghost use Rattle.iso_plan.specs.RowView.{tree_of};
 use iso_plan::laws::{children_have_their_parent, nodes_are_a_tree};
 use iso_plan::plan::Plan;
 use std::alloc::{AllocError, Global};
+use std::collections::BTreeMap;
 
 /// The namesakes in the first plan of the nodes of the second, by their numbers.
-pub(crate) fn namesakes(
+pub fn namesakes(
     alloc: Global,
     one: &Plan,
     other: &Plan,
@@ -20,12 +22,13 @@ pub(crate) fn namesakes(
 {
     nodes_are_a_tree(one);
     nodes_are_a_tree(other);
+    let names = names(alloc, one)?;
     let mut namesakes = Vec::with_capacity(alloc, other.len() as usize)?;
     namesakes.push(Some(0))?;
     'nodes: for node in 1..other.len() {
         let class = other.parent(node).unwrap_or(0);
         let namesake = match namesakes[class as usize] {
-            Some(class) => namesake_in(one, class, other, node),
+            Some(class) => namesake_in(one, &names, class, other, node),
             None => None,
         };
         namesakes.push(namesake)?;
@@ -34,37 +37,70 @@ pub(crate) fn namesakes(
 }
 
 /// The namesake in the first plan of a node of the second, from that of the class that the node stands in. It stands in that.
-pub(crate) fn namesake_in(one: &Plan, class: u32, other: &Plan, node: u32) -> Option<u32>
+pub(crate) fn namesake_in(
+    one: &Plan,
+    names: &[BTreeMap<&str, u32>],
+    class: u32,
+    other: &Plan,
+    node: u32,
+) -> Option<u32>
     requires above { 0 < node }
     requires within { node < length other.now.rows }
     requires inside { class < length one.now.rows }
     requires class { namesake (tree_of one.now) (tree_of other.now) (parent (tree_of other.now) node) ≡ Some class }
+    requires names { FindChildren (tree_of one.now) names.now }
     ensures namesake { result ≡ namesake (tree_of one.now) (tree_of other.now) node }
     ensures child { IfSome result (IsChild (tree_of one.now) class (length one.now.rows)) }
 {
     nodes_are_a_tree(other);
-    child_named(one, class, other.name(node))
+    child_named(one, names, class, other.name(node))
 }
 
 /// The first child of a class with this name.
-fn child_named(plan: &Plan, class: u32, name: &str) -> Option<u32>
-    requires { class < length plan.now.rows }
+fn child_named(
+    plan: &Plan,
+    names: &[BTreeMap<&str, u32>],
+    class: u32,
+    name: &str,
+) -> Option<u32>
+    requires within { class < length plan.now.rows }
+    requires names { FindChildren (tree_of plan.now) names.now }
     ensures named { result ≡ child_named (tree_of plan.now) name.now (Some class) }
     ensures child { IfSome result (IsChild (tree_of plan.now) class (length plan.now.rows)) }
 {
     children_have_their_parent(plan);
-    first_named(plan, plan.children(class), name)
+    names[class as usize].get(name).copied()
 }
 
-/// The first of some nodes with this name.
-fn first_named(plan: &Plan, nodes: &[u32], name: &str) -> Option<u32>
-    requires { All (λ n. n < length plan.now.rows) nodes.now }
-    ensures { result ≡ named (tree_of plan.now) name.now nodes.now }
+/// For each node of a plan a table of the nodes that stand in it, by their names. Of several with one name it has the first.
+pub(crate) fn names<'a>(
+    alloc: Global,
+    plan: &'a Plan,
+) -> Result<Vec<BTreeMap<&'a str, u32>>, AllocError>
+    ensures { IfOk result (λ tables. FindChildren (tree_of plan.now) tables.items) }
 {
-    for node in nodes {
-        if plan.name(*node) == name {
-            return Some(*node);
-        }
+    children_have_their_parent(plan);
+    let mut tables = Vec::with_capacity(alloc, plan.len() as usize)?;
+    'classes: for class in 0..plan.len() {
+        let table = names_of(alloc, plan, plan.children(class))?;
+        tables.push(table)?;
     }
-    None
+    Ok(tables)
+}
+
+/// A table of nodes by their names. Of several with one name it has the first.
+fn names_of<'a>(
+    alloc: Global,
+    plan: &'a Plan,
+    nodes: &[u32],
+) -> Result<BTreeMap<&'a str, u32>, AllocError>
+    requires { All (λ n. n < length plan.now.rows) nodes.now }
+    ensures { IfOk result (FindsNamed (tree_of plan.now) nodes.now) }
+{
+    let mut table = BTreeMap::new(alloc);
+    'nodes: for place in (0..nodes.len()).rev() {
+        let node = nodes[place];
+        table.insert(plan.name(node), node)?;
+    }
+    Ok(table)
 }

@@ -1,73 +1,158 @@
-//! Whether two nodes agree on what they have themselves, besides the classes that they stand in.
+//! What nodes have themselves, besides the classes that they stand in, and whether two nodes agree on it.
 ghost use Rattle.std.specs.Prelude.{◌≡◌, ◌<◌, ◌↔◌, ◌∷◌, IfOk, IsTrue, List, length};
 ghost use Rattle.iso_affected.specs.Agreeing.{OwnAgree};
+ghost use Rattle.iso_affected.specs.OwnHeads.{lent_head};
 ghost use Rattle.iso_model.specs.ChainView.{innermost_first};
 ghost use Rattle.iso_model.specs.Chains as C;
 ghost use Rattle.iso_plan.specs.Paths.{row_at};
 ghost use Rattle.iso_plan.specs.RowView.{tree_of};
 ghost use Rattle.iso_suites.specs.PlanSuites.{head_of};
-ghost use Rattle.iso_suites.specs.ScriptLanguage.{marks_on};
+ghost use Rattle.iso_suites.specs.ScriptLanguage.{of_class};
 
 use crate::starts::start_alike;
-use iso_model::heads::{ClassHead, Mark};
+use iso_model::heads::{ClassHead, Mark, TestHead, Variable};
+use iso_model::place::Lifecycle;
 use iso_model::same::heads::{same_class_head, same_test_head};
+use iso_model::text::Text;
+use iso_model::tree::Stmt;
 use iso_plan::laws::nodes_are_a_tree;
 use iso_plan::plan::Plan;
 use iso_settings::world::World;
 use std::alloc::{AllocError, Global};
 use std::sync::Arc;
 
-/// Whether the innermost classes of two chains have equal heads.
-fn same_innermost(a: &[Arc<ClassHead>], b: &[Arc<ClassHead>]) -> bool
-    ensures { (c d : C.ClassHead) (cs ds : List C.ClassHead) → innermost_first a.now ≡ c ∷ cs → innermost_first b.now ≡ d ∷ ds
-        → (IsTrue result ↔ (c ≡ d)) }
-{
-    match (a.last(), b.last()) {
-        (Some(old), Some(new)) => same_class_head(old, new),
-        _ => false,
+/// The head of a class or of a test, as its script has it.
+#[derive(Clone, Copy)]
+pub enum OwnHead<'a> {
+    Class(&'a ClassHead),
+    Test(&'a TestHead),
+}
+
+impl<'a> OwnHead<'a> {
+    ghost use Rattle.iso_affected.specs.Parts.{body_on, disabled_on, fields_on, lifecycle_on, statics_on};
+    ghost use Rattle.iso_model.specs.SyntaxView.{block_of};
+    ghost use Rattle.iso_suites.specs.ScriptLanguage.{is_of_test, marks_on};
+
+    /// Whether it is a test's.
+    pub fn is_test(self) -> bool
+        ensures { result ≡ is_of_test (lent_head self.entry) }
+    {
+        match self {
+            OwnHead::Class(_) => false,
+            OwnHead::Test(_) => true,
+        }
+    }
+
+    /// Its marks.
+    pub fn marks(self) -> &'a [Mark]
+        ensures { result.now ≡ marks_on (lent_head self.entry) }
+    {
+        match self {
+            OwnHead::Class(class) => &class.marks,
+            OwnHead::Test(test) => &test.marks,
+        }
+    }
+
+    /// Why it is disabled, if it is.
+    pub fn disabled(self) -> &'a Option<Text>
+        ensures { result.now ≡ disabled_on (lent_head self.entry) }
+    {
+        match self {
+            OwnHead::Class(class) => &class.contents.disabled,
+            OwnHead::Test(test) => &test.contents.disabled,
+        }
+    }
+
+    /// Its statics; a test has none.
+    pub fn statics(self) -> &'a [Variable]
+        ensures { result.now ≡ statics_on (lent_head self.entry) }
+    {
+        match self {
+            OwnHead::Class(class) => &class.contents.statics,
+            OwnHead::Test(_) => &[],
+        }
+    }
+
+    /// Its fields; a test has none.
+    pub fn fields(self) -> &'a [Variable]
+        ensures { result.now ≡ fields_on (lent_head self.entry) }
+    {
+        match self {
+            OwnHead::Class(class) => &class.contents.fields,
+            OwnHead::Test(_) => &[],
+        }
+    }
+
+    /// A lifecycle block of a class; a test has none.
+    pub fn lifecycle(self, kind: Lifecycle) -> &'a [Stmt]
+        ensures { block_of result.now ≡ lifecycle_on kind (lent_head self.entry) }
+    {
+        match self {
+            OwnHead::Class(class) => lifecycle_of(class, kind),
+            OwnHead::Test(_) => &[],
+        }
+    }
+
+    /// The body of a test; a class has none.
+    pub fn body(self) -> &'a [Stmt]
+        ensures { block_of result.now ≡ body_on (lent_head self.entry) }
+    {
+        match self {
+            OwnHead::Class(_) => &[],
+            OwnHead::Test(test) => &test.contents.body,
+        }
     }
 }
 
-/// The marks of the innermost class of a chain.
-fn innermost_marks(classes: &[Arc<ClassHead>]) -> &[Mark]
-    ensures { (c : C.ClassHead) (cs : List C.ClassHead) → innermost_first classes.now ≡ c ∷ cs → result.now ≡ c.marks }
+ghost use Rattle.iso_affected.specs.Parts.{lifecycle_on};
+ghost use Rattle.iso_model.specs.ScriptView.{class_head_of};
+ghost use Rattle.iso_model.specs.SyntaxView.{block_of};
+
+/// A lifecycle block of a class.
+fn lifecycle_of(class: &ClassHead, kind: Lifecycle) -> &[Stmt]
+    ensures { block_of result.now ≡ lifecycle_on kind (of_class (class_head_of class.now)) }
+{
+    match kind {
+        Lifecycle::BeforeAll => &class.contents.before_all,
+        Lifecycle::AfterAll => &class.contents.after_all,
+        Lifecycle::BeforeEach => &class.contents.before_each,
+        Lifecycle::AfterEach => &class.contents.after_each,
+    }
+}
+
+/// The head of the innermost class of a chain.
+fn innermost(classes: &[Arc<ClassHead>]) -> OwnHead<'_>
+    requires { 0 < length classes.now }
+    ensures { (c : C.ClassHead) (cs : List C.ClassHead) → innermost_first classes.now ≡ c ∷ cs → lent_head result ≡ of_class c }
 {
     match classes.last() {
-        Some(class) => &class.marks,
-        None => &[],
+        Some(class) => OwnHead::Class(class),
+        None => unreachable!(),
     }
 }
 
-/// Whether a node of one plan and a node of another, neither of them the root, have equal heads of their own.
-pub(crate) fn same_head(old: &Plan, node: u32, new: &Plan, other: u32) -> bool
-    requires above { 0 < node }
-    requires within { node < length old.now.rows }
-    requires further { 0 < other }
-    requires inside { other < length new.now.rows }
-    ensures { IsTrue result ↔ (head_of (row_at (tree_of old.now) node).kind ≡ head_of (row_at (tree_of new.now) other).kind) }
-{
-    nodes_are_a_tree(old);
-    nodes_are_a_tree(new);
-    let a = old.chain(node);
-    let b = new.chain(other);
-    match (a.test, b.test) {
-        (Some(test), Some(another)) => same_test_head(test, another),
-        (None, None) => same_innermost(a.classes, b.classes),
-        _ => false,
-    }
-}
-
-/// The marks of a node's own head. The node isn't the root.
-pub(crate) fn own_marks(plan: &Plan, node: u32) -> &[Mark]
+/// The head of a node. The node isn't the root.
+pub fn own_head(plan: &Plan, node: u32) -> OwnHead<'_>
     requires above { 0 < node }
     requires within { node < length plan.now.rows }
-    ensures { result.now ≡ marks_on (head_of (row_at (tree_of plan.now) node).kind) }
+    ensures { lent_head result ≡ head_of (row_at (tree_of plan.now) node).kind }
 {
     nodes_are_a_tree(plan);
     let chain = plan.chain(node);
     match chain.test {
-        Some(test) => &test.marks,
-        None => innermost_marks(chain.classes),
+        Some(test) => OwnHead::Test(test),
+        None => innermost(chain.classes),
+    }
+}
+
+/// Whether two heads are equal.
+fn same_head(was: OwnHead<'_>, now: OwnHead<'_>) -> bool
+    ensures { IsTrue result ↔ (lent_head was.entry ≡ lent_head now.entry) }
+{
+    match (was, now) {
+        (OwnHead::Class(one), OwnHead::Class(other)) => same_class_head(one, other),
+        (OwnHead::Test(one), OwnHead::Test(other)) => same_test_head(one, other),
+        _ => false,
     }
 }
 
@@ -89,8 +174,9 @@ pub(crate) fn own_agree(
     ensures { IfOk result (λ agree. IsTrue agree ↔ OwnAgree before.now after.now
         (head_of (row_at (tree_of old.now) node).kind) (head_of (row_at (tree_of new.now) other).kind)) }
 {
-    if !same_head(old, node, new, other) {
+    let was = own_head(old, node);
+    if !same_head(was, own_head(new, other)) {
         return Ok(false);
     }
-    start_alike(alloc, before, after, own_marks(old, node))
+    start_alike(alloc, before, after, was.marks())
 }

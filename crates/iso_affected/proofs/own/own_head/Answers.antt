@@ -1,4 +1,5 @@
-use Rattle.std.proofs.Common.{◌≡◌, ◌∷◌, ◌++◌, List, None, option_map, sym, ap, ◌∙◌}
+use Rattle.std.proofs.Common.{◌≡◌, ◌<◌, suc, ◌∷◌, ◌++◌, List, None, option_map, length, map, reverse, sym, ap, ◌∙◌, arith}
+use Rattle.std.proofs.lemmas.List.{length-map, length-reverse}
 use Rattle.iso_affected.proofs.HeadLemmas.{IsClassHead, class-head}
 use Rattle.iso_model.specs.ChainView.{innermost_first}
 use Rattle.iso_model.specs.Chains.{ClassHead}
@@ -8,8 +9,10 @@ use Rattle.iso_plan.specs.NodeChains.{chain_classes, own_test}
 use Rattle.iso_plan.specs.Paths.{parent, row_at}
 use Rattle.iso_plan.specs.RowView.{tree_of}
 use Rattle.iso_plan.specs.Tree.{Kind}
-use Rattle.iso_affected.specs.Listed as L
-use Rattle.iso_affected.proofs.listed.is_listed.Goals as goal
+use Rattle.iso_affected.proofs.own.own_head.Goals as goal
+
+pub innermost-requires : goal.innermost-requires
+innermost-requires c = ?
 
 pub returns-in-None : goal.returns-in-None
 returns-in-None c =
@@ -21,4 +24,4 @@ returns-in-None c =
     let cs = chain_classes one (parent one m) in
     let first : innermost_first c.chain-chain.result.classes.now ≡ h.class ∷ cs =
     c.chain-chain.ensures.classes ∙ chain-step one c.nodes_are_a_tree.ensures.below m c.requires.above ∙ ap (λ (es : List ClassHead). es ++ cs) h.heads in
-    c.innermost_has_own_block.ensures h.class cs first ∙ ap L.is_listed (sym h.head)
+    c.innermost.ensures h.class cs first ∙ sym h.head

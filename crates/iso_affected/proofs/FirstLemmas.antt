@@ -1,0 +1,61 @@
+-- The first place where two lists differ.
+use Rattle.std.proofs.Common.{◌≡◌, ℕ, suc, ◌+◌, ◌<◌, List, [], ◌∷◌, length, get_or, take, map, min, Option, Some, None, refl, sym, ap, ◌∙◌, arith}
+use Rattle.std.proofs.lemmas.List.{get_or-map, get_or-take, length-map, length-take, take_all, take_more_same}
+use Rattle.iso_affected.specs.Firsts.{AreRowsApart, ApartAt, IsFirst}
+use Rattle.iso_affected.specs.Parts.{statements}
+use Rattle.iso_affected.specs.declared.firsts.RowsApart.{RowsApart}
+use Rattle.iso_model.specs.Syntax.{Act, Acts, no_acts, act}
+use Rattle.iso_model.specs.SyntaxView.{acts_of}
+
+module _ {A : Type 0} (xs ys : List A) where
+  -- where what stands at a place differs, the lists do there
+  pub apart-here : (i : ℕ) (d : A) → (get_or xs i d ≡ get_or ys i d → ⊥) → take i xs ≡ take i ys → ApartAt xs ys i
+  apart-here i d apart before =
+      record {
+        before = before;
+        here = λ same. apart (sym (get_or-take (i + 1) xs i d (omega arith)) ∙ ap (λ (zs : List A). get_or zs i d) same ∙ get_or-take (i + 1) ys i d (omega arith));
+      }
+
+  -- where the shorter one ends, the lists differ
+  pub apart-end : (i : ℕ) → i ≡ min (length xs) (length ys) → (length xs ≡ length ys → ⊥) → take i xs ≡ take i ys → ApartAt xs ys i
+  apart-end i e apart before =
+      record {
+        before = before;
+        here = λ same.
+            let counts : min (i + 1) (length xs) ≡ min (i + 1) (length ys) = sym (length-take (i + 1) xs) ∙ ap length same ∙ length-take (i + 1) ys in
+            apart (omega arith);
+      }
+
+  -- lists of one length that are alike up to it are equal
+  pub alike-all : (i : ℕ) → i ≡ min (length xs) (length ys) → length xs ≡ length ys → take i xs ≡ take i ys → xs ≡ ys
+  alike-all i e same before = sym (take_all i xs (omega arith)) ∙ before ∙ take_all i ys (omega arith)
+
+  -- equal lists differ nowhere
+  pub none-first : (o : Option ℕ) → IsFirst xs ys o → xs ≡ ys → o ≡ None
+  none-first None is same = refl
+  none-first (Some place) is same = absurd (is.here (ap (take (place + 1)) same))
+
+  pub first-none : (o : Option ℕ) → IsFirst xs ys o → o ≡ None → xs ≡ ys
+  first-none None is e = is
+  first-none (Some place) is e = let wrong : Some place ≡ None = e in absurd (cc)
+
+-- the same of rows
+pub no-rows : (xs ys : List (ℕ × Act)) (o : Option RowsApart) → AreRowsApart xs ys o → xs ≡ ys → o ≡ None
+no-rows xs ys None is same = refl
+no-rows xs ys (Some rows) is same = absurd (is.apart.here (ap (take (is.place + 1)) same))
+
+pub rows-none : (xs ys : List (ℕ × Act)) (o : Option RowsApart) → AreRowsApart xs ys o → o ≡ None → xs ≡ ys
+rows-none xs ys None is e = is
+rows-none xs ys (Some rows) is e = let wrong : Some rows ≡ None = e in absurd (cc)
+
+-- the statements of a block tell it
+pub statements-of : (ps : List (ℕ × Act)) → statements (acts_of ps) ≡ ps
+statements-of [] = refl
+statements-of (p ∷ ps) = ap (λ (qs : List (ℕ × Act)). p ∷ qs) (statements-of ps)
+
+pub block-of : (a : Acts) → acts_of (statements a) ≡ a
+block-of no_acts = refl
+block-of (act row form rest) = ap (act row form) (block-of rest)
+
+pub blocks-tell : (a b : Acts) → statements a ≡ statements b → a ≡ b
+blocks-tell a b e = sym (block-of a) ∙ ap acts_of e ∙ block-of b
