@@ -5,7 +5,9 @@ use Rattle.iso_affected.proofs.MarkLemmas.{Alike, at-mark, some_mark}
 use Rattle.iso_affected.specs.Agreeing.{OwnAgree}
 use Rattle.iso_affected.specs.Firsts.{AreRowsApart}
 use Rattle.iso_affected.specs.Parts.{body_on, disabled_on, fields_on, lifecycle_on, statements, statics_on}
-use Rattle.iso_affected.specs.Reasons.{IsDifference, IsFirstApart, blocks_alike, declares_alike, is_nothing}
+use Rattle.iso_affected.specs.Reasons.{AreBlocksApart, AreDeclaredApart, IsDifference, IsFirstApart, blocks_alike, declares_alike, is_nothing}
+use Rattle.iso_affected.specs.declared.difference.Blocks.{Blocks}
+use Rattle.iso_affected.specs.declared.difference.Declared.{Declared}
 use Rattle.iso_affected.specs.declared.difference.Difference.{Difference}
 use Rattle.iso_affected.specs.declared.firsts.RowsApart.{RowsApart}
 use Rattle.iso_model.specs.Chains.{ClassHead, TestHead}
@@ -153,3 +155,12 @@ module _ (before after : Start) (h g : Head) (d : Difference) (is : IsDifference
 
 pub nothing-differs : (before after : Start) (h g : Head) (d : Difference) → IsDifference before after h g d → (is_nothing d ≡ true) ↔ OwnAgree before after h g
 nothing-differs before after h g d is = (agree before after h g d is, nothing before after h g d is)
+
+-- what differs of two heads, from what does of those that are lent
+pub difference-of : (before after : Start) (h g lent other : Head) (kind : Bool) {declared : Declared} {blocks : Blocks} {start : Option ℕ} {ms : List Mark} → lent ≡ h → other ≡ g
+    → (IsFalse kind ↔ (is_of_test lent ≡ is_of_test other)) → AreDeclaredApart lent other declared → AreBlocksApart lent other blocks → ms ≡ marks_on other → IsFirstApart before after ms start
+    → IsDifference before after h g (record { kind = kind; declared = declared; blocks = blocks; start = start })
+difference-of before after h g lent other kind {declared} {blocks} {start} {ms} e f is declares apart m first =
+    subst (λ (x : Head). IsDifference before after x g (record { kind = kind; declared = declared; blocks = blocks; start = start })) e
+    (subst (λ (y : Head). IsDifference before after lent y (record { kind = kind; declared = declared; blocks = blocks; start = start })) f
+    (record { kind = is; declared = declares; blocks = apart; start = subst (λ (l : List Mark). IsFirstApart before after l start) m first }))

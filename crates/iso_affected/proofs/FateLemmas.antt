@@ -1,13 +1,15 @@
 -- The fate of the root, and of a node from that of the class that it stands in.
-use Rattle.std.proofs.Common.{◌≡◌, ℕ, zero, suc, ◌<◌, List, [], ◌∷◌, length, get_or, Some, None, sym, ap, ◌∙◌, subst, arith, true≢false}
+use Rattle.std.proofs.Common.{◌≡◌, ℕ, zero, suc, ◌<◌, List, [], ◌∷◌, length, get_or, true, Some, None, is_none, sym, ap, ◌∙◌, subst, arith, true≢false}
+use Rattle.std.specs.List.{All}
 use Rattle.iso_affected.proofs.AgreeSteps.{agree-down, agree-own, agree-up}
 use Rattle.iso_affected.proofs.NamesakeLemmas.{namesake-root, namesake-step}
 use Rattle.iso_affected.specs.Agreeing.{NodesAgree, OwnAgree}
-use Rattle.iso_affected.specs.Fates.{IsFate, IsNamesake, Suites, in_new, in_old}
+use Rattle.iso_affected.specs.Fates.{IsFate, IsNamesake, IsNode, Suites, gone, has_gone, in_new, in_old}
 use Rattle.iso_affected.specs.Namesakes.{child_named, namesake}
 use Rattle.iso_affected.specs.declared.affected.Fate.{Fate}
 use Rattle.iso_affected.specs.declared.affected.Fate.TheVariants.{Changed, New, Same}
 use Rattle.iso_plan.proofs.LawLemmas.{root-unreadable}
+use Rattle.iso_plan.proofs.NumberLemmas.{those-are}
 use Rattle.iso_plan.proofs.PathLemmas.{path-root}
 use Rattle.iso_plan.specs.Children.{IsChild}
 use Rattle.iso_plan.specs.NodeChains.{chain_classes, chain_test, heads_on, own_test}
@@ -61,3 +63,13 @@ module _ (s : Suites) (t : IsTree (tree_of s.old)) (u : IsTree (tree_of s.new)) 
     pub changed-fate : IsFate s (parent (tree_of s.new) n) (Changed class) → IsFate s n (Changed m)
     changed-fate up =
         (namesake-is, λ whole. up.1 (subst AboveAgree child.parent_is (agree-up s.old s.new t u s.before s.after m n child.positive child.within pos inside whole)))
+
+gone-above : (old new : List Row) (m : ℕ) → has_gone old new m ≡ true → 0 < m
+gone-above old new zero e = absurd (true≢false (sym e ∙ ap is_none (namesake-root new old)))
+gone-above old new (suc m) e = omega arith
+
+-- what has gone are nodes other than the root
+pub gone-nodes : (old new : List Row) → All (IsNode old) (gone old new)
+gone-nodes old new k d h =
+    let among = those-are (has_gone old new) (length old) k d h in
+    record { above = gone-above old new _ among.passed; within = among.within }

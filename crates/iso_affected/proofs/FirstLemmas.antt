@@ -1,5 +1,5 @@
 -- The first place where two lists differ.
-use Rattle.std.proofs.Common.{◌≡◌, ℕ, suc, ◌+◌, ◌<◌, List, [], ◌∷◌, length, get_or, take, map, min, Option, Some, None, refl, sym, ap, ◌∙◌, arith}
+use Rattle.std.proofs.Common.{◌≡◌, ℕ, suc, ◌+◌, ◌<◌, List, [], ◌∷◌, length, get_or, take, map, min, Option, Some, None, refl, sym, ap, ◌∙◌, subst, arith}
 use Rattle.std.proofs.lemmas.List.{get_or-map, get_or-take, length-map, length-take, take_all, take_more_same}
 use Rattle.iso_affected.specs.Firsts.{AreRowsApart, ApartAt, IsFirst}
 use Rattle.iso_affected.specs.Parts.{statements}
@@ -59,3 +59,9 @@ block-of (act row form rest) = ap (act row form) (block-of rest)
 
 pub blocks-tell : (a b : Acts) → statements a ≡ statements b → a ≡ b
 blocks-tell a b e = sym (block-of a) ∙ ap acts_of e ∙ block-of b
+
+-- what differs of the statements of two blocks does so of the blocks
+pub rows-of : (ps qs : List (ℕ × Act)) (a b : Acts) (o : Option RowsApart) → acts_of ps ≡ a → acts_of qs ≡ b → AreRowsApart ps qs o → AreRowsApart (statements a) (statements b) o
+rows-of ps qs a b o e f rows =
+    subst (λ (xs : List (ℕ × Act)). AreRowsApart xs (statements b) o) (sym (statements-of ps) ∙ ap statements e)
+    (subst (λ (ys : List (ℕ × Act)). AreRowsApart ps ys o) (sym (statements-of qs) ∙ ap statements f) rows)

@@ -7,4 +7,5 @@ pub mod MarkLemmas
 pub mod NameTableLemmas
 pub mod NamesakeLemmas
 pub mod PathAgreement
+pub mod ReasonLemmas
 pub mod SameRuns

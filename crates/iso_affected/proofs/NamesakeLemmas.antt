@@ -2,6 +2,7 @@
 use Rattle.std.proofs.Common.{◌≡◌, ℕ, zero, suc, ◌<◌, ◌==◌, List, [], ◌∷◌, ◌++◌, codes, length, get_or, Bool, true, false, cond, Option, Some, None, IfSome, bytes_eq, refl, sym, ap, ap₂, ◌∙◌, subst, arith}
 use Rattle.std.proofs.lemmas.Bool.Decides.{nat_tests}
 use Rattle.std.specs.Cmp.Lexicographic.{bytes_decides}
+use Rattle.iso_affected.specs.Fates.{IsNode}
 use Rattle.iso_affected.specs.Namesakes.{child_named, named, namesake, namesake_on}
 use Rattle.iso_plan.proofs.ChildLemmas.{child-below}
 use Rattle.iso_plan.proofs.PathLemmas.{along, path-root, path-step}
@@ -106,3 +107,13 @@ have-path one other t u =
 
 pub equal-paths : (one other : List Row) → IsTree one → IsTree other → (n m : ℕ) → namesake one other n ≡ Some m → path_text one m ≡ path_text other n
 equal-paths one other t u n m e = (have-path one other t u n m e).path
+
+child-node : (tree : List Row) (name : List ℕ) (o : Option ℕ) (m : ℕ) → child_named tree name o ≡ Some m → IsNode tree m
+child-node tree name None m e = let wrong : None ≡ Some m = e in absurd (cc)
+child-node tree name (Some class) m e =
+    let child : IsChild tree class (length tree) m = subst (λ (p : Option ℕ). IfSome p (IsChild tree class (length tree))) e (named-child tree class name) in
+    record { above = child.positive; within = child.within }
+
+-- the namesake of a node that isn't the root isn't the root
+pub namesake-node : (one other : List Row) → IsTree other → (n m : ℕ) → 0 < n → namesake one other n ≡ Some m → IsNode one m
+namesake-node one other u n m pos e = child-node one (row_at other n).name (namesake one other (parent other n)) m (sym (namesake-step one other u n pos) ∙ e)

@@ -1,6 +1,5 @@
 -- What a change makes of the nodes of two suites.
-use Rattle.std.specs.Prelude.{◌≡◌, ℕ, ◌<◌, List, Some, None, Bool, Vec, is_none, length, slice_index_or}
-use Rattle.std.specs.Global.{Global}
+use Rattle.std.specs.Prelude.{◌≡◌, ℕ, ◌<◌, List, Some, None, Bool, is_none, length, slice_index_or}
 use Rattle.iso_affected.specs.Agreeing.{NodesAgree}
 use Rattle.iso_affected.specs.Namesakes.{namesake}
 use Rattle.iso_affected.specs.declared.affected.Fate.{Fate}
@@ -41,8 +40,8 @@ IsFate s n (Changed m) = IsNamesake s n m × (NodesAgree (in_old s m) (in_new s 
 IsFate s n New = namesake (tree_of s.old) (tree_of s.new) n ≡ None
 
 -- each node of the new suite has the fate that stands at its number
-abbrev pub AreFates : Suites → Vec Fate Global → Type 0
-AreFates s fates = (n : ℕ) → n < length s.new.rows → IsFate s n (slice_index_or fates.items n New)
+abbrev pub AreFates : Suites → List Fate → Type 0
+AreFates s fates = (n : ℕ) → n < length s.new.rows → IsFate s n (slice_index_or fates n New)
 
 -- whether a node of the first tree has no namesake in the second
 abbrev pub has_gone : (old new : List Row) → ℕ → Bool
@@ -51,3 +50,8 @@ has_gone old new m = is_none (namesake new old m)
 -- the nodes of the first tree that have none, in order
 abbrev pub gone : (old new : List Row) → List ℕ
 gone old new = those_below (has_gone old new) (length old)
+
+-- a node of a tree that isn't the root
+pub record IsNode (tree : List Row) (n : ℕ) : Type 0 where
+  pub above : 0 < n
+  pub within : n < length tree

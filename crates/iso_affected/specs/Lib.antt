@@ -1,4 +1,5 @@
 pub mod Agreeing
+pub mod Counting
 pub mod Fates
 pub mod Firsts
 pub mod Listed
@@ -7,3 +8,4 @@ pub mod Namesakes
 pub mod OwnHeads
 pub mod Parts
 pub mod Reasons
+pub mod Told

@@ -1,6 +1,7 @@
 //! Which nodes of a new suite agree with their namesakes in the old one.
 ghost use Rattle.std.specs.Prelude.{◌≡◌, ◌<◌, IfOk, length};
-ghost use Rattle.iso_affected.specs.Fates.{AreFates, IsFate, gone, suites};
+ghost use Rattle.std.specs.List.{All};
+ghost use Rattle.iso_affected.specs.Fates.{AreFates, IsFate, IsNode, gone, suites};
 ghost use Rattle.iso_affected.specs.NameTables.{FindChildren};
 ghost use Rattle.iso_plan.specs.Paths.{parent};
 ghost use Rattle.iso_plan.specs.RowView.{tree_of};
@@ -33,7 +34,7 @@ pub fn fates(
     after: &World,
 ) -> Result<Vec<Fate>, AllocError>
     ensures count { IfOk result (λ fates. length fates.items ≡ length new.now.rows) }
-    ensures fates { IfOk result (AreFates (suites old.now before.now new.now after.now)) }
+    ensures fates { IfOk result (λ fates. AreFates (suites old.now before.now new.now after.now) fates.items) }
 {
     nodes_are_a_tree(old);
     nodes_are_a_tree(new);
@@ -86,7 +87,8 @@ fn fate_in(
 
 /// The nodes of the old suite that have no namesake in the new one, in order.
 pub fn gone(alloc: Global, old: &Plan, new: &Plan) -> Result<Vec<u32>, AllocError>
-    ensures { IfOk result (λ v. v.items ≡ gone (tree_of old.now) (tree_of new.now)) }
+    ensures gone { IfOk result (λ v. v.items ≡ gone (tree_of old.now) (tree_of new.now)) }
+    ensures nodes { IfOk result (λ v. All (IsNode (tree_of old.now)) v.items) }
 {
     let namesakes = namesakes(alloc, new, old)?;
     let mut gone = Vec::new(alloc);

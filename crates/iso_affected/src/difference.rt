@@ -1,10 +1,13 @@
 //! What differs of what a node and its namesake have themselves.
-ghost use Rattle.std.specs.Prelude.{◌≡◌, ◌<◌, IfOk, length};
+ghost use Rattle.std.specs.Prelude.{◌≡◌, ◌↔◌, ◌<◌, IfOk, IsFalse, length};
+ghost use Rattle.iso_affected.specs.Firsts.{AreRowsApart};
 ghost use Rattle.iso_affected.specs.OwnHeads.{lent_head};
+ghost use Rattle.iso_affected.specs.Parts.{body_on, lifecycle_on, statements};
 ghost use Rattle.iso_affected.specs.Reasons.{AreBlocksApart, AreDeclaredApart, IsDifference};
 ghost use Rattle.iso_plan.specs.Paths.{row_at};
 ghost use Rattle.iso_plan.specs.RowView.{tree_of};
 ghost use Rattle.iso_suites.specs.PlanSuites.{head_of};
+ghost use Rattle.iso_suites.specs.ScriptLanguage.{is_of_test};
 
 use crate::firsts::{RowsApart, first_variable, rows_apart};
 use crate::own::{OwnHead, own_head};
@@ -106,11 +109,18 @@ pub fn what_differs(
     let was = own_head(old, namesake);
     let now = own_head(new, node);
     Ok(Difference {
-        kind: was.is_test() != now.is_test(),
+        kind: is_other_kind(was, now),
         declared: declared_apart(was, now),
         blocks: blocks_apart(was, now),
         start: first_apart(alloc, before, after, now.marks())?,
     })
+}
+
+/// Whether of two heads one is a test's and the other a class's.
+fn is_other_kind(was: OwnHead<'_>, now: OwnHead<'_>) -> bool
+    ensures { IsFalse result ↔ (is_of_test (lent_head was.entry) ≡ is_of_test (lent_head now.entry)) }
+{
+    was.is_test() != now.is_test()
 }
 
 /// What differs of what two heads declare.
@@ -137,9 +147,6 @@ fn blocks_apart(was: OwnHead<'_>, now: OwnHead<'_>) -> Blocks
         test: body_apart(was, now),
     }
 }
-
-ghost use Rattle.iso_affected.specs.Firsts.{AreRowsApart};
-ghost use Rattle.iso_affected.specs.Parts.{body_on, lifecycle_on, statements};
 
 /// Where a lifecycle block of two heads differs first.
 fn lifecycle_apart(was: OwnHead<'_>, now: OwnHead<'_>, kind: Lifecycle) -> Option<RowsApart>

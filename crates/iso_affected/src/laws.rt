@@ -1,16 +1,20 @@
 //! Laws of what agrees. Each function does nothing: its contract is the law, and is proved.
-ghost use Rattle.std.specs.Prelude.{◌≡◌, ◌↔◌, ◌<◌, ℕ, List, Some, None, true, ◌∷◌, length};
+ghost use Rattle.std.specs.Prelude.{◌≡◌, ◌↔◌, ◌<◌, ℕ, List, Option, Some, None, true, ◌∷◌, length, slice_index_or};
+ghost use Rattle.std.specs.List.{list_any};
 ghost use Rattle.iso_affected.specs.Agreeing.{MayComeTo, NodesAgree, OwnAgree};
-ghost use Rattle.iso_affected.specs.Fates.{IsFate, suites};
+ghost use Rattle.iso_affected.specs.Fates.{AreFates, IsFate, suites};
 ghost use Rattle.iso_affected.specs.Namesakes.{namesake};
 ghost use Rattle.iso_affected.specs.Reasons.{AllAgree, IsDifference, is_nothing};
 ghost use Rattle.iso_affected.specs.declared.difference.Difference.{Difference};
-ghost use Rattle.iso_affected.specs.declared.affected.Fate.TheVariants.{Same};
+ghost use Rattle.iso_affected.specs.declared.affected.Fate.{Fate};
+ghost use Rattle.iso_affected.specs.declared.affected.Fate.TheVariants.{Changed, New, Same};
+ghost use Rattle.iso_affected.specs.Told.{AreDifferences, tells};
 ghost use Rattle.iso_lifecycle.specs.Subjects.{started, subject};
 ghost use Rattle.iso_model.specs.Agreement.{ClassesAgree, TestsAgree};
 ghost use Rattle.iso_model.specs.Chains.{ClassHead, TestHead};
 ghost use Rattle.iso_model.specs.declared.outcome.Outcome.{Outcome};
 ghost use Rattle.iso_plan.specs.NodeChains.{chain_classes, chain_test};
+ghost use Rattle.iso_plan.specs.Paths.{path};
 ghost use Rattle.iso_plan.specs.PathTexts.{path_text};
 ghost use Rattle.iso_plan.specs.RowView.{tree_of};
 ghost use Rattle.iso_settings.specs.Worlds.{Start};
@@ -54,6 +58,16 @@ pub fn heads_agree_where_nothing_differs()
     ensures { (before after : Start) (h g : Head) (d : Difference) → IsDifference before after h g d
         → ((is_nothing d ≡ true) ↔ OwnAgree before after h g) }
 {}
+
+/// A changed node is told of with a reason: something differs of what it has itself, or of what a class that it stands in has.
+pub fn changed_nodes_have_a_reason(old: &Plan, new: &Plan)
+    ensures { (before after : Start) (fates : List Fate) (told : List (Option Difference)) → AreFates (suites old.now before new.now after) fates
+        → AreDifferences (suites old.now before new.now after) fates told → (n m : ℕ) → n < length new.now.rows
+        → slice_index_or fates n New ≡ Changed m → list_any (tells told) (path (tree_of new.now) n) ≡ true }
+{
+    nodes_are_a_tree(old);
+    nodes_are_a_tree(new);
+}
 
 /// A node and its namesake have one path, as `jtap plan` prints it.
 pub fn namesakes_have_equal_paths(old: &Plan, new: &Plan)

@@ -2,6 +2,7 @@
 #![tactic(auto)]
 
 pub mod affected;
+pub mod counts;
 pub mod difference;
 pub mod firsts;
 pub mod laws;
@@ -9,3 +10,4 @@ pub mod listed;
 mod namesake;
 pub mod own;
 mod starts;
+pub mod told;

@@ -2,12 +2,15 @@
 ghost use Rattle.std.specs.Prelude.{◌≡◌, ◌<◌, ◌↔◌, ◌∷◌, IfOk, IsTrue, List, length};
 ghost use Rattle.iso_affected.specs.Agreeing.{OwnAgree};
 ghost use Rattle.iso_affected.specs.OwnHeads.{lent_head};
+ghost use Rattle.iso_affected.specs.Parts.{body_on, disabled_on, fields_on, lifecycle_on, statics_on};
 ghost use Rattle.iso_model.specs.ChainView.{innermost_first};
 ghost use Rattle.iso_model.specs.Chains as C;
+ghost use Rattle.iso_model.specs.ScriptView.{class_head_of};
+ghost use Rattle.iso_model.specs.SyntaxView.{block_of};
 ghost use Rattle.iso_plan.specs.Paths.{row_at};
 ghost use Rattle.iso_plan.specs.RowView.{tree_of};
 ghost use Rattle.iso_suites.specs.PlanSuites.{head_of};
-ghost use Rattle.iso_suites.specs.ScriptLanguage.{of_class};
+ghost use Rattle.iso_suites.specs.ScriptLanguage.{is_of_test, marks_on, of_class};
 
 use crate::starts::start_alike;
 use iso_model::heads::{ClassHead, Mark, TestHead, Variable};
@@ -29,10 +32,6 @@ pub enum OwnHead<'a> {
 }
 
 impl<'a> OwnHead<'a> {
-    ghost use Rattle.iso_affected.specs.Parts.{body_on, disabled_on, fields_on, lifecycle_on, statics_on};
-    ghost use Rattle.iso_model.specs.SyntaxView.{block_of};
-    ghost use Rattle.iso_suites.specs.ScriptLanguage.{is_of_test, marks_on};
-
     /// Whether it is a test's.
     pub fn is_test(self) -> bool
         ensures { result ≡ is_of_test (lent_head self.entry) }
@@ -103,10 +102,6 @@ impl<'a> OwnHead<'a> {
         }
     }
 }
-
-ghost use Rattle.iso_affected.specs.Parts.{lifecycle_on};
-ghost use Rattle.iso_model.specs.ScriptView.{class_head_of};
-ghost use Rattle.iso_model.specs.SyntaxView.{block_of};
 
 /// A lifecycle block of a class.
 fn lifecycle_of(class: &ClassHead, kind: Lifecycle) -> &[Stmt]

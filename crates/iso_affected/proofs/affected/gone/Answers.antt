@@ -1,5 +1,7 @@
-use Rattle.std.proofs.Common.{◌≡◌, ◌+◌, ◌++◌, ◌∷◌, [], ℕ, List, Option, Bool, true, false, is_none, is_some, length, not, ap, sym, ◌∙◌, add-one, arith}
-use Rattle.iso_affected.specs.Fates.{has_gone}
+use Rattle.std.proofs.Common.{◌≡◌, ◌+◌, ◌++◌, ◌∷◌, [], ℕ, List, Option, Bool, true, false, is_none, is_some, length, not, ap, sym, ◌∙◌, add-one, subst, arith}
+use Rattle.std.specs.List.{All}
+use Rattle.iso_affected.proofs.FateLemmas.{gone-nodes}
+use Rattle.iso_affected.specs.Fates.{IsNode, has_gone}
 use Rattle.iso_affected.specs.Namesakes.{namesake}
 use Rattle.iso_plan.proofs.ColumnLemmas.{column-read, length-column}
 use Rattle.iso_plan.proofs.NumberLemmas.{those-next, those-skip}
@@ -38,3 +40,10 @@ nodes-preserved c =
       | then-is_none+in_ok-push w ↦ rw w.gone-is (found_more passes c.nodes.gone.items _ n (sym w.if-is_none.true ∙ told) c.nodes.invariant w.in_ok-push.ensures.items)
       | else-is_none w ↦ rw w.gone-is (found_same passes c.nodes.gone.items n (sym w.if-is_none.false ∙ told) c.nodes.invariant)
     ]
+
+pub returns-clause-nodes : goal.returns-clause-nodes
+returns-clause-nodes c =
+    let old = tree_of c.args.old.now in
+    let new = tree_of c.args.new.now in
+    let all : c.nodes.node ≡ length old = omega (arith, c.len-node-end.ensures) in
+    subst (All (IsNode old)) (sym (c.nodes.invariant ∙ ap (those_below (has_gone old new)) all)) (gone-nodes old new)

@@ -1,0 +1,7 @@
+pub mod Affected
+pub mod Changes
+pub mod Parts
+pub mod Rows
+pub mod Spots
+pub mod Texts
+pub mod Words

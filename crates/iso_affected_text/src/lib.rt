@@ -1,0 +1,12 @@
+//! What a change can alter, as text: which tests and classes, and why.
+#![tactic(auto)]
+
+pub mod change;
+pub mod examples;
+mod parts;
+pub mod paths;
+pub mod row;
+pub mod rows;
+mod spots;
+pub mod text;
+mod word;
