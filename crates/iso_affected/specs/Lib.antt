@@ -7,5 +7,6 @@ pub mod NameTables
 pub mod Namesakes
 pub mod OwnHeads
 pub mod Parts
+pub mod PropertyStarts
 pub mod Reasons
 pub mod Told

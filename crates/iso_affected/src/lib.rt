@@ -9,5 +9,6 @@ pub mod laws;
 pub mod listed;
 mod namesake;
 pub mod own;
+pub mod properties;
 mod starts;
 pub mod told;

@@ -2,7 +2,6 @@
 #![tactic(auto)]
 
 pub mod change;
-pub mod examples;
 mod parts;
 pub mod paths;
 pub mod row;

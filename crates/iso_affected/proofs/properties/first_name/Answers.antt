@@ -1,0 +1,19 @@
+use Rattle.std.proofs.Common.{◌≡◌, ◌<◌, ℕ, List, length, get_or, sym, ap, ◌∙◌, arith, true≢false}
+use Rattle.std.proofs.lemmas.List.{get_or_default}
+use Rattle.iso_affected.specs.PropertyStarts.{asked}
+use Rattle.iso_affected.proofs.properties.first_name.Goals as goal
+
+pub returns-then-not-same_at : goal.returns-then-not-same_at
+returns-then-not-same_at c =
+    let names = c.args.names.now in
+    let i = c.names.place in
+    let within : i < length names = omega arith in
+    let f = asked c.args.was.now in
+    let g = asked c.args.now.now in
+    record {
+      within = within;
+      apart = λ d same.
+          let at : get_or names i d ≡ c.as_str.result.now = get_or_default names i d c.index-names-place.result within ∙ sym c.index-names-place.is ∙ sym c.as_str.ensures in
+          true≢false (sym (c.same_at.ensures.1 (ap f (sym at) ∙ same ∙ ap g at)) ∙ c.if-not-same_at.true);
+      before = c.names.invariant;
+    }
