@@ -1,7 +1,7 @@
 //! How many tests of two suites have which fate.
 ghost use Rattle.std.specs.Prelude.{◌≡◌, ◌<◌, ◌≤◌, ◌^◌, count_by, length};
 ghost use Rattle.std.specs.List.{All};
-ghost use Rattle.iso_affected.specs.Counting.{AreFew, counts, is_kind, is_test_at, tests_of};
+ghost use Rattle.iso_affected.specs.Counting.{AreFew, counts, is_kind, is_test_at, is_test_of, tests_of};
 ghost use Rattle.iso_affected.specs.Fates.{IsNode, gone};
 ghost use Rattle.iso_plan.specs.RowView.{tree_of};
 
@@ -48,11 +48,20 @@ fn tests_of(plan: &Plan, fates: &[Fate], kind: FateKind) -> u64
 {
     let mut tests = 0;
     'nodes: for node in 0..plan.len() {
-        if plan.is_test(node) && is_kind(kind, fates[node as usize]) {
+        if is_test_of(plan, fates, kind, node) {
             tests += 1;
         }
     }
     tests
+}
+
+/// Whether a node is a test with a fate of this kind.
+fn is_test_of(plan: &Plan, fates: &[Fate], kind: FateKind, node: u32) -> bool
+    requires count { length fates.now ≡ length plan.now.rows }
+    requires within { node < length plan.now.rows }
+    ensures { result ≡ is_test_of (tree_of plan.now) fates.now kind node }
+{
+    plan.is_test(node) && is_kind(kind, fates[node as usize])
 }
 
 /// Whether a fate is of this kind.

@@ -1,6 +1,6 @@
 pub mod Affected
 pub mod Changes
-pub mod Parts
+pub mod PartRows
 pub mod Rows
 pub mod Spots
 pub mod Texts

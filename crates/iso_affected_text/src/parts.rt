@@ -4,7 +4,7 @@ ghost use Rattle.std.specs.Option.{option_copied};
 ghost use Rattle.iso_affected.specs.Fates.{IsNode};
 ghost use Rattle.iso_affected.specs.OwnHeads.{lent_head};
 ghost use Rattle.iso_affected_text.specs.Changes.{IsChange, change_of};
-ghost use Rattle.iso_affected_text.specs.Parts.{block_rows, blocks_rows, declared_rows, difference_rows, key_at, kind_part, name_at, of_class, part_rows, property_of, start_rows, variable_rows};
+ghost use Rattle.iso_affected_text.specs.PartRows.{block_rows, blocks_rows, declared_rows, difference_rows, key_at, kind_part, name_at, of_class, part_rows, property_of, start_rows, variable_rows};
 ghost use Rattle.iso_affected_text.specs.Rows.{row_of};
 ghost use Rattle.iso_plan.specs.RowView.{tree_of};
 
@@ -92,13 +92,11 @@ fn add_part<'a>(
 ) -> Result<(), AllocError>
     ensures { OnOk result (map row_of rows.new.items ≡ map row_of rows.old.items ++ part_rows is_apart part (option_copied of.entry)) }
 {
-    if is_apart {
-        rows.push(Row::Part {
-            part,
-            name: None,
-            of,
-        })?;
+    if !is_apart {
+        return Ok(());
     }
+    let name = None;
+    rows.push(Row::Part { part, name, of })?;
     Ok(())
 }
 

@@ -1,10 +1,10 @@
 //! The rows of all nodes that a change can alter.
-ghost use Rattle.std.specs.Prelude.{◌≡◌, ◌++◌, ◌-◌, ◌<◌, IfOk, OnOk, flat_map, length, map};
-ghost use Rattle.std.specs.List.{range_with_len};
+ghost use Rattle.std.specs.Prelude.{◌≡◌, ◌++◌, ◌∷◌, ◌<◌, [], IfOk, OnOk, flat_map, length, map};
 ghost use Rattle.iso_affected.specs.Fates.{IsNode};
-ghost use Rattle.iso_affected_text.specs.Affected.{affected_rows, gone_rows, node_rows, own_rows, reasons_on};
+ghost use Rattle.iso_affected_text.specs.Affected.{affected_rows, gone_rows, node_rows, nodes_rows, own_rows, reasons_on, told_rows};
 ghost use Rattle.iso_affected_text.specs.Changes.{IsChange, change_of};
-ghost use Rattle.iso_affected_text.specs.Rows.{row_of};
+ghost use Rattle.iso_affected_text.specs.Rows.{node_row, row_of};
+ghost use Rattle.iso_plan.specs.PathTexts.{path_text};
 ghost use Rattle.iso_plan.specs.Paths.{path};
 ghost use Rattle.iso_plan.specs.RowView.{tree_of};
 
@@ -12,6 +12,7 @@ use crate::change::Change;
 use crate::parts::add_difference;
 use crate::row::{Became, Row};
 use iso_affected::affected::Fate;
+use iso_affected::difference::Difference;
 use iso_affected::listed::is_listed;
 use iso_plan::laws::{nodes_are_a_tree, parents_come_first, paths_lead_up};
 use std::alloc::{AllocError, Global};
@@ -35,7 +36,7 @@ pub fn affected_rows<'a>(
 fn add_nodes<'a>(rows: &mut Vec<Row<'a>>, change: &Change<'a>) -> Result<(), AllocError>
     requires { IsChange change.now }
     ensures { OnOk result (map row_of rows.new.items ≡ map row_of rows.old.items
-        ++ flat_map (node_rows (change_of change.now)) (range_with_len 1 (length change.now.new.plan.now.rows - 1))) }
+        ++ nodes_rows (change_of change.now) (length change.now.new.plan.now.rows)) }
 {
     nodes_are_a_tree(change.new.plan);
     'nodes: for node in 1..change.new.plan.len() {
@@ -57,20 +58,31 @@ fn add_node<'a>(
     if !is_listed(change.new.plan, node) {
         return Ok(());
     }
-    let path = change.new.paths[node as usize].as_str();
     match change.fates[node as usize] {
         Fate::Same(_) => Ok(()),
         Fate::Changed(_) => {
-            let became = Became::Changed;
-            rows.push(Row::Node { became, path })?;
+            add_row(rows, change, node, Became::Changed)?;
             add_reasons(rows, change, node)
         }
-        Fate::New => {
-            let became = Became::New;
-            rows.push(Row::Node { became, path })?;
-            Ok(())
-        }
+        Fate::New => add_row(rows, change, node, Became::New),
     }
+}
+
+/// Adds the row of what became of a node of the new suite.
+fn add_row<'a>(
+    rows: &mut Vec<Row<'a>>,
+    change: &Change<'a>,
+    node: u32,
+    became: Became,
+) -> Result<(), AllocError>
+    requires change { IsChange change.now }
+    requires within { node < length change.now.new.plan.now.rows }
+    ensures { OnOk result (map row_of rows.new.items
+        ≡ map row_of rows.old.items ++ node_row became (path_text (tree_of change.now.new.plan.now) node) ∷ []) }
+{
+    let path = change.new.paths[node as usize].as_str();
+    rows.push(Row::Node { became, path })?;
+    Ok(())
 }
 
 /// Adds the rows of what differs of the nodes on a node's path, the outermost class first. It calls itself once for each class that the node
@@ -104,11 +116,30 @@ fn add_own<'a>(rows: &mut Vec<Row<'a>>, change: &Change<'a>, node: u32) -> Resul
     ensures { OnOk result (map row_of rows.new.items ≡ map row_of rows.old.items ++ own_rows (change_of change.now) node) }
 {
     nodes_are_a_tree(change.new.plan);
-    match (change.fates[node as usize], change.told[node as usize]) {
-        (Fate::Changed(namesake), Some(difference)) => {
-            add_difference(rows, change, node, namesake, difference)
+    match change.fates[node as usize] {
+        Fate::Changed(namesake) => {
+            add_told(rows, change, node, namesake, change.told[node as usize])
         }
-        _ => Ok(()),
+        Fate::Same(_) | Fate::New => Ok(()),
+    }
+}
+
+/// Adds the rows of what differs of a node and its namesake, if something is told of it.
+fn add_told<'a>(
+    rows: &mut Vec<Row<'a>>,
+    change: &Change<'a>,
+    node: u32,
+    namesake: u32,
+    told: Option<Difference>,
+) -> Result<(), AllocError>
+    requires change { IsChange change.now }
+    requires node { IsNode (tree_of change.now.new.plan.now) node }
+    requires namesake { IsNode (tree_of change.now.old.plan.now) namesake }
+    ensures { OnOk result (map row_of rows.new.items ≡ map row_of rows.old.items ++ told_rows (change_of change.now) node namesake told) }
+{
+    match told {
+        Some(difference) => add_difference(rows, change, node, namesake, difference),
+        None => Ok(()),
     }
 }
 
@@ -134,10 +165,11 @@ fn add_gone_node<'a>(
     requires node { IsNode (tree_of change.now.old.plan.now) node }
     ensures { OnOk result (map row_of rows.new.items ≡ map row_of rows.old.items ++ gone_rows (change_of change.now) node) }
 {
-    if is_listed(change.old.plan, node) {
-        let became = Became::Gone;
-        let path = change.old.paths[node as usize].as_str();
-        rows.push(Row::Node { became, path })?;
+    if !is_listed(change.old.plan, node) {
+        return Ok(());
     }
+    let became = Became::Gone;
+    let path = change.old.paths[node as usize].as_str();
+    rows.push(Row::Node { became, path })?;
     Ok(())
 }
