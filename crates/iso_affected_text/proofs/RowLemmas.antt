@@ -1,5 +1,5 @@
 -- Rows, one after another.
-use Rattle.std.proofs.Common.{◌≡◌, ℕ, zero, suc, ◌+◌, ◌<◌, List, [], ◌∷◌, ◌++◌, Option, Some, None, flat_map, get_or, length, map, take, cond, Bool, refl, sym, ap, ◌∙◌, append_assoc, append-nil, add-one, arith}
+use Rattle.std.proofs.Common.{◌≡◌, ℕ, zero, suc, ◌+◌, ◌<◌, List, [], ◌∷◌, ◌++◌, Option, Some, None, flat_map, get_or, length, map, take, cond, Bool, true, false, refl, sym, ap, ◌∙◌, append_assoc, append-nil, add-one, arith}
 use Rattle.std.proofs.lemmas.Grind.{flat_map-append}
 use Rattle.std.proofs.lemmas.List.{map_push, take_more}
 use Rattle.iso_affected.specs.Listed.{is_listed}
@@ -14,6 +14,13 @@ use Rattle.iso_suites.specs.PlanSuites.{head_of}
 
 abbrev Rows : Type 0
 Rows = List RowView
+
+-- what is added last, where it is a choice
+pub chosen : {A : Type 0} (b : Bool) (x y : A) → b ≡ true → cond b x y ≡ x
+chosen b x y e = ap (λ (t : Bool). cond t x y) e
+
+pub other : {A : Type 0} (b : Bool) (x y : A) → b ≡ false → cond b x y ≡ y
+other b x y e = ap (λ (t : Bool). cond t x y) e
 
 -- what is added in parts
 pub in_two : (old one two now after : Rows) → one ≡ old ++ now → two ≡ one ++ after → two ≡ old ++ (now ++ after)

@@ -1,4 +1,8 @@
 //! Two suites, and what a change of one to the other made of their nodes.
+ghost use Rattle.std.specs.Prelude.{◌≡◌, ◌<◌, length};
+ghost use Rattle.iso_affected_text.specs.Changes.{IsSide};
+ghost use Rattle.iso_plan.specs.PathTexts.{path_text};
+ghost use Rattle.iso_plan.specs.RowView.{tree_of};
 
 use iso_affected::affected::Fate;
 use iso_affected::difference::Difference;
@@ -35,4 +39,13 @@ pub struct Change<'a> {
     pub gone: &'a [u32],
     /// The property that starts with another value.
     pub property: Option<&'a str>,
+}
+
+/// The path of a node of one of the suites.
+pub(crate) fn path_at<'a>(side: &Side<'a>, node: u32) -> &'a str
+    requires side { IsSide side.now }
+    requires within { node < length side.now.plan.now.rows }
+    ensures { result.now ≡ path_text (tree_of side.now.plan.now) node }
+{
+    side.paths[node as usize].as_str()
 }

@@ -8,7 +8,7 @@ ghost use Rattle.iso_affected_text.specs.PartRows.{block_rows, blocks_rows, decl
 ghost use Rattle.iso_affected_text.specs.Rows.{row_of};
 ghost use Rattle.iso_plan.specs.RowView.{tree_of};
 
-use crate::change::Change;
+use crate::change::{Change, path_at};
 use crate::row::{Block, Part, Row};
 use crate::spots::spot;
 use iso_affected::difference::{Blocks, Difference};
@@ -51,7 +51,7 @@ fn of_class<'a>(change: &Change<'a>, node: u32) -> Option<&'a str>
     if change.new.plan.is_test(node) {
         return None;
     }
-    Some(change.new.paths[node as usize].as_str())
+    Some(path_at(&change.new, node))
 }
 
 /// Adds the rows of what differs of what two heads declare.
@@ -95,8 +95,11 @@ fn add_part<'a>(
     if !is_apart {
         return Ok(());
     }
-    let name = None;
-    rows.push(Row::Part { part, name, of })?;
+    rows.push(Row::Part {
+        part,
+        name: None,
+        of,
+    })?;
     Ok(())
 }
 

@@ -1,14 +1,14 @@
 //! The rows of all nodes that a change can alter.
 ghost use Rattle.std.specs.Prelude.{◌≡◌, ◌++◌, ◌∷◌, ◌<◌, [], IfOk, OnOk, flat_map, length, map};
 ghost use Rattle.iso_affected.specs.Fates.{IsNode};
-ghost use Rattle.iso_affected_text.specs.Affected.{affected_rows, gone_rows, node_rows, nodes_rows, own_rows, reasons_on, told_rows};
+ghost use Rattle.iso_affected_text.specs.Affected.{affected_rows, fate_rows, gone_rows, node_rows, nodes_rows, own_rows, reasons_on, told_rows};
 ghost use Rattle.iso_affected_text.specs.Changes.{IsChange, change_of};
 ghost use Rattle.iso_affected_text.specs.Rows.{node_row, row_of};
 ghost use Rattle.iso_plan.specs.PathTexts.{path_text};
 ghost use Rattle.iso_plan.specs.Paths.{path};
 ghost use Rattle.iso_plan.specs.RowView.{tree_of};
 
-use crate::change::Change;
+use crate::change::{Change, path_at};
 use crate::parts::add_difference;
 use crate::row::{Became, Row};
 use iso_affected::affected::Fate;
@@ -58,7 +58,21 @@ fn add_node<'a>(
     if !is_listed(change.new.plan, node) {
         return Ok(());
     }
-    match change.fates[node as usize] {
+    add_fate(rows, change, node, change.fates[node as usize])
+}
+
+/// Adds the rows of a node of the new suite with a fate.
+fn add_fate<'a>(
+    rows: &mut Vec<Row<'a>>,
+    change: &Change<'a>,
+    node: u32,
+    fate: Fate,
+) -> Result<(), AllocError>
+    requires change { IsChange change.now }
+    requires within { node < length change.now.new.plan.now.rows }
+    ensures { OnOk result (map row_of rows.new.items ≡ map row_of rows.old.items ++ fate_rows (change_of change.now) node fate) }
+{
+    match fate {
         Fate::Same(_) => Ok(()),
         Fate::Changed(_) => {
             add_row(rows, change, node, Became::Changed)?;
@@ -80,7 +94,7 @@ fn add_row<'a>(
     ensures { OnOk result (map row_of rows.new.items
         ≡ map row_of rows.old.items ++ node_row became (path_text (tree_of change.now.new.plan.now) node) ∷ []) }
 {
-    let path = change.new.paths[node as usize].as_str();
+    let path = path_at(&change.new, node);
     rows.push(Row::Node { became, path })?;
     Ok(())
 }
@@ -169,7 +183,7 @@ fn add_gone_node<'a>(
         return Ok(());
     }
     let became = Became::Gone;
-    let path = change.old.paths[node as usize].as_str();
+    let path = path_at(&change.old, node);
     rows.push(Row::Node { became, path })?;
     Ok(())
 }
