@@ -1,5 +1,5 @@
 -- The fate of the root, and of a node from that of the class that it stands in.
-use Rattle.std.proofs.Common.{◌≡◌, ℕ, zero, suc, ◌<◌, List, [], ◌∷◌, length, get_or, true, Some, None, is_none, sym, ap, ◌∙◌, subst, arith, true≢false}
+use Rattle.std.proofs.Common.{◌≡◌, ℕ, zero, suc, ◌<◌, ◌≤◌, List, [], ◌∷◌, length, get_or, true, Some, None, is_none, sym, ap, ◌∙◌, subst, arith, true≢false}
 use Rattle.std.specs.List.{All}
 use Rattle.iso_affected.proofs.AgreeSteps.{agree-down, agree-own, agree-up}
 use Rattle.iso_affected.proofs.NamesakeLemmas.{namesake-root, namesake-step}
@@ -9,7 +9,7 @@ use Rattle.iso_affected.specs.Namesakes.{child_named, namesake}
 use Rattle.iso_affected.specs.declared.affected.Fate.{Fate}
 use Rattle.iso_affected.specs.declared.affected.Fate.TheVariants.{Changed, New, Same}
 use Rattle.iso_plan.proofs.LawLemmas.{root-unreadable}
-use Rattle.iso_plan.proofs.NumberLemmas.{those-are}
+use Rattle.iso_plan.proofs.NumberLemmas.{number-small, those-are}
 use Rattle.iso_plan.proofs.PathLemmas.{path-root}
 use Rattle.iso_plan.specs.Children.{IsChild}
 use Rattle.iso_plan.specs.NodeChains.{chain_classes, chain_test, heads_on, own_test}
@@ -73,3 +73,7 @@ pub gone-nodes : (old new : List Row) → All (IsNode old) (gone old new)
 gone-nodes old new k d h =
     let among = those-are (has_gone old new) (length old) k d h in
     record { above = gone-above old new _ among.passed; within = among.within }
+
+-- they are no more than there are nodes
+pub gone-few : (old new : List Row) → length (gone old new) ≤ length old
+gone-few old new = number-small (has_gone old new) (length old)

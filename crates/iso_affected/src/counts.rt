@@ -25,18 +25,18 @@ pub struct Counts {
     pub gone: u64,
 }
 
-/// Counts the tests of two suites, of which the fates of the nodes of the new one, and those of the old one that are gone. Takes no memory.
-pub fn count(old: &Plan, new: &Plan, fates: &[Fate], gone: &[u32]) -> Counts
+/// Counts the tests of two suites, of which the fates of the nodes of the new one, and those nodes of the old one that are gone. Takes no memory.
+pub fn count(old: &Plan, new: &Plan, fates: &[Fate], lost: &[u32]) -> Counts
     requires count { length fates.now ≡ length new.now.rows }
-    requires gone { gone.now ≡ gone (tree_of old.now) (tree_of new.now) }
-    ensures counts { result ≡ counts (tree_of old.now) (tree_of new.now) fates.now gone.now }
+    requires gone { lost.now ≡ gone (tree_of old.now) (tree_of new.now) }
+    ensures counts { result ≡ counts (tree_of old.now) (tree_of new.now) fates.now lost.now }
     ensures few { AreFew result }
 {
     Counts {
         same: tests_of(new, fates, FateKind::Same),
         changed: tests_of(new, fates, FateKind::Changed),
         new: tests_of(new, fates, FateKind::New),
-        gone: tests_among(old, gone),
+        gone: tests_among(old, lost),
     }
 }
 
@@ -83,6 +83,8 @@ fn tests_among(plan: &Plan, nodes: &[u32]) -> u64
     ensures tests { result ≡ count_by (is_test_at (tree_of plan.now)) nodes.now }
     ensures few { result < 2 ^ 32 }
 {
+    // It is asked for what it proves: that 32 bits number the nodes.
+    let _count = plan.len();
     let mut tests = 0;
     'nodes: for node in nodes {
         if plan.is_test(*node) {

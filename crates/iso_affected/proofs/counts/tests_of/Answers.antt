@@ -27,3 +27,10 @@ nodes-preserved c =
       | then-is_test_of w ↦ w.tests-is ∙ one_more passes c.nodes.tests n (sym c.is_test_of.ensures ∙ w.if-is_test_of.true) c.nodes.invariant
       | else-is_test_of w ↦ w.tests-is ∙ no_more passes c.nodes.tests n (sym c.is_test_of.ensures ∙ w.if-is_test_of.false) c.nodes.invariant
     ]
+
+pub returns-clause-few : goal.returns-clause-few
+returns-clause-few c =
+    let small = number-small (is_test_of (tree_of c.args.plan.now) c.args.fates.now c.args.kind) c.nodes.node in
+    let before : c.nodes.tests ≡ length (those_below (is_test_of (tree_of c.args.plan.now) c.args.fates.now c.args.kind) c.nodes.node) = c.nodes.invariant in
+    let few : c.nodes.node < 4294967296 = omega (arith, c.len-node-end.ensures) in
+    omega arith

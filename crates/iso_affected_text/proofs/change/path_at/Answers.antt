@@ -5,7 +5,13 @@ use Rattle.iso_plan.specs.RowView.{tree_of}
 use Rattle.iso_affected_text.proofs.change.path_at.Goals as goal
 
 pub index-requires : goal.index-requires
-index-requires c = ?
+index-requires c =
+    let tree = tree_of c.args.side.now.plan.now in
+    let count : length c.args.side.now.paths.now ≡ length tree = ap length c.requires.side.paths ∙ length-column (path_text tree) (length tree) in
+    let within = c.requires.within in
+    omega arith
 
 pub returns : goal.returns
-returns c = ?
+returns c =
+    let tree = tree_of c.args.side.now.plan.now in
+    c.as_str.ensures ∙ c.index-side-paths-node.is ∙ column-read (path_text tree) c.args.side.now.paths.now (length tree) c.args.node _ c.requires.side.paths c.requires.within
