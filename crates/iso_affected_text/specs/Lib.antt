@@ -1,5 +1,6 @@
 pub mod Affected
 pub mod Changes
+pub mod Examples
 pub mod PartRows
 pub mod Rows
 pub mod Spots

@@ -2,6 +2,7 @@
 #![tactic(auto)]
 
 pub mod change;
+pub mod examples;
 mod parts;
 pub mod paths;
 pub mod row;

@@ -81,11 +81,10 @@ fn source_at<'a>(side: &Side<'a>, line: ScriptLine) -> &'a [u8]
     ensures { result.now ≡ source_at (texts_of side.now.texts.now) line }
 {
     let script = line.script as usize;
-    if script < side.texts.len() && script < side.tables.len() {
-        side.tables[script].line(side.texts[script], line.line)
-    } else {
-        &[]
+    if script >= side.texts.len() {
+        return &[];
     }
+    side.tables[script].line(side.texts[script], line.line)
 }
 
 /// The words by which a place names a block of a node.
