@@ -1,13 +1,16 @@
 //! Which property starts with another value.
 ghost use Rattle.std.specs.Prelude.{◌≡◌, ◌↔◌, IfOk, IsTrue};
 ghost use Rattle.std.specs.Option.{option_copied};
+ghost use Rattle.std.specs.Arc.{arc_value};
 ghost use Rattle.iso_affected.specs.PropertyStarts.{IsFirstName, asked, property_of};
+ghost use Rattle.iso_model.specs.declared.resource.Resource.TheVariants.{Props};
 
 use iso_model::key::Key;
 use iso_model::resource::{Ask, Resource};
 use iso_model::text::Text;
 use iso_settings::world::World;
 use std::alloc::{AllocError, Global};
+use std::sync::Arc;
 
 /// The key of the system properties.
 const PROPERTIES: &str = "java.lang.System.properties";
@@ -21,10 +24,17 @@ pub fn first_property(
 ) -> Result<Option<usize>, AllocError>
     ensures { IfOk result (IsFirstName (property_of before.now) (property_of after.now) names.now) }
 {
-    let key = Key::new(alloc, Text::copied(alloc, PROPERTIES)?)?;
-    let was = before.share(alloc, &key)?;
-    let now = after.share(alloc, &key)?;
+    let was = starting_properties(alloc, before)?;
+    let now = starting_properties(alloc, after)?;
     Ok(first_name(&was, &now, names))
+}
+
+/// The value with which the properties start.
+fn starting_properties(alloc: Global, world: &World) -> Result<Arc<Resource>, AllocError>
+    ensures { IfOk result (λ value. arc_value value ≡ Props world.now.properties) }
+{
+    let key = Key::new(alloc, Text::copied(alloc, PROPERTIES)?)?;
+    world.share(alloc, &key)
 }
 
 /// The first of some names at which two values of properties differ, by its place.

@@ -11,6 +11,6 @@ returns-clause-few c =
     let seen = take c.nodes.node-index c.args.nodes.now in
     let small : count_by (is_test_at tree) seen ≤ length seen = count_by-le-length (is_test_at tree) seen in
     let before : c.nodes.tests ≡ count_by (is_test_at tree) seen = c.nodes.invariant in
-    let all : length tree < 4294967296 = omega (arith, c.len-_count.ensures) in
+    let all : length tree < 4294967296 = omega (arith, c.len-count.ensures) in
     let few : length c.args.nodes.now ≤ length tree = c.requires.few in
     omega (arith, length-take c.nodes.node-index c.args.nodes.now)

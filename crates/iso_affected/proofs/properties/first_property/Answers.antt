@@ -1,4 +1,8 @@
+use Rattle.std.proofs.Common.{◌∙◌}
+use Rattle.iso_affected.proofs.PropertyLemmas.{first-of}
 use Rattle.iso_affected.proofs.properties.first_property.Goals as goal
 
 pub returns : goal.returns
-returns c = let a = c.deref in let b = c.in_ok-was in let k = c.in_ok-key in let t = c.in_ok-copied in let s = c.share in ?
+returns c =
+    first-of c.args.before.now c.args.after.now _ _ c.args.names.now c.first_name.result (c.deref.ensures ∙ c.in_ok-was.ensures) (c.deref-2.ensures ∙ c.in_ok-now.ensures)
+    c.first_name.ensures

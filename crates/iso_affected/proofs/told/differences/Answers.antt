@@ -11,5 +11,5 @@ nodes-init c =
 
 pub nodes-preserved : goal.nodes-preserved
 nodes-preserved c =
-    told-more (suites c.args.old.now c.args.before.now c.args.new.now c.args.after.now) c.args.fates.now c.nodes.told.items c.push-2.new.self.items c.in_ok-difference.difference c.nodes.node
+    told-more (suites c.args.old.now c.args.before.now c.args.new.now c.args.after.now) c.args.fates.now c.nodes.told.items c.push-in-nodes.new.self.items c.in_ok-difference.difference c.nodes.node
     c.in_ok-push-2.ensures.items c.nodes.invariant c.in_ok-difference.ensures
