@@ -7,7 +7,8 @@ pub returns-in-Same : goal.returns-in-Same
 returns-in-Same c = rw c.in-Same.is (unchanged _ _ refl)
 
 pub returns-in_ok-add_row-in-Changed : goal.returns-in_ok-add_row-in-Changed
-returns-in_ok-add_row-in-Changed c = ?
+returns-in_ok-add_row-in-Changed c =
+    rw c.in-Changed.is (on_ok_weaker c.add_reasons.result (in_two _ _ _ _ _ c.in_ok-add_row-in-Changed.ensures) c.add_reasons.ensures)
 
 pub returns-in-New : goal.returns-in-New
 returns-in-New c = rw c.in-New.is c.add_row-in-New.ensures

@@ -6,4 +6,4 @@ pub returns-then-not-is_listed : goal.returns-then-not-is_listed
 returns-then-not-is_listed c = unchanged _ _ (other _ _ _ (sym c.is_listed.ensures ∙ c.if-not-is_listed.true))
 
 pub returns : goal.returns
-returns c = ?
+returns c = rw (sym c.is_listed.ensures ∙ c.if-not-is_listed.false) c.add_fate.ensures
