@@ -89,8 +89,7 @@ module _ (before after : Start) (h g : Head) (d : Difference) (is : IsDifference
   declares e =
       let last = both (not d.declared.marks && not d.declared.disabled && is_none d.declared.statics) (is_none d.declared.fields) e in
       let third = both (not d.declared.marks && not d.declared.disabled) (is_none d.declared.statics) last.first in
-      let two = both (not d.declared.marks) (not d.declared.disabled) third.first in
-      (
+      let two = both (not d.declared.marks) (not d.declared.disabled) third.first in (
         is.declared.marks.0 (not-true d.declared.marks two.first),
         is.declared.disabled.0 (not-true d.declared.disabled two.second),
         first-none (statics_on h) (statics_on g) d.declared.statics is.declared.statics (none-true d.declared.statics third.second),

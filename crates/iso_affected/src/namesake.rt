@@ -13,11 +13,7 @@ use std::alloc::{AllocError, Global};
 use std::collections::BTreeMap;
 
 /// The namesakes in the first plan of the nodes of the second, by their numbers.
-pub fn namesakes(
-    alloc: Global,
-    one: &Plan,
-    other: &Plan,
-) -> Result<Vec<Option<u32>>, AllocError>
+pub fn namesakes(alloc: Global, one: &Plan, other: &Plan) -> Result<Vec<Option<u32>>, AllocError>
     ensures { IfOk result (λ v. v.items ≡ column (namesake (tree_of one.now) (tree_of other.now)) (length other.now.rows)) }
 {
     nodes_are_a_tree(one);
@@ -57,12 +53,7 @@ pub(crate) fn namesake_in(
 }
 
 /// The first child of a class with this name.
-fn child_named(
-    plan: &Plan,
-    names: &[BTreeMap<&str, u32>],
-    class: u32,
-    name: &str,
-) -> Option<u32>
+fn child_named(plan: &Plan, names: &[BTreeMap<&str, u32>], class: u32, name: &str) -> Option<u32>
     requires within { class < length plan.now.rows }
     requires names { FindChildren (tree_of plan.now) names.now }
     ensures named { result ≡ child_named (tree_of plan.now) name.now (Some class) }

@@ -17,7 +17,7 @@ some_rows =
     ∷ block_row B.Test None (Some (spot 0 (codes "cart.jtap") 12 (codes "    assert_equal 6, price + 2;"))) (Some (spot 0 (codes "cart.jtap") 11 (codes "assert_equal 6, price + 1;")))
     ∷ node_row Changed (codes "shop.Env.reads")
     ∷ block_row (B.Class BeforeEach) (Some (codes "shop.Env")) (Some (spot 1 (codes "env.jtap") 7 (codes "  set_prop \"mode\", \"fast\";")))
-        (Some (spot 1 (codes "env.jtap") 7 (codes "  set_prop \"mode\", \"slow\";")))
+    (Some (spot 1 (codes "env.jtap") 7 (codes "  set_prop \"mode\", \"slow\";")))
     ∷ start_row (codes "java.lang.System.properties") None (Some (codes "db.url"))
     ∷ node_row New (codes "shop.Cart.removes")
     ∷ node_row Gone (codes "shop.Cart.deletes")

@@ -69,8 +69,22 @@ fn add_declared<'a>(
     add_part(rows, difference.kind, kind_part(now), of)?;
     add_part(rows, declared.marks, Part::Marks, of)?;
     add_part(rows, declared.disabled, Part::Disabled, of)?;
-    add_variable(rows, declared.statics, Part::Static, was.statics(), now.statics(), of)?;
-    add_variable(rows, declared.fields, Part::Field, was.fields(), now.fields(), of)
+    add_variable(
+        rows,
+        declared.statics,
+        Part::Static,
+        was.statics(),
+        now.statics(),
+        of,
+    )?;
+    add_variable(
+        rows,
+        declared.fields,
+        Part::Field,
+        was.fields(),
+        now.fields(),
+        of,
+    )
 }
 
 /// Which kind a head has become.
@@ -157,11 +171,43 @@ fn add_blocks<'a>(
     let before_each = Block::Class(Lifecycle::BeforeEach);
     let after_each = Block::Class(Lifecycle::AfterEach);
     let after_all = Block::Class(Lifecycle::AfterAll);
-    add_block(rows, change, node, namesake, before_all, blocks.before_all, of)?;
-    add_block(rows, change, node, namesake, before_each, blocks.before_each, of)?;
+    add_block(
+        rows,
+        change,
+        node,
+        namesake,
+        before_all,
+        blocks.before_all,
+        of,
+    )?;
+    add_block(
+        rows,
+        change,
+        node,
+        namesake,
+        before_each,
+        blocks.before_each,
+        of,
+    )?;
     add_block(rows, change, node, namesake, Block::Test, blocks.test, of)?;
-    add_block(rows, change, node, namesake, after_each, blocks.after_each, of)?;
-    add_block(rows, change, node, namesake, after_all, blocks.after_all, of)
+    add_block(
+        rows,
+        change,
+        node,
+        namesake,
+        after_each,
+        blocks.after_each,
+        of,
+    )?;
+    add_block(
+        rows,
+        change,
+        node,
+        namesake,
+        after_all,
+        blocks.after_all,
+        of,
+    )
 }
 
 /// Adds the row of a block, where it differs.

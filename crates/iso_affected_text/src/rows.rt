@@ -19,10 +19,7 @@ use std::alloc::{AllocError, Global};
 
 /// The rows of the nodes that a change can alter, as they are written: those of the new suite that are changed, each with its reasons, or new,
 /// and behind them those of the old suite that are gone.
-pub fn affected_rows<'a>(
-    alloc: Global,
-    change: &Change<'a>,
-) -> Result<Vec<Row<'a>>, AllocError>
+pub fn affected_rows<'a>(alloc: Global, change: &Change<'a>) -> Result<Vec<Row<'a>>, AllocError>
     requires { IsChange change.now }
     ensures { IfOk result (λ rows. map row_of rows.items ≡ affected_rows (change_of change.now)) }
 {
@@ -46,11 +43,7 @@ fn add_nodes<'a>(rows: &mut Vec<Row<'a>>, change: &Change<'a>) -> Result<(), All
 }
 
 /// Adds the rows of a node of the new suite, if it is told of and isn't the same.
-fn add_node<'a>(
-    rows: &mut Vec<Row<'a>>,
-    change: &Change<'a>,
-    node: u32,
-) -> Result<(), AllocError>
+fn add_node<'a>(rows: &mut Vec<Row<'a>>, change: &Change<'a>, node: u32) -> Result<(), AllocError>
     requires change { IsChange change.now }
     requires node { IsNode (tree_of change.now.new.plan.now) node }
     ensures { OnOk result (map row_of rows.new.items ≡ map row_of rows.old.items ++ node_rows (change_of change.now) node) }
