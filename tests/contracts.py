@@ -5,6 +5,8 @@ TESTS = {"iso_parts_tests", "iso_book_tests", "iso_floor_tests", "iso_times_test
 CLAUSE = re.compile(r"(requires|ensures|ghost)\b")
 ITEM = re.compile(r"(?P<shown>pub )?(unsafe )?(?P<kind>impl|trait|fn|mod)\b")
 NAME = re.compile(r"(?:pub )?(?:unsafe )?(?:fn|trait|mod) (\w+)")
+# Texts, characters and comments, in which a brace opens nothing.
+UNCOUNTED = re.compile(r'"(?:\\.|[^"\\])*"|\'(?:\\.|[^\'\\])\'|//[^\n]*')
 # The type of an `impl`, behind its parameters and its trait.
 OWNER = re.compile(r"impl(?P<parameters><.*?>(?= ))? (?:(?P<trait>.+?) for )?(?P<type>.+?) \{")
 
@@ -16,8 +18,9 @@ def joined(lines):
 
 
 def depth_of(text):
-    """How many braces of a text are open at its end."""
-    return text.count("{") - text.count("}")
+    """How many braces of code are open at its end. Those in texts and comments aren't counted."""
+    code = UNCOUNTED.sub("", text)
+    return code.count("{") - code.count("}")
 
 
 class Reader:
@@ -31,6 +34,8 @@ class Reader:
         """A clause or a ghost member, which ends where its braces are closed."""
         first = self.at
         while depth_of("\n".join(self.lines[first:self.at + 1])) > 0 or "{" not in "\n".join(self.lines[first:self.at + 1]):
+            if self.at == len(self.lines):
+                raise ValueError(f"no end of a clause: {self.lines[first]}")
             self.at += 1
         self.at += 1
         return joined(self.lines[first:self.at]).rstrip(";")

@@ -1,17 +1,14 @@
 //! What mends bytes that are no script.
-ghost use Rattle.std.specs.Prelude.{◌≡◌, ℕ, IfErr, IfOk, IfSome, List, None, OnErr, OnOk, option_map};
+ghost use Rattle.std.specs.Prelude.{◌≡◌, ℕ, IfErr, List, OnErr, OnOk, option_map};
 ghost use Rattle.iso_explain.specs.Explanations.{explanation};
-ghost use Rattle.iso_explain.specs.Scripts.{IsBegun, IsTold};
+ghost use Rattle.iso_explain.specs.Scripts.{IsBegun, explained_text};
 ghost use Rattle.iso_explain.specs.Spots.{IsSpotOf};
-ghost use Rattle.iso_model.specs.Scripts as S;
-ghost use Rattle.iso_script.specs.Faults.{HasScriptFault};
-ghost use Rattle.iso_script.specs.Grammar.{Reads};
 ghost use Rattle.iso_tap.specs.Sinks.{CutOff, Wrote};
 
 use crate::explanation::write_at;
 use crate::meant::meant;
 use crate::spot::{Spot, spot_of};
-use iso_script::explain::{Explained, why};
+use iso_script::explain::Explained;
 use iso_tap::printer::Printer;
 use iso_tap::sink::{Sink, SinkFailed};
 use std::alloc::{AllocError, Global};
@@ -23,29 +20,21 @@ pub enum ExplainError {
     SinkFailed,
 }
 
-/// Reads bytes again that are no script, and writes what mends them. Of a script nothing is written. What is read takes
-/// memory from `alloc` until it is written.
-pub fn explain_script<'a, W: Sink>(
+/// Writes what mends bytes that are no script, of which `read_or_why` has said why. It takes memory from `alloc` until it is written.
+pub fn explain_script<W: Sink>(
     alloc: Global,
-    bytes: &'a [u8],
+    bytes: &[u8],
+    explained: &Explained<'_>,
     sink: &mut W,
-) -> Result<Option<Explained<'a>>, ExplainError>
-    // Nothing is explained of a script, and of it alone.
-    ensures script { IfOk result (λ told. told ≡ None → (s : S.Script) × Reads bytes.now s) }
-    ensures refused { (s : S.Script) → Reads bytes.now s → IfOk result (λ told. told ≡ None) }
-    // The fault that is explained is that of the bytes.
-    ensures fault { IfOk result (λ told. IfSome told (λ e. HasScriptFault bytes.now e.fault)) }
-    // The explanation was written, or the beginning of one.
-    ensures told { IfOk result (IsTold bytes.now (W.account sink.old) (W.account sink.new)) }
-    ensures begun { IfErr result (IsBegun bytes.now (W.account sink.old) (W.account sink.new)) }
+) -> Result<(), ExplainError>
+    // The explanation was written, or where the sink failed the beginning of it.
+    ensures told { OnOk result (Wrote (W.account sink.old) (W.account sink.new) (explained_text bytes.now explained.now)) }
+    ensures begun { IfErr result (IsBegun (explained_text bytes.now explained.now) (W.account sink.old) (W.account sink.new)) }
 {
-    let Some(explained) = why(alloc, bytes)? else {
-        return Ok(None);
-    };
     let spot = spot_of(bytes, explained.fault);
-    let word = meant(alloc, &spot.place, &explained)?;
-    tell(&spot, &explained, word, sink)?;
-    Ok(Some(explained))
+    let word = meant(alloc, &spot.place, explained)?;
+    tell(&spot, explained, word, sink)?;
+    Ok(())
 }
 
 /// Writes the explanation of a fault that is here.

@@ -1,11 +1,12 @@
 -- How what came of a run is answered.
 use Rattle.std.specs.Bool.{⊤}
 use Rattle.std.specs.Borrow.{Bor}
-use Rattle.std.proofs.Common.{◌≡◌, ◌≢◌, inl, inr, ℕ, List, [], ◌∷◌, Option, Some, None, Bool, Result, Ok, Err, IfErr, IsErrAnd, MatchResult, OnOk, true, ap, ap₂, sym, subst, ◌∙◌}
+use Rattle.std.proofs.Common.{◌≡◌, ◌≢◌, inl, inr, ℕ, List, [], ◌∷◌, Option, Some, None, Bool, Result, Ok, Err, IfErr, IsErrAnd, MatchResult, OnOk, true, refl, ap, sym, subst, ◌∙◌}
+use Rattle.iso_arguments.specs.declared.request.Extras.{Extras}
 use Rattle.iso_arguments.specs.declared.request.InputFiles.{InputFiles}
 use Rattle.iso_arguments.specs.Requests.{NamesNothing}
 use Rattle.iso_run.proofs.Late.{late-so}
-use Rattle.iso_run.specs.Commands.{AreFor, IsRefused, way_of}
+use Rattle.iso_run.specs.Commands.{AreFor, IsRefused, files_asked, way_of}
 use Rattle.iso_run.specs.Ends.{End, Whole, LacksFile, Refuses, GivesUp, BreaksOff, Answers, IfLate, IsEnded, IsOfFile, Leaves, NamesFile, command_end, end_of, run_end}
 use Rattle.iso_run.specs.Replays.{Cause}
 use Rattle.iso_run.specs.Runs.{IsWritten, Product, TellsOf, Writes, suite_outcome, suite_report}
@@ -17,7 +18,7 @@ use Rattle.iso_run.specs.declared.report.Summary.{Summary}
 use Rattle.iso_run.specs.declared.way.Way.{Way}
 use Rattle.iso_tap.specs.Sinks.{Account, HasFailed, Wrote, failures_after}
 use Rattle.iso_github.specs.Errors.{errors_text}
-use Rattle.iso_run.specs.Besides.{IsQuiet, files_of}
+use Rattle.iso_run.specs.Besides.{IsQuiet, NamesNone, files_of}
 use Rattle.iso_run.specs.declared.besides.Besides.{Besides}
 use Rattle.iso_telling.specs.NodePlaces.{node_places}
 use Rattle.iso_telling.specs.Telling.{IsSummarized, IsTimed, IsTold, summary_of}
@@ -40,13 +41,16 @@ answered-as P Q f C D k old new result h =
     weaker ⊤ P Q (λ late ok h. f ok h) C D k _ _ (λ failed. failed) old new end (late-so ⊤ end tt) h
 
 -- the files of what is told besides, by their names
-pub files-named : (besides : Besides) (failed junit : Option (Bor (List ℕ))) → besides.failed ≡ failed → besides.junit ≡ junit → files_of besides ≡ failed ∷ junit ∷ []
-files-named besides failed junit f j = ap₂ (λ (a b : Option (Bor (List ℕ))). a ∷ b ∷ []) f j
+pub files-named : (besides : Besides) (extras : Extras) → besides.failed ≡ extras.failed → besides.junit ≡ extras.junit → besides.schedule ≡ extras.«record» → besides.trace ≡ extras.trace
+    → files_of besides ≡ files_asked extras
+files-named besides extras failed junit schedule trace = rw (failed, junit, schedule, trace) refl
 
-pub no-file : (failed junit : Option (Bor (List ℕ))) → failed ≡ None → junit ≡ None → NamesFile (failed ∷ junit ∷ []) → ⊥
-no-file failed junit f j (inl named) = named f
-no-file failed junit f j (inr (inl named)) = named j
-no-file failed junit f j (inr (inr none)) = none
+pub no-file : (besides : Besides) → NamesNone besides → NamesFile (files_of besides) → ⊥
+no-file besides none (inl named) = named none.0
+no-file besides none (inr (inl named)) = named none.1
+no-file besides none (inr (inr (inl named))) = named none.2
+no-file besides none (inr (inr (inr (inl named)))) = named none.3
+no-file besides none (inr (inr (inr (inr nothing)))) = nothing
 
 -- what is left beside a file that is lacking of these, where this is true of a whole output
 abbrev pub Lacking : (Account → Bool → Type 0) → List (Option (Bor (List ℕ))) → Account → Type 0

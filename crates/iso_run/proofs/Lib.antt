@@ -1,10 +1,12 @@
 mod Answering
 mod Captures
+mod Coursing
 mod Documents
 mod Ending
 mod Late
 mod Lending
 mod Plans
+mod Printing
 mod Reading
 mod Replaying
 mod Reporting

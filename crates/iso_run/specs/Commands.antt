@@ -6,6 +6,7 @@ use Rattle.std.specs.Global.{Global}
 use Rattle.iso_arguments.specs.Requests.{IsCount, IsPlainRun, NamesNothing}
 use Rattle.iso_arguments.specs.declared.processors.Processors.{Processors}
 use Rattle.iso_arguments.specs.declared.processors.Processors.TheVariants.{Count, Auto}
+use Rattle.iso_arguments.specs.declared.request.Extras.{Extras}
 use Rattle.iso_arguments.specs.declared.request.InputFiles.{InputFiles}
 use Rattle.iso_arguments.specs.declared.request.Request.{Request}
 use Rattle.iso_arguments.specs.declared.request.Request.TheVariants.{Run, Plan, Conflicts, Replay, Check, Settings, Show}
@@ -137,6 +138,10 @@ pub record Answered {A : Type 0} (words : List A) (input : Option (List ℕ)) (o
   pub plain : words ≡ [] → IsPlainRun request
   pub did : Did request input old new ok
 
+-- the files that are asked for besides, where they are named
+abbrev pub files_asked : Extras → List (Option (Bor (List ℕ)))
+files_asked extras = extras.failed ∷ extras.junit ∷ extras.«record» ∷ extras.trace ∷ []
+
 -- the files that a request has written besides, where it names them
 abbrev pub files_named : Request → List (Option (Bor (List ℕ)))
 files_named (Show text) = []
@@ -144,8 +149,8 @@ files_named (Plan tests places why files) = []
 files_named (Conflicts files) = []
 files_named (Check files) = []
 files_named (Settings name processors explain) = []
-files_named (Run serial extras files) = extras.failed ∷ extras.junit ∷ []
-files_named (Replay name extras files) = extras.failed ∷ extras.junit ∷ []
+files_named (Run serial extras files) = files_asked extras
+files_named (Replay name extras files) = files_asked extras
 
 -- What a request asks for was done, and it names a file to be written besides.
 abbrev pub DidBesides : Request → Option (List ℕ) → (old new : Account) → Type 0

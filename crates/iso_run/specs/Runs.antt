@@ -1,5 +1,6 @@
 -- What a run, a replay and a printed plan write, whole, or why not.
 use Rattle.std.specs.Borrow.{Bor}
+use Rattle.std.specs.Int.{IsInRange}
 use Rattle.std.specs.Prelude.{◌≡◌, ℕ, ◌<◌, List, Bool, true, cond, length, map, take, Option, Result, IfErr}
 use Rattle.iso_run.specs.Ends.{Leaves, end_of, run_end}
 use Rattle.iso_run.specs.Replays.{Cause, IsPlayed}
@@ -13,7 +14,7 @@ use Rattle.iso_lifecycle.specs.Subjects.{outcome_alone, started}
 use Rattle.iso_model.specs.ScriptView.{script_of}
 use Rattle.iso_model.specs.Scripts.{Script}
 use Rattle.iso_model.specs.declared.outcome.Outcome.{Outcome}
-use Rattle.iso_conflicts.specs.Conflicts.{conflicts_text}
+use Rattle.iso_conflicts.specs.ConflictsText.{conflicts_text}
 use Rattle.iso_placed_plan.specs.PlacedPlan.{placed_plan_text, placed_tests_text}
 use Rattle.iso_places.specs.Located.{AreSites}
 use Rattle.iso_places.specs.Sites.{all_sites, places_in}
@@ -74,10 +75,11 @@ pub record Writes {A : Type 0} (ok_of : A → Bool) (product : Suite → Product
   pub leaves : Leaves (IsWritten product inputs way old new) ⊥
       (OfSuite inputs (λ suite. IfErr result (IsCutOff (product suite).text old new))) old new (end_of ok_of run_end result)
 
--- The inputs are the suite that was read, with its plan, and with the places of its scripts' nodes, where these are kept.
+-- The inputs are the suite that was read, with its plan, with 1 to 64 workers, and with the places of its scripts' nodes, where these are kept.
 pub record IsRead (inputs : Inputs) (keeps : Bool) (suite : ReadSuite) : Type 0 where
   pub is_suite : IsSuite inputs (suite_of inputs suite)
   pub planned_as : suite.plan ≡ planned (suite_of inputs suite)
+  pub manned : IsInRange 1 64 suite.settings.worker_count
   pub placed : keeps ≡ true → ArePlaced (texts inputs.scripts.now) (map script_of suite.scripts.items) (places_in suite.places.items)
 
 -- a suite that was read, as it is written in these bytes

@@ -5,6 +5,7 @@ ghost use Rattle.iso_run.specs.Besides.{IsPlain};
 ghost use Rattle.iso_run.specs.Commands.{again_of, tells_of_skipped};
 ghost use Rattle.iso_telling.specs.Telling.{nothing_yet, told_nothing};
 
+use crate::course::Course;
 use iso_arguments::request::{Extras, InputFiles, Summarized};
 use iso_summary::again::Again;
 use iso_tap::memory::MemorySink;
@@ -19,6 +20,12 @@ pub(crate) struct Besides<'b, 'a> {
     pub failed: Option<&'a str>,
     /// The file into which the results are written as JUnit's XML.
     pub junit: Option<&'a str>,
+    /// What is told of the course of the run.
+    pub course: Course,
+    /// The file into which the events of the run are written.
+    pub schedule: Option<&'a str>,
+    /// The file into which its trace is written.
+    pub trace: Option<&'a str>,
 }
 
 impl<'b, 'a> Besides<'b, 'a> {
@@ -30,10 +37,13 @@ impl<'b, 'a> Besides<'b, 'a> {
             tells: Tells::nothing(),
             failed: None,
             junit: None,
+            course: Course::nothing(),
+            schedule: None,
+            trace: None,
         }
     }
 
-    /// What is asked for with these files, where so many processors are counted with.
+    /// What is asked for with these files, where so many processors are counted with, and nothing of the course of a run.
     pub fn new(
         alloc: Global,
         extras: Extras<'a>,
@@ -42,6 +52,8 @@ impl<'b, 'a> Besides<'b, 'a> {
     ) -> Besides<'b, 'a>
         ensures failed_file { result.failed ≡ extras.entry.failed }
         ensures junit_file { result.junit ≡ extras.entry.junit }
+        ensures schedule_file { result.schedule ≡ extras.entry.«record» }
+        ensures trace_file { result.trace ≡ extras.entry.trace }
         ensures names { result.tells.names.now ≡ files.now.scripts.items }
         ensures failed { result.tells.failed ≡ told_nothing (is_some extras.entry.failed) }
         ensures junit { result.tells.junit ≡ told_nothing (is_some extras.entry.junit) }
@@ -77,12 +89,15 @@ impl<'b, 'a> Besides<'b, 'a> {
             },
             failed: extras.failed,
             junit: extras.junit,
+            course: Course::nothing(),
+            schedule: extras.record,
+            trace: extras.trace,
         }
     }
 }
 
 /// A text of which nothing was told, where one is asked for.
-fn asked_text(alloc: Global, asked: bool) -> Option<MemorySink>
+pub(crate) fn asked_text(alloc: Global, asked: bool) -> Option<MemorySink>
     ensures { result ≡ told_nothing asked }
 {
     if asked {

@@ -9,13 +9,13 @@ use crate::command_fault::CommandFault;
 use crate::exit::FAILED;
 use crate::fault::RunFault;
 use crate::files::{FileReads, all_of, read_each};
-use crate::inputs::{settings_from, world_from};
+use crate::inputs::{placed, settings_from, world_from};
 use crate::lines::say;
-use crate::mending::{script_mending, settings_mending, suite_of, world_mending};
+use crate::mending::{settings_mending, suite_of, world_mending};
+use crate::script_mending::ScriptMending;
 use crate::warning::say_warnings;
 use iso_arguments::request::InputFiles;
 use iso_script::fault::ScriptError;
-use iso_script::reader::read_script;
 use iso_settings::fault::SettingsError;
 use iso_tap::sink::Sink;
 use std::alloc::{AllocGlobal, Global};
@@ -58,12 +58,13 @@ fn accept_reads<'a, E: Sink>(
     ensures { (input : Option (List ℕ)) → AreReads files.now input reads.entry → IfOk result (λ _. IsAcceptedFor files.now input) }
 {
     let bytes = all_of(alloc, reads)?;
-    match suite_of(alloc, &bytes, &*files) {
+    let mut mending = ScriptMending::unasked();
+    match suite_of(alloc, &bytes, &*files, &mut mending) {
         Ok(suite) => {
             say_warnings(alloc, &bytes, &suite, &*files, errors);
             Ok(())
         }
-        Err(fault) if told.is_empty() => Err(named(alloc, fault, bytes, files, false)),
+        Err(fault) if told.is_empty() => Err(named(alloc, fault, mending, bytes, files, false)),
         Err(fault) => Err(CommandFault::Run(fault, None)),
     }
 }
@@ -165,11 +166,12 @@ impl Tally {
                 return;
             }
         };
-        match read_script(alloc, bytes) {
+        let mut mending = ScriptMending::new(files.explain);
+        match placed(alloc, bytes, &mut mending) {
             Ok(_) => {}
             Err(ScriptError::Fault(fault)) => {
                 let name = files.scripts.get(number).copied();
-                let text = script_mending(alloc, bytes, files);
+                let text = mending.into_text();
                 self.tell(
                     &with_mending(RunFault::Script(number, fault), name, text),
                     errors,

@@ -4,7 +4,8 @@ ghost use Rattle.std.specs.Option.{option_copied};
 ghost use Rattle.iso_arguments.specs.Requests.{AreInBounds, AsksInBounds, IsPlainRun, IsShard};
 ghost use Rattle.iso_places.specs.declared.site.Site.{Site};
 ghost use Rattle.iso_plan.specs.Selections.{texts_of};
-ghost use Rattle.iso_run.specs.Besides.{IsQuiet, IsSaid, files_of, parted, parts_of};
+ghost use Rattle.iso_run.specs.Besides.{IsQuiet, IsSaid, NamesNone, files_of, parted, parts_of};
+ghost use Rattle.iso_run.specs.Courses.{IsUnasked};
 ghost use Rattle.iso_run.specs.Commands.{Answered, AnsweredBesides, ArePlaces, AreFor, Did, DidBesides, Ended, IsRefused, RanOn, WereRead, plan_of, shard_asked, way_of};
 ghost use Rattle.iso_run.specs.Ends.{Answers, IfLate, IsEnded, IsFlushed, Refuses, command_end, end_of, exit_status, run_end, words_fault};
 ghost use Rattle.iso_run.specs.Runs.{Writes, suite_conflicts, suite_report};
@@ -15,6 +16,7 @@ ghost use Rattle.iso_tap.specs.Sinks.{Wrote};
 use crate::besides::Besides;
 use crate::check::check;
 use crate::command_fault::CommandFault;
+use crate::course::Course;
 use crate::exit::{ALL_OK, NOT_ALL_OK};
 use crate::fault::RunFault;
 use crate::files::{InputBytes, lent, read_files};
@@ -24,13 +26,15 @@ use crate::lines::say;
 use crate::mending::after_fault;
 use crate::parts::say_parts;
 use crate::plan::{show_conflicts, show_places, show_plan, show_tests, show_why};
+use crate::progress::{Progress, Unshown, show as show_progress};
 use crate::replay::run_schedule;
 use crate::report::Summary;
-use crate::run::run_serial;
+use crate::run::run_serial_shown;
+use crate::script_mending::ScriptMending;
 use crate::settings::show_settings;
 use crate::warning::looked_over;
 use crate::way::Way;
-use crate::workers::run_workers;
+use crate::workers::run_workers_shown;
 use iso_arguments::request::{InputFiles, Request, WordsFault, read_words};
 use iso_arguments::shard::Shard as AskedShard;
 use iso_lifecycle::gate::OpenGate;
@@ -42,7 +46,7 @@ use iso_tap::text::write_text;
 use iso_telling::tells::Tells;
 use std::alloc::{AllocGlobal, Global};
 use std::fs::Files;
-use std::io::Read;
+use std::io::{Eprint, IsTerminal, Read};
 use std::rt::Clock;
 use std::sync::Wait;
 use std::thread::Threads;
@@ -52,13 +56,14 @@ use std::thread::Threads;
 /// from `input`. Answers the exit status: 0 where every top-level point is ok, or a plan or help was printed, 1 where
 /// some top-level point is not ok, 2 for refused input, 3 for want of memory, failed reads and writes, and workers that couldn't be
 /// started or lost a receipt. A failed write to `errors` changes nothing. It may wait for the workers of a run.
-pub fn command<G: AllocGlobal + Clock + Files + Threads + Wait + Sync, R: Read, W: Sink, E: Sink>(
-    rt: &G,
-    words: &[String],
-    input: &mut R,
-    output: &mut W,
-    errors: &mut E,
-) -> u8
+/// How far a run has come, where that is asked for, is shown on the terminal that standard error is, if it is one.
+pub fn command<
+    G: AllocGlobal + Clock + Files + Threads + Wait + Copy + Send + Sync + Drop + 'static,
+    R: Read,
+    W: Sink,
+    E: Sink,
+    T: Eprint + IsTerminal + Copy + Send + Drop + 'static,
+>(rt: &G, words: &[String], input: &mut R, output: &mut W, errors: &mut E, terminal: T) -> u8
     ensures ended { Ended words.now (R.remaining input.old) (W.account output.old) (W.account output.new) result }
     // Without words, what was run is the script on the input.
     ensures no_word { words.now ≡ [] → IfSome (R.remaining input.old) (λ script. result ≤ 1
@@ -68,7 +73,7 @@ pub fn command<G: AllocGlobal + Clock + Files + Threads + Wait + Sync, R: Read, 
     // and standard error is asked nothing where it was run.
     ensures quiet { words.now ≡ [] → result ≤ 1 → errors.new ≡ errors.old }
 {
-    match answer(rt, words, input, output, errors) {
+    match answer(rt, words, input, output, errors, terminal) {
         Ok(true) => ALL_OK,
         Ok(false) => NOT_ALL_OK,
         Err(fault) => {
@@ -88,12 +93,20 @@ pub fn refuse_words<E: Sink>(fault: WordsFault, errors: &mut E) -> u8
 }
 
 /// Does what the words ask for, and answers whether all is ok.
-fn answer<'a, G: AllocGlobal + Clock + Files + Threads + Wait + Sync, R: Read, W: Sink, E: Sink>(
+fn answer<
+    'a,
+    G: AllocGlobal + Clock + Files + Threads + Wait + Copy + Send + Sync + Drop + 'static,
+    R: Read,
+    W: Sink,
+    E: Sink,
+    T: Eprint + IsTerminal + Copy + Send + Drop + 'static,
+>(
     rt: &G,
     words: &'a [String],
     input: &mut R,
     output: &mut W,
     errors: &mut E,
+    terminal: T,
 ) -> Result<bool, CommandFault<'a>>
     ensures answers { Answers (Answered words.now (R.remaining input.old) (W.account output.old) (W.account output.new))
         (AnsweredBesides words.now (R.remaining input.old) (W.account output.old) (W.account output.new))
@@ -102,22 +115,24 @@ fn answer<'a, G: AllocGlobal + Clock + Files + Threads + Wait + Sync, R: Read, W
     ensures quiet { words.now ≡ [] → errors.new ≡ errors.old }
 {
     let request = read_words(rt.alloc(), words)?;
-    answer_request(rt, &request, input, output, errors)
+    answer_request(rt, &request, input, output, errors, terminal)
 }
 
 /// Does what is asked for, and answers whether all is ok.
 fn answer_request<
     'a,
-    G: AllocGlobal + Clock + Files + Threads + Wait + Sync,
+    G: AllocGlobal + Clock + Files + Threads + Wait + Copy + Send + Sync + Drop + 'static,
     R: Read,
     W: Sink,
     E: Sink,
+    T: Eprint + IsTerminal + Copy + Send + Drop + 'static,
 >(
     rt: &G,
     request: &Request<'a>,
     input: &mut R,
     output: &mut W,
     errors: &mut E,
+    terminal: T,
 ) -> Result<bool, CommandFault<'a>>
     requires { AsksInBounds request.now }
     ensures answers { Answers (Did request.now (R.remaining input.old) (W.account output.old) (W.account output.new))
@@ -173,14 +188,19 @@ fn answer_request<
             let read = read_files(rt, files, None, input)?;
             let bytes = looked_over(rt.alloc(), read, files, extras.github, errors)?;
             let mut besides = Besides::new(rt.alloc(), *extras, &*files, bytes.processors);
-            let ran = run(
+            let mut course = Course::asked(rt.alloc(), *extras);
+            let ran = run_shown(
                 rt,
                 &bytes,
                 asked_way(*serial),
                 &*files,
+                extras.progress,
+                terminal,
                 &mut besides.tells,
+                &mut course,
                 output,
             );
+            besides.course = course;
             told(rt, ran, bytes, files, &besides, output, errors)
         }
         Request::Replay {
@@ -192,7 +212,16 @@ fn answer_request<
             let bytes = looked_over(rt.alloc(), read, files, extras.github, errors)?;
             let mut besides = Besides::new(rt.alloc(), *extras, &*files, bytes.processors);
             let way = Way::BySchedule(&bytes.schedule);
-            let ran = run(rt, &bytes, way, &*files, &mut besides.tells, output);
+            let ran = run(
+                rt,
+                &bytes,
+                way,
+                &*files,
+                &mut Unshown,
+                &mut besides.tells,
+                &mut Course::nothing(),
+                output,
+            );
             told(rt, ran, bytes, files, &besides, output, errors)
         }
     }
@@ -216,13 +245,21 @@ fn asked_way(serial: bool) -> Way<'static>
     if serial { Way::Serial } else { Way::ByWorkers }
 }
 
-/// Runs in some way what these bytes are, as it is asked for with these files, and writes its report.
-fn run<'b, G: AllocGlobal + Clock + Threads + Wait + Sync, W: Sink>(
+/// Runs what these bytes are as `run` does, and shows on the terminal how far the run has come, if that is asked for and it is one.
+fn run_shown<
+    'b,
+    G: AllocGlobal + Clock + Threads + Wait + Copy + Send + Sync + Drop + 'static,
+    T: Eprint + IsTerminal + Copy + Send + Drop + 'static,
+    W: Sink,
+>(
     rt: &G,
     bytes: &'b InputBytes,
     way: Way<'_>,
     files: &'b InputFiles<'b>,
+    asked: bool,
+    terminal: T,
     tells: &mut Tells<'_>,
+    course: &mut Course,
     output: &mut W,
 ) -> Result<Summary, RunFault>
     requires bounds { AreInBounds files.now }
@@ -230,13 +267,49 @@ fn run<'b, G: AllocGlobal + Clock + Threads + Wait + Sync, W: Sink>(
     ensures report { (input : Option (List ℕ)) → WereRead files.now input bytes.now → (inputs : Inputs) × AreFor files.now input inputs
         × Writes (λ s. s.all_ok) suite_report inputs way.entry (W.account output.old) (W.account output.new) result }
     ensures quiet { IsQuiet tells.old → OnOk result (IsQuiet tells.new) }
+    ensures unasked { IsUnasked course.old → OnOk result (IsUnasked course.new) }
+{
+    let shown = asked && terminal.is_terminal();
+    let mut progress = show_progress(*rt, rt.alloc(), terminal, shown);
+    let ran = run(rt, bytes, way, files, &mut progress, tells, course, output);
+    // The inputs may have been refused before the run.
+    progress.ends();
+    ran
+}
+
+/// Runs in some way what these bytes are, as it is asked for with these files, and writes its report.
+fn run<'b, G: AllocGlobal + Clock + Threads + Wait + Sync, P: Progress, W: Sink>(
+    rt: &G,
+    bytes: &'b InputBytes,
+    way: Way<'_>,
+    files: &'b InputFiles<'b>,
+    progress: &mut P,
+    tells: &mut Tells<'_>,
+    course: &mut Course,
+    output: &mut W,
+) -> Result<Summary, RunFault>
+    requires bounds { AreInBounds files.now }
+    requires counted { 1 ≤ bytes.now.processors }
+    ensures report { (input : Option (List ℕ)) → WereRead files.now input bytes.now → (inputs : Inputs) × AreFor files.now input inputs
+        × Writes (λ s. s.all_ok) suite_report inputs way.entry (W.account output.old) (W.account output.new) result }
+    ensures quiet { IsQuiet tells.old → OnOk result (IsQuiet tells.new) }
+    ensures unasked { IsUnasked course.old → OnOk result (IsUnasked course.new) }
 {
     let shard = shard_of(files.shard);
     let scripts = lent(rt.alloc(), &bytes.scripts)?;
     let inputs = inputs_of(bytes, &scripts, files, shard);
     match way {
-        Way::Serial => run_serial(rt, rt.alloc(), inputs, tells, output),
-        Way::ByWorkers => run_workers(rt, rt.alloc(), inputs, &OpenGate, tells, output),
+        Way::Serial => run_serial_shown(rt, rt.alloc(), inputs, progress, tells, course, output),
+        Way::ByWorkers => run_workers_shown(
+            rt,
+            rt.alloc(),
+            inputs,
+            &OpenGate,
+            progress,
+            tells,
+            course,
+            output,
+        ),
         Way::BySchedule(schedule) => run_schedule(rt.alloc(), inputs, schedule, tells, output),
     }
 }
@@ -372,18 +445,19 @@ fn told<'a, G: AllocGlobal + Files, W: Sink, E: Sink>(
     ensures answer { MatchResult ran
         (λ s. IsEnded s.all_ok (files_of besides.now) (W.account output.old) (W.account output.new) result)
         (λ fault. (W.account output.new ≡ W.account output.old) × IsErrAnd result (λ told. command_end told ≡ run_end fault)) }
-    ensures said { OnOk result (IsSaid (parted false (parts_of besides.now.tells)) (E.account errors.old) (E.account errors.new)) }
-    ensures quiet { OnOk ran (IsQuiet besides.now.tells) → besides.now.failed ≡ None → besides.now.junit ≡ None → errors.new ≡ errors.old }
+    ensures said { OnOk result (IsSaid (parted false (parts_of files.now bytes.processors besides.now)) (E.account errors.old) (E.account errors.new)) }
+    ensures quiet { OnOk ran (IsQuiet besides.now.tells) → OnOk ran (IsUnasked besides.now.course) → NamesNone besides.now → errors.new ≡ errors.old }
 {
     match ran {
         Ok(summary) => {
             let ok = flushed(summary.all_ok, output)?;
-            say_parts(&besides.tells, errors);
-            filed(rt, ok, besides, errors)
+            let after = say_parts(besides, files, bytes.processors, errors);
+            filed(rt, ok, besides, after, errors)
         }
         Err(fault) => {
             let github = besides.tells.github.is_some();
-            Err(named(rt.alloc(), fault, bytes, files, github))
+            let mending = ScriptMending::unasked();
+            Err(named(rt.alloc(), fault, mending, bytes, files, github))
         }
     }
 }
@@ -403,6 +477,7 @@ pub(crate) fn flushed<W: Sink>(ok: bool, output: &mut W) -> Result<bool, Command
 pub(crate) fn named<'a>(
     alloc: Global,
     fault: RunFault,
+    mending: ScriptMending,
     bytes: InputBytes,
     files: &InputFiles<'a>,
     github: bool,
@@ -411,7 +486,7 @@ pub(crate) fn named<'a>(
     requires counted { 1 ≤ bytes.processors }
     ensures { command_end result ≡ run_end fault }
 {
-    let text = after_fault(alloc, &fault, &bytes, files, github);
+    let text = after_fault(alloc, &fault, mending, &bytes, files, github);
     match fault {
         RunFault::Plan(PlanFault::NotSelected(index)) => not_selected(index, bytes, files, text),
         RunFault::Script(index, _) => {

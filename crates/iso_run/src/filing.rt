@@ -7,27 +7,31 @@ use crate::besides::Besides;
 use crate::command_fault::CommandFault;
 use crate::files::write_file;
 use crate::lines::say;
-use crate::parts::{has_parts, text_bytes};
+use crate::parts::text_bytes;
 use iso_tap::printer::Printer;
 use iso_tap::sink::Sink;
 use std::fs::Files;
 
 /// Writes what is asked for to the files that are named for it, each though another one can't be written, and answers whether all is ok. The last
-/// of the files that can't be written is answered, and each other one is told at once.
+/// of the files that can't be written is answered, and each other one is told at once. Something was told before, or not.
 pub(crate) fn filed<'a, G: Files, E: Sink>(
     rt: &G,
     ok: bool,
     besides: &Besides<'_, 'a>,
+    after: bool,
     errors: &mut E,
 ) -> Result<bool, CommandFault<'a>>
     ensures filed { IsFiled ok (files_of besides.now) result }
     ensures quiet { OnOk result (errors.new ≡ errors.old) }
 {
-    let after = has_parts(&besides.tells);
     let failed = text_bytes(&besides.tells.failed);
-    let lost = unwritten(rt, None, after, besides.failed, failed, errors);
     let junit = text_bytes(&besides.tells.junit);
-    match unwritten(rt, lost, after, besides.junit, junit, errors) {
+    let schedule = text_bytes(&besides.course.schedule);
+    let trace = text_bytes(&besides.course.trace);
+    let lost = unwritten(rt, None, after, besides.failed, failed, errors);
+    let lost = unwritten(rt, lost, after, besides.junit, junit, errors);
+    let lost = unwritten(rt, lost, after, besides.schedule, schedule, errors);
+    match unwritten(rt, lost, after, besides.trace, trace, errors) {
         Some(name) => Err(CommandFault::Unwritable(name)),
         None => Ok(ok),
     }

@@ -1,4 +1,5 @@
 //! What a run is given, read as a suite.
+ghost use Rattle.std.specs.Int.{IsInRange};
 ghost use Rattle.std.specs.Prelude.{◌≡◌, ◌≤◌, ◌++◌, ◌∷◌, [], IfErr, IfOk, List, MatchResult, map, true};
 ghost use Rattle.iso_model.specs.ScriptView.{script_of};
 ghost use Rattle.iso_script.specs.Faults.{HasScriptFault, UnlessMemory};
@@ -12,9 +13,11 @@ ghost use Rattle.iso_settings.specs.Readings.{Gives};
 
 use crate::fault::RunFault;
 use crate::kept::plan_kept;
+use crate::script_mending::ScriptMending;
 use iso_model::script::Script;
 use iso_plan::fault::PlanError;
 use iso_plan::plan::Plan;
+use iso_script::explain::{Unread, read_or_why};
 use iso_script::fault::ScriptError;
 use iso_script::place::NodePlace;
 use iso_script::reader::{PlacedScript, read_placed, read_script};
@@ -62,6 +65,19 @@ pub fn read_inputs(alloc: Global, inputs: Inputs<'_>, places: bool) -> Result<Su
     requires { 1 ≤ inputs.processors }
     ensures { MatchResult result (IsRead inputs.entry places) (NoSuite inputs.entry) }
 {
+    read_explained(alloc, inputs, places, &mut ScriptMending::unasked())
+}
+
+/// Reads inputs as `read_inputs` does. Where places are asked for, it is told what mends the first script that is none, if that is asked for.
+pub(crate) fn read_explained(
+    alloc: Global,
+    inputs: Inputs<'_>,
+    places: bool,
+    mending: &mut ScriptMending,
+) -> Result<Suite, RunFault>
+    requires { 1 ≤ inputs.processors }
+    ensures { MatchResult result (IsRead inputs.entry places) (NoSuite inputs.entry) }
+{
     let settings = match settings_from(alloc, inputs.settings, inputs.processors) {
         Ok(settings) => settings,
         Err(SettingsError::Fault(fault)) => {
@@ -76,7 +92,7 @@ pub fn read_inputs(alloc: Global, inputs: Inputs<'_>, places: bool) -> Result<Su
         }
         Err(SettingsError::OutOfMemory) => return Err(RunFault::Memory),
     };
-    let read = read_scripts(alloc, inputs, places)?;
+    let read = read_scripts(alloc, inputs, places, mending)?;
     match plan_kept(alloc, &read.scripts, &settings, inputs) {
         Ok(plan) => Ok(Suite {
             scripts: read.scripts,
@@ -97,7 +113,8 @@ pub(crate) fn settings_from(
     processors: u32,
 ) -> Result<Settings, SettingsError>
     requires { 1 ≤ processors }
-    ensures { Gives (settings_from bytes.now processors) result }
+    ensures exact { Gives (settings_from bytes.now processors) result }
+    ensures within { IfOk result (λ settings. IsInRange 1 64 settings.worker_count) }
 {
     match str::from_utf8(bytes) {
         Ok(text) => read_settings(alloc, text, processors),
@@ -124,7 +141,12 @@ struct ReadScripts {
 
 /// Reads the scripts of inputs in turn, up to the first that is none, and keeps places, if it is to. Settings and world are read
 /// before.
-fn read_scripts(alloc: Global, inputs: Inputs<'_>, keeps: bool) -> Result<ReadScripts, RunFault>
+fn read_scripts(
+    alloc: Global,
+    inputs: Inputs<'_>,
+    keeps: bool,
+    mending: &mut ScriptMending,
+) -> Result<ReadScripts, RunFault>
     requires { AreSet inputs }
     ensures scripts { MatchResult result (λ r. AreRead (texts inputs.entry.scripts.now) (map script_of r.scripts.items)) (NoSuite inputs.entry) }
     ensures places { IfOk result (λ r. keeps ≡ true
@@ -135,7 +157,7 @@ fn read_scripts(alloc: Global, inputs: Inputs<'_>, keeps: bool) -> Result<ReadSc
         places: Vec::new(alloc),
     };
     for (index, bytes) in inputs.scripts.iter().enumerate() {
-        match read_one(alloc, bytes, keeps, &mut read.places) {
+        match read_one(alloc, bytes, keeps, &mut read.places, mending) {
             Ok(script) => read.scripts.push(script)?,
             Err(ScriptError::Fault(fault)) => {
                 return Err(RunFault::Script(index, fault));
@@ -146,12 +168,14 @@ fn read_scripts(alloc: Global, inputs: Inputs<'_>, keeps: bool) -> Result<ReadSc
     Ok(read)
 }
 
-/// Reads a script, and adds the places of what stands in it, where they are kept.
+/// Reads a script, and adds the places of what stands in it, where they are kept. Of bytes that are none it is told what mends them, where that is
+/// asked for.
 fn read_one(
     alloc: Global,
     bytes: &[u8],
     keeps: bool,
     places: &mut Vec<Vec<NodePlace>>,
+    mending: &mut ScriptMending,
 ) -> Result<Script, ScriptError>
     ensures found { IfOk result (λ s. Reads bytes.now (script_of s)) }
     ensures fault { IfErr result (UnlessMemory (HasScriptFault bytes.now)) }
@@ -164,7 +188,29 @@ fn read_one(
     let PlacedScript {
         script,
         places: more,
-    } = read_placed(alloc, bytes)?;
+    } = placed(alloc, bytes, mending)?;
     places.push(more)?;
     Ok(script)
+}
+
+/// Reads a script with the places of what stands in it. Of bytes that are none it is told what mends them, where that is asked for.
+pub(crate) fn placed(
+    alloc: Global,
+    bytes: &[u8],
+    mending: &mut ScriptMending,
+) -> Result<PlacedScript, ScriptError>
+    ensures found { IfOk result (λ p. ReadsPlaced bytes.now (script_of p.script) p.places.items) }
+    ensures fault { IfErr result (UnlessMemory (HasScriptFault bytes.now)) }
+{
+    if !mending.is_asked() {
+        return read_placed(alloc, bytes);
+    }
+    match read_or_why(alloc, bytes, true) {
+        Ok(placed) => Ok(placed),
+        Err(Unread::OutOfMemory) => Err(ScriptError::OutOfMemory),
+        Err(Unread::Refused(explained)) => {
+            mending.explain(alloc, bytes, &explained);
+            Err(ScriptError::Fault(explained.fault))
+        }
+    }
 }

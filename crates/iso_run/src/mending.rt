@@ -9,11 +9,11 @@ ghost use Rattle.iso_run.specs.declared.inputs.Inputs.{Inputs};
 use crate::command::{inputs_of, shard_of};
 use crate::fault::RunFault;
 use crate::files::{InputBytes, lent};
-use crate::inputs::{Suite, read_inputs};
+use crate::inputs::{Suite, read_explained};
 use crate::lines::{STDIN, listed_at};
+use crate::script_mending::ScriptMending;
 use crate::settings::SETTINGS;
 use iso_arguments::request::InputFiles;
-use iso_explain::script::explain_script;
 use iso_explain_plan::plan::explain_plan;
 use iso_explain_plan::refused::explain_refused;
 use iso_explain_plan::schedule::explain_fault;
@@ -49,11 +49,12 @@ fn mending(
     Some(text)
 }
 
-/// What is told after the line of a fault, where something is asked for and memory is left: what mends it, and then a script's fault as GitHub
-/// reads it.
+/// What is told after the line of a fault, where something is asked for and memory is left: what mends it, which of a script was told while it was
+/// read, and then a script's fault as GitHub reads it.
 pub(crate) fn after_fault(
     alloc: Global,
     fault: &RunFault,
+    script: ScriptMending,
     bytes: &InputBytes,
     files: &InputFiles<'_>,
     github: bool,
@@ -61,7 +62,10 @@ pub(crate) fn after_fault(
     requires bounds { AreInBounds files.now }
     requires counted { 1 ≤ bytes.now.processors }
 {
-    let text = mending(alloc, fault, bytes, files);
+    let text = match fault {
+        RunFault::Script(..) => script.into_text(),
+        _ => mending(alloc, fault, bytes, files),
+    };
     if github {
         with_refusal(alloc, fault, files, text)
     } else {
@@ -91,7 +95,7 @@ fn with_refusal(
     Some(whole)
 }
 
-/// Writes what mends a fault, and nothing of one that isn't of the input.
+/// Writes what mends a fault, and nothing of a script's or of one that isn't of the input.
 fn mend(
     alloc: Global,
     fault: &RunFault,
@@ -105,18 +109,21 @@ fn mend(
     match fault {
         RunFault::Settings(fault) => mend_settings(alloc, fault, &bytes.settings, files, text),
         RunFault::World(fault) => mend_world(alloc, fault, &bytes.world, files, text),
-        RunFault::Script(index, _) => mend_script(alloc, bytes.scripts.get(*index)?, text),
         RunFault::Plan(fault) => mend_plan(alloc, *fault, bytes, &*files, text),
         RunFault::Schedule(fault) => explain_fault(*fault, &bytes.schedule, text).ok(),
         RunFault::Refused(index, why) => {
-            let suite = suite_of(alloc, bytes, &*files).ok()?;
+            let suite = suite_of(alloc, bytes, &*files, &mut ScriptMending::unasked()).ok()?;
             explain_refused(alloc, *index, *why, &bytes.schedule, &suite.plan, text).ok()
         }
         RunFault::Unfinished => {
-            let suite = suite_of(alloc, bytes, &*files).ok()?;
+            let suite = suite_of(alloc, bytes, &*files, &mut ScriptMending::unasked()).ok()?;
             explain_unfinished(alloc, &bytes.schedule, &suite.plan, text).ok()
         }
-        RunFault::Start | RunFault::Lost | RunFault::Memory | RunFault::Write(_) => Some(()),
+        RunFault::Script(..)
+        | RunFault::Start
+        | RunFault::Lost
+        | RunFault::Memory
+        | RunFault::Write(_) => Some(()),
     }
 }
 
@@ -141,17 +148,6 @@ pub(crate) fn world_mending(
 ) -> Option<MemorySink> {
     let mut text = asked_text(alloc, files)?;
     mend_world(alloc, fault, bytes, files, &mut text)?;
-    Some(text)
-}
-
-/// What mends bytes that are no script, where that is to be told and memory is left.
-pub(crate) fn script_mending(
-    alloc: Global,
-    bytes: &[u8],
-    files: &InputFiles<'_>,
-) -> Option<MemorySink> {
-    let mut text = asked_text(alloc, files)?;
-    mend_script(alloc, bytes, &mut text)?;
     Some(text)
 }
 
@@ -186,12 +182,6 @@ fn mend_world(
 ) -> Option<()> {
     let name = files.world.unwrap_or(WORLD);
     explain_world(alloc, name, bytes, fault, text).ok()
-}
-
-/// Writes what mends bytes that are no script.
-fn mend_script(alloc: Global, bytes: &[u8], text: &mut MemorySink) -> Option<()> {
-    explain_script(alloc, bytes, text).ok()?;
-    Some(())
 }
 
 /// Writes what mends a fault of the plan.
@@ -254,11 +244,12 @@ fn placed_scripts(alloc: Global, scripts: &[Vec<u8>]) -> Option<Placed> {
     Some(placed)
 }
 
-/// The suite that these bytes are, with its places, or why they are none.
+/// The suite that these bytes are, with its places, or why they are none. It is told what mends the first script that is none, where that is asked for.
 pub(crate) fn suite_of<'b>(
     alloc: Global,
     bytes: &'b InputBytes,
     files: &'b InputFiles<'b>,
+    mending: &mut ScriptMending,
 ) -> Result<Suite, RunFault>
     requires bounds { AreInBounds files.now }
     requires counted { 1 ≤ bytes.now.processors }
@@ -269,7 +260,7 @@ pub(crate) fn suite_of<'b>(
     let shard = shard_of(files.shard);
     let scripts = lent(alloc, &bytes.scripts)?;
     let inputs = inputs_of(bytes, &scripts, files, shard);
-    match read_inputs(alloc, inputs, true) {
+    match read_explained(alloc, inputs, true, mending) {
         Ok(suite) => Ok(suite),
         Err(fault) => Err(fault),
     }

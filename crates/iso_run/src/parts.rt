@@ -1,38 +1,96 @@
 //! What stands on standard error after a report.
-ghost use Rattle.std.specs.Prelude.{◌≡◌, ◌∷◌, false, option_map};
-ghost use Rattle.iso_run.specs.Besides.{IsQuiet, IsSaid, goes_on, part_text, parted, parts_of, text_in};
+ghost use Rattle.std.specs.Prelude.{◌≡◌, ◌∷◌, ◌==◌, None, false, length, map, not, option_map};
+ghost use Rattle.std.specs.List.{list_any};
+ghost use Rattle.iso_run.specs.Besides.{IsQuiet, IsSaid, goes_on, part_text, parted, parts_of, replay_text, text_in};
+ghost use Rattle.iso_run.specs.Parts.{text_of};
 ghost use Rattle.iso_tap.specs.Printers.{Prints};
-ghost use Rattle.iso_telling.specs.Written.{lent};
 
+use crate::besides::Besides;
+use iso_arguments::request::InputFiles;
+use iso_commands::replay::{Recorded, can_be_told, replay_line, too_large_line};
+use iso_model::limits::FILE_BYTES;
 use iso_tap::memory::MemorySink;
 use iso_tap::printer::Printer;
 use iso_tap::sink::{Sink, SinkFailed};
-use iso_telling::tells::{DurationsText, SummaryText, Tells};
+use iso_telling::tells::{DurationsText, SummaryText};
 
-/// Tells on standard error what is asked for there, as far as the sink takes it, with an empty line between two parts.
-pub(crate) fn say_parts<E: Sink>(tells: &Tells<'_>, errors: &mut E)
-    ensures said { IsSaid (parted false (parts_of tells.now)) (E.account errors.old) (E.account errors.new) }
-    ensures quiet { IsQuiet tells.now → errors.new ≡ errors.old }
-{
-    if tells.summary.is_none() && tells.durations.is_none() && tells.github.is_none() {
-        return;
-    }
-    let parts = [
-        summary_bytes(&tells.summary),
-        durations_bytes(&tells.durations),
-        text_bytes(&tells.github),
-    ];
-    let _ = print_parts(&mut Printer::new(errors), &parts);
+/// What stands on standard error after a report, or nothing.
+#[derive(Clone, Copy)]
+enum Part<'p> {
+    Text(&'p [u8]),
+    /// The command that replays a recorded run.
+    Replay(Recorded<'p>),
+    /// A schedule in a file of this name is longer than what is replayed.
+    TooLarge(&'p str),
 }
 
-/// Whether a part stands there.
-pub(crate) fn has_parts(tells: &Tells<'_>) -> bool {
-    tells.summary.is_some() || tells.durations.is_some() || !text_bytes(&tells.github).is_empty()
+/// Tells on standard error what is asked for there of a run of these files, as far as the sink takes it, with an empty line between two
+/// parts. Answers whether there are any.
+pub(crate) fn say_parts<E: Sink>(
+    besides: &Besides<'_, '_>,
+    files: &InputFiles<'_>,
+    processors: u32,
+    errors: &mut E,
+) -> bool
+    ensures said { IsSaid (parted false (parts_of files.now processors besides.now)) (E.account errors.old) (E.account errors.new) }
+    ensures quiet { IsQuiet besides.now.tells → besides.now.course.stats ≡ None → besides.now.schedule ≡ None → errors.new ≡ errors.old }
+{
+    let tells = &besides.tells;
+    let parts = [
+        Part::Text(summary_bytes(&tells.summary)),
+        Part::Text(durations_bytes(&tells.durations)),
+        Part::Text(text_bytes(&besides.course.stats)),
+        Part::Text(text_bytes(&tells.github)),
+        replay_part(besides, files, processors),
+    ];
+    if !has_part(&parts) {
+        return false;
+    }
+    let _ = print_parts(&mut Printer::new(errors), &parts);
+    true
+}
+
+/// How a recorded run of these files is replayed, where it is and that can be told.
+fn replay_part<'p>(
+    besides: &'p Besides<'_, '_>,
+    files: &'p InputFiles<'_>,
+    processors: u32,
+) -> Part<'p>
+    ensures { text_of result ≡ replay_text files.now processors besides.now }
+{
+    let Some(schedule) = besides.schedule else {
+        return Part::Text(&[]);
+    };
+    if text_bytes(&besides.course.schedule).len() > FILE_BYTES as usize {
+        return Part::TooLarge(schedule);
+    }
+    let run = Recorded {
+        schedule,
+        files,
+        processors,
+    };
+    if can_be_told(&run) {
+        Part::Replay(run)
+    } else {
+        Part::Text(&[])
+    }
+}
+
+/// Whether one of these is a part.
+fn has_part(parts: &[Part<'_>]) -> bool
+    ensures { result ≡ list_any (λ part. not (length (text_of part) == 0)) parts.now }
+{
+    for part in parts {
+        if !is_empty(part) {
+            return true;
+        }
+    }
+    false
 }
 
 /// Writes parts one after another, with an empty line between two. An empty text is no part.
-fn print_parts<E: Sink>(printer: &mut Printer<'_, E>, parts: &[&[u8]]) -> Result<(), SinkFailed>
-    ensures { Prints printer.old printer.new (parted false (lent parts.now)) result }
+fn print_parts<E: Sink>(printer: &mut Printer<'_, E>, parts: &[Part<'_>]) -> Result<(), SinkFailed>
+    ensures { Prints printer.old printer.new (parted false (map text_of parts.now)) result }
 {
     let mut after = false;
     'parts: for part in parts {
@@ -43,35 +101,56 @@ fn print_parts<E: Sink>(printer: &mut Printer<'_, E>, parts: &[&[u8]]) -> Result
 }
 
 /// Whether what follows a text comes after a part.
-fn goes_on(after: bool, text: &[u8]) -> bool
-    ensures { result ≡ goes_on after text.now }
+fn goes_on(after: bool, part: &Part<'_>) -> bool
+    ensures { result ≡ goes_on after (text_of part.now) }
 {
-    after || !text.is_empty()
+    after || !is_empty(part)
+}
+
+/// Whether nothing is told by a part.
+fn is_empty(part: &Part<'_>) -> bool
+    ensures { result ≡ (length (text_of part.now) == 0) }
+{
+    match part {
+        Part::Text(text) => text.is_empty(),
+        Part::Replay(_) | Part::TooLarge(_) => false,
+    }
 }
 
 /// Writes a part, and where it comes after another one an empty line before it; nothing of an empty text.
 fn print_part<E: Sink>(
     printer: &mut Printer<'_, E>,
     after: bool,
-    part: &[u8],
+    part: &Part<'_>,
 ) -> Result<(), SinkFailed>
-    ensures { Prints printer.old printer.new (part_text after part.now) result }
+    ensures { Prints printer.old printer.new (part_text after (text_of part.now)) result }
 {
-    if part.is_empty() {
+    if is_empty(part) {
         Ok(())
     } else if after {
         print_after(printer, part)
     } else {
-        printer.bytes(part)
+        print_alone(printer, part)
     }
 }
 
 /// Writes a part that comes after another one.
-fn print_after<E: Sink>(printer: &mut Printer<'_, E>, part: &[u8]) -> Result<(), SinkFailed>
-    ensures { Prints printer.old printer.new (10 ∷ part.now) result }
+fn print_after<E: Sink>(printer: &mut Printer<'_, E>, part: &Part<'_>) -> Result<(), SinkFailed>
+    ensures { Prints printer.old printer.new (10 ∷ text_of part.now) result }
 {
     printer.bytes(b"\n")?;
-    printer.bytes(part)
+    print_alone(printer, part)
+}
+
+/// Writes what a part tells.
+fn print_alone<E: Sink>(printer: &mut Printer<'_, E>, part: &Part<'_>) -> Result<(), SinkFailed>
+    ensures { Prints printer.old printer.new (text_of part.now) result }
+{
+    match part {
+        Part::Text(text) => printer.bytes(text),
+        Part::Replay(run) => replay_line(printer, run),
+        Part::TooLarge(name) => too_large_line(printer, name),
+    }
 }
 
 /// The text of a summary, where one is asked for.

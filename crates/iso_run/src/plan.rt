@@ -1,5 +1,5 @@
 //! The printed plan of inputs.
-ghost use Rattle.std.specs.Prelude.{◌≡◌, ◌≤◌, IfErr, IfOk, List, map, true};
+ghost use Rattle.std.specs.Prelude.{◌≡◌, ◌≤◌, [], IfErr, IfOk, List, false, map, true};
 ghost use Rattle.iso_model.specs.ScriptView.{script_of};
 ghost use Rattle.iso_places.specs.Located.{AreSites};
 ghost use Rattle.iso_places.specs.Sites.{all_sites, places_in};
@@ -7,14 +7,14 @@ ghost use Rattle.iso_places.specs.declared.site.Site.{Site};
 ghost use Rattle.iso_plan.specs.RowView.{tree_of};
 ghost use Rattle.iso_plan.specs.Selections.{texts_of};
 ghost use Rattle.iso_plan.specs.Tree.{tree};
+ghost use Rattle.iso_run.specs.Commands.{ArePlaces};
 ghost use Rattle.iso_run.specs.Ends.{IfLate, end_of, run_end};
 ghost use Rattle.iso_run.specs.Runs.{AreSitesOf, Writes, places_text, suite_conflicts, suite_places, suite_plan, suite_tests, suite_why, why_text};
-ghost use Rattle.iso_run.specs.Commands.{ArePlaces};
-ghost use Rattle.iso_why.specs.Reach.{IsReach};
 ghost use Rattle.iso_run.specs.Suites.{OfSuite};
 ghost use Rattle.iso_tap.specs.Printers as P;
 ghost use Rattle.iso_run.specs.declared.fault.RunFault.TheVariants.{Memory};
 ghost use Rattle.iso_run.specs.declared.way.Way.TheVariants.{Serial};
+ghost use Rattle.iso_why.specs.Reach.{IsReach};
 
 use crate::fault::RunFault;
 use crate::inputs::{Inputs, Suite, read_inputs};
@@ -99,11 +99,7 @@ pub fn show_why<W: Sink>(
         × Writes (λ _. true) (suite_why tests (texts_of names.now) sites) inputs.entry Serial (W.account sink.old) (W.account sink.new) result }
 {
     let suite = read_inputs(alloc, inputs, places)?;
-    let sites = if places {
-        sites_of(alloc, &suite)?
-    } else {
-        Sites::none(alloc)
-    };
+    let sites = sites_asked(alloc, &suite, places)?;
     let ends = reach(alloc, &suite.plan)?;
     match write_why(&suite, &ends, &sites, tests, names, sink) {
         Ok(()) => Ok(()),
@@ -173,6 +169,19 @@ fn write_places<W: Sink>(
         write_placed_tests(&suite.plan, sites, names, sink)
     } else {
         write_placed_plan(&suite.plan, suite.settings.workers(), sites, names, sink)
+    }
+}
+
+/// The sites of a suite's nodes where places are asked for, and else none. There is no fault but want of memory.
+fn sites_asked(alloc: Global, suite: &Suite, places: bool) -> Result<Sites, RunFault>
+    ensures found { places ≡ true → IfOk result (AreSites (tree (map script_of suite.now.scripts.items)) (all_sites (places_in suite.now.places.items)) (tree_of suite.now.plan)) }
+    ensures none { places ≡ false → IfOk result (λ sites. sites ≡ []) }
+    ensures fault { IfErr result (λ fault. fault ≡ Memory) }
+{
+    if places {
+        sites_of(alloc, suite)
+    } else {
+        Ok(Sites::none(alloc))
     }
 }
 

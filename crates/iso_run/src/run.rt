@@ -1,14 +1,21 @@
 //! Runs of a suite on one thread, from its inputs to its report.
 ghost use Rattle.std.specs.Prelude.{◌≡◌, ◌≤◌, ℕ, IfOk, List, OnOk, Option};
+ghost use Rattle.iso_run.specs.Courses.{AreEvents, IsCourse, TellsCourse};
 ghost use Rattle.iso_lifecycle.specs.ResultViews.{AreComplete};
 ghost use Rattle.iso_run.specs.Runs.{TellsOf, Writes, suite_report};
 ghost use Rattle.iso_run.specs.declared.way.Way.TheVariants.{Serial};
 
+use crate::counts::CountingGate;
+use crate::course::Course;
 use crate::fault::RunFault;
 use crate::inputs::{Inputs, Suite, read_inputs};
+use crate::observation::Observed;
+use crate::observed::observe;
+use crate::progress::{Progress, Unshown};
+use crate::recorded::tell_alone;
 use crate::report::{Summary, write_results};
 use crate::times::node_times;
-use iso_lifecycle::gate::OpenGate;
+use iso_lifecycle::gate::{Gate, OpenGate};
 use iso_lifecycle::results::Results;
 use iso_serial::run::run_at;
 use iso_tap::sink::Sink;
@@ -28,15 +35,39 @@ pub fn run_serial<C: Clock, W: Sink>(
     alloc: Global,
     inputs: Inputs<'_>,
     tells: &mut Tells<'_>,
+    course: &mut Course,
     sink: &mut W,
 ) -> Result<Summary, RunFault>
     requires { 1 ≤ inputs.processors }
     ensures report { Writes (λ s. s.all_ok) suite_report inputs.entry Serial (W.account sink.old) (W.account sink.new) result }
     ensures told { OnOk result ((times : List (Option ℕ)) × TellsOf inputs.entry times tells.old tells.new) }
+    ensures course { OnOk result (TellsCourse inputs.entry Serial course.old course.new) }
+{
+    run_serial_shown(clock, alloc, inputs, &mut Unshown, tells, course, sink)
+}
+
+/// Runs a suite as `run_serial` does, and shows how far it has come.
+pub(crate) fn run_serial_shown<C: Clock, P: Progress, W: Sink>(
+    clock: &C,
+    alloc: Global,
+    inputs: Inputs<'_>,
+    progress: &mut P,
+    tells: &mut Tells<'_>,
+    course: &mut Course,
+    sink: &mut W,
+) -> Result<Summary, RunFault>
+    requires { 1 ≤ inputs.processors }
+    ensures report { Writes (λ s. s.all_ok) suite_report inputs.entry Serial (W.account sink.old) (W.account sink.new) result }
+    ensures told { OnOk result ((times : List (Option ℕ)) × TellsOf inputs.entry times tells.old tells.new) }
+    ensures course { OnOk result (TellsCourse inputs.entry Serial course.old course.new) }
 {
     let suite = read_inputs(alloc, inputs, tells.wants_places())?;
     let timed = tells.wants_times();
-    match run_timed(clock, alloc, &suite, timed) {
+    let gate = CountingGate::new(alloc, &OpenGate, &suite.plan, progress.counts());
+    let ran = run_timed(clock, alloc, &suite, &gate, timed, course);
+    drop(gate);
+    progress.ends();
+    match ran {
         Ok(ran) => {
             let Ran { results, times } = &ran;
             write_results(alloc, &suite, inputs.scripts, results, times, tells, sink)
@@ -52,23 +83,38 @@ struct Ran<'s> {
     times: Vec<Option<u64>>,
 }
 
-/// Runs a suite, and measures how long its bodies take, if it is to.
-fn run_timed<'s, C: Clock>(
+/// Runs a suite at a gate, tells of its course, and measures how long its bodies take, if it is to.
+fn run_timed<'s, C: Clock, G: Gate>(
     clock: &C,
     alloc: Global,
     suite: &'s Suite,
+    counting: &G,
     timed: bool,
+    course: &mut Course,
 ) -> Result<Ran<'s>, AllocError>
+    requires { 1 ≤ suite.now.settings.worker_count }
     ensures plan { IfOk result (λ r. r.results.plan ≡ suite.now.plan) }
     ensures start { IfOk result (λ r. r.results.start ≡ suite.now.world) }
     ensures complete { IfOk result (λ r. AreComplete r.results) }
+    ensures course { OnOk result (IsCourse (AreEvents Serial suite.now.plan suite.now.world suite.now.settings.worker_count)
+        Serial suite.now.plan suite.now.world suite.now.settings.worker_count course.old course.new) }
 {
-    let gate = if timed {
-        TimesGate::new(alloc, clock, &OpenGate, suite.plan.len())?
+    let gate = if timed || course.wants_times() {
+        TimesGate::new(alloc, clock, counting, suite.plan.len())?
     } else {
-        TimesGate::untimed(alloc, clock, &OpenGate)
+        TimesGate::untimed(alloc, clock, counting)
     };
     let results = run_at(alloc, &suite.plan, &suite.world, &gate)?;
-    let times = node_times(alloc, timed, gate.into_times(), &suite.plan)?;
+    let times = gate.into_times();
+    let run = Observed {
+        plan: &suite.plan,
+        results: &results,
+        times: &times,
+        started: 1,
+        of: suite.settings.workers(),
+    };
+    observe(alloc, &run, course)?;
+    tell_alone(alloc, suite, &mut course.schedule)?;
+    let times = node_times(alloc, timed, &times, &suite.plan)?;
     Ok(Ran { results, times })
 }

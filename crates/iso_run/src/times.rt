@@ -11,7 +11,7 @@ use std::alloc::{AllocError, Global};
 pub(crate) fn node_times(
     alloc: Global,
     timed: bool,
-    times: Times,
+    times: &Times,
     plan: &Plan,
 ) -> Result<Vec<Option<u64>>, AllocError> {
     if !timed {

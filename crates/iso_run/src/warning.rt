@@ -10,6 +10,7 @@ use crate::inputs::{Suite, settings_from};
 use crate::lines::STDIN;
 use crate::mending::suite_of;
 use crate::resource::meant;
+use crate::script_mending::ScriptMending;
 use crate::settings::SETTINGS;
 use iso_arguments::request::InputFiles;
 use iso_explain_settings::listing::tell_workers;
@@ -44,12 +45,13 @@ pub(crate) fn looked_over<'a, E: Sink>(
     if !files.explain {
         return Ok(bytes);
     }
-    match suite_of(alloc, &bytes, &*files) {
+    let mut mending = ScriptMending::new(true);
+    match suite_of(alloc, &bytes, &*files, &mut mending) {
         Ok(suite) => {
             say_warnings(alloc, &bytes, &suite, &*files, errors);
             Ok(bytes)
         }
-        Err(fault) => Err(named(alloc, fault, bytes, files, github)),
+        Err(fault) => Err(named(alloc, fault, mending, bytes, files, github)),
     }
 }
 

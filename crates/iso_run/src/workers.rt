@@ -3,13 +3,20 @@ ghost use Rattle.std.specs.Prelude.{◌≡◌, ◌<◌, ◌≤◌, ℕ, IfErr, I
 ghost use denote.Param.Send.{IsSend, IsSync};
 ghost use Rattle.iso_book.specs.Books.{is_complete};
 ghost use Rattle.iso_floor.specs.Grounds.{IsBookOf};
+ghost use Rattle.iso_run.specs.Courses.{AreEvents, IsCourse, TellsCourse};
 ghost use Rattle.iso_run.specs.declared.fault.RunFault.TheVariants.{Memory};
 ghost use Rattle.iso_run.specs.declared.way.Way.TheVariants.{ByWorkers};
 ghost use Rattle.iso_run.specs.Replays.{IsOfWorkers};
 ghost use Rattle.iso_run.specs.Runs.{TellsOf, Writes, suite_report};
 
+use crate::counts::CountingGate;
+use crate::course::Course;
 use crate::fault::RunFault;
 use crate::inputs::{Inputs, Suite, read_inputs};
+use crate::observation::Observed;
+use crate::observed::observe;
+use crate::progress::{Progress, Unshown};
+use crate::recorded::tell_book;
 use crate::report::{Summary, write_results};
 use crate::times::node_times;
 use iso_book::book::Book;
@@ -46,15 +53,47 @@ pub fn run_workers<R: Threads + Wait + Clock + Sync, G: Gate + Sync, W: Sink>(
     inputs: Inputs<'_>,
     gate: &G,
     tells: &mut Tells<'_>,
+    course: &mut Course,
     sink: &mut W,
 ) -> Result<Summary, RunFault>
     requires { 1 ≤ inputs.processors }
     ensures report { Writes (λ s. s.all_ok) suite_report inputs.entry ByWorkers (W.account sink.old) (W.account sink.new) result }
     ensures told { OnOk result ((times : List (Option ℕ)) × TellsOf inputs.entry times tells.old tells.new) }
+    ensures course { OnOk result (TellsCourse inputs.entry ByWorkers course.old course.new) }
+{
+    run_workers_shown(rt, alloc, inputs, gate, &mut Unshown, tells, course, sink)
+}
+
+/// Runs a suite as `run_workers` does, and shows how far it has come.
+pub(crate) fn run_workers_shown<
+    R: Threads + Wait + Clock + Sync,
+    G: Gate + Sync,
+    P: Progress,
+    W: Sink,
+>(
+    rt: &R,
+    alloc: Global,
+    inputs: Inputs<'_>,
+    gate: &G,
+    progress: &mut P,
+    tells: &mut Tells<'_>,
+    course: &mut Course,
+    sink: &mut W,
+) -> Result<Summary, RunFault>
+    requires { 1 ≤ inputs.processors }
+    ensures report { Writes (λ s. s.all_ok) suite_report inputs.entry ByWorkers (W.account sink.old) (W.account sink.new) result }
+    ensures told { OnOk result ((times : List (Option ℕ)) × TellsOf inputs.entry times tells.old tells.new) }
+    ensures course { OnOk result (TellsCourse inputs.entry ByWorkers course.old course.new) }
 {
     let suite = read_inputs(alloc, inputs, tells.wants_places())?;
     let timed = tells.wants_times();
-    let RanBook { book, times } = run_timed::<Brand, R, G>(rt, alloc, &suite, gate, timed)?;
+    let counting = CountingGate::new(alloc, gate, &suite.plan, progress.counts());
+    let ran = run_timed::<Brand, R, CountingGate<'_, G>>(
+        rt, alloc, &suite, &counting, timed, course,
+    );
+    drop(counting);
+    progress.ends();
+    let RanBook { book, times } = ran?;
     write_results(
         alloc,
         &suite,
@@ -73,29 +112,54 @@ struct RanBook<'s> {
     times: Vec<Option<u64>>,
 }
 
-/// Has its workers run a suite, and measures how long its bodies take, if it is to.
+/// Has its workers run a suite, tells of its course, and measures how long its bodies take, if it is to.
 fn run_timed<'s, L: Ground + Send + Sync, R: Threads + Wait + Clock + Sync, G: Gate + Sync>(
     rt: &R,
     alloc: Global,
     suite: &'s Suite,
     gate: &G,
     timed: bool,
+    course: &mut Course,
 ) -> Result<RanBook<'s>, RunFault>
+    requires some { 1 ≤ L.workers }
     requires plan { suite.now.plan ≡ L.plan }
     requires start { suite.now.world ≡ L.start }
     requires workers { suite.now.settings.worker_count ≡ L.workers }
     ensures book { IfOk result (λ r. IsBookOf L.plan L.start L.workers r.book) }
     ensures complete { IfOk result (λ r. is_complete r.book ≡ true) }
+    ensures course { OnOk result (IsCourse (AreEvents ByWorkers L.plan L.start L.workers) ByWorkers L.plan L.start L.workers course.old course.new) }
     ensures fault { IfErr result (IsOfWorkers suite.now.settings.worker_count) }
 {
-    let times_gate = if timed {
+    let times_gate = if timed || course.wants_times() {
         TimesGate::new(alloc, rt, gate, suite.plan.len())?
     } else {
         TimesGate::untimed(alloc, rt, gate)
     };
-    let book = run_on_floor::<L, R, TimesGate<'_, R, G>>(rt, alloc, suite, &times_gate)?;
-    let times = node_times(alloc, timed, times_gate.into_times(), &suite.plan)?;
+    let FloorRun { book, started } = run_on_floor::<L, R, TimesGate<'_, R, G>>(
+        rt,
+        alloc,
+        suite,
+        &times_gate,
+    )?;
+    let times = times_gate.into_times();
+    let run = Observed {
+        plan: &suite.plan,
+        results: book.results(),
+        times: &times,
+        started,
+        of: suite.settings.workers(),
+    };
+    observe(alloc, &run, course)?;
+    tell_book(alloc, &book, &mut course.schedule)?;
+    let times = node_times(alloc, timed, &times, &suite.plan)?;
     Ok(RanBook { book, times })
+}
+
+/// The book of a run, and how many workers were started.
+#[derive(Drop)]
+struct FloorRun<'s> {
+    book: Book<'s>,
+    started: u32,
 }
 
 /// Has its workers run a suite, each in a seat of its own, and answers the book of the run. A worker whom the suite can't keep busy isn't
@@ -105,12 +169,14 @@ fn run_on_floor<'s, L: Ground + Send + Sync, R: Threads + Wait + Sync, G: Gate +
     alloc: Global,
     suite: &'s Suite,
     gate: &G,
-) -> Result<Book<'s>, RunFault>
+) -> Result<FloorRun<'s>, RunFault>
+    requires some { 1 ≤ L.workers }
     requires plan { suite.now.plan ≡ L.plan }
     requires start { suite.now.world ≡ L.start }
     requires workers { suite.now.settings.worker_count ≡ L.workers }
-    ensures book { IfOk result (IsBookOf L.plan L.start L.workers) }
-    ensures complete { IfOk result (λ b. is_complete b ≡ true) }
+    ensures book { IfOk result (λ r. IsBookOf L.plan L.start L.workers r.book) }
+    ensures complete { IfOk result (λ r. is_complete r.book ≡ true) }
+    ensures started { IfOk result (λ r. (1 ≤ r.started) × (r.started ≤ L.workers)) }
     ensures fault { IfErr result (IsOfWorkers suite.now.settings.worker_count) }
 {
     let workers = suite.settings.workers();
@@ -119,7 +185,11 @@ fn run_on_floor<'s, L: Ground + Send + Sync, R: Threads + Wait + Sync, G: Gate +
     let busy = busy_workers(alloc, &suite.plan, workers)?;
     let others = seats_on(rt, alloc, &floor, busy)?;
     let seats = run_seats(rt, alloc, &floor, first, others, gate)?;
-    close(floor, seats)
+    let book = close(floor, seats)?;
+    Ok(FloorRun {
+        book,
+        started: busy,
+    })
 }
 
 /// The seat of a worker on a floor.

@@ -6,6 +6,7 @@ use crate::teams::{OPS, ORDERS, SHOP, WORLD};
 use iso_core::machine::Core;
 use iso_core::run_events::run_events;
 use iso_plan::plan::Plan;
+use iso_run::course::Course;
 use iso_run::run::run_serial;
 use iso_settings::world::World;
 use iso_standing::core_fault::CoreFault;
@@ -148,10 +149,19 @@ fn schedules_at_random_give_the_report_of_the_serial_run(rt: HostRuntime) {
     let scripts = [SHOP.as_bytes(), ORDERS.as_bytes(), OPS.as_bytes()];
     let inputs = surroundings.inputs(&scripts);
     let mut tells = Tells::nothing();
+    let mut course = Course::nothing();
     let mut serial = MemorySink::new(rt.alloc());
     expect(
         &rt,
-        run_serial(&rt, rt.alloc(), inputs, &mut tells, &mut serial).is_ok(),
+        run_serial(
+            &rt,
+            rt.alloc(),
+            inputs,
+            &mut tells,
+            &mut course,
+            &mut serial,
+        )
+        .is_ok(),
         "the serial run fails",
     );
     check_inputs(&rt, rt.alloc(), inputs, &GiveReport(serial.bytes()));

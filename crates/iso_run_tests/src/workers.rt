@@ -6,6 +6,7 @@ mod turns;
 
 use crate::suites::expect;
 use iso_lifecycle::gate::Gate;
+use iso_run::course::Course;
 use iso_run::inputs::Inputs;
 use iso_run::workers::run_workers;
 use iso_tap::memory::MemorySink;
@@ -29,7 +30,8 @@ fn expect_report<R: Abort + Clock + Threads + Wait + Sync, G: Gate + Sync>(
 {
     let mut sink = MemorySink::new(alloc);
     let mut tells = Tells::nothing();
-    let ran = run_workers(rt, alloc, inputs, gate, &mut tells, &mut sink);
+    let mut course = Course::nothing();
+    let ran = run_workers(rt, alloc, inputs, gate, &mut tells, &mut course, &mut sink);
     let is_so = matches!(ran, Ok(summary) if summary.all_ok == all_ok);
     expect(rt, is_so, "the run ends otherwise");
     let is_so = sink.bytes() == report.as_bytes();

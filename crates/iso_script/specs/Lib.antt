@@ -7,5 +7,6 @@ pub mod Marks
 pub mod Places
 pub mod Contexts
 pub mod Readings
+pub mod Refusals
 pub mod Variables
 pub mod Examples

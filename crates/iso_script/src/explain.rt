@@ -1,14 +1,17 @@
 //! Why bytes are no script.
-ghost use Rattle.std.specs.Prelude.{◌≡◌, ◌<◌, ◌≤◌, None, IfOk, IfSome, length};
+ghost use Rattle.std.specs.Prelude.{◌≡◌, ◌≢◌, ◌<◌, ◌≤◌, IfErr, IfOk, MatchResult, length, true};
 ghost use Rattle.iso_model.specs.Scripts as S;
+ghost use Rattle.iso_model.specs.ScriptView.{script_of};
 ghost use Rattle.iso_model.specs.declared.limits.TheConstants.{FILE_BYTES};
 ghost use Rattle.iso_script.specs.Contexts.{IsOpenAt, place_of};
 ghost use Rattle.iso_script.specs.Faults.{HasScriptFault, too_long};
-ghost use Rattle.iso_script.specs.Grammar.{Reads};
+ghost use Rattle.iso_script.specs.Grammar.{Reads, ReadsPlaced};
+ghost use Rattle.iso_script.specs.Refusals.{IfRefused};
+ghost use Rattle.iso_script.specs.declared.explain.Unread.TheVariants.{OutOfMemory};
 
 use crate::context::open_brace;
 use crate::place::Places;
-use crate::reader::script;
+use crate::reader::{PlacedScript, script};
 use crate::twice::{Twice, first_of};
 use iso_model::limits::FILE_BYTES;
 use iso_script_lexer::token::Position;
@@ -33,29 +36,40 @@ pub struct Explained<'a> {
     pub first: Option<Position>,
 }
 
-/// Why `read_script` refuses these bytes, if it does: reads them again, by the same parser, to its fault, which is that of
-/// `read_script`. What is read takes memory from `alloc` until then.
-pub fn why(alloc: Global, bytes: &[u8]) -> Result<Option<Explained<'_>>, AllocError>
-    // Nothing is to be explained of a script, and of it alone.
-    ensures script { IfOk result (λ explained. explained ≡ None → (s : S.Script) × Reads bytes.now s) }
-    ensures refused { (s : S.Script) → Reads bytes.now s → IfOk result (λ explained. explained ≡ None) }
-    // The brace is the innermost that is open before the place of the fault.
-    ensures brace { length bytes.now ≤ FILE_BYTES
-        → IfOk result (λ explained. IfSome explained (λ e. IsOpenAt bytes.now (place_of e.fault) e.brace)) }
+/// Why bytes weren't read as a script.
+#[derive(Clone, Copy)]
+pub enum Unread<'a> {
+    OutOfMemory,
+    /// They are no script.
+    Refused(Explained<'a>),
+}
+
+/// Reads a script as `read_placed` does, or as `read_script` where no places are to be kept: there are none then. Of bytes that are no script it
+/// answers, beside the fault of these two, why they have it. What is read takes memory from `alloc`.
+pub fn read_or_why(alloc: Global, bytes: &[u8], are_kept: bool) -> Result<PlacedScript, Unread<'_>>
+    // What is read is the script of the bytes.
+    ensures found { IfOk result (λ p. Reads bytes.now (script_of p.script)) }
+    ensures placed { are_kept ≡ true → IfOk result (λ p. ReadsPlaced bytes.now (script_of p.script) p.places.items) }
+    // The script of the bytes is read, unless memory runs out.
+    ensures only { (s : S.Script) → Reads bytes.now s → MatchResult result (λ p. script_of p.script ≡ s) (λ e. e ≡ OutOfMemory) }
     // The fault is that of the bytes.
-    ensures fault { IfOk result (λ explained. IfSome explained (λ e. HasScriptFault bytes.now e.fault)) }
-    ensures too_long { FILE_BYTES < length bytes.now
-        → IfOk result (λ explained. IfSome explained (λ e. e.fault ≡ too_long)) }
+    ensures fault { IfErr result (IfRefused (λ e. HasScriptFault bytes.now e.fault)) }
+    // The brace is the innermost that is open before the place of the fault.
+    ensures brace { length bytes.now ≤ FILE_BYTES → IfErr result (IfRefused (λ e. IsOpenAt bytes.now (place_of e.fault) e.brace)) }
+    ensures too_long { FILE_BYTES < length bytes.now → IfErr result (λ u. IfRefused (λ e. e.fault ≡ too_long) u × (u ≢ OutOfMemory)) }
 {
     if bytes.len() > FILE_BYTES as usize {
-        return Ok(Some(longer()));
+        return Err(Unread::Refused(longer()));
     }
     let mut parser = Parser::new(alloc, bytes);
-    let mut places = Places::left_out(alloc);
+    let mut places = Places::asked(alloc, are_kept);
     match script(&mut parser, &mut places) {
-        Ok(_) => Ok(None),
-        Err(ScriptError::OutOfMemory) => Err(AllocError),
-        Err(ScriptError::Fault(fault)) => Ok(Some(tell(alloc, bytes, fault, &parser)?)),
+        Ok(script) => Ok(PlacedScript {
+            script,
+            places: places.list,
+        }),
+        Err(ScriptError::OutOfMemory) => Err(Unread::OutOfMemory),
+        Err(ScriptError::Fault(fault)) => Err(Unread::Refused(tell(alloc, bytes, fault, &parser)?)),
     }
 }
 
@@ -103,5 +117,16 @@ fn longer<'a>() -> Explained<'a>
         width: 0,
         brace: None,
         first: None,
+    }
+}
+
+impl From<AllocError> for Unread<'_> {
+    ghost use Rattle.std.specs.Prelude.{◌≡◌};
+    ghost use Rattle.iso_script.specs.declared.explain.Unread.TheVariants.{OutOfMemory};
+
+    ghost from_gives = { λ _ e. e ≡ OutOfMemory };
+
+    fn from(_error: AllocError) -> Self {
+        Unread::OutOfMemory
     }
 }

@@ -1,5 +1,5 @@
 //! The places of nodes.
-ghost use Rattle.std.specs.Prelude.{◌≡◌, [], ◌∷◌, MatchResult, Some, None};
+ghost use Rattle.std.specs.Prelude.{◌≡◌, [], ◌∷◌, MatchResult, Some, None, if◌then◌else◌};
 ghost use Rattle.iso_script_statements.specs.Faults.{IsMemory};
 ghost use Rattle.iso_script.specs.Places.{kept, line_at, with_places};
 
@@ -79,6 +79,17 @@ impl Places {
         Places {
             are_kept: false,
             list: Vec::new(alloc),
+        }
+    }
+
+    /// None as yet, and all are kept, or none is.
+    pub(crate) fn asked(alloc: Global, are_kept: bool) -> Places
+        ensures { kept result ≡ (if are_kept then Some [] else None) }
+    {
+        if are_kept {
+            Places::kept(alloc)
+        } else {
+            Places::left_out(alloc)
         }
     }
 

@@ -1,5 +1,5 @@
 -- The parts of events, as texts.
-use Rattle.std.specs.Prelude.{ℕ, ◌-◌, ◌/◌, ◌%◌, List, [], ◌∷◌, ◌++◌, ◌==◌, ◌||◌, cond, codes, length, map, nat_le, slice_index_or}
+use Rattle.std.specs.Prelude.{ℕ, ◌-◌, ◌/◌, ◌%◌, List, [], ◌∷◌, ◌++◌, ◌==◌, ◌||◌, Bool, true, false, cond, codes, length, map, nat_le, slice_index_or}
 use Rattle.std.specs.Fmt.{decimal}
 use Rattle.iso_model.specs.declared.access.Access.{Access}
 use Rattle.iso_model.specs.declared.access.Access.TheVariants.{Read, Write}
@@ -9,7 +9,7 @@ use Rattle.iso_plan.specs.Tree.{Row}
 use Rattle.iso_plan.specs.declared.lock.Lock.{Lock}
 use Rattle.iso_trace.specs.Names.{key_names}
 use Rattle.iso_trace.specs.declared.part.Part.{Part}
-use Rattle.iso_trace.specs.declared.part.Part.TheVariants.{Plain, Number, Lane, Micros, Between, Node, Wait, Locks}
+use Rattle.iso_trace.specs.declared.part.Part.TheVariants.{Plain, Number, Lane, Micros, Between, Node, Wait, Locks, Category, Critical}
 
 -- texts, one after another
 abbrev pub joined : List (List ℕ) → List ℕ
@@ -46,6 +46,16 @@ node_locks tree n = cond (nat_le (length tree) n) [] (locks_text tree (locks tre
 abbrev pub wait_name : List Row → ℕ → List ℕ
 wait_name tree k = slice_index_or (key_names tree (codes "wait ")) k []
 
+-- the categories of a body, critical or not
+abbrev pub category : Bool → List ℕ
+category true = codes "body,critical"
+category false = codes "body"
+
+-- what tells of a critical body among the arguments of its event
+abbrev pub critical_argument : Bool → List ℕ
+critical_argument true = codes ",\"critical\":true"
+critical_argument false = []
+
 -- the text of a part
 abbrev pub part_text : List Row → Part → List ℕ
 part_text tree (Plain text) = text.now
@@ -56,3 +66,5 @@ part_text tree (Between begin end) = micros (end - begin)
 part_text tree (Node n) = node_text tree n
 part_text tree (Wait k) = wait_name tree k
 part_text tree (Locks n) = node_locks tree n
+part_text tree (Category critical) = category critical
+part_text tree (Critical critical) = critical_argument critical

@@ -22,12 +22,14 @@ pub(crate) fn node_events<W: Sink>(
 ) -> Result<(), SinkFailed>
     requires { node < length run.now.plan.now.rows }
     ensures { Prints printer.old printer.new
-        (node_events (tree_of run.now.plan.now) run.now.times.now run.now.results.now node) result }
+        (node_events (tree_of run.now.plan.now) run.now.times.now run.now.results.now run.now.critical.now node) result }
 {
     let first = run.times.body(node, BodyKind::BeforeAll);
     let last = run.times.body(node, BodyKind::AfterAll);
-    event(printer, run, node, first_kind(run.plan, node), first)?;
-    event(printer, run, node, " after_all", last)
+    let opens = run.critical.has(node, BodyKind::BeforeAll);
+    let closes = run.critical.has(node, BodyKind::AfterAll);
+    event(printer, run, node, first_kind(run.plan, node), opens, first)?;
+    event(printer, run, node, " after_all", closes, last)
 }
 
 /// What stands behind a node's path in the name of its first body.
@@ -48,14 +50,23 @@ fn event<'x, W: Sink>(
     run: &Run<'x, '_>,
     node: u32,
     kind: &'x str,
+    critical: bool,
     time: Option<BodyTime>,
 ) -> Result<(), SinkFailed>
     requires { node < length run.now.plan.now.rows }
     ensures { Prints printer.old printer.new
-        (body_event (tree_of run.now.plan.now) run.now.results.now node kind.now time) result }
+        (body_event (tree_of run.now.plan.now) run.now.results.now node kind.now critical time) result }
 {
     match time {
-        Some(time) => timed(printer, run, word(run.results, node), node, kind, time),
+        Some(time) => timed(
+            printer,
+            run,
+            word(run.results, node),
+            node,
+            kind,
+            critical,
+            time,
+        ),
         None => printer.bytes(b""),
     }
 }
@@ -67,10 +78,11 @@ fn timed<'x, W: Sink>(
     word: &'x str,
     node: u32,
     kind: &'x str,
+    critical: bool,
     time: BodyTime,
 ) -> Result<(), SinkFailed>
     requires { node < length run.now.plan.now.rows }
-    ensures { Prints printer.old printer.new (timed_event (tree_of run.now.plan.now) word.now node kind.now time) result }
+    ensures { Prints printer.old printer.new (timed_event (tree_of run.now.plan.now) word.now node kind.now critical time) result }
 {
     parts(
         printer,
@@ -78,7 +90,9 @@ fn timed<'x, W: Sink>(
         &[
             Part::Plain(",\n{\"ph\":\"X\",\"pid\":1,\"tid\":"),
             Part::Lane(time.worker),
-            Part::Plain(",\"cat\":\"body\",\"name\":\""),
+            Part::Plain(",\"cat\":\""),
+            Part::Category(critical),
+            Part::Plain("\",\"name\":\""),
             Part::Node(node),
             Part::Plain(kind),
             Part::Plain("\",\"ts\":"),
@@ -90,6 +104,7 @@ fn timed<'x, W: Sink>(
             Part::Plain("\",\"verdict\":\""),
             Part::Plain(word),
             Part::Plain("\""),
+            Part::Critical(critical),
             Part::Locks(node),
             Part::Plain("}}"),
         ],

@@ -17,4 +17,8 @@ pub(crate) enum Part<'a> {
     Wait(u32),
     /// How a node takes its keys, among the arguments of an event.
     Locks(u32),
+    /// The categories of a body, critical or not.
+    Category(bool),
+    /// What tells of a critical body, among the arguments of its event.
+    Critical(bool),
 }

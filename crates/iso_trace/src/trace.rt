@@ -9,6 +9,7 @@ ghost use Rattle.iso_trace.specs.TraceText.{body_events, section_text, thread_ev
 use crate::body::node_events;
 use crate::names::Names;
 use crate::wait::wait_events;
+use iso_critical::critical::CriticalBodies;
 use iso_lifecycle::results::Results;
 use iso_plan::plan::Plan;
 use iso_tap::fault::TapFault;
@@ -17,12 +18,13 @@ use iso_tap::sink::{Sink, SinkFailed};
 use iso_times::times::Times;
 use iso_waits::wait::NodeWait;
 
-/// A run that is told of: its plan, its results, the times of its bodies, and the names of its keys.
+/// A run that is told of: its plan, its results, the times of its bodies, those of them that are critical, and the names of its keys.
 #[derive(Clone, Copy)]
 pub struct Run<'r, 'p> {
     pub plan: &'r Plan,
     pub results: &'r Results<'p>,
     pub times: &'r Times,
+    pub critical: &'r CriticalBodies,
     pub names: &'r Names,
     ghost planned: { results.now.plan ≡ plan.now },
     ghost named: { AreNames (tree_of plan.now) names.now.locks.items names.now.waits.items },
@@ -38,7 +40,7 @@ pub fn write_trace<W: Sink>(
     sink: &mut W,
 ) -> Result<(), TapFault>
     ensures { Writes (W.account sink.old) (W.account sink.new)
-        (trace_text (tree_of run.now.plan.now) run.now.times.now run.now.results.now workers waits.now) result }
+        (trace_text (tree_of run.now.plan.now) run.now.times.now run.now.results.now workers waits.now run.now.critical.now) result }
 {
     let mut printer = Printer::new(sink);
     match trace(&mut printer, run, workers, waits) {
@@ -67,7 +69,7 @@ fn trace<W: Sink>(
     waits: &[NodeWait],
 ) -> Result<(), SinkFailed>
     ensures { Prints printer.old printer.new
-        (trace_text (tree_of run.now.plan.now) run.now.times.now run.now.results.now workers waits.now) result }
+        (trace_text (tree_of run.now.plan.now) run.now.times.now run.now.results.now workers waits.now run.now.critical.now) result }
 {
     sections(
         printer,
@@ -91,7 +93,7 @@ fn sections<W: Sink>(
     sections: &[Section<'_>],
 ) -> Result<(), SinkFailed>
     ensures { Prints printer.old printer.new
-        (joined (map (section_text (tree_of run.now.plan.now) run.now.times.now run.now.results.now) sections.now)) result }
+        (joined (map (section_text (tree_of run.now.plan.now) run.now.times.now run.now.results.now run.now.critical.now) sections.now)) result }
 {
     for section in sections {
         write_section(printer, run, section)?;
@@ -106,7 +108,7 @@ fn write_section<W: Sink>(
     section: &Section<'_>,
 ) -> Result<(), SinkFailed>
     ensures { Prints printer.old printer.new
-        (section_text (tree_of run.now.plan.now) run.now.times.now run.now.results.now section.now) result }
+        (section_text (tree_of run.now.plan.now) run.now.times.now run.now.results.now run.now.critical.now section.now) result }
 {
     match *section {
         Section::Plain(text) => printer.bytes(text.as_bytes()),
@@ -142,7 +144,7 @@ fn thread<W: Sink>(printer: &mut Printer<'_, W>, worker: u32) -> Result<(), Sink
 /// Writes the bodies of all nodes.
 fn bodies<W: Sink>(printer: &mut Printer<'_, W>, run: &Run<'_, '_>) -> Result<(), SinkFailed>
     ensures { Prints printer.old printer.new
-        (body_events (tree_of run.now.plan.now) run.now.times.now run.now.results.now (length run.now.plan.now.rows - 1) 1) result }
+        (body_events (tree_of run.now.plan.now) run.now.times.now run.now.results.now run.now.critical.now (length run.now.plan.now.rows - 1) 1) result }
 {
     'nodes: for node in 1..run.plan.len() {
         node_events(printer, run, node)?;

@@ -2,7 +2,7 @@
 ghost use Rattle.std.specs.Prelude.{◌≡◌, map};
 ghost use Rattle.iso_plan.specs.RowView.{tree_of};
 ghost use Rattle.iso_tap.specs.Printers.{Prints};
-ghost use Rattle.iso_trace.specs.Parts.{access_text, joined, lock_text, locks_text, micros, node_locks, node_text, part_text, wait_name};
+ghost use Rattle.iso_trace.specs.Parts.{access_text, category, critical_argument, joined, lock_text, locks_text, micros, node_locks, node_text, part_text, wait_name};
 
 use crate::names::name_at;
 use crate::part::Part;
@@ -44,6 +44,8 @@ fn write_part<W: Sink>(
         Part::Node(number) => node(printer, run.plan, number),
         Part::Wait(key) => wait_name(printer, run, key),
         Part::Locks(number) => node_locks(printer, run, number),
+        Part::Category(critical) => printer.bytes(category(critical).as_bytes()),
+        Part::Critical(critical) => printer.bytes(critical_argument(critical).as_bytes()),
     }
 }
 
@@ -124,6 +126,20 @@ fn write_lock<W: Sink>(
         Piece::Plain(access_text(lock.access).as_bytes()),
         Piece::Plain(b"\""),
     ])
+}
+
+/// The categories of a body, critical or not.
+fn category(critical: bool) -> &'static str
+    ensures { result.now ≡ category critical }
+{
+    if critical { "body,critical" } else { "body" }
+}
+
+/// What tells of a critical body among the arguments of its event.
+fn critical_argument(critical: bool) -> &'static str
+    ensures { result.now ≡ critical_argument critical }
+{
+    if critical { ",\"critical\":true" } else { "" }
 }
 
 /// How a key is taken.

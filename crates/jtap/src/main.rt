@@ -18,5 +18,12 @@ fn main(rt: HostRuntime) -> ExitCode {
     };
     let mut input = rt.stdin();
     let mut output = OutputSink::new(writer);
-    ExitCode::from(command(&rt, &words, &mut input, &mut output, &mut errors))
+    ExitCode::from(command(
+        &rt,
+        &words,
+        &mut input,
+        &mut output,
+        &mut errors,
+        rt.stderr(),
+    ))
 }

@@ -8,6 +8,7 @@ use crate::suites::{
 };
 use iso_core::machine::Core;
 use iso_plan::plan::Plan;
+use iso_run::course::Course;
 use iso_run::run::run_serial;
 use iso_schedule::reader::read_schedule;
 use iso_settings::world::World;
@@ -126,9 +127,10 @@ fn expect_serial_report<R: Abort + Clock>(rt: &R, alloc: Global, script: &str, w
     let inputs = surroundings.inputs(&scripts);
     let mut serial = MemorySink::new(alloc);
     let mut tells = Tells::nothing();
+    let mut course = Course::nothing();
     expect(
         rt,
-        run_serial(rt, alloc, inputs, &mut tells, &mut serial).is_ok(),
+        run_serial(rt, alloc, inputs, &mut tells, &mut course, &mut serial).is_ok(),
         script,
     );
     let report = serial.bytes();

@@ -15,7 +15,7 @@ returns-in_err-scripts g c = λ input read.
     let bytes = c.args.bytes.now in
     let shard = c.shard_of-shard in
     let inputs = inputs-for files bytes shard.result in
-    (inputs, are-of-bytes files input bytes shard.result read shard.ensures, rw (p.1, p.2) ([], tt, out-of-memory (λ (s : Summary). s.all_ok) (plan_of c.args.tests c.args.places (texts_of files.scripts.items) []) inputs Serial (g.W.Sink.account c.args.output.now)))
+    (inputs, are-of-bytes files input bytes shard.result read shard.ensures, rw (p.1, p.2) ([], tt, out-of-memory (λ (s : Summary). s.all_ok) (plan_of c.args.printed (texts_of files.scripts.items) []) inputs Serial (g.W.Sink.account c.args.output.now)))
 
 pub returns-in-Ok : goal.returns-in-Ok
 returns-in-Ok g c = λ input read.

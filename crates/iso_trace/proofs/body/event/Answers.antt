@@ -10,6 +10,7 @@ returns-in-Some g c =
     let results = c.args.run.now.results.now in
     let n = c.args.node in
     let kind = c.args.kind.now in
+    let critical = c.args.critical in
     let time = c.in-Some.time in
-    prints_as c.timed.ensures (body_event tree results n kind c.args.time)
-    (ap (λ (word : List ℕ). timed_event tree word n kind time) c.word.ensures ∙ ap (body_event tree results n kind) (sym c.in-Some.is))
+    prints_as c.timed.ensures (body_event tree results n kind critical c.args.time)
+    (ap (λ (word : List ℕ). timed_event tree word n kind critical time) c.word.ensures ∙ ap (body_event tree results n kind critical) (sym c.in-Some.is))

@@ -6,5 +6,5 @@ use Rattle.iso_trace.proofs.trace.bodies.Given as goal
 
 abbrev pub invariant-nodes : goal.invariant-nodes
 invariant-nodes g l =
-    LeftToPrint l.fn.printer l.printer (body_events (tree_of l.run.plan.now) l.run.times.now l.run.results.now (length l.run.plan.now.rows - 1) 1)
-    (body_events (tree_of l.run.plan.now) l.run.times.now l.run.results.now (length l.run.plan.now.rows - l.node) l.node)
+    LeftToPrint l.fn.printer l.printer (body_events (tree_of l.run.plan.now) l.run.times.now l.run.results.now l.run.critical.now (length l.run.plan.now.rows - 1) 1)
+    (body_events (tree_of l.run.plan.now) l.run.times.now l.run.results.now l.run.critical.now (length l.run.plan.now.rows - l.node) l.node)

@@ -1,0 +1,7 @@
+use Rattle.std.proofs.Common.{refl}
+use Rattle.std.specs.Fmt.{digits}
+use Rattle.iso_commands.proofs.examples.command_has_what_was_given.Goals as goal
+
+pub returns : goal.returns
+unfolding digits
+returns c = refl

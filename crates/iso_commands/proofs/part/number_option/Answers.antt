@@ -1,0 +1,9 @@
+use Rattle.std.proofs.Common.{ap}
+use Rattle.std.specs.Fmt.{decimal}
+use Rattle.iso_tap.proofs.PrinterLemmas.{prints_as, prints_then}
+use Rattle.iso_commands.proofs.part.number_option.Goals as goal
+
+pub returns-in_ok-bytes-in-Some : goal.returns-in_ok-bytes-in-Some
+returns-in_ok-bytes-in-Some g c =
+    rw c.in-Some.is
+    (prints_then _ (prints_as c.in_ok-bytes-in-Some.ensures _ c.as_bytes.ensures.value) (prints_as c.number.ensures (decimal c.in-Some.number) (ap decimal c.from.ensures)))

@@ -1,0 +1,4 @@
+pub mod Examples
+pub mod Lent
+pub mod Parts
+pub mod Replays

@@ -1,0 +1,5 @@
+pub mod HolderLemmas
+pub mod LawLemmas
+pub mod MarkLemmas
+pub mod OrderLemmas
+pub mod WalkLemmas

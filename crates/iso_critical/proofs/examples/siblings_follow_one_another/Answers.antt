@@ -1,0 +1,7 @@
+use Rattle.std.proofs.Common.{refl}
+use Rattle.iso_plan.specs.Paths.{path}
+use Rattle.iso_critical.proofs.examples.siblings_follow_one_another.Goals as goal
+
+pub returns : goal.returns
+unfolding path
+returns c = refl

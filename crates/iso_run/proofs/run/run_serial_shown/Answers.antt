@@ -1,0 +1,32 @@
+use Rattle.std.proofs.Common.{refl, ◌∙◌}
+use Rattle.std.proofs.lemmas.Result.{err_from_is_err_and}
+use Rattle.iso_run.specs.Runs.{suite_report, as_written}
+use Rattle.iso_run.specs.Suites.{suite_of}
+use Rattle.iso_run.specs.declared.report.Summary.{Summary}
+use Rattle.iso_run.specs.declared.way.Way.TheVariants.{Serial}
+use Rattle.iso_run.proofs.Coursing.{course-told}
+use Rattle.iso_run.proofs.Reporting.{reported, told-timed}
+use Rattle.iso_run.proofs.Unread.{unread-unwritten}
+use Rattle.iso_run.proofs.run.run_serial_shown.Goals as goal
+
+pub returns-in_err-suite-clause-report : goal.returns-in_err-suite-clause-report
+returns-in_err-suite-clause-report g c =
+    let p = err_from_is_err_and c.from_residual.result c.from_residual.ensures.1 in
+    rw (p.1, p.2) (unread-unwritten (λ (s : Summary). s.all_ok) suite_report c.args.inputs Serial (g.W.Sink.account c.args.sink.now) c.in_err-suite.field-0.0 c.in_err-suite.ensures)
+
+pub returns-in-Ok-clause-report : goal.returns-in-Ok-clause-report
+returns-in-Ok-clause-report g c =
+    let is = c.in_ok-suite.ensures in
+    reported c.args.inputs (g.W.Sink.account c.args.sink.now) (g.W.Sink.account c.write_results.new.sink) (suite_of c.args.inputs c.in_ok-suite.suite) c.in_ok-suite.suite.plan c.in-Ok.ran.results
+    is.is_suite is.planned_as c.in-Ok.ensures.plan c.in-Ok.ensures.start Serial refl c.write_results.result c.write_results.ensures.report
+
+pub returns-in-Ok-clause-told : goal.returns-in-Ok-clause-told
+returns-in-Ok-clause-told g c =
+    let is = c.in_ok-suite.ensures in
+    told-timed c.args.inputs (g.W.Sink.account c.args.sink.now) (g.W.Sink.account c.write_results.new.sink) (suite_of c.args.inputs c.in_ok-suite.suite) c.in_ok-suite.suite.plan c.in-Ok.ran.results
+    is.is_suite is.planned_as c.in-Ok.ensures.plan c.in-Ok.ensures.start (as_written c.in_ok-suite.suite c.args.inputs.scripts.now) c.deref.result.now c.args.tells.now c.write_results.new.tells
+    refl (λ wants. is.placed (c.wants_places.ensures ∙ wants)) c.write_results.result c.write_results.ensures.told
+
+pub returns-in-Ok-clause-course : goal.returns-in-Ok-clause-course
+returns-in-Ok-clause-course g c =
+    course-told c.args.inputs _ c.in_ok-suite.suite c.in_ok-suite.ensures Serial c.args.course.now c.run_timed-ran.new.course c.write_results.result c.in-Ok.ensures.course
