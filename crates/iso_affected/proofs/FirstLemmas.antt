@@ -1,6 +1,6 @@
 -- The first place where two lists differ.
-use Rattle.std.proofs.Common.{◌≡◌, ℕ, suc, ◌+◌, ◌<◌, List, [], ◌∷◌, length, get_or, take, map, min, Option, Some, None, refl, sym, ap, ◌∙◌, subst, arith}
-use Rattle.std.proofs.lemmas.List.{get_or-map, get_or-take, length-map, length-take, take_all, take_more_same}
+use Rattle.std.proofs.Common.{◌≡◌, ℕ, ◌+◌, List, [], ◌∷◌, length, get_or, take, min, Option, Some, None, refl, sym, ap, ◌∙◌, subst, arith}
+use Rattle.std.proofs.lemmas.List.{get_or-take, length-take, take_all}
 use Rattle.iso_affected.specs.Firsts.{AreRowsApart, ApartAt, IsFirst}
 use Rattle.iso_affected.specs.Parts.{statements}
 use Rattle.iso_affected.specs.declared.firsts.RowsApart.{RowsApart}

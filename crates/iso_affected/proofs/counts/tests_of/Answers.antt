@@ -1,4 +1,4 @@
-use Rattle.std.proofs.Common.{◌≡◌, ◌+◌, ◌<◌, ◌≤◌, ℕ, List, Bool, true, false, length, sym, ap, ◌∙◌, add-one, arith}
+use Rattle.std.proofs.Common.{◌≡◌, ◌+◌, ◌<◌, ℕ, Bool, true, false, length, sym, ap, ◌∙◌, add-one, arith}
 use Rattle.iso_affected.specs.Counting.{is_test_of}
 use Rattle.iso_plan.proofs.NumberLemmas.{number-next, number-small, those-skip}
 use Rattle.iso_plan.specs.RowView.{tree_of}

@@ -1,6 +1,10 @@
-use Rattle.std.proofs.Common.{◌≡◌, ◌++◌, ◌∷◌, [], List, Option, None, ap, ◌∙◌}
+use Rattle.std.proofs.Common.{◌++◌, ◌∷◌, ◌<◌, [], List, Option, None, length, ap, ◌∙◌, subst, arith}
+use Rattle.std.proofs.lemmas.List.{get_or_default}
 use Rattle.iso_affected.proofs.ReasonLemmas.{root-told, told-more}
 use Rattle.iso_affected.specs.Fates.{suites}
+use Rattle.iso_affected.specs.Told.{IsDifferenceOf}
+use Rattle.iso_affected.specs.declared.affected.Fate.{Fate}
+use Rattle.iso_affected.specs.declared.affected.Fate.TheVariants.{New, Same}
 use Rattle.iso_affected.specs.declared.difference.Difference.{Difference}
 use Rattle.iso_affected.proofs.told.differences.Goals as goal
 
@@ -11,5 +15,9 @@ nodes-init c =
 
 pub nodes-preserved : goal.nodes-preserved
 nodes-preserved c =
-    told-more (suites c.args.old.now c.args.before.now c.args.new.now c.args.after.now) c.args.fates.now c.nodes.told.items c.push-in-nodes.new.self.items c.in_ok-difference.difference c.nodes.node
-    c.in_ok-push-2.ensures.items c.nodes.invariant c.in_ok-difference.ensures
+    let s = suites c.args.old.now c.args.before.now c.args.new.now c.args.after.now in
+    let fates = c.args.fates.now in
+    let n = c.nodes.node in
+    let inside : n < length fates = omega (arith, c.requires.count, c.len-node-end.ensures) in
+    let told = subst (λ (f : Fate). IsDifferenceOf s n f c.in_ok-difference.difference) (get_or_default fates n (Same 0) New inside) c.in_ok-difference.ensures in
+    told-more s fates c.nodes.told.items c.push-in-nodes.new.self.items c.in_ok-difference.difference n c.in_ok-push-2.ensures.items c.nodes.invariant told
