@@ -41,23 +41,22 @@ name-none was now i h k =
 abbrev lent : Bor (List ℕ) → List ℕ
 lent t = t.now
 
-module _ (texts : List (Bor (List ℕ))) (i : ℕ) (text : Bor (List ℕ)) (is : text ≡ get_or texts i text) where
-  inside : i < length texts → i < length (texts_of texts)
-  inside h = omega (arith, length-map texts lent)
+module _ (texts : List (Bor (List ℕ))) (i : ℕ) (d : Bor (List ℕ)) (h : i < length texts) where
+  inside : i < length (texts_of texts)
+  inside = omega (arith, length-map texts lent)
 
-  text-at : i < length texts → get_or (texts_of texts) i [] ≡ text.now
-  text-at h = get_or-map lent texts i text [] h ∙ ap lent (sym is)
+  text-at : get_or (texts_of texts) i [] ≡ (get_or texts i d).now
+  text-at = get_or-map lent texts i d [] h
 
   -- the table of the script at a place
-  pub table-at : (tables : List (List ℕ)) (table : List ℕ) → i < length texts → tables ≡ map line_starts (texts_of texts) → table ≡ get_or tables i table → table ≡ line_starts text.now
-  table-at tables table h e own =
-      own ∙ ap (λ (ts : List (List ℕ)). get_or ts i table) e ∙ get_or-map line_starts (texts_of texts) i [] table (inside h) ∙ ap line_starts (text-at h)
+  pub table-at : (tables : List (List ℕ)) (e : List ℕ) → tables ≡ map line_starts (texts_of texts) → get_or tables i e ≡ line_starts (get_or texts i d).now
+  table-at tables e is = ap (λ (ts : List (List ℕ)). get_or ts i e) is ∙ get_or-map line_starts (texts_of texts) i [] e inside ∙ ap line_starts text-at
 
   -- a line of it
-  pub line-at : (line : ScriptLine) → line.script ≡ i → i < length texts → source_at (texts_of texts) line ≡ source_line text.now line.line
-  line-at line e h =
-      ap (λ (k : ℕ). unwrap_or (option_map (λ (t : List ℕ). source_line t line.line) (slice_get (texts_of texts) k)) []) e
-      ∙ at-place (λ (t : List ℕ). source_line t line.line) (texts_of texts) i [] (inside h) ∙ ap (λ (t : List ℕ). source_line t line.line) (text-at h)
+  pub line-at : (line : ScriptLine) → line.script ≡ i → source_at (texts_of texts) line ≡ source_line (get_or texts i d).now line.line
+  line-at line is =
+      ap (λ (k : ℕ). unwrap_or (option_map (λ (t : List ℕ). source_line t line.line) (slice_get (texts_of texts) k)) []) is
+      ∙ at-place (λ (t : List ℕ). source_line t line.line) (texts_of texts) i [] inside ∙ ap (λ (t : List ℕ). source_line t line.line) text-at
 
 pub no-line : (texts : List (Bor (List ℕ))) (line : ScriptLine) → length texts ≤ line.script → source_at (texts_of texts) line ≡ []
 no-line texts line h = past-place (λ (t : List ℕ). source_line t line.line) (texts_of texts) line.script (omega (arith, length-map texts lent))

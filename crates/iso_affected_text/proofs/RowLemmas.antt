@@ -3,6 +3,7 @@ use Rattle.std.proofs.Common.{◌≡◌, ℕ, zero, suc, ◌+◌, ◌<◌, List,
 use Rattle.std.proofs.lemmas.Grind.{flat_map-append}
 use Rattle.std.proofs.lemmas.List.{map_push, take_more}
 use Rattle.iso_affected.specs.Listed.{is_listed}
+use Rattle.iso_affected.specs.declared.affected.Fate.TheVariants as F
 use Rattle.iso_affected_text.specs.Affected.{fate_rows, node_rows, nodes_rows}
 use Rattle.iso_affected_text.specs.Changes.{ChangeView}
 use Rattle.iso_affected_text.specs.Rows.{RowView, row_of}
@@ -43,7 +44,7 @@ unchanged rows more e = sym (ap (λ (rs : Rows). rows ++ rs) e ∙ append-nil ro
 
 -- the root has no row
 pub root-rows : (c : ChangeView) → row_at c.new.tree 0 ≡ root_row → node_rows c 0 ≡ []
-root-rows c e = ap (λ (r : T.Row). cond (is_listed (head_of r.kind)) (fate_rows c 0 _) []) e
+root-rows c e = ap (λ (r : T.Row). cond (is_listed (head_of r.kind)) (fate_rows c 0 (get_or c.fates 0 F.New)) []) e
 
 pub begun : (c : ChangeView) (rows : Rows) → row_at c.new.tree 0 ≡ root_row → rows ≡ rows ++ nodes_rows c 1
 begun c rows e = unchanged rows (nodes_rows c 1) (root-rows c e)

@@ -4,8 +4,8 @@ use Rattle.iso_plan.specs.PathTexts.{path_text}
 use Rattle.iso_plan.specs.RowView.{tree_of}
 use Rattle.iso_affected_text.proofs.change.path_at.Goals as goal
 
-pub index-requires : goal.index-requires
-index-requires c =
+pub bounds-side-node : goal.bounds-side-node
+bounds-side-node c =
     let tree = tree_of c.args.side.now.plan.now in
     let count : length c.args.side.now.paths.now ≡ length tree = ap length c.requires.side.paths ∙ length-column (path_text tree) (length tree) in
     let within = c.requires.within in
@@ -14,4 +14,4 @@ index-requires c =
 pub returns : goal.returns
 returns c =
     let tree = tree_of c.args.side.now.plan.now in
-    c.as_str.ensures ∙ c.index-side-paths-node.is ∙ column-read (path_text tree) c.args.side.now.paths.now (length tree) c.args.node _ c.requires.side.paths c.requires.within
+    c.as_str.ensures ∙ column-read (path_text tree) c.args.side.now.paths.now (length tree) c.args.node _ c.requires.side.paths c.requires.within
