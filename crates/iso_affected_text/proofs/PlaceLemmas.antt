@@ -1,5 +1,5 @@
 -- What stands at places of lists.
-use Rattle.std.proofs.Common.{◌≡◌, ℕ, ◌<◌, ◌≤◌, List, [], Option, Some, None, get_or, length, map, option_map, unwrap_or, sym, ap, ◌∙◌, arith}
+use Rattle.std.proofs.Common.{◌≡◌, ℕ, ◌<◌, ◌≤◌, List, [], Option, Some, None, get_or, length, map, option_map, unwrap_or, ap, ◌∙◌, arith}
 use Rattle.std.proofs.lemmas.List.{get_or-map, length-map}
 use Rattle.std.proofs.lemmas.Option.{slice_get-get_or, slice_get_past}
 use Rattle.std.specs.Borrow.{Bor}
@@ -57,6 +57,3 @@ module _ (texts : List (Bor (List ℕ))) (i : ℕ) (d : Bor (List ℕ)) (h : i <
   line-at line is =
       ap (λ (k : ℕ). unwrap_or (option_map (λ (t : List ℕ). source_line t line.line) (slice_get (texts_of texts) k)) []) is
       ∙ at-place (λ (t : List ℕ). source_line t line.line) (texts_of texts) i [] inside ∙ ap (λ (t : List ℕ). source_line t line.line) text-at
-
-pub no-line : (texts : List (Bor (List ℕ))) (line : ScriptLine) → length texts ≤ line.script → source_at (texts_of texts) line ≡ []
-no-line texts line h = past-place (λ (t : List ℕ). source_line t line.line) (texts_of texts) line.script (omega (arith, length-map texts lent))

@@ -1,7 +1,7 @@
 -- Where blocks differ.
 use Rattle.std.specs.Prelude.{ℕ, List, [], Option, codes, length, slice_index_or, unwrap_or}
 use Rattle.std.specs.List.{slice_get}
-use Rattle.std.specs.Option.{option_and_then, option_map}
+use Rattle.std.specs.Option.{option_map}
 use Rattle.iso_affected_text.specs.Changes.{SideView}
 use Rattle.iso_affected_text.specs.Rows.{SpotView}
 use Rattle.iso_affected_text.specs.declared.row.Block.{Block}

@@ -1,5 +1,5 @@
 -- What is told, as text.
-use Rattle.std.specs.Prelude.{ℕ, ◌+◌, List, [], ◌∷◌, ◌++◌, Option, Some, None, Bool, ◌==◌, cond, codes, flat_map, not}
+use Rattle.std.specs.Prelude.{ℕ, ◌+◌, List, [], ◌∷◌, ◌++◌, Option, Some, None, ◌==◌, cond, codes, flat_map, not}
 use Rattle.std.specs.Fmt.{decimal}
 use Rattle.iso_affected.specs.declared.counts.Counts.{Counts}
 use Rattle.iso_affected_text.specs.Rows.{RowView, SpotView, block_row, node_row, part_row, start_row}

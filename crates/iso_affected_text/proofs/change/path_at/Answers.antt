@@ -1,4 +1,4 @@
-use Rattle.std.proofs.Common.{◌≡◌, ◌<◌, List, ℕ, length, ap, ◌∙◌, arith}
+use Rattle.std.proofs.Common.{◌≡◌, length, ap, ◌∙◌, arith}
 use Rattle.iso_plan.proofs.ColumnLemmas.{column-read, length-column}
 use Rattle.iso_plan.specs.PathTexts.{path_text}
 use Rattle.iso_plan.specs.RowView.{tree_of}

@@ -1,4 +1,4 @@
-use Rattle.std.proofs.Common.{List, ℕ, sym, ◌∙◌}
+use Rattle.std.proofs.Common.{sym, ◌∙◌}
 use Rattle.iso_affected_text.proofs.PlaceLemmas.{at-place, past-place}
 use Rattle.iso_model.specs.declared.heads.Mark.{Mark}
 use Rattle.iso_affected_text.proofs.parts.key_at.Goals as goal

@@ -1,4 +1,4 @@
-use Rattle.std.proofs.Common.{◌≡◌, ◌∷◌, ℕ, List, ap, sym, ◌∙◌}
+use Rattle.std.proofs.Common.{◌≡◌, ◌∷◌, ℕ, ap, sym, ◌∙◌}
 use Rattle.std.proofs.lemmas.Result.{on_ok_weaker}
 use Rattle.iso_affected_text.proofs.RowLemmas.{has-parent, in_two, no-parent, unchanged}
 use Rattle.iso_affected_text.specs.Affected.{reasons_on}

@@ -1,5 +1,5 @@
 use Rattle.std.proofs.Common.{sym, ap, ◌∙◌}
-use Rattle.iso_affected_text.proofs.RowLemmas.{chosen, other, pushed, unchanged}
+use Rattle.iso_affected_text.proofs.RowLemmas.{other, pushed, unchanged}
 use Rattle.iso_affected_text.specs.Rows.{node_row}
 use Rattle.iso_affected_text.specs.declared.row.Became.TheVariants.{Gone}
 use Rattle.iso_affected_text.proofs.rows.add_gone_node.Goals as goal

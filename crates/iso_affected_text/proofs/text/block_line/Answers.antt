@@ -1,4 +1,4 @@
-use Rattle.std.proofs.Common.{◌≡◌, List, [], ◌∷◌, ◌++◌, ℕ, codes, option_copied, option_map, ap}
+use Rattle.std.proofs.Common.{List, [], ◌∷◌, ℕ, codes, option_copied, option_map, ap}
 use Rattle.iso_affected_text.specs.Rows.{spot_of}
 use Rattle.iso_affected_text.specs.Texts.{block_word, spots_text}
 use Rattle.iso_affected_text.specs.Words.{joined, optional}
