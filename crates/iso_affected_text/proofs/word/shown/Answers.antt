@@ -11,7 +11,7 @@ returns-in_err-bytes g c =
     let i = c.loop-byte.byte-index in
     let p = err_from_is_err_and c.from_residual.result c.from_residual.ensures.1 in
     let next = ap (λ (bs : List ℕ). map shown_byte bs) (drop_next bytes i 0 c.loop-byte-test.true) in
-    let one = prints_as {r = Err c.in_err-bytes.field-0} c.in_err-bytes.ensures (shown_byte (get_or bytes i 0) ∷ []) (ap (λ (x : ℕ). x ∷ []) c.shown_byte.ensures) in
+    let one = prints_as {r = Err c.in_err-bytes.field-0.0} c.in_err-bytes.ensures (shown_byte (get_or bytes i 0) ∷ []) (ap (λ (x : ℕ). x ∷ []) c.shown_byte.ensures) in
     rw p.1 (left_cut (map shown_byte (drop (i + 1) bytes)) _ p.0 next c.loop-byte.invariant one)
 
 pub loop-byte-preserved : goal.loop-byte-preserved
