@@ -1,6 +1,7 @@
 pub mod Affected
 pub mod Changes
 pub mod Examples
+pub mod Meanings
 pub mod PartRows
 pub mod Rows
 pub mod Spots

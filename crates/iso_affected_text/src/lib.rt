@@ -3,6 +3,7 @@
 
 pub mod change;
 pub mod examples;
+pub mod laws;
 mod parts;
 pub mod paths;
 pub mod row;
