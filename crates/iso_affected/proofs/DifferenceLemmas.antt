@@ -1,5 +1,5 @@
 -- Two heads agree where nothing is told to differ.
-use Rattle.std.proofs.Common.{◌≡◌, ◌↔◌, ℕ, List, Bool, true, false, ◌&&◌, not, Option, Some, None, IsFalse, is_none, refl, sym, ap, ◌∙◌, subst, true≢false}
+use Rattle.std.proofs.Common.{◌≡◌, ◌↔◌, ℕ, List, Bool, true, false, ◌&&◌, not, Option, Some, None, IsFalse, is_none, refl, sym, ap, subst, true≢false}
 use Rattle.iso_affected.proofs.FirstLemmas.{blocks-tell, first-none, no-rows, none-first, rows-none}
 use Rattle.iso_affected.proofs.MarkLemmas.{Alike, at-mark, some_mark}
 use Rattle.iso_affected.specs.Agreeing.{OwnAgree}
@@ -10,10 +10,8 @@ use Rattle.iso_affected.specs.declared.difference.Blocks.{Blocks}
 use Rattle.iso_affected.specs.declared.difference.Declared.{Declared}
 use Rattle.iso_affected.specs.declared.difference.Difference.{Difference}
 use Rattle.iso_affected.specs.declared.firsts.RowsApart.{RowsApart}
-use Rattle.iso_model.specs.Chains.{ClassHead, TestHead}
 use Rattle.iso_model.specs.Syntax.{Acts}
 use Rattle.iso_model.specs.declared.heads.Mark.{Mark}
-use Rattle.iso_model.specs.declared.heads.Variable.{Variable}
 use Rattle.iso_model.specs.declared.place.Lifecycle.TheVariants.{BeforeAll, AfterAll, BeforeEach, AfterEach}
 use Rattle.iso_settings.specs.Worlds.{Start}
 use Rattle.iso_suites.specs.ScriptLanguage.{Head, is_of_test, marks_on, of_class, of_test}

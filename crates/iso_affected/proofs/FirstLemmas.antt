@@ -1,6 +1,6 @@
 -- The first place where two lists differ.
-use Rattle.std.proofs.Common.{◌≡◌, ℕ, suc, ◌+◌, ◌<◌, List, [], ◌∷◌, length, get_or, take, map, min, Option, Some, None, refl, sym, ap, ◌∙◌, subst, arith}
-use Rattle.std.proofs.lemmas.List.{get_or-map, get_or-take, length-map, length-take, take_all, take_more_same}
+use Rattle.std.proofs.Common.{◌≡◌, ℕ, ◌+◌, List, [], ◌∷◌, get_or, take, Option, Some, None, refl, sym, ap, ◌∙◌, subst, arith}
+use Rattle.std.proofs.lemmas.List.{get_or-take}
 use Rattle.iso_affected.specs.Firsts.{AreRowsApart, ApartAt, IsFirst}
 use Rattle.iso_affected.specs.Parts.{statements}
 use Rattle.iso_affected.specs.declared.firsts.RowsApart.{RowsApart}
@@ -15,20 +15,6 @@ module _ {A : Type 0} (xs ys : List A) where
         before = before;
         here = λ same. apart (sym (get_or-take (i + 1) xs i d (omega arith)) ∙ ap (λ (zs : List A). get_or zs i d) same ∙ get_or-take (i + 1) ys i d (omega arith));
       }
-
-  -- where the shorter one ends, the lists differ
-  pub apart-end : (i : ℕ) → i ≡ min (length xs) (length ys) → (length xs ≡ length ys → ⊥) → take i xs ≡ take i ys → ApartAt xs ys i
-  apart-end i e apart before =
-      record {
-        before = before;
-        here = λ same.
-            let counts : min (i + 1) (length xs) ≡ min (i + 1) (length ys) = sym (length-take (i + 1) xs) ∙ ap length same ∙ length-take (i + 1) ys in
-            apart (omega arith);
-      }
-
-  -- lists of one length that are alike up to it are equal
-  pub alike-all : (i : ℕ) → i ≡ min (length xs) (length ys) → length xs ≡ length ys → take i xs ≡ take i ys → xs ≡ ys
-  alike-all i e same before = sym (take_all i xs (omega arith)) ∙ before ∙ take_all i ys (omega arith)
 
   -- equal lists differ nowhere
   pub none-first : (o : Option ℕ) → IsFirst xs ys o → xs ≡ ys → o ≡ None

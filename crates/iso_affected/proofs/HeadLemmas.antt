@@ -34,6 +34,3 @@ pub class-kind-rights : (k : Kind) (cs : List ClassHead) → own_test k ≡ None
 class-kind-rights root cs e = refl
 class-kind-rights (class_node isolated head) cs e = refl
 class-kind-rights (test_node head) cs e = let wrong : Some head ≡ None = e in absurd (cc)
-
-pub one-class : (c d : ClassHead) → of_class c ≡ of_class d → c ≡ d
-one-class c d e = cc

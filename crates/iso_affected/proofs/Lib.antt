@@ -7,5 +7,6 @@ pub mod MarkLemmas
 pub mod NameTableLemmas
 pub mod NamesakeLemmas
 pub mod PathAgreement
+pub mod PropertyLemmas
 pub mod ReasonLemmas
 pub mod SameRuns

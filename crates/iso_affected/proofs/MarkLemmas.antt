@@ -15,9 +15,6 @@ use Rattle.iso_settings.specs.Worlds.{Start, starting_value_in}
 abbrev pub Alike : Start → Start → List Mark → Type 0
 Alike s t ms = EqualAt (rights_of ms) (started s) (started t)
 
-pub no-marks : (s t : Start) → Alike s t []
-no-marks s t = record { same = λ k e. absurd (true≢false (sym e)) }
-
 -- what may be looked at by two rights together may be by one of them
 pub readable-either : (a b : Option Access) → is_readable (strongest a b) ≡ true → (is_readable a ≡ true) ⊎ (is_readable b ≡ true)
 readable-either None b e = inr e

@@ -14,7 +14,7 @@ use Rattle.iso_affected.specs.declared.affected.Fate.{Fate}
 use Rattle.iso_affected.specs.declared.affected.Fate.TheVariants.{Same, Changed, New}
 use Rattle.iso_affected.specs.declared.difference.Difference.{Difference}
 use Rattle.iso_plan.proofs.PathLemmas.{along, eq_from, path-root, path-step, under-le}
-use Rattle.iso_plan.specs.Paths.{IsTree, is_on, is_under, parent, path}
+use Rattle.iso_plan.specs.Paths.{IsTree, is_on, parent, path}
 use Rattle.iso_plan.specs.RowView.{tree_of}
 use Rattle.iso_plan.specs.Tree.{Row}
 

@@ -1,4 +1,5 @@
 pub mod Agreeing
+pub mod Counting
 pub mod Fates
 pub mod Firsts
 pub mod Listed
@@ -6,5 +7,6 @@ pub mod NameTables
 pub mod Namesakes
 pub mod OwnHeads
 pub mod Parts
+pub mod PropertyStarts
 pub mod Reasons
 pub mod Told

@@ -2,11 +2,13 @@
 #![tactic(auto)]
 
 pub mod affected;
+pub mod counts;
 pub mod difference;
 pub mod firsts;
 pub mod laws;
 pub mod listed;
 mod namesake;
 pub mod own;
+pub mod properties;
 mod starts;
 pub mod told;

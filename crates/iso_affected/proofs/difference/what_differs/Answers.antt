@@ -1,4 +1,3 @@
-use Rattle.std.proofs.Common.{List, sym, ap, ◌∙◌, subst}
 use Rattle.iso_affected.proofs.DifferenceLemmas.{difference-of}
 use Rattle.iso_affected.proofs.difference.what_differs.Goals as goal
 

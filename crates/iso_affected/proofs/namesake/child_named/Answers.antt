@@ -1,7 +1,6 @@
-use Rattle.std.proofs.Common.{◌≡◌, Option, ℕ, IfSome, length, sym, ap, ◌∙◌, subst}
+use Rattle.std.proofs.Common.{Option, ℕ, IfSome, length, sym, ◌∙◌, subst}
 use Rattle.iso_affected.proofs.NamesakeLemmas.{named-child}
 use Rattle.iso_affected.specs.NameTables.{FindsNamed}
-use Rattle.iso_affected.specs.Namesakes.{named}
 use Rattle.iso_plan.specs.Children.{IsChild}
 use Rattle.iso_plan.specs.Paths.{children}
 use Rattle.iso_plan.specs.RowView.{tree_of}

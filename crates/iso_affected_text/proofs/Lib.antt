@@ -1,0 +1,4 @@
+pub mod ChangeLemmas
+pub mod MeaningLemmas
+pub mod PlaceLemmas
+pub mod RowLemmas

@@ -1,0 +1,9 @@
+pub mod Affected
+pub mod Changes
+pub mod Examples
+pub mod Meanings
+pub mod PartRows
+pub mod Rows
+pub mod Spots
+pub mod Texts
+pub mod Words

@@ -1,0 +1,13 @@
+//! What a change can alter, as text: which tests and classes, and why.
+#![tactic(auto)]
+
+pub mod change;
+pub mod examples;
+pub mod laws;
+mod parts;
+pub mod paths;
+pub mod row;
+pub mod rows;
+mod spots;
+pub mod text;
+mod word;
