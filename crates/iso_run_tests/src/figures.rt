@@ -17,7 +17,7 @@ use std::thread::Threads;
 use std::time::Duration;
 
 /// For how many milliseconds each body is held.
-const HELD: u64 = 400;
+const HELD: u64 = 300;
 
 /// A gate that holds a body after its step, while that is measured.
 #[derive(Drop)]
@@ -133,7 +133,8 @@ fn stats_of<R: Abort + Clock + Threads + Wait + Sync>(
     }
 }
 
-/// The digits of the number that stands behind some words in a text, without its point; 0 where there is none.
+/// The digits of the number that stands behind some words in a text, without its point; 0 where there is none. Of a time it is hundredths of
+/// a millisecond, in whichever of s and ms it is told.
 fn number_behind(text: &[u8], words: &str) -> u64 {
     let words = words.as_bytes();
     let Some(at) = text
@@ -143,7 +144,8 @@ fn number_behind(text: &[u8], words: &str) -> u64 {
         return 0;
     };
     let mut number = 0u64;
-    for byte in text.iter().skip(at.saturating_add(words.len())) {
+    let mut end = at.saturating_add(words.len());
+    for byte in text.iter().skip(end) {
         match byte {
             b'0'..=b'9' => {
                 number = number
@@ -153,8 +155,12 @@ fn number_behind(text: &[u8], words: &str) -> u64 {
             b'.' => {}
             _ => break,
         }
+        end = end.saturating_add(1);
     }
-    number
+    match text.get(end.saturating_add(1)) {
+        Some(b's') => number.saturating_mul(1_000),
+        _ => number,
+    }
 }
 
 /// Whether a number is another one, or at most a tenth more or less.
