@@ -46,10 +46,31 @@ def named_statics(size):
 
 def summed(operand, count):
     """The sum of so many operands, in chains of 32."""
-    parts = [operand] * count
+    return added([operand] * count)
+
+
+def added(parts):
+    """The sum of operands, in chains of 32."""
     while len(parts) > 1:
         parts = ["(" + "+".join(parts[place:place + 32]) + ")" for place in range(0, len(parts), 32)]
     return parts[0]
+
+
+def reads(first, after, children=""):
+    """Marks that read the keys with these numbers, each by itself."""
+    return "".join(f'read {children}"{number}" ' for number in range(first, after))
+
+
+def in_scripts(classes):
+    """Top-level classes, in as few scripts as they fit into."""
+    files, size = {}, MEBIBYTE
+    for text in classes:
+        if size + len(text) > MEBIBYTE - 16:
+            name, size = f"s{len(files)}.jtap", 0
+            files[name] = ["team t\n"]
+        files[name].append(text)
+        size += len(text)
+    return {name: "".join(texts) for name, texts in files.items()}
 
 
 # Scripts, read and planned.
@@ -271,7 +292,77 @@ def joined(share):
     return one("class C {\n" + tests(int(100 * share), "", body) + "}")
 
 
+@kind("plan", "--only", "t.C.t0")
+def unselected_tests(share):
+    """A class with 255 marks for its children, and the most tests, of which one is kept."""
+    return one(filled(reads(0, 255, "children ") + "class C {\n", "test t#{}\n", "}", int((MEBIBYTE - 7) * share)))
+
+
+@kind("run", "--serial")
+def changed_properties(share):
+    """A property with a name and a text of 4,000 bytes, which each block around a test in 8 classes changes in 4,999 turns."""
+    turns = f"repeat {int(4999 * share)} {{ set_prop v, v; }}"
+    blocks = " ".join(f"{block} {{ {turns} }}" for block in ("before_all", "before_each", "after_each", "after_all"))
+    opened = "".join(f"class C{depth} {{ {blocks}\n" for depth in range(1, 8))
+    return one(f'write "java.lang.System.properties" class C0 {{ static v = "{"a" * 4000}"; {blocks}\n{opened}test t {{ {turns} }}\n' + "}" * 8)
+
+
+@kind("run", "--serial")
+def looked_up_files(share):
+    """A statement with 500 looks at files among 255 declared paths, in 4,999 turns."""
+    marks = "".join(f'read "file:{100 + number}" ' for number in range(255))
+    looks = added([f'len(text(has_file("{100 + number % 255}")))' for number in range(int(500 * share))])
+    return one(marks + "class C {\n" + tests(1, "", f" repeat 4999 {{ let x = {looks}; }} ") + "}")
+
+
+@kind("run", "--serial")
+def writers_of_255_keys(share):
+    """4,000 tests that each write 255 keys, which their class has for its children."""
+    return one("".join(f'write children "{number}" ' for number in range(255)) + "class C {\n" + tests(int(4000 * share)) + "}")
+
+
+@kind("run", "--serial")
+def writers_of_one_key(share):
+    """4,000 tests that write one key."""
+    return one("class C {\n" + tests(int(4000 * share), 'write "k" ') + "}")
+
+
 # Several workers.
+
+
+@kind("run", "--settings", "settings.toml")
+def classes_with_writers(share):
+    """2,040 top-level classes with a test each, which reads 254 keys and writes one more, on 64 workers."""
+    marks = reads(0, 254) + 'write "254" '
+    return {**in_scripts(f"class C{number} {{ {marks}test t {{ }} }}\n" for number in range(int(2040 * share))), "settings.toml": settings(64)}
+
+
+@kind("run", "--settings", "settings.toml")
+def marks_of_children(share):
+    """A class with 230 marks for its children, and 3,900 empty tests, on 64 workers."""
+    return {**one(reads(0, 230, "children ") + "class C {\n" + tests(int(3900 * share)) + "}"), "settings.toml": settings(64)}
+
+
+@kind("run", "--settings", "settings.toml")
+def readers_by_children(share):
+    """4,090 tests that read 255 keys, on 64 workers."""
+    return {**one(reads(0, 255, "children ") + "class C {\n" + tests(int(4090 * share)) + "}"), "settings.toml": settings(64)}
+
+
+@kind("run", "--settings", "settings.toml")
+def open_classes(share):
+    """2,040 top-level classes that read 255 keys, with an empty test each, which one worker opens before it runs their tests."""
+    marks = reads(0, 255)
+    return {**in_scripts(f"{marks}class C{number} {{ test t {{ }} }}\n" for number in range(int(2040 * share))), "settings.toml": settings(1)}
+
+
+@kind("run", "--settings", "settings.toml")
+def classes_with_some_locks(share):
+    """An ordinary suite: 2,000 classes of one printing test, each with 20 marks of 40 keys, by one worker."""
+    classes = (f'{"".join(f"""read "{(7 * number + 3 * key) % 40}" """ for key in range(20))}class C{number} {{ test t {{ print 1; }} }}\n'
+               for number in range(int(2000 * share)))
+    return {**in_scripts(classes), "settings.toml": settings(1)}
+
 
 
 @kind("run", "--settings", "settings.toml")
@@ -450,6 +541,17 @@ def readers_of_255_keys(share):
     events += [event for node in nodes[63:] for event in (f"enter 0 {node}", "leave 0")]
     events += [f"leave {worker}" for worker in range(1, 64)] + [event for first in classes for event in (f"shut 0 {first}", "leave 0")]
     return {**files, "e": "\n".join(events) + "\n", "settings.toml": settings(64)}
+
+
+@kind("replay", "--schedule", "e", "--settings", "settings.toml")
+def opened_before_closed(share):
+    """2,040 classes that read 255 keys, which stand in one class and are all opened before one is closed."""
+    count = int(2040 * share)
+    text = reads(0, 255, "children ") + "class C {\n" + "".join(f"class D{number} {{ test t {{ }} }}\n" for number in range(count)) + "}"
+    events = ["enter 0 1", "leave 0"] + [event for number in range(count) for event in (f"enter 0 {2 + 2 * number}", "leave 0")]
+    for number in range(count):
+        events += [f"enter 0 {3 + 2 * number}", "leave 0", f"shut 0 {2 + 2 * number}", "leave 0"]
+    return {**one(text), "e": "\n".join(events + ["shut 0 1", "leave 0"]) + "\n", "settings.toml": settings(1)}
 
 
 @kind("run", "--serial")
