@@ -17,7 +17,7 @@ use std::thread::Threads;
 use std::time::Duration;
 
 /// For how many milliseconds each body is held.
-const HELD: u64 = 300;
+const HELD: u64 = 1_000;
 
 /// A gate that holds a body after its step, while that is measured.
 #[derive(Drop)]
