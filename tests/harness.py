@@ -70,9 +70,11 @@ def run_writing(words, files={}, script=b""):
     """The same, and the files that stand in the folder then and weren't handed in so."""
     with tempfile.TemporaryDirectory() as folder:
         for name, text in files.items():
-            Path(folder, name).write_bytes(as_bytes(text))
+            path = Path(folder, name)
+            path.parent.mkdir(exist_ok=True)
+            path.write_bytes(as_bytes(text))
         answer = run_in(folder, words, script)
-        found = {path.name: path.read_bytes() for path in Path(folder).iterdir()}
+        found = {str(path.relative_to(folder)): path.read_bytes() for path in Path(folder).rglob("*") if path.is_file()}
         return answer, {name: text for name, text in found.items() if name not in files or text != as_bytes(files[name])}
 
 

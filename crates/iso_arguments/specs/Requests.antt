@@ -5,7 +5,7 @@ use Rattle.iso_arguments.specs.declared.processors.Processors.TheVariants.{Count
 use Rattle.iso_arguments.specs.declared.request.Extras.{Extras}
 use Rattle.iso_arguments.specs.declared.request.InputFiles.{InputFiles}
 use Rattle.iso_arguments.specs.declared.request.Request.{Request}
-use Rattle.iso_arguments.specs.declared.request.Request.TheVariants.{Run, Plan, Conflicts, Replay, Check, Settings, Show}
+use Rattle.iso_arguments.specs.declared.request.Request.TheVariants.{Run, Plan, Conflicts, Replay, Check, Affected, Settings, Show}
 use Rattle.iso_arguments.specs.declared.shard.Shard.{Shard}
 
 -- the numbers of processors that may be counted with
@@ -31,6 +31,7 @@ AsksInBounds (Plan tests places why files) = AreInBounds files
 AsksInBounds (Conflicts files) = AreInBounds files
 AsksInBounds (Replay schedule extras files) = AreInBounds files
 AsksInBounds (Check files) = AreInBounds files
+AsksInBounds (Affected old paths files) = AreInBounds files
 AsksInBounds (Settings settings processors explain) = IfSome processors IsWithin
 AsksInBounds (Show text) = ⊤
 
@@ -59,5 +60,6 @@ IsPlainRun (Plan tests places why files) = ⊥
 IsPlainRun (Conflicts files) = ⊥
 IsPlainRun (Replay schedule extras files) = ⊥
 IsPlainRun (Check files) = ⊥
+IsPlainRun (Affected old paths files) = ⊥
 IsPlainRun (Settings settings processors explain) = ⊥
 IsPlainRun (Show text) = ⊥

@@ -35,6 +35,10 @@ static REPLAY_END: &str = "Example:
 static CHECK_END: &str = "Example:
   jtap check --explain --settings junit.toml cart.jtap desk.jtap";
 
+static AFFECTED_END: &str = "Examples:
+  jtap affected --old ../base --world start.toml cart.jtap desk.jtap
+  jtap affected --old ../base --paths cart.jtap desk.jtap > first.txt";
+
 static SETTINGS_END: &str = "Example:
   jtap settings --settings junit.toml --processors auto";
 
@@ -66,6 +70,12 @@ for one another, in place of nodes";
 
 static SUMMARY: &str = "Tell on standard error what failed, with file and
 line; with `=all` what was skipped, too";
+
+static OLD: &str = "Folder of the older state, below which each SCRIPT
+and the world stand by the same names";
+
+static PATHS: &str = "Print the paths of changed and new classes and tests
+alone, one a line, for `--only-from`";
 
 /// The value that `--summary` may have.
 static SUMMARIZED: &[&str] = &["all"];
@@ -103,6 +113,7 @@ pub(crate) fn command_line<'a>(alloc: Global) -> Result<Command<'a>, AllocError>
     let command = with_subcommand(command, plan(alloc));
     let command = with_subcommand(command, replay(alloc));
     let command = with_subcommand(command, check(alloc));
+    let command = with_subcommand(command, affected(alloc));
     with_subcommand(command, show_settings(alloc))
 }
 
@@ -153,6 +164,17 @@ fn replay<'a>(alloc: Global) -> Result<Command<'a>, AllocError> {
 fn check<'a>(alloc: Global) -> Result<Command<'a>, AllocError> {
     let about = "Tell on standard error what is wrong with each file, and run nothing";
     with_inputs(alloc, Ok(subcommand(alloc, "check", about, CHECK_END)))
+}
+
+/// The subcommand that tells what a change can alter.
+fn affected<'a>(alloc: Global) -> Result<Command<'a>, AllocError> {
+    let about = "Print which classes and tests a change can alter, and why";
+    subcommand(alloc, "affected", about, AFFECTED_END)
+        .arg(old(alloc))?
+        .arg(world(alloc))?
+        .arg(paths(alloc))?
+        .arg(explain(alloc))?
+        .arg(scripts_of_both(alloc))
 }
 
 /// The subcommand that prints settings.
@@ -252,6 +274,21 @@ fn conflicts<'a>(alloc: Global) -> Result<Arg<'a>, AllocError> {
 
 fn schedule<'a>(alloc: Global) -> Arg<'a> {
     file(alloc, "schedule", "Events to replay, one a line").required(true)
+}
+
+fn old<'a>(alloc: Global) -> Arg<'a> {
+    Arg::new(alloc, "old")
+        .long("old")
+        .value_name("DIR")
+        .required(true)
+        .help(OLD)
+}
+
+fn paths<'a>(alloc: Global) -> Arg<'a> {
+    Arg::new(alloc, "paths")
+        .long("paths")
+        .action(ArgAction::SetTrue)
+        .help(PATHS)
 }
 
 fn summary<'a>(alloc: Global) -> Arg<'a> {
@@ -364,4 +401,13 @@ fn scripts<'a>(alloc: Global) -> Arg<'a> {
         .num_args(0..)
         .action(ArgAction::Append)
         .help("Scripts to read, in this order [default: standard input]")
+}
+
+fn scripts_of_both<'a>(alloc: Global) -> Arg<'a> {
+    Arg::new(alloc, "scripts")
+        .value_name("SCRIPT")
+        .required(true)
+        .num_args(1..)
+        .action(ArgAction::Append)
+        .help("Scripts to read, in this order, here and below DIR")
 }

@@ -146,6 +146,12 @@ pub enum Request<'a> {
     },
     /// What is wrong with files, without a run.
     Check(InputFiles<'a>),
+    /// What a change of scripts and a world can alter, which were in the folder `old` by the same names; `paths` the paths alone.
+    Affected {
+        old: &'a str,
+        paths: bool,
+        files: InputFiles<'a>,
+    },
     /// What the settings in a file of this name come to, with so many processors; `explain` with what mends a fault.
     Settings {
         settings: Option<&'a str>,
@@ -289,6 +295,7 @@ fn requested<'a>(alloc: Global, matches: &ArgMatches<'a>) -> Result<Request<'a>,
             });
         }
         "check" => return Ok(Request::Check(files)),
+        "affected" => return affected_of(alloc, found, files),
         _ => {}
     }
     let schedule = found.get_str("schedule");
@@ -306,6 +313,50 @@ fn requested<'a>(alloc: Global, matches: &ArgMatches<'a>) -> Result<Request<'a>,
             files,
         },
     })
+}
+
+/// What is asked for of a change of these files. It is a wrong word that names no folder of their older state, or a file by an absolute path:
+/// below another folder there is none by that name.
+fn affected_of<'a>(
+    alloc: Global,
+    found: &ArgMatches<'a>,
+    files: InputFiles<'a>,
+) -> Result<Request<'a>, WordsFault>
+    requires bounds { AreInBounds files }
+    ensures bounds { IfOk result AsksInBounds }
+{
+    // `--old` is required: it has a value.
+    let old = found.get_str("old").unwrap_or("");
+    if old.is_empty() {
+        return Err(WordsFault::Wrong(invalid_value(
+            alloc,
+            old,
+            "--old <DIR>",
+            "a folder is wanted",
+        )?));
+    }
+    check_relative(alloc, "--world <FILE>", files.world.as_slice())?;
+    check_relative(alloc, "<SCRIPT>...", files.scripts.as_slice())?;
+    Ok(Request::Affected {
+        old,
+        paths: found.get_flag("paths"),
+        files,
+    })
+}
+
+/// Refuses the first of these files that is named by an absolute path.
+fn check_relative(alloc: Global, option: &str, files: &[&str]) -> Result<(), WordsFault> {
+    for file in files {
+        if file.starts_with('/') {
+            return Err(WordsFault::Wrong(invalid_value(
+                alloc,
+                file,
+                option,
+                "a relative path is wanted",
+            )?));
+        }
+    }
+    Ok(())
 }
 
 /// What is asked for besides the report.

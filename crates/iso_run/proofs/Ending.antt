@@ -2,7 +2,7 @@
 use Rattle.std.proofs.Common.{◌≡◌, ℕ, ◌≤◌, List, [], Bool, true, false, Option, None, Some, IfSome, refl, arith}
 use Rattle.iso_arguments.specs.Requests.{IsPlainRun}
 use Rattle.iso_arguments.specs.declared.request.Request.{Request}
-use Rattle.iso_arguments.specs.declared.request.Request.TheVariants.{Run, Plan, Conflicts, Replay, Check, Settings, Show}
+use Rattle.iso_arguments.specs.declared.request.Request.TheVariants.{Run, Plan, Conflicts, Replay, Check, Affected, Settings, Show}
 use Rattle.iso_run.specs.Commands.{Answered, Did, RanOn}
 use Rattle.iso_run.specs.Ends.{Refuses, Whole, command_end, exit_status, run_end}
 use Rattle.iso_run.specs.declared.command_fault.CommandFault.{CommandFault}
@@ -42,6 +42,7 @@ plain-ran : (request : Request) (script : List ℕ) (old new : Account) (ok : Bo
 plain-ran (Show text) script old new ok is did = absurd is
 plain-ran (Plan tests places why files) script old new ok is did = absurd is
 plain-ran (Conflicts files) script old new ok is did = absurd is
+plain-ran (Affected folder paths files) script old new ok is did = absurd is
 plain-ran (Check files) script old new ok is did = absurd is
 plain-ran (Settings name processors explain) script old new ok is did = absurd is
 plain-ran (Replay name extras files) script old new ok is did = absurd is

@@ -25,7 +25,7 @@ are-for files input bytes inputs read scripts settings world listed only pattern
 abbrev pub lend : List ℕ → Bor (List ℕ)
 lend bytes = record { ref_ptr = (0, 0); now = bytes }
 
-texts-lent : (vs : List (Vec ℕ Global)) → texts (map (λ (v : Vec ℕ Global). lend v.items) vs) ≡ map (λ (v : Vec ℕ Global). v.items) vs
+pub texts-lent : (vs : List (Vec ℕ Global)) → texts (map (λ (v : Vec ℕ Global). lend v.items) vs) ≡ map (λ (v : Vec ℕ Global). v.items) vs
 texts-lent [] = refl
 texts-lent (v ∷ vs) = ap (λ (ts : List (List ℕ)). v.items ∷ ts) (texts-lent vs)
 

@@ -1,8 +1,10 @@
+mod Altering
 mod Answering
 mod Captures
 mod Coursing
 mod Documents
 mod Ending
+mod Flushing
 mod Late
 mod Lending
 mod Plans

@@ -9,19 +9,27 @@ use Rattle.iso_arguments.specs.declared.processors.Processors.TheVariants.{Count
 use Rattle.iso_arguments.specs.declared.request.Extras.{Extras}
 use Rattle.iso_arguments.specs.declared.request.InputFiles.{InputFiles}
 use Rattle.iso_arguments.specs.declared.request.Request.{Request}
-use Rattle.iso_arguments.specs.declared.request.Request.TheVariants.{Run, Plan, Conflicts, Replay, Check, Settings, Show}
+use Rattle.iso_arguments.specs.declared.request.Request.TheVariants.{Run, Plan, Conflicts, Replay, Check, Affected, Settings, Show}
 use Rattle.iso_arguments.specs.declared.request.Summarized.{Summarized}
 use Rattle.iso_arguments.specs.declared.request.Summarized.TheVariants.{Failed, All}
 use Rattle.iso_arguments.specs.declared.shard.Shard as A
 use Rattle.iso_explain_settings.specs.Listing.{listing_text}
 use Rattle.iso_model.specs.declared.limits.TheConstants.{FILE_BYTES}
 use Rattle.iso_html.specs.declared.again.Commands as P
+use Rattle.iso_affected.specs.Fates.{suites}
+use Rattle.iso_affected_text.specs.Changes.{ChangeView}
+use Rattle.iso_places.specs.LineStarts.{line_starts}
+use Rattle.iso_plan.specs.RowView.{tree_of}
+use Rattle.iso_plan.specs.TopClasses.{all_paths}
+use Rattle.iso_run.specs.Alterations.{AreBelow, IsAlteration, IsChangeOf, IsSideOf, StartsOtherwise, change_text}
+use Rattle.iso_run.specs.declared.affected.Asked.{Asked}
+use Rattle.iso_run.specs.declared.state.State.{State}
 use Rattle.iso_run.specs.Ends.{End, NamesFile, Whole, Refuses, Leaves, exit_status, run_end}
 use Rattle.iso_run.specs.Replays.{Cause}
 use Rattle.iso_places.specs.declared.site.Site.{Site}
 use Rattle.iso_plan.specs.Selections.{texts_of}
-use Rattle.iso_run.specs.Runs.{AreSitesOf, IsWritten, Product, suite_conflicts, suite_places, suite_plan, suite_report, suite_tests, suite_why}
-use Rattle.iso_run.specs.Suites.{OfSuite, Suite, document, settings_from, texts}
+use Rattle.iso_run.specs.Runs.{AreSitesOf, IsRead, IsWritten, Product, suite_conflicts, suite_places, suite_plan, suite_report, suite_tests, suite_why}
+use Rattle.iso_run.specs.Suites.{OfSuite, Suite, document, settings_from, suite_of, texts}
 use Rattle.iso_run.specs.declared.command.Printed.{Printed}
 use Rattle.iso_run.specs.declared.command_fault.CommandFault.{CommandFault}
 use Rattle.iso_run.specs.declared.fault.RunFault.{RunFault}
@@ -123,12 +131,57 @@ pub record IsListedFor (name : Option (Bor (List ℕ))) (asked : Option Processo
   pub document : document bytes ≡ Some members
   pub wrote : Wrote old new (listing_text (leaves members) settings processors)
 
+-- A state that was read of inputs: their suite, with the bytes of its scripts, and where its nodes stand in them.
+pub record IsStateOf (inputs : Inputs) (state : State) : Type 0 where
+  pub suite : IsRead inputs true state.suite
+  pub texts : map (λ v. v.items) state.bytes.scripts.items ≡ texts inputs.scripts.now
+  pub sites : AreSitesOf inputs (suite_of inputs state.suite) state.sites
+
+-- The paths of a state are those of its nodes, and its tables are those of the lines of its scripts.
+pub record IsReady (state : State) : Type 0 where
+  pub paths : state.paths.items ≡ all_paths (tree_of state.suite.plan)
+  pub tables : state.tables.items ≡ map line_starts (map (λ v. v.items) state.bytes.scripts.items)
+
+-- What a change of one state to another can alter was told, whole, or the paths alone.
+pub record IsComparedIn (asked : Asked) (was now : State) (scripts : List (Bor (List ℕ))) (missing : ℕ) (old new : Account) : Type 0 where
+  pub change : ChangeView
+  pub names : change.names ≡ texts_of scripts
+  pub old_tree : change.old.tree ≡ tree_of was.suite.plan
+  pub old_sites : change.old.sites ≡ was.sites
+  pub old_texts : change.old.texts ≡ map (λ v. v.items) was.bytes.scripts.items
+  pub new_tree : change.new.tree ≡ tree_of now.suite.plan
+  pub new_sites : change.new.sites ≡ now.sites
+  pub new_texts : change.new.texts ≡ map (λ v. v.items) now.bytes.scripts.items
+  pub altered : IsAlteration (suites was.suite.plan was.suite.world now.suite.plan now.suite.world) change.fates change.told change.gone
+  pub property : IfSome change.property (StartsOtherwise was.suite.world now.suite.world)
+  pub wrote : Wrote old new (change_text asked.paths change asked.folder.now missing)
+
+-- What a change can alter was told, whole, or the paths alone: the change of the suite that stands below the folder by the names of these files to
+-- the suite that these files are. What the files below the folder hold isn't known, nor how many of them weren't there.
+pub record IsToldFor (asked : Asked) (files : InputFiles) (input : Option (List ℕ)) (old new : Account) : Type 0 where
+  pub older : InputFiles
+  pub below : AreBelow asked.folder.now files older
+  pub before : Inputs
+  pub before_are : AreFor older None before
+  pub after : Inputs
+  pub after_are : AreFor files input after
+  pub was : Suite
+  pub now : Suite
+  pub change : ChangeView
+  pub old_side : IsSideOf before was change.old
+  pub new_side : IsSideOf after now change.new
+  pub names : change.names ≡ texts_of files.scripts.items
+  pub is : IsChangeOf was now change
+  pub missing : ℕ
+  pub wrote : Wrote old new (change_text asked.paths change asked.folder.now missing)
+
 -- what a request asks for was done: its text was written, or the plan or the report for its files, of a replay after some schedule
 abbrev pub Did : Request → Option (List ℕ) → (old new : Account) → (ok : Bool) → Type 0
 Did (Show text) input old new ok = (ok ≡ true) × Wrote old new (string_bytes text)
 Did (Plan tests places why files) input old new ok = IsPrintedFor (record { tests = tests; places = places; why = why }) files input old new ok
 Did (Conflicts files) input old new ok = IsWrittenFor suite_conflicts files input Serial old new ok
 Did (Check files) input old new ok = (ok ≡ true) × (new ≡ old) × IsAcceptedFor files input
+Did (Affected folder paths files) input old new ok = (ok ≡ true) × IsToldFor (record { folder = folder; paths = paths }) files input old new
 Did (Settings name processors explain) input old new ok = (ok ≡ true) × IsListedFor name processors old new
 Did (Run serial extras files) input old new ok = IsWrittenFor suite_report files input (way_of serial) old new ok
 Did (Replay name extras files) input old new ok = (schedule : Bor (List ℕ)) × IsWrittenFor suite_report files input (BySchedule schedule) old new ok
@@ -149,6 +202,7 @@ files_named (Show text) = []
 files_named (Plan tests places why files) = []
 files_named (Conflicts files) = []
 files_named (Check files) = []
+files_named (Affected folder paths files) = []
 files_named (Settings name processors explain) = []
 files_named (Run serial extras files) = files_asked extras
 files_named (Replay name extras files) = files_asked extras

@@ -1,3 +1,4 @@
+pub mod Alterations
 pub mod Besides
 pub mod Commands
 pub mod Courses

@@ -13,6 +13,7 @@ ghost use Rattle.iso_run.specs.declared.inputs.Inputs.{Inputs};
 ghost use Rattle.iso_run.specs.declared.way.Way.TheVariants.{Serial};
 ghost use Rattle.iso_tap.specs.Sinks.{Wrote};
 
+use crate::affected::{Asked, show_affected};
 use crate::besides::Besides;
 use crate::check::check;
 use crate::command_fault::CommandFault;
@@ -174,6 +175,13 @@ fn answer_request<
         Request::Check(files) => {
             check(rt, files, input, errors)?;
             Ok(true)
+        }
+        Request::Affected { old, paths, files } => {
+            let asked = Asked {
+                folder: *old,
+                paths: *paths,
+            };
+            show_affected(rt, asked, files, input, output, errors)
         }
         Request::Settings {
             settings,

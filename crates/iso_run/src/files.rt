@@ -295,7 +295,7 @@ fn read_up_to<'a, G: AllocGlobal + Files>(
 }
 
 /// Reads what a reader has left, at most one byte past a limit.
-fn read_limited<'a, R: Read>(
+pub(crate) fn read_limited<'a, R: Read>(
     alloc: Global,
     reader: &mut R,
     name: &'a str,
@@ -320,7 +320,7 @@ pub(crate) fn write_file<G: Files>(rt: &G, name: &str, bytes: &[u8]) -> io::Resu
 }
 
 /// Why a file was not read.
-fn unread<'a>(error: &io::Error, name: &'a str) -> CommandFault<'a>
+pub(crate) fn unread<'a>(error: &io::Error, name: &'a str) -> CommandFault<'a>
     ensures memory { error_kind error.now ≡ OutOfMemory → result ≡ Run Memory None }
     ensures other { (error_kind error.now ≡ OutOfMemory → ⊥) → result ≡ Unreadable name.entry }
 {

@@ -1,6 +1,7 @@
 //! Runs of suites, from what they are given to their reports, and the program over them.
 #![tactic(auto)]
 
+mod affected;
 mod besides;
 mod check;
 pub mod command;
@@ -17,9 +18,11 @@ mod lines;
 mod mending;
 mod observation;
 mod observed;
+mod older;
 mod parts;
 pub mod plan;
 mod progress;
+mod property;
 mod recorded;
 pub mod replay;
 pub mod report;
@@ -27,6 +30,7 @@ mod resource;
 pub mod run;
 mod script_mending;
 mod settings;
+mod state;
 mod times;
 mod warning;
 mod watch;

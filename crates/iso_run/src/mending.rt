@@ -1,9 +1,10 @@
 //! What mends a fault of a run.
-ghost use Rattle.std.specs.Prelude.{◌≤◌, ℕ, IfErr, List, MatchResult, Option, ⊤};
+ghost use Rattle.std.specs.Prelude.{◌≡◌, ◌≤◌, ℕ, IfErr, List, MatchResult, Option, map, true};
 ghost use Rattle.iso_arguments.specs.Requests.{AreInBounds};
 ghost use Rattle.iso_run.specs.Commands.{AreFor, WereRead};
 ghost use Rattle.iso_run.specs.Ends.{IsEarly, run_end};
-ghost use Rattle.iso_run.specs.Suites.{NoSuite, OfSuite};
+ghost use Rattle.iso_run.specs.Runs.{IsRead};
+ghost use Rattle.iso_run.specs.Suites.{NoSuite, texts};
 ghost use Rattle.iso_run.specs.declared.inputs.Inputs.{Inputs};
 
 use crate::command::{inputs_of, shard_of};
@@ -254,7 +255,7 @@ pub(crate) fn suite_of<'b>(
     requires bounds { AreInBounds files.now }
     requires counted { 1 ≤ bytes.now.processors }
     ensures read { (input : Option (List ℕ)) → WereRead files.now input bytes.now → (inputs : Inputs) × AreFor files.now input inputs
-        × MatchResult result (λ _. OfSuite inputs (λ suite. ⊤)) (NoSuite inputs) }
+        × (texts inputs.scripts.now ≡ map (λ v. v.items) bytes.now.scripts.items) × MatchResult result (IsRead inputs true) (NoSuite inputs) }
     ensures early { IfErr result (λ fault. IsEarly (run_end fault)) }
 {
     let shard = shard_of(files.shard);

@@ -186,7 +186,7 @@ fn sites_asked(alloc: Global, suite: &Suite, places: bool) -> Result<Sites, RunF
 }
 
 /// The sites of a suite's nodes. Each node of a suite that was read has one, so there is no fault but want of memory.
-fn sites_of(alloc: Global, suite: &Suite) -> Result<Sites, RunFault>
+pub(crate) fn sites_of(alloc: Global, suite: &Suite) -> Result<Sites, RunFault>
     ensures found { IfOk result (AreSites (tree (map script_of suite.now.scripts.items)) (all_sites (places_in suite.now.places.items)) (tree_of suite.now.plan)) }
     ensures fault { IfErr result (λ fault. fault ≡ Memory) }
 {
