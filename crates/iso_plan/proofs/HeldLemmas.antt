@@ -1,7 +1,7 @@
 -- What is counted of held nodes: how many read and write each key, one node more and one less, and what that says of a node's locks.
-use Rattle.std.proofs.Common.{◌≡◌, ℕ, zero, suc, ◌+◌, ◌-◌, ◌^◌, ◌<◌, ◌≤◌, ◌≢◌, List, [], ◌∷◌, length, replicate, get_or, set, Option, Some, None, Bool, true, false, ◌||◌, ◌&&◌, ◌==◌, not, cond, is_some, ap, ap₂, sym, subst, ◌∙◌, inl, inr, arith, refl}
+use Rattle.std.proofs.Common.{◌≡◌, ℕ, zero, suc, ◌+◌, ◌-◌, ◌^◌, ◌<◌, ◌≤◌, ◌≢◌, List, [], ◌∷◌, length, replicate, set, Option, Some, None, Bool, true, false, ◌||◌, ◌&&◌, ◌==◌, not, cond, is_some, ap, ap₂, sym, subst, ◌∙◌, inl, inr, arith, refl}
 use Rattle.std.proofs.lemmas.Bool.{cases_eq}
-use Rattle.std.proofs.lemmas.List.{get_or-replicate, get_or-set_same, get_or-set_other, length-replicate, length-set}
+use Rattle.std.proofs.lemmas.List.{get_or-set_same, get_or-set_other, length-replicate, length-set}
 use Rattle.std.proofs.lemmas.List.Elements.{recursion_from_All}
 use Rattle.std.specs.List.{AllByRecursion, list_any}
 use Rattle.std.specs.Option.{option_or}
@@ -11,7 +11,7 @@ use Rattle.iso_model.specs.declared.access.Access.TheVariants.{Read, Write}
 use Rattle.iso_plan.proofs.ConflictLemmas.{conflicts-is}
 use Rattle.iso_plan.proofs.LockLemmas.{locks-known}
 use Rattle.iso_plan.proofs.PathLemmas.{eq_not, eq_same}
-use Rattle.iso_plan.specs.Conflicts.{conflicts, excludes, is_in_the_way, lowest, lowest_in_the_way, shares}
+use Rattle.iso_plan.specs.Conflicts.{conflicts, is_in_the_way, lowest, lowest_in_the_way, shares}
 use Rattle.iso_plan.specs.HeldNodes.{AreCounted, CanAdd, CanRemove, added, any_excluded, count, counted, excluded, is_access, is_held, one_less, one_more, removed, takers, takes_in, unused, use_of}
 use Rattle.iso_plan.specs.KeyTable.{keys}
 use Rattle.iso_plan.specs.Locks.{conflict, exclude, is_write, locks, taken}

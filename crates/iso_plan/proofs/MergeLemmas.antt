@@ -1,11 +1,11 @@
 -- Locks stand in the order of their keys, so those of two nodes are compared side by side.
-use Rattle.std.proofs.Common.{◌≡◌, ℕ, zero, suc, ◌+◌, ◌<◌, ◌≤◌, List, [], ◌∷◌, ◌++◌, length, map, drop, get_or, Option, Some, None, Bool, true, false, ◌||◌, ◌&&◌, ◌==◌, ap, ap₂, sym, subst, ◌∙◌, arith, refl}
+use Rattle.std.proofs.Common.{◌≡◌, ℕ, zero, suc, ◌+◌, ◌<◌, ◌≤◌, List, [], ◌∷◌, length, map, drop, get_or, Option, Some, None, Bool, true, false, ◌||◌, ◌==◌, ap, ap₂, sym, subst, ◌∙◌, arith, refl}
 use Rattle.std.proofs.lemmas.List.{drop_all, drop_more}
 use Rattle.iso_model.specs.declared.access.Access.{Access}
 use Rattle.iso_plan.proofs.PathLemmas.{eq_not}
 use Rattle.iso_plan.specs.Conflicts.{conflicts, excludes, shares}
 use Rattle.iso_plan.specs.KeyTable.{keys}
-use Rattle.iso_plan.specs.Locks.{lock_of, locks, locks_from, taken}
+use Rattle.iso_plan.specs.Locks.{locks, locks_from, taken}
 use Rattle.iso_plan.specs.Rising.{Rise, RiseFrom}
 use Rattle.iso_plan.specs.Tree.{Row}
 use Rattle.iso_plan.specs.declared.lock.Lock.{Lock}

@@ -1,5 +1,5 @@
 -- The held nodes of a plan, as contracts see them, and how many of them read and write each key.
-use Rattle.std.specs.Prelude.{◌≡◌, ℕ, zero, suc, ◌+◌, ◌-◌, ◌^◌, ◌<◌, List, [], ◌∷◌, length, replicate, Option, Bool, true, false, ◌||◌, ◌&&◌, ◌==◌, not, cond, slice_index_or, slice_set, refl}
+use Rattle.std.specs.Prelude.{◌≡◌, ℕ, zero, suc, ◌+◌, ◌-◌, ◌^◌, ◌<◌, List, [], ◌∷◌, length, replicate, Bool, true, false, ◌||◌, ◌&&◌, ◌==◌, not, cond, slice_index_or, slice_set, refl}
 use Rattle.std.specs.Coded.{Coded, code_by, coded×, coded_list, coded_bool}
 use Rattle.iso_model.specs.declared.access.Access.{Access}
 use Rattle.iso_model.specs.declared.access.Access.TheVariants.{Read, Write}

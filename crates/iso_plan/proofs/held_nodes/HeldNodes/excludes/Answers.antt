@@ -1,9 +1,8 @@
-use Rattle.std.proofs.Common.{◌≡◌, List, ap, is_some, ◌∙◌}
+use Rattle.std.proofs.Common.{List, ap, is_some, ◌∙◌}
 use Rattle.iso_plan.specs.Conflicts.{lowest_in_the_way}
 use Rattle.iso_plan.specs.HeldNodes.{HeldView, any_excluded, is_held}
 use Rattle.iso_plan.specs.RowView.{tree_of}
 use Rattle.iso_plan.specs.declared.held_nodes.KeyUse.{KeyUse}
-use Rattle.iso_plan.specs.declared.lock.Lock.{Lock}
 use Rattle.iso_plan.proofs.HeldLemmas.{excluded-is, known-locks}
 use Rattle.iso_plan.proofs.held_nodes.HeldNodes.excludes.Goals as goal
 

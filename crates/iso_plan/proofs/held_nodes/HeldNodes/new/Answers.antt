@@ -1,8 +1,7 @@
-use Rattle.std.proofs.Common.{rules, ◌≡◌, List, length, replicate, false}
+use Rattle.std.proofs.Common.{rules, ◌≡◌, length, replicate, false}
 use Rattle.iso_plan.specs.HeldNodes.{unused}
 use Rattle.iso_plan.specs.KeyTable.{keys}
 use Rattle.iso_plan.specs.RowView.{tree_of}
-use Rattle.iso_plan.specs.declared.held_nodes.KeyUse.{KeyUse}
 use Rattle.iso_plan.proofs.HeldLemmas.{counted-none}
 use Rattle.iso_plan.proofs.held_nodes.HeldNodes.new.Goals as goal
 
