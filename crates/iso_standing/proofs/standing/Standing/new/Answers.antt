@@ -29,4 +29,5 @@ invariant_of-result c =
         bodies = λ w n e. absurd (cc (sym (none-in c.args.workers w) ∙ ap (λ os. get_or os w None) (sym busy) ∙ e));
       },
       subst (KeepsPassed p phases) (sym none) (keeps-none p phases),
+      ?,
     )
