@@ -30,8 +30,8 @@ none-there : (o : Option ℕ) → is_some o ≡ false → o ≡ None
 none-there None e = refl
 none-there (Some n) e = absurd (cc)
 
-pub returns-else-excludes : goal.returns-else-excludes
-returns-else-excludes c = λ start s like.
+pub returns-then-not-excludes : goal.returns-then-not-excludes
+returns-then-not-excludes c = λ start s like.
     let v = c.args.self.now in
     let n = c.args.node in
     let held : ℕ → Bool = λ j. is_held (bare (phase_at v j)) in
