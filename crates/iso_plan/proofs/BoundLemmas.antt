@@ -25,7 +25,7 @@ use Rattle.iso_plan.specs.Paths.{row_at}
 use Rattle.iso_plan.specs.Selections.{is_kept_by, plan_tree, renumbered, selection, those_below}
 use Rattle.iso_plan.specs.declared.fault.PlanFault.{PlanFault}
 use Rattle.iso_plan.specs.declared.fault.PlanFault.TheVariants.{TooManyKeys}
-use Rattle.iso_plan.specs.Tree.{Row, class_row, class_rows, effective_row, member_rows, members_rows, script_rows, team_rows, top_row, top_rows, tree, written_tree}
+use Rattle.iso_plan.specs.Tree.{Row, class_rows, effective_row, member_rows, members_rows, script_rows, team_rows, top_rows, tree, written_tree}
 
 -- no two marks are alike
 abbrev pub AreApart : List Mark → Type 0

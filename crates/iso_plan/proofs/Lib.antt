@@ -10,10 +10,12 @@ pub mod Firsts
 pub mod FullLemmas
 pub mod Gathering
 pub mod Growth
+pub mod HeldLemmas
 pub mod KeptLemmas
 pub mod KeyLemmas
 pub mod LawLemmas
 pub mod LockLemmas
+pub mod MergeLemmas
 pub mod MergedLemmas
 pub mod ModeLemmas
 pub mod NumberLemmas

@@ -20,10 +20,14 @@ use Rattle.iso_model.specs.contracts.heads.ClassHead as class
 use Rattle.iso_model.specs.contracts.heads.TestContents as test_contents
 use Rattle.iso_model.specs.contracts.heads.TestHead as test
 use Rattle.iso_model.specs.contracts.tree.Stmt as stmt
+use Rattle.iso_plan.proofs.held_nodes.KeyUse.TheSendSync as key_use
 use Rattle.iso_plan.proofs.lock.Lock.TheSendSync as lock
 use Rattle.std.specs.contracts.option.Option as option
+use denote.Ref.{NamedLft}
 use denote.RattleType.{RattleType}
 use denote.Struct.Field.{row_field}
+use Rattle.iso_plan.specs.contracts.held_nodes.HeldNodes as held_nodes
+use Rattle.iso_plan.specs.contracts.held_nodes.HeldNodes.TheInside as held_inside
 use Rattle.iso_plan.specs.contracts.plan.Plan as plan
 use Rattle.iso_plan.specs.contracts.plan.Plan.TheInside as inside
 use Rattle.iso_plan.specs.contracts.row.Kind as kind
@@ -89,3 +93,9 @@ ruleset rows = (row_shared, heads)
 pub plan_shared : IsSync plan.the_row
 plan_shared =
     search (declared_sync inside.the_type (search rows, (search rows, (search rows, (search rows, (search rows, (search rows, (search rows, (search rows, (search rows, tt))))))))), sendable)
+
+ruleset held = (plan_shared, key_use.the_send, as_row_send, crosses, sendable)
+
+-- held nodes may go to another thread
+pub held_sent : (a : NamedLft) → IsSend (held_nodes.the_row a)
+held_sent a = search (declared_send (held_inside.the_type a) (search held, (search held, (search held, tt))), sendable)

@@ -156,3 +156,11 @@ abbrev pub titled : List Row
 titled =
     tree (shop (class (record { name = codes "A"; display = Some (codes "B"); mode = None; isolated = false; head = head_with [] })
     (member (test_member (record { name = codes "t"; display = Some (codes "u"); mode = None; head = record { marks = []; disabled = None; body = no_acts } })) no_members) ∷ []) ∷ [])
+
+-- of four nodes those that are held: a class and the first test in it
+abbrev pub class_and_test : List Bool
+class_and_test = false ∷ true ∷ true ∷ false ∷ []
+
+-- of five nodes those that are held: two classes
+abbrev pub first_and_second : List Bool
+first_and_second = false ∷ true ∷ false ∷ true ∷ false ∷ []

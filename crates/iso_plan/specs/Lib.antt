@@ -4,6 +4,7 @@ pub mod Conflicts
 pub mod Covers
 pub mod Examples
 pub mod Faults
+pub mod HeldNodes
 pub mod IsPlan
 pub mod KeyTable
 pub mod Locks
@@ -13,6 +14,7 @@ pub mod NodeChains
 pub mod PathTexts
 pub mod Paths
 pub mod Planned
+pub mod Rising
 pub mod RowView
 pub mod SameNodes
 pub mod Selections

@@ -1,7 +1,8 @@
 //! Nodes that exclude each other by their locks.
 ghost use Rattle.std.specs.Prelude.{◌≡◌, ◌<◌, ◌||◌, length};
-ghost use Rattle.iso_plan.specs.Conflicts.{conflicts, excludes, lowest_in_the_way, shares};
+ghost use Rattle.iso_plan.specs.Conflicts.{conflicts, excludes, lowest_in_the_way};
 ghost use Rattle.iso_plan.specs.Locks.{conflict};
+ghost use Rattle.iso_plan.specs.Rising.{Rise};
 ghost use Rattle.iso_plan.specs.RowView.{tree_of};
 
 use crate::lock::Lock;
@@ -52,25 +53,25 @@ pub fn nodes_conflict(plan: &Plan, node: u32, other: u32) -> bool
     conflicts(plan.locks(node), plan.locks(other))
 }
 
-/// Whether two nodes with these locks conflict: they take one key, and one of them takes it for READ_WRITE.
+/// Whether two nodes with these locks conflict: they take one key, and one of them takes it for READ_WRITE. Locks stand in the order
+/// of their keys, so both lists are gone through once, side by side.
 fn conflicts(some: &[Lock], others: &[Lock]) -> bool
+    requires some { Rise some.now }
+    requires others { Rise others.now }
     ensures { result ≡ conflicts some.now others.now }
 {
-    for lock in some {
-        if shares(*lock, others) {
+    let mut place = 0;
+    let mut other_place = 0;
+    'merge: while place < some.len() && other_place < others.len() {
+        let lock = some[place];
+        let other = others[other_place];
+        if excludes(lock, other) {
             return true;
         }
-    }
-    false
-}
-
-/// Whether one of some locks excludes a lock.
-fn shares(lock: Lock, others: &[Lock]) -> bool
-    ensures { result ≡ shares lock others.now }
-{
-    for other in others {
-        if excludes(lock, *other) {
-            return true;
+        if lock.key < other.key {
+            place += 1;
+        } else {
+            other_place += 1;
         }
     }
     false

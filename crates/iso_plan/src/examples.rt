@@ -1,10 +1,13 @@
 //! Worked examples of the definitions, as public laws.
 
-ghost use Rattle.std.specs.Prelude.{◌≡◌, [], ◌∷◌, Some, None, codes, false, true};
+ghost use Rattle.std.specs.Prelude.{◌≡◌, [], ◌∷◌, Some, None, codes, false, slice_set, true};
 ghost use Rattle.iso_model.specs.Keys.{global_key};
+ghost use Rattle.iso_model.specs.declared.access.Access.TheVariants.{Read, Write};
 ghost use Rattle.iso_model.specs.declared.script.Mode.TheVariants.{SameThread, Concurrent};
-ghost use Rattle.iso_plan.specs.Examples.{cart_and_desk, concurrent_by_default, concurrent_classes, keys_of_children, reading_children, writing_children, isolated_alone, isolated_deep, isolated_with_keys, for_children, key_k, key_l, loose, nested, one_thread, read_lock, reads, titled, two_classes, write_lock, writes};
+ghost use Rattle.iso_plan.specs.Conflicts.{lowest_in_the_way};
+ghost use Rattle.iso_plan.specs.Examples.{cart_and_desk, class_and_test, concurrent_by_default, concurrent_classes, keys_of_children, reading_children, writing_children, isolated_alone, isolated_deep, isolated_with_keys, first_and_second, for_children, key_k, key_l, loose, nested, one_thread, read_lock, reads, titled, two_classes, write_lock, writes};
 ghost use Rattle.iso_model.specs.Rights.{is_readable, is_writable};
+ghost use Rattle.iso_plan.specs.HeldNodes.{is_held, takers};
 ghost use Rattle.iso_plan.specs.KeyTable.{keys, kind_marks};
 ghost use Rattle.iso_plan.specs.Locks.{conflict, locking_node, locks};
 ghost use Rattle.iso_plan.specs.Merged.{merged};
@@ -109,6 +112,19 @@ pub fn writers_conflict()
     ensures conflict { conflict nested 2 4 ≡ true }
     ensures readers { conflict two_classes 1 3 ≡ false }
     ensures others { conflict nested 1 4 ≡ false }
+{}
+
+/// Of held nodes it is counted how many read and how many write each key. A node is excluded by one that writes a key which it takes, and by
+/// one that reads a key which it writes, as long as that is held; readers don't exclude each other.
+#[tactic(auto, unfolding(crate::specs::Paths::path))]
+pub fn held_nodes_are_counted_by_key()
+    ensures class_reads { takers writing_children class_and_test Read 0 ≡ 1 }
+    ensures test_writes { takers writing_children class_and_test Write 1 ≡ 1 }
+    ensures none_reads { takers writing_children class_and_test Read 1 ≡ 0 }
+    ensures excluded { lowest_in_the_way writing_children (is_held class_and_test) 3 ≡ Some 2 }
+    ensures released { lowest_in_the_way writing_children (is_held (slice_set class_and_test 2 false)) 3 ≡ None }
+    ensures both_read { takers two_classes first_and_second Read 0 ≡ 2 }
+    ensures readers { lowest_in_the_way two_classes (is_held first_and_second) 1 ≡ None }
 {}
 
 /// What stands in a node that takes a key for READ_WRITE is on the same thread, and that node itself need not be.

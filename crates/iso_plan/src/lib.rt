@@ -8,6 +8,7 @@ pub mod conflict;
 mod effective;
 pub mod examples;
 pub mod fault;
+pub mod held_nodes;
 mod keys;
 pub mod laws;
 pub mod lock;

@@ -3,6 +3,7 @@ pub mod Below
 pub mod BodiesAlone
 pub mod BodiesFollow
 pub mod EventLists
+pub mod Holding
 pub mod Inside
 pub mod Leaving
 pub mod Looks

@@ -1,5 +1,6 @@
 pub mod CodeEvents
 pub mod FaultTexts
+pub mod Holding
 pub mod KindsAt
 pub mod Passed
 pub mod Phases

@@ -244,6 +244,9 @@ impl<'a> Standing<'a> {
         requires { node < nodes_in self.now }
         ensures { (start : Resources) (s : RunState) → LooksLike self.now s → at self.now start s (Why.lock_held scripts) node ≡ option_map refused_of result }
     {
+        if !self.excludes(node) {
+            return None;
+        }
         match lowest_in_the_way(self.plan(), self, node) {
             Some(held) => Some(Refused::LockHeld(held)),
             None => None,

@@ -1,20 +1,23 @@
 //! Where all nodes and workers stand.
-ghost use Rattle.std.specs.Prelude.{◌≡◌, ◌<◌, ◌||◌, IfOk, is_some, slice_set};
+ghost use Rattle.std.specs.Prelude.{◌≡◌, ◌<◌, ◌||◌, IfOk, is_some, length, slice_set};
 ghost use Rattle.iso_standing.specs.Phases.{bare};
 ghost use Rattle.iso_standing.specs.declared.phase.Phase.TheVariants.{Finished};
 ghost use Rattle.iso_standing.specs.CodeEvents.{event_of};
+ghost use Rattle.iso_standing.specs.Holding.{with_held};
 ghost use Rattle.iso_suites.specs.SuiteStates.{RunState};
 ghost use Rattle.iso_standing.specs.Passed.{ArePassed};
 ghost use Rattle.iso_standing.specs.Standings.{CanTake, EndsWellAs, Fits, HasBody, IsBarred, LooksLike, OfSame, TellsWell, after_in, body_under_way, first_in, has_body_at, is_complete_in, is_inside, node_of, nodes_in, owner_at, phase_at, phase_under, with_phase, workers_in};
 ghost use Rattle.iso_isolation.specs.Events as E;
 ghost use Rattle.iso_isolation.specs.Events.{stop};
-ghost use Rattle.iso_isolation.specs.States.{is_closing};
+ghost use Rattle.iso_isolation.specs.States.{is_closing, is_held};
 ghost use Rattle.iso_model.specs.Resources.{Resources};
+ghost use Rattle.iso_plan.specs.Conflicts.{lowest_in_the_way};
 ghost use Rattle.iso_plan.specs.Paths.{is_test, parent, row_at};
 ghost use Rattle.iso_plan.specs.RowView.{tree_of};
 
 use crate::event::Event;
 use crate::phase::Phase;
+use iso_plan::held_nodes::HeldNodes;
 use iso_plan::laws::parents_come_first;
 use iso_plan::plan::Plan;
 use std::alloc::{AllocError, Global};
@@ -31,11 +34,14 @@ pub struct Standing<'a> {
     /// By node, how many of its first children are passed: none of these is due, that is SAME_THREAD and not finished. It only
     /// shortens a search, so contracts don't see it.
     passed: Vec<u32>,
+    /// The nodes that hold their locks: those that were entered and aren't finished. Their phases say it too, so contracts don't see it.
+    held: HeldNodes<'a>,
 }
 
 impl<'a> Model for Standing<'a> {
     ghost use Rattle.iso_standing.specs.Standings as standings;
     ghost use Rattle.iso_standing.specs.Standings.{IsStanding, standing_code};
+    ghost use Rattle.iso_standing.specs.Holding.{KeepsHeld};
     ghost use Rattle.iso_standing.specs.Passed.{KeepsPassed};
 
     ghost Value = { standings.Standing };
@@ -45,7 +51,7 @@ impl<'a> Model for Standing<'a> {
     ghost view = { λ s. record { plan = s.plan.now; phases = s.phases.items; owners = s.owners.items; busy = s.busy.items; stopped = s.stopped } };
 
     ghost invariant = { λ s. IsStanding (record { plan = s.plan.now; phases = s.phases.items; owners = s.owners.items; busy = s.busy.items; stopped = s.stopped })
-        × KeepsPassed s.plan.now s.phases.items s.passed.items };
+        × KeepsPassed s.plan.now s.phases.items s.passed.items × KeepsHeld s.plan.now s.phases.items s.held };
 }
 
 impl<'a> Standing<'a> {
@@ -57,8 +63,10 @@ impl<'a> Standing<'a> {
     {
         let nodes = plan.len() as usize;
         let mut phases = vec![in alloc; Phase::Waiting; nodes]?;
+        let mut held = HeldNodes::new(alloc, plan)?;
         if nodes > 0 {
             phases[0] = Phase::Open;
+            held.hold(0);
         }
         Ok(Standing {
             plan,
@@ -67,6 +75,7 @@ impl<'a> Standing<'a> {
             busy: vec![in alloc; None; workers as usize]?,
             stopped: false,
             passed: vec![in alloc; 0; nodes]?,
+            held,
         })
     }
 
@@ -183,6 +192,14 @@ impl<'a> Standing<'a> {
         self.phases[node as usize]
     }
 
+    /// Whether a node that holds its locks conflicts with a node. It looks at that node's own locks, however many hold theirs.
+    pub(crate) fn excludes(&self, node: u32) -> bool
+        requires { node < nodes_in self.now }
+        ensures { result ≡ is_some (lowest_in_the_way (tree_of self.now.plan) (λ n. is_held (bare (phase_at self.now n))) node) }
+    {
+        self.held.excludes(node)
+    }
+
     /// The worker that owns a node.
     pub fn owner(&self, node: u32) -> u32
         requires { node < nodes_in self.now }
@@ -259,6 +276,7 @@ impl<'a> Standing<'a> {
         let passed = self.still_passed(node, phase);
         self.passed[parent as usize] = passed;
         self.phases[node as usize] = phase;
+        set_held(&mut self.held, node, phase.is_held());
     }
 
     /// How many first children of a node's parent stay passed where the node comes to a phase.
@@ -322,5 +340,17 @@ impl<'a> Standing<'a> {
             return Phase::Finished;
         }
         phase
+    }
+}
+
+/// Holds a node or releases it.
+fn set_held(nodes: &mut HeldNodes<'_>, node: u32, held: bool)
+    requires { node < length nodes.old.plan.rows }
+    ensures { nodes.new ≡ with_held nodes.old node held }
+{
+    if held {
+        nodes.hold(node);
+    } else {
+        nodes.release(node);
     }
 }

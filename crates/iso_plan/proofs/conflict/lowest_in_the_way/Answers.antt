@@ -1,8 +1,10 @@
-use Rattle.std.proofs.Common.{◌≡◌, ℕ, suc, ◌+◌, ◌<◌, ◌&&◌, List, [], ◌∷◌, ◌==◌, length, Bool, true, false, ap, ap₂, sym, ◌∙◌, arith, refl}
+use Rattle.std.proofs.Common.{◌≡◌, ℕ, suc, ◌+◌, ◌<◌, ◌&&◌, List, [], ◌∷◌, ◌==◌, length, Bool, true, false, ap, ap₂, sym, subst, ◌∙◌, arith, refl}
 use Rattle.iso_plan.proofs.ConflictLemmas.{conflicts-is, conflict-none, lowest-here, lowest-never, lowest-pass, lowest-stays}
+use Rattle.iso_plan.proofs.MergeLemmas.{locks-rise}
 use Rattle.iso_plan.proofs.PathLemmas.{eq_from}
 use Rattle.iso_plan.specs.Conflicts.{conflicts, is_in_the_way}
 use Rattle.iso_plan.specs.Locks.{conflict, locks}
+use Rattle.iso_plan.specs.Rising.{Rise}
 use Rattle.iso_plan.specs.RowView.{tree_of}
 use Rattle.iso_plan.specs.Tree.{Row}
 use Rattle.iso_plan.specs.declared.lock.Lock.{Lock}
@@ -52,3 +54,12 @@ nodes-preserved g c =
       | else-is_held-via-else-is_held w ↦ ap (λ (p : Bool). p && conflict tree m n) (sym c.is_held.ensures ∙ w.if-is_held.false)
     ] in
     lowest-pass (is_in_the_way tree held n) m c.nodes.invariant fails
+
+rise : (tree : List Row) (n : ℕ) (ls : List Lock) → ls ≡ locks tree n → Rise ls
+rise tree n ls e = subst Rise (sym e) (locks-rise tree n)
+
+pub conflicts-requires-clause-some : goal.conflicts-requires-clause-some
+conflicts-requires-clause-some g c = rise (tree_of c.args.plan.now) c.nodes.m c.locks.result.now c.locks.ensures.locks
+
+pub conflicts-requires-clause-others : goal.conflicts-requires-clause-others
+conflicts-requires-clause-others g c = rise (tree_of c.args.plan.now) c.args.node c.locks-taken.result.now c.locks-taken.ensures.locks

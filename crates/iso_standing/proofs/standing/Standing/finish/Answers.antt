@@ -11,4 +11,4 @@ invariant_of-self c =
     let count = c.passable-passed.result in
     let there = subst (λ (u : Standing). m < nodes_in u) (sym c.self.view_is) c.parent-parent.ensures.known in
     let passed = subst (λ (u : Standing). ArePassed u.plan u.phases m count) (sym c.self.view_is) c.passable-passed.ensures in
-    (c.self.invariant.0, keeps-more s.plan.now s.phases.items s.passed.items m count c.self.invariant.1 there passed)
+    (c.self.invariant.0, keeps-more s.plan.now s.phases.items s.passed.items m count c.self.invariant.1 there passed, c.self.invariant.2)

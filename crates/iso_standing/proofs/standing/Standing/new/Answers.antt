@@ -1,6 +1,9 @@
-use Rattle.std.proofs.Common.{rules, ◌≡◌, ℕ, Vec, Global, length, get_or, replicate, None, ap, sym, ◌∙◌, subst, arith}
+use Rattle.std.proofs.Common.{rules, ◌≡◌, ℕ, List, Vec, Global, length, set, get_or, replicate, None, ap, sym, ◌∙◌, subst, arith}
 use Rattle.std.proofs.lemmas.List.{get_or-set_same, length-set}
+use Rattle.iso_plan.specs.HeldNodes.{holding, none_held}
+use Rattle.iso_standing.proofs.Holding.{holding-none, holding-root}
 use Rattle.iso_standing.proofs.Passing.{keeps-none, none-in}
+use Rattle.iso_standing.specs.Holding.{KeepsHeld}
 use Rattle.iso_standing.specs.Passed.{KeepsPassed}
 use Rattle.iso_standing.specs.declared.phase.Phase.{Phase}
 use Rattle.iso_standing.specs.declared.phase.Phase.TheVariants.{Open, Waiting}
@@ -14,6 +17,17 @@ invariant_of-result c =
     let waiting = c.in_ok-phases.phases.items in
     let count : length waiting ≡ length p.rows = omega (arith, c.in_ok-phases.phases.ok.0, c.in_ok-phases.ensures.len, c.len-nodes.ensures) in
     let busy : c.in_ok-vec-2.field-0.items ≡ replicate c.args.workers None = c.in_ok-vec-2.ensures.items_if_clones_equal (λ y h. search rules) in
+    let n = c.len-nodes.result in
+    let all : waiting ≡ replicate n Waiting = c.in_ok-phases.ensures.items_if_clones_equal (λ y h. search rules) in
+    let held : KeepsHeld p phases c.if-nodes-gt0.held = elim c.if-nodes-gt0.branch [
+      | then-nodes-gt0 w ↦
+          subst (KeepsHeld p phases) (sym (w.held-is ∙ w.hold.ensures ∙ ap (holding 0) c.in_ok-held.ensures))
+          (subst (λ (ps : List Phase). KeepsHeld p ps (holding 0 (none_held p))) (sym (ap (λ (v : Vec Phase Global). v.items) w.phases-is ∙ ap (λ (ps : List Phase). set ps 0 Open) all))
+          (holding-root p n c.len-nodes.ensures (omega (arith, w.if-nodes-gt0.true))))
+      | else-nodes-gt0 w ↦
+          subst (KeepsHeld p phases) (sym (w.held-is ∙ c.in_ok-held.ensures))
+          (subst (λ (ps : List Phase). KeepsHeld p ps (none_held p)) (sym (ap (λ (v : Vec Phase Global). v.items) w.phases-is ∙ all)) (holding-none p n c.len-nodes.ensures))
+    ] in
     let none : c.in_ok-vec-3.field-0.items ≡ replicate (length p.rows) 0 =
     c.in_ok-vec-3.ensures.items_if_clones_equal (λ y h. search rules) ∙ ap (λ (n : ℕ). replicate n 0) c.len-nodes.ensures in (
       record {
@@ -29,4 +43,5 @@ invariant_of-result c =
         bodies = λ w n e. absurd (cc (sym (none-in c.args.workers w) ∙ ap (λ os. get_or os w None) (sym busy) ∙ e));
       },
       subst (KeepsPassed p phases) (sym none) (keeps-none p phases),
+      held,
     )

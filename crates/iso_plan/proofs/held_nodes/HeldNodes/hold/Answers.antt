@@ -1,0 +1,29 @@
+use Rattle.std.proofs.Common.{◌≡◌, ◌<◌, ◌^◌, List, ap, arith, false, get_or, length, set, subst, sym, true, ◌∙◌}
+use Rattle.iso_plan.specs.HeldNodes.{AreCounted, CanAdd, HeldView, added, is_held}
+use Rattle.iso_plan.specs.Locks.{locks}
+use Rattle.iso_plan.specs.RowView.{tree_of}
+use Rattle.iso_plan.specs.declared.held_nodes.KeyUse.{KeyUse}
+use Rattle.iso_plan.specs.declared.lock.Lock.{Lock}
+use Rattle.iso_plan.proofs.HeldLemmas.{counted-more, known-locks, room}
+use Rattle.iso_plan.proofs.MergeLemmas.{locks-rise}
+use Rattle.iso_plan.proofs.held_nodes.HeldNodes.hold.Goals as goal
+
+pub add-requires : goal.add-requires
+add-requires c =
+    let tree = tree_of c.self.inside.plan.now in
+    let uses : List KeyUse = c.self.inside.uses.items in
+    let few : length tree < 2 ^ 63 = omega (arith, c.self.inside.held.ok.0, c.self.invariant.nodes) in
+    subst (λ (ls : List Lock). CanAdd ls uses) (sym c.locks-locks.ensures.locks)
+    (room tree c.self.inside.held.items uses (locks tree c.args.node) (locks-rise tree c.args.node) (known-locks tree uses c.args.node c.self.invariant.table) few c.self.invariant)
+
+pub invariant_of-self : goal.invariant_of-self
+invariant_of-self c =
+    let tree = tree_of c.self.inside.plan.now in
+    let held = c.self.inside.held.items in
+    let uses : List KeyUse = c.self.inside.uses.items in
+    let same : length tree ≡ length c.args.self.now.plan.rows = ap (λ (v : HeldView). length v.plan.rows) c.self.view_is in
+    let within : c.args.node < length tree = omega (arith, c.requires) in
+    let is : c.add.new.uses.items ≡ added (locks tree c.args.node) uses = c.add.ensures ∙ ap (λ (ls : List Lock). added ls uses) c.locks-locks.ensures.locks in
+    let free : is_held held c.args.node ≡ false = ap (get_or held c.args.node) (sym c.if-not-index.true) ∙ sym c.index.ensures ∙ c.if-not-index.true in
+    subst (AreCounted tree (set held c.args.node true)) (sym is)
+    (counted-more tree held uses c.args.node within (locks-rise tree c.args.node) (known-locks tree uses c.args.node c.self.invariant.table) free c.self.invariant)

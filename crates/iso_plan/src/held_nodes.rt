@@ -1,0 +1,194 @@
+//! The held nodes of a plan, with how many of them read and write each key, so that what stands in a node's way costs its own locks.
+ghost use Rattle.std.specs.Prelude.{◌≡◌, ◌<◌, ◌+◌, ◌^◌, IfOk, is_some, length};
+ghost use Rattle.std.specs.List.{All};
+ghost use Rattle.iso_plan.specs.Conflicts.{lowest_in_the_way};
+ghost use Rattle.iso_plan.specs.HeldNodes.{CanAdd, CanRemove, added, any_excluded, counted, excluded, holding, is_held, none_held, one_less, one_more, releasing, removed};
+ghost use Rattle.iso_plan.specs.RowView.{tree_of};
+
+use crate::conflict::Holders;
+use crate::lock::Lock;
+use crate::plan::Plan;
+use iso_model::access::Access;
+use std::alloc::{AllocError, Global};
+use std::marker::Model;
+
+/// The held nodes of a plan. Contracts see these alone; beside them stands how many of them read and write each key.
+#[derive(Drop)]
+pub struct HeldNodes<'a> {
+    plan: &'a Plan,
+    held: Vec<bool>,
+    uses: Vec<KeyUse>,
+}
+
+/// How many held nodes read a key, and how many write it.
+#[derive(Clone, Copy)]
+struct KeyUse {
+    reading: usize,
+    writing: usize,
+}
+
+impl<'a> Model for HeldNodes<'a> {
+    ghost use Rattle.iso_plan.specs.HeldNodes.{AreCounted, HeldView, held_code};
+    ghost use Rattle.iso_plan.specs.RowView.{tree_of};
+
+    ghost Value = { HeldView };
+
+    ghost coded = { held_code };
+
+    ghost view = { λ h. record { plan = h.plan.now; held = h.held.items } };
+
+    ghost invariant = { λ h. AreCounted (tree_of h.plan.now) h.held.items h.uses.items };
+}
+
+impl<'a> HeldNodes<'a> {
+    /// Of a plan, none. It takes all memory that holding nodes needs.
+    pub fn new(alloc: Global, plan: &'a Plan) -> Result<HeldNodes<'a>, AllocError>
+        ensures { IfOk result (λ v. v ≡ none_held plan.now) }
+    {
+        let unused = KeyUse {
+            reading: 0,
+            writing: 0,
+        };
+        Ok(HeldNodes {
+            plan,
+            held: vec![in alloc; false; plan.len() as usize]?,
+            uses: vec![in alloc; unused; plan.key_count() as usize]?,
+        })
+    }
+
+    /// Whether a node is held.
+    pub fn is_held(&self, node: u32) -> bool
+        requires { node < length self.now.plan.rows }
+        ensures { result ≡ is_held self.now.held node }
+    {
+        self.held[node as usize]
+    }
+
+    /// Holds a node, if it isn't held yet. Takes no memory.
+    pub fn hold(&mut self, node: u32)
+        requires { node < length self.old.plan.rows }
+        ensures { self.new ≡ holding node self.old }
+    {
+        if !self.held[node as usize] {
+            let locks = self.plan.locks(node);
+            self.held[node as usize] = true;
+            add(&mut self.uses, locks);
+        }
+    }
+
+    /// Releases a node, if it is held. Takes no memory.
+    pub fn release(&mut self, node: u32)
+        requires { node < length self.old.plan.rows }
+        ensures { self.new ≡ releasing node self.old }
+    {
+        if self.held[node as usize] {
+            let locks = self.plan.locks(node);
+            self.held[node as usize] = false;
+            remove(&mut self.uses, locks);
+        }
+    }
+
+    /// Whether a held node conflicts with a node. It looks at the node's own locks, however many nodes are held. Takes no memory.
+    pub fn excludes(&self, node: u32) -> bool
+        requires { node < length self.now.plan.rows }
+        ensures { result ≡ is_some (lowest_in_the_way (tree_of self.now.plan) (is_held self.now.held) node) }
+    {
+        any_excluded(&self.uses, self.plan.locks(node))
+    }
+}
+
+impl<'a> Holders for HeldNodes<'a> {
+    ghost use Rattle.std.specs.Prelude.{length};
+    ghost use Rattle.iso_plan.specs.HeldNodes.{HeldView, is_held};
+
+    ghost nodes = { λ (v : HeldView). length v.plan.rows };
+
+    ghost held = { λ (v : HeldView). is_held v.held };
+
+    fn is_held(&self, node: u32) -> bool {
+        self.is_held(node)
+    }
+}
+
+impl KeyUse {
+    /// With one node more that takes the key so.
+    fn one_more(self, access: Access) -> KeyUse
+        requires { counted access self + 1 < 2 ^ 64 }
+        ensures { result ≡ one_more access self }
+    {
+        let KeyUse { reading, writing } = self;
+        match access {
+            Access::Read => KeyUse {
+                reading: reading + 1,
+                writing,
+            },
+            Access::Write => KeyUse {
+                reading,
+                writing: writing + 1,
+            },
+        }
+    }
+
+    /// With one node less that takes the key so.
+    fn one_less(self, access: Access) -> KeyUse
+        requires { 0 < counted access self }
+        ensures { result ≡ one_less access self }
+    {
+        let KeyUse { reading, writing } = self;
+        match access {
+            Access::Read => KeyUse {
+                reading: reading - 1,
+                writing,
+            },
+            Access::Write => KeyUse {
+                reading,
+                writing: writing - 1,
+            },
+        }
+    }
+
+    /// Whether a node that takes the key so has to wait.
+    fn excludes(self, lock: Lock) -> bool
+        ensures { result ≡ excluded self lock }
+    {
+        match lock.access {
+            Access::Read => self.writing != 0,
+            Access::Write => self.writing != 0 || self.reading != 0,
+        }
+    }
+}
+
+/// Counts the locks of a node that is held from now on.
+fn add(uses: &mut Vec<KeyUse>, locks: &[Lock])
+    requires { CanAdd locks.now uses.old.items }
+    ensures { uses.new.items ≡ added locks.now uses.old.items }
+{
+    for lock in locks {
+        let key = lock.key as usize;
+        uses[key] = uses[key].one_more(lock.access);
+    }
+}
+
+/// Counts the locks of a node no longer.
+fn remove(uses: &mut Vec<KeyUse>, locks: &[Lock])
+    requires { CanRemove locks.now uses.old.items }
+    ensures { uses.new.items ≡ removed locks.now uses.old.items }
+{
+    for lock in locks {
+        let key = lock.key as usize;
+        uses[key] = uses[key].one_less(lock.access);
+    }
+}
+
+/// Whether what is counted excludes one of some locks.
+fn any_excluded(uses: &[KeyUse], locks: &[Lock]) -> bool
+    requires { All (λ l. l.key < length uses.now) locks.now }
+    ensures { result ≡ any_excluded uses.now locks.now }
+{
+    for lock in locks {
+        if uses[lock.key as usize].excludes(*lock) {
+            return true;
+        }
+    }
+    false
+}
