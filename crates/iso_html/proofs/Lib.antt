@@ -1,5 +1,6 @@
 pub mod GroupLemmas
 pub mod ListLemmas
+pub mod LockLemmas
 pub mod MarkupLemmas
 pub mod NodeLemmas
 pub mod QuoteLemmas

@@ -1,5 +1,5 @@
 -- How the keys of a run were used.
-use Rattle.std.specs.Prelude.{ℕ, zero, suc, ◌-◌, List, Option, Some, None, ◌==◌, cond, length, slice_index_or}
+use Rattle.std.specs.Prelude.{ℕ, zero, suc, ◌-◌, List, Option, Some, None, ◌==◌, cond, filter, length, slice_index_or}
 use Rattle.std.specs.List.{fold}
 use Rattle.iso_model.specs.declared.access.Access.{Access}
 use Rattle.iso_model.specs.declared.access.Access.TheVariants.{Read, Write}
@@ -20,6 +20,10 @@ abbrev pub stay_time : Option Stay → ℕ
 stay_time None = 0
 stay_time (Some s) = s.end - s.begin
 
+-- the locks on a key
+abbrev pub locks_on : (key : ℕ) → List Lock → List Lock
+locks_on key ls = filter (λ (l : Lock). l.key == key) ls
+
 -- nobody took a key
 abbrev pub no_usage : Usage
 no_usage = record { readers = 0; writers = 0; held = 0; waits = 0; waited = 0 }
@@ -33,7 +37,7 @@ with_taker Write time u = record { readers = u.readers; writers = plus u.writers
 abbrev pub with_lock : (key time : ℕ) → Usage → Lock → Usage
 with_lock key time u l = cond (l.key == key) (with_taker l.access time u) u
 
--- how the nodes with a number below n took it; no key stands twice among the locks of a node
+-- how the nodes with a number below n took it; the law `nodes_take_a_key_once` says that no key stands twice among the locks of a node
 abbrev pub usage_below : List Row → List (Option BodyTime) → (key : ℕ) → ℕ → Usage
 usage_below tree bodies key zero = no_usage
 usage_below tree bodies key (suc n) = fold (with_lock key (stay_time (stayed bodies n))) (usage_below tree bodies key n) (locks tree n)
