@@ -1,0 +1,1 @@
+autocmd BufNewFile,BufRead *.jtap setfiletype jtap
