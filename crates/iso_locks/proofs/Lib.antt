@@ -3,7 +3,6 @@ pub mod FlatLemmas
 pub mod KeyLemmas
 pub mod LawLemmas
 pub mod LentLemmas
-pub mod LockerLemmas
 pub mod MoveLemmas
 pub mod NumberLemmas
 pub mod OwnerLemmas

@@ -65,6 +65,6 @@ impl<'a> Lockers<'a> {
         requires { locker < length self.now.plan.rows }
         ensures { result ≡ is_kept_out self.now locker }
     {
-        self.under[locker as usize] == 0 && self.nodes.excludes(locker)
+        !self.nodes.is_held(locker) && self.nodes.excludes(locker)
     }
 }
