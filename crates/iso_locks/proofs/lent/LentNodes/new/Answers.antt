@@ -1,4 +1,4 @@
-use Rattle.std.proofs.Common.{◌≡◌, sym, subst}
+use Rattle.std.proofs.Common.{sym, subst}
 use Rattle.iso_plan.specs.HeldNodes.{HeldView, none_held}
 use Rattle.iso_locks.proofs.LentLemmas.{lent-none}
 use Rattle.iso_locks.specs.Lent.{KeepsLent}

@@ -1,4 +1,4 @@
-use Rattle.std.proofs.Common.{◌≡◌, Bool, true, false, not, ap, sym, ◌∙◌, subst, refl}
+use Rattle.std.proofs.Common.{◌≡◌, ◌<◌, Bool, length, true, false, not, ap, sym, ◌∙◌, subst, refl}
 use Rattle.iso_plan.specs.Planned.{Planned}
 use Rattle.iso_plan.specs.RowView.{tree_of}
 use Rattle.iso_locks.specs.Lent.{AreApart, IsBeside}
@@ -29,3 +29,8 @@ returns-clause-refuses c can =
     let beside = subst (λ (t : TrayView). IsBeside (tree_of t.plan) t.lent n) (sym c.self.view_is) can.beside in
     let inside = subst (λ (p : Planned). IsBeside (tree_of p) c.self.inside.lent.held n) (sym c.self.invariant.lent_of) beside in
     ap not (c.clash_with.ensures.clashes inside)
+
+pub clash_with-requires-clause-node : goal.clash_with-requires-clause-node
+clash_with-requires-clause-node c =
+    let n = c.args.node in
+    subst (λ (p : Planned). n < length p.rows) (sym c.self.invariant.lent_of) (subst (λ (t : TrayView). n < length t.plan.rows) (sym c.self.view_is) c.requires)

@@ -1,9 +1,10 @@
-use Rattle.std.proofs.Common.{◌≡◌, ℕ, List, Bool, length, set, true, false, ap, sym, ◌∙◌, subst}
+use Rattle.std.proofs.Common.{◌≡◌, ◌<◌, ℕ, List, length, set, true, false, ap, sym, ◌∙◌, subst}
 use Rattle.std.specs.Vec.{vec_capacity}
 use Rattle.std.proofs.lemmas.List.{length-set}
 use Rattle.iso_plan.specs.HeldNodes.{HeldView}
 use Rattle.iso_plan.specs.KeyTable.{keys}
 use Rattle.iso_plan.specs.Locks.{locks}
+use Rattle.iso_plan.specs.Planned.{Planned}
 use Rattle.iso_plan.specs.RowView.{tree_of}
 use Rattle.iso_plan.specs.declared.lock.Lock.{Lock}
 use Rattle.iso_plan.specs.Tree.{Row}
@@ -42,3 +43,8 @@ invariant_of-self c =
           let Own : Slots → Type 0 = λ vs. AreOwned tree c.self.inside.flat (set lent n false) vs in
           subst Own (sym moved) (owned-less tree c.self.inside.flat lent c.self.inside.values n (lent-within lent n holds) holds c.self.invariant.are_owned);
     })
+
+pub take_back-requires-clause-node : goal.take_back-requires-clause-node
+take_back-requires-clause-node c =
+    let n = c.args.node in
+    subst (λ (p : Planned). n < length p.rows) (sym c.self.invariant.lent_of) (subst (λ (t : TrayView). n < length t.plan.rows) (sym c.self.view_is) c.requires.node)

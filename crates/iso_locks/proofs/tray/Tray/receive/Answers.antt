@@ -1,9 +1,10 @@
-use Rattle.std.proofs.Common.{◌≡◌, ℕ, List, length, set, Bool, true, false, is_some, ap, sym, ◌∙◌, subst, arith}
+use Rattle.std.proofs.Common.{◌≡◌, ◌<◌, ℕ, List, length, set, Bool, true, false, is_some, ap, sym, ◌∙◌, subst, arith}
 use Rattle.std.specs.Vec.{vec_capacity}
 use Rattle.std.proofs.lemmas.List.{get_or-set_same, length-set}
 use Rattle.iso_plan.specs.HeldNodes.{HeldView}
 use Rattle.iso_plan.specs.KeyTable.{keys}
 use Rattle.iso_plan.specs.Locks.{locks}
+use Rattle.iso_plan.specs.Planned.{Planned}
 use Rattle.iso_plan.specs.RowView.{tree_of}
 use Rattle.iso_plan.specs.declared.lock.Lock.{Lock}
 use Rattle.iso_plan.specs.Tree.{Row}
@@ -64,3 +65,8 @@ returns-clause-fresh c =
     λ f. let Own : Bool → Type 0 = λ b. AreOwned (tree_of c.self.inside.plan.now) b c.self.inside.lent.held c.self.inside.values in subst Own f c.self.invariant.are_owned in
     let own = subst Flat c.self.view_is inside in
     λ f. owned-fresh (tree_of c.args.self.now.plan) c.args.self.now.lent c.args.self.now.values c.args.node (own f) c.requires.beside
+
+pub lend-requires-clause-node : goal.lend-requires-clause-node
+lend-requires-clause-node c =
+    let n = c.args.node in
+    subst (λ (p : Planned). n < length p.rows) (sym c.self.invariant.lent_of) (subst (λ (t : TrayView). n < length t.plan.rows) (sym c.self.view_is) c.requires.node)

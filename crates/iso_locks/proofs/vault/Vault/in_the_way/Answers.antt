@@ -1,4 +1,4 @@
-use Rattle.std.proofs.Common.{◌≡◌, ap, sym, ◌∙◌}
+use Rattle.std.proofs.Common.{◌<◌, length, ap, sym, subst, ◌∙◌}
 use Rattle.iso_plan.specs.Conflicts.{lowest_in_the_way}
 use Rattle.iso_plan.specs.HeldNodes.{is_held}
 use Rattle.iso_plan.specs.Planned.{Planned}
@@ -14,3 +14,8 @@ returns-then-not-excludes c =
     sym
     (ap (λ (v : VaultView). busy v n) (sym c.self.view_is) ∙ ap (λ (p : Planned). lowest_in_the_way (tree_of p) (is_held held) n) (sym c.self.invariant.lent_of)
     ∙ none-of (lowest_in_the_way (tree_of c.self.inside.lent.plan) (is_held held) n) (sym c.excludes.ensures ∙ c.if-not-excludes.true))
+
+pub excludes-requires : goal.excludes-requires
+excludes-requires c =
+    let n = c.args.node in
+    subst (λ (p : Planned). n < length p.rows) (sym c.self.invariant.lent_of) (subst (λ (v : VaultView). n < length v.plan.rows) (sym c.self.view_is) c.requires)

@@ -69,3 +69,8 @@ receive-requires-clause-beside c =
     let n = c.args.node in
     let v : VaultView = record { plan = plan; world = c.self.inside.world.now; lent = c.self.inside.lent.held; home = map is_some c.self.inside.values } in
     c.requires.can.beside c.requires.free
+
+pub hold-requires : goal.hold-requires
+hold-requires c =
+    let n = c.args.node in
+    subst (λ (p : Planned). n < length p.rows) (sym c.self.invariant.lent_of) (subst (λ (v : VaultView). n < length v.plan.rows) (sym c.self.view_is) c.requires.can.node)

@@ -49,3 +49,8 @@ returns-clause-vault c =
     ∙ ap with_home (ap (map is_some) moved ∙ home-back (locks (tree_of plan) n) t.values c.self.inside.values
     (λ i h w. let within : i < length (keys (tree_of plan)) = omega arith in some-back t.values i (starting_value_in t.world (key_at (tree_of t.plan) i)) (starts i within w)))
     ∙ ap (regaining n) c.self.view_is
+
+pub release-requires : goal.release-requires
+release-requires c =
+    let n = c.args.node in
+    subst (λ (p : Planned). n < length p.rows) (sym c.self.invariant.lent_of) (subst (λ (v : VaultView). n < length v.plan.rows) (sym c.self.view_is) c.requires.node)
