@@ -32,11 +32,6 @@ abbrev pub AreKnown : List Row → List Stay → Option ℕ → List Stay → Ty
 AreKnown tree stays None found = ⊤
 AreKnown tree stays (Some m) found = (m < length tree) × (found ≡ rivals tree stays m)
 
--- a node, if there is one, takes the same keys in the same way as another
-abbrev pub IsAlike : List Row → Option ℕ → ℕ → Type 0
-IsAlike tree None n = ⊥
-IsAlike tree (Some m) n = locks tree m ≡ locks tree n
-
 -- these are all stays of a run, in the order of their begins
 pub record AreStays (tree : List Row) (bodies : List (Option BodyTime)) (stays : List Stay) : Type 0 where
   pub all : IsPermutation (stays_below bodies (length tree)) stays

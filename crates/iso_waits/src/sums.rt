@@ -6,31 +6,38 @@ ghost use Rattle.iso_plan.specs.RowView.{tree_of};
 ghost use Rattle.iso_waits.specs.AllWaits.{IsFor, alone, and_then, key_of, took, with_later};
 ghost use Rattle.iso_waits.specs.Sums.{AreSums, of_node, sum_at, sums_of};
 
-use crate::key::contended_key;
 use crate::wait::{NodeWait, Wait};
+use crate::waits::Waits;
 use iso_plan::lock::Lock;
-use iso_plan::plan::Plan;
 use std::alloc::AllocError;
 
 /// Adds up the single waits of a node, in a table that has a place for each key. What it has of nodes before this one counts for nothing.
-pub(crate) fn add_up(sums: &mut Vec<Option<NodeWait>>, plan: &Plan, node: u32, waits: &[Wait])
-    requires node { node < length plan.now.rows }
-    requires waits { All (IsFor (tree_of plan.now) node) waits.now }
-    requires sums { AreSums (tree_of plan.now) node [] sums.old.items }
-    ensures { AreSums (tree_of plan.now) node waits.now sums.new.items }
+pub(crate) fn add_up(
+    sums: &mut Vec<Option<NodeWait>>,
+    waits: &mut Waits<'_>,
+    node: u32,
+    found: &[Wait],
+)
+    requires node { node < length waits.old.plan.rows }
+    requires found { All (IsFor (tree_of waits.old.plan) node) found.now }
+    requires sums { AreSums (tree_of waits.old.plan) node [] sums.old.items }
+    ensures sums { AreSums (tree_of waits.old.plan) node found.now sums.new.items }
+    ensures same { waits.new ≡ waits.old }
 {
-    for wait in waits {
-        note(sums, node, key_of(plan, node, *wait), *wait);
+    for wait in found {
+        let key = key_of(waits, node, *wait);
+        note(sums, node, key, *wait);
     }
 }
 
 /// The key that a node waits for by a single wait: the lowest on which the two nodes conflict.
-fn key_of(plan: &Plan, node: u32, wait: Wait) -> u32
-    requires node { node < length plan.now.rows }
-    requires holder { wait.holder < length plan.now.rows }
-    ensures { result ≡ key_of (tree_of plan.now) node wait }
+fn key_of(waits: &mut Waits<'_>, node: u32, wait: Wait) -> u32
+    requires node { node < length waits.old.plan.rows }
+    requires holder { wait.holder < length waits.old.plan.rows }
+    ensures key { result ≡ key_of (tree_of waits.old.plan) node wait }
+    ensures same { waits.new ≡ waits.old }
 {
-    match contended_key(plan, node, wait.holder) {
+    match waits.key(node, wait.holder) {
         Some(key) => key,
         None => 0,
     }
