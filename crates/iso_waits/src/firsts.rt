@@ -65,7 +65,7 @@ fn same_locks(some: &[Lock], others: &[Lock]) -> bool
 
 /// A number of some locks, mostly another one than that of other locks. Nothing but time hangs on it.
 fn fingerprint(locks: &[Lock]) -> u64 {
-    let mut print = 0;
+    let mut print: u64 = 0;
     for lock in locks {
         print = (print.rotate_left(5) ^ number(*lock)).wrapping_mul(0x517C_C1B7_2722_0A95);
     }

@@ -1,5 +1,6 @@
 //! Keys on which nodes conflict, kept for nodes that take the same keys.
 ghost use Rattle.std.specs.Prelude.{◌≡◌, ◌<◌, IfOk, length, slice_index_or};
+ghost use Rattle.iso_plan.specs.Locks.{conflict};
 ghost use Rattle.iso_plan.specs.RowView.{tree_of};
 ghost use Rattle.iso_waits.specs.ContendedKeys.{contended_key};
 ghost use Rattle.iso_waits.specs.KnownKeys.{AreKnownKeys};
@@ -29,10 +30,9 @@ impl KnownKeys {
     pub(crate) fn new(alloc: Global, plan: &Plan) -> Result<KnownKeys, AllocError>
         ensures { IfOk result (λ k. AreKnownKeys (tree_of plan.now) k.firsts.items k.found.items) }
     {
-        Ok(KnownKeys {
-            firsts: firsts(alloc, plan)?,
-            found: vec![in alloc; None; plan.len() as usize]?,
-        })
+        let firsts = firsts(alloc, plan)?;
+        let found = vec![in alloc; None; plan.len() as usize]?;
+        Ok(KnownKeys { firsts, found })
     }
 
     /// The node that stands for a node: it takes the same keys in the same way.
@@ -44,33 +44,32 @@ impl KnownKeys {
     }
 
     /// The lowest key on which two nodes conflict; none where they don't.
-    pub(crate) fn key(&mut self, plan: &Plan, node: u32, other: u32) -> Option<u32>
+    pub(crate) fn key(&self, plan: &Plan, node: u32, other: u32) -> Option<u32>
         requires node { node < length plan.now.rows }
         requires other { other < length plan.now.rows }
-        requires known { AreKnownKeys (tree_of plan.now) self.old.firsts.items self.old.found.items }
-        ensures key { result ≡ contended_key (tree_of plan.now) node other }
-        ensures firsts { self.new.firsts ≡ self.old.firsts }
-        ensures known { AreKnownKeys (tree_of plan.now) self.new.firsts.items self.new.found.items }
+        requires known { AreKnownKeys (tree_of plan.now) self.now.firsts.items self.now.found.items }
+        ensures { result ≡ contended_key (tree_of plan.now) node other }
     {
         let of = self.first(node);
         let place = self.first(other);
         match self.found[place as usize] {
             Some(known) if known.of == of => known.key,
-            _ => self.compare(plan, of, place),
+            _ => contended_key(plan, node, other),
         }
     }
 
-    /// The same, from their locks.
-    fn compare(&mut self, plan: &Plan, node: u32, other: u32) -> Option<u32>
+    /// Whether a node conflicts with another. On which key is known from then on.
+    pub(crate) fn conflict(&mut self, plan: &Plan, node: u32, other: u32) -> bool
         requires node { node < length plan.now.rows }
         requires other { other < length plan.now.rows }
         requires known { AreKnownKeys (tree_of plan.now) self.old.firsts.items self.old.found.items }
-        ensures key { result ≡ contended_key (tree_of plan.now) node other }
-        ensures firsts { self.new.firsts ≡ self.old.firsts }
+        ensures conflict { result ≡ conflict (tree_of plan.now) other node }
         ensures known { AreKnownKeys (tree_of plan.now) self.new.firsts.items self.new.found.items }
     {
-        let key = contended_key(plan, node, other);
-        self.found[other as usize] = Some(KnownKey { of: node, key });
-        key
+        let key = self.key(plan, node, other);
+        let of = self.first(node);
+        let place = self.first(other);
+        self.found[place as usize] = Some(KnownKey { of, key });
+        key.is_some()
     }
 }

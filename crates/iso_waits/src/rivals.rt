@@ -87,7 +87,7 @@ fn collect(
         return Ok(());
     }
     for stay in stays {
-        if keys.key(plan, node, stay.node).is_some() {
+        if keys.conflict(plan, node, stay.node) {
             found.push(*stay)?;
         }
     }

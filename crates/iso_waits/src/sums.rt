@@ -12,32 +12,24 @@ use iso_plan::lock::Lock;
 use std::alloc::AllocError;
 
 /// Adds up the single waits of a node, in a table that has a place for each key. What it has of nodes before this one counts for nothing.
-pub(crate) fn add_up(
-    sums: &mut Vec<Option<NodeWait>>,
-    waits: &mut Waits<'_>,
-    node: u32,
-    found: &[Wait],
-)
-    requires node { node < length waits.old.plan.rows }
-    requires found { All (IsFor (tree_of waits.old.plan) node) found.now }
-    requires sums { AreSums (tree_of waits.old.plan) node [] sums.old.items }
-    ensures sums { AreSums (tree_of waits.old.plan) node found.now sums.new.items }
-    ensures same { waits.new ≡ waits.old }
+pub(crate) fn add_up(sums: &mut Vec<Option<NodeWait>>, told: &Waits<'_>, node: u32, waits: &[Wait])
+    requires node { node < length told.now.plan.rows }
+    requires waits { All (IsFor (tree_of told.now.plan) node) waits.now }
+    requires sums { AreSums (tree_of told.now.plan) node [] sums.old.items }
+    ensures { AreSums (tree_of told.now.plan) node waits.now sums.new.items }
 {
-    for wait in found {
-        let key = key_of(waits, node, *wait);
-        note(sums, node, key, *wait);
+    for wait in waits {
+        note(sums, node, key_of(told, node, *wait), *wait);
     }
 }
 
 /// The key that a node waits for by a single wait: the lowest on which the two nodes conflict.
-fn key_of(waits: &mut Waits<'_>, node: u32, wait: Wait) -> u32
-    requires node { node < length waits.old.plan.rows }
-    requires holder { wait.holder < length waits.old.plan.rows }
-    ensures key { result ≡ key_of (tree_of waits.old.plan) node wait }
-    ensures same { waits.new ≡ waits.old }
+fn key_of(told: &Waits<'_>, node: u32, wait: Wait) -> u32
+    requires node { node < length told.now.plan.rows }
+    requires holder { wait.holder < length told.now.plan.rows }
+    ensures { result ≡ key_of (tree_of told.now.plan) node wait }
 {
-    match waits.key(node, wait.holder) {
+    match told.key(node, wait.holder) {
         Some(key) => key,
         None => 0,
     }

@@ -52,11 +52,12 @@ impl<'a> Waits<'a> {
         ensures bodies { IfOk result (λ w. w.bodies ≡ times.now) }
     {
         let stays = in_order(alloc, times, plan.len())?;
+        let keys = KnownKeys::new(alloc, plan)?;
         Ok(Waits {
             plan,
             times,
             stays,
-            keys: KnownKeys::new(alloc, plan)?,
+            keys,
             rivals: Rivals::new(alloc),
         })
     }
@@ -82,11 +83,10 @@ impl<'a> Waits<'a> {
     }
 
     /// The lowest key on which two nodes conflict; none where they don't.
-    pub(crate) fn key(&mut self, node: u32, other: u32) -> Option<u32>
-        requires node { node < length self.old.plan.rows }
-        requires other { other < length self.old.plan.rows }
-        ensures same { self.new ≡ self.old }
-        ensures key { result ≡ contended_key (tree_of self.old.plan) node other }
+    pub(crate) fn key(&self, node: u32, other: u32) -> Option<u32>
+        requires node { node < length self.now.plan.rows }
+        requires other { other < length self.now.plan.rows }
+        ensures { result ≡ contended_key (tree_of self.now.plan) node other }
     {
         self.keys.key(self.plan, node, other)
     }
