@@ -4,7 +4,7 @@ use Rattle.std.proofs.lemmas.Bool.{cases_eq}
 use Rattle.std.specs.Option.{option_or}
 use Rattle.iso_plan.proofs.ConflictLemmas.{any-at}
 use Rattle.iso_locks.proofs.KeyLemmas.{HasNumber, any-has, has-number, or-left, readable-of, written-is}
-use Rattle.iso_locks.proofs.OwnerLemmas.{no-conflict, none-by}
+use Rattle.iso_locks.proofs.OwnerLemmas.{no-conflict, no-lockers, none-by}
 use Rattle.iso_locks.specs.Clashes.{lockers_conflict}
 use Rattle.iso_locks.specs.Owners.{AreOwned}
 use Rattle.iso_locks.specs.Slots.{Slots, slot}
@@ -69,10 +69,6 @@ or-by : (a b : Bool) → (a || b) ≡ true → (a ≡ true) ⊎ (b ≡ true)
 or-by true b e = inl refl
 or-by false b e = inr e
 
-right-false : (a b : Bool) → (a || b) ≡ false → b ≡ false
-right-false true b e = absurd (cc)
-right-false false b e = e
-
 -- a node that takes a key for READ, and it may be none
 record IsReader (tree : List Row) (o : Option ℕ) (k : List ℕ) : Type 0 where
   pub node : ℕ
@@ -112,7 +108,7 @@ module _ (tree : List Row) (b : IsBelow tree) (lent : List Bool) (values : Slots
           | inr apart ↦
               let one : lockers_conflict tree (locking_node tree m) (locking_node tree n) ≡ true =
               ap₂ (lockers_conflict tree) locks r.is ∙ ap₂ (λ (p q : Bool). not p && q) (eq_not m r.node other) (conflicts m r.node w r.reads) in
-              let two = right-false (conflict tree m n) (lockers_conflict tree (locking_node tree m) (locking_node tree n)) (own.apart m n apart lm l) in
+              let two = no-lockers tree m n (own.apart m n apart lm l) in
               cc
         ]
   ]

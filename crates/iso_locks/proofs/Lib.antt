@@ -2,7 +2,7 @@ pub mod FindLemmas
 pub mod FlatLemmas
 pub mod KeyLemmas
 pub mod LawLemmas
-pub mod ListedLemmas
+pub mod LentLemmas
 pub mod MoveLemmas
 pub mod NumberLemmas
 pub mod OwnerLemmas

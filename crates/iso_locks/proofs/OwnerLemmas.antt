@@ -58,6 +58,10 @@ left-false : (a b : Bool) → (a || b) ≡ false → a ≡ false
 left-false true b e = absurd (cc)
 left-false false b e = refl
 
+pub right-false : (a b : Bool) → (a || b) ≡ false → b ≡ false
+right-false true b e = absurd (cc)
+right-false false b e = e
+
 or-comm : (a b : Bool) → (a || b) ≡ (b || a)
 or-comm true true = refl
 or-comm true false = refl
@@ -95,6 +99,10 @@ clash-comm tree m n = ap₂ (λ (p q : Bool). p || q) (conflict-comm tree m n) (
 -- nodes that don't clash don't conflict
 pub no-conflict : (tree : List Row) (m n : ℕ) → clash tree m n ≡ false → conflict tree m n ≡ false
 no-conflict tree m n e = left-false (conflict tree m n) (lockers_conflict tree (locking_node tree m) (locking_node tree n)) e
+
+-- nor do their locking nodes
+pub no-lockers : (tree : List Row) (m n : ℕ) → clash tree m n ≡ false → lockers_conflict tree (locking_node tree m) (locking_node tree n) ≡ false
+no-lockers tree m n e = right-false (conflict tree m n) (lockers_conflict tree (locking_node tree m) (locking_node tree n)) e
 
 pub none-lent : (count i : ℕ) → is_lent (replicate count false) i ≡ false
 none-lent zero i = refl

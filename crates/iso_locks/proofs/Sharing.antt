@@ -4,21 +4,30 @@ use denote.Param.SendFields.{as_row_send, declared_send}
 use denote.Ref.{NamedLft}
 use Rattle.std.proofs.Crossing.{crosses}
 use Rattle.iso_lifecycle.proofs.Sharing.{frame_sent}
-use Rattle.iso_locks.proofs.lent.LentNodes.TheSendSync as lent
 use Rattle.iso_locks.proofs.slots.Slots.TheSendSync as slots
 use Rattle.iso_locks.proofs.starting.Starting.TheSendSync as starting
+use Rattle.iso_locks.specs.contracts.lent.LentNodes as lent
+use Rattle.iso_locks.specs.contracts.lent.LentNodes.TheInside as lent_inside
+use Rattle.iso_locks.specs.contracts.lockers.Lockers as lockers
+use Rattle.iso_locks.specs.contracts.lockers.Lockers.TheInside as lockers_inside
 use Rattle.iso_locks.specs.contracts.tray.Tray as tray
 use Rattle.iso_locks.specs.contracts.tray.Tray.TheInside as tray_inside
 use Rattle.iso_locks.specs.contracts.vault.Vault as vault
 use Rattle.iso_locks.specs.contracts.vault.Vault.TheInside as vault_inside
-use Rattle.iso_plan.proofs.Sharing.{plan_shared}
+use Rattle.iso_plan.proofs.Sharing.{held_sent, plan_shared}
 use Rattle.iso_settings.proofs.world.World.TheSendSync as world
 
-ruleset held = (plan_shared, world.the_sync, lent.the_send, slots.the_send, starting.the_send, frame_sent, as_row_send, crosses, sendable)
+ruleset held = (plan_shared, held_sent, world.the_sync, slots.the_send, starting.the_send, frame_sent, as_row_send, crosses, sendable)
+
+lockers_sent : (a : NamedLft) → IsSend (lockers.the_row a)
+lockers_sent a = search (declared_send (lockers_inside.the_type a) (search held, (search held, tt)), sendable)
+
+lent_sent : (a : NamedLft) → IsSend (lent.the_row a)
+lent_sent a = search (declared_send (lent_inside.the_type a) (search held, (search held, (search (lockers_sent, held), tt))), sendable)
 
 pub vault_sent : (a : NamedLft) → IsSend (vault.the_row a)
 vault_sent a = search (declared_send (vault_inside.the_type a) (search held, (search held, (search held, (search held, tt)))), sendable)
 
 pub tray_sent : (a : NamedLft) → IsSend (tray.the_row a)
 tray_sent a =
-    search (declared_send (tray_inside.the_type a) (search held, (search held, (search held, (search held, (search held, (search held, (search held, (search held, tt)))))))), sendable)
+    search (declared_send (tray_inside.the_type a) (search held, (search held, (search held, (search (lent_sent, held), (search held, (search held, (search held, (search held, tt)))))))), sendable)

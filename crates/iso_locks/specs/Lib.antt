@@ -1,7 +1,8 @@
 pub mod Clashes
 pub mod Examples
 pub mod Flats
-pub mod Listed
+pub mod Lent
+pub mod Lockers
 pub mod Moves
 pub mod Onward
 pub mod Owners

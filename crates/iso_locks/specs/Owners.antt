@@ -6,6 +6,7 @@ use Rattle.iso_locks.specs.Slots.{Slots, slot}
 use Rattle.iso_locks.specs.Trays.{TrayView, is_lent, start_at}
 use Rattle.iso_locks.specs.declared.starting.Starting.{Starting}
 use Rattle.iso_lifecycle.specs.Subjects.{Subject}
+use Rattle.iso_plan.specs.HeldNodes.{HeldView}
 use Rattle.iso_plan.specs.KeyTable.{keys}
 use Rattle.iso_plan.specs.Locks.{locks}
 use Rattle.iso_plan.specs.NodeChains.{depth}
@@ -39,10 +40,11 @@ pub record HasRoom (most room spare_room : ℕ) (spare : List Subject) : Type 0 
   pub empty : spare ≡ []
 
 -- what holds of the lists that a tray keeps, with room for the frames of the deepest class chain
-pub record IsTray (plan : Planned) (world : Start) (flat : Bool) (lent : List Bool) (values : Slots) (starts : List Starting)
+pub record IsTray (plan : Planned) (world : Start) (flat : Bool) (lent : HeldView) (values : Slots) (starts : List Starting)
     (room spare_room : ℕ) (spare : List Subject) : Type 0 where
-  pub lent_fits : length lent ≡ length plan.rows
+  pub lent_of : lent.plan ≡ plan
+  pub lent_fits : length lent.held ≡ length plan.rows
   pub values_fit : length values ≡ length (keys (tree_of plan))
   pub starts_are : starts ≡ map (start_at world) (keys (tree_of plan))
   pub has_room : HasRoom (depth (tree_of plan)) room spare_room spare
-  pub are_owned : AreOwned (tree_of plan) flat lent values
+  pub are_owned : AreOwned (tree_of plan) flat lent.held values

@@ -2,6 +2,7 @@
 use Rattle.std.specs.Prelude.{◌≡◌, ℕ, ◌<◌, List, length, replicate, Option, Some, None, Bool, true, false, ◌||◌, ◌&&◌, not, option_map, slice_index_or, slice_set, refl}
 use Rattle.std.specs.Coded.{Coded, code_by, coded×, coded_list, coded_bool}
 use Rattle.iso_model.specs.declared.resource.Resource.{Resource}
+use Rattle.iso_plan.specs.HeldNodes.{HeldView}
 use Rattle.iso_plan.specs.KeyTable.{keys}
 use Rattle.iso_plan.specs.Conflicts.{lowest_in_the_way}
 use Rattle.iso_plan.specs.Locks.{locks}
@@ -121,3 +122,8 @@ pub record IsVault (planned : Planned) (start : Start) (given : List Bool) (valu
   pub values_fit : length values ≡ length (keys (tree_of planned))
   pub at_start : (i : ℕ) (h : History) → slot values i ≡ Some h → h.now ≡ starting_value_in start (key_at (tree_of planned) i)
   pub away : (i : ℕ) → i < length values → slot values i ≡ None → IsOwned (tree_of planned) given i
+
+-- the same of all that it keeps: the nodes that it keeps as held are of its plan
+pub record KeepsVault (planned : Planned) (start : Start) (given : HeldView) (values : Slots) : Type 0 where
+  pub lent_of : given.plan ≡ planned
+  pub lists : IsVault planned start given.held values

@@ -1,10 +1,10 @@
 //! Values in the hands of one worker at a time: trays, and the vault that lends to them.
 #![tactic(auto)]
 
-pub mod clash;
 pub mod examples;
 pub mod laws;
 mod lent;
+mod lockers;
 mod moves;
 pub mod savepoint;
 mod slots;

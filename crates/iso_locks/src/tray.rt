@@ -1,5 +1,5 @@
 //! One worker's values.
-ghost use Rattle.std.specs.Prelude.{◌≡◌, ◌<◌, ◌&&◌, ◌++◌, ◌∷◌, [], ℕ, None, IfOk, OnErr, OnOk, cond, false, is_some, length, map, option_copied, replicate, true};
+ghost use Rattle.std.specs.Prelude.{◌≡◌, ◌<◌, ◌++◌, ◌∷◌, [], ℕ, None, IfOk, OnErr, OnOk, cond, false, is_some, length, map, option_copied, replicate, true};
 ghost use Rattle.iso_locks.specs.Clashes.{clash};
 ghost use Rattle.iso_locks.specs.Owners.{AreOwned, CanHold};
 ghost use Rattle.iso_locks.specs.Slots.{slot};
@@ -16,7 +16,6 @@ ghost use Rattle.iso_plan.specs.NodeChains.{depth};
 ghost use Rattle.iso_plan.specs.Paths.{column, is_test, path, row_at};
 ghost use Rattle.iso_plan.specs.RowView.{tree_of};
 
-use crate::clash::nodes_clash;
 use crate::lent::LentNodes;
 use crate::moves::move_values;
 use crate::savepoint::Savepoint;
@@ -51,7 +50,7 @@ pub struct Tray<'a> {
     world: &'a World,
     /// Whether it is the flat map of a run, which has every value though no node is lent to it.
     flat: bool,
-    lent: LentNodes,
+    lent: LentNodes<'a>,
     values: Slots,
     /// The keys with their starting values, by key number.
     starts: Vec<Starting>,
@@ -71,7 +70,7 @@ impl<'a> Model for Tray<'a> {
 
     ghost coded = { tray_code };
 
-    ghost view = { λ t. record { plan = t.plan.now; world = t.world.now; flat = t.flat; lent = t.lent; values = t.values; frames = t.frames.items } };
+    ghost view = { λ t. record { plan = t.plan.now; world = t.world.now; flat = t.flat; lent = t.lent.held; values = t.values; frames = t.frames.items } };
 
     ghost invariant = { λ t. IsTray t.plan.now t.world.now t.flat t.lent t.values t.starts.items (vec_capacity t.frames) (vec_capacity t.spare) t.spare.items };
 }
@@ -83,13 +82,12 @@ impl<'a> Tray<'a> {
         ensures { IfOk result (λ t. t ≡ empty_tray plan.now world.now) }
     {
         let count = plan.key_count() as usize;
-        let nodes = plan.len() as usize;
         let depth = plan.depth();
         Ok(Tray {
             plan,
             world,
             flat: false,
-            lent: LentNodes::new(alloc, nodes)?,
+            lent: LentNodes::new(alloc, plan)?,
             values: Slots::empty(alloc, count)?,
             starts: starts_of(alloc, plan, world)?,
             frames: Vec::with_capacity(alloc, depth)?,
@@ -144,8 +142,8 @@ impl<'a> Tray<'a> {
         self.lent.has(node)
     }
 
-    /// Whether a node may be lent to it beside those that are: it isn't lent to it, and clashes with none of them. It goes over those
-    /// alone. Takes no memory.
+    /// Whether a node may be lent to it beside those that are: it isn't lent to it, and clashes with none of them. It looks at the
+    /// node's own locks and those of its locking node, however many nodes are lent. Takes no memory.
     pub fn can_hold(&self, node: u32) -> bool
         requires { node < length self.now.plan.rows }
         ensures holds { result ≡ true → CanHold node self.now }
@@ -154,22 +152,7 @@ impl<'a> Tray<'a> {
         if self.is_lent(node) {
             return false;
         }
-        let listed = self.lent.listed();
-        'nodes: for other in listed {
-            if self.keeps_out(*other, node) {
-                return false;
-            }
-        }
-        true
-    }
-
-    /// Whether a node is lent to it that another one clashes with.
-    fn keeps_out(&self, lent: u32, node: u32) -> bool
-        requires lent { lent < length self.now.plan.rows }
-        requires node { node < length self.now.plan.rows }
-        ensures { result ≡ (is_lent self.now.lent lent && clash (tree_of self.now.plan) lent node) }
-    {
-        self.is_lent(lent) && nodes_clash(self.plan, lent, node)
+        !self.lent.clash_with(node)
     }
 
     /// The frames that were handed to it since the last clearing, in that order.

@@ -13,6 +13,7 @@ use crate::tray::Tray;
 use iso_model::key::Key;
 use iso_model::text::Text;
 use iso_plan::conflict::{Holders, lowest_in_the_way};
+use iso_plan::held_nodes::HeldNodes;
 use iso_plan::plan::Plan;
 use iso_settings::world::World;
 use iso_store::held::Held;
@@ -30,21 +31,21 @@ pub struct Busy {
 pub struct Vault<'a> {
     plan: &'a Plan,
     world: &'a World,
-    lent: Vec<bool>,
+    lent: HeldNodes<'a>,
     values: Slots,
 }
 
 impl<'a> Model for Vault<'a> {
     ghost use Rattle.std.specs.Prelude.{is_some, map};
-    ghost use Rattle.iso_locks.specs.Vaults.{IsVault, VaultView, vault_code};
+    ghost use Rattle.iso_locks.specs.Vaults.{KeepsVault, VaultView, vault_code};
 
     ghost Value = { VaultView };
 
     ghost coded = { vault_code };
 
-    ghost view = { λ v. record { plan = v.plan.now; world = v.world.now; lent = v.lent.items; home = map is_some v.values } };
+    ghost view = { λ v. record { plan = v.plan.now; world = v.world.now; lent = v.lent.held; home = map is_some v.values } };
 
-    ghost invariant = { λ v. IsVault v.plan.now v.world.now v.lent.items v.values };
+    ghost invariant = { λ v. KeepsVault v.plan.now v.world.now v.lent v.values };
 }
 
 impl<'a> Vault<'a> {
@@ -53,11 +54,10 @@ impl<'a> Vault<'a> {
     pub fn new(alloc: Global, plan: &'a Plan, world: &'a World) -> Result<Vault<'a>, AllocError>
         ensures { IfOk result (λ v. v ≡ whole_vault plan.now world.now) }
     {
-        let nodes = plan.len() as usize;
         Ok(Vault {
             plan,
             world,
-            lent: vec![in alloc; false; nodes]?,
+            lent: HeldNodes::new(alloc, plan)?,
             values: values(alloc, plan, world)?,
         })
     }
@@ -67,7 +67,7 @@ impl<'a> Vault<'a> {
         requires { node < length self.now.plan.rows }
         ensures { result ≡ is_lent self.now.lent node }
     {
-        self.lent[node as usize]
+        self.lent.is_held(node)
     }
 
     /// Whether the value of the key with a number is home.
@@ -89,11 +89,22 @@ impl<'a> Vault<'a> {
         ensures vault_stays { OnErr result (self.new ≡ self.old) }
         ensures tray_stays { OnErr result (tray.new ≡ tray.old) }
     {
-        if let Some(m) = lowest_in_the_way(self.plan, &*self, node) {
+        if let Some(m) = self.in_the_way(node) {
             return Err(Busy { node: m });
         }
         self.lend_free(node, tray);
         Ok(())
+    }
+
+    /// The lowest lent node that conflicts with a node. It looks for it only where there is one: else at the node's own locks alone.
+    fn in_the_way(&self, node: u32) -> Option<u32>
+        requires { node < length self.now.plan.rows }
+        ensures { result ≡ busy self.now node }
+    {
+        if !self.lent.excludes(node) {
+            return None;
+        }
+        lowest_in_the_way(self.plan, self, node)
     }
 
     /// Lends a node to a tray where no lent node conflicts with it, for those who know that without a search. Takes no memory.
@@ -104,7 +115,7 @@ impl<'a> Vault<'a> {
         ensures tray { IsLentTo node tray.old tray.new }
     {
         let locks = self.plan.locks(node);
-        self.lent[node as usize] = true;
+        self.lent.hold(node);
         tray.receive(node, locks, &mut self.values);
     }
 
@@ -115,7 +126,7 @@ impl<'a> Vault<'a> {
         ensures tray { tray.new ≡ giving_back node tray.old }
     {
         let locks = self.plan.locks(node);
-        self.lent[node as usize] = false;
+        self.lent.release(node);
         tray.give_back(node, locks, &mut self.values);
     }
 }

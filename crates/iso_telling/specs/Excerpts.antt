@@ -1,5 +1,5 @@
 -- The lines of scripts that are shown of the nodes that failed.
-use Rattle.std.specs.Prelude.{ℕ, zero, suc, ◌+◌, ◌-◌, List, [], Option, None, Some, cond, length, map, min, slice_index_or}
+use Rattle.std.specs.Prelude.{ℕ, zero, suc, ◌+◌, ◌-◌, ◌==◌, List, [], Option, None, Some, cond, length, map, min, slice_index_or}
 use Rattle.std.specs.List.{range_with_len}
 use Rattle.iso_failures.specs.Failures.{is_failure}
 use Rattle.iso_html.specs.Quotes.{LineView}
@@ -15,12 +15,16 @@ use Rattle.iso_telling.specs.ToldLines.{line_told}
 abbrev pub numbered_line : (text : List ℕ) → ℕ → LineView
 numbered_line text k = record { number = k; text = source_line text k }
 
+-- how many lines a text has, but for an empty one behind its last line feed
+abbrev pub line_count : (text : List ℕ) → ℕ
+line_count text = length (line_starts text) - cond (length (source_line text (length (line_starts text))) == 0) 1 0
+
 -- how many lines are shown before a line and after it: two each, as far as the text has so many
 abbrev pub lines_before : ℕ → ℕ
 lines_before line = min (line - 1) 2
 
 abbrev pub lines_after : (text : List ℕ) → ℕ → ℕ
-lines_after text line = min (length (line_starts text) - line) 2
+lines_after text line = min (line_count text - line) 2
 
 -- a line of a text, with those that are shown before it and after it
 abbrev pub around : (text : List ℕ) → ℕ → List LineView

@@ -1,5 +1,5 @@
 //! Worked examples of the definitions, as public laws.
-ghost use Rattle.std.specs.Prelude.{◌≡◌, ◌∷◌, [], None, Some, codes, false, true};
+ghost use Rattle.std.specs.Prelude.{◌≡◌, ◌++◌, ◌∷◌, [], None, Some, codes, false, true};
 ghost use Rattle.iso_failures.specs.Examples.{outcome_of, till_in_cart, unopened_of};
 ghost use Rattle.iso_model.specs.declared.place.BlockName.TheVariants as N;
 ghost use Rattle.iso_model.specs.declared.place.Lifecycle.TheVariants.{AfterAll, BeforeAll, BeforeEach};
@@ -102,6 +102,8 @@ pub fn lines_stand_around_the_one_that_is_told()
     ensures first { around six_lines 1 ≡ numbered 1 "a" ∷ numbered 2 "b" ∷ numbered 3 "c" ∷ [] }
     ensures second { around six_lines 2 ≡ numbered 1 "a" ∷ numbered 2 "b" ∷ numbered 3 "c" ∷ numbered 4 "d" ∷ [] }
     ensures last { around six_lines 6 ≡ numbered 4 "d" ∷ numbered 5 "e" ∷ numbered 6 "f" ∷ [] }
+    ensures line_feed { around (six_lines ++ codes "\n") 6 ≡ numbered 4 "d" ∷ numbered 5 "e" ∷ numbered 6 "f" ∷ [] }
+    ensures empty_line { around (six_lines ++ codes "\n\n") 6 ≡ numbered 4 "d" ∷ numbered 5 "e" ∷ numbered 6 "f" ∷ numbered 7 "" ∷ [] }
 {}
 
 /// It shows none of a node that didn't fail, and none of the root.

@@ -1,10 +1,10 @@
 //! The lines of scripts that are shown of the nodes that failed.
-ghost use Rattle.std.specs.Prelude.{◌≡◌, ◌<◌, ◌≤◌, ◌+◌, ◌-◌, IfOk, [], length, map, min, slice_index_or};
+ghost use Rattle.std.specs.Prelude.{◌≡◌, ◌<◌, ◌≤◌, ◌+◌, IfOk, [], length, map, slice_index_or};
 ghost use Rattle.iso_html.specs.Quotes.{excerpt_of, line_of};
 ghost use Rattle.iso_lifecycle.specs.ResultViews.{AreComplete, outcome_in};
 ghost use Rattle.iso_places.specs.LineStarts.{line_starts};
 ghost use Rattle.iso_plan.specs.RowView.{tree_of};
-ghost use Rattle.iso_telling.specs.Excerpts.{around, excerpt, excerpts, failed_line, lines_before, numbered_line};
+ghost use Rattle.iso_telling.specs.Excerpts.{around, excerpt, excerpts, failed_line, line_count, lines_after, lines_before, numbered_line};
 ghost use Rattle.iso_telling.specs.Written.{lent};
 
 use crate::lines::line_told;
@@ -120,7 +120,7 @@ fn around<'a>(
     ensures { IfOk result (λ v. map line_of v.items ≡ around text.now line) }
 {
     let before = lines_before(line);
-    let after = lines_after(table, line);
+    let after = lines_after(text, table, line);
     let first = line.saturating_sub(before);
     let mut lines = Vec::new(alloc);
     'lines: for place in 0..before + 1 + after {
@@ -137,11 +137,25 @@ fn lines_before(line: u64) -> u64
 }
 
 /// How many lines are shown after a line of the text of this table.
-fn lines_after(table: &LineTable, line: u64) -> u64
-    ensures count { result ≡ min (length table.now - line) 2 }
+fn lines_after(text: &[u8], table: &LineTable, line: u64) -> u64
+    requires { table.now ≡ line_starts text.now }
+    ensures count { result ≡ lines_after text.now line }
     ensures fits { line + result ≤ 18446744073709551615 }
 {
-    table.last().saturating_sub(line).min(2)
+    line_count(text, table).saturating_sub(line).min(2)
+}
+
+/// How many lines the text of this table has, but for an empty one behind its last line feed.
+fn line_count(text: &[u8], table: &LineTable) -> u64
+    requires { table.now ≡ line_starts text.now }
+    ensures { result ≡ line_count text.now }
+{
+    let last = table.last();
+    if table.line(text, last).is_empty() {
+        last.saturating_sub(1)
+    } else {
+        last
+    }
 }
 
 /// A line of a text, with its number.

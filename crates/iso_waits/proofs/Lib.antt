@@ -1,5 +1,8 @@
 pub mod CoverLemmas
+pub mod FirstLemmas
 pub mod HolderLemmas
+pub mod KeyLemmas
+pub mod KnownLemmas
 pub mod MomentLemmas
 pub mod RivalLemmas
 pub mod SiblingLemmas

@@ -2,6 +2,7 @@ pub mod AllWaits
 pub mod ContendedKeys
 pub mod Covers
 pub mod Examples
+pub mod KnownKeys
 pub mod Moments
 pub mod Rivals
 pub mod Stays

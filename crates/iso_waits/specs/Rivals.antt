@@ -2,7 +2,7 @@
 use Rattle.std.specs.Prelude.{◌≡◌, ℕ, ◌<◌, List, Option, Some, None, Bool, ⊤, filter, length}
 use Rattle.std.specs.List.{All}
 use Rattle.std.specs.List.Sorted.{IsNonDecreasingBy, IsPermutation}
-use Rattle.iso_plan.specs.Locks.{conflict, locks}
+use Rattle.iso_plan.specs.Locks.{conflict}
 use Rattle.iso_plan.specs.Planned.{Planned}
 use Rattle.iso_plan.specs.Tree.{Row}
 use Rattle.iso_times.specs.declared.times.BodyTime.{BodyTime}
@@ -27,15 +27,10 @@ is_rival tree n s = conflict tree s.node n
 abbrev pub rivals : List Row → List Stay → ℕ → List Stay
 rivals tree stays n = filter (is_rival tree n) stays
 
--- a node of a tree, if there is one, has these rivals
+-- a node, if there is one, has these rivals
 abbrev pub AreKnown : List Row → List Stay → Option ℕ → List Stay → Type 0
 AreKnown tree stays None found = ⊤
-AreKnown tree stays (Some m) found = (m < length tree) × (found ≡ rivals tree stays m)
-
--- a node, if there is one, takes the same keys in the same way as another
-abbrev pub IsAlike : List Row → Option ℕ → ℕ → Type 0
-IsAlike tree None n = ⊥
-IsAlike tree (Some m) n = locks tree m ≡ locks tree n
+AreKnown tree stays (Some m) found = found ≡ rivals tree stays m
 
 -- these are all stays of a run, in the order of their begins
 pub record AreStays (tree : List Row) (bodies : List (Option BodyTime)) (stays : List Stay) : Type 0 where

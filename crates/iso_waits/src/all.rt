@@ -23,7 +23,7 @@ pub fn all_waits(alloc: Global, plan: &Plan, times: &Times) -> Result<Vec<NodeWa
     let mut all = Vec::new(alloc);
     'nodes: for node in 1..plan.len() {
         let found = waits.waits(alloc, node)?;
-        add_up(&mut sums, plan, node, &found);
+        add_up(&mut sums, &waits, node, &found);
         append(&mut all, &sums, plan.locks(node), node)?;
     }
     Ok(all)

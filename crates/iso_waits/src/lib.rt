@@ -3,7 +3,9 @@
 
 pub mod all;
 pub mod examples;
+mod firsts;
 pub mod key;
+mod known_keys;
 pub mod laws;
 mod order;
 mod ready;

@@ -1,12 +1,13 @@
 //! Which stays are in a node's way.
-ghost use Rattle.std.specs.Prelude.{◌≡◌, ◌<◌, [], IfSome, IsTrue, None, OnOk, length};
+ghost use Rattle.std.specs.Prelude.{◌≡◌, ◌<◌, [], None, OnOk, length};
 ghost use Rattle.std.specs.List.{All};
+ghost use Rattle.iso_plan.specs.Locks.{is_that};
 ghost use Rattle.iso_plan.specs.RowView.{tree_of};
-ghost use Rattle.iso_waits.specs.Rivals.{AreKnown, IsAlike, IsAmong, rivals};
+ghost use Rattle.iso_waits.specs.KnownKeys.{AreKnownKeys};
+ghost use Rattle.iso_waits.specs.Rivals.{AreKnown, IsAmong, rivals};
 
+use crate::known_keys::KnownKeys;
 use crate::stay::Stay;
-use iso_plan::conflict::nodes_conflict;
-use iso_plan::lock::Lock;
 use iso_plan::plan::Plan;
 use std::alloc::{AllocError, Global};
 
@@ -30,63 +31,63 @@ impl Rivals {
     }
 
     /// Those of a node, of all stays.
-    pub(crate) fn find(&mut self, plan: &Plan, stays: &[Stay], node: u32) -> Result<(), AllocError>
+    pub(crate) fn find(
+        &mut self,
+        keys: &mut KnownKeys,
+        plan: &Plan,
+        stays: &[Stay],
+        node: u32,
+    ) -> Result<(), AllocError>
         requires node { node < length plan.now.rows }
         requires stays { All (IsAmong (tree_of plan.now)) stays.now }
         requires known { AreKnown (tree_of plan.now) stays.now self.old.of self.old.stays.items }
+        requires keys { AreKnownKeys (tree_of plan.now) keys.old.firsts.items keys.old.found.items }
         ensures found { OnOk result (self.new.stays.items ≡ rivals (tree_of plan.now) stays.now node) }
         ensures known { AreKnown (tree_of plan.now) stays.now self.new.of self.new.stays.items }
+        ensures keys { AreKnownKeys (tree_of plan.now) keys.new.firsts.items keys.new.found.items }
     {
-        if is_alike(plan, self.of, node) {
+        let first = keys.first(node);
+        if is_that(self.of, first) {
             return Ok(());
         }
         self.of = None;
         self.stays.clear();
-        collect(&mut self.stays, plan, stays, node)?;
-        self.of = Some(node);
+        collect(&mut self.stays, keys, plan, stays, first)?;
+        self.of = Some(first);
         Ok(())
     }
 }
 
-/// Whether there is a node that takes the same keys in the same way as another.
-fn is_alike(plan: &Plan, of: Option<u32>, node: u32) -> bool
-    requires node { node < length plan.now.rows }
-    requires of { IfSome of (λ m. m < length plan.now.rows) }
-    ensures { IsTrue result → IsAlike (tree_of plan.now) of node }
+/// Whether there is a node, and it is this one.
+fn is_that(of: Option<u32>, node: u32) -> bool
+    ensures { result ≡ is_that of node }
 {
     match of {
-        Some(of) => same_locks(plan.locks(of), plan.locks(node)),
+        Some(of) => of == node,
         None => false,
     }
 }
 
-/// Whether these are the same locks in the same order.
-fn same_locks(some: &[Lock], others: &[Lock]) -> bool
-    ensures { IsTrue result → some.now ≡ others.now }
-{
-    if some.len() != others.len() {
-        return false;
-    }
-    for (i, lock) in some.iter().enumerate() {
-        if *lock != others[i] {
-            return false;
-        }
-    }
-    true
-}
-
 /// Adds the stays of nodes that conflict with a node, of all stays. With one that takes no key none does.
-fn collect(found: &mut Vec<Stay>, plan: &Plan, stays: &[Stay], node: u32) -> Result<(), AllocError>
+fn collect(
+    found: &mut Vec<Stay>,
+    keys: &mut KnownKeys,
+    plan: &Plan,
+    stays: &[Stay],
+    node: u32,
+) -> Result<(), AllocError>
     requires node { node < length plan.now.rows }
     requires stays { All (IsAmong (tree_of plan.now)) stays.now }
     requires empty { found.old.items ≡ [] }
-    ensures { OnOk result (found.new.items ≡ rivals (tree_of plan.now) stays.now node) }
+    requires keys { AreKnownKeys (tree_of plan.now) keys.old.firsts.items keys.old.found.items }
+    ensures found { OnOk result (found.new.items ≡ rivals (tree_of plan.now) stays.now node) }
+    ensures keys { AreKnownKeys (tree_of plan.now) keys.new.firsts.items keys.new.found.items }
 {
     if plan.locks(node).is_empty() {
         return Ok(());
     }
     for stay in stays {
-        if nodes_conflict(plan, stay.node, node) {
+        if keys.conflict(plan, node, stay.node) {
             found.push(*stay)?;
         }
     }

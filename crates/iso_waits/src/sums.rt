@@ -6,31 +6,30 @@ ghost use Rattle.iso_plan.specs.RowView.{tree_of};
 ghost use Rattle.iso_waits.specs.AllWaits.{IsFor, alone, and_then, key_of, took, with_later};
 ghost use Rattle.iso_waits.specs.Sums.{AreSums, of_node, sum_at, sums_of};
 
-use crate::key::contended_key;
 use crate::wait::{NodeWait, Wait};
+use crate::waits::Waits;
 use iso_plan::lock::Lock;
-use iso_plan::plan::Plan;
 use std::alloc::AllocError;
 
 /// Adds up the single waits of a node, in a table that has a place for each key. What it has of nodes before this one counts for nothing.
-pub(crate) fn add_up(sums: &mut Vec<Option<NodeWait>>, plan: &Plan, node: u32, waits: &[Wait])
-    requires node { node < length plan.now.rows }
-    requires waits { All (IsFor (tree_of plan.now) node) waits.now }
-    requires sums { AreSums (tree_of plan.now) node [] sums.old.items }
-    ensures { AreSums (tree_of plan.now) node waits.now sums.new.items }
+pub(crate) fn add_up(sums: &mut Vec<Option<NodeWait>>, told: &Waits<'_>, node: u32, waits: &[Wait])
+    requires node { node < length told.now.plan.rows }
+    requires waits { All (IsFor (tree_of told.now.plan) node) waits.now }
+    requires sums { AreSums (tree_of told.now.plan) node [] sums.old.items }
+    ensures { AreSums (tree_of told.now.plan) node waits.now sums.new.items }
 {
     for wait in waits {
-        note(sums, node, key_of(plan, node, *wait), *wait);
+        note(sums, node, key_of(told, node, *wait), *wait);
     }
 }
 
 /// The key that a node waits for by a single wait: the lowest on which the two nodes conflict.
-fn key_of(plan: &Plan, node: u32, wait: Wait) -> u32
-    requires node { node < length plan.now.rows }
-    requires holder { wait.holder < length plan.now.rows }
-    ensures { result ≡ key_of (tree_of plan.now) node wait }
+fn key_of(told: &Waits<'_>, node: u32, wait: Wait) -> u32
+    requires node { node < length told.now.plan.rows }
+    requires holder { wait.holder < length told.now.plan.rows }
+    ensures { result ≡ key_of (tree_of told.now.plan) node wait }
 {
-    match contended_key(plan, node, wait.holder) {
+    match told.key(node, wait.holder) {
         Some(key) => key,
         None => 0,
     }

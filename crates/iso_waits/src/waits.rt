@@ -1,9 +1,11 @@
 //! The waits of nodes.
 ghost use Rattle.std.specs.Prelude.{◌≡◌, ◌<◌, IfOk, length};
 ghost use Rattle.iso_plan.specs.RowView.{tree_of};
+ghost use Rattle.iso_waits.specs.ContendedKeys.{contended_key};
 ghost use Rattle.iso_waits.specs.Stays.{stayed};
 ghost use Rattle.iso_waits.specs.Waits.{earlier, ready, waits};
 
+use crate::known_keys::KnownKeys;
 use crate::order::in_order;
 use crate::ready;
 use crate::rivals::Rivals;
@@ -21,12 +23,14 @@ pub struct Waits<'a> {
     plan: &'a Plan,
     times: &'a Times,
     stays: Vec<Stay>,
+    keys: KnownKeys,
     rivals: Rivals,
 }
 
 impl<'a> Model for Waits<'a> {
     ghost use Rattle.iso_model.specs.SyntaxCodes.{acts_code};
     ghost use Rattle.iso_plan.specs.RowView.{tree_of};
+    ghost use Rattle.iso_waits.specs.KnownKeys.{AreKnownKeys};
     ghost use Rattle.iso_waits.specs.Rivals.{AreKnown, AreStays, Ran};
     ghost use Rattle.std.specs.Coded.{codes};
 
@@ -37,7 +41,8 @@ impl<'a> Model for Waits<'a> {
     ghost view = { λ w. record { plan = w.plan.now; bodies = w.times.now } };
 
     ghost invariant = { λ w. AreStays (tree_of w.plan.now) w.times.now w.stays.items
-        × AreKnown (tree_of w.plan.now) w.stays.items w.rivals.of w.rivals.stays.items };
+        × AreKnown (tree_of w.plan.now) w.stays.items w.rivals.of w.rivals.stays.items
+        × AreKnownKeys (tree_of w.plan.now) w.keys.firsts.items w.keys.found.items };
 }
 
 impl<'a> Waits<'a> {
@@ -47,10 +52,12 @@ impl<'a> Waits<'a> {
         ensures bodies { IfOk result (λ w. w.bodies ≡ times.now) }
     {
         let stays = in_order(alloc, times, plan.len())?;
+        let keys = KnownKeys::new(alloc, plan)?;
         Ok(Waits {
             plan,
             times,
             stays,
+            keys,
             rivals: Rivals::new(alloc),
         })
     }
@@ -70,8 +77,18 @@ impl<'a> Waits<'a> {
         let Some(stay) = stayed(self.times, node) else {
             return Ok(Vec::new(alloc));
         };
-        self.rivals.find(self.plan, &self.stays, node)?;
+        self.rivals
+            .find(&mut self.keys, self.plan, &self.stays, node)?;
         waits_within(alloc, &self.rivals.stays, from, stay.begin)
+    }
+
+    /// The lowest key on which two nodes conflict; none where they don't.
+    pub(crate) fn key(&self, node: u32, other: u32) -> Option<u32>
+        requires node { node < length self.now.plan.rows }
+        requires other { other < length self.now.plan.rows }
+        ensures { result ≡ contended_key (tree_of self.now.plan) node other }
+    {
+        self.keys.key(self.plan, node, other)
     }
 
     /// When a node was entered and hadn't finished.

@@ -8,7 +8,7 @@ use Rattle.iso_waits.proofs.sums.add_up.Goals as goal
 
 pub loop-wait-preserved : goal.loop-wait-preserved
 loop-wait-preserved c =
-    let tree = tree_of c.args.plan.now in
+    let tree = tree_of c.args.told.now.plan in
     let n = c.args.node in
     let ws = c.args.waits.now in
     let i = c.loop-wait.wait-index in

@@ -4,4 +4,4 @@ use Rattle.iso_waits.specs.Sums.{AreSums}
 use Rattle.iso_waits.proofs.sums.add_up.Given as goal
 
 abbrev pub invariant-loop-wait : goal.invariant-loop-wait
-invariant-loop-wait l = AreSums (tree_of l.plan) l.node (take l.wait-index l.waits) l.sums.items
+invariant-loop-wait l = AreSums (tree_of l.told.plan) l.node (take l.wait-index l.waits) l.sums.items

@@ -27,13 +27,14 @@ invariant_of-tray c =
     let plan_is : c.tray.inside.plan.now ≡ c.args.plan.now = ap (λ (t : TrayView). t.plan) (c.tray.view_is ∙ c.in_ok-tray.ensures) in
     let all : AllThere c.in_ok-tray-inside.field-0 c.tray.inside.plan.now = subst (AllThere c.in_ok-tray-inside.field-0) (sym plan_is) c.in_ok-tray-inside.ensures.fits in
     record {
+      lent_of = c.tray.invariant.lent_of;
       lent_fits = c.tray.invariant.lent_fits;
       values_fit = count c.in_ok-tray-inside.field-0 c.tray.inside.plan.now all;
       starts_are = c.tray.invariant.starts_are;
       has_room = c.tray.invariant.has_room;
       are_owned =
           let count = length c.args.plan.now.rows in
-          let lent_is : c.tray.inside.lent ≡ replicate count false = ap (λ (t : TrayView). t.lent) (c.tray.view_is ∙ c.in_ok-tray.ensures) in
+          let lent_is : c.tray.inside.lent.held ≡ replicate count false = ap (λ (t : TrayView). t.lent) (c.tray.view_is ∙ c.in_ok-tray.ensures) in
           let Own : List Bool → Type 0 = λ l. AreOwned (tree_of c.tray.inside.plan.now) true l c.in_ok-tray-inside.field-0 in
           subst Own (sym lent_is) (owned-none (tree_of c.tray.inside.plan.now) true count c.in_ok-tray-inside.field-0 (λ f i. absurd (cc)));
     }
@@ -42,7 +43,7 @@ pub returns-clause-every_value : goal.returns-clause-every_value
 returns-clause-every_value c =
     let values : Slots = c.in_ok-tray-inside.field-0 in
     let plan_is : c.tray.inside.plan.now ≡ c.args.plan.now = ap (λ (t : TrayView). t.plan) (c.tray.view_is ∙ c.in_ok-tray.ensures) in
-    let t : TrayView = record { plan = c.tray.inside.plan.now; world = c.tray.inside.world.now; flat = true; lent = c.tray.inside.lent; values = values; frames = c.tray.inside.frames.items } in
+    let t : TrayView = record { plan = c.tray.inside.plan.now; world = c.tray.inside.world.now; flat = true; lent = c.tray.inside.lent.held; values = values; frames = c.tray.inside.frames.items } in
     full t (subst (AllThere values) (sym plan_is) c.in_ok-tray-inside.ensures.fits)
 
 pub returns-clause-start : goal.returns-clause-start
@@ -50,7 +51,7 @@ returns-clause-start c =
     let values : Slots = c.in_ok-tray-inside.field-0 in
     let plan_is : c.tray.inside.plan.now ≡ c.args.plan.now = ap (λ (t : TrayView). t.plan) (c.tray.view_is ∙ c.in_ok-tray.ensures) in
     let world_is : c.tray.inside.world.now ≡ c.args.world.now = ap (λ (t : TrayView). t.world) (c.tray.view_is ∙ c.in_ok-tray.ensures) in
-    let t : TrayView = record { plan = c.tray.inside.plan.now; world = c.tray.inside.world.now; flat = true; lent = c.tray.inside.lent; values = values; frames = c.tray.inside.frames.items } in
+    let t : TrayView = record { plan = c.tray.inside.plan.now; world = c.tray.inside.world.now; flat = true; lent = c.tray.inside.lent.held; values = values; frames = c.tray.inside.frames.items } in
     let all : AllThere values t.plan = subst (AllThere values) (sym plan_is) c.in_ok-tray-inside.ensures.fits in
     let starts : AtStart values t.plan t.world =
     subst (λ (p : Planned). AtStart values p t.world) (sym plan_is) (subst (AtStart values c.args.plan.now) (sym world_is) c.in_ok-tray-inside.ensures.start) in

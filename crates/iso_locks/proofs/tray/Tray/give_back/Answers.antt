@@ -1,8 +1,10 @@
-use Rattle.std.proofs.Common.{◌≡◌, ℕ, List, Bool, length, set, true, false, ap, sym, ◌∙◌, subst}
+use Rattle.std.proofs.Common.{◌≡◌, ◌<◌, ℕ, List, length, set, true, false, ap, sym, ◌∙◌, subst}
 use Rattle.std.specs.Vec.{vec_capacity}
 use Rattle.std.proofs.lemmas.List.{length-set}
+use Rattle.iso_plan.specs.HeldNodes.{HeldView}
 use Rattle.iso_plan.specs.KeyTable.{keys}
 use Rattle.iso_plan.specs.Locks.{locks}
+use Rattle.iso_plan.specs.Planned.{Planned}
 use Rattle.iso_plan.specs.RowView.{tree_of}
 use Rattle.iso_plan.specs.declared.lock.Lock.{Lock}
 use Rattle.iso_plan.specs.Tree.{Row}
@@ -23,9 +25,10 @@ move_values-requires-clause-within c =
 
 pub invariant_of-self : goal.invariant_of-self
 invariant_of-self c =
-    let Kept : List Bool → Type 0 = λ l. IsTray c.self.inside.plan.now c.self.inside.world.now c.self.inside.flat l c.move_values.new.there c.self.inside.starts.items (vec_capacity c.self.inside.frames) (vec_capacity c.self.inside.spare) c.self.inside.spare.items in
+    let Kept : HeldView → Type 0 = λ l. IsTray c.self.inside.plan.now c.self.inside.world.now c.self.inside.flat l c.move_values.new.there c.self.inside.starts.items (vec_capacity c.self.inside.frames) (vec_capacity c.self.inside.spare) c.self.inside.spare.items in
     subst Kept (sym c.take_back.ensures) (record {
-      lent_fits = length-set c.self.inside.lent c.args.node false ∙ c.self.invariant.lent_fits;
+      lent_of = c.self.invariant.lent_of;
+      lent_fits = length-set c.self.inside.lent.held c.args.node false ∙ c.self.invariant.lent_fits;
       values_fit = there-count c.args.taken.now c.self.inside.values c.move_values.new.there c.move_values.ensures.there ∙ c.self.invariant.values_fit;
       starts_are = c.self.invariant.starts_are;
       has_room = c.self.invariant.has_room;
@@ -33,10 +36,15 @@ invariant_of-self c =
           let tree = tree_of c.self.inside.plan.now in
           let n = c.args.node in
           let same : tree_of c.args.self.now.plan ≡ tree = ap (λ (t : TrayView). tree_of t.plan) (sym c.self.view_is) in
-          let lent = c.self.inside.lent in
+          let lent = c.self.inside.lent.held in
           let holds : is_lent lent n ≡ true = ap (λ (t : TrayView). is_lent t.lent n) c.self.view_is ∙ c.requires.holds in
           let moved : c.move_values.new.there ≡ moved_away (locks tree n) c.self.inside.values =
           c.move_values.ensures.there ∙ ap (λ (ls : List Lock). moved_away ls c.self.inside.values) (c.requires.taken ∙ ap (λ (tr : List Row). locks tr n) same) in
           let Own : Slots → Type 0 = λ vs. AreOwned tree c.self.inside.flat (set lent n false) vs in
           subst Own (sym moved) (owned-less tree c.self.inside.flat lent c.self.inside.values n (lent-within lent n holds) holds c.self.invariant.are_owned);
     })
+
+pub take_back-requires-clause-node : goal.take_back-requires-clause-node
+take_back-requires-clause-node c =
+    let n = c.args.node in
+    subst (λ (p : Planned). n < length p.rows) (sym c.self.invariant.lent_of) (subst (λ (t : TrayView). n < length t.plan.rows) (sym c.self.view_is) c.requires.node)

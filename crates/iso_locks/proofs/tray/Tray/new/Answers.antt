@@ -1,5 +1,6 @@
 use Rattle.std.proofs.Common.{◌≡◌, List, Bool, false, Option, None, length, replicate, ap, ap₂, sym, subst, ◌∙◌, arith}
 use Rattle.std.proofs.lemmas.List.{length-replicate}
+use Rattle.iso_plan.specs.HeldNodes.{HeldView}
 use Rattle.iso_plan.specs.KeyTable.{keys}
 use Rattle.iso_plan.specs.RowView.{tree_of}
 use Rattle.iso_store.specs.Histories.{History}
@@ -14,8 +15,9 @@ pub invariant_of-result : goal.invariant_of-result
 invariant_of-result c =
     let plan = c.args.plan.now in
     let none : Option History = None in
-    let lent : c.in_ok-new.field-0 ≡ replicate (length plan.rows) false = c.in_ok-new.ensures ∙ ap (λ n. replicate n false) c.len-nodes.ensures in
+    let lent : c.in_ok-new.field-0.held ≡ replicate (length plan.rows) false = ap (λ (h : HeldView). h.held) c.in_ok-new.ensures in
     record {
+      lent_of = ap (λ (h : HeldView). h.plan) c.in_ok-new.ensures;
       lent_fits = ap length lent ∙ length-replicate (length plan.rows) false;
       values_fit = ap length c.in_ok-empty.ensures ∙ length-replicate c.key_count-count.result none ∙ c.key_count-count.ensures;
       starts_are = c.in_ok-starts_of.ensures;
@@ -35,7 +37,7 @@ pub returns : goal.returns
 returns c =
     let plan = c.args.plan.now in
     let none : Option History = None in
-    let lent : c.in_ok-new.field-0 ≡ replicate (length plan.rows) false = c.in_ok-new.ensures ∙ ap (λ n. replicate n false) c.len-nodes.ensures in
+    let lent : c.in_ok-new.field-0.held ≡ replicate (length plan.rows) false = ap (λ (h : HeldView). h.held) c.in_ok-new.ensures in
     let values : c.in_ok-empty.field-0 ≡ replicate (length (keys (tree_of plan))) none = c.in_ok-empty.ensures ∙ ap (λ n. replicate n none) c.key_count-count.ensures in
     let with_parts : List Bool → Slots → List Subject → TrayView = λ l v f. record { plan = plan; world = c.args.world.now; flat = false; lent = l; values = v; frames = f } in
     ap₂ (λ (l : List Bool) (v : Slots). with_parts l v c.in_ok-with_capacity.field-0.items) lent values

@@ -1,8 +1,10 @@
-use Rattle.std.proofs.Common.{◌≡◌, ℕ, List, length, set, Bool, true, false, is_some, ap, sym, ◌∙◌, subst, arith}
+use Rattle.std.proofs.Common.{◌≡◌, ◌<◌, ℕ, List, length, set, Bool, true, false, is_some, ap, sym, ◌∙◌, subst, arith}
 use Rattle.std.specs.Vec.{vec_capacity}
 use Rattle.std.proofs.lemmas.List.{get_or-set_same, length-set}
+use Rattle.iso_plan.specs.HeldNodes.{HeldView}
 use Rattle.iso_plan.specs.KeyTable.{keys}
 use Rattle.iso_plan.specs.Locks.{locks}
+use Rattle.iso_plan.specs.Planned.{Planned}
 use Rattle.iso_plan.specs.RowView.{tree_of}
 use Rattle.iso_plan.specs.declared.lock.Lock.{Lock}
 use Rattle.iso_plan.specs.Tree.{Row}
@@ -24,9 +26,10 @@ move_values-requires-clause-within c =
 
 pub invariant_of-self : goal.invariant_of-self
 invariant_of-self c =
-    let Kept : List Bool → Type 0 = λ l. IsTray c.self.inside.plan.now c.self.inside.world.now c.self.inside.flat l c.move_values.new.here c.self.inside.starts.items (vec_capacity c.self.inside.frames) (vec_capacity c.self.inside.spare) c.self.inside.spare.items in
+    let Kept : HeldView → Type 0 = λ l. IsTray c.self.inside.plan.now c.self.inside.world.now c.self.inside.flat l c.move_values.new.here c.self.inside.starts.items (vec_capacity c.self.inside.frames) (vec_capacity c.self.inside.spare) c.self.inside.spare.items in
     subst Kept (sym c.lend.ensures) (record {
-      lent_fits = length-set c.self.inside.lent c.args.node true ∙ c.self.invariant.lent_fits;
+      lent_of = c.self.invariant.lent_of;
+      lent_fits = length-set c.self.inside.lent.held c.args.node true ∙ c.self.invariant.lent_fits;
       values_fit = here-count c.args.taken.now c.args.home.now c.self.inside.values c.move_values.new.here c.move_values.ensures.here ∙ c.self.invariant.values_fit;
       starts_are = c.self.invariant.starts_are;
       has_room = c.self.invariant.has_room;
@@ -35,7 +38,7 @@ invariant_of-self c =
           let n = c.args.node in
           let same : tree_of c.args.self.now.plan ≡ tree = ap (λ (t : TrayView). tree_of t.plan) (sym c.self.view_is) in
           let rows : length c.args.self.now.plan.rows ≡ length c.self.inside.plan.now.rows = ap (λ (t : TrayView). length t.plan.rows) (sym c.self.view_is) in
-          let lent = c.self.inside.lent in
+          let lent = c.self.inside.lent.held in
           let node = c.requires.node in
           let count = c.self.invariant.lent_fits in
           let fits : length c.args.home.now ≡ length c.self.inside.values = c.requires.home ∙ ap (λ (tr : List Row). length (keys tr)) same ∙ sym c.self.invariant.values_fit in
@@ -53,12 +56,17 @@ returns-clause-holds c =
     let rows : length c.args.self.now.plan.rows ≡ length c.self.inside.plan.now.rows = ap (λ (t : TrayView). length t.plan.rows) (sym c.self.view_is) in
     let node = c.requires.node in
     let count = c.self.invariant.lent_fits in
-    ap (λ (l : List Bool). is_lent l c.args.node) c.lend.ensures ∙ get_or-set_same c.self.inside.lent c.args.node true false (omega arith)
+    ap (λ (l : HeldView). is_lent l.held c.args.node) c.lend.ensures ∙ get_or-set_same c.self.inside.lent.held c.args.node true false (omega arith)
 
 pub returns-clause-fresh : goal.returns-clause-fresh
 returns-clause-fresh c =
     let Flat : TrayView → Type 0 = λ t. t.flat ≡ false → AreOwned (tree_of t.plan) false t.lent t.values in
-    let inside : c.self.inside.flat ≡ false → AreOwned (tree_of c.self.inside.plan.now) false c.self.inside.lent c.self.inside.values =
-    λ f. let Own : Bool → Type 0 = λ b. AreOwned (tree_of c.self.inside.plan.now) b c.self.inside.lent c.self.inside.values in subst Own f c.self.invariant.are_owned in
+    let inside : c.self.inside.flat ≡ false → AreOwned (tree_of c.self.inside.plan.now) false c.self.inside.lent.held c.self.inside.values =
+    λ f. let Own : Bool → Type 0 = λ b. AreOwned (tree_of c.self.inside.plan.now) b c.self.inside.lent.held c.self.inside.values in subst Own f c.self.invariant.are_owned in
     let own = subst Flat c.self.view_is inside in
     λ f. owned-fresh (tree_of c.args.self.now.plan) c.args.self.now.lent c.args.self.now.values c.args.node (own f) c.requires.beside
+
+pub lend-requires-clause-node : goal.lend-requires-clause-node
+lend-requires-clause-node c =
+    let n = c.args.node in
+    subst (λ (p : Planned). n < length p.rows) (sym c.self.invariant.lent_of) (subst (λ (t : TrayView). n < length t.plan.rows) (sym c.self.view_is) c.requires.node)

@@ -13,6 +13,7 @@ column-count marks values next e = ap length e ∙ length-column (λ i. option_o
 
 pub invariant_of-self : goal.invariant_of-self
 invariant_of-self c = record {
+  lent_of = c.self.invariant.lent_of;
   lent_fits = c.self.invariant.lent_fits;
   values_fit = column-count c.into_values.result.items c.self.inside.values c.undo_all.new.self c.undo_all.ensures ∙ c.self.invariant.values_fit;
   starts_are = c.self.invariant.starts_are;
@@ -22,9 +23,9 @@ invariant_of-self c = record {
       let marks = c.into_values.result.items in
       let values = c.self.inside.values in
       let same : restored marks values ≡ c.undo_all.new.self = sym c.undo_all.ensures in
-      let Same : Slots → Type 0 = λ vs. AreOwned tree c.self.inside.flat c.self.inside.lent vs in
+      let Same : Slots → Type 0 = λ vs. AreOwned tree c.self.inside.flat c.self.inside.lent.held vs in
       subst Same same
-      (owned-still tree c.self.inside.flat c.self.inside.lent values (restored marks values)
+      (owned-still tree c.self.inside.flat c.self.inside.lent.held values (restored marks values)
       (restored-there marks values
       (ap length c.into_values.ensures ∙ c.requires.fits ∙ ap (λ (t : TrayView). length t.values) (sym c.self.view_is))
       (λ i h e. subst (λ (t : TrayView). HasLater t.values i h) (sym c.self.view_is) (c.requires.later i h (ap (λ (ms : Slots). slot ms i) (sym c.into_values.ensures) ∙ e))))

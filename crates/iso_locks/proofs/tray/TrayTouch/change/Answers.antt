@@ -36,7 +36,7 @@ returns-in-Some-clause-ok c =
     let within = below tree k i c.self.inside.values at c.self.invariant.values_fit in
     let has : has_at c.self.inside.values (number_of tree k) ≡ true = ap (λ (t : TrayView). has_value t k) c.self.view_is ∙ c.requires.writes in
     on_ok_weaker c.apply.result
-    (λ is. changes tree c.self.inside.world.now c.self.inside.lent c.self.inside.values c.apply.new.self k i c.args.change at has within is
+    (λ is. changes tree c.self.inside.world.now c.self.inside.lent.held c.self.inside.values c.apply.new.self k i c.args.change at has within is
     ∙ ap (λ (t : TrayView). changed_at (content t) k c.args.change) c.self.view_is)
     c.apply.ensures.ok
 
@@ -55,7 +55,7 @@ returns-in-Some-clause-goes_on c =
     let i = c.in-Some.number in
     let at = numbered tree c.self.inside.world.now c.self.inside.starts.items c.deref.result.now k (Some i) c.self.invariant.starts_are c.deref.ensures.value c.in-Some.ensures in
     let within = below tree k i c.self.inside.values at c.self.invariant.values_fit in
-    let t : TrayView = record { plan = c.self.inside.plan.now; world = c.self.inside.world.now; flat = c.self.inside.flat; lent = c.self.inside.lent; values = c.self.inside.values; frames = c.self.inside.frames.items } in
+    let t : TrayView = record { plan = c.self.inside.plan.now; world = c.self.inside.world.now; flat = c.self.inside.flat; lent = c.self.inside.lent.held; values = c.self.inside.values; frames = c.self.inside.frames.items } in
     subst (λ (u : TrayView). IsOnward u (record t { values = c.apply.new.self })) c.self.view_is (on-apply c.apply.result t c.apply.new.self i c.args.change within c.apply.ensures.ok c.apply.ensures.err)
 
 pub invariant_of-self : goal.invariant_of-self
@@ -65,10 +65,11 @@ invariant_of-self c =
     let i = c.in-Some.number in
     let at = numbered tree c.self.inside.world.now c.self.inside.starts.items c.deref.result.now k (Some i) c.self.invariant.starts_are c.deref.ensures.value c.in-Some.ensures in
     let within = below tree k i c.self.inside.values at c.self.invariant.values_fit in
-    let t : TrayView = record { plan = c.self.inside.plan.now; world = c.self.inside.world.now; flat = c.self.inside.flat; lent = c.self.inside.lent; values = c.self.inside.values; frames = c.self.inside.frames.items } in
+    let t : TrayView = record { plan = c.self.inside.plan.now; world = c.self.inside.world.now; flat = c.self.inside.flat; lent = c.self.inside.lent.held; values = c.self.inside.values; frames = c.self.inside.frames.items } in
     let u : TrayView = record t { values = c.apply.new.self } in
     let on : IsOnward t u = on-apply c.apply.result t c.apply.new.self i c.args.change within c.apply.ensures.ok c.apply.ensures.err in
     record {
+      lent_of = c.self.invariant.lent_of;
       lent_fits = c.self.invariant.lent_fits;
       values_fit = on.values.fits ∙ c.self.invariant.values_fit;
       starts_are = c.self.invariant.starts_are;

@@ -41,7 +41,7 @@ returns-in-Some-get c =
     let i = c.in-Some.number in
     let at = numbered tree c.self.inside.world.now c.self.inside.starts.items c.deref.result.now k (Some i) c.self.invariant.starts_are c.deref.ensures.value c.in-Some.ensures in
     c.look.ensures
-    ∙ look-value tree c.self.inside.world.now c.self.inside.lent c.self.inside.values k i c.in-Some-get.held.now c.args.ask at (sym c.in-Some-get.ensures)
+    ∙ look-value tree c.self.inside.world.now c.self.inside.lent.held c.self.inside.values k i c.in-Some-get.held.now c.args.ask at (sym c.in-Some-get.ensures)
     ∙ ap (λ (t : TrayView). answered (content t k) c.args.ask) c.self.view_is
 
 pub returns-in-None-get : goal.returns-in-None-get
@@ -51,9 +51,9 @@ returns-in-None-get c =
     let i = c.in-Some.number in
     let at = numbered tree c.self.inside.world.now c.self.inside.starts.items c.deref.result.now k (Some i) c.self.invariant.starts_are c.deref.ensures.value c.in-Some.ensures in
     let P : TrayView → Type 0 = λ t. HasKind (content t k) (kind_of_ask c.args.ask) in
-    let has : HasKind (resources tree c.self.inside.world.now c.self.inside.lent c.self.inside.values k) (kind_of_ask c.args.ask) = subst P (sym c.self.view_is) c.requires in
+    let has : HasKind (resources tree c.self.inside.world.now c.self.inside.lent.held c.self.inside.values k) (kind_of_ask c.args.ask) = subst P (sym c.self.view_is) c.requires in
     c.look-in-None-get.ensures
-    ∙ look-start tree c.self.inside.world.now c.self.inside.lent c.self.inside.values c.self.inside.starts.items k i c.index.result.now c.args.ask (kind_of_ask c.args.ask) c.self.invariant.starts_are at (sym c.in-None-get.ensures) c.index.ensures has
+    ∙ look-start tree c.self.inside.world.now c.self.inside.lent.held c.self.inside.values c.self.inside.starts.items k i c.index.result.now c.args.ask (kind_of_ask c.args.ask) c.self.invariant.starts_are at (sym c.in-None-get.ensures) c.index.ensures has
     ∙ ap (λ (t : TrayView). answered (content t k) c.args.ask) c.self.view_is
 
 pub returns-in-None : goal.returns-in-None
@@ -62,5 +62,5 @@ returns-in-None c =
     let k = spelling c.args.key in
     let at = numbered tree c.self.inside.world.now c.self.inside.starts.items c.deref.result.now k None c.self.invariant.starts_are c.deref.ensures.value c.in-None.ensures in
     let P : TrayView → Type 0 = λ t. HasKind (content t k) (kind_of_ask c.args.ask) in
-    let has : HasKind (resources tree c.self.inside.world.now c.self.inside.lent c.self.inside.values k) (kind_of_ask c.args.ask) = subst P (sym c.self.view_is) c.requires in
-    absurd (look-nothing tree c.self.inside.world.now c.self.inside.lent c.self.inside.values k c.args.ask (kind_of_ask c.args.ask) at has)
+    let has : HasKind (resources tree c.self.inside.world.now c.self.inside.lent.held c.self.inside.values k) (kind_of_ask c.args.ask) = subst P (sym c.self.view_is) c.requires in
+    absurd (look-nothing tree c.self.inside.world.now c.self.inside.lent.held c.self.inside.values k c.args.ask (kind_of_ask c.args.ask) at has)

@@ -1,5 +1,6 @@
 use Rattle.std.proofs.Common.{◌≡◌, ℕ, ◌<◌, List, length, map, replicate, get_or, None, Bool, true, false, is_some, ap, sym, ◌∙◌, arith}
 use Rattle.std.proofs.lemmas.List.{get_or-map, get_or-replicate, length-map, length-replicate}
+use Rattle.iso_plan.specs.HeldNodes.{HeldView}
 use Rattle.iso_locks.specs.Slots.{Slots, slot}
 use Rattle.iso_locks.proofs.vault.Vault.new.Goals as goal
 
@@ -14,8 +15,11 @@ none-away values n i e h none =
 
 pub invariant_of-result : goal.invariant_of-result
 invariant_of-result c = record {
-  lent_fits = omega (arith, c.in_ok-vec.field-0.ok.0, c.in_ok-vec.ensures.len, c.len-nodes.ensures);
-  values_fit = count c.in_ok-values.field-0 _ c.in_ok-values.ensures.fits;
-  at_start = c.in_ok-values.ensures.start;
-  away = λ i h e. absurd (none-away c.in_ok-values.field-0 _ i c.in_ok-values.ensures.fits h e);
+  lent_of = ap (λ (h : HeldView). h.plan) c.in_ok-new.ensures;
+  lists = record {
+    lent_fits = ap (λ (h : HeldView). length h.held) c.in_ok-new.ensures ∙ length-replicate (length c.args.plan.now.rows) false;
+    values_fit = count c.in_ok-values.field-0 _ c.in_ok-values.ensures.fits;
+    at_start = c.in_ok-values.ensures.start;
+    away = λ i h e. absurd (none-away c.in_ok-values.field-0 _ i c.in_ok-values.ensures.fits h e);
+  };
 }

@@ -1,4 +1,5 @@
 use Rattle.std.proofs.Common.{◌≡◌, ℕ, ◌<◌, List, length, map, set, Bool, true, false, is_some, ap, sym, ◌∙◌, subst, arith}
+use Rattle.iso_plan.specs.HeldNodes.{HeldView}
 use Rattle.iso_plan.specs.KeyTable.{keys}
 use Rattle.iso_plan.specs.Locks.{locks}
 use Rattle.iso_plan.specs.Planned.{Planned}
@@ -19,14 +20,19 @@ invariant_of-self c =
     let world : t.world ≡ c.self.inside.world.now = c.requires.world ∙ sym (ap (λ (v : VaultView). v.world) c.self.view_is) in
     let A : Planned → Type 0 = λ p. (i : ℕ) → i < length (keys (tree_of p)) → is_written (locks (tree_of p) n) i ≡ true → StandsAtStart t i in
     let starts : A t.plan = subst A (sym c.requires.plan) c.requires.at_start in
-    let P : Planned → Type 0 = λ p. IsVault p c.self.inside.world.now c.self.inside.lent.items c.self.inside.values in
-    let Q : Start → Type 0 = λ w. IsVault t.plan w c.self.inside.lent.items c.self.inside.values in
-    let kept : IsVault t.plan t.world c.self.inside.lent.items c.self.inside.values = subst Q (sym world) (subst P (sym plan) c.self.invariant) in
-    let back = back-vault t.plan t.world c.self.inside.lent.items c.self.inside.values t.values n kept starts in
-    let R : Slots → Type 0 = λ h. IsVault t.plan t.world (set c.self.inside.lent.items n false) h in
-    let S : Start → Type 0 = λ w. IsVault t.plan w (set c.self.inside.lent.items n false) c.give_back.new.home in
-    let T : Planned → Type 0 = λ p. IsVault p c.self.inside.world.now (set c.self.inside.lent.items n false) c.give_back.new.home in
-    subst T plan (subst S world (subst R (sym c.give_back.ensures.home) back))
+    let P : Planned → Type 0 = λ p. IsVault p c.self.inside.world.now c.self.inside.lent.held c.self.inside.values in
+    let Q : Start → Type 0 = λ w. IsVault t.plan w c.self.inside.lent.held c.self.inside.values in
+    let kept : IsVault t.plan t.world c.self.inside.lent.held c.self.inside.values = subst Q (sym world) (subst P (sym plan) c.self.invariant.lists) in
+    let back = back-vault t.plan t.world c.self.inside.lent.held c.self.inside.values t.values n kept starts in
+    let R : Slots → Type 0 = λ h. IsVault t.plan t.world (set c.self.inside.lent.held n false) h in
+    let S : Start → Type 0 = λ w. IsVault t.plan w (set c.self.inside.lent.held n false) c.give_back.new.home in
+    let T : Planned → Type 0 = λ p. IsVault p c.self.inside.world.now (set c.self.inside.lent.held n false) c.give_back.new.home in
+    record {
+      lent_of = ap (λ (h : HeldView). h.plan) c.release.ensures ∙ c.self.invariant.lent_of;
+      lists =
+          subst (λ (h : HeldView). IsVault c.self.inside.plan.now c.self.inside.world.now h.held c.give_back.new.home) (sym c.release.ensures)
+          (subst T plan (subst S world (subst R (sym c.give_back.ensures.home) back)));
+    }
 
 pub returns-clause-vault : goal.returns-clause-vault
 returns-clause-vault c =
@@ -36,9 +42,15 @@ returns-clause-vault c =
     let same : t.plan ≡ plan = c.requires.plan ∙ sym (ap (λ (v : VaultView). v.plan) c.self.view_is) in
     let A : Planned → Type 0 = λ p. (i : ℕ) → i < length (keys (tree_of p)) → is_written (locks (tree_of p) n) i ≡ true → StandsAtStart t i in
     let starts : A plan = subst A (sym (ap (λ (v : VaultView). v.plan) c.self.view_is)) c.requires.at_start in
-    let fits = c.self.invariant.values_fit in
+    let fits = c.self.invariant.lists.values_fit in
     let moved : c.give_back.new.home ≡ moved_here (locks (tree_of plan) n) t.values c.self.inside.values = c.give_back.ensures.home ∙ ap (λ (p : Planned). moved_here (locks (tree_of p) n) t.values c.self.inside.values) same in
-    let with_home : List Bool → VaultView = λ h. record { plan = plan; world = c.self.inside.world.now; lent = set c.self.inside.lent.items n false; home = h } in
-    ap with_home (ap (map is_some) moved ∙ home-back (locks (tree_of plan) n) t.values c.self.inside.values
+    let with_home : List Bool → VaultView = λ h. record { plan = plan; world = c.self.inside.world.now; lent = set c.self.inside.lent.held n false; home = h } in
+    ap (λ (h : HeldView). record { plan = plan; world = c.self.inside.world.now; lent = h.held; home = map is_some c.give_back.new.home }) c.release.ensures
+    ∙ ap with_home (ap (map is_some) moved ∙ home-back (locks (tree_of plan) n) t.values c.self.inside.values
     (λ i h w. let within : i < length (keys (tree_of plan)) = omega arith in some-back t.values i (starting_value_in t.world (key_at (tree_of t.plan) i)) (starts i within w)))
     ∙ ap (regaining n) c.self.view_is
+
+pub release-requires : goal.release-requires
+release-requires c =
+    let n = c.args.node in
+    subst (λ (p : Planned). n < length p.rows) (sym c.self.invariant.lent_of) (subst (λ (v : VaultView). n < length v.plan.rows) (sym c.self.view_is) c.requires.node)

@@ -14,5 +14,6 @@ invariant_of-result c =
     let all : IsPermutation (stays_below bodies (length tree)) stays =
     subst (λ (n : ℕ). IsPermutation (stays_below bodies n) stays) c.len.ensures c.in_ok-stays.ensures.all in (
       record { all = all; among = stays-among tree bodies stays all; order = c.in_ok-stays.ensures.order },
-      subst (λ (o : Option ℕ). AreKnown tree stays o c.new.result.stays.items) (sym c.new.ensures) tt,
+      subst (λ (o : Option ℕ). AreKnown tree stays o c.new-2.result.stays.items) (sym c.new-2.ensures) tt,
+      c.in_ok-keys.ensures,
     )
