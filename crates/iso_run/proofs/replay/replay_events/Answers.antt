@@ -26,6 +26,11 @@ returns-then-not-is_complete-clause-report g c = λ schedule read.
     let left : is_complete c.in_ok-core.core ≡ false = sym c.is_complete.ensures ∙ c.if-not-is_complete.true in
     record { cause = played inputs schedule c.args.suite.now c.args.events.now keeps is read c.in_ok-core.core false ran left; leaves = refl }
 
+pub write_results-requires-clause-complete : goal.write_results-requires-clause-complete
+write_results-requires-clause-complete g c =
+    let whole : is_complete c.in_ok-core.core ≡ true = sym c.is_complete.ensures ∙ c.if-not-is_complete.false in
+    c.results.ensures.complete whole
+
 pub returns-clause-report : goal.returns-clause-report
 returns-clause-report g c = λ schedule read.
     let inputs = c.args.inputs in

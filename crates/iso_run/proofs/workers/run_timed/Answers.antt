@@ -1,4 +1,5 @@
-use Rattle.std.proofs.Common.{ℕ, Bool, ◌∙◌, is_some, refl, subst}
+use Rattle.std.proofs.Common.{ℕ, Bool, ◌∙◌, is_some, refl, subst, tt}
+use Rattle.std.proofs.lemmas.Result.{err_from_is_err_and}
 use Rattle.iso_plan.specs.Planned.{Planned}
 use Rattle.iso_settings.specs.Worlds.{Start}
 use Rattle.iso_run.specs.Courses.{AreEvents, IsRunOf, IsScheduled, ObservedView}
@@ -45,3 +46,13 @@ returns-clause-watched g c =
     } in
     let known = subst (λ (asked : Bool). IsWatch run asked c.in_ok-watch.watch) c.wants_watched.ensures c.in_ok-watch.ensures.watch in
     watched-by ByWorkers ground.plan ground.start ground.workers run is (is_some c.args.tells.now.html) c.in_ok-watch.watch known
+
+pub returns-in_err-tell_book-clause-fault : goal.returns-in_err-tell_book-clause-fault
+returns-in_err-tell_book-clause-fault g c =
+    let p = err_from_is_err_and c.from_residual-in_err-tell_book.result c.from_residual-in_err-tell_book.ensures.1 in
+    rw (p.1, p.2) tt
+
+pub returns-in_err-node_times-clause-fault : goal.returns-in_err-node_times-clause-fault
+returns-in_err-node_times-clause-fault g c =
+    let p = err_from_is_err_and c.from_residual-in_err-node_times.result c.from_residual-in_err-node_times.ensures.1 in
+    rw (p.1, p.2) tt
