@@ -356,9 +356,9 @@ def shown_line(text):
 
 
 def excerpt(script, line):
-    """A line of a script and two before it and after it, with their numbers; the line itself is marked."""
+    """A line of a script and two before it and after it, with their numbers; the line itself is marked. None stands behind the last line feed."""
     *ended, last = script.split(b"\n")
-    lines = [*(text[:-1] if text.endswith(b"\r") else text for text in ended), last]
+    lines = [*(text[:-1] if text.endswith(b"\r") else text for text in ended), *([last] if last else [])]
     return [(number == line, number, shown_line(lines[number - 1])) for number in range(max(1, line - AROUND), min(len(lines), line + AROUND) + 1)]
 
 
