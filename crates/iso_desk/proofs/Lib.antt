@@ -1,0 +1,5 @@
+pub mod BitLemmas
+pub mod CrewLemmas
+pub mod LineLemmas
+pub mod OfferLemmas
+pub mod TableLemmas
