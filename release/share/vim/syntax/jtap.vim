@@ -14,14 +14,15 @@ syntax keyword jtapRepeat repeat
 syntax keyword jtapFunction text len prop has_prop locale file has_file
 syntax keyword jtapBoolean true false
 syntax match jtapNumber "\<\d\+\>"
-syntax match jtapName "\%(\<\%(team\|class\|test\)\s\+\)\@<=\h\w*"
+syntax match jtapName "\%(\<\%(team\|class\|test\)\s\+\)\@<=\a\w*"
 syntax match jtapOperator "[-+*=<]\|!="
-syntax match jtapWrong "[^\x09\x20-\x7e]\|[>&|/%'`@#$?:.[\]^~]\|!=\@!"
+syntax match jtapWrong +[^\x09\x0d\x20-\x7e]\|["\\>&|/%'`@#$?:.[\]^~]\|!=\@!\|\<_\w*\|\<\d\+\h\w*+
 syntax match jtapComment "//.*$" contains=jtapTodo,jtapWrongByte
-syntax region jtapText start=+"+ skip=+\\.+ end=+"+ oneline contains=jtapEscape,jtapWrongEscape,jtapWrongByte
+syntax region jtapText start=+"+ skip=+\\.+ end=+"+ oneline contains=jtapEscape,jtapWrongEscape,jtapWrongTextByte
 syntax match jtapEscape +\\["\\]+ contained
 syntax match jtapWrongEscape +\\[^"\\]+ contained
-syntax match jtapWrongByte "[^\x09\x20-\x7e]" contained
+syntax match jtapWrongByte "[^\x09\x0d\x20-\x7e]" contained
+syntax match jtapWrongTextByte "[^\x20-\x7e]" contained
 syntax keyword jtapTodo TODO FIXME XXX contained
 
 highlight default link jtapStructure Keyword
@@ -42,6 +43,7 @@ highlight default link jtapEscape SpecialChar
 highlight default link jtapTodo Todo
 highlight default link jtapWrong Error
 highlight default link jtapWrongByte Error
+highlight default link jtapWrongTextByte Error
 highlight default link jtapWrongEscape Error
 
 let b:current_syntax = "jtap"
