@@ -8,7 +8,8 @@ use Rattle.iso_desk.specs.declared.line.Party.TheVariants.{Everyone, Worker}
 use Rattle.iso_desk.specs.declared.marks.Marks.{Marks}
 use Rattle.iso_desk.specs.declared.place.Place.{Place}
 
--- a worker with what it has seen has nothing to wake for: the run goes on, its own line is empty, nothing of its own or of everyone's is on offer, and it has looked after the last post, if a node is loose
+-- A worker has nothing to wake for: the run goes on, its own line is empty, and nothing of its own
+-- or of everyone's is on offer. Where a node is loose, it has looked since the last post.
 pub record HasNothing (places : List Place) (held written : Marks) (is_over is_loose : Bool) (rounds w : ℕ) (seen : Option ℕ) : Type 0 where
   pub goes_on : is_over ≡ false
   pub own : IsEmpty places (Own w)

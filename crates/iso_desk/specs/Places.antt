@@ -4,7 +4,8 @@ use Rattle.iso_desk.specs.declared.line.Line.{Line}
 use Rattle.iso_desk.specs.declared.place.Place.{Place}
 use Rattle.iso_desk.specs.declared.place.Place.TheVariants.{Closed, Loose, InLine, With, Open, Over}
 
--- of how many workers it is, where each node stands by its number, and the numbers that the next ones get that are put in a line: at the end of one, and below front at the front of one
+-- A table: its number of workers, where each node stands, and the numbers that are given next, to
+-- who joins a line at its end, and, below `front`, at its front.
 pub record TableView : Type 0 where
   pub workers : ℕ
   pub places : List Place
