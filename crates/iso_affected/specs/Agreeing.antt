@@ -17,17 +17,20 @@ use Rattle.iso_suites.specs.SuiteStates.{suite_at}
 abbrev pub test_of : Subject → Option TestHead
 test_of s = chain_test (tree_of s.plan) s.node
 
--- Two nodes agree: their class chains are equal, and the keys that these are marked with start with equal values.
+-- Two nodes agree: their class chains are equal, and the keys that these are marked with start with
+-- equal values.
 pub record NodesAgree (s t : Subject) : Type 0 where
   pub classes : classes_of s ≡ classes_of t
   pub test : test_of s ≡ test_of t
   pub starts : EqualAt (rights_of_subject s) (started s.start) (started t.start)
 
--- the same of what two nodes have themselves: equal heads, and equal starts at the keys that these are marked with
+-- the same of what two nodes have themselves: equal heads, and equal starts at the keys that these
+-- are marked with
 pub record OwnAgree (before after : Start) (h g : Head) : Type 0 where
   pub head : h ≡ g
   pub starts : EqualAt (rights_of (marks_on h)) (started before) (started after)
 
--- in some run of a plan on starting values, on so many workers as may be and in any order of events that the locks allow, a node has this outcome
+-- in some run of a plan on starting values, on any number of workers and in any order of events
+-- that the locks allow, a node has this outcome
 abbrev pub MayComeTo : Planned → Start → ℕ → Outcome → Type 0
 MayComeTo plan start n r = Gives scripts (suite_at plan start) n r

@@ -33,7 +33,8 @@ pub record IsNamesake (s : Suites) (n m : ℕ) : Type 0 where
   pub within : m < length s.old.rows
   pub is : namesake (tree_of s.old) (tree_of s.new) n ≡ Some m
 
--- what a change makes of a node of the new suite: it agrees with its namesake in the old one, it doesn't, or it has none
+-- what a change makes of a node of the new suite: it agrees with its namesake in the old one, it
+-- doesn't, or it has none
 abbrev pub IsFate : Suites → ℕ → Fate → Type 0
 IsFate s n (Same m) = IsNamesake s n m × NodesAgree (in_old s m) (in_new s n)
 IsFate s n (Changed m) = IsNamesake s n m × (NodesAgree (in_old s m) (in_new s n) → ⊥)

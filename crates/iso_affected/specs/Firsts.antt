@@ -5,7 +5,8 @@ use Rattle.std.specs.Option.{option_map}
 use Rattle.iso_affected.specs.declared.firsts.RowsApart.{RowsApart}
 use Rattle.iso_model.specs.Syntax.{Act}
 
--- two lists are alike before a place, and not with what stands at it, where one of them may have nothing
+-- two lists are alike before a place, and not with what stands at it, where one of them may have
+-- nothing
 pub record ApartAt {A : Type 0} (xs ys : List A) (place : ℕ) : Type 0 where
   pub before : take place xs ≡ take place ys
   pub here : take (place + 1) xs ≡ take (place + 1) ys → ⊥

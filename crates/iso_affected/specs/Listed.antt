@@ -8,7 +8,8 @@ abbrev pub has_statement : Acts → Bool
 has_statement no_acts = false
 has_statement (act row form rest) = true
 
--- whether a node with this head is told of: it is a test, or a class with a statement in its `before_all` or its `after_all`
+-- whether a node with this head is told of: it is a test, or a class with a statement in its
+-- `before_all` or its `after_all`
 abbrev pub is_listed : Head → Bool
 is_listed (of_class c) = has_statement c.before_all || has_statement c.after_all
 is_listed (of_test t) = true

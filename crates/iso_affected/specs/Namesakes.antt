@@ -1,4 +1,5 @@
--- The namesake of a node in another plan: the node that is found there by the same names, from the top-level class down.
+-- The namesake of a node in another plan: the node that is found there by the same names, from the
+-- top-level class down.
 use Rattle.std.specs.Prelude.{ℕ, List, [], ◌∷◌, Option, Some, None, bytes_eq, cond}
 use Rattle.iso_plan.specs.Paths.{children, path, row_at}
 use Rattle.iso_plan.specs.Tree.{Row}

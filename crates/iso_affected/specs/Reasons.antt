@@ -30,7 +30,8 @@ abbrev pub IsFirstApart : Start → Start → List Mark → Option ℕ → Type 
 IsFirstApart before after marks None = EqualAt (rights_of marks) (started before) (started after)
 IsFirstApart before after marks (Some place) = StartsApart before after marks place
 
--- what differs of what two heads declare: their marks, why they are disabled, and the first place where their statics and their fields differ
+-- what differs of what two heads declare: their marks, why they are disabled, and the first place
+-- where their statics and their fields differ
 pub record AreDeclaredApart (h g : Head) (d : Declared) : Type 0 where
   pub marks : IsFalse d.marks ↔ (marks_on h ≡ marks_on g)
   pub disabled : IsFalse d.disabled ↔ (disabled_on h ≡ disabled_on g)
@@ -45,8 +46,8 @@ pub record AreBlocksApart (h g : Head) (b : Blocks) : Type 0 where
   pub after_each : AreRowsApart (statements (lifecycle_on AfterEach h)) (statements (lifecycle_on AfterEach g)) b.after_each
   pub test : AreRowsApart (statements (body_on h)) (statements (body_on g)) b.test
 
--- what differs of two heads: whether one is a test and the other a class, what they declare, their blocks, and the first of the second's marks
--- whose key starts with another value
+-- what differs of two heads: whether one is a test and the other a class, what they declare, their
+-- blocks, and the first of the second's marks whose key starts with another value
 pub record IsDifference (before after : Start) (h g : Head) (d : Difference) : Type 0 where
   pub kind : IsFalse d.kind ↔ (is_of_test h ≡ is_of_test g)
   pub declared : AreDeclaredApart h g d.declared

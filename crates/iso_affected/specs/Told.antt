@@ -9,7 +9,8 @@ use Rattle.iso_plan.specs.Paths.{row_at}
 use Rattle.iso_plan.specs.RowView.{tree_of}
 use Rattle.iso_suites.specs.PlanSuites.{head_of}
 
--- what differs of a changed node and its namesake, of what they have themselves; nothing is told of another node
+-- what differs of a changed node and its namesake, of what they have themselves; nothing is told of
+-- another node
 abbrev pub IsDifferenceOf : Suites → ℕ → Fate → Option Difference → Type 0
 IsDifferenceOf s n (Same m) o = o ≡ None
 IsDifferenceOf s n (Changed m) None = ⊥

@@ -14,7 +14,8 @@ use iso_settings::world::World;
 use std::alloc::{AllocError, Global};
 use std::collections::BTreeMap;
 
-/// What a change makes of a node of the new suite. Its namesake in the old one is told by its number.
+/// What a change makes of a node of the new suite. Its namesake in the old one is told by its
+/// number.
 #[derive(Clone, Copy, PartialEq, Eq)]
 pub enum Fate {
     /// It agrees with its namesake, and so has the same outcome.

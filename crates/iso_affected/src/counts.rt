@@ -16,7 +16,8 @@ pub enum FateKind {
     New,
 }
 
-/// How many tests of the new suite agree with their namesakes, don't, and have none; and how many of the old suite have none in the new one.
+/// How many tests of the new suite agree with their namesakes, don't, and have none; and how many
+/// of the old suite have none in the new one.
 #[derive(Clone, Copy)]
 pub struct Counts {
     pub same: u64,
@@ -25,7 +26,8 @@ pub struct Counts {
     pub gone: u64,
 }
 
-/// Counts the tests of two suites, of which the fates of the nodes of the new one, and those nodes of the old one that are gone. Takes no memory.
+/// Counts the tests of two suites, of which the fates of the nodes of the new one, and those nodes
+/// of the old one that are gone. Takes no memory.
 pub fn count(old: &Plan, new: &Plan, fates: &[Fate], lost: &[u32]) -> Counts
     requires count { length fates.now ≡ length new.now.rows }
     requires gone { lost.now ≡ gone (tree_of old.now) (tree_of new.now) }

@@ -41,7 +41,8 @@ pub struct Blocks {
     pub test: Option<RowsApart>,
 }
 
-/// What differs of what a node and its namesake have themselves, besides the classes that they stand in.
+/// What differs of what a node and its namesake have themselves, besides the classes that they
+/// stand in.
 #[derive(Clone, Copy, PartialEq, Eq)]
 pub struct Difference {
     /// One is a test, and the other a class.
@@ -89,7 +90,8 @@ impl Difference {
     }
 }
 
-/// What differs of a node of the new suite and one of the old, of what they have themselves. Neither of them is the root.
+/// What differs of a node of the new suite and one of the old, of what they have themselves.
+/// Neither of them is the root.
 pub fn what_differs(
     alloc: Global,
     old: &Plan,

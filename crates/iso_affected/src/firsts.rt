@@ -8,7 +8,8 @@ use iso_model::same::heads::same_variable;
 use iso_model::same::statements::same_stmt;
 use iso_model::tree::Stmt;
 
-/// The rows of what stands in two blocks at the first place where they differ: none of a block that has ended there.
+/// The rows of what stands in two blocks at the first place where they differ: none of a block that
+/// has ended there.
 #[derive(Clone, Copy, PartialEq, Eq)]
 pub struct RowsApart {
     pub before: Option<u32>,
@@ -39,7 +40,8 @@ fn row_at(block: &[Stmt], place: usize) -> Option<u32>
     }
 }
 
-/// The first place where two blocks differ. A statement with all that is nested in it counts as one.
+/// The first place where two blocks differ. A statement with all that is nested in it counts as
+/// one.
 fn first_statement(was: &[Stmt], now: &[Stmt]) -> Option<usize>
     ensures { IsFirst (map stmt_of was.now) (map stmt_of now.now) result }
 {

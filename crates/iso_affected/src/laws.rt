@@ -23,8 +23,9 @@ ghost use Rattle.iso_suites.specs.ScriptLanguage.{Head};
 use iso_plan::laws::nodes_are_a_tree;
 use iso_plan::plan::Plan;
 
-/// A node that agrees with one of another plan has in each run the outcome that the other has in each run of its plan, on any numbers of
-/// workers, in any orders of events that the locks allow and under whatever settings.
+/// A node that agrees with one of another plan has in each run the outcome that the other has in
+/// each run of its plan, on any numbers of workers, in any orders of events that the locks allow
+/// and under whatever settings.
 pub fn nodes_that_agree_have_equal_outcomes(old: &Plan, new: &Plan)
     ensures { (before after : Start) (m n : ℕ) (p q : Outcome) → m < length old.now.rows
         → NodesAgree (subject old.now before m) (subject new.now after n)
@@ -34,8 +35,8 @@ pub fn nodes_that_agree_have_equal_outcomes(old: &Plan, new: &Plan)
     nodes_are_a_tree(new);
 }
 
-/// What a change doesn't alter: a node of the new suite whose fate is `Same` has in each run the outcome that its namesake in the old suite
-/// has in each run of that.
+/// What a change doesn't alter: a node of the new suite whose fate is `Same` has in each run the
+/// outcome that its namesake in the old suite has in each run of that.
 pub fn same_nodes_have_the_outcomes_that_they_had(old: &Plan, new: &Plan)
     ensures { (before after : Start) (n m : ℕ) (p q : Outcome) → IsFate (suites old.now before new.now after) n (Same m)
         → MayComeTo old.now before m p → MayComeTo new.now after n q → p ≡ q }
@@ -43,8 +44,9 @@ pub fn same_nodes_have_the_outcomes_that_they_had(old: &Plan, new: &Plan)
     nodes_that_agree_have_equal_outcomes(old, new);
 }
 
-/// Why a node is changed: it agrees with its namesake just where each node on its path, the node and the classes that it stands in, agrees
-/// with its own on what it has itself. So where it doesn't, one of these has another head or a mark whose key starts with another value.
+/// Why a node is changed: it agrees with its namesake just where each node on its path, the node
+/// and the classes that it stands in, agrees with its own on what it has itself. So where it
+/// doesn't, one of these has another head or a mark whose key starts with another value.
 pub fn nodes_agree_where_all_on_their_paths_do(old: &Plan, new: &Plan)
     ensures { (before after : Start) (n m : ℕ) → n < length new.now.rows → namesake (tree_of old.now) (tree_of new.now) n ≡ Some m
         → (AllAgree (suites old.now before new.now after) n ↔ NodesAgree (subject old.now before m) (subject new.now after n)) }
@@ -53,13 +55,15 @@ pub fn nodes_agree_where_all_on_their_paths_do(old: &Plan, new: &Plan)
     nodes_are_a_tree(new);
 }
 
-/// Each reason is a difference, and there is one where two heads don't agree: they agree just where nothing is told to differ.
+/// Each reason is a difference, and there is one where two heads don't agree: they agree just where
+/// nothing is told to differ.
 pub fn heads_agree_where_nothing_differs()
     ensures { (before after : Start) (h g : Head) (d : Difference) → IsDifference before after h g d
         → ((is_nothing d ≡ true) ↔ OwnAgree before after h g) }
 {}
 
-/// A changed node is told of with a reason: something differs of what it has itself, or of what a class that it stands in has.
+/// A changed node is told of with a reason: something differs of what it has itself, or of what a
+/// class that it stands in has.
 pub fn changed_nodes_have_a_reason(old: &Plan, new: &Plan)
     ensures { (before after : Start) (fates : List Fate) (told : List (Option Difference)) → AreFates (suites old.now before new.now after) fates
         → AreDifferences (suites old.now before new.now after) fates told → (n m : ℕ) → n < length new.now.rows
@@ -77,8 +81,9 @@ pub fn namesakes_have_equal_paths(old: &Plan, new: &Plan)
     nodes_are_a_tree(new);
 }
 
-/// Tests, and classes, that agree so agree as the law `iso_suites::laws::what_agrees_has_equal_outcomes` asks: on their heads, on those of
-/// the classes around them, and on the starting values of the keys that these are marked with.
+/// Tests, and classes, that agree so agree as the law
+/// `iso_suites::laws::what_agrees_has_equal_outcomes` asks: on their heads, on those of the classes
+/// around them, and on the starting values of the keys that these are marked with.
 pub fn nodes_that_agree_keep_the_premises_of_the_theorem(old: &Plan, new: &Plan)
     ensures tests { (before after : Start) (m n : ℕ) (t u : TestHead) → chain_test (tree_of old.now) m ≡ Some t → chain_test (tree_of new.now) n ≡ Some u
         → NodesAgree (subject old.now before m) (subject new.now after n)

@@ -1,4 +1,5 @@
-//! What a change of scripts or of starting values can alter: which nodes of a new suite agree with their namesakes in the old one.
+//! What a change of scripts or of starting values can alter: which nodes of a new suite agree with
+//! their namesakes in the old one.
 #![tactic(auto)]
 
 pub mod affected;

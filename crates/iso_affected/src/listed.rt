@@ -27,7 +27,8 @@ fn has_own_block(class: &ClassHead) -> bool
     has_statement(&class.contents.before_all) || has_statement(&class.contents.after_all)
 }
 
-/// Whether a node is told of: it is a test, or a class with a statement in its `before_all` or its `after_all`. It isn't the root.
+/// Whether a node is told of: it is a test, or a class with a statement in its `before_all` or its
+/// `after_all`. It isn't the root.
 pub fn is_listed(plan: &Plan, node: u32) -> bool
     requires above { 0 < node }
     requires within { node < length plan.now.rows }

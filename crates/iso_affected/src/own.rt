@@ -1,4 +1,5 @@
-//! What nodes have themselves, besides the classes that they stand in, and whether two nodes agree on it.
+//! What nodes have themselves, besides the classes that they stand in, and whether two nodes agree
+//! on it.
 ghost use Rattle.std.specs.Prelude.{◌≡◌, ◌<◌, ◌↔◌, ◌∷◌, IfOk, IsTrue, List, length};
 ghost use Rattle.iso_affected.specs.Agreeing.{OwnAgree};
 ghost use Rattle.iso_affected.specs.OwnHeads.{lent_head};
@@ -151,8 +152,8 @@ fn same_head(was: OwnHead<'_>, now: OwnHead<'_>) -> bool
     }
 }
 
-/// Whether a node of one plan and a node of another, neither of them the root, have equal heads of their own, and the keys that these are
-/// marked with start alike.
+/// Whether a node of one plan and a node of another, neither of them the root, have equal heads of
+/// their own, and the keys that these are marked with start alike.
 pub(crate) fn own_agree(
     alloc: Global,
     old: &Plan,

@@ -15,7 +15,8 @@ use std::sync::Arc;
 /// The key of the system properties.
 const PROPERTIES: &str = "java.lang.System.properties";
 
-/// The first of some names of properties that start with another value in the second world, by its place.
+/// The first of some names of properties that start with another value in the second world, by its
+/// place.
 pub fn first_property(
     alloc: Global,
     before: &World,

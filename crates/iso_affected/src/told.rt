@@ -11,7 +11,8 @@ use iso_plan::plan::Plan;
 use iso_settings::world::World;
 use std::alloc::{AllocError, Global};
 
-/// What differs of each changed node of the new suite and its namesake, by the node's number, and nothing of another.
+/// What differs of each changed node of the new suite and its namesake, by the node's number, and
+/// nothing of another.
 pub fn differences(
     alloc: Global,
     old: &Plan,

@@ -21,8 +21,9 @@ pub record SideView : Type 0 where
   pub sites : List Site
   pub texts : List (List ℕ)
 
--- the two suites, with the names of their scripts, the fates of the new nodes, what differs of those that are changed, the old nodes that are
--- gone, and the property that starts with another value
+-- the two suites, with the names of their scripts, the fates of the new nodes, what differs of
+-- those that are changed, the old nodes that are gone, and the property that starts with another
+-- value
 pub record ChangeView : Type 0 where
   pub old : SideView
   pub new : SideView
@@ -53,7 +54,8 @@ pub record IsSide (s : Side) : Type 0 where
   pub paths : s.paths.now ≡ all_paths (tree_of s.plan.now)
   pub tables : s.tables.now ≡ map line_starts (texts_of s.texts.now)
 
--- the fates are those of the new nodes, on some starting values, and what is told stands at their numbers
+-- the fates are those of the new nodes, on some starting values, and what is told stands at their
+-- numbers
 pub record IsChange (c : Change) : Type 0 where
   pub old : IsSide c.old
   pub new : IsSide c.new

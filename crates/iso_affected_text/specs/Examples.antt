@@ -10,7 +10,8 @@ use Rattle.iso_model.specs.declared.place.Lifecycle.TheVariants.{BeforeEach}
 abbrev pub spot : ℕ → (file : List ℕ) → ℕ → (source : List ℕ) → SpotView
 spot script file line source = record { script = script; file = file; line = line; source = source }
 
--- a test that is changed in its body, one in the before_each of its class and in a property, one that is new, and one that is gone
+-- a test that is changed in its body, one in the before_each of its class and in a property, one
+-- that is new, and one that is gone
 abbrev pub some_rows : List RowView
 some_rows =
     node_row Changed (codes "shop.Cart.adds")

@@ -17,7 +17,8 @@ pub record IsListedAt (tree : List Row) (n : ℕ) (path : List ℕ) : Type 0 whe
   pub listed : is_listed (head_of (row_at tree n).kind) ≡ true
   pub is : path ≡ path_text tree n
 
--- what a row says of a node is so: one with this path doesn't agree with its namesake, has none in the old suite, or has none in the new one
+-- what a row says of a node is so: one with this path doesn't agree with its namesake, has none in
+-- the old suite, or has none in the new one
 abbrev pub SaysSo : Suites → RowView → Type 0
 SaysSo s (node_row Changed path) = (n : ℕ) × (m : ℕ) × IsListedAt (tree_of s.new) n path × IsFate s n (F.Changed m)
 SaysSo s (node_row New path) = (n : ℕ) × IsListedAt (tree_of s.new) n path × IsFate s n F.New

@@ -35,7 +35,8 @@ part_rows is_apart part of_it = cond is_apart (part_row part None of_it ∷ []) 
 abbrev pub kind_part : Head → Part
 kind_part now = cond (is_of_test now) NowTest NowClass
 
--- the names of variables, and the name of the one at a place: the one that is there now, else the one that was
+-- the names of variables, and the name of the one at a place: the one that is there now, else the
+-- one that was
 abbrev pub named_at : List Variable → ℕ → Option (List ℕ)
 named_at xs place = option_map (λ (v : Variable). v.name) (slice_get xs place)
 

@@ -15,7 +15,8 @@ pub record SpotView : Type 0 where
   pub line : ℕ
   pub source : List ℕ
 
--- a row: what became of a node; a part of a node that differs; where a block differs first; a key that starts with another value
+-- a row: what became of a node; a part of a node that differs; where a block differs first; a key
+-- that starts with another value
 pub data RowView : Type 0 where
   node_row : Became → (path : List ℕ) → RowView
   part_row : Part → (name of_class : Option (List ℕ)) → RowView

@@ -32,7 +32,8 @@ abbrev pub block_word : Block → List ℕ
 block_word B.Test = codes "test"
 block_word (B.Class kind) = lifecycle_word kind
 
--- where a block differs first: the line there now, and where it was before; one that is new, or was there before alone
+-- where a block differs first: the line there now, and where it was before; one that is new, or was
+-- there before alone
 abbrev pub spots_text : (now before : Option SpotView) → List ℕ
 spots_text (Some now) (Some was) =
     joined (codes ": " ∷ shown_name now.file ∷ codes ":" ∷ decimal now.line ∷ codes ": was " ∷ other_file (not (now.script == was.script)) was.file

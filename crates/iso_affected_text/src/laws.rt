@@ -21,8 +21,8 @@ use crate::change::Change;
 use iso_affected::laws::same_nodes_have_the_outcomes_that_they_had;
 use iso_plan::laws::nodes_are_a_tree;
 
-/// Nothing is told for nothing: a node that is told to be changed doesn't agree with its namesake, one that is new has none in the old suite,
-/// and one that is gone none in the new one.
+/// Nothing is told for nothing: a node that is told to be changed doesn't agree with its namesake,
+/// one that is new has none in the old suite, and one that is gone none in the new one.
 pub fn rows_say_what_is_so(change: &Change<'_>)
     ensures { (before after : Start) → AreFates (suites change.now.old.plan.now before change.now.new.plan.now after) change.now.fates.now
         → change.now.gone.now ≡ gone (tree_of change.now.old.plan.now) (tree_of change.now.new.plan.now)
@@ -32,8 +32,9 @@ pub fn rows_say_what_is_so(change: &Change<'_>)
     nodes_are_a_tree(change.new.plan);
 }
 
-/// What isn't told can't differ: a test, or a class with blocks of its own, that isn't told to be changed has in each run of the new suite the
-/// outcome that its namesake has in each run of the old one.
+/// What isn't told can't differ: a test, or a class with blocks of its own, that isn't told to be
+/// changed has in each run of the new suite the outcome that its namesake has in each run of the
+/// old one.
 pub fn what_is_not_told_has_the_outcomes_that_it_had(change: &Change<'_>)
     ensures { (before after : Start) (n m : ℕ) (p q : Outcome)
         → AreFates (suites change.now.old.plan.now before change.now.new.plan.now after) change.now.fates.now

@@ -17,8 +17,9 @@ use iso_affected::listed::is_listed;
 use iso_plan::laws::{nodes_are_a_tree, parents_come_first, paths_lead_up};
 use std::alloc::{AllocError, Global};
 
-/// The rows of the nodes that a change can alter, as they are written: those of the new suite that are changed, each with its reasons, or new,
-/// and behind them those of the old suite that are gone.
+/// The rows of the nodes that a change can alter, as they are written: those of the new suite that
+/// are changed, each with its reasons, or new, and behind them those of the old suite that are
+/// gone.
 pub fn affected_rows<'a>(alloc: Global, change: &Change<'a>) -> Result<Vec<Row<'a>>, AllocError>
     requires { IsChange change.now }
     ensures { IfOk result (λ rows. map row_of rows.items ≡ affected_rows (change_of change.now)) }
@@ -92,8 +93,8 @@ fn add_row<'a>(
     Ok(())
 }
 
-/// Adds the rows of what differs of the nodes on a node's path, the outermost class first. It calls itself once for each class that the node
-/// stands in.
+/// Adds the rows of what differs of the nodes on a node's path, the outermost class first. It calls
+/// itself once for each class that the node stands in.
 #[cycle(reasons)]
 fn add_reasons<'a>(
     rows: &mut Vec<Row<'a>>,

@@ -87,7 +87,8 @@ fn other_file<W: Sink>(
     printer.bytes(b":")
 }
 
-/// Writes a line of a script without its indent: its first 160 bytes, each tab as a space and each other byte that isn't printable ASCII as `?`.
+/// Writes a line of a script without its indent: its first 160 bytes, each tab as a space and each
+/// other byte that isn't printable ASCII as `?`.
 fn source<W: Sink>(printer: &mut Printer<'_, W>, line: &[u8]) -> Result<(), SinkFailed>
     ensures { Prints printer.old printer.new (source_text line.now) result }
 {

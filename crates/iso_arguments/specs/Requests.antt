@@ -17,7 +17,8 @@ abbrev pub IsWithin : Processors → Type 0
 IsWithin (Count n) = IsCount n
 IsWithin Auto = ⊤
 
--- the shard that is asked for, if one is: it has a number among all, which are no more than a plan has classes
+-- the shard that is asked for, if one is: it has a number among all, which are no more than a plan
+-- has classes
 abbrev pub IsShard : Option Shard → Type 0
 IsShard asked = IfSome asked (λ shard. (1 ≤ shard.number) × (shard.number ≤ shard.of) × (shard.of ≤ 4095))
 
@@ -35,7 +36,8 @@ AsksInBounds (Affected old paths files) = AreInBounds files
 AsksInBounds (Settings settings processors explain) = IfSome processors IsWithin
 AsksInBounds (Show text) = ⊤
 
--- the files of a request that names none, keeps all that there is, and counts with as many processors as without a word
+-- the files of a request that names none, keeps all that there is, and counts with as many
+-- processors as without a word
 pub record NamesNothing (files : InputFiles) : Type 0 where
   pub settings : files.settings ≡ None
   pub world : files.world ≡ None
@@ -53,7 +55,8 @@ AsksForNoMore extras =
     (extras.summary ≡ None) × (extras.failed ≡ None) × (extras.junit ≡ None) × (extras.html ≡ None) × (extras.github ≡ false)
     × (extras.durations ≡ None) × (extras.«record» ≡ None) × (extras.trace ≡ None) × (extras.stats ≡ false) × (extras.progress ≡ false)
 
--- a run of all of one script from standard input, without settings or world, without a number of processors, and nothing besides its report
+-- a run of all of one script from standard input, without settings or world, without a number of
+-- processors, and nothing besides its report
 abbrev pub IsPlainRun : Request → Type 0
 IsPlainRun (Run serial extras files) = NamesNothing files × AsksForNoMore extras
 IsPlainRun (Plan tests places why files) = ⊥

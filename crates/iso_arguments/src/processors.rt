@@ -14,7 +14,8 @@ pub enum Processors {
     Auto,
 }
 
-/// Reads how many processors are counted with: `auto`, or a number from 1 to 1,024. Takes no memory.
+/// Reads how many processors are counted with: `auto`, or a number from 1 to 1,024. Takes no
+/// memory.
 pub(crate) fn read_processors(word: &str) -> Option<Processors>
     ensures bounds { IfSome result IsWithin }
 {

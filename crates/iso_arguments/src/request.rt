@@ -21,7 +21,8 @@ static LIST_WITHOUT_SCRIPT: &str =
 For more information, try '--help'.
 ";
 
-/// The files that a run, a plan or a replay is made of, as the words name them, and what is kept of them.
+/// The files that a run, a plan or a replay is made of, as the words name them, and what is kept of
+/// them.
 #[derive(Drop)]
 pub struct InputFiles<'a> {
     pub settings: Option<&'a str>,
@@ -32,8 +33,8 @@ pub struct InputFiles<'a> {
     pub only: Vec<&'a str>,
     /// The patterns of the paths of others, in the order of the words.
     pub patterns: Vec<&'a str>,
-    /// The file in which the paths of others stand, one a line; `-` is standard input. Without it, and where no path and no pattern is
-    /// given, all classes and tests are kept.
+    /// The file in which the paths of others stand, one a line; `-` is standard input. Without it,
+    /// and where no path and no pattern is given, all classes and tests are kept.
     pub only_from: Option<&'a str>,
     /// What part of the top-level classes is kept of these. Without it each is.
     pub shard: Option<Shard>,
@@ -44,7 +45,8 @@ pub struct InputFiles<'a> {
 }
 
 impl<'a> InputFiles<'a> {
-    /// No file, no path, and no number of processors: a script is read from standard input, and all of it is kept.
+    /// No file, no path, and no number of processors: a script is read from standard input, and all
+    /// of it is kept.
     pub fn none(alloc: Global) -> InputFiles<'a>
         ensures names { (result.settings ≡ None) × (result.world ≡ None) × (result.scripts.items ≡ []) }
         ensures all { (result.only.items ≡ []) × (result.patterns.items ≡ []) × (result.only_from ≡ None) }
@@ -129,7 +131,8 @@ pub enum Request<'a> {
         extras: Extras<'a>,
         files: InputFiles<'a>,
     },
-    /// The printed plan; `tests` of its tests alone, `places` with where each node's name stands, `why` with what gave it its mode and locks.
+    /// The printed plan; `tests` of its tests alone, `places` with where each node's name stands,
+    /// `why` with what gave it its mode and locks.
     Plan {
         tests: bool,
         places: bool,
@@ -146,13 +149,15 @@ pub enum Request<'a> {
     },
     /// What is wrong with files, without a run.
     Check(InputFiles<'a>),
-    /// What a change of scripts and a world can alter, which were in the folder `old` by the same names; `paths` the paths alone.
+    /// What a change of scripts and a world can alter, which were in the folder `old` by the same
+    /// names; `paths` the paths alone.
     Affected {
         old: &'a str,
         paths: bool,
         files: InputFiles<'a>,
     },
-    /// What the settings in a file of this name come to, with so many processors; `explain` with what mends a fault.
+    /// What the settings in a file of this name come to, with so many processors; `explain` with
+    /// what mends a fault.
     Settings {
         settings: Option<&'a str>,
         processors: Option<Processors>,
@@ -182,7 +187,8 @@ impl From<AllocError> for WordsFault {
     }
 }
 
-/// The words that a program was called with, after its own name. A word that isn't UTF-8 is a wrong word.
+/// The words that a program was called with, after its own name. A word that isn't UTF-8 is a wrong
+/// word.
 pub fn words_of<E: Env + AllocGlobal>(env: &E) -> Result<Vec<String>, WordsFault> {
     let args = match env::args(env) {
         Ok(args) => args,
@@ -209,7 +215,8 @@ fn after_name(alloc: Global, mut args: Args) -> Result<Vec<String>, WordsFault>
     Ok(words)
 }
 
-/// Reads the words after the program's name. No word at all is `run` of a script from standard input.
+/// Reads the words after the program's name. No word at all is `run` of a script from standard
+/// input.
 ///
 /// A request for help or the version is `Show`. Words that `jtap` doesn't have are `Refused`, with
 /// the text that says which.
@@ -231,8 +238,8 @@ pub fn read_words<'a>(alloc: Global, words: &'a [String]) -> Result<Request<'a>,
     }
 }
 
-/// What words come to that `clap` answers with an error. It tells of them as they stand, so it is asked again with each of them on one
-/// line: no word can forge a line of its own.
+/// What words come to that `clap` answers with an error. It tells of them as they stand, so it is
+/// asked again with each of them on one line: no word can forge a line of its own.
 fn told<'a>(alloc: Global, words: &[String], error: &Error) -> Result<Request<'a>, WordsFault>
     ensures bounds { IfOk result AsksInBounds }
 {
@@ -315,8 +322,8 @@ fn requested<'a>(alloc: Global, matches: &ArgMatches<'a>) -> Result<Request<'a>,
     })
 }
 
-/// What is asked for of a change of these files. It is a wrong word that names no folder of their older state, or a file by an absolute path:
-/// below another folder there is none by that name.
+/// What is asked for of a change of these files. It is a wrong word that names no folder of their
+/// older state, or a file by an absolute path: below another folder there is none by that name.
 fn affected_of<'a>(
     alloc: Global,
     found: &ArgMatches<'a>,
@@ -453,7 +460,8 @@ fn files_of<'a>(alloc: Global, found: &ArgMatches<'a>) -> Result<InputFiles<'a>,
     Ok(files)
 }
 
-/// How many processors are counted with, if it is asked for. What is no such number is a wrong word.
+/// How many processors are counted with, if it is asked for. What is no such number is a wrong
+/// word.
 fn processors_of(alloc: Global, found: &ArgMatches<'_>) -> Result<Option<Processors>, WordsFault>
     ensures bounds { IfOk result (λ asked. IfSome asked IsWithin) }
 {

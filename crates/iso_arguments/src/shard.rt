@@ -14,7 +14,8 @@ pub struct Shard {
     pub of: u32,
 }
 
-/// Reads a shard, as `2/3`: a number and how many shards there are, both from 1 to 4,095, the first not above the second. Takes no memory.
+/// Reads a shard, as `2/3`: a number and how many shards there are, both from 1 to 4,095, the first
+/// not above the second. Takes no memory.
 pub(crate) fn read_shard(word: &str) -> Option<Shard>
     ensures bounds { IsShard result }
 {

@@ -23,7 +23,8 @@ impl<'a> Written<'a> {
     }
 }
 
-/// Refuses the first of these files that can't be written: standard output, one that is read, or one that an option before it names.
+/// Refuses the first of these files that can't be written: standard output, one that is read, or
+/// one that an option before it names.
 pub(crate) fn check_written(
     alloc: Global,
     written: &[Written<'_>],
@@ -52,7 +53,8 @@ pub(crate) fn check_written(
     Ok(())
 }
 
-/// Whether a word names a script, the settings, the world, the schedule or, unless it may, the file of paths.
+/// Whether a word names a script, the settings, the world, the schedule or, unless it may, the file
+/// of paths.
 fn is_read(name: &str, may_be_list: bool, schedule: Option<&str>, files: &InputFiles<'_>) -> bool {
     let named = Some(name);
     named == files.settings

@@ -27,8 +27,8 @@ use Rattle.iso_standing.specs.declared.phase.Phase.TheVariants.{Waiting, Begun, 
 use Rattle.iso_suites.specs.ScriptLanguage.{Head, scripts}
 use Rattle.iso_suites.specs.SuiteStates.{RunState, stopped_if, suite_at}
 
--- the plan and the world that it was made for, the number of workers, the Enters, Leaves and Shuts that it has taken, and whether it
--- was stopped
+-- the plan and the world that it was made for, the number of workers, the Enters, Leaves and Shuts
+-- that it has taken, and whether it was stopped
 pub record BookView : Type 0 where
   pub plan : Planned
   pub world : Start
@@ -95,8 +95,9 @@ left_below s (suc n) = left_below s n + weight (phase_of (s.nodes.status n))
 abbrev pub left_in : BookView → ℕ
 left_in b = left_below (state_in b) (length b.plan.rows)
 
--- What every book is: its history in full is a run; where its nodes and workers stand, what it has lent and its results are those of
--- the state that this run gives; no node has more than four events, and it has room for all that may still come.
+-- What every book is: its history in full is a run; where its nodes and workers stand, what it has
+-- lent and its results are those of the state that this run gives; no node has more than four
+-- events, and it has room for all that may still come.
 pub record IsBook (b : BookView) (standing : Standing) (vault : VaultView) (results : ResultsView) (slots : ℕ) : Type 0 where
   pub history : IsHistory scripts (suite_in b) b.workers (events_of b.history)
   pub standing_plan : standing.plan ≡ b.plan

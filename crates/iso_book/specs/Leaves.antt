@@ -1,4 +1,5 @@
--- What a Leave asks of the body and the tray that its worker brings, and how book, tray and receipt stand after it.
+-- What a Leave asks of the body and the tray that its worker brings, and how book, tray and receipt
+-- stand after it.
 use Rattle.std.specs.Prelude.{◌≡◌, ℕ, ◌<◌, List, [], ◌∷◌, Option, Some, None, Bool, true, false, ◌&&◌, ◌==◌, cond, eqb, is_some, length, not, refl}
 use Rattle.std.specs.Coded.{Coded, code_by, coded×, coded_ℕ}
 use Rattle.std.specs.Option.{option_or}
@@ -24,7 +25,8 @@ use Rattle.iso_standing.specs.declared.event.Event.{Event}
 use Rattle.iso_standing.specs.declared.event.Event.TheVariants as Code
 use Rattle.iso_suites.specs.SuiteStates.{booking_refusal}
 
--- the place of a Leave in the history of a book, counted from 0, its worker, and the node that it left
+-- the place of a Leave in the history of a book, counted from 0, its worker, and the node that it
+-- left
 pub record ReceiptView : Type 0 where
   pub number : ℕ
   pub worker : ℕ
@@ -59,13 +61,14 @@ is_of_worker b w d = where_some ((state_in b).busy w) false (is_body_at b d)
 abbrev pub booking_in : BookView → ℕ → Option Why.Refused
 booking_in b w = booking_refusal (suite_in b) b.workers (state_in b) w
 
--- why a Leave is refused whatever tray comes with it, if it is: by the first of these kinds, or else since the body that is brought
--- isn't the worker's
+-- why a Leave is refused whatever tray comes with it, if it is: by the first of these kinds, or
+-- else since the body that is brought isn't the worker's
 abbrev pub leave_refusal_in : BookView → ℕ → DoneView → Option Why.Refused
 leave_refusal_in b w d = option_or (booking_in b w) (refuse (not (is_of_worker b w d)) (Why.OtherBody d.subject.node))
 
--- What may be brought to a Leave: the body is of the tray's plan and starting values, and where it is the last of its node, each
--- value that the node takes for READ_WRITE and that the tray has stands at its start.
+-- What may be brought to a Leave: the body is of the tray's plan and starting values, and where it
+-- is the last of its node, each value that the node takes for READ_WRITE and that the tray has
+-- stands at its start.
 pub record MayBring (d : DoneView) (t : TrayView) : Type 0 where
   pub plan : d.subject.plan ≡ t.plan
   pub start : d.subject.start ≡ t.world
@@ -84,14 +87,16 @@ home_after BeforeAll n v = v
 home_after Test n v = regaining n v
 home_after AfterAll n v = regaining n v
 
--- a Leave was taken: nothing refuses it, the tray is as asked, the book has this one event more, and the receipt tells of it
+-- a Leave was taken: nothing refuses it, the tray is as asked, the book has this one event more,
+-- and the receipt tells of it
 pub record IsLeft (w : ℕ) (d : DoneView) (r : ReceiptView) (b c : BookView) (t : TrayView) : Type 0 where
   pub allowed : leave_refusal_in b w d ≡ None
   pub tray : GoesOnWith b d.subject.node t
   pub book : c ≡ with_event b (Code.Leave w)
   pub receipt : r ≡ record { number = length b.history; worker = w; node = d.subject.node }
 
--- a Leave was refused: neither the book nor the tray has changed, and what was brought is handed back
+-- a Leave was refused: neither the book nor the tray has changed, and what was brought is handed
+-- back
 pub record IsNotLeft (kind : Why.Refused) (back : DoneView) (w : ℕ) (d : DoneView) (b c : BookView) (t u : TrayView) : Type 0 where
   pub why : IsRefusedBy (leave_refusal_in b w d) (GoesOnWith b d.subject.node t) kind
   pub done : back ≡ d

@@ -23,28 +23,32 @@ abbrev pub holds_writers : TrayView → List ℕ → Bool
 holds_writers t [] = true
 holds_writers t (n ∷ ns) = (not (takes_write (tree_of t.plan) n) || is_lent t.lent n) && holds_writers t ns
 
--- whether a tray has what is around a node: it is no flat map, and what the classes around the node take for READ_WRITE is lent to it
+-- whether a tray has what is around a node: it is no flat map, and what the classes around the node
+-- take for READ_WRITE is lent to it
 abbrev pub has_around : TrayView → ℕ → Bool
 has_around t n = not t.flat && holds_writers t (path (tree_of t.plan) (parent (tree_of t.plan) n))
 
--- a tray is a book's, for what a node does: it is of the same plan and starting values, and has what is around the node
+-- a tray is a book's, for what a node does: it is of the same plan and starting values, and has
+-- what is around the node
 pub record IsOwn (b : BookView) (n : ℕ) (t : TrayView) : Type 0 where
   pub plan : t.plan ≡ b.plan
   pub world : t.world ≡ b.world
   pub around : has_around t n ≡ true
 
--- a node may be entered with a tray: it is the book's, and the node may be lent to it beside those that are
+-- a node may be entered with a tray: it is the book's, and the node may be lent to it beside those
+-- that are
 pub record MayEnterWith (b : BookView) (n : ℕ) (t : TrayView) : Type 0 where
   pub own : IsOwn b n t
   pub holds : CanHold n t
 
--- a node that was entered goes on with a tray, by a Shut or a Leave: it is the book's, and the node is lent to it
+-- a node that was entered goes on with a tray, by a Shut or a Leave: it is the book's, and the node
+-- is lent to it
 pub record GoesOnWith (b : BookView) (n : ℕ) (t : TrayView) : Type 0 where
   pub own : IsOwn b n t
   pub lent : is_lent t.lent n ≡ true
 
--- Why an event is refused that asks something of a tray: by the first kind of the state machine that applies; where none does, it
--- is a stranger's, for it isn't as asked.
+-- Why an event is refused that asks something of a tray: by the first kind of the state machine
+-- that applies; where none does, it is a stranger's, for it isn't as asked.
 abbrev pub IsRefusedBy : Option Why.Refused → Type 0 → Why.Refused → Type 0
 IsRefusedBy (Some kind) asked why = why ≡ kind
 IsRefusedBy None asked why = (why ≡ Why.Stranger) × (asked → ⊥)
@@ -59,7 +63,8 @@ abbrev pub IsFaultOf : Option Why.Refused → Type 0 → CoreFault → Type 0
 IsFaultOf kind asked (F.Refused why) = IsRefusedBy kind asked (refused_of why)
 IsFaultOf kind asked F.OutOfMemory = IsAllowed kind asked
 
--- an event was taken: nothing refuses it, the tray is as asked, and the book has this one event more
+-- an event was taken: nothing refuses it, the tray is as asked, and the book has this one event
+-- more
 pub record IsTaken (e : Event) (asked : Type 0) (b c : BookView) : Type 0 where
   pub is_allowed : IsAllowed (refusal_in b e) asked
   pub book : c ≡ with_event b e
@@ -70,7 +75,8 @@ pub record IsNotTaken (fault : CoreFault) (e : Event) (asked : Type 0) (b c : Bo
   pub book : c ≡ b
   pub tray : u ≡ t
 
--- the frames of a class and of the classes that it stands in, outermost first, and a tray that was handed these in place of others
+-- the frames of a class and of the classes that it stands in, outermost first, and a tray that was
+-- handed these in place of others
 abbrev pub frames_of : TrayView → ℕ → List Subject
 frames_of t class = map (subject t.plan t.world) (reverse (path (tree_of t.plan) class))
 
@@ -86,9 +92,9 @@ BeginsIn n t = (kind : BodyKind) → is_after_all kind ≡ false → is_kind_of 
 abbrev pub ReadsStart : ℕ → TrayView → Type 0
 ReadsStart n t = (k : List ℕ) → holds_read (tree_of t.plan) k n ≡ true → content t k ≡ started t.world k
 
--- A tray after the Enter of a node: it had what is around the node, the frames of the classes around the node were handed to it, and
--- the node is lent to it; the node's body may begin, and what the node holds for READ stands at its start, as what it takes for
--- READ_WRITE does.
+-- A tray after the Enter of a node: it had what is around the node, the frames of the classes
+-- around the node were handed to it, and the node is lent to it; the node's body may begin, and
+-- what the node holds for READ stands at its start, as what it takes for READ_WRITE does.
 pub record IsEntered (n : ℕ) (t u : TrayView) : Type 0 where
   pub inner : 0 < n
   pub within : n < length t.plan.rows
@@ -97,8 +103,9 @@ pub record IsEntered (n : ℕ) (t u : TrayView) : Type 0 where
   pub begins : BeginsIn n u
   pub reads : ReadsStart n u
 
--- a tray after the Shut of a class: it had what is around the class, the class's frame and those of the classes around it were
--- handed to it, all else is as it was; the class is lent to it, and its `after_all` may begin
+-- a tray after the Shut of a class: it had what is around the class, the class's frame and those of
+-- the classes around it were handed to it, all else is as it was; the class is lent to it, and its
+-- `after_all` may begin
 pub record IsShut (n : ℕ) (t u : TrayView) : Type 0 where
   pub around : has_around t n ≡ true
   pub tray : u ≡ handed t n

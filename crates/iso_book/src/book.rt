@@ -27,11 +27,12 @@ use std::alloc::{AllocError, Global};
 use std::marker::Model;
 use std::snapshot::Snapshot;
 
-/// The book of a run: where its nodes and workers stand, the values that are lent to nobody, the results, and the Enters, Leaves and
-/// Shuts that it has taken.
+/// The book of a run: where its nodes and workers stand, the values that are lent to nobody, the
+/// results, and the Enters, Leaves and Shuts that it has taken.
 ///
-/// Contracts see the plan and the world that it was made for, the number of workers, the history, and whether it was stopped. That the
-/// history in full is a run, and that all else is of the state that this run gives, is kept by the type.
+/// Contracts see the plan and the world that it was made for, the number of workers, the history,
+/// and whether it was stopped. That the history in full is a run, and that all else is of the state
+/// that this run gives, is kept by the type.
 #[derive(Drop)]
 pub struct Book<'a> {
     plan: &'a Plan,
@@ -59,8 +60,8 @@ impl<'a> Model for Book<'a> {
 }
 
 impl<'a> Book<'a> {
-    /// The book of a plan and a world on so many workers, which has taken no event. It takes all memory that the history and the
-    /// results need.
+    /// The book of a plan and a world on `workers` workers, which has taken no event. It takes all
+    /// memory that the history and the results need.
     pub fn new(
         alloc: Global,
         plan: &'a Plan,
@@ -104,7 +105,8 @@ impl<'a> Book<'a> {
         self.workers
     }
 
-    /// The Enters, Leaves and Shuts that it has taken, in order: four of each node at most. In full they are a run.
+    /// The Enters, Leaves and Shuts that it has taken, in order: four of each node at most. In full
+    /// they are a run.
     pub fn history(&self) -> &[Event]
         ensures events { result.now ≡ self.now.history }
         ensures run { IsHistory scripts (suite_in self.now) self.now.workers (events_of self.now.history) }
@@ -137,7 +139,8 @@ impl<'a> Book<'a> {
         self.results.get(node)
     }
 
-    /// The results of all finished nodes: those of tests and classes run alone, whatever else has run.
+    /// The results of all finished nodes: those of tests and classes run alone, whatever else has
+    /// run.
     pub fn results(&self) -> &Results<'a>
         ensures plan { result.now.plan ≡ self.now.plan }
         ensures start { result.now.start ≡ self.now.world }
@@ -148,7 +151,8 @@ impl<'a> Book<'a> {
         &self.results
     }
 
-    /// Whether a tray was made for a plan and a world that say the same as those of this book. It goes over both.
+    /// Whether a tray was made for a plan and a world that say the same as those of this book. It
+    /// goes over both.
     fn is_made_for(&self, tray: &Tray<'_>) -> bool
         ensures { IsTrue result ↔ ((tray.now.plan ≡ self.now.plan) × (tray.now.world ≡ self.now.world)) }
     {

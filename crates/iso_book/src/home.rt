@@ -41,7 +41,8 @@ fn has_around(tray: &Tray<'_>, node: u32) -> bool
     !tray.is_flat() && holds_writers(tray, node)
 }
 
-/// Whether what the classes around a node take for READ_WRITE is lent to a tray. It goes up the node's path.
+/// Whether what the classes around a node take for READ_WRITE is lent to a tray. It goes up the
+/// node's path.
 fn holds_writers(tray: &Tray<'_>, node: u32) -> bool
     requires inner { 0 < node }
     requires node { node < length tray.now.plan.rows }

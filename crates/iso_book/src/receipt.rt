@@ -3,8 +3,9 @@ ghost use Rattle.std.specs.Prelude.{◌≡◌};
 
 use std::marker::Model;
 
-/// That a Leave stands in the history of a book: its place there, counted from 0, its worker, and the node that it left. There is
-/// no copy of it, so that the receipts of a run are as many as its Leaves.
+/// That a Leave stands in the history of a book: its place there, counted from 0, its worker, and
+/// the node that it left. There is no copy of it, so that the receipts of a run are as many as its
+/// Leaves.
 #[derive(Drop)]
 pub struct Receipt {
     number: usize,

@@ -22,7 +22,8 @@ pub record RecordedView : Type 0 where
   pub shard : Option Shard
   pub scripts : List (List ℕ)
 
--- of these files, where so many processors were counted with, and the schedule is in a file of this name
+-- of these files, where so many processors were counted with, and the schedule is in a file of this
+-- name
 abbrev pub recorded : InputFiles → (processors : ℕ) → (name : List ℕ) → RecordedView
 recorded files processors name =
     record {
@@ -84,7 +85,8 @@ has_control_option run = has_control run.schedule || (given_has_control run.sett
 abbrev pub has_control_word : RecordedView → Bool
 has_control_word run = has_control_in run.only || (has_control_in run.patterns || has_control_in run.scripts)
 
--- whether the command can be told: a script is named, nothing is read from standard input, and no word has a control character
+-- whether the command can be told: a script is named, nothing is read from standard input, and no
+-- word has a control character
 abbrev pub can_be_told : RecordedView → Bool
 can_be_told run = not (length run.scripts == 0) && (not (is_stdin run.only_from) && (not (has_control_option run) && not (has_control_word run)))
 

@@ -1,4 +1,5 @@
-//! Worked examples of the definitions, computed by the checker. Each function does nothing: its contract is the example.
+//! Worked examples of the definitions, computed by the checker. Each function does nothing: its
+//! contract is the example.
 ghost use Rattle.std.specs.Prelude.{◌≡◌, ◌∷◌, [], None, Some, codes, false, true};
 ghost use Rattle.iso_commands.specs.Examples.{named, plain};
 ghost use Rattle.iso_commands.specs.Replays.{can_be_told, replay_line};
@@ -8,7 +9,8 @@ pub fn command_has_what_was_given()
     ensures { replay_line plain ≡ codes "replay: jtap replay --schedule run.schedule shop.jtap\n" }
 {}
 
-/// Each option is told once for each of its words, and words are quoted where a shell would read them otherwise.
+/// Each option is told once for each of its words, and words are quoted where a shell would read
+/// them otherwise.
 pub fn command_has_all_words()
     ensures { replay_line named ≡ codes "replay: jtap replay --schedule ./-r --settings s.toml --world w.toml --processors 4 --only a.B --match 'a.*' --only-from 'f g' --shard 2/3 a.jtap b.jtap\n" }
 {}

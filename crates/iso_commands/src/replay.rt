@@ -12,7 +12,8 @@ use iso_summary::name::name;
 use iso_tap::printer::Printer;
 use iso_tap::sink::{Sink, SinkFailed};
 
-/// A recorded run: the file of its schedule, the files that it was made of, and how many processors it counted with.
+/// A recorded run: the file of its schedule, the files that it was made of, and how many processors
+/// it counted with.
 #[derive(Clone, Copy)]
 pub struct Recorded<'r> {
     pub schedule: &'r str,
@@ -55,7 +56,8 @@ fn processors(run: &Recorded<'_>) -> Option<u32>
     }
 }
 
-/// Whether that command can be told: nothing is read from standard input, and no word has a control character.
+/// Whether that command can be told: nothing is read from standard input, and no word has a control
+/// character.
 pub fn can_be_told(run: &Recorded<'_>) -> bool
     ensures { result ≡ can_be_told (recorded_of run.now) }
 {
@@ -84,7 +86,8 @@ fn has_control_word(run: &Recorded<'_>) -> bool
         || has_control_in(&run.files.scripts)
 }
 
-/// Writes the line of a recorded run whose schedule, in a file of this name, is longer than what is replayed. Takes no memory.
+/// Writes the line of a recorded run whose schedule, in a file of this name, is longer than what is
+/// replayed. Takes no memory.
 pub fn too_large_line<W: Sink>(
     printer: &mut Printer<'_, W>,
     schedule: &str,

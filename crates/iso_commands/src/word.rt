@@ -50,7 +50,8 @@ fn within_quotes<W: Sink>(printer: &mut Printer<'_, W>, word: &[u8]) -> Result<(
     Ok(())
 }
 
-/// Writes a byte as it stands between single quotes: a quote ends them, stands behind a backslash, and begins them again.
+/// Writes a byte as it stands between single quotes: a quote ends them, stands behind a backslash,
+/// and begins them again.
 fn in_quotes<W: Sink>(printer: &mut Printer<'_, W>, byte: u8) -> Result<(), SinkFailed>
     ensures { Prints printer.old printer.new (in_quotes byte) result }
 {

@@ -1,4 +1,5 @@
--- Chains: tests that wait for one another, for a key that nodes take, or for the thread of the class that they stand in.
+-- Chains: tests that wait for one another, for a key that nodes take, or for the thread of the
+-- class that they stand in.
 use Rattle.std.specs.Prelude.{ℕ, ◌+◌, ◌<◌, List, ◌++◌, Bool, true, false, cond, filter, length, map, nat_lt}
 use Rattle.std.specs.List.{count_by, fold, range_with_len, sum_by}
 use Rattle.iso_conflicts.specs.Takers.{takers}
@@ -19,7 +20,8 @@ use Rattle.iso_settings.specs.declared.settings.Settings.{Settings}
 abbrev pub tests_in : List Row → ℕ → ℕ
 tests_in tree n = count_by (λ m. is_test (row_at tree m).kind) (nodes_under tree n)
 
--- the chain of a key: the tests of all nodes that take it for READ_WRITE, and of the largest that takes it for READ
+-- the chain of a key: the tests of all nodes that take it for READ_WRITE, and of the largest that
+-- takes it for READ
 abbrev pub key_chain : List Row → (key : ℕ) → ℕ
 key_chain tree key =
     sum_by (tests_in tree) (takers tree Write key) + largest (map (tests_in tree) (takers tree Read key))
@@ -29,7 +31,8 @@ abbrev pub is_same_thread : Mode → Bool
 is_same_thread SameThread = true
 is_same_thread Concurrent = false
 
--- the chain of a class: the tests of its children on the same thread. That of the root is of top-level classes.
+-- the chain of a class: the tests of its children on the same thread. That of the root is of
+-- top-level classes.
 abbrev pub class_chain : List Row → Settings → ℕ → ℕ
 class_chain tree s n = sum_by (tests_in tree) (filter (λ m. is_same_thread (mode tree s m)) (children tree n))
 

@@ -1,4 +1,5 @@
--- The keys of a plan as they are printed: of each the tests of its chain, and the nodes that take it.
+-- The keys of a plan as they are printed: of each the tests of its chain, and the nodes that take
+-- it.
 use Rattle.std.specs.Prelude.{ℕ, List, [], ◌++◌, ◌==◌, cond, codes, length, slice_index_or}
 use Rattle.std.specs.Fmt.{decimal}
 use Rattle.std.specs.List.{flat_map, range_with_len}
@@ -41,7 +42,8 @@ key_lines tree key =
     key_text tree key ++ codes ": longest chain " ++ counted (key_chain tree key) ++ codes "\n"
     ++ takers_line tree (taking_word Write) (takers tree Write key) ++ takers_line tree (taking_word Read) (takers tree Read key)
 
--- what the tests of a chain share: a key, or the thread of a class, or worker 0, on which top-level classes are on the same thread
+-- what the tests of a chain share: a key, or the thread of a class, or worker 0, on which top-level
+-- classes are on the same thread
 abbrev pub shared_text : List Row → Shared → List ℕ
 shared_text tree (Class n) = cond (is_root n) (codes "top-level classes") (codes "class " ++ path_text tree n)
 shared_text tree (Key key) = codes "key " ++ key_text tree key

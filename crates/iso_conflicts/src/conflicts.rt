@@ -19,11 +19,13 @@ use iso_tap::fault::TapFault;
 use iso_tap::printer::{Piece, Printer};
 use iso_tap::sink::{Sink, SinkFailed};
 
-/// Writes the keys of a plan for so many workers: the line `workers W`, then of each key, by its number, the line
-/// `KEY: longest chain N tests` and, indented, the lines `write: PATH ..` and `read: PATH ..` of the nodes that take it, where there are
-/// any; and last `longest chain of all: N tests, WHAT`. A key's chain is the tests of all nodes that take it for READ_WRITE and of the
-/// largest that takes it for READ, a class's those of its children on the same thread. WHAT is `key KEY`, `class PATH` or, of the root,
-/// `top-level classes`. `tests` is what `tests_in` answers for the plan. Takes no memory.
+/// Writes the keys of a plan for so many workers: the line `workers W`, then of each key, by its
+/// number, the line `KEY: longest chain N tests` and, indented, the lines `write: PATH ..` and
+/// `read: PATH ..` of the nodes that take it, where there are any; and last `longest chain of all:
+/// N tests, WHAT`. A key's chain is the tests of all nodes that take it for READ_WRITE and of the
+/// largest that takes it for READ, a class's those of its children on the same thread. WHAT is `key
+/// KEY`, `class PATH` or, of the root, `top-level classes`. `tests` is what `tests_in` answers for
+/// the plan. Takes no memory.
 ///
 /// The sink is asked again where it takes only some bytes, and no more once it has failed.
 pub fn write_conflicts<W: Sink>(

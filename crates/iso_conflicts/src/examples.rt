@@ -7,7 +7,8 @@ ghost use Rattle.iso_conflicts.specs.Takers.{takers};
 ghost use Rattle.iso_model.specs.declared.access.Access.TheVariants.{Read, Write};
 ghost use Rattle.iso_plan.specs.Examples.{cart_and_desk, concurrent_by_default, concurrent_classes, loose, nested, one_thread, two_classes};
 
-/// Each key has the nodes that take it, and the tests that wait for one another: those of all that write it, and of the largest that reads it.
+/// Each key has the nodes that take it, and the tests that wait for one another: those of all that
+/// write it, and of the largest that reads it.
 pub fn keys_have_their_takers()
     ensures { conflicts_text cart_and_desk concurrent_by_default 2 ≡ lines
         (codes "workers 2"
@@ -29,7 +30,8 @@ pub fn one_reader_counts()
     ensures writer { takers nested Write 2 ≡ 4 ∷ [] }
 {}
 
-/// A class has the tests of all that stands in it; its chain those of its children on the same thread.
+/// A class has the tests of all that stands in it; its chain those of its children on the same
+/// thread.
 pub fn children_on_one_thread_are_a_chain()
     ensures inside { tests_in cart_and_desk 4 ≡ 2 }
     ensures test { tests_in cart_and_desk 2 ≡ 1 }

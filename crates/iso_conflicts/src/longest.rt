@@ -39,7 +39,8 @@ impl Chain {
     }
 }
 
-/// The longest chain of a plan, of its classes and keys. Of several that are equal it is the first, and a class's before a key's.
+/// The longest chain of a plan, of its classes and keys. Of several that are equal it is the first,
+/// and a class's before a key's.
 pub(crate) fn longest(plan: &Plan, tests: &[u32]) -> Chain
     requires { tests.now ≡ column (tests_in (tree_of plan.now)) (length plan.now.rows) }
     ensures longest { result ≡ longest (tree_of plan.now) plan.now.settings }

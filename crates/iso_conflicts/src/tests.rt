@@ -8,7 +8,8 @@ use iso_plan::laws;
 use iso_plan::plan::Plan;
 use std::alloc::{AllocError, Global};
 
-/// How many tests each node is or has in it, by its number. Takes memory for one number a node, which may be refused.
+/// How many tests each node is or has in it, by its number. Takes memory for one number a node,
+/// which may be refused.
 pub fn tests_in(alloc: Global, plan: &Plan) -> Result<Vec<u32>, AllocError>
     ensures { IfOk result (λ v. v.items ≡ column (tests_in (tree_of plan.now)) (length plan.now.rows)) }
 {

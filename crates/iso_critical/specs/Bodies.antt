@@ -1,4 +1,5 @@
--- The bodies of a run, by their places: each node has two, of which the second is that of a class's `after_all`.
+-- The bodies of a run, by their places: each node has two, of which the second is that of a class's
+-- `after_all`.
 use Rattle.std.specs.Prelude.{ℕ, ◌<◌, ◌*◌, ◌/◌, ◌%◌, List, Option, None, Bool, ◌&&◌, ◌==◌, is_some, map, not, slice_index_or, unwrap_or}
 use Rattle.std.specs.Option.{option_map}
 use Rattle.iso_critical.specs.declared.body.Body.{Body}
@@ -10,7 +11,8 @@ use Rattle.iso_settings.specs.declared.settings.Settings.{Settings}
 use Rattle.iso_times.specs.Tables.{first_begin, since}
 use Rattle.iso_times.specs.declared.times.BodyTime.{BodyTime}
 
--- a run: the tree of its plan and its settings, the times of its bodies, and by its number whom each node waited for last
+-- a run: the tree of its plan and its settings, the times of its bodies, and by its number whom
+-- each node waited for last
 pub record Run : Type 0 where
   pub tree : List Row
   pub settings : Settings
@@ -41,7 +43,8 @@ has_run bodies i = not (is_root (i / 2)) && is_some (time_at bodies i)
 abbrev pub ran : List (Option BodyTime) → (nodes : ℕ) → List ℕ
 ran bodies nodes = those_below (has_run bodies) (2 * nodes)
 
--- those bodies: the ones that ended last first, and of those that ended together the one with the lower place first
+-- those bodies: the ones that ended last first, and of those that ended together the one with the
+-- lower place first
 abbrev pub latest_first : List (Option BodyTime) → (nodes : ℕ) → List Body
 latest_first bodies nodes = map (body_at bodies) (slowest_first (end_at bodies) (ran bodies nodes))
 

@@ -14,8 +14,8 @@ by worker begin end = Some (record { worker = worker; begin = begin; end = end }
 abbrev pub critical_places : Run → List ℕ
 critical_places run = map (λ b. b.place) (critical run)
 
--- of nodes 1 to 3 of write children "K" class C { test a { } test b { } }, which are C, a and b: C opens, another worker does b, the first one
--- does a, and C closes
+-- of nodes 1 to 3 of write children "K" class C { test a { } test b { } }, which are C, a and b: C
+-- opens, another worker does b, the first one does a, and C closes
 abbrev pub b_before_a : (holders : List (Option ℕ)) → Run
 b_before_a holders =
     record {
@@ -35,7 +35,8 @@ a_then_b =
       holders = [];
     }
 
--- of nodes 1 to 4 of class A { test t { } } class B { test t { } }, which are A, t, B and t: each class is done by a worker, and B closes then
+-- of nodes 1 to 4 of class A { test t { } } class B { test t { } }, which are A, t, B and t: each
+-- class is done by a worker, and B closes then
 abbrev pub two_workers : (worker end : ℕ) → Run
 two_workers worker end =
     record {
@@ -55,7 +56,8 @@ end_together =
       holders = [];
     }
 
--- of nodes 1 to 4 of class Hall { class Desk { isolated class Till { test d { } } } }: the two inner classes have no time for their `after_all`
+-- of nodes 1 to 4 of class Hall { class Desk { isolated class Till { test d { } } } }: the two
+-- inner classes have no time for their `after_all`
 abbrev pub unclosed : Run
 unclosed =
     record {

@@ -10,7 +10,8 @@ use Rattle.iso_times.specs.declared.times.BodyTime.{BodyTime}
 use Rattle.iso_waits.specs.Waits.{earlier}
 use Rattle.iso_waits.specs.declared.wait.NodeWait.{NodeWait}
 
--- of two waits the one that ended later, of those that ended together the second; where there is one alone, this one
+-- of two waits the one that ended later, of those that ended together the second; where there is
+-- one alone, this one
 abbrev pub later : Option NodeWait → NodeWait → NodeWait
 later None w = w
 later (Some v) w = cond (nat_lt w.end v.end) v w
@@ -24,7 +25,8 @@ abbrev pub last_wait : ℕ → Option NodeWait → List NodeWait → Option Node
 last_wait n found [] = found
 last_wait n found (w ∷ ws) = last_wait n (noted n found w) ws
 
--- the node that a node waited for last: in its wait that ended last, the node of the last single wait
+-- the node that a node waited for last: in its wait that ended last, the node of the last single
+-- wait
 abbrev pub last_holder : List NodeWait → ℕ → Option ℕ
 last_holder waits n = option_map (λ (w : NodeWait). w.last) (last_wait n None waits)
 
@@ -32,7 +34,8 @@ last_holder waits n = option_map (λ (w : NodeWait). w.last) (last_wait n None w
 abbrev pub last_holders : List NodeWait → (nodes : ℕ) → List (Option ℕ)
 last_holders waits nodes = column (last_holder waits) nodes
 
--- whose bodies had to end before a body: the class of its node, the earlier sibling, and the node that its node waited for last
+-- whose bodies had to end before a body: the class of its node, the earlier sibling, and the node
+-- that its node waited for last
 abbrev pub needs : Run → Body → Needs
 needs run b =
     record {
@@ -55,11 +58,13 @@ ended_by p b = nat_le p.end b.begin && nat_lt p.end b.end
 abbrev pub lets_in : Needs → Body → Bool
 lets_in needs p = is_node needs.class p.node && not p.closes || is_node needs.earlier p.node || is_node needs.holder p.node
 
--- it is a body of the class that closes, or of what stands in it; or else it had to end before the node was entered
+-- it is a body of the class that closes, or of what stands in it; or else it had to end before the
+-- node was entered
 abbrev pub is_needed : List Row → Needs → Body → Bool
 is_needed tree needs p = cond needs.body.closes (is_under tree needs.body.node p.node) (lets_in needs p)
 
--- Whether a body had to end before another: it did, and is on its worker, or had to end before the class closed or the node was entered.
+-- Whether a body had to end before another: it did, and is on its worker, or had to end before the
+-- class closed or the node was entered.
 abbrev pub had_to_end : List Row → Needs → Body → Bool
 had_to_end tree needs p =
     ended_by p.time needs.body.time

@@ -54,8 +54,9 @@ impl CriticalBodies {
     }
 }
 
-/// The critical bodies of a run of this plan, whose bodies had these times and whose nodes these waits: the one that ended last, and
-/// from each critical one on the one that ended last of those that had to end before it.
+/// The critical bodies of a run of this plan, whose bodies had these times and whose nodes these
+/// waits: the one that ended last, and from each critical one on the one that ended last of those
+/// that had to end before it.
 pub fn critical(
     alloc: Global,
     plan: &Plan,

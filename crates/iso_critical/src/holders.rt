@@ -50,7 +50,8 @@ fn note(last: &mut Vec<Option<NodeWait>>, wait: NodeWait)
     }
 }
 
-/// Of two waits, if there is a first one, the one that ended later; of those that ended together the second.
+/// Of two waits, if there is a first one, the one that ended later; of those that ended together
+/// the second.
 fn later(found: Option<NodeWait>, wait: NodeWait) -> NodeWait
     ensures { result ≡ later found wait }
 {

@@ -10,7 +10,8 @@ pub fn time_goes_back()
         → IfSome (previous run (Some b)) (λ p. (p.time.end ≤ b.time.begin) × (p.time.end < b.time.end)) }
 {}
 
-/// The way back ends where no body comes before: if more bodies were allowed for, it would be no longer.
+/// The way back ends where no body comes before: if more bodies were allowed for, it would be no
+/// longer.
 pub fn way_back_is_whole()
     ensures { (run : Run) (more : ℕ)
         → back_from run (length (ran run.bodies (length run.tree)) + more) (previous run None) ≡ critical run }

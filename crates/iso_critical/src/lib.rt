@@ -1,4 +1,5 @@
-//! The critical bodies of a run: those on the longest way back from its end, each after the one that it had to wait for.
+//! The critical bodies of a run: those on the longest way back from its end, each after the one
+//! that it had to wait for.
 #![tactic(auto)]
 
 pub mod body;

@@ -11,8 +11,8 @@ use iso_plan::plan::Plan;
 use iso_times::times::BodyTime;
 use iso_waits::waits::Waits;
 
-/// A body, and whose bodies had to end before it: its class, the sibling that its node had to let finish, and the node that its node
-/// waited for last.
+/// A body, and whose bodies had to end before it: its class, the sibling that its node had to let
+/// finish, and the node that its node waited for last.
 #[derive(Clone, Copy)]
 pub(crate) struct Needs {
     pub body: Body,

@@ -62,7 +62,8 @@ fn body_of(times: &Times, node: u32, kind: BodyKind) -> Option<Body>
     })
 }
 
-/// The place of a node's body: each node has two, of which the second is that of a class's `after_all`.
+/// The place of a node's body: each node has two, of which the second is that of a class's
+/// `after_all`.
 pub(crate) fn place_of(node: u32, kind: BodyKind) -> usize
     ensures { result ≡ slot_of node kind }
 {

@@ -11,8 +11,9 @@ use iso_plan::plan::Plan;
 use iso_waits::waits::Waits;
 use std::alloc::{AllocError, Global};
 
-/// The critical ones of all bodies, which are given in the order in which they ended, from the last one on. Those that had to end
-/// before a body ended before it, so they stand behind it, and one way through all finds each.
+/// The critical ones of all bodies, which are given in the order in which they ended, from the last
+/// one on. Those that had to end before a body ended before it, so they stand behind it, and one
+/// way through all finds each.
 pub(crate) fn path(
     alloc: Global,
     plan: &Plan,

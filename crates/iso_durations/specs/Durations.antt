@@ -11,7 +11,8 @@ use Rattle.iso_durations.specs.Times.{measured, micros}
 use Rattle.iso_durations.specs.declared.tally.Tally.{Tally}
 use Rattle.iso_durations.specs.declared.timed.Timed.{Timed}
 
--- the first line: how many are listed, of how many that were measured, and how long the bodies of all of these took
+-- the first line: how many are listed, of how many that were measured, and how long the bodies of
+-- all of these took
 abbrev pub head_line : (count : ℕ) → (all : Tally) → List ℕ
 head_line count all =
     line

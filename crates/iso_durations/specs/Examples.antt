@@ -7,8 +7,8 @@ use Prim.Native.String.{String}
 abbrev pub lines : List String → List ℕ
 lines texts = flat_map (λ t. codes t ++ codes "\n") texts
 
--- What was measured of the root and Cart, a, b, Desk, c, Till, d: a took longest; Cart has blocks, which took as long as c; Desk and Till
--- have none; d didn't run.
+-- What was measured of the root and Cart, a, b, Desk, c, Till, d: a took longest; Cart has blocks,
+-- which took as long as c; Desk and Till have none; d didn't run.
 abbrev pub cart_times : List (Option ℕ)
 cart_times = None ∷ Some 310 ∷ Some 1500000 ∷ Some 20 ∷ None ∷ Some 310 ∷ None ∷ None ∷ []
 

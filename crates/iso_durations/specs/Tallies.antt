@@ -13,7 +13,8 @@ greatest = 18446744073709551615
 abbrev pub is_a_test : List Row → ℕ → Bool
 is_a_test tree n = is_test (row_at tree n).kind
 
--- how many of some nodes are tests and how many are classes, and how long the bodies of all of them took
+-- how many of some nodes are tests and how many are classes, and how long the bodies of all of them
+-- took
 abbrev pub tally : List Row → (times : List (Option ℕ)) → List ℕ → Tally
 tally tree times nodes =
     record {

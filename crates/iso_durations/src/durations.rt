@@ -13,7 +13,8 @@ use std::alloc::{AllocError, Global};
 use std::cmp::Reverse;
 use std::marker::Model;
 
-/// Room for the times of nodes. It is made before a run, so that nothing grows after it. Contracts see for how many nodes it is.
+/// Room for the times of nodes. It is made before a run, so that nothing grows after it. Contracts
+/// see for how many nodes it is.
 #[derive(Drop)]
 pub struct Durations {
     nodes: u32,

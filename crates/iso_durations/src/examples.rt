@@ -10,14 +10,16 @@ ghost use Rattle.iso_durations.specs.Tallies.{tally};
 ghost use Rattle.iso_durations.specs.Times.{measured};
 ghost use Rattle.iso_plan.specs.Examples.{cart_and_desk};
 
-/// The slowest stand first, and those that took as long in the order in which they are written, be they tests or classes.
+/// The slowest stand first, and those that took as long in the order in which they are written, be
+/// they tests or classes.
 pub fn equal_times_stand_in_written_order()
     ensures run { listed cart_and_desk cart_times 0 ≡ 2 ∷ 1 ∷ 5 ∷ 3 ∷ [] }
     ensures equal { slowest_first (λ n. 7) (1 ∷ 2 ∷ 3 ∷ []) ≡ 1 ∷ 2 ∷ 3 ∷ [] }
     ensures rising { slowest_first (λ n. n) (1 ∷ 2 ∷ 3 ∷ []) ≡ 3 ∷ 2 ∷ 1 ∷ [] }
 {}
 
-/// 0 lists all, as a number does that is larger than there are; another one lists so many of the first.
+/// 0 lists all, as a number does that is larger than there are; another one lists so many of the
+/// first.
 pub fn zero_lists_all()
     ensures zero { listed cart_and_desk cart_times 0 ≡ 2 ∷ 1 ∷ 5 ∷ 3 ∷ [] }
     ensures more { listed cart_and_desk cart_times 9 ≡ 2 ∷ 1 ∷ 5 ∷ 3 ∷ [] }
@@ -25,7 +27,8 @@ pub fn zero_lists_all()
     ensures one { listed cart_and_desk cart_times 1 ≡ 2 ∷ [] }
 {}
 
-/// A class without blocks of its own, a test that didn't run and the root are left out; what took less than a microsecond isn't.
+/// A class without blocks of its own, a test that didn't run and the root are left out; what took
+/// less than a microsecond isn't.
 pub fn nodes_without_a_time_are_left_out()
     ensures run { measured cart_and_desk cart_times ≡ 1 ∷ 2 ∷ 3 ∷ 5 ∷ [] }
     ensures short { measured cart_and_desk short_times ≡ 2 ∷ [] }

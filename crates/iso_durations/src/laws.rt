@@ -6,13 +6,15 @@ ghost use Rattle.iso_durations.specs.Orders.{is_before, is_in};
 ghost use Rattle.iso_durations.specs.Times.{is_measured, measured, micros};
 ghost use Rattle.iso_plan.specs.Tree.{Row};
 
-/// Each node that is listed took longer than those after it, or as long and is written before them. So none is listed twice.
+/// Each node that is listed took longer than those after it, or as long and is written before them.
+/// So none is listed twice.
 pub fn slower_nodes_stand_first()
     ensures { (tree : List Row) (times : List (Option ℕ)) (most : ℕ)
         → AllPairs (λ m n. is_before (micros times) m n ≡ true) (listed tree times most) }
 {}
 
-/// There is no other list of all nodes that were measured, and of no others, in which each stands like this before those after it.
+/// There is no other list of all nodes that were measured, and of no others, in which each stands
+/// like this before those after it.
 pub fn order_is_the_only_one()
     ensures { (tree : List Row) (times : List (Option ℕ)) (nodes : List ℕ)
         → AllPairs (λ m n. is_before (micros times) m n ≡ true) nodes
@@ -32,7 +34,8 @@ pub fn as_many_are_listed_as_are_asked_for()
     ensures all { (tree : List Row) (times : List (Option ℕ)) → length (listed tree times 0) ≡ length (measured tree times) }
 {}
 
-/// A node that was measured and is left out is no slower than one that is listed: it took less long, or as long and is written after it.
+/// A node that was measured and is left out is no slower than one that is listed: it took less
+/// long, or as long and is written after it.
 pub fn nodes_left_out_are_no_slower()
     ensures { (tree : List Row) (times : List (Option ℕ)) (most m n : ℕ) → is_in (listed tree times most) m ≡ true
         → is_in (measured tree times) n ≡ true → is_in (listed tree times most) n ≡ false → is_before (micros times) m n ≡ true }

@@ -17,10 +17,11 @@ use iso_tap::fault::TapFault;
 use iso_tap::printer::Printer;
 use iso_tap::sink::{Sink, SinkFailed};
 
-/// Writes the slowest tests and classes of a run, so many of them at most, or all where this is 0: a line that says how many they are, of
-/// how many, and how long all bodies took, and a line for each, slowest first, those that took as long in the order in which they are
-/// written. Each node has its time at its number, in microseconds, a class that of its own blocks; a node without a time isn't listed.
-/// The room is for all nodes of the plan, the root too. Takes no memory.
+/// Writes the slowest tests and classes of a run, so many of them at most, or all where this is 0:
+/// a line that says how many they are, of how many, and how long all bodies took, and a line for
+/// each, slowest first, those that took as long in the order in which they are written. Each node
+/// has its time at its number, in microseconds, a class that of its own blocks; a node without a
+/// time isn't listed. The room is for all nodes of the plan, the root too. Takes no memory.
 ///
 /// The sink is asked again where it takes only some bytes, and no more once it has failed.
 pub fn write_durations<W: Sink>(

@@ -23,7 +23,8 @@ limit_words L.ScriptBytes = codes " bytes stand in a script"
 abbrev pub limit_note : Limit → List ℕ
 limit_note limit = hint_line (codes "at most " ++ decimal (most limit) ++ limit_words limit)
 
--- how big a number may be, how long a name and a text, and how a display text and a reason are written
+-- how big a number may be, how long a name and a text, and how a display text and a reason are
+-- written
 abbrev pub number_note : List ℕ
 number_note = hint_line (codes "at most " ++ decimal (2 ^ 63 - 1) ++ codes ", after the minus of a literal " ++ decimal (2 ^ 63))
 

@@ -19,7 +19,8 @@ abbrev pub picture_of : List ℕ → Explained → List ℕ
 picture_of bytes told =
     picture told.fault.line (line_of bytes told.fault.line) told.fault.column told.width (one_piece (label_of told.fault.kind told.reason))
 
--- the lines below it: what mends the fault, where something stands first, which brace is open, and what there may be at most
+-- the lines below it: what mends the fault, where something stands first, which brace is open, and
+-- what there may be at most
 abbrev pub notes : List ℕ → Explained → (meant : Option (List ℕ)) → List ℕ
 notes bytes told meant =
     mending_note (hint_of bytes told) meant (other_of bytes told)

@@ -77,8 +77,8 @@ is_joined met = by met.found
     by F.Operand = met.behind_text
     by _ = false
 
--- what is found begins a statement or a part of a class, or closes a brace. A name and an `if` do where they lead their line: behind
--- something else they may be an operand, or its condition
+-- what is found begins a statement or a part of a class, or closes a brace. A name and an `if` do
+-- where they lead their line: behind something else they may be an operand, or its condition
 abbrev pub begins_anew : Met → Bool
 begins_anew met = by met.found
   where

@@ -18,7 +18,8 @@ use Rattle.iso_script_statements.specs.declared.wanted.Wanted.TheVariants as W
 use Rattle.iso_explain.specs.Spots.{place_at_fault}
 use Rattle.iso_explain.specs.Wants.{is_symbol, symbol_wanted}
 
--- the words that begin a top-level class, a member, a lifecycle block or a member, and what stands in a class
+-- the words that begin a top-level class, a member, a lifecycle block or a member, and what stands
+-- in a class
 abbrev pub class_words : List Word
 class_words = Class ∷ SameThread ∷ Concurrent ∷ Isolated ∷ Disabled ∷ Read ∷ Write ∷ []
 
@@ -36,7 +37,8 @@ abbrev pub statement_words : List Word
 statement_words =
     Let ∷ Print ∷ Assert ∷ AssertEqual ∷ Assume ∷ Fail ∷ If ∷ Else ∷ Repeat ∷ SetProp ∷ ClearProp ∷ SetLocale ∷ WriteFile ∷ AppendFile ∷ DeleteFile ∷ []
 
--- the reserved words that a name may have been meant for where this is wanted: those that could stand there, where no name could
+-- the reserved words that a name may have been meant for where this is wanted: those that could
+-- stand there, where no name could
 abbrev pub words_of : Wanted → List Word
 words_of (W.Word word) = word ∷ []
 words_of W.Literal = True ∷ False ∷ []
@@ -63,7 +65,8 @@ abbrev pub begun_for : Option (List ℕ) → Option (List ℕ)
 begun_for (Some name) = nearest_of name (map spelling statement_words)
 begun_for None = None
 
--- the word that was meant at a place: where `=` is wanted by the name before it, which begins a statement, and else by what is found
+-- the word that was meant at a place: where `=` is wanted by the name before it, which begins a
+-- statement, and else by what is found
 abbrev pub meant_at : PlaceView → Unmet → Option (List ℕ)
 meant_at place unmet =
     cond (is_symbol Equals (symbol_wanted unmet.wanted)) (begun_for (name_of place.statement)) (meant_for unmet.wanted unmet.found)

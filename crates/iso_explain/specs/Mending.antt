@@ -80,6 +80,7 @@ form_of bytes told = form_for bytes told.fault told.reason
 abbrev pub hint_of : List ℕ → Explained → Option (List ℕ)
 hint_of bytes told = option_or (told_by first_rules bytes told) (table_hint bytes told.fault)
 
--- what is told where there is no hint, and no word was meant: what another rule says, or else how what is begun is written
+-- what is told where there is no hint, and no word was meant: what another rule says, or else how
+-- what is begun is written
 abbrev pub other_of : List ℕ → Explained → Option (List ℕ)
 other_of bytes told = option_or (told_by other_rules bytes told) (form_of bytes told)

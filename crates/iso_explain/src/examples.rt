@@ -37,8 +37,8 @@ pub fn word_that_was_meant_is_told()
     ensures far { meant_by (codes "team shop\nCart {\n}\n") (fault_in K.Expected (at 2 1) (name_met V.TopClass "Cart" refl) 4 None) ≡ None }
 {}
 
-/// Where `=` is wanted a word may have been meant by the name that begins the statement. What begins with a word has its form, and
-/// else it is told which statements there are.
+/// Where `=` is wanted a word may have been meant by the name that begins the statement. What
+/// begins with a word has its form, and else it is told which statements there are.
 pub fn statement_that_was_meant_is_told()
     ensures meant { meant_by (lines_of (in_a_test ("asert x;" ∷ []))) (fault_in K.Expected (at 4 7) (name_met (V.Symbol S.Equals) "x" refl) 1 None)
         ≡ Some (codes "assert") }
@@ -60,7 +60,8 @@ pub fn statement_that_was_meant_is_told()
         ∷ []) }
 {}
 
-/// Where a `;` is missing this is told, be it in the line or in the one before, and not which brace is open.
+/// Where a `;` is missing this is told, be it in the line or in the one before, and not which brace
+/// is open.
 pub fn missing_semicolon_is_told()
     ensures before_a_brace { explanation
         (lines_of (in_a_test ("if a { print 1 }" ∷ [])))

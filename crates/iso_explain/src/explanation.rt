@@ -15,9 +15,9 @@ use iso_script::explain::Explained;
 use iso_tap::printer::{Piece, Printer};
 use iso_tap::sink::{Sink, SinkFailed};
 
-/// Writes what mends a script that these bytes should have been: the line of the fault with carets and what could have
-/// stood there, and below it what else there is to be told. A word may be given that was meant in the place of the fault.
-/// Takes no memory.
+/// Writes what mends a script that these bytes should have been: the line of the fault with carets
+/// and what could have stood there, and below it what else there is to be told. A word may be given
+/// that was meant in the place of the fault. Takes no memory.
 pub fn write_explanation<W: Sink>(
     bytes: &[u8],
     explained: &Explained<'_>,

@@ -68,8 +68,8 @@ pub(crate) fn symbol_found(found: Found) -> Option<Symbol>
     }
 }
 
-/// Whether what is found begins a statement or a part of a class, or closes a brace. Where it is in the line of what stands
-/// before, a name may be an operand, and an `if` a condition.
+/// Whether what is found begins a statement or a part of a class, or closes a brace. Where it is in
+/// the line of what stands before, a name may be an operand, and an `if` a condition.
 fn begins_anew(met: Met) -> bool
     ensures { result ≡ begins_anew met }
 {

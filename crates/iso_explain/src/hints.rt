@@ -21,7 +21,8 @@ pub(crate) fn hint_of(place: &Place<'_>, explained: &Explained<'_>) -> Option<&'
     told_by(first::RULES, place, explained).or(table_hint(place, explained.fault))
 }
 
-/// What is told where there is no hint, and no word was meant: what another rule says, or else how what is begun is written.
+/// What is told where there is no hint, and no word was meant: what another rule says, or else how
+/// what is begun is written.
 pub(crate) fn other_of(place: &Place<'_>, explained: &Explained<'_>) -> Option<&'static str>
     ensures { (bytes : List ℕ) → IsPlaceOf place.now bytes explained.now.fault
         → option_map (λ h. h.now) result ≡ other_of bytes explained.now }
@@ -113,8 +114,8 @@ fn form_or_none(place: &Place<'_>, fault: ScriptFault, wanted: Wanted) -> Option
     }
 }
 
-/// Whether how a statement or head is written says more than that this is wanted: a name, a text or a body, or what stands
-/// between two parts.
+/// Whether how a statement or head is written says more than that this is wanted: a name, a text or
+/// a body, or what stands between two parts.
 fn has_form(wanted: Wanted) -> bool
     ensures { result ≡ has_form wanted }
 {

@@ -99,8 +99,8 @@ const STATEMENTS: &[&str] = &[
     "delete_file",
 ];
 
-/// The reserved word that was meant by a name: by that which stands where such a word is wanted, or by that which begins a
-/// statement and has no `=` behind it. If a word is near enough.
+/// The reserved word that was meant by a name: by that which stands where such a word is wanted, or
+/// by that which begins a statement and has no `=` behind it. If a word is near enough.
 pub(crate) fn meant(
     alloc: Global,
     place: &Place<'_>,

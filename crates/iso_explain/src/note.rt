@@ -117,7 +117,8 @@ fn open_at<W: Sink>(printer: &mut Printer<'_, W>, at: Position) -> Result<(), Si
     )
 }
 
-/// Whether the open brace is to be told: the script ends, or what is found tells that a brace is missing.
+/// Whether the open brace is to be told: the script ends, or what is found tells that a brace is
+/// missing.
 fn tells_brace(kind: ScriptFaultKind, reason: Reason<'_>) -> bool
     ensures { result ≡ tells_brace kind reason.entry }
 {
@@ -134,7 +135,8 @@ fn is_end(kind: ScriptFaultKind) -> bool
     matches!(kind, ScriptFaultKind::EndOfInput)
 }
 
-/// Whether a brace is closed where something else is wanted than a `;`, or what stands outside of bodies is found in one.
+/// Whether a brace is closed where something else is wanted than a `;`, or what stands outside of
+/// bodies is found in one.
 fn lacks_brace(wanted: Wanted, found: Found) -> bool
     ensures { result ≡ lacks_brace wanted found }
 {

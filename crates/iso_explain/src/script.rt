@@ -20,7 +20,8 @@ pub enum ExplainError {
     SinkFailed,
 }
 
-/// Writes what mends bytes that are no script, of which `read_or_why` has said why. It takes memory from `alloc` until it is written.
+/// Writes what mends bytes that are no script, of which `read_or_why` has said why. It takes memory
+/// from `alloc` until it is written.
 pub fn explain_script<W: Sink>(
     alloc: Global,
     bytes: &[u8],

@@ -10,8 +10,9 @@ use Rattle.iso_explain_block.specs.Views.{BlockFaultView}
 use Rattle.iso_model.specs.declared.fault.FaultKind.{FaultKind}
 use Rattle.iso_model.specs.declared.fault.FaultKind.TheVariants as K
 
--- Lines with those of a fault of this kind more: what the operations of its statement take, where a value is of another kind; which names are
--- visible; which mark is missing; which property or file was meant, and what gives one; and else the limit or the rule.
+-- Lines with those of a fault of this kind more: what the operations of its statement take, where a
+-- value is of another kind; which names are visible; which mark is missing; which property or file
+-- was meant, and what gives one; and else the limit or the rule.
 abbrev pub lines_of_kind : FaultKind → BlockFaultView → List (List ℕ) → List (List ℕ)
 lines_of_kind K.WrongKind f lines = acts_lines f.row (block_acts f.block f.heads f.test) lines
 lines_of_kind K.UnknownName f lines = unknown_lines f lines

@@ -1,4 +1,5 @@
--- The lines of an expression: those of its operations that may have been given values of other kinds than they take.
+-- The lines of an expression: those of its operations that may have been given values of other
+-- kinds than they take.
 use Rattle.std.specs.Prelude.{ℕ, List}
 use Rattle.iso_explain_block.specs.Operations.{chain_lines, pair_lines, single_lines}
 use Rattle.iso_explain_block.specs.Rules.{comparison_rule, function_rule}
@@ -26,7 +27,8 @@ abbrev pub call_lines : Function → Term → List (List ℕ) → List (List ℕ
 call_lines F.Text t lines = lines
 call_lines f t lines = single_lines (function_rule f) K.Text t lines
 
--- lines with those of an expression more, and of several: those of the operands come before that of the operation
+-- lines with those of an expression more, and of several: those of the operands come before that of
+-- the operation
 abbrev mutual
   pub term_lines : Term → List (List ℕ) → List (List ℕ)
   term_lines (literal d) lines = lines

@@ -12,8 +12,9 @@ abbrev pub plain_lets : (before : Bool) → Plain → List (List ℕ) → List (
 plain_lets before (let_name x t) names = cond before (names ++ x ∷ []) names
 plain_lets before p names = names
 
--- Names with those more that a body gave before a row and that are visible there: a statement stands before it on an earlier row, or where
--- another one after it begins on the row or before it. A body that has ended by then gave none.
+-- Names with those more that a body gave before a row and that are visible there: a statement
+-- stands before it on an earlier row, or where another one after it begins on the row or before it.
+-- A body that has ended by then gave none.
 abbrev mutual
   pub lets : (row : ℕ) → Acts → List (List ℕ) → List (List ℕ)
   lets row no_acts names = names

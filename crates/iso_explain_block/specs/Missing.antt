@@ -63,7 +63,8 @@ abbrev pub meant_lines : Thing → Option (List ℕ) → BlockFaultView → List
 meant_lines thing None f lines = lines
 meant_lines thing (Some name) f lines = nearest_lines (meant_of name (chain_names thing f.heads f.test)) lines
 
--- lines with those of a property or a file that is missing more: which one was meant, and what gives one
+-- lines with those of a property or a file that is missing more: which one was meant, and what
+-- gives one
 abbrev pub missing_lines : BlockFaultView → List (List ℕ) → List (List ℕ)
 missing_lines f lines =
     fixed_lines K.Missing f.message

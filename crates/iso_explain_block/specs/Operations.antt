@@ -25,7 +25,8 @@ pair_words left right =
     (cond (is_hidden right) [] (codes ": right is " ++ kind_words right))
     (codes ": left is " ++ kind_words left ++ cond (is_hidden right) [] (codes ", right " ++ kind_words right))
 
--- lines with that of an operation of one operand more, unless the operand is shown to be of the kind that it takes
+-- lines with that of an operation of one operand more, unless the operand is shown to be of the
+-- kind that it takes
 unfoldable pub single_lines : (rule : List ℕ) → (wanted : Kind) → Term → List (List ℕ) → List (List ℕ)
 single_lines rule wanted t lines = cond (is wanted (kind_of t)) lines (with_line (rule ++ single_words (kind_of t)) lines)
 
@@ -39,7 +40,8 @@ abbrev pub all_are : Kind → Terms → Bool
 all_are wanted no_terms = true
 all_are wanted (term t ts) = is wanted (kind_of t) && all_are wanted ts
 
--- the kind of the first operand that is shown to be of another kind, or else of the last: of none, this one
+-- the kind of the first operand that is shown to be of another kind, or else of the last: of none,
+-- this one
 abbrev pub right_kind : Kind → Kind → Terms → Kind
 right_kind wanted last no_terms = last
 right_kind wanted last (term t ts) = cond (is_other wanted (kind_of t)) (kind_of t) (right_kind wanted (kind_of t) ts)

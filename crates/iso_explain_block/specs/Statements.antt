@@ -17,8 +17,8 @@ plain_single_lines rule wanted t lines = single_lines rule wanted t (term_lines 
 unfoldable pub plain_pair_lines : (rule : List ℕ) → Taking → Term → Term → List (List ℕ) → List (List ℕ)
 plain_pair_lines rule taking t u lines = pair_lines rule taking t u (term_lines u (term_lines t lines))
 
--- Lines with those of a statement more, without those of bodies in it: of its expressions, and of what it takes. A value of any kind is
--- taken by `let`, by an assignment and by `print`.
+-- Lines with those of a statement more, without those of bodies in it: of its expressions, and of
+-- what it takes. A value of any kind is taken by `let`, by an assignment and by `print`.
 abbrev pub own_lines : Act → List (List ℕ) → List (List ℕ)
 own_lines (plain (let_name x t)) lines = term_lines t lines
 own_lines (plain (assign x t)) lines = term_lines t lines
@@ -36,7 +36,8 @@ own_lines (plain (set_prop t u)) lines = plain_pair_lines (act_rule (plain (set_
 own_lines (plain (write_file t u)) lines = plain_pair_lines (act_rule (plain (write_file t u))) (Both K.Text) t u lines
 own_lines (plain (append_file t u)) lines = plain_pair_lines (act_rule (plain (append_file t u))) (Both K.Text) t u lines
 
--- lines with those of the statements of a body more that stand on a row, and of the bodies in a statement
+-- lines with those of the statements of a body more that stand on a row, and of the bodies in a
+-- statement
 abbrev mutual
   pub acts_lines : (row : ℕ) → Acts → List (List ℕ) → List (List ℕ)
   acts_lines row no_acts lines = lines

@@ -8,8 +8,9 @@ use Rattle.iso_model.specs.ScriptView.{test_head_of}
 use Rattle.iso_model.specs.declared.fault.FaultKind.{FaultKind}
 use Rattle.iso_model.specs.declared.place.BlockName.{BlockName}
 
--- a fault that ended a block of a class or a test: its kind and message, the block and the row of the statement, the heads of the classes
--- around, outermost first and a class's own last, a test's own head, and the name of the class or test
+-- a fault that ended a block of a class or a test: its kind and message, the block and the row of
+-- the statement, the heads of the classes around, outermost first and a class's own last, a test's
+-- own head, and the name of the class or test
 pub record BlockFaultView : Type 0 where
   pub kind : FaultKind
   pub message : List ℕ

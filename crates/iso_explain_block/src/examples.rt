@@ -15,7 +15,8 @@ pub fn kinds_that_are_shown_are_told()
         ≡ lines_of ("assert_equal compares two values of one kind" ∷ []) }
 {}
 
-/// Of several operations that may be meant each is told once, also in bodies, and none of other rows.
+/// Of several operations that may be meant each is told once, also in bodies, and none of other
+/// rows.
 pub fn operations_of_the_row_are_told()
     ensures { hints (in_test K.WrongKind "wrong kind" 2
         (act 1 (plain (assert_equal (x "a") (x "b")))
@@ -57,7 +58,8 @@ pub fn names_that_were_meant_are_told()
         ∷ []) }
 {}
 
-/// Of a property or a file that is missing the nearest one that a block gives, if it isn't given itself, and what gives one.
+/// Of a property or a file that is missing the nearest one that a block gives, if it isn't given
+/// itself, and what gives one.
 pub fn what_is_missing_is_told()
     ensures property { hints (in_test K.Missing "missing property curency" 2
         (act 1 (plain (set_prop (words "currency") (words "EUR"))) no_acts))

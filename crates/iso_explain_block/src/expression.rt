@@ -1,4 +1,5 @@
-//! The lines of an expression: those of its operations that may have been given values of other kinds than they take.
+//! The lines of an expression: those of its operations that may have been given values of other
+//! kinds than they take.
 ghost use Rattle.std.specs.Prelude.{◌≡◌, OnOk};
 ghost use Rattle.iso_explain_block.specs.Expressions.{call_lines, comparison_lines, term_lines, terms_lines};
 ghost use Rattle.iso_model.specs.SyntaxView.{term_of, terms_of_all};

@@ -13,7 +13,8 @@ use iso_model::fault::FaultKind;
 use iso_model::text::Text;
 use std::alloc::{AllocError, Global};
 
-/// Adds the lines of a property or a file that is missing: the one that was meant, if a block of the class chain gives it, and what gives one.
+/// Adds the lines of a property or a file that is missing: the one that was meant, if a block of
+/// the class chain gives it, and what gives one.
 pub(crate) fn add_missing(
     alloc: Global,
     lines: &mut Vec<Text>,

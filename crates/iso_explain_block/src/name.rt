@@ -20,8 +20,8 @@ use std::sync::Arc;
 /// Among more names none is looked for: there may be thousands, and as many faults.
 const MOST_NAMES: usize = 256;
 
-/// Adds the lines of a name that isn't visible: the visible name that is nearest, if one is near; that it is a field, where the block doesn't see
-/// fields; and which names a block sees.
+/// Adds the lines of a name that isn't visible: the visible name that is nearest, if one is near;
+/// that it is a field, where the block doesn't see fields; and which names a block sees.
 pub(crate) fn add_unknown(
     alloc: Global,
     lines: &mut Vec<Text>,

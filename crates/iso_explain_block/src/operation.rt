@@ -33,7 +33,8 @@ impl Taking {
     }
 }
 
-/// Adds the line of an operation of one operand, unless that is shown to be of the kind that it takes.
+/// Adds the line of an operation of one operand, unless that is shown to be of the kind that it
+/// takes.
 #[tactic(auto, unfolding(crate::specs::Operations::single_lines))]
 pub(crate) fn add_single(
     alloc: Global,
@@ -112,7 +113,8 @@ fn all_are(wanted: Kind, operands: &[Expr]) -> bool
     true
 }
 
-/// The kind of the first of these operands that is shown to be of another kind, or else of the last.
+/// The kind of the first of these operands that is shown to be of another kind, or else of the
+/// last.
 fn right_kind(wanted: Kind, operands: &[Expr]) -> Kind
     ensures { result ≡ right_kind wanted Hidden (terms_of_all operands.now) }
 {

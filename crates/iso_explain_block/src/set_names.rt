@@ -1,4 +1,5 @@
-//! The properties and files that the blocks of a class chain give, as far as literals write their names.
+//! The properties and files that the blocks of a class chain give, as far as literals write their
+//! names.
 ghost use Rattle.std.specs.Prelude.{◌≡◌, IfOk, OnOk, map, option_map};
 ghost use Rattle.iso_explain_block.specs.Missing.{act_names, body_names, chain_names, class_names, classes_names, test_names, with_literal};
 ghost use Rattle.iso_explain_block.specs.Variables.{heads_of};
@@ -19,7 +20,8 @@ pub(crate) enum Thing {
     File,
 }
 
-/// The names of the properties or files that the blocks of a class chain give: of its classes, outermost first, and of its test.
+/// The names of the properties or files that the blocks of a class chain give: of its classes,
+/// outermost first, and of its test.
 #[tactic(auto, unfolding(crate::specs::Missing::chain_names))]
 pub(crate) fn set_names<'a>(
     alloc: Global,

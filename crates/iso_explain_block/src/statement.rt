@@ -12,7 +12,8 @@ use iso_model::text::Text;
 use iso_model::tree::{Expr, Form, Stmt};
 use std::alloc::{AllocError, Global};
 
-/// Adds the lines of those statements of a body that stand on a row, in their order, also of bodies in it.
+/// Adds the lines of those statements of a body that stand on a row, in their order, also of bodies
+/// in it.
 #[cycle(statement)]
 pub(crate) fn add_statements(
     alloc: Global,

@@ -32,7 +32,8 @@ two_notes path first second = double_note path first second ++ rename_note
 abbrev pub twice_note : (file : List ℕ) → List ℕ
 twice_note file = note (shown_name file ∷ codes " is named twice, so each of its classes stands twice: name it once" ∷ [])
 
--- what is told of two classes of one path: of one file that it is named twice, since two classes of one script have two names
+-- what is told of two classes of one path: of one file that it is named twice, since two classes of
+-- one script have two names
 abbrev pub double_notes : List ℕ → (first second : Spot) → List ℕ
 double_notes path first second =
     cond (bytes_eq first.0 second.0) (twice_note first.0) (two_notes path first second)

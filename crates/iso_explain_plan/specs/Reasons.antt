@@ -1,4 +1,5 @@
--- Reasons for which an event is refused, a note each: what would have to come first, or what isn't there.
+-- Reasons for which an event is refused, a note each: what would have to come first, or what isn't
+-- there.
 use Rattle.std.specs.Prelude.{ℕ, ◌-◌, List, [], ◌∷◌, codes, length}
 use Rattle.std.specs.Fmt.{decimal}
 use Rattle.iso_plan.specs.Tree.{Row}

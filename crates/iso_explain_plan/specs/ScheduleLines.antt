@@ -6,7 +6,8 @@ abbrev pub line_at : ℕ → List (List ℕ) → List ℕ
 line_at n [] = []
 line_at n (l ∷ ls) = cond (nat_le n 1) l (line_at (n - 1) ls)
 
--- the line of the event with this number, counted from 0, with its own number, where the first line has number n: empty lines write none
+-- the line of the event with this number, counted from 0, with its own number, where the first line
+-- has number n: empty lines write none
 abbrev pub event_line : (event n : ℕ) → List (List ℕ) → Option (ℕ × List ℕ)
 event_line e n [] = None
 event_line e n (l ∷ ls) =

@@ -39,7 +39,8 @@ number_note digits =
 abbrev pub length_note : List ℕ
 length_note = note (codes "at most " ∷ decimal FILE_BYTES ∷ codes " bytes stand in a schedule" ∷ [])
 
--- the longest word from here on, where so many bytes stand in front of the first one, and another word has so many
+-- the longest word from here on, where so many bytes stand in front of the first one, and another
+-- word has so many
 abbrev pub longest_from : (longest front : ℕ) → List ℕ → ℕ
 longest_from longest front [] = longest
 longest_from longest front (b ∷ bs) = longest_from (max longest (cond (b == 32) 0 (front + 1))) (cond (b == 32) 0 (front + 1)) bs

@@ -31,7 +31,8 @@ sized paths classes n = (slice_index_or paths n [], nodes_from classes n)
 abbrev pub if_own : (paths : List (List ℕ)) → (classes : List ℕ) → ℕ → List (List ℕ × ℕ)
 if_own paths classes n = cond (is_own classes n) (sized paths classes n ∷ []) []
 
--- the top-level classes with their numbers of nodes, in written order, from the path and the top-level class of each node
+-- the top-level classes with their numbers of nodes, in written order, from the path and the
+-- top-level class of each node
 abbrev pub all_sizes : (paths : List (List ℕ)) → (classes : List ℕ) → List (List ℕ × ℕ)
 all_sizes paths classes = map (sized paths classes) (those_below (is_own classes) (length classes))
 

@@ -29,7 +29,8 @@ left_if tree (Some left) = left_note tree left
 abbrev pub unfinished_notes : List Row → Option Left → List ℕ
 unfinished_notes tree left = unfinished_note ++ left_if tree left
 
--- a text tells that a schedule ends early and what it leaves, or nothing where the bytes are no schedule
+-- a text tells that a schedule ends early and what it leaves, or nothing where the bytes are no
+-- schedule
 pub data IsUnfinishedText (tree : List Row) : List ℕ → Type 0 where
   of_none : IsUnfinishedText tree []
   of_one : (left : Option Left) → IsUnfinishedText tree (unfinished_notes tree left)

@@ -66,7 +66,8 @@ abbrev pub paths_or : List (List ℕ) → List ℕ → List ℕ
 paths_or [] otherwise = otherwise
 paths_or (p ∷ ps) otherwise = did_you_mean (p ∷ ps)
 
--- of a word that is no path's end: what stars stand for, else which paths are near, else how a path is written
+-- of a word that is no path's end: what stars stand for, else which paths are near, else how a path
+-- is written
 abbrev pub other_notes : List ℕ → List (List ℕ) → List ℕ
 other_notes word paths = cond (has_star word) pattern_note (paths_or (near_paths word paths) path_note)
 

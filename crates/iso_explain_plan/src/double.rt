@@ -36,8 +36,8 @@ struct Site<'a> {
     place: Option<Position>,
 }
 
-/// Writes where the first top-level class stands whose path another one has before it, and where that one stands; nothing where no
-/// path stands twice.
+/// Writes where the first top-level class stands whose path another one has before it, and where
+/// that one stands; nothing where no path stands twice.
 pub(crate) fn double<W: Sink>(
     alloc: Global,
     scripts: &[Script],
@@ -156,7 +156,8 @@ fn place_of(places: &[Vec<NodePlace>], script: usize, node: usize) -> Option<Pos
     Some(place.name)
 }
 
-/// Writes of two classes of one path where they stand; of one file that it is named twice, since two classes of one script have two names.
+/// Writes of two classes of one path where they stand; of one file that it is named twice, since
+/// two classes of one script have two names.
 fn double_notes<W: Sink>(
     printer: &mut Printer<'_, W>,
     path: &str,

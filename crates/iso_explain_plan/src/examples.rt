@@ -26,7 +26,8 @@ pub fn both_classes_are_told()
         ≡ lines_of (" = a.jtap is named twice, so each of its classes stands twice: name it once" ∷ []) }
 {}
 
-/// Of too many classes and tests, keys or scripts it is told how many there are, and of which classes most are.
+/// Of too many classes and tests, keys or scripts it is told how many there are, and of which
+/// classes most are.
 pub fn largest_classes_are_told()
     ensures nodes { nodes_notes 5000 (take 3 (by_size (sized "shop.A" 7 ∷ sized "shop.B" 4000 ∷ sized "shop.C" 7 ∷ sized "shop.D" 986 ∷ [])))
         ≡ lines_of
@@ -45,7 +46,8 @@ pub fn largest_classes_are_told()
     ensures scripts { scripts_note 65 ≡ lines_of (" = there are 65 scripts, and at most 64 may be given" ∷ []) }
 {}
 
-/// Of a word that names nothing it is told what was meant: a team is no class, the last name alone is no path, and else the nearest.
+/// Of a word that names nothing it is told what was meant: a team is no class, the last name alone
+/// is no path, and else the nearest.
 pub fn what_was_meant_is_told()
     ensures team { unselected_notes (codes "shop") shop_scripts some_paths
         ≡ lines_of (" = shop is a team: name a class, as shop.Cart, or all of it by --match 'shop.*'" ∷ []) }
@@ -60,7 +62,8 @@ pub fn what_was_meant_is_told()
         ≡ lines_of (" = a path is the names of the team, the classes and the test, with dots between: `jtap plan` prints them" ∷ []) }
 {}
 
-/// Of bytes that are no schedule the line is shown, and what an event is; of a number and of a schedule, how large it may be.
+/// Of bytes that are no schedule the line is shown, and what an event is; of a number and of a
+/// schedule, how large it may be.
 pub fn faults_of_schedules_are_told()
     ensures line { fault_text (fault_at K.BadLine 2) (codes "enter 0 1\r\nEnter 1 5\r\n")
         ≡ lines_of

@@ -14,7 +14,8 @@ pub(crate) fn key_count(alloc: Global, scripts: &[Script]) -> Result<usize, Allo
     Ok(keys.len())
 }
 
-/// The top-level classes with how many different keys each declares; the paths are those of these sizes, in the same order.
+/// The top-level classes with how many different keys each declares; the paths are those of these
+/// sizes, in the same order.
 pub(crate) fn key_sizes<'a>(
     alloc: Global,
     scripts: &[Script],
@@ -61,7 +62,8 @@ fn add_all<'a>(keys: &mut BTreeSet<&'a str>, classes: &'a [Class]) -> Result<(),
     Ok(())
 }
 
-/// Adds the keys of a class and of what stands in it. It calls itself once for each class around the innermost one.
+/// Adds the keys of a class and of what stands in it. It calls itself once for each class around
+/// the innermost one.
 #[cycle(keys)]
 fn add_class<'a>(keys: &mut BTreeSet<&'a str>, class: &'a Class) -> Result<(), AllocError> {
     add_marks(keys, &class.head.marks)?;

@@ -8,7 +8,8 @@ use crate::part::Part;
 use iso_tap::printer::Printer;
 use iso_tap::sink::{Sink, SinkFailed};
 
-/// Writes which of up to three paths were meant; of more the first three, and nothing where there is none.
+/// Writes which of up to three paths were meant; of more the first three, and nothing where there
+/// is none.
 pub(crate) fn did_you_mean<W: Sink>(
     printer: &mut Printer<'_, W>,
     paths: &[&str],

@@ -27,9 +27,10 @@ use iso_tap::printer::Printer;
 use iso_tap::sink::{Sink, SinkFailed};
 use std::alloc::{AllocError, Global};
 
-/// Writes what mends a fault of the plan of scripts, a line each that begins with ` = `: where two classes of one path stand, how many there
-/// are of what there are too many of and which classes have most, or what was meant by a word that names nothing. The scripts have
-/// these places of nodes, where they are known, and these names; one without a name is told as `stdin`.
+/// Writes what mends a fault of the plan of scripts, a line each that begins with ` = `: where two
+/// classes of one path stand, how many there are of what there are too many of and which classes
+/// have most, or what was meant by a word that names nothing. The scripts have these places of
+/// nodes, where they are known, and these names; one without a name is told as `stdin`.
 ///
 /// It takes memory from `alloc`, and none is left taken.
 pub fn explain_plan<W: Sink>(

@@ -20,8 +20,9 @@ use iso_tap::printer::Printer;
 use iso_tap::sink::{Sink, SinkFailed};
 use std::alloc::Global;
 
-/// Writes what mends a schedule of which the event with this number, counted from 0, was refused: its line, and what would have to come
-/// before it, or isn't there. Nothing is written of bytes that are no schedule or have no such event.
+/// Writes what mends a schedule of which the event with this number, counted from 0, was refused:
+/// its line, and what would have to come before it, or isn't there. Nothing is written of bytes
+/// that are no schedule or have no such event.
 ///
 /// It takes memory from `alloc`, and none is left taken.
 pub fn explain_refused<W: Sink>(
@@ -54,7 +55,8 @@ fn event_at(events: &[Event], index: usize) -> Option<Event>
     events.get(index).copied()
 }
 
-/// Writes why an event is refused that stands on this line; nothing where there is no such event or line.
+/// Writes why an event is refused that stands on this line; nothing where there is no such event or
+/// line.
 fn tell<W: Sink>(
     line: Option<Line<'_>>,
     event: Option<Event>,

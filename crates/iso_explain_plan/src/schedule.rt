@@ -18,8 +18,9 @@ const SHOWN: usize = 160;
 /// The most digits of a number.
 const DIGITS: u64 = 9;
 
-/// Writes what mends bytes that are no schedule: the line of the fault, and how an event is written, or how large a number
-/// may be and how large it is, or how large a schedule may be. Takes no memory.
+/// Writes what mends bytes that are no schedule: the line of the fault, and how an event is
+/// written, or how large a number may be and how large it is, or how large a schedule may be. Takes
+/// no memory.
 pub fn explain_fault<W: Sink>(
     fault: ScheduleFault,
     schedule: &[u8],

@@ -17,7 +17,8 @@ pub(crate) struct Size<'a> {
     pub count: usize,
 }
 
-/// The top-level classes with their numbers of nodes, from the path and the top-level class of each node of scripts.
+/// The top-level classes with their numbers of nodes, from the path and the top-level class of each
+/// node of scripts.
 pub(crate) fn all_sizes<'a>(
     alloc: Global,
     paths: &'a [Text],
@@ -63,7 +64,8 @@ fn is_own(classes: &[u32], n: usize) -> bool
     n > 0 && classes[n] as usize == n
 }
 
-/// How many nodes stand in the top-level class with this number, and itself: they stand one behind another.
+/// How many nodes stand in the top-level class with this number, and itself: they stand one behind
+/// another.
 fn nodes_from(classes: &[u32], class: usize) -> usize
     requires { class < length classes.now }
     ensures { result ≡ nodes_from classes.now class }

@@ -27,8 +27,8 @@ pub(crate) enum Stage {
     Finished,
 }
 
-/// Writes what a schedule leaves whose events are all accepted: that it ends early, and the first top-level class that isn't finished. What
-/// stands in a finished class is finished.
+/// Writes what a schedule leaves whose events are all accepted: that it ends early, and the first
+/// top-level class that isn't finished. What stands in a finished class is finished.
 ///
 /// It takes memory from `alloc`, and none is left taken.
 pub fn explain_unfinished<W: Sink>(

@@ -19,7 +19,8 @@ missing_text = joined
     ∷ codes " = or leave the strategy out: it is then as many as --processors says\n"
     ∷ [])
 
--- what was added of a fault of a document: of the values that stand at its key. That it is none is no fault of a document
+-- what was added of a fault of a document: of the values that stand at its key. That it is none is
+-- no fault of a document
 abbrev pub IsExplained : File → SettingsFault → Members → (old new : Account) → Type 0
 IsExplained file NotToml document old new = Unit {0}
 IsExplained file (WrongValue key) document old new = Adds old new (IsTold K.Wrong (wanted_at file key) key (values_at key (leaves document)))

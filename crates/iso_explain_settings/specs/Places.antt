@@ -7,7 +7,8 @@ use Rattle.std.specs.Str.Lines.{strip_carriage_return}
 abbrev pub narrowed : ℕ → ℕ
 narrowed n = min n 4294967295
 
--- the number of the line in which these bytes end, and the column behind them: both count from 1, and columns count bytes
+-- the number of the line in which these bytes end, and the column behind them: both count from 1,
+-- and columns count bytes
 abbrev pub line_number : List ℕ → ℕ
 line_number before = narrowed (count_by (λ b. b == 10) before + 1)
 

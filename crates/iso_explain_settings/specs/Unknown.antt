@@ -1,4 +1,5 @@
--- Keys that begin as JUnit's do and are none of settings: the first ten, and how many there are more.
+-- Keys that begin as JUnit's do and are none of settings: the first ten, and how many there are
+-- more.
 use Rattle.std.specs.Prelude.{ℕ, ◌+◌, List, [], ◌∷◌, ◌++◌, cond, length, map, min, nat_lt, string_bytes}
 use Rattle.iso_hints.specs.Keys.{is_unknown}
 use Rattle.iso_settings.specs.Leaves.{Leaf}

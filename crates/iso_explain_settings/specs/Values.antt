@@ -23,7 +23,8 @@ abbrev pub text_in : Data → Option (List ℕ)
 text_in (string text) = Some text
 text_in _ = None
 
--- what is compared with the words that a key takes: the text that stands there, and where there is no such key, the key
+-- what is compared with the words that a key takes: the text that stands there, and where there is
+-- no such key, the key
 abbrev pub subject : Wanted → (key : List ℕ) → Data → Option (List ℕ)
 subject W.Nothing key value = Some key
 subject _ key value = text_in value

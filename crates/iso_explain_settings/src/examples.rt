@@ -10,7 +10,8 @@ ghost use Rattle.iso_model.specs.declared.script.Mode.TheVariants.{Concurrent, S
 ghost use Rattle.iso_settings.specs.Examples.{default_mode, enabled, number, parallelism, set, text, yes};
 ghost use Rattle.toml.specs.Data.{float, string};
 
-/// Of a value it is told what it is, what its key takes, and what mends it: the word that was meant, or else a hint.
+/// Of a value it is told what it is, what its key takes, and what mends it: the word that was
+/// meant, or else a hint.
 pub fn values_are_told()
     ensures near { setting_told K.Wrong "execution.parallel.mode.default" (text "concurent") "\"concurent\""
         ≡ lines_of
@@ -102,7 +103,8 @@ pub fn missing_parallelism_is_told()
         ∷ []) }
 {}
 
-/// Of a document that is none the place is told, its line with the parser's message, and what mends it.
+/// Of a document that is none the place is told, its line with the parser's message, and what mends
+/// it.
 pub fn refusals_are_told()
     ensures word { refused "a = 1\nenabled = tru\r\n" 16 19 "invalid value, expected a string"
         ≡ lines_of
@@ -121,7 +123,8 @@ pub fn refusals_are_told()
         (" --> w:1:1" ∷ " 1 | ??a?" ∷ "   | ^ invalid UTF-8" ∷ " = w is UTF-16: save it as UTF-8" ∷ []) }
 {}
 
-/// Each key has its value and says where this is from; then come keys that are unknown, and the workers.
+/// Each key has its value and says where this is from; then come keys that are unknown, and the
+/// workers.
 pub fn settings_are_listed()
     ensures { listed
         (enabled yes ∷ parallelism (text "4") ∷ default_mode (text "Concurrent") ∷ set "x" yes ∷ [])

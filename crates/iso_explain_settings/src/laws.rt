@@ -6,8 +6,8 @@ ghost use Rattle.iso_explain_settings.specs.Told.{table_text, twice_text, value_
 ghost use Rattle.iso_explain_settings.specs.declared.value.Kind.{Kind};
 ghost use Rattle.iso_explain_settings.specs.declared.wanted.Wanted.{Wanted};
 
-/// Whatever stands at a key, what is told of it is printable ASCII and line feeds: no control byte of a file reaches a terminal.
-/// Lengths are taken to be those of texts in memory.
+/// Whatever stands at a key, what is told of it is printable ASCII and line feeds: no control byte
+/// of a file reaches a terminal. Lengths are taken to be those of texts in memory.
 pub fn what_is_told_is_safe_to_show()
     ensures value { (kind : Kind) (wanted : Wanted) (key : List ℕ) (value : Data) (text : List ℕ) → length key < 2 ^ 64
         → length (unwrap_or (as_str value) []) < 2 ^ 64 → IsSafe (value_text kind wanted key value text) }

@@ -27,9 +27,10 @@ use iso_tap::sink::SinkFailed;
 use std::alloc::{AllocError, Global};
 use toml::Table;
 
-/// Adds what settings come to that were read from these bytes, for so many processors: each key with its value and where this is
-/// from, keys that are unknown, and how many workers there are and why. Of unknown keys ten are told, and how many there are more.
-/// After want of memory the text is of no use.
+/// Adds what settings come to that were read from these bytes, for so many processors: each key
+/// with its value and where this is from, keys that are unknown, and how many workers there are and
+/// why. Of unknown keys ten are told, and how many there are more. After running out of memory the
+/// text is of no use.
 pub fn list_settings(
     alloc: Global,
     bytes: &[u8],
@@ -46,7 +47,8 @@ pub fn list_settings(
     }
 }
 
-/// Adds how many workers settings come to that were read from these bytes, for so many processors, and why.
+/// Adds how many workers settings come to that were read from these bytes, for so many processors,
+/// and why.
 pub fn tell_workers(
     alloc: Global,
     bytes: &[u8],

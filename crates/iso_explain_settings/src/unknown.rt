@@ -31,7 +31,8 @@ pub(crate) fn unknown_keys(alloc: Global, table: &Table) -> Result<Unknown, Allo
     Ok(unknown)
 }
 
-/// Adds the unknown keys of a table whose keys are put behind a path. After an error path and keys are of no use.
+/// Adds the unknown keys of a table whose keys are put behind a path. After an error path and keys
+/// are of no use.
 #[cycle(keys)]
 fn add_keys(
     alloc: Global,
@@ -75,7 +76,8 @@ fn add_value(
     }
 }
 
-/// Adds the key of a leaf, if it is unknown. Tables nest up to some 6,500 deep, so what a leaf needs is kept out of the walk's frames.
+/// Adds the key of a leaf, if it is unknown. Tables nest up to some 6,500 deep, so what a leaf
+/// needs is kept out of the walk's frames.
 #[inline(never)]
 #[tactic(auto, unfolding(crate::specs::Unknown::with_key, crate::specs::Unknown::with_one))]
 fn add_key(alloc: Global, key: &str, unknown: &mut Unknown) -> Result<(), AllocError>

@@ -48,7 +48,8 @@ pub(crate) fn kind_text(value: &Value) -> &'static str
     }
 }
 
-/// The word that was meant by a value, if one is near. Where there is no such key, it is the key that was meant.
+/// The word that was meant by a value, if one is near. Where there is no such key, it is the key
+/// that was meant.
 pub(crate) fn meant(
     alloc: Global,
     wanted: Wanted,

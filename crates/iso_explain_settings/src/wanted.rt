@@ -125,7 +125,8 @@ pub(crate) fn takes(wanted: Wanted) -> &'static str
     }
 }
 
-/// Of the words that a key takes the one that is nearest to a word, if one is near. Where there is no such key, it is the nearest key.
+/// Of the words that a key takes the one that is nearest to a word, if one is near. Where there is
+/// no such key, it is the nearest key.
 pub(crate) fn nearest_word(
     alloc: Global,
     wanted: Wanted,

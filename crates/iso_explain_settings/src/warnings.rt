@@ -64,7 +64,8 @@ impl Warnings {
         }
     }
 
-    /// Adds a warning: its text, of which nothing is escaped, behind its place. After want of memory they are of no use.
+    /// Adds a warning: its text, of which nothing is escaped, behind its place. After running out
+    /// of memory they are of no use.
     pub fn add(&mut self, place: Place<'_>, text: &[Piece<'_>]) -> Result<(), AllocError>
         ensures { OnOk result (self.new ≡ with_one self.old (warning_line place.entry (pieces_text text.now))) }
     {
@@ -138,8 +139,8 @@ impl Warnings {
     }
 }
 
-/// Adds a warning for each key whose value isn't used by the settings that were read from these bytes, and for each key that begins
-/// as JUnit's do and is none of settings.
+/// Adds a warning for each key whose value isn't used by the settings that were read from these
+/// bytes, and for each key that begins as JUnit's do and is none of settings.
 pub fn warn_settings(
     alloc: Global,
     name: &str,

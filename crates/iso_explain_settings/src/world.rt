@@ -14,7 +14,8 @@ use iso_settings::fault::SettingsFault;
 use iso_tap::memory::MemorySink;
 use std::alloc::{AllocError, Global};
 
-/// Adds what mends a fault of a world to a text: lines for people. After want of memory the text is of no use.
+/// Adds what mends a fault of a world to a text: lines for people. After running out of memory the
+/// text is of no use.
 pub fn explain_world(
     alloc: Global,
     name: &str,
@@ -22,7 +23,8 @@ pub fn explain_world(
     fault: &SettingsFault,
     text: &mut MemorySink,
 ) -> Result<(), AllocError>
-    // Of a document it is told what stands at the fault's key, what the key takes, and what mends it.
+    // Of a document it is told what stands at the fault's key, what the key takes, and what mends
+    // it.
     ensures found { (document : Members) → IsUtf8 bytes.now → parse_document bytes.now ≡ Some document
         → OnOk result (IsExplained File.World fault.now document text.old text.new) }
     // Of bytes that are none it is told where the parser stops.

@@ -13,7 +13,8 @@ use Rattle.iso_failures.specs.Nodes.{is_test_with, was_blocked}
 abbrev pub nearest_failure : List Row → (ℕ → Outcome) → ℕ → Option ℕ
 nearest_failure tree outcome n = find (is_failure outcome) (path tree (parent tree n))
 
--- whether a class blocks a node: the node is a test that is blocked, and the class is the nearest around it that failed itself
+-- whether a class blocks a node: the node is a test that is blocked, and the class is the nearest
+-- around it that failed itself
 abbrev pub is_blocked_by : List Row → (ℕ → Outcome) → (class : ℕ) → ℕ → Bool
 is_blocked_by tree outcome class n = is_test_with tree outcome was_blocked n && is_that (nearest_failure tree outcome n) class
 

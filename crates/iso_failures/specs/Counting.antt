@@ -10,8 +10,8 @@ use Rattle.iso_failures.specs.declared.counts.Counts.{Counts}
 abbrev pub how_many : (ℕ → Bool) → ℕ → ℕ
 how_many passes n = length (those_below passes n)
 
--- the counts of the nodes below n: their tests, and of these those that passed, were skipped, failed and were blocked; their classes, and of
--- these those that failed by themselves
+-- the counts of the nodes below n: their tests, and of these those that passed, were skipped,
+-- failed and were blocked; their classes, and of these those that failed by themselves
 abbrev pub counts_below : List Row → (ℕ → Outcome) → ℕ → Counts
 counts_below tree outcome n =
     record {

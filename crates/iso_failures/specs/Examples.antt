@@ -57,9 +57,10 @@ in_class depth kind = at_place (Row (B.Class depth kind) 1)
 abbrev pub in_test : Note
 in_test = at_place (Row B.Test 1)
 
--- What the root and these nodes came to. The root has no blocks of its own: what stands there counts for nothing. The `after_all` of Cart
--- failed and nothing else of it, so all in it was run. The `before_all` of Till ended by a fault, which blocks b, Drawer and c. Test d ended
--- by a fault too. Of Desk one test was skipped, and the other is disabled.
+-- What the root and these nodes came to. The root has no blocks of its own: what stands there
+-- counts for nothing. The `after_all` of Cart failed and nothing else of it, so all in it was run.
+-- The `before_all` of Till ended by a fault, which blocks b, Drawer and c. Test d ended by a fault
+-- too. Of Desk one test was skipped, and the other is disabled.
 abbrev pub verdicts : List Verdict
 verdicts =
     V.Fail (in_class 0 BeforeAll)

@@ -12,8 +12,9 @@ use iso_lifecycle::view::ViewVerdict;
 use iso_plan::laws;
 use iso_plan::plan::Plan;
 
-/// How many tests a class blocks: the blocked tests in it that no failed class nearer to them blocks. A node that didn't fail blocks none.
-/// All nodes but the root must have results. It looks at each node in the class once at most, and takes no memory.
+/// How many tests a class blocks: the blocked tests in it that no failed class nearer to them
+/// blocks. A node that didn't fail blocks none. All nodes but the root must have results. It looks
+/// at each node in the class once at most, and takes no memory.
 pub fn blocked_by(plan: &Plan, results: &Results<'_>, class: u32) -> u32
     requires plan { results.now.plan ≡ plan.now }
     requires complete { AreComplete results.now }

@@ -10,18 +10,20 @@ use iso_lifecycle::view::ViewVerdict;
 use iso_plan::laws;
 use iso_plan::plan::Plan;
 
-/// How many tests and classes there are, and of the tests how many passed, were skipped, failed and were blocked. Each test did one of
-/// these.
+/// How many tests and classes there are, and of the tests how many passed, were skipped, failed and
+/// were blocked. Each test did one of these.
 #[derive(Clone, Copy)]
 pub struct Counts {
     pub tests: u32,
     /// Tests that passed.
     pub ok: u32,
-    /// Tests that ended by a false assumption, their own or that of a class around them, or that are disabled.
+    /// Tests that ended by a false assumption, their own or that of a class around them, or that
+    /// are disabled.
     pub skipped: u32,
     /// Tests that ended by a fail or a fault.
     pub not_ok: u32,
-    /// Tests in a class whose `before_all`, or that of a class around it, ended by a fail or a fault.
+    /// Tests in a class whose `before_all`, or that of a class around it, ended by a fail or a
+    /// fault.
     pub blocked: u32,
     /// The root is none.
     pub classes: u32,
@@ -29,7 +31,8 @@ pub struct Counts {
     pub classes_not_ok: u32,
 }
 
-/// Counts the tests and classes of results by what they came to. All nodes but the root must have results. Takes no memory.
+/// Counts the tests and classes of results by what they came to. All nodes but the root must have
+/// results. Takes no memory.
 pub fn count(plan: &Plan, results: &Results<'_>) -> Counts
     requires plan { results.now.plan ≡ plan.now }
     requires complete { AreComplete results.now }

@@ -8,8 +8,9 @@ ghost use Rattle.iso_lifecycle.specs.ResultExamples.{three_classes};
 ghost use Rattle.iso_lifecycle.specs.Subjects.{outcome_alone, started};
 ghost use Rattle.iso_settings.specs.Worlds.{empty_start};
 
-/// A class whose `after_all` alone failed, a nested one that wasn't opened, and a test that ended by a fault failed by themselves. What was
-/// blocked, skipped or disabled didn't, and the root is no node that can.
+/// A class whose `after_all` alone failed, a nested one that wasn't opened, and a test that ended
+/// by a fault failed by themselves. What was blocked, skipped or disabled didn't, and the root is
+/// no node that can.
 pub fn failures_are_those_that_failed_themselves()
     ensures { failures till_in_cart outcome_of ≡ 1 ∷ 3 ∷ 7 ∷ [] }
 {}
@@ -42,7 +43,8 @@ pub fn each_test_is_counted_once()
     } }
 {}
 
-/// The nearest class around a blocked test that failed itself blocks it, be there other classes between them or around both.
+/// The nearest class around a blocked test that failed itself blocks it, be there other classes
+/// between them or around both.
 #[tactic(auto, unfolding(iso_plan::specs::Paths::path))]
 pub fn nearest_failure_blocks()
     ensures inner { blocked_by till_in_cart outcome_of 3 ≡ 2 }
@@ -64,7 +66,8 @@ pub fn paths_of_failures_are_lines()
     ensures one { failed_text till_in_cart unopened_of ≡ codes "shop.Cart\n" }
 {}
 
-/// Of a suite that was run: its first class wasn't opened, which blocks its test and that of the class in it, and the second was skipped.
+/// Of a suite that was run: its first class wasn't opened, which blocks its test and that of the
+/// class in it, and the second was skipped.
 #[tactic(auto, unfolding(iso_plan::specs::Paths::path))]
 pub fn failures_of_a_run()
     ensures failures { failures three_classes (outcome_alone three_classes (started empty_start)) ≡ 1 ∷ [] }

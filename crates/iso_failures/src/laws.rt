@@ -22,7 +22,8 @@ pub fn each_test_came_to_one_of_four()
         all.ok + all.skipped + all.not_ok + all.blocked ≡ all.tests }
 {}
 
-/// All points of the report of a run are ok just where nothing failed, so just where there is no line of what failed.
+/// All points of the report of a run are ok just where nothing failed, so just where there is no
+/// line of what failed.
 pub fn report_is_ok_where_nothing_failed(plan: &Plan, results: &Results<'_>)
     requires { results.now.plan ≡ plan.now }
     ensures nodes { (all_ok (tree_of plan.now) (outcome_in results.now) ≡ true) ↔ (failures (tree_of plan.now) (outcome_in results.now) ≡ []) }
@@ -31,7 +32,8 @@ pub fn report_is_ok_where_nothing_failed(plan: &Plan, results: &Results<'_>)
     nodes_are_a_tree(plan);
 }
 
-/// The tests that the failures block, of each as many as it blocks, are together all blocked tests of a run: each is blocked by just one.
+/// The tests that the failures block, of each as many as it blocks, are together all blocked tests
+/// of a run: each is blocked by just one.
 pub fn failures_block_what_is_blocked(plan: &Plan, results: &Results<'_>)
     requires { results.now.plan ≡ plan.now }
     ensures { sum_by (blocked_by (tree_of plan.now) (outcome_in results.now)) (failures (tree_of plan.now) (outcome_in results.now))

@@ -13,8 +13,9 @@ use iso_tap::fault::TapFault;
 use iso_tap::printer::Printer;
 use iso_tap::sink::{Sink, SinkFailed};
 
-/// Writes the path of each node that failed, as `jtap plan` prints it, in the order in which the nodes are written, each with a line feed
-/// after it. All nodes but the root must have results. Takes no memory.
+/// Writes the path of each node that failed, as `jtap plan` prints it, in the order in which the
+/// nodes are written, each with a line feed after it. All nodes but the root must have results.
+/// Takes no memory.
 ///
 /// The sink is asked again where it takes only some bytes, and no more once it has failed.
 pub fn write_failed<W: Sink>(

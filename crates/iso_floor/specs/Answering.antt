@@ -1,4 +1,5 @@
--- What a book under the lock of a floor has answered. Outside of the lock nobody can name that book: what is known is that there was one.
+-- What a book under the lock of a floor has answered. Outside of the lock nobody can name that
+-- book: what is known is that there was one.
 use Rattle.std.specs.Prelude.{◌≡◌, ◌<◌, ◌≤◌, ℕ, Bool, ◌||◌, length, nat_lt, true}
 use Rattle.iso_book.specs.Books.{BookView, is_complete, refusal_in, suite_in}
 use Rattle.iso_book.specs.Leaves.{leave_refusal_in}
@@ -19,18 +20,21 @@ use Rattle.iso_floor.specs.Seats.{SeatView}
 abbrev pub HasRun : BookView → Type 0
 HasRun b = IsHistory scripts (suite_in b) b.workers (events_of b.history)
 
--- something is so of some book of a plan and starting values on so many workers, whose history in full is a run
+-- something is so of some book of a plan and starting values on some number of workers, whose
+-- history in full is a run
 pub record OfSomeBook (plan : Planned) (start : Start) (workers : ℕ) (is_so : BookView → Type 0) : Type 0 where
   pub book : BookView
   pub ground : IsBookOf plan start workers book
   pub run : HasRun book
   pub answer : is_so book
 
--- a book takes the Enter of a node by a seat's worker: nothing refuses it, and the seat's tray is the book's
+-- a book takes the Enter of a node by a seat's worker: nothing refuses it, and the seat's tray is
+-- the book's
 abbrev pub TakesEnter : SeatView → ℕ → BookView → Type 0
 TakesEnter s n b = IsAllowed (refusal_in b (Enter s.worker n)) (MayEnterWith b n s.tray)
 
--- a book doesn't take it: by the first kind of refusal that applies, or for want of memory where none does
+-- a book doesn't take it: by the first kind of refusal that applies, or for lack of memory where
+-- none does
 abbrev pub RefusesEnter : SeatView → ℕ → CoreFault → BookView → Type 0
 RefusesEnter s n fault b = IsFaultOf (refusal_in b (Enter s.worker n)) (MayEnterWith b n s.tray) fault
 
@@ -59,7 +63,8 @@ IsFull s = s.room ≤ length s.receipts
 abbrev pub has_changed : ℕ → BookView → Bool
 has_changed seen b = nat_lt seen (length b.history) || (b.stopped || is_complete b)
 
--- a wait for a change may end at a book, and answer this number of events: the history has so many, and has changed since so many were seen
+-- a wait for a change may end at a book, and answer this number of events: the history has so many,
+-- and has changed since so many were seen
 pub record EndsWait (seen count : ℕ) (b : BookView) : Type 0 where
   pub changed : has_changed seen b ≡ true
   pub counted : length b.history ≡ count

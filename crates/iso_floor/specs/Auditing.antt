@@ -1,4 +1,5 @@
--- How far the comparison of receipts with a history has come: the numbers of the receipts that are in order are marked.
+-- How far the comparison of receipts with a history has come: the numbers of the receipts that are
+-- in order are marked.
 use Rattle.std.specs.Prelude.{◌≡◌, ◌<◌, ℕ, List, [], ◌∷◌, ◌++◌, min, max, Option, Some, None, Bool, true, false, slice_get, slice_index_or}
 use Rattle.std.specs.Option.{IfSome}
 use Rattle.iso_book.specs.Leaves.{ReceiptView}
@@ -29,11 +30,13 @@ abbrev pub higher_of : ℕ → Option ℕ → ℕ
 higher_of n None = n
 higher_of n (Some m) = max n m
 
--- a receipt is of the history, above the highest of its list so far, and its number isn't marked yet
+-- a receipt is of the history, above the highest of its list so far, and its number isn't marked
+-- yet
 abbrev pub IsNext : List Event → ReceiptView → Option ℕ → List Bool → Type 0
 IsNext h r highest marks = Stands h r × IsAbove r.number highest × (is_marked marks r.number ≡ false)
 
--- Below the lowest number that is lost so far, each receipt of these lists is in order and marked, and what is marked has a receipt.
+-- Below the lowest number that is lost so far, each receipt of these lists is in order and marked,
+-- and what is marked has a receipt.
 pub record IsAudited (h : List Event) (lists : List (List ReceiptView)) (marks : List Bool) (lowest : Option ℕ) : Type 0 where
   pub marked : (n : ℕ) → is_marked marks n ≡ true → IsReceipted lists n
   pub every : (seat place : ℕ) (r : ReceiptView) → receipt_at lists seat place ≡ Some r → IsBefore r.number lowest → is_marked marks r.number ≡ true

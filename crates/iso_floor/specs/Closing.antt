@@ -9,12 +9,14 @@ use Rattle.iso_floor.specs.declared.fault.SeatFault.{SeatFault}
 use Rattle.iso_floor.specs.declared.fault.SeatFault.TheVariants.{NoWorker, Taken, OutOfMemory}
 use Rattle.iso_posts.specs.declared.posts.PostSeat.{PostSeat}
 
--- a book is whole: every node but the root is finished, each receipt stands once in its history, those of a seat in their order, and no Leave is without one
+-- a book is whole: every node but the root is finished, each receipt stands once in its history,
+-- those of a seat in their order, and no Leave is without one
 pub record IsWhole (b : BookView) (lists : List (List ReceiptView)) : Type 0 where
   pub complete : is_complete b ≡ true
   pub receipts : (n : ℕ) → IsInOrder b.history lists n
 
--- why a book isn't handed out: the lowest number that is lost, or, where none is, that a node isn't finished
+-- why a book isn't handed out: the lowest number that is lost, or, where none is, that a node isn't
+-- finished
 abbrev pub IsCloseFault : BookView → List (List ReceiptView) → CloseFault → Type 0
 IsCloseFault b lists (Lost n) = IsLowest b.history lists (Some n)
 IsCloseFault b lists Unfinished = IsLowest b.history lists None × (is_complete b ≡ false)
@@ -25,7 +27,8 @@ IsSeatFault workers worker NoWorker = workers ≤ worker
 IsSeatFault workers worker Taken = worker < workers
 IsSeatFault workers worker OutOfMemory = worker < workers
 
--- the same of a worker that there is, by what its place has of the deques: nothing, since it has a seat; or memory ran out
+-- the same of a worker that there is, by what its place has of the deques: nothing, since it has a
+-- seat; or memory ran out
 abbrev pub IsPlaceFault : Option PostSeat → SeatFault → Type 0
 IsPlaceFault place NoWorker = ⊥
 IsPlaceFault place Taken = is_some place ≡ false

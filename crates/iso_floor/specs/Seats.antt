@@ -10,7 +10,8 @@ use Rattle.iso_model.specs.Resources.{Resources}
 use Rattle.iso_plan.specs.Planned.{Planned}
 use Rattle.iso_settings.specs.Worlds.{Start}
 
--- a worker's number, its tray, the receipts of its Leaves, in the order of its calls, and how many of them it has room for
+-- a worker's number, its tray, the receipts of its Leaves, in the order of its calls, and how many
+-- of them it has room for
 pub record SeatView : Type 0 where
   pub worker : ℕ
   pub tray : TrayView
@@ -22,7 +23,8 @@ seat_code =
     code_by (ℕ × (TrayView × (List ReceiptView × ℕ))) (coded× coded_ℕ (coded× tray_code (coded× (coded_list receipt_code) coded_ℕ)))
     (λ s. (s.worker, (s.tray, (s.receipts, s.room)))) (λ p. record { worker = p.0; tray = p.1.0; receipts = p.1.1.0; room = p.1.1.1 }) (λ _. refl)
 
--- a seat to whose tray nothing is lent, and which has no receipt, and room for two Leaves of each node
+-- a seat to whose tray nothing is lent, and which has no receipt, and room for two Leaves of each
+-- node
 abbrev pub new_seat : Planned → Start → ℕ → SeatView
 new_seat plan start worker = record { worker = worker; tray = empty_tray plan start; receipts = []; room = 2 * length plan.rows }
 
@@ -30,7 +32,8 @@ new_seat plan start worker = record { worker = worker; tray = empty_tray plan st
 abbrev pub lists_of : List SeatView → List (List ReceiptView)
 lists_of seats = map (λ s. s.receipts) seats
 
--- a seat after a Leave: its tray gave back what the body's node was lent, if this was its last body, and one receipt more is its last, of its worker and this node
+-- a seat after a Leave: its tray gave back what the body's node was lent, if this was its last
+-- body, and one receipt more is its last, of its worker and this node
 pub record HasLeft (d : DoneView) (old new : SeatView) : Type 0 where
   pub number : ℕ
   pub worker : new.worker ≡ old.worker

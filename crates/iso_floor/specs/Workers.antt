@@ -1,4 +1,5 @@
--- Where a worker stands between its bodies: of its tray alone, since nothing else of a run stays as it is while others work.
+-- Where a worker stands between its bodies: of its tray alone, since nothing else of a run stays as
+-- it is while others work.
 use Rattle.std.specs.Prelude.{◌≡◌, ℕ, ◌<◌, length, true, false, None}
 use Rattle.iso_book.specs.Leaves.{is_last}
 use Rattle.iso_book.specs.Turns.{IsEntered, IsShut}
@@ -52,7 +53,8 @@ pub record IsInside (plan : Planned) (start : Start) (p : ℕ) (t : TrayView) : 
   pub within : p < length plan.rows
   pub tray : StandsAsOpened plan start p p t
 
--- a body of a node can be done: its frames are there, and its keys stand as the openings before it have left them
+-- a body of a node can be done: its frames are there, and its keys stand as the openings before it
+-- have left them
 pub record CanPerform (plan : Planned) (start : Start) (kind : BodyKind) (n : ℕ) (t : TrayView) : Type 0 where
   pub begins : CanBegin (subject plan start n) kind t.frames
   pub ready : IsReadyFor (subject plan start n) kind (content t) (has_value t)

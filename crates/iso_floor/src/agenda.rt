@@ -1,4 +1,5 @@
-//! What is to be tried next, and by whom, of what isn't in a deque. No contract tells: that everything is tried in the end is tested.
+//! What is to be tried next, and by whom, of what isn't in a deque. No contract tells: that
+//! everything is tried in the end is tested.
 use crate::links::{Line, Links};
 use iso_model::script::Mode;
 use iso_plan::plan::Plan;
@@ -7,8 +8,8 @@ use std::alloc::{AllocError, Global};
 /// The worker that owns the root.
 const FIRST_WORKER: u32 = 0;
 
-/// A class that was left open for other workers: who owns it, how many of its children aren't finished, and how many were looked at for
-/// the next one that its owner alone may enter.
+/// A class that was left open for other workers: who owns it, how many of its children aren't
+/// finished, and how many were looked at for the next one that its owner alone may enter.
 #[derive(Clone, Copy)]
 struct OpenClass {
     owner: u32,
@@ -18,12 +19,14 @@ struct OpenClass {
 
 /// The nodes that one worker alone may try, and those that others were in the way of.
 ///
-/// A node that may run beside others can be entered by any worker when its class is open: it lies in a deque first. One that may not, and
-/// the closing of a class, is for the class's owner. A node that finds another one in its way waits behind that one, and siblings wait there
-/// as one group; when it is finished, those of a group are tried in their order, and where one of them finds a further one in its way the
-/// rest of its group waits behind that too. So each is tried a few times, however many wait, and none is overtaken for ever. Only siblings
-/// wait so for what may not be in their own way: what waits for one of them to end waits for the others too, so that no class waits for
-/// itself.
+/// A node that may run beside others can be entered by any worker when its class is open: it lies
+/// in a deque first. One that may not, and the closing of a class, is for the class's owner. A node
+/// that finds another one in its way waits behind that one, and siblings wait there as one group;
+/// when it is finished, those of a group are tried in their order, and where one of them finds a
+/// further one in its way the rest of its group waits behind that too. So each is tried a few
+/// times, however many wait, and none is overtaken for ever. Only siblings wait so for what may not
+/// be in their own way: what waits for one of them to end waits for the others too, so that no
+/// class waits for itself.
 #[derive(Drop)]
 pub(crate) struct Agenda {
     links: Links,
@@ -99,7 +102,8 @@ impl Agenda {
         !self.cleared.is_empty()
     }
 
-    /// Whether a worker got something for itself alone by what another did, since this was asked last.
+    /// Whether a worker got something for itself alone by what another did, since this was asked
+    /// last.
     pub(crate) fn take_handed(&mut self) -> bool {
         std::mem::replace(&mut self.handed, false)
     }
@@ -124,14 +128,16 @@ impl Agenda {
         }
     }
 
-    /// The `before_all` of a class was left by its owner, which shuts it next, or opens it up where something is to be done in it.
+    /// The `before_all` of a class was left by its owner, which shuts it next, or opens it up where
+    /// something is to be done in it.
     pub(crate) fn opened(&mut self, class: u32, owner: u32) {
         if self.is_shared(class) {
             self.push_own(owner, class);
         }
     }
 
-    /// Opens a class up: what stands in it can be tried, by its owner where it may not run beside others. Answers whether it wasn't open yet.
+    /// Opens a class up: what stands in it can be tried, by its owner where it may not run beside
+    /// others. Answers whether it wasn't open yet.
     pub(crate) fn open_up(&mut self, plan: &Plan, class: u32, owner: u32) -> bool {
         let children = children_of(plan, class);
         match self.open.get_mut(class as usize) {
@@ -148,7 +154,8 @@ impl Agenda {
         true
     }
 
-    /// A node waits until another one is finished, with those that are left of the group that it was taken from.
+    /// A node waits until another one is finished, with those that are left of the group that it
+    /// was taken from.
     pub(crate) fn wait_behind(&mut self, plan: &Plan, way: u32, node: u32, source: Source) {
         let others = match source {
             Source::Behind {
@@ -199,7 +206,8 @@ impl Agenda {
         }
     }
 
-    // The next child of an open class that its owner alone may enter, if there is one, is for the owner to try.
+    // The next child of an open class that its owner alone may enter, if there is one, is for the
+    // owner to try.
     fn go_on_in(&mut self, plan: &Plan, class: u32) {
         let Some(Some(open)) = self.open.get_mut(class as usize) else {
             return

@@ -68,8 +68,8 @@ fn higher(number: usize, highest: Option<usize>) -> usize
     }
 }
 
-// Marks the number of a receipt, if it is of the history, above the highest of its list so far and wasn't marked, and answers whether it
-// did.
+// Marks the number of a receipt, if it is of the history, above the highest of its list so far and
+// wasn't marked, and answers whether it did.
 fn mark(history: &[Event], receipt: &Receipt, highest: Option<usize>, marks: &mut [bool]) -> bool
     requires { length history.now ≤ length marks.old }
     ensures taken { OnTrue result (IsNext history.now receipt.now highest marks.old) }
@@ -85,8 +85,8 @@ fn mark(history: &[Event], receipt: &Receipt, highest: Option<usize>, marks: &mu
     true
 }
 
-/// Compares a seat's list with the history, after the lists of other seats: answers the lowest number that is lost so far, and marks the numbers
-/// of the receipts that are in order.
+/// Compares a seat's list with the history, after the lists of other seats: answers the lowest
+/// number that is lost so far, and marks the numbers of the receipts that are in order.
 pub fn audit_list(
     history: &[Event],
     list: &[Receipt],

@@ -6,11 +6,13 @@ use iso_model::access::Access;
 use iso_plan::plan::Plan;
 use std::alloc::{AllocError, Global};
 
-/// How many of so many workers a plan can keep busy at once, at most: at least one. It goes over all nodes once.
+/// How many of so many workers a plan can keep busy at once, at most: at least one. It goes over
+/// all nodes once.
 ///
-/// Whoever is busy does a CONCURRENT node that it entered, or what is on the same thread in one; or it does what is on the root's thread. Of
-/// the CONCURRENT nodes that take the same key for READ_WRITE one at a time is entered, so that all of them keep one worker busy. No
-/// clause says that more workers would find nothing to do: it is tested.
+/// Whoever is busy does a CONCURRENT node that it entered, or what is on the same thread in one; or
+/// it does what is on the root's thread. Of the CONCURRENT nodes that take the same key for
+/// READ_WRITE one at a time is entered, so that all of them keep one worker busy. No clause says
+/// that more workers would find nothing to do: it is tested.
 pub fn busy_workers(alloc: Global, plan: &Plan, workers: u32) -> Result<u32, AllocError>
     ensures some { IfOk result (λ n. 1 ≤ n) }
     ensures of_them { 1 ≤ workers → IfOk result (λ n. n ≤ workers) }
@@ -35,7 +37,8 @@ fn has_own_thread(plan: &Plan) -> bool {
     false
 }
 
-// Whether no node before this one has the first key that this one takes for READ_WRITE; or it takes none so. The key is noted.
+// Whether no node before this one has the first key that this one takes for READ_WRITE; or it takes
+// none so. The key is noted.
 fn is_first_writer(plan: &Plan, node: u32, written: &mut Vec<bool>) -> bool {
     if node >= plan.len() {
         return false;

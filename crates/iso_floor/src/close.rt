@@ -12,7 +12,8 @@ use crate::seat::Seat;
 use iso_book::book::Book;
 use iso_standing::event::Event;
 
-/// Compares the receipts of all seats with a history, by a table with a place for each event that has no mark. Takes no memory.
+/// Compares the receipts of all seats with a history, by a table with a place for each event that
+/// has no mark. Takes no memory.
 pub fn audit<'a, G: Ground>(
     history: &[Event],
     seats: &[Seat<'a, G>],

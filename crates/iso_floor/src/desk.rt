@@ -32,7 +32,8 @@ pub(crate) struct Wakes {
     pub(crate) workers: Call,
 }
 
-/// The book, the deques of those who have no seat yet, what is to be tried next, and how many wait for a change and for something to try.
+/// The book, the deques of those who have no seat yet, what is to be tried next, and how many wait
+/// for a change and for something to try.
 #[derive(Drop)]
 pub(crate) struct Desk<'a, G: Ground> {
     pub(crate) book: Book<'a>,
@@ -41,7 +42,8 @@ pub(crate) struct Desk<'a, G: Ground> {
     pub(crate) agenda: Agenda,
     /// How often a class was opened up of which nodes were posted.
     rounds: u64,
-    /// How many nodes were posted and not tried yet: each lies in a deque, or a worker has it in hand.
+    /// How many nodes were posted and not tried yet: each lies in a deque, or a worker has it in
+    /// hand.
     untried: u32,
     watching: u32,
     idle: u32,
@@ -63,7 +65,8 @@ impl<'a, G: Ground> Model for Desk<'a, G> {
 }
 
 impl<'a, G: Ground> Desk<'a, G> {
-    /// A desk with a book that has taken no event. What may run beside others in the root is posted in the first worker's deque.
+    /// A desk with a book that has taken no event. What may run beside others in the root is posted
+    /// in the first worker's deque.
     pub(crate) fn new(
         alloc: Global,
         plan: &'a Plan,
@@ -101,7 +104,8 @@ impl<'a, G: Ground> Desk<'a, G> {
         }
     }
 
-    // Whom it wakes of the workers: all where one of them got something for itself alone, or nothing more is to be done.
+    // Whom it wakes of the workers: all where one of them got something for itself alone, or
+    // nothing more is to be done.
     fn call(&mut self) -> Call
         ensures { self.new ≡ self.old }
     {
@@ -122,11 +126,12 @@ impl<'a, G: Ground> Desk<'a, G> {
         self.book.is_stopped() || self.agenda.is_done()
     }
 
-    /// Whether there is nothing for a worker to try who has seen that all deques were empty after nodes had been posted so often, and the
-    /// run isn't over.
+    /// Whether there is nothing for a worker to try who has seen that all deques were empty after
+    /// nodes had been posted so often, and the run isn't over.
     ///
-    /// Where they weren't posted since, no node lies in a deque: one that was taken out is never posted again. It was tried, or whoever has
-    /// it in hand tries it. So none is left to nobody, also where its deque's owner waits or has ended.
+    /// Where they weren't posted since, no node lies in a deque: one that was taken out is never
+    /// posted again. It was tried, or whoever has it in hand tries it. So each has a worker that
+    /// will try it, also where its deque's owner sleeps or has ended.
     pub(crate) fn has_nothing_for(&self, worker: u32, seen: Option<u64>) -> bool {
         !self.is_over() && seen == Some(self.rounds) && self.agenda.has_nothing_for(worker)
     }
@@ -148,7 +153,8 @@ impl<'a, G: Ground> Desk<'a, G> {
         self.untried = self.untried.saturating_sub(1);
     }
 
-    /// How many nodes a worker tries at most before it is asked again: more than are in the way at once.
+    /// How many nodes a worker tries at most before it is asked again: more than are in the way at
+    /// once.
     pub(crate) fn tries(&self) -> u32 {
         self.book.plan().len().saturating_add(1)
     }
@@ -167,7 +173,8 @@ impl<'a, G: Ground> Desk<'a, G> {
         self.agenda.wait_behind(self.book.plan(), way, node, source);
     }
 
-    /// Opens a class up that its worker left open, and posts what may run beside others in it. Answers whether it wasn't open yet.
+    /// Opens a class up that its worker left open, and posts what may run beside others in it.
+    /// Answers whether it wasn't open yet.
     pub(crate) fn open_up(
         &mut self,
         class: u32,

@@ -30,8 +30,9 @@ impl From<AllocError> for SeatFault {
 /// Why a floor that was closed hands out no book, the first that applies.
 #[derive(Clone, Copy, Debug, PartialEq, Eq, Error)]
 pub enum CloseFault {
-    /// The lowest number of the history that is lost: a Leave's receipt is in no seat; or a receipt with this number isn't of this
-    /// history, stands in its seat after one that isn't lower, or is in two seats.
+    /// The lowest number of the history that is lost: a Leave's receipt is in no seat; or a receipt
+    /// with this number isn't of this history, stands in its seat after one that isn't lower, or is
+    /// in two seats.
     #[error("Lost {0}")]
     Lost(usize),
     /// A node but the root isn't finished.

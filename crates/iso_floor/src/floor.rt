@@ -25,8 +25,8 @@ use std::alloc::{AllocError, Global};
 use std::marker::Model;
 use std::sync::{Condvar, Mutex, Wait};
 
-/// A book under one lock, round which workers sit. What a call says of the book is known while the lock is held alone; its clauses tell
-/// what it does to the worker's seat.
+/// A book under one lock, round which workers sit. What a call says of the book is known while the
+/// lock is held alone; its clauses tell what it does to the worker's seat.
 ///
 /// Contracts see the number of workers; the plan and the starting values are those of the ground.
 #[derive(Drop)]
@@ -59,7 +59,8 @@ impl<'a, G: Ground> Model for Floor<'a, G> {
 }
 
 impl<'a, G: Ground> Floor<'a, G> {
-    /// A floor on which nobody sits yet, with a book that has taken no event. It takes all memory that book and comparison need.
+    /// A floor on which nobody sits yet, with a book that has taken no event. It takes all memory
+    /// that book and comparison need.
     pub fn new(
         alloc: Global,
         plan: &'a Plan,
@@ -103,8 +104,8 @@ impl<'a, G: Ground> Floor<'a, G> {
         Seat::new(alloc, self.plan, self.world, worker, place)
     }
 
-    /// A seat's worker enters a node, as `Book::enter` does with the seat's tray. A refusal and want of memory change nothing. It may wait
-    /// for the lock.
+    /// A seat's worker enters a node, as `Book::enter` does with the seat's tray. A refusal and
+    /// running out of memory change nothing. It may wait for the lock.
     pub fn enter<R: Wait>(&self, rt: &R, seat: &mut Seat<'a, G>, node: u32) -> Result<(), CoreFault>
         ensures entered { OnOk result (IsEntered node seat.old.tray seat.new.tray) }
         ensures taken { OnOk result (OfSomeBook G.plan G.start G.workers (TakesEnter seat.old node)) }
@@ -121,8 +122,8 @@ impl<'a, G: Ground> Floor<'a, G> {
         entered
     }
 
-    /// A seat's worker begins the closing of a class, as `Book::shut` does with the seat's tray. A refusal and want of memory change
-    /// nothing. It may wait for the lock.
+    /// A seat's worker begins the closing of a class, as `Book::shut` does with the seat's tray. A
+    /// refusal and running out of memory change nothing. It may wait for the lock.
     pub fn shut<R: Wait>(&self, rt: &R, seat: &mut Seat<'a, G>, node: u32) -> Result<(), CoreFault>
         ensures shut { OnOk result (IsShut node seat.old.tray seat.new.tray) }
         ensures taken { OnOk result (OfSomeBook G.plan G.start G.workers (TakesShut seat.old node)) }
@@ -139,9 +140,10 @@ impl<'a, G: Ground> Floor<'a, G> {
         shut
     }
 
-    /// Books what the body of a seat's worker came to, as `Book::leave` does with the seat's tray, and puts the receipt last into the
-    /// seat. Where the seat has no room for it, as after Leaves on another floor, it is a Stranger's before all else. A refusal changes
-    /// nothing, and hands back what was brought. It may wait for the lock. Takes no memory.
+    /// Books what the body of a seat's worker came to, as `Book::leave` does with the seat's tray,
+    /// and puts the receipt last into the seat. Where the seat has no room for it, as after Leaves
+    /// on another floor, it is a Stranger's before all else. A refusal changes nothing, and hands
+    /// back what was brought. It may wait for the lock. Takes no memory.
     pub fn leave<R: Wait>(
         &self,
         rt: &R,
@@ -167,7 +169,8 @@ impl<'a, G: Ground> Floor<'a, G> {
         left
     }
 
-    /// Stops the book: it refuses every event from now on. It may wait for the lock. Takes no memory.
+    /// Stops the book: it refuses every event from now on. It may wait for the lock. Takes no
+    /// memory.
     pub fn stop<R: Wait>(&self, rt: &R) {
         let wakes = {
             let mut desk = self.desk.lock(rt);
@@ -177,7 +180,8 @@ impl<'a, G: Ground> Floor<'a, G> {
         self.tell(wakes);
     }
 
-    /// Waits until the history is longer than `seen`, the run complete or stopped, and answers the history's length.
+    /// Waits until the history is longer than `seen`, the run complete or stopped, and answers the
+    /// history's length.
     pub fn wait_change<R: Wait>(&self, rt: &R, seen: u64) -> u64
         ensures { OfSomeBook G.plan G.start G.workers (EndsWait seen result) }
     {
@@ -191,8 +195,8 @@ impl<'a, G: Ground> Floor<'a, G> {
         desk.length()
     }
 
-    /// Hands out the book, where every node but the root is finished and the receipts of these seats are those of its history. It spends
-    /// floor and seats in any case. Takes no memory.
+    /// Hands out the book, where every node but the root is finished and the receipts of these
+    /// seats are those of its history. It spends floor and seats in any case. Takes no memory.
     pub fn close(self, seats: Vec<Seat<'a, G>>) -> Result<Book<'a>, CloseFault>
         ensures ground { IfOk result (IsBookOf G.plan G.start G.workers) }
         ensures whole { IfOk result (λ b. IsWhole b (lists_of seats.entry.items)) }
@@ -221,8 +225,8 @@ impl<'a, G: Ground> Floor<'a, G> {
         self.world
     }
 
-    /// A seat's worker, who found this node in a deque or none, looks for something to do, and enters a node or shuts a class where there is
-    /// one. It may wait for the lock.
+    /// A seat's worker, who found this node in a deque or none, looks for something to do, and
+    /// enters a node or shuts a class where there is one. It may wait for the lock.
     pub(crate) fn turn<R: Wait>(&self, rt: &R, seat: &mut Seat<'a, G>, found: Option<u32>) -> Turn
         ensures { IsTurn result seat.old seat.new }
     {
@@ -235,8 +239,9 @@ impl<'a, G: Ground> Floor<'a, G> {
         turn
     }
 
-    /// Waits until there is something for a worker to try, or nothing more is to be done; not at all unless the worker has seen that all
-    /// deques were empty after nodes had been posted so often. Answers how often they were posted.
+    /// Waits until there is something for a worker to try, or nothing more is to be done; not at
+    /// all unless the worker has seen that all deques were empty after nodes had been posted so
+    /// often. Answers how often they were posted.
     pub(crate) fn wait_turn<R: Wait>(&self, rt: &R, worker: u32, seen: Option<u64>) -> u64 {
         let mut desk = self.desk.lock(rt);
         desk.begin_idle();

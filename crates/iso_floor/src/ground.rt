@@ -6,8 +6,9 @@ ghost use Rattle.iso_settings.specs.Worlds.{Start, empty_start};
 
 use std::marker::Brand;
 
-/// What is run on a floor: a plan, starting values, and a number of workers. A floor and its seats are of one ground by their type, so
-/// that no call of the floor compares plans: whoever makes a floor picks its ground (`Brand`).
+/// What is run on a floor: a plan, starting values, and a number of workers. A floor and its seats
+/// are of one ground by their type, so that no call of the floor compares plans: whoever makes a
+/// floor picks its ground (`Brand`).
 pub trait Ground {
     ghost plan: { Planned };
 

@@ -1,4 +1,5 @@
-//! The floor of a run: one lock round its book, a seat for each worker, and the comparison of what workers were told with the history.
+//! The floor of a run: one lock round its book, a seat for each worker, and the comparison of what
+//! workers were told with the history.
 #![tactic(auto)]
 
 mod agenda;

@@ -57,8 +57,9 @@ impl<'a, G: Ground> Model for Seat<'a, G> {
 }
 
 impl<'a, G: Ground> Seat<'a, G> {
-    /// The seat of a worker, to whose tray nothing is lent, if the worker's place has its deques still: it takes them, and all memory
-    /// that the worker's Leaves need. Else the place is as it was.
+    /// The seat of a worker, to whose tray nothing is lent, if the worker's place has its deques
+    /// still: it takes them, and all memory that the worker's Leaves need. Else the place is as it
+    /// was.
     pub(crate) fn new(
         alloc: Global,
         plan: &'a Plan,
@@ -92,8 +93,9 @@ impl<'a, G: Ground> Seat<'a, G> {
         }
     }
 
-    /// Takes a node out of a deque, if it finds one: out of the worker's own, else out of another worker's. It looks into none where the
-    /// agenda had something for this worker after its last Leave, since that comes first. It may wait for others who steal.
+    /// Takes a node out of a deque, if it finds one: out of the worker's own, else out of another
+    /// worker's. It looks into none where the agenda had something for this worker after its last
+    /// Leave, since that comes first. It may wait for others who steal.
     pub(crate) fn look_into_deques<R: Wait>(&mut self, rt: &R) -> Look
         ensures { self.new ≡ self.old }
     {

@@ -21,7 +21,8 @@ impl Look {
         }
     }
 
-    /// How often nodes had been posted before the look, if it has shown that none of them lay in a deque any more.
+    /// How often nodes had been posted before the look, if it has shown that none of them lay in a
+    /// deque any more.
     pub(crate) fn seen(self, rounds: u64) -> Option<u64> {
         match self {
             Look::Nothing => Some(rounds),
@@ -30,7 +31,8 @@ impl Look {
     }
 }
 
-/// Steals a node from the first deque in which one is found. It may wait for others who take from the same deque.
+/// Steals a node from the first deque in which one is found. It may wait for others who take from
+/// the same deque.
 pub(crate) fn steal_from<R: Wait>(rt: &R, thieves: &mut Vec<Thief>) -> Look {
     for thief in thieves.iter_mut() {
         if let Some(node) = steal_node(rt, thief) {
@@ -40,7 +42,8 @@ pub(crate) fn steal_from<R: Wait>(rt: &R, thieves: &mut Vec<Thief>) -> Look {
     Look::Nothing
 }
 
-// Steals a node from a deque, or finds that none lies in it. Who is told to try again was beaten by somebody who got one.
+// Steals a node from a deque, or finds that none lies in it. Who is told to try again was beaten by
+// somebody who got one.
 fn steal_node<R: Wait>(rt: &R, thief: &mut Thief) -> Option<u32> {
     for _ in rt.forever() {
         match thief.steal() {

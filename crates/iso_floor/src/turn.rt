@@ -27,8 +27,8 @@ pub(crate) enum Turn {
 }
 
 impl<'a, G: Ground> Seat<'a, G> {
-    /// Tries a node that was found in a deque, if one was, and then what the agenda has for this seat's worker, one node after another, until
-    /// an event was taken or nothing is left to try.
+    /// Tries a node that was found in a deque, if one was, and then what the agenda has for this
+    /// seat's worker, one node after another, until an event was taken or nothing is left to try.
     pub(crate) fn turn_at(&mut self, desk: &mut Desk<'a, G>, found: Option<u32>) -> Turn
         ensures { IsTurn result self.old self.new }
     {
@@ -61,8 +61,8 @@ impl<'a, G: Ground> Seat<'a, G> {
         self.try_enter(desk, node, Source::First)
     }
 
-    // Enters a node that waits, or shuts a class that its worker left open, unless another node is in the way. Then it goes back into the
-    // agenda.
+    // Enters a node that waits, or shuts a class that its worker left open, unless another node is
+    // in the way. Then it goes back into the agenda.
     fn try_at(&mut self, desk: &mut Desk<'a, G>, node: u32, source: Source) -> Option<Turn>
         ensures { MatchOption result (self.new ≡ self.old) (λ turn. IsTurn turn self.old self.new) }
     {

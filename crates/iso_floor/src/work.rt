@@ -47,11 +47,14 @@ pub struct WorkEnd<'a, G: Ground> {
     pub cause: Cause,
 }
 
-/// Works on a floor until every node but the root is finished, or the run is stopped, and hands the seat back.
+/// Works on a floor until every node but the root is finished, or the run is stopped, and hands the
+/// seat back.
 ///
-/// The worker enters what can be entered and does its bodies, with no lock held. It meets its gate after each Enter and Shut and after each
-/// step of a body, and tells it of each body's begin and end. Where there is nothing to try it waits. Where it can't go on, since memory ran
-/// out or an event was refused for good, it drops its body and stops the run. A seat to whose tray something is lent is a stranger's.
+/// The worker enters what can be entered and does its bodies, with no lock held. It meets its gate
+/// after each Enter and Shut and after each step of a body, and tells it of each body's begin and
+/// end. Where there is nothing to try it waits. Where it can't go on, since memory ran out or an
+/// event was refused for good, it drops its body and stops the run. A seat to whose tray something
+/// is lent is a stranger's.
 pub fn work<'a, G: Ground, R: Wait, T: Gate>(
     rt: &R,
     alloc: Global,
@@ -97,8 +100,8 @@ fn take_turns<'a, G: Ground, R: Wait, T: Gate>(
     Ok(())
 }
 
-// Looks for something to do, in the deques first unless the agenda calls for this worker, and waits where there is nothing. `rounds` is
-// how often nodes had been posted when that was asked last.
+// Looks for something to do, in the deques first unless the agenda calls for this worker, and waits
+// where there is nothing. `rounds` is how often nodes had been posted when that was asked last.
 fn take_turn<'a, G: Ground, R: Wait, T: Gate>(
     worker: &Worker<'_, 'a, G, R, T>,
     seat: &mut Seat<'a, G>,

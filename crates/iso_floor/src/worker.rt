@@ -31,8 +31,9 @@ use std::sync::Wait;
 
 /// A worker at its floor.
 ///
-/// A node that takes no key for READ_WRITE is opened and left open, for whoever has time for what stands in it. One that does is done whole,
-/// depth first, by the worker that entered it: all that stands in it looks at what it changes.
+/// A node that takes no key for READ_WRITE is opened and left open, for whoever has time for what
+/// stands in it. One that does is done whole, depth first, by the worker that entered it: all that
+/// stands in it looks at what it changes.
 #[derive(Clone, Copy)]
 pub(crate) struct Worker<'w, 'a, G: Ground, R, T> {
     pub(crate) rt: &'w R,
@@ -42,8 +43,8 @@ pub(crate) struct Worker<'w, 'a, G: Ground, R, T> {
 }
 
 impl<'w, 'a, G: Ground, R: Wait, T: Gate> Worker<'w, 'a, G, R, T> {
-    /// Goes on with a node that was entered with a tray that had no value: opens a class that takes no key for READ_WRITE, and does any
-    /// other node whole. The tray has no value again.
+    /// Goes on with a node that was entered with a tray that had no value: opens a class that takes
+    /// no key for READ_WRITE, and does any other node whole. The tray has no value again.
     pub(crate) fn begin_entered(&self, seat: &mut Seat<'a, G>, node: u32) -> Result<(), Halt>
         requires { IsEnteredFree node seat.old.tray }
         ensures { OnOk result (IsFree seat.new.tray) }
@@ -82,7 +83,8 @@ impl<'w, 'a, G: Ground, R: Wait, T: Gate> Worker<'w, 'a, G, R, T> {
         Ok(())
     }
 
-    /// Enters a node and does it whole. Where its class didn't open well it has its result already, and isn't entered.
+    /// Enters a node and does it whole. Where its class didn't open well it has its result already,
+    /// and isn't entered.
     #[cycle(depth)]
     fn node(&self, seat: &mut Seat<'a, G>, node: u32) -> Result<(), Halt>
         requires positive { 0 < node }
@@ -111,7 +113,8 @@ impl<'w, 'a, G: Ground, R: Wait, T: Gate> Worker<'w, 'a, G, R, T> {
         self.leave(seat, last)
     }
 
-    /// Does the bodies of a node that was entered, and all that stands in it. Answers what the last of its bodies came to.
+    /// Does the bodies of a node that was entered, and all that stands in it. Answers what the last
+    /// of its bodies came to.
     #[cycle(depth)]
     fn bodies(&self, seat: &mut Seat<'a, G>, node: u32) -> Result<Done, Halt>
         requires { IsAtEntry G.plan G.start node seat.old.tray }
@@ -162,7 +165,8 @@ impl<'w, 'a, G: Ground, R: Wait, T: Gate> Worker<'w, 'a, G, R, T> {
         self.leave(seat, done)
     }
 
-    /// Does the `after_all` of a class when all that stands in it is done, and answers what it came to.
+    /// Does the `after_all` of a class when all that stands in it is done, and answers what it came
+    /// to.
     fn close(&self, seat: &mut Seat<'a, G>, class: u32) -> Result<Done, Halt>
         requires enclosed { IsEnclosed G.plan G.start class }
         requires class { is_test (row_at (tree_of G.plan) class).kind ≡ false }
@@ -175,7 +179,8 @@ impl<'w, 'a, G: Ground, R: Wait, T: Gate> Worker<'w, 'a, G, R, T> {
         self.perform(seat, class, BodyKind::AfterAll)
     }
 
-    /// Does a body of a node over the values of the worker's tray. The worker meets its gate before the first step and after each.
+    /// Does a body of a node over the values of the worker's tray. The worker meets its gate before
+    /// the first step and after each.
     fn perform(&self, seat: &mut Seat<'a, G>, node: u32, kind: BodyKind) -> Result<Done, Halt>
         requires { CanPerform G.plan G.start kind node seat.old.tray }
         ensures done { IfOk result (λ d. d ≡ record { subject = subject G.plan G.start node; kind = kind }) }
@@ -202,7 +207,8 @@ impl<'w, 'a, G: Ground, R: Wait, T: Gate> Worker<'w, 'a, G, R, T> {
     }
 }
 
-/// Whether the worker that enters a node does it whole: it is a test, or takes a key for READ_WRITE.
+/// Whether the worker that enters a node does it whole: it is a test, or takes a key for
+/// READ_WRITE.
 pub(crate) fn is_done_whole(plan: &Plan, node: u32) -> bool
     ensures { node < length plan.now.rows → result ≡ (is_test (row_at (tree_of plan.now) node).kind || takes_write (tree_of plan.now) node) }
 {

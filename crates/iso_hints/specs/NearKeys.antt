@@ -4,8 +4,8 @@ use Rattle.std.specs.List.{after_first, position_or_len}
 use Rattle.iso_hints.specs.Nearest.{distance, is_near}
 use Rattle.iso_hints.specs.declared.nearest.Near.{Near}
 
--- what two keys have behind the last dot up to which they are the same, by what is still to be compared, and what both have behind
--- the last dot so far
+-- what two keys have behind the last dot up to which they are the same, by what is still to be
+-- compared, and what both have behind the last dot so far
 abbrev pub rests_from : (key known : List ℕ) → (left known_left : List ℕ) → List ℕ × List ℕ
 rests_from key known (x ∷ xs) (y ∷ ys) =
     if not (x == y) then (key, known)
@@ -13,7 +13,8 @@ rests_from key known (x ∷ xs) (y ∷ ys) =
     else rests_from key known xs ys
 rests_from key known left known_left = (key, known)
 
--- what two keys have behind the last dot up to which they are the same: all of both where there is none
+-- what two keys have behind the last dot up to which they are the same: all of both where there is
+-- none
 abbrev pub rests : List ℕ → List ℕ → List ℕ × List ℕ
 rests key known = rests_from key known key known
 
@@ -25,7 +26,8 @@ is_dot b = b == 46
 abbrev pub lacks_segment : List ℕ → List ℕ → Bool
 lacks_segment key known = nat_lt (position_or_len is_dot known) (length known) && bytes_eq (after_first is_dot known) key
 
--- how far a key is from a known one, if it is near enough: as many bytes as are left out, or by the distance of words
+-- how far a key is from a known one, if it is near enough: as many bytes as are left out, or by the
+-- distance of words
 abbrev pub rest_distance : List ℕ → List ℕ → Option ℕ
 rest_distance key known =
     cond (lacks_segment key known) (Some (position_or_len is_dot known + 1)) (cond (is_near key known) (Some (distance key known)) None)

@@ -3,11 +3,13 @@ use Rattle.std.specs.Prelude.{ℕ, ◌*◌, ◌/◌, List, [], ◌∷◌, Bool, 
 use Rattle.std.specs.Str.{chars}
 use Rattle.strsim.specs.Edits.{osa_table}
 
--- how many characters have to be put in, left out, changed, or swapped with the next one, so that a text becomes another
+-- how many characters have to be put in, left out, changed, or swapped with the next one, so that a
+-- text becomes another
 abbrev pub distance : List ℕ → List ℕ → ℕ
 distance word other = (osa_table (chars word) (chars other)).last_row (length (chars other))
 
--- whether the lengths let a candidate be near: it has at most 1,024 bytes, and neither is more than twice as long as the other
+-- whether the lengths let a candidate be near: it has at most 1,024 bytes, and neither is more than
+-- twice as long as the other
 abbrev pub may_be_near : List ℕ → List ℕ → Bool
 may_be_near word candidate =
     (nat_le (length candidate) 1024 && nat_le (length candidate) (2 * length word)) && nat_le (length word) (2 * length candidate)

@@ -27,7 +27,8 @@ ends_operand (Some b) = in_name b || ((b == 34) || (b == 41))
 abbrev pub last_byte : List ℕ → Option ℕ
 last_byte bytes = slice_get bytes (length bytes - 1)
 
--- an operator is next behind an operand, in a statement that has an operator already and takes more than a literal
+-- an operator is next behind an operand, in a statement that has an operator already and takes more
+-- than a literal
 abbrev pub is_second_operator : PlaceView → Bool
 is_second_operator place =
     ((is_any_next (map (λ t. t.now) OPERATORS.now) place.rest && ends_operand (last_byte place.before))

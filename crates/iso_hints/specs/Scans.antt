@@ -5,7 +5,8 @@ use Rattle.iso_hints.specs.declared.scan.Inside.{Inside}
 use Rattle.iso_hints.specs.declared.scan.Inside.TheVariants.{Code, Text, Escape, Comment}
 use Rattle.iso_hints.specs.declared.scan.Seen.{Seen}
 
--- what follows a byte: a quote begins and ends a text, a slash begins a comment, and a line feed ends it
+-- what follows a byte: a quote begins and ends a text, a slash begins a comment, and a line feed
+-- ends it
 abbrev pub inside_next : Inside → ℕ → Inside
 inside_next Code b = cond (b == 34) Text (cond (b == 47) Comment Code)
 inside_next Text b = cond (b == 34) Code (cond (b == 92) Escape Text)
@@ -26,7 +27,8 @@ ends_here Text b = false
 ends_here Escape b = false
 ends_here Comment b = false
 
--- where the statement begins that is begun behind a byte of a token: behind what ends one, or at the byte where none was begun
+-- where the statement begins that is begun behind a byte of a token: behind what ends one, or at
+-- the byte where none was begun
 abbrev pub start_behind : Seen → ℕ → ℕ
 start_behind seen b = cond (ends_here seen.inside b) (seen.passed + 1) (cond (seen.start == seen.end) seen.passed seen.start)
 
@@ -47,7 +49,8 @@ nothing_passed = record { passed = 0; start = 0; end = 0; inside = Code }
 abbrev pub scan_of : List ℕ → Seen
 scan_of bytes = fold step nothing_passed bytes
 
--- what is known behind so many bytes more of a token, which begins with the first of them where none is begun
+-- what is known behind so many bytes more of a token, which begins with the first of them where
+-- none is begun
 abbrev pub past_token : Seen → ℕ → Seen
 past_token seen n =
     cond (n == 0) seen record {

@@ -15,7 +15,8 @@ unknown_key_line unknown = unknown_line unknown.key.now (option_map (λ k. k.now
 abbrev pub more_line : ℕ → List ℕ
 more_line more = cond (more == 0) [] (decimal more ++ codes " more unknown\n")
 
--- settings, keys that are unknown and how many there are more, and how many workers they come to and why, each on a line
+-- settings, keys that are unknown and how many there are more, and how many workers they come to
+-- and why, each on a line
 abbrev pub settings_text : List Setting → List UnknownKey → (more workers : ℕ) → List Piece → List ℕ
 settings_text settings unknown more workers why =
     flat_map setting_line settings ++ flat_map unknown_key_line unknown ++ more_line more ++ workers_line workers why

@@ -12,7 +12,8 @@ is_name_byte (Some b) = in_name b
 abbrev pub is_cut : List ℕ → List ℕ → Bool
 is_cut first second = is_name_byte (slice_get first (length first - 1)) && is_name_byte (slice_get second 0)
 
--- the bytes begin with the token, and it doesn't go on as a longer word. An empty token is always there
+-- the bytes begin with the token, and it doesn't go on as a longer word. An empty token is always
+-- there
 abbrev pub is_next : List ℕ → List ℕ → Bool
 is_next token bytes = starts_with nat_eq bytes token && not (is_cut token (drop (length token) bytes))
 

@@ -5,7 +5,8 @@ ghost use Rattle.iso_hints.specs.Positions.{place_at_position};
 ghost use Rattle.iso_hints.specs.Examples.{meant_by, near_to};
 ghost use Rattle.iso_hints.specs.Keys.{is_unknown, unknown_line};
 
-/// A character put in, left out or changed counts one, and so do two that stand the other way round.
+/// A character put in, left out or changed counts one, and so do two that stand the other way
+/// round.
 pub fn distances_count_edits()
     ensures same { distance (codes "test") (codes "test") ≡ 0 }
     ensures put_in { distance (codes "tst") (codes "test") ≡ 1 }
@@ -33,7 +34,8 @@ pub fn keys_of_others_are_not_unknown()
     ensures beginning { is_unknown (codes "junit.jupiter") ≡ false }
 {}
 
-/// A key is compared with a known one by what both have behind the last dot up to which they are the same, or lacks a segment of it.
+/// A key is compared with a known one by what both have behind the last dot up to which they are
+/// the same, or lacks a segment of it.
 pub fn keys_that_were_meant_are_found()
     ensures last_segment { meant_by "junit.jupiter.execution.parallel.enable" ≡ Some (codes "junit.jupiter.execution.parallel.enabled") }
     ensures inner_segment { meant_by "junit.jupiter.execution.paralel.enabled" ≡ Some (codes "junit.jupiter.execution.parallel.enabled") }

@@ -21,7 +21,8 @@ use crate::table::parentheses::parentheses;
 use crate::table::statements::statements;
 use crate::table::symbols::symbols;
 
-/// What mends a mistake in a script, of which a fault stands behind so many bytes: a token that doesn't fit, or is none.
+/// What mends a mistake in a script, of which a fault stands behind so many bytes: a token that
+/// doesn't fit, or is none.
 pub fn hint(text: &[u8], bytes: usize) -> Option<&'static str>
     ensures { option_map (λ told. told.now) result ≡ hint_at text.now bytes }
 {

@@ -1,4 +1,5 @@
-//! Worked examples of the hints, as public laws: one of each row, and places of which nothing is told.
+//! Worked examples of the hints, as public laws: one of each row, and places of which nothing is
+//! told.
 ghost use Rattle.std.specs.Prelude.{◌≡◌, ◌∷◌, [], None, Some, codes};
 ghost use Rattle.iso_hints.specs.Examples.{form_in_class, form_in_test, in_class, in_script, in_test};
 ghost use Rattle.iso_hints.specs.Hints.{hint_at};

@@ -25,7 +25,8 @@ pub const KEYS: &[&str] = &[
     "junit.jupiter.testinstance.lifecycle.default",
 ];
 
-/// Whether a joined key of a settings file is one of JUnit's by its beginning, and none of settings.
+/// Whether a joined key of a settings file is one of JUnit's by its beginning, and none of
+/// settings.
 pub fn is_unknown(key: &str) -> bool
     ensures { result ≡ is_unknown key.now }
 {
@@ -39,8 +40,8 @@ fn is_listed(key: &str, keys: &[&str]) -> bool
     keys.iter().any(|known| *known == key)
 }
 
-/// The key of settings that was meant by one: the nearest, if one is near enough, by what both have behind the last dot up to which
-/// they are the same.
+/// The key of settings that was meant by one: the nearest, if one is near enough, by what both have
+/// behind the last dot up to which they are the same.
 pub fn nearest_key(alloc: Global, key: &str) -> Result<Option<&'static str>, AllocError>
     ensures { IfOk result (λ found. option_map (λ k. k.now) found ≡ meant_key key.now) }
 {

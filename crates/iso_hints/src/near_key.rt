@@ -36,7 +36,8 @@ fn nearer<'a>(best: Option<Near<'a>>, known: &'a str, distance: Option<usize>) -
     }
 }
 
-/// How far a key is from a known one, if it is near enough, by what both have behind the last dot up to which they are the same.
+/// How far a key is from a known one, if it is near enough, by what both have behind the last dot
+/// up to which they are the same.
 fn key_distance(alloc: Global, key: &str, known: &str) -> Result<Option<usize>, AllocError>
     ensures { IfOk result (λ d. d ≡ key_distance key.now known.now) }
 {
@@ -44,7 +45,8 @@ fn key_distance(alloc: Global, key: &str, known: &str) -> Result<Option<usize>, 
     rest_distance(alloc, key, known)
 }
 
-/// What two keys have behind the last dot up to which they are the same: all of both where there is none.
+/// What two keys have behind the last dot up to which they are the same: all of both where there is
+/// none.
 fn rests<'a, 'b>(key: &'a str, known: &'b str) -> (&'a str, &'b str)
     ensures { (result.0.now, result.1.now) ≡ rests key.now known.now }
 {
@@ -70,7 +72,8 @@ fn behind_segment<'a, 'b>(key: &'a str, known: &'b str) -> Option<(&'a str, &'b 
     }
 }
 
-/// How far a key is from a known one, if it is near enough: as many bytes as are left out, or by the distance of words.
+/// How far a key is from a known one, if it is near enough: as many bytes as are left out, or by
+/// the distance of words.
 fn rest_distance(alloc: Global, key: &str, known: &str) -> Result<Option<usize>, AllocError>
     ensures { IfOk result (λ d. d ≡ rest_distance key.now known.now) }
 {

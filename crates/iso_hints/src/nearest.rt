@@ -31,7 +31,8 @@ pub fn nearest<'a>(
     Ok(near.first().map(|near| near.word))
 }
 
-/// The three candidates that are nearest to a word, or as many as are near enough: the nearest first, equal ones in their order.
+/// The three candidates that are nearest to a word, or as many as are near enough: the nearest
+/// first, equal ones in their order.
 pub fn nearest_three<'a>(
     alloc: Global,
     word: &str,

@@ -12,7 +12,8 @@ use crate::place::{Place, without_start};
 use crate::token::{is_last, is_name, is_name_byte, is_next};
 use crate::words::{LITERALS, OPERATORS, RESERVED};
 
-/// How the first word of a row stands to the place. At the place itself its second word stands; an empty word is any.
+/// How the first word of a row stands to the place. At the place itself its second word stands; an
+/// empty word is any.
 #[derive(Clone, Copy)]
 pub(crate) enum Pattern {
     /// It is the last one before.

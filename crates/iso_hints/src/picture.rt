@@ -12,7 +12,8 @@ const SHOWN: usize = 160;
 /// So many of these stand before the column, where the line has more on both sides.
 const SHOWN_BEFORE: usize = 80;
 
-/// Writes a line with its number, and below it carets for so many bytes from a column on, with a label.
+/// Writes a line with its number, and below it carets for so many bytes from a column on, with a
+/// label.
 pub fn write_caret<W: Sink>(
     printer: &mut Printer<'_, W>,
     number: u32,

@@ -24,7 +24,8 @@ pub(crate) struct Seen {
     pub passed: usize,
     /// How many stand before the statement or head that is begun.
     pub start: usize,
-    /// How many stand before what follows its last token so far, or that of the statement before it.
+    /// How many stand before what follows its last token so far, or that of the statement before
+    /// it.
     pub end: usize,
     pub inside: Inside,
 }
@@ -48,7 +49,8 @@ pub(crate) fn scan(bytes: &[u8]) -> Seen
     seen
 }
 
-/// What is known behind the bytes that come next and stand in the same: most are in runs, and these are passed at once.
+/// What is known behind the bytes that come next and stand in the same: most are in runs, and these
+/// are passed at once.
 fn behind_run(seen: Seen, bytes: &[u8]) -> Seen
     requires order { seen.start ≤ seen.end }
     requires within { seen.end ≤ seen.passed }
@@ -86,7 +88,8 @@ fn leaves_code(byte: u8) -> bool
     matches!(byte, b'"' | b'/')
 }
 
-/// What is known behind a byte of code more. That it is one is told again, so that it isn't asked of each byte.
+/// What is known behind a byte of code more. That it is one is told again, so that it isn't asked
+/// of each byte.
 fn step_in_code(seen: Seen, byte: u8) -> Seen
     requires code { seen.inside ≡ Code }
     requires room { seen.passed + 1 < 2 ^ 64 }

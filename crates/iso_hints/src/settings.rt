@@ -16,7 +16,8 @@ pub struct UnknownKey<'a> {
     pub meant: Option<&'a str>,
 }
 
-/// Writes settings, keys that are unknown and how many there are more, and how many workers they come to and why, each on a line.
+/// Writes settings, keys that are unknown and how many there are more, and how many workers they
+/// come to and why, each on a line.
 pub fn write_settings<W: Sink>(
     printer: &mut Printer<'_, W>,
     settings: &[Setting<'_>],

@@ -4,7 +4,8 @@ ghost use Rattle.iso_hints.specs.Examples.{by_default, in_file, labelled, lent, 
 ghost use Rattle.iso_hints.specs.SettingsTexts.{settings_text};
 ghost use Rattle.iso_hints.specs.declared.setting.Value.TheVariants.{Flag, Number, Word};
 
-/// Each setting has its value and says where this is from; then come keys that are unknown, how many more, and the workers.
+/// Each setting has its value and says where this is from; then come keys that are unknown, how
+/// many more, and the workers.
 pub fn settings_are_told()
     ensures { settings_text
         (in_file "enabled" (Flag true)

@@ -69,7 +69,8 @@ pub record SameBlock (old new : BlockRun) : Type 0 where
   pub rights : new.rights ≡ old.rights
   pub before : new.before ≡ old.before
 
--- the same, with the same work to be done: nothing but what a statement without a body changes may differ
+-- the same, with the same work to be done: nothing but what a statement without a body changes may
+-- differ
 pub record SameWork (old new : BlockRun) : Type 0 where
   pub top : new.top ≡ old.top
   pub below : new.below ≡ old.below
@@ -90,7 +91,8 @@ abbrev pub said : ℕ → State → Option (List ℕ) → State
 said row s None = s
 said row s (Some message) = fails row message s
 
--- A statement without a body did what it means, its step being taken: from a run and its resources to the next.
+-- A statement without a body did what it means, its step being taken: from a run and its resources
+-- to the next.
 abbrev pub Performs : {E : Type 0} → (old new : BlockRun) → (before after : Resources) → ℕ → Plain → Result (Unit {0}) E → Type 0
 Performs old new before after row statement result =
     OnOk result (state_of new after ≡ performed (run_rights old) row statement (state_of old before))

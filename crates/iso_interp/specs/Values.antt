@@ -27,7 +27,7 @@ abbrev pub given_of : Result Value Fault → Given
 given_of (Ok v) = Ok (data_of v)
 given_of (Err fault) = Err fault
 
--- what was given, or the fault: want of memory tells nothing
+-- what was given, or the fault: running out of memory tells nothing
 abbrev pub Answers : {A B : Type 0} → (A → B) → Result A Interrupt → Result B Fault → Type 0
 Answers view (Ok x) given = given ≡ Ok (view x)
 Answers view (Err (I.Fault fault)) given = given ≡ Err fault

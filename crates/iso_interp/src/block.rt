@@ -1,5 +1,5 @@
-//! The statements of a body, lent. A proof that meets a block spells out its name alone, where a slice of statements would have it spell out
-//! their whole tree.
+//! The statements of a body, lent. A proof that meets a block spells out its name alone, where a
+//! slice of statements would have it spell out their whole tree.
 ghost use Rattle.std.specs.Prelude.{◌≡◌, MatchOption};
 ghost use Rattle.iso_model.specs.Syntax.{act, no_acts};
 ghost use Rattle.iso_model.specs.SyntaxView.{block_of, stmt_of};

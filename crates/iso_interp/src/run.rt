@@ -61,7 +61,7 @@ pub struct BlockEnd {
 }
 
 /// A run of a block (JUnit 5, a method of a test's life cycle), one step at a time.
-/// Once out of memory it is only to be dropped.
+/// After running out of memory it can only be dropped.
 #[derive(Drop)]
 pub struct BlockRun<'a> {
     alloc: Global,
@@ -366,8 +366,8 @@ impl<'a> BlockRun<'a> {
         }
     }
 
-    /// Texts that are the values' own, of two expressions that have to be texts. Both have values before
-    /// one that isn't a text counts.
+    /// Texts that are the values' own, of two expressions that have to be texts. Both have values
+    /// before one that isn't a text counts.
     fn own_texts<T: Touch>(
         &self,
         touch: &T,

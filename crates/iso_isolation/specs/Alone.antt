@@ -3,8 +3,8 @@
 use Rattle.std.specs.Prelude.{Bool, true, cond, List, [], ◌∷◌, None}
 use Rattle.iso_isolation.specs.Languages.{Content, Progress, Language}
 
--- what the opening of a chain of classes leaves: a frame of each class whose `before_all` ran, innermost first,
--- the content, and whether all ended well
+-- what the opening of a chain of classes leaves: a frame of each class whose `before_all` ran,
+-- innermost first, the content, and whether all ended well
 pub record Opening (K V F : Type 0) : Type 0 where
   pub frames : List F
   pub content : Content K V
@@ -15,7 +15,8 @@ abbrev pub restricted : {K V : Type 0} → (K → Bool) → Content K V → Cont
 restricted keys m k = cond (keys k) (m k) None
 
 module _ {H K V B F R : Type 0} (l : Language H K V B F R) where
-  -- the body with which the innermost of a chain is entered, and that with which it is closed, each done to its end
+  -- the body with which the innermost of a chain is entered, and that with which it is closed, each
+  -- done to its end
   abbrev pub entered : List H → Opening K V F → Progress B (Content K V)
   entered hs o = l.finish hs (l.begin hs o.frames) o.content
 
@@ -26,7 +27,8 @@ module _ {H K V B F R : Type 0} (l : Language H K V B F R) where
   abbrev pub opened : Opening K V F → Progress B (Content K V) → Opening K V F
   opened o p = record { frames = l.frame o.frames p.body ∷ o.frames; content = p.content; well = l.is_well (l.frame o.frames p.body) }
 
-  -- the opening of a chain of classes: each `before_all`, outermost first, until one doesn't end well
+  -- the opening of a chain of classes: each `before_all`, outermost first, until one doesn't end
+  -- well
   abbrev pub opening : List H → Content K V → Opening K V F
   opening [] m = record { frames = []; content = m; well = true }
   opening (h ∷ hs) m = let o = opening hs m in cond o.well (opened o (entered (h ∷ hs) o)) o
@@ -47,6 +49,7 @@ module _ {H K V B F R : Type 0} (l : Language H K V B F R) where
   run_from [] m = l.blocked []
   run_from (h ∷ hs) m = cond (l.is_test h) (test_alone h hs m) (class_alone h hs m)
 
-  -- the innermost of a chain run alone: on the values of the keys of its rights, and on nothing else
+  -- the innermost of a chain run alone: on the values of the keys of its rights, and on nothing
+  -- else
   abbrev pub run_alone : List H → Content K V → R
   run_alone hs m = run_from hs (restricted (l.reads hs) m)

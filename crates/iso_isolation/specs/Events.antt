@@ -1,11 +1,13 @@
--- The events of a run, and the state after each (JUnit 5 User Guide: test lifecycle, parallel execution).
+-- The events of a run, and the state after each (JUnit 5 User Guide: test lifecycle, parallel
+-- execution).
 use Rattle.std.specs.Prelude.{ℕ, Bool, true, false, cond, eqb, ◌&&◌, List, [], ◌∷◌, Option, Some, None}
 use Rattle.iso_isolation.specs.Languages.{Language}
 use Rattle.iso_isolation.specs.Suites.{Suite, chain, may_write}
 use Rattle.iso_isolation.specs.Alone.{restricted}
 use Rattle.iso_isolation.specs.States.{Status, Waiting, Begun, Open, Barred, Closing, Finished, Nodes, State, nothing, put, is_waiting, body_in, with_body, frames_in}
 
--- worker w enters node n; makes one step of its body; books its ended body; begins the closing of class n
+-- worker w enters node n; makes one step of its body; books its ended body; begins the closing of
+-- class n
 pub data Event : Type 0 where
   Enter : (w n : ℕ) → Event
   Step : (w : ℕ) → Event
@@ -35,7 +37,8 @@ module _ {H K V B F R : Type 0} (l : Language H K V B F R) (x : Suite H K V) whe
   abbrev pub stands_in : ℕ → ℕ → Bool
   stands_in m n = is_in n (x.path (x.parent m))
 
-  -- Enter: the node's first body begins, on the frames of the classes around it, and the values that it may change are kept
+  -- Enter: the node's first body begins, on the frames of the classes around it, and the values
+  -- that it may change are kept
   abbrev pub entering : ℕ → Nodes K V B F R → Nodes K V B F R
   entering n s = record {
     flat = s.flat;
@@ -49,7 +52,8 @@ module _ {H K V B F R : Type 0} (l : Language H K V B F R) (x : Suite H K V) whe
       let p = l.step (chain x n) b s.flat in
       record { flat = p.content; status = put n (with_body (s.status n) p.body) s.status; saved = s.saved }
 
-  -- Leave of a test or of an `after_all`: the keys that the node may change stand again as at its Enter
+  -- Leave of a test or of an `after_all`: the keys that the node may change stand again as at its
+  -- Enter
   abbrev pub finishing : ℕ → R → Nodes K V B F R → Nodes K V B F R
   finishing n r s = record {
     flat = λ k. cond (may_write l x n k) (s.saved n k) (s.flat k);
@@ -113,6 +117,6 @@ module _ {H K V B F R : Type 0} (l : Language H K V B F R) (x : Suite H K V) whe
   }
   after s (Shut w n) = record { nodes = shutting n s.nodes; owner = s.owner; busy = put w (Some n) s.busy; stopped = s.stopped }
 
--- a Step that meets want of memory: the run is stopped, and nothing else changes
+-- a Step that runs out of memory: the run is stopped, and nothing else changes
 abbrev pub stop : {K V B F R : Type 0} → State K V B F R → State K V B F R
 stop s = record { nodes = s.nodes; owner = s.owner; busy = s.busy; stopped = true }

@@ -95,8 +95,9 @@ late_steps = Enter 0 1 ∷ Enter 1 4 ∷ Step 0 ∷ Step 1 ∷ Leave 1 ∷ Leave
 abbrev pub opened_by_1 : List Event
 opened_by_1 = Enter 1 1 ∷ Step 1 ∷ Leave 1 ∷ []
 
--- a history that ends within tests 2 and 5, and one that ends within test 6; the value of a key after a history, where it stands
--- by the last opening, the class of that opening, and whether the key is being written
+-- a history that ends within tests 2 and 5, and one that ends within test 6; the value of a key
+-- after a history, where it stands by the last opening, the class of that opening, and whether the
+-- key is being written
 abbrev pub entered_both : List Event
 entered_both = Enter 0 1 ∷ Enter 1 4 ∷ Leave 1 ∷ Leave 0 ∷ Enter 0 2 ∷ Enter 1 5 ∷ []
 
@@ -115,8 +116,8 @@ last_opened_after h k = last_opened counting shop (state_of counting shop h) k
 abbrev pub is_written_after : List Event → ℕ → Bool
 is_written_after h k = is_being_written counting shop (state_of counting shop h) k
 
--- A suite for refusals alone: node 1 stands in the root, node 6 in node 3, and all others in node 1. What conflicts is told by
--- numbers: every node conflicts with each that has number 4 or more.
+-- A suite for refusals alone: node 1 stands in the root, node 6 in node 3, and all others in node
+-- 1. What conflicts is told by numbers: every node conflicts with each that has number 4 or more.
 abbrev pub crowd : (ℕ → Bool) → Bool → Suite Head ℕ ℕ
 crowd same is_test = record {
   nodes = 8;
@@ -155,8 +156,8 @@ closing = S.Closing [] (counter 0 0 [] true)
 abbrev pub finished : CrowdStatus
 finished = S.Finished None
 
--- a state with these statuses from node 0 on, in which one worker owns all nodes. Workers 1 and 7 have no body, and all others
--- that of node 4.
+-- a state with these statuses from node 0 on, in which one worker owns all nodes. Workers 1 and 7
+-- have no body, and all others that of node 4.
 abbrev pub crowd_at : List CrowdStatus → ℕ → Bool → State ℕ ℕ Counter Counter (Option (List (Option ℕ)))
 crowd_at statuses owner stopped = record {
   nodes = record { flat = numbers; status = at waiting statuses; saved = λ n. numbers };
@@ -181,11 +182,13 @@ why_where same statuses owner e = refusal counting (crowd same false) 2 (crowd_a
 abbrev pub why_stopped : List CrowdStatus → ℕ → Event → Option Refused
 why_stopped statuses owner e = refusal counting (crowd (λ n. true) true) 2 (crowd_at statuses owner true) e
 
--- why an event is refused in the first state, on two workers, where all nodes are SAME_THREAD and classes
+-- why an event is refused in the first state, on two workers, where all nodes are SAME_THREAD and
+-- classes
 abbrev pub why_first : Event → Option Refused
 why_first e = refusal counting (crowd (λ n. true) false) 2 (first counting (crowd (λ n. true) false)) e
 
--- A suite of one class and one test alone, whose chain is that of test 3 of the shop. Key 1 has no value.
+-- A suite of one class and one test alone, whose chain is that of test 3 of the shop. Key 1 has no
+-- value.
 abbrev pub kiosk : Suite Head ℕ ℕ
 kiosk = record {
   nodes = 3;

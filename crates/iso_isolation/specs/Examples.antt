@@ -4,8 +4,8 @@ use Rattle.std.specs.Option.{option_map}
 use Rattle.iso_isolation.specs.Languages.{Content, Progress, Language}
 use Rattle.iso_isolation.specs.Suites.{Suite}
 
--- A head is of a test or a class and names one key: whether it may be looked at, and whether it may be changed. The node's first
--- body has so many turns. A class is well, or its `before_all` fails.
+-- A head is of a test or a class and names one key: whether it may be looked at, and whether it may
+-- be changed. The node's first body has so many turns. A class is well, or its `before_all` fails.
 pub record Head : Type 0 where
   pub is_test : Bool
   pub key : ℕ
@@ -22,7 +22,8 @@ declared access (h ∷ hs) k = cond (access h) (cond (eqb k h.key) true (declare
 abbrev pub looks_at : Head → Bool
 looks_at h = h.looks || h.changes
 
--- the turns that are left, the key that they are at, what they saw of it, and whether the body ends well
+-- the turns that are left, the key that they are at, what they saw of it, and whether the body ends
+-- well
 pub data Counter : Type 0 where
   counter : (left key : ℕ) (seen : List (Option ℕ)) (is_well : Bool) → Counter
 
@@ -62,8 +63,8 @@ abbrev pub seen_first : List Counter → List (Option ℕ)
 seen_first [] = []
 seen_first (f ∷ fs) = seen_by f
 
--- A body begins with what the `before_all` around it saw. A result is what the bodies saw; nothing under a class whose
--- `before_all` failed.
+-- A body begins with what the `before_all` around it saw. A result is what the bodies saw; nothing
+-- under a class whose `before_all` failed.
 abbrev pub counting : Language Head ℕ ℕ Counter Counter (Option (List (Option ℕ)))
 counting = record {
   is_test = λ h. h.is_test;
@@ -87,7 +88,8 @@ at d [] n = d
 at d (a ∷ rest) zero = a
 at d (a ∷ rest) (suc n) = at d rest n
 
--- a node of a suite: the number of the class that it stands in, its mode, the key that it takes, if any, and whether for READ_WRITE
+-- a node of a suite: the number of the class that it stands in, its mode, the key that it takes, if
+-- any, and whether for READ_WRITE
 pub record Row : Type 0 where
   pub parent : ℕ
   pub head : Head
@@ -107,8 +109,8 @@ node_in parent head same lock writer = record { parent = parent; head = head; is
 abbrev pub no_node : Row
 no_node = node_in 0 (class_head 0 false true) true None false
 
--- 1: a class that counts up key 2, with two tests 2 and 3 that do so too, and a mark of its own for it alone.
--- 4: a class with three CONCURRENT tests: 5 counts up key 1 twice, 6 and 7 look at key 1.
+-- 1: a class that counts up key 2, with two tests 2 and 3 that do so too, and a mark of its own for
+-- it alone. 4: a class with three CONCURRENT tests: 5 counts up key 1 twice, 6 and 7 look at key 1.
 -- 8: a class whose `before_all` fails, with a class 9 and in it a test 10.
 abbrev pub rows : List Row
 rows =

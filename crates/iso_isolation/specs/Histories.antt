@@ -1,4 +1,5 @@
--- Histories: what a run is by its Enters, Leaves and Shuts alone. For running workers, whose steps stand in no list.
+-- Histories: what a run is by its Enters, Leaves and Shuts alone. For running workers, whose steps
+-- stand in no list.
 use Rattle.std.specs.Prelude.{◌≡◌, ℕ, zero, suc, ◌<◌, Bool, true, false, cond, ◌&&◌, List, [], ◌∷◌, ◌++◌, Option, Some, None, is_some}
 use Rattle.iso_isolation.specs.Languages.{Content, Language}
 use Rattle.iso_isolation.specs.Suites.{Suite, chain, may_write}
@@ -39,17 +40,19 @@ module _ {H K V B F R : Type 0} (l : Language H K V B F R) (x : Suite H K V) whe
     pub no_step : has_no_step h ≡ true
     pub run : is_run l x workers (first l x) (full l x (first l x) h) ≡ true
 
-  -- A history goes on by an event, and gives the state after it and the steps that are made before it.
+  -- A history goes on by an event, and gives the state after it and the steps that are made before
+  -- it.
   pub record GoesOn (workers : ℕ) (h : List Event) (e : Event) : Type 0 where
     pub history : IsHistory workers (h ++ e ∷ [])
     pub state : state_of (h ++ e ∷ []) ≡ after_all_of l x (state_of h) (with_steps l x (state_of h) e)
 
-  -- Of the unfinished classes whose `before_all` was left and which may change a key, the innermost. They stand in one another,
-  -- so it has the highest number.
+  -- Of the unfinished classes whose `before_all` was left and which may change a key, the
+  -- innermost. They stand in one another, so it has the highest number.
   abbrev pub last_opened : State K V B F R → K → Option ℕ
   last_opened s k = highest_below x.nodes (λ c. is_some (frames_in (s.nodes.status c)) && may_write l x c k)
 
-  -- where a key stands between bodies: as the opening of that class left it, or at its start where there is none
+  -- where a key stands between bodies: as the opening of that class left it, or at its start where
+  -- there is none
   abbrev pub standing_value : State K V B F R → Content K V
   standing_value s k = where_some (last_opened s k) (x.start k) (λ c. (opening l (chain x c) x.start).content k)
 

@@ -6,8 +6,9 @@ use Rattle.iso_isolation.specs.Suites.{Suite}
 use Rattle.iso_isolation.specs.States.{State, is_waiting, is_open, is_finished, is_at_rest, is_held, body_in}
 use Rattle.iso_isolation.specs.Events.{Event, Enter, Step, Leave, Shut, where_some}
 
--- Why an event is refused. The last two are a book's, to which a worker brings the body that has ended and the values that it holds:
--- the body is of node m or of a kind that isn't the worker's, and the values aren't those of the book. No event of a state tests them.
+-- Why an event is refused. The last two are a book's, to which a worker brings the body that has
+-- ended and the values that it holds: the body is of node m or of a kind that isn't the worker's,
+-- and the values aren't those of the book. No event of a state tests them.
 pub data Refused : Type 0 where
   Stopped : Refused
   NoWorker : Refused

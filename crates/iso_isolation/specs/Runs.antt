@@ -1,4 +1,5 @@
--- Runs: lists of events of which each is accepted in the state that the earlier ones give; and histories.
+-- Runs: lists of events of which each is accepted in the state that the earlier ones give; and
+-- histories.
 use Rattle.std.specs.Prelude.{ℕ, zero, suc, Bool, true, cond, not, ◌&&◌, List, [], ◌∷◌, ◌++◌, replicate, Option, is_none}
 use Rattle.iso_isolation.specs.Languages.{Content, Language}
 use Rattle.iso_isolation.specs.Suites.{Suite, chain}
@@ -35,7 +36,8 @@ module _ {H K V B F R : Type 0} (l : Language H K V B F R) (x : Suite H K V) whe
   abbrev pub steps_needed : State K V B F R → ℕ → ℕ
   steps_needed s w = where_some (s.busy w) 0 (λ n. where_some (body_in (s.nodes.status n)) 0 (λ b. steps_left l (chain x n) b s.nodes.flat))
 
-  -- an event of a history with the steps that are still to be made before it: before a Leave, those that the body needs
+  -- an event of a history with the steps that are still to be made before it: before a Leave, those
+  -- that the body needs
   abbrev pub with_steps : State K V B F R → Event → List Event
   with_steps s (Enter w n) = Enter w n ∷ []
   with_steps s (Step w) = Step w ∷ []

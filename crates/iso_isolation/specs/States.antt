@@ -3,9 +3,9 @@ use Rattle.std.specs.Prelude.{ℕ, Bool, true, false, cond, eqb, List, [], Optio
 use Rattle.iso_isolation.specs.Languages.{Content, Language}
 use Rattle.iso_isolation.specs.Suites.{Suite}
 
--- A node waits; its first body is under way, a class's `before_all` or a whole test; a class is open, or barred where
--- `before_all` didn't end well; its `after_all` is under way; it is finished. An entered class has its frame and those of the
--- classes around it.
+-- A node waits; its first body is under way, a class's `before_all` or a whole test; a class is
+-- open, or barred where `before_all` didn't end well; its `after_all` is under way; it is finished.
+-- An entered class has its frame and those of the classes around it.
 pub data Status (B F R : Type 0) : Type 0 where
   Waiting : Status B F R
   Begun : B → Status B F R
@@ -108,15 +108,15 @@ module _ {B F R : Type 0} where
   result_in (Closing fs b) = None
   result_in (Finished r) = Some r
 
--- all resources in one flat map; the status of each node; and of each entered node, until it is finished, the values at its
--- Enter of the keys that it may change
+-- all resources in one flat map; the status of each node; and of each entered node, until it is
+-- finished, the values at its Enter of the keys that it may change
 pub record Nodes (K V B F R : Type 0) : Type 0 where
   pub flat : Content K V
   pub status : ℕ → Status B F R
   pub saved : ℕ → Content K V
 
--- besides, the owner of each node, the worker that entered it; the node of each worker's body, if it has one; and whether the
--- run was stopped
+-- besides, the owner of each node, the worker that entered it; the node of each worker's body, if
+-- it has one; and whether the run was stopped
 pub record State (K V B F R : Type 0) : Type 0 where
   pub nodes : Nodes K V B F R
   pub owner : ℕ → ℕ

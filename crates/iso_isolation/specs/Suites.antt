@@ -1,11 +1,13 @@
--- What a run asks of a suite, its tree of classes and tests with their locks and the starting values, and the laws that it keeps.
+-- What a run asks of a suite, its tree of classes and tests with their locks and the starting
+-- values, and the laws that it keeps.
 use Rattle.std.specs.Prelude.{◌≡◌, ℕ, ◌<◌, Bool, true, List, [], ◌∷◌, map, ◌⊎◌}
 use Rattle.iso_isolation.specs.Languages.{Content, Language}
 
 -- Node 0 is the root, and the others have numbers up to `nodes`.
 pub record Suite (H K V : Type 0) : Type 0 where
   pub nodes : ℕ
-  -- the node that a node stands in; and its path: itself and the classes that it stands in, innermost first, without the root
+  -- the node that a node stands in; and its path: itself and the classes that it stands in,
+  -- innermost first, without the root
   pub parent : ℕ → ℕ
   pub path : ℕ → List ℕ
   pub head : ℕ → H
@@ -43,15 +45,16 @@ module _ {H K V B F R : Type 0} (l : Language H K V B F R) (x : Suite H K V) whe
   abbrev pub may_write : ℕ → K → Bool
   may_write n k = l.writes (chain x n) k
 
-  -- a node at or above this one takes the key, and takes it for READ_WRITE where this one may change it
+  -- a node at or above this one takes the key, and takes it for READ_WRITE where this one may
+  -- change it
   pub record Covered (n : ℕ) (k : K) : Type 0 where
     pub by : ℕ
     pub on : On x by n
     pub takes : x.takes by k ≡ true
     pub write : may_write n k ≡ true → x.takes_write by k ≡ true
 
-  -- A tree, of which each node stands in one with a smaller number; locks that cover the rights; and nodes under one that
-  -- takes a key for READ_WRITE are forced to SAME_THREAD.
+  -- A tree, of which each node stands in one with a smaller number; locks that cover the rights;
+  -- and nodes under one that takes a key for READ_WRITE are forced to SAME_THREAD.
   pub record SuiteLaws : Type 0 where
     pub root : x.path 0 ≡ []
     pub path : (n : ℕ) → (n ≡ 0 → ⊥) → x.path n ≡ n ∷ x.path (x.parent n)

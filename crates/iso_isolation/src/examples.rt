@@ -10,8 +10,9 @@ ghost use Rattle.iso_isolation.specs.Isolation.{AgreeOn, Gives};
 ghost use Rattle.iso_isolation.specs.Refusals as Why;
 ghost use Rattle.iso_isolation.specs.Runs.{full, history_of};
 
-/// What the nodes of the example come to by themselves: a class opens on what the class around it left, a test runs on what its
-/// class left, `after_all` goes on from `before_all`, and nothing runs under a class whose `before_all` failed.
+/// What the nodes of the example come to by themselves: a class opens on what the class around it
+/// left, a test runs on what its class left, `after_all` goes on from `before_all`, and nothing
+/// runs under a class whose `before_all` failed.
 pub fn chains_run_alone()
     ensures class { by_itself 1 ≡ Some (Some 7 ∷ Some 8 ∷ []) }
     ensures test { by_itself 2 ≡ Some (Some 7 ∷ Some 8 ∷ Some 9 ∷ []) }
@@ -26,8 +27,9 @@ pub fn chains_run_alone()
     ensures other_key { restricted (eqb 2) numbers 1 ≡ None }
 {}
 
-/// Bodies of two workers, one step of the one after one of the other: each result is that of the chain alone, a test's values
-/// are put back when it leaves, and a class's when its `after_all` leaves.
+/// Bodies of two workers, one step of the one after one of the other: each result is that of the
+/// chain alone, a test's values are put back when it leaves, and a class's when its `after_all`
+/// leaves.
 pub fn bodies_run_side_by_side()
     ensures accepted { is_run_of_shop closed_first ≡ true }
     ensures first { came_to both_left 2 ≡ Some (Some (Some 7 ∷ Some 8 ∷ Some 9 ∷ [])) }
@@ -45,7 +47,8 @@ pub fn bodies_run_side_by_side()
     ensures at_its_start { value_after (closed_first ++ Leave 0 ∷ []) 2 ≡ Some 7 }
 {}
 
-/// Under a class whose `before_all` failed all is finished at its Leave, and the class is shut at once.
+/// Under a class whose `before_all` failed all is finished at its Leave, and the class is shut at
+/// once.
 pub fn barred_class_runs_nothing()
     ensures below { came_to barred 10 ≡ Some None }
     ensures child { came_to barred 9 ≡ Some None }
@@ -67,8 +70,8 @@ pub fn run_is_whole_when_all_nodes_have_finished()
     ensures two { value_after whole 2 ≡ Some 7 }
 {}
 
-/// What the locks and the order of siblings refuse: a reader beside a writer, the lowest holder named, and a forced test before
-/// its earlier sibling has finished.
+/// What the locks and the order of siblings refuse: a reader beside a writer, the lowest holder
+/// named, and a forced test before its earlier sibling has finished.
 pub fn locks_and_siblings_are_waited_for()
     ensures reader_beside_writer { refused_after (opened_both ++ Enter 1 5 ∷ []) (Enter 2 6) ≡ Some (Why.LockHeld 5) }
     ensures writer_beside_readers { refused_after (opened_both ++ Enter 1 7 ∷ Enter 2 6 ∷ []) (Enter 0 5) ≡ Some (Why.LockHeld 6) }
@@ -80,8 +83,9 @@ pub fn locks_and_siblings_are_waited_for()
     ensures after_the_last { refused_after closed_first (Leave 0) ≡ None }
 {}
 
-/// A history in full has before each Leave the steps that its body still needs; without them it is the history again. After it a
-/// key stands where the last opening of its writer left it, whatever bodies are under way.
+/// A history in full has before each Leave the steps that its body still needs; without them it is
+/// the history again. After it a key stands where the last opening of its writer left it, whatever
+/// bodies are under way.
 pub fn history_in_full_has_the_steps_before_each_leave()
     ensures full { full counting shop begun_shop history ≡ in_full }
     ensures accepted { is_run_of_shop in_full ≡ true }
@@ -101,8 +105,8 @@ pub fn history_in_full_has_the_steps_before_each_leave()
     ensures read { is_written_after entered_reader 1 ≡ false }
 {}
 
-/// Worker 0 owns the root, so it enters the top-level classes that are SAME_THREAD; and the worker that entered a class owns it, so it
-/// enters the class's SAME_THREAD children.
+/// Worker 0 owns the root, so it enters the top-level classes that are SAME_THREAD; and the worker
+/// that entered a class owns it, so it enters the class's SAME_THREAD children.
 pub fn owner_enters_same_thread_children()
     ensures top_level { why_first (Enter 0 1) ≡ None }
     ensures of_root { why_first (Enter 1 1) ≡ Some Why.NotOwner }
@@ -110,7 +114,8 @@ pub fn owner_enters_same_thread_children()
     ensures of_class { refused_after opened_by_1 (Enter 0 2) ≡ Some Why.NotOwner }
 {}
 
-/// Of the kinds that apply to an Enter the first is answered. Node 3 is entered by worker 1, in a class that worker 0 owns.
+/// Of the kinds that apply to an Enter the first is answered. Node 3 is entered by worker 1, in a
+/// class that worker 0 owns.
 pub fn enter_is_refused_by_the_first_kind()
     ensures stopped { why_stopped (barred_class ∷ barred_class ∷ waiting ∷ finished ∷ live ∷ live ∷ []) 0 (Enter 9 99) ≡ Some Why.Stopped }
     ensures stopped_first { why_stopped (barred_class ∷ barred_class ∷ waiting ∷ finished ∷ live ∷ live ∷ []) 0 (Enter 0 3) ≡ Some Why.Stopped }
@@ -192,8 +197,8 @@ pub fn kinds_of_refusal_have_their_limits()
     ensures closing_parent { why (opened ∷ closing ∷ finished ∷ waiting ∷ []) 1 (Enter 1 3) ≡ Some Why.ParentClosed }
 {}
 
-/// What the laws ask of runs is met: a result that a run gives, two suites that agree on a chain though they differ at a key that it
-/// has no right to, a history, and two runs with one history.
+/// What the laws ask of runs is met: a result that a run gives, two suites that agree on a chain
+/// though they differ at a key that it has no right to, a history, and two runs with one history.
 pub fn runs_give_what_the_laws_ask()
     ensures given { Gives counting shop 5 (Some (None ∷ Some 5 ∷ Some 6 ∷ [])) }
     ensures agree { AgreeOn counting shop kiosk 3 2 }

@@ -12,7 +12,8 @@ is_a_test r n = is_test (row_at r.tree n).kind
 abbrev pub failed_itself : RunView → ℕ → Bool
 failed_itself r n = has_failed (r.outcome n).verdict
 
--- the testcases of a class: one of its own, where its own blocks failed, and one for each test that stands directly in it
+-- the testcases of a class: one of its own, where its own blocks failed, and one for each test that
+-- stands directly in it
 abbrev pub cases : RunView → ℕ → List ℕ
 cases r class = filter (failed_itself r) (class ∷ []) ++ filter (is_a_test r) (children r.tree class)
 

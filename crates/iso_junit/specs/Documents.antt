@@ -1,4 +1,5 @@
--- The document: a testsuite for each class that has one, and in it its testcases (JUnit XML as Surefire writes and Jenkins reads it).
+-- The document: a testsuite for each class that has one, and in it its testcases (JUnit XML as
+-- Surefire writes and Jenkins reads it).
 use Rattle.std.specs.Prelude.{ℕ, List, [], ◌∷◌, ◌++◌, Option, Bool, ◌&&◌, cond, codes, flat_map}
 use Rattle.std.specs.Fmt.{decimal}
 use Rattle.iso_failures.specs.Nodes.{has_passed}
@@ -32,7 +33,8 @@ numbers_text t =
 abbrev pub counts_text : Tally → List ℕ
 counts_text t = numbers_text t ++ time_attribute t.time
 
--- the name of a testcase: that of its test, and for a class's own a word that no test has as its name
+-- the name of a testcase: that of its test, and for a class's own a word that no test has as its
+-- name
 abbrev pub case_name : RunView → ℕ → List ℕ
 case_name r n = cond (is_a_test r n) (row_at r.tree n).name (codes "class")
 

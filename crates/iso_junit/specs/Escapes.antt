@@ -7,8 +7,9 @@ use Rattle.std.specs.Fmt.{decimal}
 abbrev pub numbered : ℕ → List ℕ
 numbered b = codes "&#" ++ decimal b ++ codes ";"
 
--- A byte as it stands there: those that mean something to a reader of XML by their names, control characters by their numbers, as a
--- reader could take a line feed for a space, and each other byte as it is.
+-- A byte as it stands there: those that mean something to a reader of XML by their names, control
+-- characters by their numbers, as a reader could take a line feed for a space, and each other byte
+-- as it is.
 abbrev pub escaped_byte : ℕ → List ℕ
 escaped_byte b =
     cond (b == 60) (codes "&lt;")

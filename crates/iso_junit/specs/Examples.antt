@@ -32,8 +32,9 @@ passed = record { verdict = Pass; output = [] }
 abbrev silent : Verdict → Outcome
 silent verdict = record { verdict = verdict; output = [] }
 
--- What the root and Cart, a, Till, b, Drawer, c, d, Desk, e, f came to: the class Cart printed, and failed by itself after its tests; so
--- did Till in it before them, by a fault, which blocks b and c; d failed, which has the display text "the last"; e and f were skipped.
+-- What the root and Cart, a, Till, b, Drawer, c, d, Desk, e, f came to: the class Cart printed, and
+-- failed by itself after its tests; so did Till in it before them, by a fault, which blocks b and
+-- c; d failed, which has the display text "the last"; e and f were skipped.
 abbrev outcomes : List Outcome
 outcomes =
     passed

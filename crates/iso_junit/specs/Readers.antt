@@ -26,8 +26,9 @@ abbrev pub with_byte : Option ℕ → Option (List ℕ) → Option (List ℕ)
 with_byte None text = None
 with_byte (Some b) text = option_map (λ bs. b ∷ bs) text
 
--- The text that bytes are from there on; inside of a reference with what stood of it so far. Bytes in which a special one stands as it
--- is, or a reference stands for nothing or has no end, are none.
+-- The text that bytes are from there on; inside of a reference with what stood of it so far. Bytes
+-- in which a special one stands as it is, or a reference stands for nothing or has no end, are
+-- none.
 abbrev pub read_from : Option (List ℕ) → List ℕ → Option (List ℕ)
 read_from None [] = Some []
 read_from (Some name) [] = None

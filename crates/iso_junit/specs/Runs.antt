@@ -1,4 +1,5 @@
--- What contracts see of a run: its nodes, what they came to, where they stand and how long their bodies took.
+-- What contracts see of a run: its nodes, what they came to, where they stand and how long their
+-- bodies took.
 use Rattle.std.specs.Prelude.{ℕ, List, [], Option, None, map, slice_index_or}
 use Rattle.iso_lifecycle.specs.ResultViews.{outcome_in}
 use Rattle.iso_model.specs.declared.outcome.Outcome.{Outcome}

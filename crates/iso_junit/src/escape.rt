@@ -6,7 +6,8 @@ ghost use Rattle.iso_tap.specs.Printers.{Prints};
 use iso_tap::printer::{Piece, Printer};
 use iso_tap::sink::{Sink, SinkFailed};
 
-/// Writes a text as it stands in an attribute or in an element. What stands between special bytes goes to the sink in one call.
+/// Writes a text as it stands in an attribute or in an element. What stands between special bytes
+/// goes to the sink in one call.
 pub fn escaped<W: Sink>(printer: &mut Printer<'_, W>, text: &[u8]) -> Result<(), SinkFailed>
     ensures { Prints printer.old printer.new (escaped text.now) result }
 {

@@ -8,7 +8,8 @@ ghost use Rattle.iso_junit.specs.Files.{file_name};
 ghost use Rattle.iso_junit.specs.Readers.{unescaped};
 ghost use Rattle.iso_junit.specs.Times.{time_attribute, time_of};
 
-/// Bytes that mean something to a reader of XML stand by their names, control characters by their numbers, all else as it is.
+/// Bytes that mean something to a reader of XML stand by their names, control characters by their
+/// numbers, all else as it is.
 pub fn special_bytes_are_escaped()
     ensures named { escaped (codes "<a> & \"b\"") ≡ codes "&lt;a&gt; &amp; &quot;b&quot;" }
     ensures numbered { escaped (codes "a\n\tb" ++ 13 ∷ 0 ∷ 127 ∷ []) ≡ codes "a&#10;&#9;b&#13;&#0;&#127;" }
@@ -27,7 +28,8 @@ pub fn readers_refuse_what_is_not_escaped()
     ensures read { unescaped (codes "a&lt;&#10;b") ≡ Some (codes "a<\nb") }
 {}
 
-/// Control characters of a file's name are told by their escapes, and U+FFFE and U+FFFF, which XML doesn't allow.
+/// Control characters of a file's name are told by their escapes, and U+FFFE and U+FFFF, which XML
+/// doesn't allow.
 pub fn names_of_files_have_allowed_characters()
     ensures control { file_name (codes "a\nb" ++ 27 ∷ []) ≡ codes "a\\nb\\u001B" }
     ensures none { file_name (239 ∷ 191 ∷ 190 ∷ 239 ∷ 191 ∷ 191 ∷ []) ≡ codes "\\uFFFE\\uFFFF" }
@@ -51,7 +53,8 @@ pub fn passed_test_is_a_line()
         ≡ text_of ("    <testcase name=\"a\" classname=\"shop.Cart\" file=\"cart.jtap\" line=\"3\" time=\"0.000002\"/>" ∷ []) }
 {}
 
-/// A fail is a failure, with the place of what ended it; a display text and what was printed are its output.
+/// A fail is a failure, with the place of what ended it; a display text and what was printed are
+/// its output.
 pub fn failed_test_is_a_failure()
     ensures { case_text cart_run 1 7
         ≡ text_of
@@ -74,7 +77,8 @@ pub fn skipped_test_has_its_reason()
         ∷ []) }
 {}
 
-/// A class whose own blocks ended by a fault has an error of its own, and the tests that it blocks have errors with its place.
+/// A class whose own blocks ended by a fault has an error of its own, and the tests that it blocks
+/// have errors with its place.
 pub fn blocked_tests_stand_beside_their_class()
     ensures { suite_text cart_run 3
         ≡ text_of
@@ -111,7 +115,8 @@ pub fn class_has_its_output()
         ∷ []) }
 {}
 
-/// The testsuites of classes in one another stand side by side, in the order in which they are written, and the counts are of all.
+/// The testsuites of classes in one another stand side by side, in the order in which they are
+/// written, and the counts are of all.
 pub fn document_has_all_testcases()
     ensures { junit_text cart_run
         ≡ text_of

@@ -20,10 +20,11 @@ use iso_tap::fault::TapFault;
 use iso_tap::printer::Printer;
 use iso_tap::sink::{Sink, SinkFailed};
 
-/// Writes results as JUnit XML: a testsuite for each class that has tests or whose own blocks failed or printed, in the order in which
-/// they are written, with a testcase for each test in it, and one for the class where its own blocks failed. All nodes but the root
-/// must have results. Each node, the root too, has its place at its number. So have times, in microseconds: what isn't there wasn't
-/// measured. Takes no memory.
+/// Writes results as JUnit XML: a testsuite for each class that has tests or whose own blocks
+/// failed or printed, in the order in which they are written, with a testcase for each test in it,
+/// and one for the class where its own blocks failed. All nodes but the root must have results.
+/// Each node, the root too, has its place at its number. So have times, in microseconds: what isn't
+/// there wasn't measured. Takes no memory.
 ///
 /// The sink is asked again where it takes only some bytes, and no more once it has failed.
 pub fn write_junit<W: Sink>(

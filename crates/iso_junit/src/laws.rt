@@ -12,8 +12,8 @@ ghost use Rattle.iso_junit.specs.Tallies.{how_many, tally};
 ghost use Rattle.iso_model.specs.declared.outcome.Verdict.{Verdict};
 ghost use Rattle.iso_plan.specs.Paths.{IsTree, is_root, parent};
 
-/// A reader of XML reads each text back as it was, whatever bytes it has, in an attribute and in an element. So no byte that means
-/// something to it stands as it is.
+/// A reader of XML reads each text back as it was, whatever bytes it has, in an attribute and in an
+/// element. So no byte that means something to it stands as it is.
 pub fn readers_read_texts_back()
     ensures { (text : List ℕ) → unescaped (escaped text) ≡ Some text }
 {}
@@ -23,8 +23,9 @@ pub fn names_of_files_are_allowed()
     ensures { (name : List ℕ) → IsUtf8 name → list_all is_allowed (chars (file_name name)) ≡ true }
 {}
 
-/// The document counts what a run's summary counts: each test once, and each class whose own blocks failed as one more; skipped tests; and
-/// as failures and errors together the tests that failed or were blocked, and these classes.
+/// The document counts what a run's summary counts: each test once, and each class whose own blocks
+/// failed as one more; skipped tests; and as failures and errors together the tests that failed or
+/// were blocked, and these classes.
 pub fn document_counts_what_a_summary_counts()
     ensures tests { (r : RunView) → IsTree r.tree
         → let all = tally r (all_cases r) in let summary = counts r.tree r.outcome in all.tests ≡ summary.tests + summary.classes_not_ok }
@@ -35,8 +36,8 @@ pub fn document_counts_what_a_summary_counts()
         all.failures + all.errors ≡ summary.not_ok + summary.blocked + summary.classes_not_ok }
 {}
 
-/// Each testcase stands in the testsuite of one class, where each test stands in a class: whatever one counts of the testsuites' testcases,
-/// there are as many of all.
+/// Each testcase stands in the testsuite of one class, where each test stands in a class: whatever
+/// one counts of the testsuites' testcases, there are as many of all.
 pub fn testsuites_sum_up_to_the_document()
     ensures { (r : RunView) → IsTree r.tree → ((n : ℕ) → is_a_test r n ≡ true → is_root (parent r.tree n) ≡ false)
         → (such : Verdict → Bool) → how_many r such (all_cases r) ≡ sum_by (λ class. how_many r such (cases r class)) (suites r) }

@@ -14,7 +14,8 @@ use iso_plan::plan::Plan;
 use iso_tap::printer::Printer;
 use iso_tap::sink::{Sink, SinkFailed};
 
-/// Writes the display text of a node and the lines that its blocks printed, where it has any of them.
+/// Writes the display text of a node and the lines that its blocks printed, where it has any of
+/// them.
 pub(crate) fn output<'x, W: Sink>(
     printer: &mut Printer<'_, W>,
     indent: &'x str,

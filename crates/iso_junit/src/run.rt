@@ -7,7 +7,8 @@ use iso_lifecycle::results::Results;
 use iso_lifecycle::view::View;
 use iso_plan::plan::Plan;
 
-/// A plan, the results of all its nodes, and by node where they stand and how many microseconds their bodies took.
+/// A plan, the results of all its nodes, and by node where they stand and how many microseconds
+/// their bodies took.
 #[derive(Clone, Copy)]
 pub struct Run<'r, 'p> {
     pub plan: &'r Plan,

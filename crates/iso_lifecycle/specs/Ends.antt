@@ -38,7 +38,8 @@ pub record IsOpening (s : Subject) (o : Openings.Opened) : Type 0 where
   pub frames : (opening_of s).frames ≡ own_frame s ∷ (opening_of (enclosing s)).frames
   pub well : (opening_of s).well ≡ is_well o.ending
 
--- how the `after_all` of the innermost class of a chain ends, on what the opening of the chain left, whatever its own `before_all` came to
+-- how the `after_all` of the innermost class of a chain ends, on what the opening of the chain
+-- left, whatever its own `before_all` came to
 abbrev pub closing_ending : List ClassHead → Opening → Ending
 closing_ending [] o = Well
 closing_ending (c ∷ cs) o = (after_all c cs o).here.ending
@@ -51,13 +52,15 @@ is_unfailed (Fault kind note) = false
 is_unfailed (Skipped note) = true
 is_unfailed (Blocked note) = false
 
--- whether a body of a subject's node ends well: a class's block without a fail, fault or false assumption, a test without a fail or fault
+-- whether a body of a subject's node ends well: a class's block without a fail, fault or false
+-- assumption, a test without a fail or fault
 abbrev pub ends_well : BodyKind → Subject → Bool
 ends_well BeforeAll s = is_well (own_frame s).ending
 ends_well Test s = is_unfailed (outcome_of s).verdict
 ends_well AfterAll s = is_well (closing_ending (classes_of s) (opening_of s))
 
--- an `after_all` ended as it does in the class run alone, and the class's outcome is that of its `before_all` and this `after_all`
+-- an `after_all` ended as it does in the class run alone, and the class's outcome is that of its
+-- `before_all` and this `after_all`
 pub record IsClosing (s : Subject) (c : Closings.Closed) : Type 0 where
   pub ending_is : c.ending ≡ closing_ending (classes_of s) (opening_of s)
   pub outcome : outcome_of s ≡ record { verdict = verdict ((own_frame s).ending ∷ c.ending ∷ []); output = (own_frame s).lines ++ c.lines }
@@ -68,7 +71,8 @@ IsEnd s (Opened o) = IsOpening s o
 IsEnd s (Tested o) = o ≡ outcome_of s
 IsEnd s (Closed c) = IsClosing s c
 
--- What every end of a body is: that of a body which its node has, where the enclosing classes were opened well.
+-- What every end of a body is: that of a body which its node has, where the enclosing classes were
+-- opened well.
 pub record IsDone (s : Subject) (what : What) : Type 0 where
   pub inner : 0 < s.node
   pub within : s.node < length s.plan.rows

@@ -13,7 +13,8 @@ use Prim.Native.String.{String}
 abbrev a_class : String → ClassHead → Members → Class
 a_class name head ms = class (record { name = codes name; display = None; mode = None; isolated = false; head = head }) ms
 
--- class Out { before_all { print "open"; fail "no db"; } after_all { print "close"; fail "still no db"; } test t { } class In { before_all { print "in"; } test u { } } }
+-- class Out { before_all { print "open"; fail "no db"; } after_all { print "close"; fail "still no
+-- db"; } test t { } class In { before_all { print "in"; } test u { } } }
 abbrev out : Class
 out =
     a_class "Out" no_database

@@ -1,4 +1,5 @@
--- What contracts see of results: the plan and the start that they are of, and which bodies have been put.
+-- What contracts see of results: the plan and the start that they are of, and which bodies have
+-- been put.
 use Rattle.std.specs.Prelude.{◌≡◌, ℕ, ◌<◌, List, [], ◌∷◌, ◌++◌, length, replicate, Option, Some, None, Bool, true, false, ◌||◌, ◌&&◌, not, cond, slice_index_or, slice_set, refl}
 use Rattle.std.specs.Coded.{Coded, code_by, coded×, coded_list, coded_bool}
 use Rattle.iso_model.specs.LinesView.{lines_in}
@@ -19,7 +20,8 @@ use Rattle.iso_lifecycle.specs.declared.view.View.{View}
 use Rattle.iso_lifecycle.specs.declared.view.ViewVerdict.{ViewVerdict}
 use Rattle.iso_lifecycle.specs.declared.view.ViewVerdict.TheVariants as W
 
--- by node: whether a class's `before_all` was put; whether a test, or a class's `after_all`, was put
+-- by node: whether a class's `before_all` was put; whether a test, or a class's `after_all`, was
+-- put
 pub record ResultsView : Type 0 where
   pub plan : Planned
   pub start : Start
@@ -101,8 +103,9 @@ abbrev pub AreOpened : ResultsView → List ℕ → Type 0
 AreOpened v [] = Unit {0}
 AreOpened v (n ∷ ns) = (is_opened v n ≡ true) × AreOpened v ns
 
--- the end of a body may be put: it is of this plan and start, it wasn't put before, an `after_all` comes after its `before_all`, and the
--- `before_all`s of all enclosing classes were put and ended well
+-- the end of a body may be put: it is of this plan and start, it wasn't put before, an `after_all`
+-- comes after its `before_all`, and the `before_all`s of all enclosing classes were put and ended
+-- well
 pub record CanPut (d : DoneView) (v : ResultsView) : Type 0 where
   pub plan : d.subject.plan ≡ v.plan
   pub start : d.subject.start ≡ v.start

@@ -1,4 +1,5 @@
--- What a frame, a body or a done is for: a node of a plan, on starting values; and what the definitions say of it.
+-- What a frame, a body or a done is for: a node of a plan, on starting values; and what the
+-- definitions say of it.
 use Rattle.std.specs.Prelude.{◌≡◌, ℕ, List, [], ◌∷◌, ◌++◌, map, reverse, Option, Some, None, Bool, true, false, refl}
 use Rattle.std.specs.Coded.{Coded, code_by, coded×, coded_ℕ}
 use Rattle.iso_model.specs.Alone.{class_alone, test_alone}
@@ -74,7 +75,8 @@ first_fields (c ∷ cs) = at_literals Field c.fields
 abbrev pub own_fields : Subject → List Binding
 own_fields s = first_fields (classes_of s)
 
--- the names that a test begins with in classes that are given outermost first: of each its statics, and its fields
+-- the names that a test begins with in classes that are given outermost first: of each its statics,
+-- and its fields
 abbrev pub names_seen : List Subject → List Binding
 names_seen [] = []
 names_seen (s ∷ ss) = ((own_frame s).statics ++ own_fields s) ++ names_seen ss
@@ -97,7 +99,8 @@ is_kind_of AfterAll (test_node head) = false
 abbrev pub IsOfClass : Subject → Type 0
 IsOfClass s = is_kind_of BeforeAll (row_at (tree_of s.plan) s.node).kind ≡ true
 
--- A frame is of a class, and its statics are those that the class's `before_all` left, where the enclosing classes were opened well.
+-- A frame is of a class, and its statics are those that the class's `before_all` left, where the
+-- enclosing classes were opened well.
 pub record IsFrame (s : Subject) (bindings : List Binding) : Type 0 where
   pub class : IsOfClass s
   pub enclosed : (opening_of (enclosing s)).well ≡ true
@@ -133,7 +136,8 @@ begun AfterAll s = begun_closing (classes_of s) (opening_of s)
 abbrev pub reached : BodyKind → Subject → ℕ → Going
 reached kind s n = body_steps (rights_of_subject s) n (begun kind s)
 
--- the nodes whose frames a body begins with, outermost first: the classes that its node stands in, and for an `after_all` its own
+-- the nodes whose frames a body begins with, outermost first: the classes that its node stands in,
+-- and for an `after_all` its own
 abbrev pub framed : BodyKind → Subject → List ℕ
 framed BeforeAll s = reverse (path (tree_of s.plan) (parent (tree_of s.plan) s.node))
 framed Test s = reverse (path (tree_of s.plan) (parent (tree_of s.plan) s.node))

@@ -10,8 +10,9 @@ use Rattle.iso_plan.specs.RowView.{tree_of}
 use Rattle.iso_lifecycle.specs.Subjects.{Subject, begun, enclosing, framed, is_kind_of, opening_of, rights_of_subject, subject}
 use Rattle.iso_lifecycle.specs.declared.kind.BodyKind.{BodyKind}
 
--- A body of this kind can begin with these frames: the node has such a body, the frames are those of the classes that it stands in, outermost
--- first, and for an `after_all` its own, and the classes that it stands in were opened well.
+-- A body of this kind can begin with these frames: the node has such a body, the frames are those
+-- of the classes that it stands in, outermost first, and for an `after_all` its own, and the
+-- classes that it stands in were opened well.
 pub record CanBegin (s : Subject) (kind : BodyKind) (given : List Subject) : Type 0 where
   pub inner : 0 < s.node
   pub within : s.node < length s.plan.rows
@@ -19,12 +20,14 @@ pub record CanBegin (s : Subject) (kind : BodyKind) (given : List Subject) : Typ
   pub frames : given ≡ map (subject s.plan s.start) (framed kind s)
   pub well : (opening_of (enclosing s)).well ≡ true
 
--- Resources are ready for the body: all keys of its rights are there, and stand as the openings before it have left them.
+-- Resources are ready for the body: all keys of its rights are there, and stand as the openings
+-- before it have left them.
 pub record IsReadyFor (s : Subject) (kind : BodyKind) (m : Resources) (writes : List ℕ → Bool) : Type 0 where
   pub keys : HasKeys (rights_of_subject s) m writes
   pub stands : EqualAt (rights_of_subject s) m (begun kind s).resources
 
--- Resources before and after the whole body: no key changed that it may not change, and those of its rights stand as the whole body leaves them.
+-- Resources before and after the whole body: no key changed that it may not change, and those of
+-- its rights stand as the whole body leaves them.
 pub record IsAfterBody (s : Subject) (kind : BodyKind) (old new : Resources) : Type 0 where
   pub others : (k : List ℕ) → is_writable (rights_of_subject s k) ≡ false → new k ≡ old k
   pub whole : EqualAt (rights_of_subject s) new (body_finished (rights_of_subject s) (begun kind s)).resources

@@ -21,7 +21,8 @@ use iso_model::place::{BlockName, Lifecycle};
 use iso_plan::laws::{chains_grow_down, paths_lead_up};
 use std::alloc::{AllocError, Global};
 
-/// What a body begins with: its run, how many of its names are of the enclosing classes, and the frame that an empty `before_all` leaves.
+/// What a body begins with: its run, how many of its names are of the enclosing classes, and the
+/// frame that an empty `before_all` leaves.
 #[derive(Drop)]
 pub(crate) struct Beginning<'a> {
     pub(crate) run: BodyRun<'a>,
@@ -115,7 +116,8 @@ impl<'a> Origin<'a> {
         chains_grow_down(self.plan);
     }
 
-    /// What a body begins with whose run is at its beginning, with so many names of the enclosing classes.
+    /// What a body begins with whose run is at its beginning, with so many names of the enclosing
+    /// classes.
     fn with_frame(
         &self,
         alloc: Global,

@@ -24,8 +24,8 @@ use iso_settings::world::World;
 use std::alloc::{AllocError, Global};
 use std::snapshot::Snapshot;
 
-/// A body of a node of a plan: a class's `before_all` or `after_all`, or a whole test (JUnit 5, test lifecycle). Once out of
-/// memory in a step it never ends, and is only to be dropped.
+/// A body of a node of a plan: a class's `before_all` or `after_all`, or a whole test (JUnit 5,
+/// test lifecycle). Once out of memory in a step it never ends, and can only be dropped.
 #[derive(Drop)]
 pub struct Body<'a> {
     alloc: Global,
@@ -42,8 +42,8 @@ pub struct Body<'a> {
 impl<'a> Body<'a> {
     ghost use Rattle.iso_lifecycle.specs.BodyViews.{Stands, kind_of_body, stage_of_body, subject_of};
 
-    /// A body at its beginning, with the frames of the classes that its node stands in, outermost first, and for an `after_all`
-    /// its own.
+    /// A body at its beginning, with the frames of the classes that its node stands in, outermost
+    /// first, and for an `after_all` its own.
     pub fn begin(
         alloc: Global,
         plan: &'a Plan,
@@ -73,8 +73,8 @@ impl<'a> Body<'a> {
         })
     }
 
-    /// Does the first piece that is left, on what the body's last step left, and at first on what the openings before it left, at the
-    /// keys of its rights.
+    /// Does the first piece that is left, on what the body's last step left, and at first on what
+    /// the openings before it left, at the keys of its rights.
     #[inline(always)]
     pub fn step<T: Touch>(&mut self, touch: &mut T) -> Result<(), AllocError>
         requires under_way { is_ended (stage_of_body self.old) ≡ false }
@@ -105,8 +105,9 @@ impl<'a> Body<'a> {
         }
     }
 
-    /// Does all steps that are left, and answers what the body came to. The gate is told that the body begins and, once it has ended, how.
-    /// After each step the worker meets the gate; whoever began the body lets it meet the gate before the first.
+    /// Does all steps that are left, and answers what the body came to. The gate is told that the
+    /// body begins and, once it has ended, how. After each step the worker meets the gate; whoever
+    /// began the body lets it meet the gate before the first.
     pub fn run<T: Touch, G: Gate>(
         self,
         worker: u32,

@@ -28,7 +28,8 @@ use std::alloc::{AllocError, Global};
 use std::mem;
 use std::sync::Arc;
 
-/// What an ended body leaves: the endings of the blocks that were done, in order, the lines that they printed, and its names.
+/// What an ended body leaves: the endings of the blocks that were done, in order, the lines that
+/// they printed, and its names.
 #[derive(Drop)]
 pub(crate) struct BodyEnd {
     pub endings: Vec<Ending>,
@@ -36,7 +37,8 @@ pub(crate) struct BodyEnd {
     pub names: Bindings,
 }
 
-/// A run of a body (JUnit 5, test lifecycle), one step at a time. Once out of memory it is only to be dropped.
+/// A run of a body (JUnit 5, test lifecycle), one step at a time. After running out of memory it
+/// can only be dropped.
 #[derive(Drop)]
 pub(crate) struct BodyRun<'a> {
     rest: Rest<'a>,
@@ -47,8 +49,8 @@ pub(crate) struct BodyRun<'a> {
 impl<'a> BodyRun<'a> {
     ghost use Rattle.iso_lifecycle.specs.BodyRuns.{account_in_run, end_account, rights_of, settled_stage, stage_of};
 
-    /// A whole test at its beginning, in these classes: its blocks, or where it is disabled its end. The names are those that the
-    /// innermost block sees, the outer classes' first.
+    /// A whole test at its beginning, in these classes: its blocks, or where it is disabled its
+    /// end. The names are those that the innermost block sees, the outer classes' first.
     pub(crate) fn of_test(
         alloc: Global,
         classes: &'a [Arc<ClassHead>],
@@ -66,7 +68,8 @@ impl<'a> BodyRun<'a> {
         }
     }
 
-    /// The `before_all` of a class at its beginning, which sees all these names, or where the class is disabled its end.
+    /// The `before_all` of a class at its beginning, which sees all these names, or where the class
+    /// is disabled its end.
     pub(crate) fn of_opening(
         alloc: Global,
         class: &'a ClassContents,
@@ -83,7 +86,8 @@ impl<'a> BodyRun<'a> {
         }
     }
 
-    /// A body of a disabled node: it has ended where it begins, as by a false assumption of this reason.
+    /// A body of a disabled node: it has ended where it begins, as by a false assumption of this
+    /// reason.
     fn of_disabled(
         alloc: Global,
         reason: &Text,
@@ -114,8 +118,8 @@ impl<'a> BodyRun<'a> {
         Ok(BodyRun { rest, block: None })
     }
 
-    /// The blocks of a test at their beginning: the `before_each` blocks of these classes, outermost first, its own block, and the
-    /// `after_each` blocks, innermost first.
+    /// The blocks of a test at their beginning: the `before_each` blocks of these classes,
+    /// outermost first, its own block, and the `after_each` blocks, innermost first.
     fn of_blocks(
         alloc: Global,
         classes: &'a [Arc<ClassHead>],
@@ -180,8 +184,9 @@ impl<'a> BodyRun<'a> {
         }
     }
 
-    /// Does the first piece that is left; where its block has then ended, the next begins that has something to do.
-    /// A body that has ended stays as it is. One that was out of memory never ends.
+    /// Does the first piece that is left; where its block has then ended, the next begins that has
+    /// something to do. A body that has ended stays as it is. One that was out of memory never
+    /// ends.
     #[inline(always)]
     pub(crate) fn step<T: Touch>(&mut self, touch: &mut T) -> Result<(), AllocError>
         requires { HasKeys (rights_of self.old) (T.content touch.old) (T.writes touch.old) }

@@ -35,9 +35,11 @@ pub(crate) enum What {
     Closed(Closed),
 }
 
-/// What an ended body came to: of a `before_all` its ending, lines and statics, of a test its outcome, of an `after_all` its ending and lines.
+/// What an ended body came to: of a `before_all` its ending, lines and statics, of a test its
+/// outcome, of an `after_all` its ending and lines.
 ///
-/// Contracts see what the body was for. That it came to what the definitions say of that is kept by the type.
+/// Contracts see what the body was for. That it came to what the definitions say of that is kept by
+/// the type.
 #[derive(Drop)]
 pub struct Done {
     pub(crate) plan: Snapshot<Plan>,
@@ -80,7 +82,8 @@ impl Done {
         }
     }
 
-    /// Whether it ended well: a class's block without a fail, fault or false assumption, a test without a fail or fault.
+    /// Whether it ended well: a class's block without a fail, fault or false assumption, a test
+    /// without a fail or fault.
     pub fn is_well(&self) -> bool
         ensures { result ≡ ends_well self.now.kind self.now.subject }
     {

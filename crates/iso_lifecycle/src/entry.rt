@@ -6,7 +6,8 @@ use crate::done::{Closed, Opened, What};
 use iso_model::outcome::Outcome;
 use std::mem;
 
-/// What was put of a node: nothing yet, the outcome of a test, the `before_all` of a class, or that and then its `after_all`.
+/// What was put of a node: nothing yet, the outcome of a test, the `before_all` of a class, or that
+/// and then its `after_all`.
 #[derive(Drop)]
 pub(crate) enum Entry {
     Empty,

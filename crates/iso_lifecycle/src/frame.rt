@@ -11,7 +11,8 @@ use std::marker::Model;
 use std::snapshot::Snapshot;
 use std::sync::Arc;
 
-/// The frozen statics of a class, and its fields at their literals. The start is a snapshot of its body's, since one makes no second snapshot of a world.
+/// The frozen statics of a class, and its fields at their literals. The start is a snapshot of its
+/// body's, since one makes no second snapshot of a world.
 #[derive(Drop)]
 pub(crate) struct Statics {
     pub(crate) plan: Snapshot<Plan>,
@@ -34,7 +35,8 @@ impl Model for Statics {
     ghost invariant = { λ s. IsFrame (subject s.plan.value s.start.value.value s.node) s.names × (s.fields ≡ own_fields (subject s.plan.value s.start.value.value s.node)) };
 }
 
-/// The statics of a class whose `before_all` has ended, which nothing assigns from then on. All its owners share them.
+/// The statics of a class whose `before_all` has ended, which nothing assigns from then on. All its
+/// owners share them.
 ///
 /// Contracts see the class, its plan and the start.
 #[derive(Drop)]

@@ -2,11 +2,13 @@
 
 use crate::kind::BodyKind;
 
-/// What a worker meets while a body of its node is under way. A gate may wait, as a test's does that lets several bodies go on side by side:
-/// then its impl, or the type that it holds, is what may wait.
+/// What a worker meets while a body of its node is under way. A gate may wait, as a test's does
+/// that lets several bodies go on side by side: then its impl, or the type that it holds, is what
+/// may wait.
 ///
-/// It is told of each body twice, with no lock held: once its node was entered or its class shut, before its first step, and after its last
-/// step, before its node is left. So of two bodies that exclude one another the end of one is told before the beginning of the other.
+/// It is told of each body twice, with no lock held: once its node was entered or its class shut,
+/// before its first step, and after its last step, before its node is left. So of two bodies that
+/// exclude one another the end of one is told before the beginning of the other.
 pub trait Gate {
     /// Returns when the worker may go on with the body of its node.
     fn at_body(&self, worker: u32, node: u32);

@@ -25,8 +25,8 @@ impl Job {
         }
     }
 
-    /// The job after this one, in a chain of so many classes: the `before_each` blocks go inwards, and the `after_each`
-    /// blocks outwards.
+    /// The job after this one, in a chain of so many classes: the `before_each` blocks go inwards,
+    /// and the `after_each` blocks outwards.
     pub(crate) fn after(self, classes: usize) -> Option<Job>
         requires { IsPlaced classes (Some self) }
         ensures next { result ≡ job_after classes self }

@@ -24,8 +24,8 @@ pub(crate) fn statics_of(alloc: Global, frames: &[Frame]) -> Result<Bindings, Al
     Ok(names)
 }
 
-/// The names that a test begins with in the classes with these frames: of each, outermost first, its statics, and its fields at their
-/// literals. Tests share them with the frames.
+/// The names that a test begins with in the classes with these frames: of each, outermost first,
+/// its statics, and its fields at their literals. Tests share them with the frames.
 pub(crate) fn test_names(alloc: Global, frames: &[Frame]) -> Result<Bindings, AllocError>
     ensures { IfOk result (λ names. names ≡ names_seen frames.now) }
 {

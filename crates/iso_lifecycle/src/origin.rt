@@ -50,7 +50,8 @@ impl<'a> Origin<'a> {
         self.plan.rights(self.node)
     }
 
-    /// The class that the body is of, and how deep it stands: a class at the top level stands at depth 1.
+    /// The class that the body is of, and how deep it stands: a class at the top level stands at
+    /// depth 1.
     pub(crate) fn class(&self) -> (&'a ClassHead, u32)
         requires { IsOfClass (subject_of_origin self.now) }
         ensures class { let s = subject_of_origin self.now in
@@ -62,7 +63,8 @@ impl<'a> Origin<'a> {
         (head(classes, classes.len() - 1), classes.len() as u32)
     }
 
-    /// The frame that an ended `before_all` leaves, so many names of which are of the enclosing classes. No other body leaves one.
+    /// The frame that an ended `before_all` leaves, so many names of which are of the enclosing
+    /// classes. No other body leaves one.
     pub(crate) fn frame(
         &self,
         alloc: Global,

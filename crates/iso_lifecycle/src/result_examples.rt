@@ -1,4 +1,5 @@
-//! Worked examples of what results tell, as public laws: of every plan of three classes, of which the second is skipped and the first blocks its nodes.
+//! Worked examples of what results tell, as public laws: of every plan of three classes, of which
+//! the second is skipped and the first blocks its nodes.
 
 ghost use Rattle.std.specs.Prelude.{◌≡◌, [], ◌∷◌, None, Some, false, true};
 ghost use Rattle.iso_lifecycle.specs.ResultExamples.{all_opened, three_classes, two_ended};
@@ -9,7 +10,8 @@ ghost use Rattle.iso_model.specs.declared.place.Lifecycle.TheVariants as L;
 ghost use Rattle.iso_plan.specs.Planned.{Planned};
 ghost use Rattle.iso_plan.specs.RowView.{tree_of};
 
-/// What stands in a class at any depth is Blocked by the fail of its `before_all`, and Skipped by its false assumption.
+/// What stands in a class at any depth is Blocked by the fail of its `before_all`, and Skipped by
+/// its false assumption.
 pub fn ill_openings_bar_what_stands_in_their_class()
     ensures test { (plan : Planned) → tree_of plan ≡ three_classes → result_in (all_opened plan) 2 ≡ Some (blocked "no db" (in_class 1 L.BeforeAll) []) }
     ensures class { (plan : Planned) → tree_of plan ≡ three_classes → result_in (all_opened plan) 3 ≡ Some (blocked "no db" (in_class 1 L.BeforeAll) []) }
@@ -17,7 +19,8 @@ pub fn ill_openings_bar_what_stands_in_their_class()
     ensures skipped { (plan : Planned) → tree_of plan ≡ three_classes → result_in (all_opened plan) 6 ≡ Some (skipped "no #1" (in_class 1 L.BeforeAll) []) }
 {}
 
-/// The class itself has its result once its `after_all` was put, with the lines of both blocks, and a test once its end was put.
+/// The class itself has its result once its `after_all` was put, with the lines of both blocks, and
+/// a test once its end was put.
 pub fn results_are_there_once_put()
     ensures barring { (plan : Planned) → tree_of plan ≡ three_classes → result_in (all_opened plan) 1 ≡ None }
     ensures open { (plan : Planned) → tree_of plan ≡ three_classes → result_in (all_opened plan) 7 ≡ None }

@@ -23,7 +23,8 @@ use std::snapshot::Snapshot;
 
 /// The results of a run: what the bodies of the nodes of a plan came to.
 ///
-/// Contracts see the plan, the start, and which bodies' ends were put. That each result is what the definitions say is kept by the type.
+/// Contracts see the plan, the start, and which bodies' ends were put. That each result is what the
+/// definitions say is kept by the type.
 #[derive(Drop)]
 pub struct Results<'a> {
     plan: &'a Plan,
@@ -82,8 +83,8 @@ impl<'a> Results<'a> {
         self.entries[node as usize].put(what);
     }
 
-    /// The result of a node: of a test once its end was put, of a class once both its ends were put, and of each node that stands in a
-    /// class whose `before_all` was put and didn't end well.
+    /// The result of a node: of a test once its end was put, of a class once both its ends were
+    /// put, and of each node that stands in a class whose `before_all` was put and didn't end well.
     pub fn get(&self, node: u32) -> Option<View<'_>>
         requires { node < length self.now.plan.rows }
         ensures { option_map outcome_of_view result ≡ result_in self.now node }
@@ -98,7 +99,8 @@ impl<'a> Results<'a> {
         }
     }
 
-    /// What bars a node: the `before_all` of a class that it stands in, where that was put and didn't end well.
+    /// What bars a node: the `before_all` of a class that it stands in, where that was put and
+    /// didn't end well.
     fn barred_by(&self, node: u32) -> Option<&Opened>
         requires { node < length self.now.plan.rows }
         ensures barred { is_some result ≡ is_barred self.now node }
@@ -156,8 +158,9 @@ impl<'a> Results<'a> {
         Some(&self.opened(node)?.frame)
     }
 
-    /// Shares the frames of a class and of those that it stands in into a list that has room for them, outermost first; of the root there
-    /// are none. It takes the memory of `Frame::share` alone, and once out of memory the list is empty again.
+    /// Shares the frames of a class and of those that it stands in into a list that has room for
+    /// them, outermost first; of the root there are none. It takes the memory of `Frame::share`
+    /// alone, and once out of memory the list is empty again.
     pub fn share_frames(&self, node: u32, frames: &mut Vec<Frame>) -> Result<(), AllocError>
         requires node { node < length self.now.plan.rows }
         requires opened { AreOpened self.now (path (tree_of self.now.plan) node) }

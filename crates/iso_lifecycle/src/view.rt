@@ -20,8 +20,8 @@ pub enum ViewVerdict<'a> {
     Blocked(&'a Note),
 }
 
-/// What a node came to: its verdict, and the lines that it printed, first these and then more. A class's own `before_all` printed the first and
-/// its `after_all` the others; a test has no more.
+/// What a node came to: its verdict, and the lines that it printed, first these and then more. A
+/// class's own `before_all` printed the first and its `after_all` the others; a test has no more.
 #[derive(Clone, Copy)]
 pub struct View<'a> {
     pub verdict: ViewVerdict<'a>,
@@ -43,7 +43,8 @@ impl<'a> ViewVerdict<'a> {
         }
     }
 
-    /// The combined verdict of two endings: the first fail or fault, else the first false assumption, else Pass.
+    /// The combined verdict of two endings: the first fail or fault, else the first false
+    /// assumption, else Pass.
     fn combined(first: &'a Ending, last: &'a Ending) -> ViewVerdict<'a>
         ensures { verdict_of_view result ≡ verdict (first.now ∷ last.now ∷ []) }
     {
@@ -58,7 +59,8 @@ impl<'a> ViewVerdict<'a> {
         }
     }
 
-    /// The verdict of what stands in a class whose `before_all` ended so: Blocked after a fail or fault, Skipped after a false assumption.
+    /// The verdict of what stands in a class whose `before_all` ended so: Blocked after a fail or
+    /// fault, Skipped after a false assumption.
     fn barred(ending: &'a Ending) -> ViewVerdict<'a>
         ensures { verdict_of_view result ≡ barred_verdict ending.now }
     {

@@ -17,7 +17,8 @@ use std::alloc::{AllocError, Global};
 use std::mem;
 use std::sync::Arc;
 
-/// The jobs that are left of a body, the names that its block under way doesn't see, and what the blocks before it left.
+/// The jobs that are left of a body, the names that its block under way doesn't see, and what the
+/// blocks before it left.
 #[derive(Drop)]
 pub struct Rest<'a> {
     pub(crate) alloc: Global,
@@ -56,7 +57,8 @@ impl<'a> Rest<'a> {
             output,
             names,
         } = run.finish();
-        // Each is put away before any want of memory is answered, so that nothing is left over on that way out.
+        // Each is put away before out of memory is answered, so that nothing is left over on that
+        // way out.
         let ended = add_ending(&mut self.endings, ending);
         let printed = self.lines.append(output);
         self.printed = names.printed();
@@ -108,7 +110,8 @@ impl<'a> Rest<'a> {
         Ok(BlockRun::new(self.alloc, block, names, self.rights))
     }
 
-    /// A block that does nothing, in place of one that is left: as long as it stands there the body hasn't ended.
+    /// A block that does nothing, in place of one that is left: as long as it stands there the body
+    /// hasn't ended.
     pub(crate) fn idle(&self) -> BlockRun<'a>
         ensures { run_rights result ≡ access_in self.now.rights.now }
     {
@@ -117,7 +120,8 @@ impl<'a> Rest<'a> {
         BlockRun::new(self.alloc, &[], names, self.rights)
     }
 
-    /// Whether a job is to be done, after what the blocks before it came to: an `after_each` always is.
+    /// Whether a job is to be done, after what the blocks before it came to: an `after_each` always
+    /// is.
     fn is_due(&self, job: Job) -> bool
         ensures { result ≡ is_due (job_in self.now job) (account_in self.now).endings }
     {
@@ -136,7 +140,8 @@ impl<'a> Rest<'a> {
             .all(|ending| matches!(ending, Ending::Well))
     }
 
-    /// Begins the next job, or leaves it out where it isn't due. Answers its block, where that has something to do.
+    /// Begins the next job, or leaves it out where it isn't due. Answers its block, where that has
+    /// something to do.
     fn begin(&mut self, job: Job) -> Result<Option<BlockRun<'a>>, AllocError>
         requires { self.old.next ≡ Some job }
         ensures begun { IfOk result (λ run. begun_with run self.new ≡ stage_from (jobs_left self.old) (account_in self.old)) }
@@ -167,7 +172,8 @@ impl<'a> Rest<'a> {
         Ok(None)
     }
 
-    /// Goes on with a block, or where nothing is left of it with the next that has something to do, if there is one.
+    /// Goes on with a block, or where nothing is left of it with the next that has something to do,
+    /// if there is one.
     pub(crate) fn settle(&mut self, run: BlockRun<'a>) -> Result<Option<BlockRun<'a>>, AllocError>
         requires { run_rights run ≡ access_in self.old.rights.now }
         ensures stage { IfOk result (λ block. stage_with block self.new ≡ settled_with (Some run.entry) self.old) }

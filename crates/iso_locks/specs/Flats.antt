@@ -12,10 +12,12 @@ use Rattle.iso_plan.specs.RowView.{tree_of}
 abbrev pub IsFlat : TrayView → Type 0
 IsFlat t = (k : List ℕ) → has_value t k ≡ is_some (number_of (tree_of t.plan) k)
 
--- the resources of a flat map: at each key the value that it has, and the starting value where it has none
+-- the resources of a flat map: at each key the value that it has, and the starting value where it
+-- has none
 abbrev pub flat : TrayView → Resources
 flat t k = option_or (content t k) (started t.world k)
 
--- resources where the keys that a node's rights let it change stand as they were saved, and all others as they are
+-- resources where the keys that a node's rights let it change stand as they were saved, and all
+-- others as they are
 abbrev pub with_saved : TrayView → ℕ → (saved now : Resources) → Resources
 with_saved t n saved now k = cond (is_writable (node_rights (tree_of t.plan) n k)) (saved k) (now k)

@@ -15,7 +15,8 @@ abbrev pub is_written : List Lock → ℕ → Bool
 is_written [] i = false
 is_written (l ∷ ls) i = writes_key l i || is_written ls i
 
--- the slots into which values move: at each number with such a lock the value from there, if there is one
+-- the slots into which values move: at each number with such a lock the value from there, if there
+-- is one
 abbrev pub moved_here : List Lock → Slots → Slots → Slots
 moved_here locks there here =
     column (λ i. cond (is_written locks i) (option_or (slot there i) (slot here i)) (slot here i)) (length here)

@@ -21,19 +21,21 @@ pub record IsOwned (tree : List Row) (given : List Bool) (i : ℕ) : Type 0 wher
   pub lent : is_lent given node ≡ true
   pub writes : is_written (locks tree node) i ≡ true
 
--- What a tray keeps of its values and the nodes that are lent to it: each value is owned, but in a flat map; what a node takes
--- for READ_WRITE is there; and no two nodes clash.
+-- What a tray keeps of its values and the nodes that are lent to it: each value is owned, but in a
+-- flat map; what a node takes for READ_WRITE is there; and no two nodes clash.
 pub record AreOwned (tree : List Row) (flat : Bool) (lent : List Bool) (values : Slots) : Type 0 where
   pub owned : flat ≡ false → (i : ℕ) → is_some (slot values i) ≡ true → IsOwned tree lent i
   pub there : (n i : ℕ) → is_lent lent n ≡ true → is_written (locks tree n) i ≡ true → is_some (slot values i) ≡ true
   pub apart : (m n : ℕ) → m ≢ n → is_lent lent m ≡ true → is_lent lent n ≡ true → clash tree m n ≡ false
 
--- a node may be lent to a tray beside those that are: it isn't lent to it, and clashes with none of them
+-- a node may be lent to a tray beside those that are: it isn't lent to it, and clashes with none of
+-- them
 pub record CanHold (n : ℕ) (t : TrayView) : Type 0 where
   pub apart : is_lent t.lent n ≡ false
   pub beside : (m : ℕ) → is_lent t.lent m ≡ true → clash (tree_of t.plan) m n ≡ false
 
--- There is room for so many frames, and as much to gather them in, where none is but while they are gathered.
+-- There is room for so many frames, and as much to gather them in, where none is but while they are
+-- gathered.
 pub record HasRoom (most room spare_room : ℕ) (spare : List Subject) : Type 0 where
   pub frames : most ≤ room
   pub gathered : most ≤ spare_room

@@ -1,5 +1,5 @@
--- What contracts see of a tray, and the resources that it holds: the values that nodes lent to it may change, and the starting
--- values that they may look at.
+-- What contracts see of a tray, and the resources that it holds: the values that nodes lent to it
+-- may change, and the starting values that they may look at.
 use Rattle.std.specs.Prelude.{◌≡◌, ℕ, zero, suc, List, [], length, map, replicate, reverse, Option, Some, None, Bool, true, false, ◌||◌, ◌&&◌, cond, bytes_eq, is_some, slice_index_or, refl, option_map, slice_set}
 use Rattle.std.specs.Option.{option_or}
 use Rattle.std.specs.Coded.{Coded, code_by, coded×, coded_list, coded_option, coded_bool, coded_ℕ}
@@ -24,8 +24,9 @@ use Rattle.iso_lifecycle.specs.Subjects.{Subject, subject, subject_code}
 use Rattle.iso_locks.specs.Slots.{Slots, HasLater, slot}
 use Rattle.iso_locks.specs.declared.starting.Starting.{Starting}
 
--- what a tray was made for, whether as a flat map, the nodes that are lent to it, by their numbers, the values that were moved
--- into it, by the numbers of their keys, and the frames handed to it, in that order
+-- what a tray was made for, whether as a flat map, the nodes that are lent to it, by their numbers,
+-- the values that were moved into it, by the numbers of their keys, and the frames handed to it, in
+-- that order
 pub record TrayView : Type 0 where
   pub plan : Planned
   pub world : Start
@@ -172,20 +173,21 @@ savepoint_code =
 abbrev pub marked : TrayView → ℕ → SavepointView
 marked t n = record { node = n; values = kept (tree_of t.plan) n t.values }
 
--- a tray can go back to a mark: each value that was kept is there, and was only changed further since
+-- a tray can go back to a mark: each value that was kept is there, and was only changed further
+-- since
 pub record CanUndo (mark : SavepointView) (t : TrayView) : Type 0 where
   pub fits : length mark.values ≡ length t.values
   pub later : (i : ℕ) (h : History) → slot mark.values i ≡ Some h → HasLater t.values i h
 
--- a tray after further changes alone: each value that was there is there, and was only changed further, and no other value is
--- there
+-- a tray after further changes alone: each value that was there is there, and was only changed
+-- further, and no other value is there
 pub record GoesOn (old new : TrayView) : Type 0 where
   pub fits : length new.values ≡ length old.values
   pub only : (i : ℕ) → slot old.values i ≡ None → slot new.values i ≡ None
   pub later : (i : ℕ) (h : History) → slot old.values i ≡ Some h → HasLater new.values i h
 
--- a tray after changes of its values alone: it is of the same plan and world, the same nodes are lent to it, the same values
--- are there and the same frames
+-- a tray after changes of its values alone: it is of the same plan and world, the same nodes are
+-- lent to it, the same values are there and the same frames
 pub record IsOnward (old new : TrayView) : Type 0 where
   pub plan : new.plan ≡ old.plan
   pub world : new.world ≡ old.world

@@ -18,8 +18,8 @@ use Rattle.iso_locks.specs.Owners.{IsOwned}
 use Rattle.iso_locks.specs.Slots.{Slots, slot}
 use Rattle.iso_locks.specs.Trays.{TrayView, is_lent, key_at}
 
--- what a vault was made for, the nodes that are lent, by their numbers, and which values are home, by the numbers of their keys.
--- A value that is home stands at its start.
+-- what a vault was made for, the nodes that are lent, by their numbers, and which values are home,
+-- by the numbers of their keys. A value that is home stands at its start.
 pub record VaultView : Type 0 where
   pub plan : Planned
   pub world : Start
@@ -55,8 +55,9 @@ is_home home i = slice_index_or home i false
 abbrev pub busy : VaultView → ℕ → Option ℕ
 busy v n = lowest_in_the_way (tree_of v.plan) (is_lent v.lent) n
 
--- a node may be lent to a tray of the same plan and starting values: it is lent neither from the vault nor to the tray, and
--- where no node that is lent from the vault is in its way, it clashes with none that is lent to the tray
+-- a node may be lent to a tray of the same plan and starting values: it is lent neither from the
+-- vault nor to the tray, and where no node that is lent from the vault is in its way, it clashes
+-- with none that is lent to the tray
 pub record CanLend (n : ℕ) (v : VaultView) (t : TrayView) : Type 0 where
   pub node : n < length v.plan.rows
   pub plan : t.plan ≡ v.plan
@@ -83,8 +84,8 @@ value_in slots i = option_map (λ (h : History). h.now) (slot slots i)
 abbrev pub StandsAtStart : TrayView → ℕ → Type 0
 StandsAtStart t i = value_in t.values i ≡ Some (starting_value_in t.world (key_at (tree_of t.plan) i))
 
--- a node was lent to a tray: what it takes for READ_WRITE, which wasn't there, stands there at its start, and no other value
--- moved
+-- a node was lent to a tray: what it takes for READ_WRITE, which wasn't there, stands there at its
+-- start, and no other value moved
 pub record IsLentTo (n : ℕ) (old new : TrayView) : Type 0 where
   pub plan : new.plan ≡ old.plan
   pub world : new.world ≡ old.world
@@ -97,8 +98,8 @@ pub record IsLentTo (n : ℕ) (old new : TrayView) : Type 0 where
   pub others : (i : ℕ) → is_written (locks (tree_of old.plan) n) i ≡ false → slot new.values i ≡ slot old.values i
   pub frames : new.frames ≡ old.frames
 
--- a tray can give a node back that is lent to it: it is of the same plan and starting values, and holds all that the node takes
--- for READ_WRITE, each at its start
+-- a tray can give a node back that is lent to it: it is of the same plan and starting values, and
+-- holds all that the node takes for READ_WRITE, each at its start
 pub record CanTakeBack (n : ℕ) (v : VaultView) (t : TrayView) : Type 0 where
   pub node : n < length v.plan.rows
   pub plan : t.plan ≡ v.plan
@@ -107,7 +108,8 @@ pub record CanTakeBack (n : ℕ) (v : VaultView) (t : TrayView) : Type 0 where
   pub holds : is_lent t.lent n ≡ true
   pub at_start : (i : ℕ) → i < length (keys (tree_of v.plan)) → is_written (locks (tree_of v.plan) n) i ≡ true → StandsAtStart t i
 
--- the tray when a node was taken back from it: what the node takes for READ_WRITE is gone, all else stays
+-- the tray when a node was taken back from it: what the node takes for READ_WRITE is gone, all else
+-- stays
 abbrev pub giving_back : ℕ → TrayView → TrayView
 giving_back n t = record t { lent = slice_set t.lent n false; values = moved_away (locks (tree_of t.plan) n) t.values }
 
@@ -115,8 +117,8 @@ giving_back n t = record t { lent = slice_set t.lent n false; values = moved_awa
 abbrev pub receiving : ℕ → Slots → TrayView → TrayView
 receiving n home t = record t { lent = slice_set t.lent n true; values = moved_here (locks (tree_of t.plan) n) home t.values }
 
--- what holds of the lists that a vault keeps: each value that is home stands at its start, and each other one was lent to a node
--- that takes it for READ_WRITE
+-- what holds of the lists that a vault keeps: each value that is home stands at its start, and each
+-- other one was lent to a node that takes it for READ_WRITE
 pub record IsVault (planned : Planned) (start : Start) (given : List Bool) (values : Slots) : Type 0 where
   pub lent_fits : length given ≡ length planned.rows
   pub values_fit : length values ≡ length (keys (tree_of planned))

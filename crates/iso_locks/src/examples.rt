@@ -6,7 +6,8 @@ ghost use Rattle.iso_locks.specs.Trays.{kept, number_of, resources, restored};
 ghost use Rattle.iso_model.specs.declared.resource.Resource.TheVariants.{File};
 ghost use Rattle.iso_settings.specs.Worlds.{empty_start, starting_value_in};
 
-/// Going back to a mark of a class restores what that class may write, and leaves what another open class wrote.
+/// Going back to a mark of a class restores what that class may write, and leaves what another open
+/// class wrote.
 #[tactic(auto, unfolding(iso_plan::specs::Paths::path))]
 pub fn undo_leaves_what_another_class_wrote()
     ensures kept { kept two_writers 1 (both missing missing) ≡ a_alone missing }
@@ -14,14 +15,16 @@ pub fn undo_leaves_what_another_class_wrote()
     ensures restored { restored (a_alone missing) (both written written) ≡ both missing written }
 {}
 
-/// A class's mark keeps nothing that the class may only look at, and nothing that only a test of it may write.
+/// A class's mark keeps nothing that the class may only look at, and nothing that only a test of it
+/// may write.
 #[tactic(auto, unfolding(iso_plan::specs::Paths::path))]
 pub fn mark_keeps_what_the_chain_may_write()
     ensures class { kept one_reader 1 (both missing missing) ≡ None ∷ None ∷ None ∷ [] }
     ensures test { kept one_reader 3 (both missing written) ≡ None ∷ None ∷ Some written ∷ [] }
 {}
 
-/// A value that was moved into a tray is seen as it stands; a key that no node lent to the tray takes isn't there.
+/// A value that was moved into a tray is seen as it stands; a key that no node lent to the tray
+/// takes isn't there.
 #[tactic(auto, unfolding(iso_plan::specs::Paths::path))]
 pub fn moved_values_are_seen_as_they_stand()
     ensures number { number_of two_writers file_b ≡ Some 2 }

@@ -1,4 +1,5 @@
-//! Laws of trays: what lets one go back to a mark, and what lets a node be taken back. Each function does nothing: its contract is the law, and is proved.
+//! Laws of trays: what lets one go back to a mark, and what lets a node be taken back. Each
+//! function does nothing: its contract is the law, and is proved.
 ghost use Rattle.std.specs.Prelude.{◌≡◌, ◌≢◌, ◌<◌, ℕ, List, false, is_some, length, true};
 ghost use Rattle.iso_lifecycle.specs.Subjects.{started};
 ghost use Rattle.iso_locks.specs.Clashes.{clash};
@@ -15,7 +16,8 @@ ghost use Rattle.iso_plan.specs.RowView.{tree_of};
 use crate::tray::Tray;
 use iso_plan::laws::nodes_are_a_tree;
 
-/// Further changes let every mark be gone back to that could be before, and the one that was made then.
+/// Further changes let every mark be gone back to that could be before, and the one that was made
+/// then.
 pub fn further_changes_keep_marks()
     ensures own { (t u : TrayView) (n : ℕ) → GoesOn t u → CanUndo (marked t n) u }
     ensures others { (t u : TrayView) (mark : SavepointView) → GoesOn t u → CanUndo mark t → CanUndo mark u }
@@ -34,7 +36,8 @@ pub fn lent_nodes_may_be_taken_back()
         → is_lent v.lent n ≡ true → CanTakeBack n v u }
 {}
 
-/// A node may still be taken back when another one was lent to its tray since, or taken back from it.
+/// A node may still be taken back when another one was lent to its tray since, or taken back from
+/// it.
 pub fn other_nodes_may_still_be_taken_back()
     ensures lent { (m n : ℕ) (v : VaultView) (t u : TrayView) → CanTakeBack m v t → IsLentTo n t u → CanTakeBack m (lending n v) u }
     ensures home { (m n : ℕ) (v : VaultView) (t : TrayView) → m ≢ n → clash (tree_of t.plan) m n ≡ false → CanTakeBack m v t
@@ -46,8 +49,9 @@ pub fn lending_keeps_marks()
     ensures { (n : ℕ) (t u : TrayView) (mark : SavepointView) → t.flat ≡ false → CanUndo mark t → IsLentTo n t u → CanUndo mark u }
 {}
 
-/// A node that is lent to a tray finds there each key that it or its locking node takes for READ as it starts, to look at, and
-/// the value of each key that it takes for READ_WRITE, to change. A flat map has values of its own.
+/// A node that is lent to a tray finds there each key that it or its locking node takes for READ as
+/// it starts, to look at, and the value of each key that it takes for READ_WRITE, to change. A flat
+/// map has values of its own.
 pub fn lent_nodes_find_their_values(tray: &Tray<'_>)
     ensures read { tray.now.flat ≡ false → (n : ℕ) (k : List ℕ) → is_lent tray.now.lent n ≡ true → holds_read (tree_of tray.now.plan) k n ≡ true
         → content tray.now k ≡ started tray.now.world k }
@@ -58,14 +62,16 @@ pub fn lent_nodes_find_their_values(tray: &Tray<'_>)
     tray.keep_owners();
 }
 
-/// Each value that a tray has is one that a node which is lent to it takes for READ_WRITE. A flat map has values of its own.
+/// Each value that a tray has is one that a node which is lent to it takes for READ_WRITE. A flat
+/// map has values of its own.
 pub fn values_are_of_lent_nodes(tray: &Tray<'_>)
     ensures { tray.now.flat ≡ false → (i : ℕ) → is_some (slot tray.now.values i) ≡ true → IsOwned (tree_of tray.now.plan) tray.now.lent i }
 {
     tray.keep_owners();
 }
 
-/// A flat map that goes back to a mark has the values that the node may change as they stood at the mark, and all others as they are.
+/// A flat map that goes back to a mark has the values that the node may change as they stood at the
+/// mark, and all others as they are.
 pub fn flat_maps_go_back_to_marks()
     ensures { (t u : TrayView) (n : ℕ) → IsFlat t → IsFlat u → u.plan ≡ t.plan → u.world ≡ t.world
         → flat (undone (marked t n) u) ≡ with_saved t n (flat t) (flat u) }

@@ -12,8 +12,8 @@ use iso_plan::plan::Plan;
 use std::alloc::{AllocError, Global};
 use std::marker::Model;
 
-/// The nodes of a plan that are lent. Beside them stand their locking nodes, so that whether another node clashes with one of them
-/// costs its own locks and those of its locking node.
+/// The nodes of a plan that are lent. Beside them stand their locking nodes, so that whether
+/// another node clashes with one of them costs its own locks and those of its locking node.
 #[derive(Drop)]
 pub(crate) struct LentNodes<'a> {
     plan: &'a Plan,
@@ -54,8 +54,9 @@ impl<'a> LentNodes<'a> {
         self.lent.is_held(node)
     }
 
-    /// Whether a node clashes with one that is lent, of which no two clash. Where a lent node has the same locking node, no other
-    /// lent node's locking node conflicts with that one. It looks at the node's own locks and those of its locking node. Takes no memory.
+    /// Whether a node clashes with one that is lent, of which no two clash. Where a lent node has
+    /// the same locking node, no other lent node's locking node conflicts with that one. It looks
+    /// at the node's own locks and those of its locking node. Takes no memory.
     pub(crate) fn clash_with(&self, node: u32) -> bool
         requires node { node < length self.now.plan.rows }
         requires apart { AreApart (tree_of self.now.plan) self.now.held }

@@ -7,8 +7,9 @@ use iso_plan::plan::Plan;
 use std::alloc::{AllocError, Global};
 use std::marker::Model;
 
-/// Of how many lent nodes each node of a plan is the locking node. Contracts see these numbers; beside them stand the nodes that have
-/// one, so that what stands in another one's way costs its own locks.
+/// Of how many lent nodes each node of a plan is the locking node. Contracts see these numbers;
+/// beside them stand the nodes that have one, so that what stands in another one's way costs its
+/// own locks.
 #[derive(Drop)]
 pub(crate) struct Lockers<'a> {
     nodes: HeldNodes<'a>,
@@ -60,7 +61,8 @@ impl<'a> Lockers<'a> {
         }
     }
 
-    /// Whether a node is no locking node of lent ones, and conflicts with one that is. It looks at its own locks. Takes no memory.
+    /// Whether a node is no locking node of lent ones, and conflicts with one that is. It looks at
+    /// its own locks. Takes no memory.
     pub(crate) fn keep_out(&self, locker: u32) -> bool
         requires { locker < length self.now.plan.rows }
         ensures { result ≡ is_kept_out self.now locker }

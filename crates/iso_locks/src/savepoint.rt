@@ -4,8 +4,8 @@ ghost use Rattle.std.specs.Prelude.{◌≡◌};
 use iso_store::held;
 use std::marker::Model;
 
-/// What a node's rights let it change, as it stood at one moment, to which a tray can go back. Contracts see
-/// the values as they were, by the numbers of their keys.
+/// What a node's rights let it change, as it stood at one moment, to which a tray can go back.
+/// Contracts see the values as they were, by the numbers of their keys.
 #[derive(Drop)]
 pub struct Savepoint {
     node: u32,

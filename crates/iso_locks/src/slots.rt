@@ -118,7 +118,7 @@ impl Slots {
         self.items[number].take()
     }
 
-    /// Changes the value in a slot. After want of memory nothing is changed.
+    /// Changes the value in a slot. After running out of memory nothing is changed.
     pub fn apply(&mut self, number: usize, change: Change) -> Result<(), AllocError>
         requires { number < length self.old }
         ensures ok { OnOk result (self.new ≡ slice_set self.old number (option_map (after change) (slot self.old number))) }

@@ -43,8 +43,8 @@ impl Shared {
         Shared { value }
     }
 
-    /// The text that is asked for, or `None` where the property is absent or the file missing, or where the value is
-    /// of another kind.
+    /// The text that is asked for, or `None` where the property is absent or the file missing, or
+    /// where the value is of another kind.
     pub fn look(&self, ask: Ask<'_>) -> Option<&str>
         ensures { option_copied result ≡ answer self.now ask.entry }
     {
@@ -59,7 +59,8 @@ pub(crate) struct Starting {
     pub value: Shared,
 }
 
-/// All keys of a plan with their starting values, by key number. Copies none of the values that the world names.
+/// All keys of a plan with their starting values, by key number. Copies none of the values that the
+/// world names.
 pub(crate) fn starts_of(
     alloc: Global,
     plan: &Plan,

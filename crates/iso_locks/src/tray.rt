@@ -39,11 +39,12 @@ use std::alloc::{AllocError, Global};
 use std::marker::Model;
 use std::mem;
 
-/// What one worker holds of the resources: the values that nodes lent to it may change, and a share of each
-/// starting value, to be looked at where such a node holds the key for READ. All trays of a world share these.
+/// What one worker holds of the resources: the values that nodes lent to it may change, and a share
+/// of each starting value, to be looked at where such a node holds the key for READ. All trays of a
+/// world share these.
 ///
-/// Contracts see the plan and the world that it was made for, the nodes that are lent to it, the values that
-/// were moved into it, each with its history, and the frames that were handed to it.
+/// Contracts see the plan and the world that it was made for, the nodes that are lent to it, the
+/// values that were moved into it, each with its history, and the frames that were handed to it.
 #[derive(Drop)]
 pub struct Tray<'a> {
     plan: &'a Plan,
@@ -76,8 +77,9 @@ impl<'a> Model for Tray<'a> {
 }
 
 impl<'a> Tray<'a> {
-    /// A tray for a plan and a world, to which nothing is lent or handed. It takes all memory that lending, undoing,
-    /// taking back and handing frames need, and copies no starting value that the world names.
+    /// A tray for a plan and a world, to which nothing is lent or handed. It takes all memory that
+    /// lending, undoing, taking back and handing frames need, and copies no starting value that the
+    /// world names.
     pub fn new(alloc: Global, plan: &'a Plan, world: &'a World) -> Result<Tray<'a>, AllocError>
         ensures { IfOk result (λ t. t ≡ empty_tray plan.now world.now) }
     {
@@ -95,8 +97,8 @@ impl<'a> Tray<'a> {
         })
     }
 
-    /// A tray for a plan and a world that has every value, each at its start: the flat map of a run. No node is lent to it, and no
-    /// frame is handed to it.
+    /// A tray for a plan and a world that has every value, each at its start: the flat map of a
+    /// run. No node is lent to it, and no frame is handed to it.
     pub fn flat(alloc: Global, plan: &'a Plan, world: &'a World) -> Result<Tray<'a>, AllocError>
         ensures plan { IfOk result (λ t. t.plan ≡ plan.now) }
         ensures world { IfOk result (λ t. t.world ≡ world.now) }
@@ -126,8 +128,8 @@ impl<'a> Tray<'a> {
         self.world
     }
 
-    /// Whether it was made as a flat map. Such a tray has values that no node which is lent to it takes, so that no vault's values
-    /// need to be there.
+    /// Whether it was made as a flat map. Such a tray has values that no node which is lent to it
+    /// takes, so that no vault's values need to be there.
     pub fn is_flat(&self) -> bool
         ensures { result ≡ self.now.flat }
     {
@@ -142,8 +144,9 @@ impl<'a> Tray<'a> {
         self.lent.has(node)
     }
 
-    /// Whether a node may be lent to it beside those that are: it isn't lent to it, and clashes with none of them. It looks at the
-    /// node's own locks and those of its locking node, however many nodes are lent. Takes no memory.
+    /// Whether a node may be lent to it beside those that are: it isn't lent to it, and clashes
+    /// with none of them. It looks at the node's own locks and those of its locking node, however
+    /// many nodes are lent. Takes no memory.
     pub fn can_hold(&self, node: u32) -> bool
         requires { node < length self.now.plan.rows }
         ensures holds { result ≡ true → CanHold node self.now }
@@ -162,8 +165,9 @@ impl<'a> Tray<'a> {
         &self.frames
     }
 
-    /// Hands it a frame, after those that it has: one for each class that a test or a block stands in, so that it has no more than the
-    /// longest class chain of its plan has classes. Takes no memory.
+    /// Hands it a frame, after those that it has: one for each class that a test or a block stands
+    /// in, so that it has no more than the longest class chain of its plan has classes. Takes no
+    /// memory.
     pub fn hand(&mut self, frame: Frame)
         requires { length self.old.frames < depth (tree_of self.old.plan) }
         ensures { self.new ≡ record self.old { frames = self.old.frames ++ frame ∷ [] } }
@@ -171,8 +175,9 @@ impl<'a> Tray<'a> {
         self.frames.push_reserved(frame);
     }
 
-    /// Hands it, in place of the frames that it has, those of a class and of the classes that it stands in, outermost first; of the
-    /// root none. It takes the memory of `Frame::share` alone, and after want of memory it has the frames that it had.
+    /// Hands it, in place of the frames that it has, those of a class and of the classes that it
+    /// stands in, outermost first; of the root none. It takes the memory of `Frame::share` alone,
+    /// and after running out of memory it has the frames that it had.
     pub fn hand_path(&mut self, results: &Results<'_>, class: u32) -> Result<(), AllocError>
         requires plan { results.now.plan ≡ self.old.plan }
         requires node { class < length self.old.plan.rows }
@@ -205,8 +210,8 @@ impl<'a> Tray<'a> {
         Ok(Savepoint::new(node, values))
     }
 
-    /// Lets the values that were kept stand as they stood then, and leaves all others. The tray has gone back to no
-    /// earlier mark of these values since. Takes no memory.
+    /// Lets the values that were kept stand as they stood then, and leaves all others. The tray has
+    /// gone back to no earlier mark of these values since. Takes no memory.
     pub fn undo(&mut self, mark: Savepoint)
         requires { CanUndo mark self.old }
         ensures { self.new ≡ undone mark self.old }

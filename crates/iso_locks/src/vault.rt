@@ -49,8 +49,8 @@ impl<'a> Model for Vault<'a> {
 }
 
 impl<'a> Vault<'a> {
-    /// A vault for a plan and a world, in which every value is home. It takes all memory that lending and taking
-    /// back need.
+    /// A vault for a plan and a world, in which every value is home. It takes all memory that
+    /// lending and taking back need.
     pub fn new(alloc: Global, plan: &'a Plan, world: &'a World) -> Result<Vault<'a>, AllocError>
         ensures { IfOk result (λ v. v ≡ whole_vault plan.now world.now) }
     {
@@ -78,9 +78,9 @@ impl<'a> Vault<'a> {
         self.values.get(key as usize).is_some()
     }
 
-    /// Lends a node to a tray: each value that the node takes for READ_WRITE moves into the tray, and the keys that
-    /// it or its locking node holds for READ are open there for looking. `Busy` names the lowest lent node that
-    /// conflicts with it; nothing is moved then. Takes no memory.
+    /// Lends a node to a tray: each value that the node takes for READ_WRITE moves into the tray,
+    /// and the keys that it or its locking node holds for READ are open there for looking. `Busy`
+    /// names the lowest lent node that conflicts with it; nothing is moved then. Takes no memory.
     pub fn lend(&mut self, node: u32, tray: &mut Tray<'_>) -> Result<(), Busy>
         requires { CanLend node self.old tray.old }
         ensures busy { MatchResult result (λ _. busy self.old node ≡ None) (λ b. busy self.old node ≡ Some b.node) }
@@ -96,7 +96,8 @@ impl<'a> Vault<'a> {
         Ok(())
     }
 
-    /// The lowest lent node that conflicts with a node. It looks for it only where there is one: else at the node's own locks alone.
+    /// The lowest lent node that conflicts with a node. It looks for it only where there is one:
+    /// else at the node's own locks alone.
     fn in_the_way(&self, node: u32) -> Option<u32>
         requires { node < length self.now.plan.rows }
         ensures { result ≡ busy self.now node }
@@ -107,7 +108,8 @@ impl<'a> Vault<'a> {
         lowest_in_the_way(self.plan, self, node)
     }
 
-    /// Lends a node to a tray where no lent node conflicts with it, for those who know that without a search. Takes no memory.
+    /// Lends a node to a tray where no lent node conflicts with it, for those who know that without
+    /// a search. Takes no memory.
     pub fn lend_free(&mut self, node: u32, tray: &mut Tray<'_>)
         requires can { CanLend node self.old tray.old }
         requires free { busy self.old node ≡ None }

@@ -1,4 +1,5 @@
--- Agreement: two tests, or two classes, of equal chains on starts that are equal at the keys of their rights.
+-- Agreement: two tests, or two classes, of equal chains on starts that are equal at the keys of
+-- their rights.
 use Rattle.std.specs.Prelude.{◌≡◌, ℕ, List, ◌∷◌, true}
 use Rattle.iso_model.specs.Chains.{ClassHead, TestHead, class_rights, test_rights}
 use Rattle.iso_model.specs.Rights.{Rights, is_readable}
@@ -8,11 +9,13 @@ use Rattle.iso_model.specs.Openings.{Opening}
 use Rattle.iso_model.specs.Steps.{Machine}
 use Rattle.iso_model.specs.Tests.{Body}
 
--- two resource maps are equal at the keys of the rights: those that a block with these rights may look at
+-- two resource maps are equal at the keys of the rights: those that a block with these rights may
+-- look at
 pub record EqualAt (r : Rights) (m n : Resources) : Type 0 where
   pub same : (k : List ℕ) → is_readable (r k) ≡ true → m k ≡ n k
 
--- two tests agree: their chains are equal, and their starts are equal at the keys of that chain's rights
+-- two tests agree: their chains are equal, and their starts are equal at the keys of that chain's
+-- rights
 pub record TestsAgree (t : TestHead) (cs : List ClassHead) (m : Resources) (u : TestHead) (ds : List ClassHead) (n : Resources) : Type 0 where
   pub head : t ≡ u
   pub classes : cs ≡ ds

@@ -1,5 +1,5 @@
--- A test and a class run alone: what their chain comes to on the starting values of the resources that it declares, and on nothing else.
--- A chain is a list of class heads, innermost first.
+-- A test and a class run alone: what their chain comes to on the starting values of the resources
+-- that it declares, and on nothing else. A chain is a list of class heads, innermost first.
 use Rattle.std.specs.Prelude.{List, [], ◌∷◌, ◌++◌, cond}
 use Rattle.iso_model.specs.Resources.{Resources, restricted}
 use Rattle.iso_model.specs.Statements.{State}
@@ -14,7 +14,8 @@ use Rattle.iso_model.specs.declared.outcome.Outcome.{Outcome}
 use Rattle.iso_model.specs.declared.outcome.Verdict.TheVariants as V
 use Rattle.iso_model.specs.declared.place.Lifecycle.TheVariants.{AfterAll}
 
--- the outcome under a class whose `before_all` didn't end well: the note of that ending, and no lines
+-- the outcome under a class whose `before_all` didn't end well: the note of that ending, and no
+-- lines
 abbrev pub barred : List Frame → Outcome
 barred [] = record { verdict = V.Pass; output = [] }
 barred (f ∷ fs) = record { verdict = barred_verdict f.ending; output = [] }
@@ -22,7 +23,8 @@ barred (f ∷ fs) = record { verdict = barred_verdict f.ending; output = [] }
 abbrev pub test_outcome : Body → Outcome
 test_outcome b = record { verdict = verdict b.endings; output = b.lines }
 
--- `after_all` of the innermost class, on the resources and statics that its `before_all` left; a disabled class's does nothing
+-- `after_all` of the innermost class, on the resources and statics that its `before_all` left; a
+-- disabled class's does nothing
 abbrev pub after_all : ClassHead → List ClassHead → Opening → State
 after_all c cs o =
     block (class_rights (c ∷ cs)) (acts_unless c.disabled c.after_all) (environment (statics_of o.frames) 0 (words_of (c ∷ cs) AfterAll)) o.resources

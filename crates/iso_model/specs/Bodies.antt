@@ -1,5 +1,5 @@
--- Bodies, one step at a time: the block under way, the jobs after it, and the step that does what is left first.
--- A chain is a list of class heads, innermost first.
+-- Bodies, one step at a time: the block under way, the jobs after it, and the step that does what
+-- is left first. A chain is a list of class heads, innermost first.
 use Rattle.std.specs.Prelude.{◌≡◌, ℕ, zero, suc, ◌+◌, List, [], ◌∷◌, ◌++◌, length, take, drop, Option, Some, None, Bool, true, false}
 use Rattle.iso_model.specs.Rights.{Rights}
 use Rattle.iso_model.specs.Resources.{Resources}
@@ -17,7 +17,8 @@ use Rattle.iso_model.specs.declared.names.Binding.{Binding}
 use Rattle.iso_model.specs.declared.outcome.Ending.{Ending}
 use Rattle.iso_model.specs.declared.outcome.Ending.TheVariants.{Well}
 
--- what a body has but for the resources: its names, the bytes and lines printed, the endings of its blocks so far
+-- what a body has but for the resources: its names, the bytes and lines printed, the endings of its
+-- blocks so far
 pub record Account : Type 0 where
   pub names : List Binding
   pub printed : ℕ
@@ -38,15 +39,15 @@ fresh_account names = record { names = names; printed = 0; lines = []; endings =
 abbrev pub disabled_account : List ℕ → List Binding → Account
 disabled_account reason names = record (fresh_account names) { endings = disabled_ending reason ∷ [] }
 
--- what a body has beside its block under way: the names that the block doesn't see, and the lines and endings of the
--- blocks before it
+-- what a body has beside its block under way: the names that the block doesn't see, and the lines
+-- and endings of the blocks before it
 pub record Beside : Type 0 where
   pub unseen : List Binding
   pub lines : List (List ℕ)
   pub endings : List Ending
 
--- a point of a body between its steps: a block under way, which began with so many names, and the jobs after it; or
--- its end, at which nothing is left to do
+-- a point of a body between its steps: a block under way, which began with so many names, and the
+-- jobs after it; or its end, at which nothing is left to do
 pub data Stage : Type 0 where
   during : (block : Point) → (names : ℕ) → (beside : Beside) → (jobs : List Job) → Stage
   ended : Account → Stage
@@ -66,7 +67,8 @@ job_environment j a = environment (take j.seen a.names) a.printed j.words
 abbrev pub beside_job : Job → Account → Beside
 beside_job j a = record { unseen = drop j.seen a.names; lines = a.lines; endings = a.endings }
 
--- what a body has once its block, which began with so many names, ended so: the block's locals are dropped
+-- what a body has once its block, which began with so many names, ended so: the block's locals are
+-- dropped
 abbrev pub account_after : ℕ → Local → Beside → Account
 account_after n l b =
     record { names = take n l.env.names ++ b.unseen; printed = l.env.printed; lines = b.lines ++ l.lines; endings = b.endings ++ l.ending ∷ [] }
@@ -94,7 +96,8 @@ abbrev pub stage_unless : Option (List ℕ) → List Binding → List Job → St
 stage_unless None names js = stage_from js (fresh_account names)
 stage_unless (Some reason) names js = ended (disabled_account reason names)
 
--- the bodies of `before_all`, of a test and of `after_all` at their beginning, on what these openings left
+-- the bodies of `before_all`, of a test and of `after_all` at their beginning, on what these
+-- openings left
 abbrev pub opening_stage : ClassHead → List ClassHead → List Frame → Stage
 opening_stage c cs frames = stage_unless c.disabled (opening_names c frames) (before_all_jobs c cs frames)
 
@@ -108,7 +111,8 @@ closing_stage c cs frames = stage_from (after_all_jobs c cs frames) (fresh_accou
 abbrev pub going_at : Machine → ℕ → Beside → List Job → Going
 going_at m n b js = going (stage_at (stage_from js) m.pieces m.state.here n b js) m.state.resources
 
--- one step: that of the block under way, after which the next block begins where nothing of it is left; an ended body stays as it is
+-- one step: that of the block under way, after which the next block begins where nothing of it is
+-- left; an ended body stays as it is
 abbrev pub stage_step : Rights → Stage → Resources → Going
 stage_step r (during p n b js) m = going_at (step r (machine_at p m)) n b js
 stage_step r (ended a) m = going (ended a) m

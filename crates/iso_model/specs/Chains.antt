@@ -5,7 +5,8 @@ use Rattle.iso_model.specs.Syntax.{Acts, no_acts}
 use Rattle.iso_model.specs.declared.heads.Mark.{Mark}
 use Rattle.iso_model.specs.declared.heads.Variable.{Variable}
 
--- what a class gives to the tests under it, and why it is disabled, if it is; its name, its mode and its members aren't in it
+-- what a class gives to the tests under it, and why it is disabled, if it is; its name, its mode
+-- and its members aren't in it
 pub record ClassHead : Type 0 where
   pub statics : List Variable
   pub fields : List Variable
@@ -35,6 +36,7 @@ marks_of (c ∷ cs) = c.marks ++ marks_of cs
 abbrev pub class_rights : List ClassHead → Rights
 class_rights cs = rights_of (marks_of cs)
 
--- the rights of a test, its `before_each` and its `after_each`: those of the test and all its enclosing classes
+-- the rights of a test, its `before_each` and its `after_each`: those of the test and all its
+-- enclosing classes
 abbrev pub test_rights : TestHead → List ClassHead → Rights
 test_rights t cs = rights_of (t.marks ++ marks_of cs)

@@ -30,6 +30,7 @@ pub record PrintsMore (l t : Local) : Type 0 where
   pub printed : t.lines ≡ l.lines ++ lines
   pub counted : t.env.printed ≡ l.env.printed + bytes_of lines
 
--- what no block changes of a name that it sees: the name, its sort and, where it is frozen, its value
+-- what no block changes of a name that it sees: the name, its sort and, where it is frozen, its
+-- value
 abbrev pub lasting : Binding → List ℕ × Sort × Option Data
 lasting b = (b.name, b.sort, cond (is_frozen b.sort) (Some b.value) None)

@@ -1,4 +1,5 @@
--- Disabled nodes (JUnit 5 User Guide, `@Disabled`): none of their blocks runs, and they end as by a false assumption.
+-- Disabled nodes (JUnit 5 User Guide, `@Disabled`): none of their blocks runs, and they end as by a
+-- false assumption.
 use Rattle.std.specs.Prelude.{ℕ, List, Option, Some, None}
 use Rattle.iso_model.specs.Blocks.{begun, block}
 use Rattle.iso_model.specs.Environments.{Environment}

@@ -4,7 +4,8 @@ use Rattle.iso_model.specs.declared.limits.TheConstants.{BLOCK_STEPS}
 use Rattle.iso_model.specs.declared.names.Binding.{Binding}
 use Rattle.iso_model.specs.declared.place.BlockName.{BlockName}
 
--- the visible names, the steps left in the block, the bytes that its body has printed so far, and the words that name it in a place
+-- the visible names, the steps left in the block, the bytes that its body has printed so far, and
+-- the words that name it in a place
 pub record Environment : Type 0 where
   pub names : List Binding
   pub steps : ℕ

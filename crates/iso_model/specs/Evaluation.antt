@@ -34,7 +34,8 @@ abbrev pub or_fault : {A : Type 0} → Option A → Fault → Result A Fault
 or_fault None fault = Err fault
 or_fault (Some x) fault = Ok x
 
--- a text, a truth value and a count: WrongKind for a value of another kind, BadCount for a negative number
+-- a text, a truth value and a count: WrongKind for a value of another kind, BadCount for a negative
+-- number
 abbrev pub as_text : Data → Result (List ℕ) Fault
 as_text (Text t) = Ok t
 as_text d = Err WrongKind

@@ -1,4 +1,5 @@
--- Example scripts as values, by topic. What each comes to is stated, and proved, in the source module `examples`.
+-- Example scripts as values, by topic. What each comes to is stated, and proved, in the source
+-- module `examples`.
 pub mod Words
 pub mod Resources
 pub mod Lifecycles

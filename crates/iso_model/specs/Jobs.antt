@@ -1,5 +1,5 @@
--- A body as a list of jobs: its blocks, in the order in which they are done (JUnit 5, test lifecycle).
--- A chain is a list of class heads, innermost first.
+-- A body as a list of jobs: its blocks, in the order in which they are done (JUnit 5, test
+-- lifecycle). A chain is a list of class heads, innermost first.
 use Rattle.std.specs.Prelude.{ℕ, List, [], ◌∷◌, ◌++◌, length, take, drop, Bool, true, false, ◌||◌, not, cond}
 use Rattle.std.specs.List.{list_all}
 use Rattle.iso_model.specs.Rights.{Rights}
@@ -19,8 +19,8 @@ use Rattle.iso_model.specs.declared.place.BlockName.{BlockName}
 use Rattle.iso_model.specs.declared.place.BlockName.TheVariants.{Test}
 use Rattle.iso_model.specs.declared.place.Lifecycle.TheVariants.{BeforeAll, AfterAll, BeforeEach, AfterEach}
 
--- a block of a body: the words that name it, its statements, how many of the body's names it sees, and whether it is
--- done only where all blocks before it ended well
+-- a block of a body: the words that name it, its statements, how many of the body's names it sees,
+-- and whether it is done only where all blocks before it ended well
 pub record Job : Type 0 where
   pub words : BlockName
   pub acts : Acts
@@ -60,11 +60,13 @@ abbrev pub body_of_block : State → Body
 body_of_block s =
     record { names = s.here.env.names; resources = s.resources; printed = s.here.env.printed; lines = s.here.lines; endings = s.here.ending ∷ [] }
 
--- the names that `before_all` of the innermost class begins with: the statics of the enclosing classes, and its own at their literals
+-- the names that `before_all` of the innermost class begins with: the statics of the enclosing
+-- classes, and its own at their literals
 abbrev pub opening_names : ClassHead → List Frame → List Binding
 opening_names c frames = statics_of frames ++ at_literals Static c.statics
 
--- `before_all` of the innermost class, which sees all names of its body, and `after_all`, which sees all statics and has nothing to do where the class is disabled
+-- `before_all` of the innermost class, which sees all names of its body, and `after_all`, which
+-- sees all statics and has nothing to do where the class is disabled
 abbrev pub before_all_jobs : ClassHead → List ClassHead → List Frame → List Job
 before_all_jobs c cs frames = job (words_of (c ∷ cs) BeforeAll) c.before_all (length (opening_names c frames)) false ∷ []
 

@@ -10,7 +10,8 @@ use Rattle.iso_model.specs.declared.names.Binding.{Binding}
 abbrev pub Places : Type 0
 Places = BTreeMap (String Global) ℕ
 
--- at each visible name, the map has the place where it stands first; at any other it may have anything
+-- at each visible name, the map has the place where it stands first; at any other it may have
+-- anything
 abbrev pub Tells : Places → List Binding → Type 0
 Tells places names = (x : List ℕ) → place_of names x < length names → get_by_text places x ≡ Some (place_of names x)
 

@@ -45,7 +45,8 @@ is_frozen Static = false
 is_frozen Field = false
 is_frozen Local = false
 
--- what an assignment of a visible or unknown name makes of the names: the kind of the value may change
+-- what an assignment of a visible or unknown name makes of the names: the kind of the value may
+-- change
 abbrev pub assigned_to : Option Binding → List Binding → List ℕ → Data → Result (List Binding) Fault
 assigned_to None names x d = Err (F.UnknownName x)
 assigned_to (Some b) names x d = cond (is_frozen b.sort) (Err (F.Frozen x)) (Ok (rebound names x d))

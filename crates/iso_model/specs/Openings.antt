@@ -1,5 +1,5 @@
--- The opening of a class chain: each `before_all`, outermost first, until one doesn't end well (JUnit 5, test lifecycle).
--- A chain is a list of class heads, innermost first.
+-- The opening of a class chain: each `before_all`, outermost first, until one doesn't end well
+-- (JUnit 5, test lifecycle). A chain is a list of class heads, innermost first.
 use Rattle.std.specs.Prelude.{ℕ, List, [], ◌∷◌, ◌++◌, length, drop, Bool, true, cond}
 use Rattle.iso_model.specs.Resources.{Resources}
 use Rattle.iso_model.specs.Names.{at_literals, frozen}
@@ -15,14 +15,15 @@ use Rattle.iso_model.specs.declared.place.BlockName.TheVariants.{Class}
 use Rattle.iso_model.specs.declared.place.Lifecycle.{Lifecycle}
 use Rattle.iso_model.specs.declared.place.Lifecycle.TheVariants.{BeforeAll}
 
--- what an ended `before_all` leaves of its class: its statics, which nothing assigns from now on, its ending and its lines
+-- what an ended `before_all` leaves of its class: its statics, which nothing assigns from now on,
+-- its ending and its lines
 pub record Frame : Type 0 where
   pub statics : List Binding
   pub ending : Ending
   pub lines : List (List ℕ)
 
--- what the opening of a chain leaves: a frame of each class whose `before_all` ran, innermost first,
--- the resources, and whether all ended well
+-- what the opening of a chain leaves: a frame of each class whose `before_all` ran, innermost
+-- first, the resources, and whether all ended well
 pub record Opening : Type 0 where
   pub frames : List Frame
   pub resources : Resources
@@ -37,7 +38,8 @@ abbrev pub statics_of : List Frame → List Binding
 statics_of [] = []
 statics_of (f ∷ fs) = statics_of fs ++ f.statics
 
--- `before_all` of the innermost class: it sees the statics of the enclosing classes, and its own at their literals. A disabled class's is left out.
+-- `before_all` of the innermost class: it sees the statics of the enclosing classes, and its own at
+-- their literals. A disabled class's is left out.
 abbrev pub before_all : ClassHead → List ClassHead → Opening → State
 before_all c cs o =
     block_unless c.disabled (class_rights (c ∷ cs)) c.before_all (environment (statics_of o.frames ++ at_literals Static c.statics) 0 (words_of (c ∷ cs) BeforeAll)) o.resources

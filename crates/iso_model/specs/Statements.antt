@@ -24,7 +24,8 @@ use Rattle.iso_model.specs.declared.place.Place.TheVariants.{Row}
 use Rattle.iso_model.specs.declared.resource.Change.{Change}
 use Rattle.iso_model.specs.declared.resource.Change.TheVariants as C
 
--- where a block stands, but for the resources: its environment, the lines that it printed, its ending
+-- where a block stands, but for the resources: its environment, the lines that it printed, its
+-- ending
 pub record Local : Type 0 where
   pub env : Environment
   pub lines : List (List ℕ)
@@ -86,7 +87,8 @@ upon row (Err fault) s f = faults row fault s
 abbrev pub value : Rights → State → Term → Given
 value r s e = evaluated s.here.env.names s.resources r e
 
--- the value of an expression that has to be a text, a truth value or a count, and of two that have to be texts
+-- the value of an expression that has to be a text, a truth value or a count, and of two that have
+-- to be texts
 abbrev pub text_value : Rights → State → Term → Result (List ℕ) Fault
 text_value r s e = then (value r s e) as_text
 

@@ -1,4 +1,5 @@
--- Statements, one step at a time: the pieces that are still to be done, and the step that does the first.
+-- Statements, one step at a time: the pieces that are still to be done, and the step that does the
+-- first.
 use Rattle.std.specs.Prelude.{◌≡◌, ℕ, zero, suc, ◌+◌, ◌-◌, List, [], ◌∷◌, ◌++◌, length, take, Result, Ok, Err, Bool, true, false, cond}
 use Rattle.iso_model.specs.Rights.{Rights}
 use Rattle.iso_model.specs.Resources.{Resources}
@@ -17,7 +18,8 @@ pub data Piece : Type 0 where
   rest : (names : ℕ) → Acts → Piece
   turning : (row turns : ℕ) → Acts → Piece
 
--- a point of a block: the pieces that are still to be done, innermost first, and what the block has and does but for the resources
+-- a point of a block: the pieces that are still to be done, innermost first, and what the block has
+-- and does but for the resources
 pub record Point : Type 0 where
   pub pieces : List Piece
   pub here : Local
@@ -49,7 +51,8 @@ leave_done (rest k (act row a acts) ∷ ps) l = point (rest k (act row a acts) �
 leave_done (turning row zero a ∷ ps) l = leave_done ps l
 leave_done (turning row (suc n) a ∷ ps) l = point (turning row (suc n) a ∷ ps) l
 
--- the point at which something is left to do first, where the block goes on; once it has ended, no piece is left
+-- the point at which something is left to do first, where the block goes on; once it has ended, no
+-- piece is left
 abbrev pub next_point : List Piece → Local → Point
 next_point ps l = cond (is_well l.ending) (leave_done ps l) (point [] l)
 
@@ -77,7 +80,8 @@ begin r row (repeat e a) s = counted row (count_value r s e) a s
 abbrev pub followed_by : Machine → List Piece → Machine
 followed_by m ps = machine_at (next_point (m.pieces ++ ps) m.state.here) m.state.resources
 
--- does the first piece, with so many steps left; with none the block ends, and with nothing to do it stays as it is
+-- does the first piece, with so many steps left; with none the block ends, and with nothing to do
+-- it stays as it is
 abbrev pub step_at : Rights → List Piece → ℕ → State → Machine
 step_at r (rest k (act row a acts) ∷ ps) zero s = machine [] (runs_out row s)
 step_at r (rest k (act row a acts) ∷ ps) (suc n) s = followed_by (begin r row a (locally (with_steps n) s)) (rest k acts ∷ ps)
@@ -86,7 +90,8 @@ step_at r (turning row (suc t) a ∷ ps) (suc n) s =
     followed_by (machine (rest (length s.here.env.names) a ∷ []) (locally (with_steps n) s)) (turning row t a ∷ ps)
 step_at r ps n s = machine ps s
 
--- one step: it does the first piece that is left, where the block goes on; an ended block stays as it is
+-- one step: it does the first piece that is left, where the block goes on; an ended block stays as
+-- it is
 abbrev pub step : Rights → Machine → Machine
 step r m = cond (is_live m.state) (step_at r m.pieces m.state.here.env.steps m.state) m
 
@@ -130,7 +135,8 @@ steps_left m = m.state.here.env.steps
 abbrev pub distance : Machine → ℕ
 distance m = steps_left m + some_left m.pieces
 
--- what a block is at its beginning and after each step: the first piece has something to do, and only a block that goes on has pieces
+-- what a block is at its beginning and after each step: the first piece has something to do, and
+-- only a block that goes on has pieces
 pub record IsReady (p : Point) : Type 0 where
   pub first : is_ready p.pieces ≡ true
   pub live : is_done p.pieces ≡ false → is_well p.here.ending ≡ true
@@ -140,6 +146,7 @@ abbrev pub step_past : Ending → ℕ
 step_past (E.Fault K.OutOfSteps note) = 1
 step_past ending = 0
 
--- the single steps from one point of a block to its end: those that are fewer there, and the one past the last
+-- the single steps from one point of a block to its end: those that are fewer there, and the one
+-- past the last
 abbrev pub steps_to : Local → Local → ℕ
 steps_to first end = first.env.steps + step_past end.ending - end.env.steps

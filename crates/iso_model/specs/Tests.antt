@@ -1,5 +1,5 @@
--- Test execution: the `before_each` blocks outermost first, the test, the `after_each` blocks innermost first (JUnit 5, test lifecycle).
--- A chain is a list of class heads, innermost first.
+-- Test execution: the `before_each` blocks outermost first, the test, the `after_each` blocks
+-- innermost first (JUnit 5, test lifecycle). A chain is a list of class heads, innermost first.
 use Rattle.std.specs.Prelude.{ℕ, ◌+◌, List, [], ◌∷◌, ◌++◌, length, take, drop, Option, Some, None, cond}
 use Rattle.std.specs.List.{list_all}
 use Rattle.iso_model.specs.Rights.{Rights}
@@ -19,7 +19,8 @@ use Rattle.iso_model.specs.declared.place.BlockName.{BlockName}
 use Rattle.iso_model.specs.declared.place.BlockName.TheVariants.{Test}
 use Rattle.iso_model.specs.declared.place.Lifecycle.TheVariants.{BeforeEach, AfterEach}
 
--- how far a test has come: its names, the resources, the bytes and lines printed, the endings of its blocks so far
+-- how far a test has come: its names, the resources, the bytes and lines printed, the endings of
+-- its blocks so far
 pub record Body : Type 0 where
   pub names : List Binding
   pub resources : Resources
@@ -27,7 +28,8 @@ pub record Body : Type 0 where
   pub lines : List (List ℕ)
   pub endings : List Ending
 
--- the names of a test: of each class, outermost first, its statics as its opening left them, and its fields at their literals
+-- the names of a test: of each class, outermost first, its statics as its opening left them, and
+-- its fields at their literals
 abbrev pub test_names : List ClassHead → List Frame → List Binding
 test_names [] frames = []
 test_names (c ∷ cs) [] = []
@@ -38,7 +40,8 @@ abbrev pub names_in : List ClassHead → ℕ
 names_in [] = 0
 names_in (c ∷ cs) = names_in cs + length c.statics + length c.fields
 
--- the names that a block of the innermost class of a chain sees, those of its classes; and the others, of the classes inside it
+-- the names that a block of the innermost class of a chain sees, those of its classes; and the
+-- others, of the classes inside it
 abbrev pub seen_from : List ClassHead → List Binding → List Binding
 seen_from cs names = take (names_in cs) names
 

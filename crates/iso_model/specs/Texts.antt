@@ -16,7 +16,8 @@ use Rattle.iso_model.specs.declared.place.BlockName.TheVariants.{Test, Class}
 use Rattle.iso_model.specs.declared.place.Place.{Place}
 use Rattle.iso_model.specs.declared.place.Place.TheVariants.{Row, Disabled}
 
--- the text of a value, as `text` gives it: a number in decimal, with `-` where it is negative; `true` or `false`; a text itself
+-- the text of a value, as `text` gives it: a number in decimal, with `-` where it is negative;
+-- `true` or `false`; a text itself
 abbrev pub text_of : Data → List ℕ
 text_of (Whole z) = signed_decimal z
 text_of (Flag true) = codes "true"
@@ -64,7 +65,8 @@ out_of_steps_message = codes "out of steps"
 abbrev pub assertion_message : List ℕ
 assertion_message = codes "assertion failed"
 
--- the message of an `assert_equal` whose values differ: the expected one, then the actual one (as JUnit 5's `assertEquals`)
+-- the message of an `assert_equal` whose values differ: the expected one, then the actual one (as
+-- JUnit 5's `assertEquals`)
 abbrev pub difference_message : Data → Data → List ℕ
 difference_message expected actual =
     codes "expected: <" ++ text_of expected ++ codes "> but was: <" ++ text_of actual ++ codes ">"

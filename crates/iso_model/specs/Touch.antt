@@ -43,8 +43,8 @@ kind_of_key k = kind_of_value (starting_value k)
 abbrev pub HasKind : Option Resource → Kind → Type 0
 HasKind value kind = option_map kind_of_value value ≡ Some kind
 
--- what is answered to an ask, where a value is there: the text of a property, the locale, or the text
--- of a file; nothing where the property is absent or the file missing
+-- what is answered to an ask, where a value is there: the text of a property, the locale, or the
+-- text of a file; nothing where the property is absent or the file missing
 abbrev pub answered : Option Resource → Ask → Option (List ℕ)
 answered value (A.Prop name) = property_in value name.now
 answered value A.Locale = locale_in value

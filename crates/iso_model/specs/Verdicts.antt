@@ -25,7 +25,8 @@ first_skip (E.Well ∷ es) = first_skip es
 abbrev pub verdict : List Ending → Verdict
 verdict endings = unwrap_or (first_failure endings) (unwrap_or (first_skip endings) V.Pass)
 
--- the verdict of a node under a class whose `before_all` ended so: Blocked after a fail or fault, Skipped after a false assumption
+-- the verdict of a node under a class whose `before_all` ended so: Blocked after a fail or fault,
+-- Skipped after a false assumption
 abbrev pub barred_verdict : Ending → Verdict
 barred_verdict E.Well = V.Pass
 barred_verdict (E.Fail note) = V.Blocked note

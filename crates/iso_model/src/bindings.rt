@@ -13,7 +13,8 @@ use std::alloc::{AllocError, Global};
 use std::marker::Model;
 use std::mem;
 
-/// Visible names with their values, outermost first: layers of shared names, and after them names of their own.
+/// Visible names with their values, outermost first: layers of shared names, and after them names
+/// of their own.
 #[derive(Drop)]
 pub struct Bindings {
     layers: Vec<NameLayer>,
@@ -94,7 +95,8 @@ impl Bindings {
         self.shared_at(place)
     }
 
-    /// The same, over the layers too. Few look-ups are of shared names, so this stays out of what each look-up does.
+    /// The same, over the layers too. Few look-ups are of shared names, so this stays out of what
+    /// each look-up does.
     #[inline(never)]
     fn shared_at(&self, place: usize) -> Option<LentBinding<'_>>
         ensures { option_map lent result ≡ slice_get self.now place }
@@ -106,7 +108,8 @@ impl Bindings {
         }
     }
 
-    /// Makes later look-ups of the names that aren't shared quick. The first time it takes as long as some 50 look-ups of the last.
+    /// Makes later look-ups of the names that aren't shared quick. The first time it takes as long
+    /// as some 50 look-ups of the last.
     pub fn index(&mut self) -> Result<(), AllocError>
         ensures { self.new ≡ self.old }
     {
@@ -124,7 +127,8 @@ impl Bindings {
         self.own.push(binding)
     }
 
-    /// Gives the name at a place another value, where there is one. Memory is taken for a shared name alone.
+    /// Gives the name at a place another value, where there is one. Memory is taken for a shared
+    /// name alone.
     pub fn set_value(&mut self, place: usize, value: Data) -> Result<(), AllocError>
         ensures ok { OnOk result (self.new ≡ revalued self.old place value) }
         ensures err { OnErr result (self.new ≡ self.old) }
@@ -225,7 +229,8 @@ impl Bindings {
         Ok(copies)
     }
 
-    /// Takes off the names past the first `count`. Whole layers move; where `count` is inside of one, the names past it are copied.
+    /// Takes off the names past the first `count`. Whole layers move; where `count` is inside of
+    /// one, the names past it are copied.
     pub fn split_off(&mut self, alloc: Global, count: usize) -> Result<Bindings, AllocError>
         requires { count ≤ length self.old }
         ensures first { OnOk result (self.new ≡ take count self.old) }
@@ -249,7 +254,8 @@ impl Bindings {
     }
 }
 
-/// The layer that a place is in, and where in that: the number of layers for a place past their names.
+/// The layer that a place is in, and where in that: the number of layers for a place past their
+/// names.
 fn layer_at(layers: &[NameLayer], place: usize) -> (usize, usize)
     ensures { IsAt layers.now place result.0 result.1 }
 {

@@ -34,7 +34,8 @@ pub fn empty_blocks_take_no_step()
     ensures between { let g = test_after 1 prints_t (inner ∷ empty_head ∷ []) in to_begin g.stage ≡ Class 2 AfterEach ∷ Class 1 AfterEach ∷ [] }
 {}
 
-/// What isn't due is left out once its turn comes: after a `before_each` that failed the other and the test, and no `after_each`.
+/// What isn't due is left out once its turn comes: after a `before_each` that failed the other and
+/// the test, and no `after_each`.
 pub fn blocks_that_are_not_due_are_left_out()
     ensures failed { let g = test_after 1 prints_t (inner ∷ fails_before_each ∷ []) in
         ((so_far g.stage).lines ≡ []) × (to_begin g.stage ≡ Class 1 AfterEach ∷ []) }
@@ -43,7 +44,8 @@ pub fn blocks_that_are_not_due_are_left_out()
         × ((so_far g.stage).endings ≡ Fail (note "no" (in_class 1 BeforeEach)) ∷ Well ∷ Well ∷ []) }
 {}
 
-/// A failed `before_all` ends at its statement; `after_all` is a body of its own, which begins to print anew.
+/// A failed `before_all` ends at its statement; `after_all` is a body of its own, which begins to
+/// print anew.
 pub fn lifecycle_of_a_class_is_two_bodies()
     ensures before_all { let g = before_all_after 2 no_database in
         (is_ended g.stage ≡ true) × ((so_far g.stage).lines ≡ lines ("open" ∷ []))
@@ -52,7 +54,8 @@ pub fn lifecycle_of_a_class_is_two_bodies()
         (is_ended g.stage ≡ false) × ((so_far g.stage).lines ≡ lines ("close" ∷ [])) × ((so_far g.stage).printed ≡ 6) }
 {}
 
-/// A body of a disabled node has ended where it begins; a disabled class's `after_all` has nothing to do.
+/// A body of a disabled node has ended where it begins; a disabled class's `after_all` has nothing
+/// to do.
 pub fn disabled_bodies_end_where_they_begin()
     ensures test { let g = test_after 0 disabled_test (inner ∷ outer ∷ []) in
         (is_ended g.stage ≡ true) × ((so_far g.stage).endings ≡ disabled_ending (codes "later") ∷ []) × ((so_far g.stage).lines ≡ []) }

@@ -1,4 +1,5 @@
-//! Laws of whole bodies, which do a list of jobs step by step. Each function does nothing: its contract is the law, and is proved.
+//! Laws of whole bodies, which do a list of jobs step by step. Each function does nothing: its
+//! contract is the law, and is proved.
 ghost use Rattle.std.specs.Prelude.{◌≡◌, ◌<◌, ◌≤◌, ℕ, List, [], ◌∷◌, true, false};
 ghost use Rattle.iso_model.specs.Agreement.{AlikeBodies};
 ghost use Rattle.iso_model.specs.Alone.{after_all};
@@ -19,7 +20,8 @@ pub fn step_keeps_what_a_body_comes_to()
     ensures jobs { (r : Rights) (js : List Job) (a : Account) (m : Resources) → body_finish r (stage_from js a) m ≡ with_jobs r js (body_at a m) }
 {}
 
-/// From its beginning, on what an opening left, a body comes to the test, or to the class's `before_all` or `after_all`.
+/// From its beginning, on what an opening left, a body comes to the test, or to the class's
+/// `before_all` or `after_all`.
 pub fn body_comes_to_its_definition()
     ensures test { (t : TestHead) (cs : List ClassHead) (o : Opening)
         → body_finish (test_rights t cs) (test_stage t cs o.frames) o.resources ≡ test t cs o }
@@ -46,8 +48,8 @@ pub fn step_brings_the_end_of_a_body_nearer()
     ensures within { (js : List Job) (a : Account) → body_distance (stage_from js a) ≤ jobs_distance js }
 {}
 
-/// A step changes one key at most, and only one that the rights let it change; neither does all that is left of a body
-/// change another. A step keeps the kind of every resource.
+/// A step changes one key at most, and only one that the rights let it change; neither does all
+/// that is left of a body change another. A step keeps the kind of every resource.
 pub fn body_changes_no_other_key()
     ensures one { (r : Rights) (g : Going) → OneChange r g.resources (body_step r g).resources }
     ensures step { (r : Rights) (g : Going) (k : List ℕ) → is_writable (r k) ≡ false → (body_step r g).resources k ≡ g.resources k }
@@ -55,8 +57,9 @@ pub fn body_changes_no_other_key()
     ensures kinds { (r : Rights) (g : Going) (k : List ℕ) → kind_at (body_step r g).resources k ≡ kind_at g.resources k }
 {}
 
-/// A body looks at no key that its rights don't let it look at: over resources that are equal at the others, a step, any
-/// number of them and all that is left come to the same, and leave resources that are equal there again.
+/// A body looks at no key that its rights don't let it look at: over resources that are equal at
+/// the others, a step, any number of them and all that is left come to the same, and leave
+/// resources that are equal there again.
 pub fn body_is_the_same_where_resources_are_equal()
     ensures step { (r : Rights) (g h : Going) → AlikeGoing r g h → AlikeGoing r (body_step r g) (body_step r h) }
     ensures steps { (r : Rights) (n : ℕ) (g h : Going) → AlikeGoing r g h → AlikeGoing r (body_steps r n g) (body_steps r n h) }

@@ -157,7 +157,8 @@ pub fn false_assumption_in_before_all_skips_all()
     ensures first { class_alone assumes_twice [] empty_world ≡ skipped "no #1" (in_class 1 BeforeAll) [] }
 {}
 
-/// A mark with `children` counts on each child of its class alone, and there as one of the child's own, after these.
+/// A mark with `children` counts on each child of its class alone, and there as one of the child's
+/// own, after these.
 pub fn marks_of_children_are_theirs()
     ensures class { effective [] (for_children (writes properties_key) ∷ reads file_a ∷ []) ≡ reads file_a ∷ [] }
     ensures child { effective (for_children (writes properties_key) ∷ reads file_a ∷ []) (reads properties_key ∷ [])
@@ -165,14 +166,16 @@ pub fn marks_of_children_are_theirs()
     ensures grandchild { effective (reads properties_key ∷ []) (reads file_a ∷ []) ≡ reads file_a ∷ [] }
 {}
 
-/// None of a disabled test's blocks runs. It is skipped with its reason, unless an enclosing class's opening barred it.
+/// None of a disabled test's blocks runs. It is skipped with its reason, unless an enclosing
+/// class's opening barred it.
 pub fn disabled_test_is_skipped()
     ensures own { test_alone disabled_test (inner ∷ outer ∷ []) empty_world ≡ skipped "later" Disabled [] }
     ensures blocked { test_alone disabled_test (no_database ∷ []) empty_world ≡ blocked "no db" (in_class 1 BeforeAll) [] }
     ensures place { place_text Disabled ≡ codes "disabled" }
 {}
 
-/// None of a disabled class's blocks runs. All in it is skipped with its reason, nested classes too, and enclosing ones aren't.
+/// None of a disabled class's blocks runs. All in it is skipped with its reason, nested classes
+/// too, and enclosing ones aren't.
 pub fn disabled_class_skips_all_in_it()
     ensures class { class_alone disabled_class [] empty_world ≡ skipped "soon" Disabled [] }
     ensures test { test_alone prints_t (disabled_class ∷ []) empty_world ≡ skipped "soon" Disabled [] }
@@ -267,8 +270,8 @@ pub fn pairs_come_one_after_another()
         ≡ replicate 3 (Err F.Overflow) }
 {}
 
-/// What a statement tests comes after the values of all its operands: whether a name is taken or frozen, whether a line fits, and
-/// whether the first of two values is a text.
+/// What a statement tests comes after the values of all its operands: whether a name is taken or
+/// frozen, whether a line fits, and whether the first of two values is a text.
 pub fn operands_come_before_what_is_tested()
     ensures faults { endings_crowded (let_name "x" (name "y") ∷ assign "n" (name "y") ∷ print (name "y")
         ∷ set_prop (number 1) (name "y") ∷ write_file (number 1) (name "y") ∷ append_file (number 1) (name "y") ∷ [])
@@ -279,7 +282,8 @@ pub fn operands_come_before_what_is_tested()
         ∷ fault_here K.Frozen "n is frozen" ∷ fault_here K.OutputFull "output is full" ∷ [] }
 {}
 
-/// An assignment may give a name a value of another kind. It stays where the body or the turn around it ends.
+/// An assignment may give a name a value of another kind. It stays where the body or the turn
+/// around it ends.
 pub fn assignments_stay()
     ensures kind { (by_itself (let_name "x" (number 1) ∷ assign "x" (quoted "a") ∷ print (name "x") ∷ [])).here.lines
         ≡ lines ("a" ∷ []) }
@@ -328,7 +332,8 @@ pub fn kinds_come_first()
     ensures count { endings_of (repeat (minus 1) no_acts ∷ []) ≡ fault_here K.BadCount "bad count" ∷ [] }
 {}
 
-/// A false `assert` says so, and `assert_equal` names both values, the expected one first. What holds goes on.
+/// A false `assert` says so, and `assert_equal` names both values, the expected one first. What
+/// holds goes on.
 #[tactic(auto, using(crate::proofs::ExampleLemmas::numerals))]
 pub fn assertions_name_what_differs()
     ensures fail { endings_of (assert (flag false) ∷ assert_equal (number 3) (number 4) ∷ assume (flag false) "no" ∷ [])
@@ -393,7 +398,8 @@ pub fn output_is_limited()
         ≡ fault_here K.OutputFull "output is full" }
 {}
 
-/// A text has 4,096 bytes at most, and so has a file. Whether a file may be changed is tested first.
+/// A text has 4,096 bytes at most, and so has a file. Whether a file may be changed is tested
+/// first.
 pub fn texts_are_limited()
     ensures last { (by_itself (let_name "x" (join (long 4095) (quoted "b" ∷ [])) ∷ [])).here.ending ≡ Well }
     ensures past { (by_itself (let_name "x" (join (long 4096) (quoted "b" ∷ [])) ∷ [])).here.ending

@@ -69,7 +69,8 @@ pub struct Variable {
     pub value: Data,
 }
 
-/// What a class gives to the tests under it, but for its marks. A block that isn't written is empty.
+/// What a class gives to the tests under it, but for its marks. A block that isn't written is
+/// empty.
 #[derive(Drop)]
 pub struct ClassContents {
     pub statics: Vec<Variable>,

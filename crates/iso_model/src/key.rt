@@ -6,7 +6,8 @@ use std::alloc::{AllocError, Global};
 use std::marker::Model;
 use std::sync::Arc;
 
-/// The key of a declared resource or lock, which contracts see as its spelling. Equal keys may share it.
+/// The key of a declared resource or lock, which contracts see as its spelling. Equal keys may
+/// share it.
 #[derive(Drop)]
 pub struct Key {
     spelling: Arc<Text>,

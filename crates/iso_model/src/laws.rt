@@ -30,7 +30,8 @@ pub fn step_keeps_what_a_block_comes_to()
         → kept (length env.names) (finished r (machine_at (first_point acts env) m)) ≡ block r acts env m }
 {}
 
-/// A step that has a piece to do brings the end nearer, and leaves a piece that has something to do, or none.
+/// A step that has a piece to do brings the end nearer, and leaves a piece that has something to
+/// do, or none.
 pub fn step_brings_the_end_nearer()
     ensures nearer { (r : Rights) (m : Machine) → IsReady (point_of m) → is_done m.pieces ≡ false → distance (step r m) < distance m }
     ensures ready { (r : Rights) (m : Machine) → IsReady (point_of m) → IsReady (point_of (step r m)) }
@@ -45,7 +46,8 @@ pub fn ended_block_stays()
     ensures run { (r : Rights) (acts : Acts) (s : State) → is_live s ≡ false → run r acts s ≡ s }
 {}
 
-/// A step that has a piece to do uses one of the steps that are left; where none is left, it ends the block.
+/// A step that has a piece to do uses one of the steps that are left; where none is left, it ends
+/// the block.
 pub fn step_uses_one_step_or_ends_the_block()
     ensures used { (r : Rights) (m : Machine) → IsReady (point_of m) → is_done m.pieces ≡ false
         → steps_left (step r m) ≡ steps_left m - 1 }
@@ -65,7 +67,8 @@ pub fn steps_of_a_block_are_its_single_steps()
         (last.pieces ≡ []) × (kept (length env.names) last.state ≡ whole) }
 {}
 
-/// A block of any length has ended after 10,001 single steps: its 10,000, and the one that finds none left.
+/// A block of any length has ended after 10,001 single steps: its 10,000, and the one that finds
+/// none left.
 pub fn block_ends_within_its_steps()
     ensures { (r : Rights) (acts : Acts) (env : Environment) (m : Resources) (n : ℕ) → BLOCK_STEPS < n
         → let last = steps r n (machine_at (first_point acts env) m) in
@@ -93,7 +96,8 @@ pub fn block_keeps_the_kinds_of_resources()
     ensures step { (r : Rights) (m : Machine) (k : List ℕ) → kind_at (step r m).state.resources k ≡ kind_at m.state.resources k }
 {}
 
-/// The first fail or fault of a body's blocks is its verdict, whatever comes after it. A false assumption before it is weaker.
+/// The first fail or fault of a body's blocks is its verdict, whatever comes after it. A false
+/// assumption before it is weaker.
 pub fn first_fail_or_fault_is_the_verdict()
     ensures fail { (n : Note) (es : List Ending) → verdict (Fail n ∷ es) ≡ Verdicts.Fail n }
     ensures fault { (k : FaultKind) (n : Note) (es : List Ending) → verdict (Fault k n ∷ es) ≡ Verdicts.Fault k n }
@@ -110,7 +114,8 @@ pub fn printed_bytes_are_those_of_the_lines()
     ensures step { (r : Rights) (m : Machine) → PrintsMore m.state.here (step r m).state.here }
 {}
 
-/// A block leaves as many names as it found, with their names and sorts, and frozen ones with their values.
+/// A block leaves as many names as it found, with their names and sorts, and frozen ones with their
+/// values.
 pub fn names_outlast_a_block()
     ensures count { (r : Rights) (acts : Acts) (env : Environment) (m : Resources)
         → length (block r acts env m).here.env.names ≡ length env.names }
@@ -118,8 +123,9 @@ pub fn names_outlast_a_block()
         → map lasting (block r acts env m).here.env.names ≡ map lasting env.names }
 {}
 
-/// The names of a test outlast its blocks in the same way. Of a chain that was opened well, a block of
-/// the innermost class sees all of them, and one of the enclosing classes those that these have by themselves.
+/// The names of a test outlast its blocks in the same way. Of a chain that was opened well, a block
+/// of the innermost class sees all of them, and one of the enclosing classes those that these have
+/// by themselves.
 pub fn names_of_a_test_outlast_it()
     ensures lasting { (t : TestHead) (cs : List ClassHead) (o : Opening)
         → map lasting (test t cs o).names ≡ map lasting (test_names cs o.frames) }
@@ -135,8 +141,8 @@ pub fn evaluation_is_the_same_where_resources_are_equal()
         → EqualAt r m n → evaluated names m r e ≡ evaluated names n r e }
 {}
 
-/// A block looks at no key that its rights don't let it look at: over resources that are equal at the
-/// others it does the same, and leaves resources that are equal there again.
+/// A block looks at no key that its rights don't let it look at: over resources that are equal at
+/// the others it does the same, and leaves resources that are equal there again.
 pub fn block_is_the_same_where_resources_are_equal()
     ensures block { (r : Rights) (acts : Acts) (env : Environment) (m n : Resources)
         → EqualAt r m n → Alike r (block r acts env m) (block r acts env n) }
@@ -158,7 +164,8 @@ pub fn chain_changes_no_other_key()
 {}
 
 /// They come to the same on resources that are equal at the keys of their rights. An opening, a
-/// `before_all` and an `after_all` keep the resources equal at further keys, at which they were equal before.
+/// `before_all` and an `after_all` keep the resources equal at further keys, at which they were
+/// equal before.
 pub fn chain_is_the_same_where_resources_are_equal()
     ensures opening { (r : Rights) (cs : List ClassHead) (m n : Resources) → LooksWithin (class_rights cs) r
         → EqualAt r m n → AlikeOpenings r (opening cs m) (opening cs n) }
@@ -170,8 +177,8 @@ pub fn chain_is_the_same_where_resources_are_equal()
         → AlikeOpenings (test_rights t cs) o p → AlikeBodies (test_rights t cs) (test t cs o) (test t cs p) }
 {}
 
-/// A test, and a class, use nothing but what their chain declares: on a start they come to what they
-/// come to on its values at the keys of their rights alone.
+/// A test, and a class, use nothing but what their chain declares: on a start they come to what
+/// they come to on its values at the keys of their rights alone.
 pub fn outcome_uses_declared_keys_alone()
     ensures test { (t : TestHead) (cs : List ClassHead) (start : Resources)
         → test_from t cs start ≡ test_from t cs (restricted (test_rights t cs) start) }

@@ -16,8 +16,8 @@ use std::mem;
 #[derive(Drop)]
 pub(crate) struct NameList {
     bindings: Vec<Binding>,
-    /// Where each name stands first, once `index` has found it out. Names that were dropped stay in it. It's boxed, since most lists have
-    /// none, and a block is moved with its names.
+    /// Where each name stands first, once `index` has found it out. Names that were dropped stay in
+    /// it. It's boxed, since most lists have none, and a block is moved with its names.
     places: Option<Box<BTreeMap<String, usize>>>,
 }
 
@@ -77,7 +77,8 @@ impl NameList {
         }
     }
 
-    /// Makes later look-ups quick. The first time it takes as long as some 50 look-ups of the last name.
+    /// Makes later look-ups quick. The first time it takes as long as some 50 look-ups of the last
+    /// name.
     pub fn index(&mut self) -> Result<(), AllocError>
         ensures { self.new ≡ self.old }
     {
@@ -135,7 +136,8 @@ fn place_of(bindings: &[Binding], name: &str) -> usize
     place
 }
 
-/// The same, by what was found out of these bindings. A name that was dropped may have left a place.
+/// The same, by what was found out of these bindings. A name that was dropped may have left a
+/// place.
 fn place_in(places: &BTreeMap<String, usize>, bindings: &[Binding], name: &str) -> usize
     ensures { Tells places.now bindings.now → result ≡ place_of bindings.now name.now }
 {

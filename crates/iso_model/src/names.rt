@@ -122,9 +122,9 @@ impl Names {
         self.bindings.at(self.bindings.place_of(name))
     }
 
-    /// Makes later look-ups quick, unless few names are visible: then nothing is done, and no memory is taken.
-    /// The first time it takes as long as some 50 look-ups of the last of the block's own names. Shared names were indexed when they
-    /// were made.
+    /// Makes later look-ups quick, unless few names are visible: then nothing is done, and no
+    /// memory is taken. The first time it takes as long as some 50 look-ups of the last of the
+    /// block's own names. Shared names were indexed when they were made.
     pub fn index(&mut self) -> Result<(), AllocError>
         ensures { self.new ≡ self.old }
     {
@@ -153,8 +153,9 @@ impl Names {
         self.bindings.keep(count);
     }
 
-    /// Gives a visible name another value, which may be of another kind.
-    /// `UnknownName` where it isn't visible, before `Frozen` where it may not be assigned. Memory is taken for a shared name alone.
+    /// Gives a visible name another value, which may be of another kind. `UnknownName` where it
+    /// isn't visible, before `Frozen` where it may not be assigned. Memory is taken for a shared
+    /// name alone.
     pub fn assign(&mut self, name: &str, value: Data) -> Result<Result<(), AssignFault>, AllocError>
         ensures answer { IfOk result (λ answer. assigned self.old.names name.now value ≡ assignment answer name.now self.new.names) }
         ensures rest { self.new ≡ record self.old { names = self.new.names } }

@@ -65,8 +65,8 @@ impl Properties {
         Ok(copied)
     }
 
-    /// Whether both have the same properties, with the same texts. Looks up each entry of both in the other at most
-    /// once, and takes no memory.
+    /// Whether both have the same properties, with the same texts. Looks up each entry of both in
+    /// the other at most once, and takes no memory.
     pub fn same(&self, other: &Properties) -> bool
         ensures { IsTrue result ↔ (self.now ≡ other.now) }
     {

@@ -93,7 +93,8 @@ impl Layer {
     }
 }
 
-/// The keys that a block may look at or change. Of a key that was declared anew the newest access counts.
+/// The keys that a block may look at or change. Of a key that was declared anew the newest access
+/// counts.
 ///
 /// The innermost layer stands first. What stands in a class shares the layers of that class.
 #[derive(Drop)]

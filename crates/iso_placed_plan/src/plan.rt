@@ -12,9 +12,10 @@ use iso_tap::fault::TapFault;
 use iso_tap::printer::{Piece, Printer};
 use iso_tap::sink::{Sink, SinkFailed};
 
-/// Writes a plan as `iso_tap::plan::write_plan` does, with the place of each node as a last field of its line: `FILE:LINE:COLUMN`,
-/// of the first byte of its name. FILE is the script's name by its number, with control characters escaped, and `stdin` where it
-/// has none. A node without a site has no such field. Takes no memory.
+/// Writes a plan as `iso_tap::plan::write_plan` does, with the place of each node as a last field
+/// of its line: `FILE:LINE:COLUMN`, of the first byte of its name. FILE is the script's name by its
+/// number, with control characters escaped, and `stdin` where it has none. A node without a site
+/// has no such field. Takes no memory.
 ///
 /// The sink is asked again where it takes only some bytes, and no more once it has failed.
 pub fn write_placed_plan<W: Sink>(

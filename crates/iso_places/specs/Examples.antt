@@ -8,7 +8,8 @@ use Rattle.iso_plan.specs.Tree.{Row, tree}
 use Rattle.iso_script.specs.Examples.{class_at, test_at}
 use Rattle.iso_script.specs.declared.place.NodePlace.{NodePlace}
 
--- nodes 1 to 4 of two scripts, one with class A { test t { } } of team shop, one with the same of team bank: A, t, A, t
+-- nodes 1 to 4 of two scripts, one with class A { test t { } } of team shop, one with the same of
+-- team bank: A, t, A, t
 abbrev pub two_scripts : List Row
 two_scripts = tree (shop (plain (codes "A") ∷ []) ∷ record { team = codes "bank"; classes = plain (codes "A") ∷ [] } ∷ [])
 
@@ -26,7 +27,8 @@ two_sites = all_sites (first_places ∷ second_places ∷ [])
 abbrev pub twice_named : List Row
 twice_named = tree (shop (plain (codes "A") ∷ plain (codes "A") ∷ []) ∷ [])
 
--- the sites of Cart, a, b, Desk, c, Till, d: Desk has a before_all at line 12 and a before_each at line 15, Till a before_all at line 26
+-- the sites of Cart, a, b, Desk, c, Till, d: Desk has a before_all at line 12 and a before_each at
+-- line 15, Till a before_all at line 26
 abbrev pub desk_sites : List Site
 desk_sites =
     all_sites (

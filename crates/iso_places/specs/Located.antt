@@ -21,11 +21,13 @@ use Rattle.iso_plan.specs.declared.fault.PlanError.TheVariants as P
 use Rattle.iso_script.specs.Grammar.{ReadsPlaced}
 use Rattle.iso_script.specs.declared.place.NodePlace.{NodePlace}
 
--- the site of the first node that has a path, where nodes have these sites, both as they are written
+-- the site of the first node that has a path, where nodes have these sites, both as they are
+-- written
 abbrev pub site_by_path : List Row → List Site → List ℕ → Option Site
 site_by_path nodes sites path = lookup (bytes_eq path) (zip (node_paths nodes) sites)
 
--- These are the sites of a plan's nodes but the root: each stands where the first node stands that has its path.
+-- These are the sites of a plan's nodes but the root: each stands where the first node stands that
+-- has its path.
 pub record AreSites (nodes : List Row) (all : List Site) (plan : List Row) (sites : List Site) : Type 0 where
   pub each : length plan ≡ length sites + 1
   pub own : (n : ℕ) → 0 < n → n < length plan → site_at sites n ≡ site_by_path nodes all (path_text plan n)
@@ -37,8 +39,8 @@ pub record HasStranger (nodes : List Row) (all : List Site) (plan : List Row) : 
   pub within : node < length plan
   pub unknown : site_by_path nodes all (path_text plan node) ≡ None
 
--- why the sites of a plan's nodes are not found: one is no node of these scripts that has a site, or no plan is of these scripts, or
--- memory is wanting
+-- why the sites of a plan's nodes are not found: one is no node of these scripts that has a site,
+-- or no plan is of these scripts, or memory is wanting
 abbrev pub IsRefusal : List Script → List Site → List Row → LocateError → Type 0
 IsRefusal scripts all plan NoPlace = (scripts_fault scripts ≢ None) ⊎ HasStranger (tree scripts) all plan
 IsRefusal scripts all plan OutOfMemory = ⊤

@@ -14,8 +14,8 @@ site_at sites (suc n) = slice_get sites n
 abbrev pub site_in : ℕ → NodePlace → Site
 site_in script place = record { script = script; place = place }
 
--- The sites of all nodes of scripts but the root, as they are written, where the first script has this number: each script's places,
--- one script after the other.
+-- The sites of all nodes of scripts but the root, as they are written, where the first script has
+-- this number: each script's places, one script after the other.
 abbrev pub sites_from : ℕ → List (List NodePlace) → List Site
 sites_from script [] = []
 sites_from script (places ∷ more) = map (site_in script) places ++ sites_from (script + 1) more

@@ -18,9 +18,10 @@ pub struct ScriptLine {
     pub line: u64,
 }
 
-/// The line of what a report says of a node: of row R of a block the line R - 1 below its opening brace, of a disabled node that of its
-/// name. A block of a class by its depth is that of the node's path which stands there. There is none where nothing is written that
-/// the place names. Takes no memory.
+/// The line of what a report says of a node: of row R of a block the line R - 1 below its opening
+/// brace, of a disabled node that of its name. A block of a class by its depth is that of the
+/// node's path which stands there. There is none where nothing is written that the place names.
+/// Takes no memory.
 pub fn line_of_end(plan: &Plan, sites: &Sites, node: u32, at: Place) -> Option<ScriptLine>
     requires { node < length plan.now.rows }
     ensures { result ≡ end_line (tree_of plan.now) sites.now node at }

@@ -34,7 +34,8 @@ pub fn lines_start_behind_line_feeds()
     ensures empty { line_starts [] ≡ 0 ∷ [] }
 {}
 
-/// The sites of all nodes are those of the first script, then those of the second and so on. The root has none.
+/// The sites of all nodes are those of the first script, then those of the second and so on. The
+/// root has none.
 pub fn sites_stand_script_after_script()
     ensures all { all_sites (first_places ∷ [] ∷ second_places ∷ [])
         ≡ site_in 0 (class_at 2 7 0 0 0 0) ∷ site_in 0 (test_at 3 8 3)
@@ -44,7 +45,8 @@ pub fn sites_stand_script_after_script()
     ensures past { site_at two_sites 5 ≡ None }
 {}
 
-/// A node has the site of the node of all scripts that has its path, whatever number it has in a plan of some of them.
+/// A node has the site of the node of all scripts that has its path, whatever number it has in a
+/// plan of some of them.
 #[tactic(auto, unfolding(iso_plan::specs::Paths::path))]
 pub fn nodes_are_found_by_their_paths()
     ensures first { site_by_path two_scripts two_sites (codes "shop.A.t") ≡ Some (site_in 0 (test_at 3 8 3)) }
@@ -80,8 +82,8 @@ pub fn class_blocks_are_found_by_depth()
     ensures depth { node_at_depth cart_and_desk 7 2 ≡ Some 6 }
 {}
 
-/// Where no such block is written there is no line: the class has no block of this kind, or the node of that depth is no class, or there
-/// is none.
+/// Where no such block is written there is no line: the class has no block of this kind, or the
+/// node of that depth is no class, or there is none.
 #[tactic(auto, unfolding(iso_plan::specs::Paths::path))]
 pub fn blocks_that_are_not_written_have_no_lines()
     ensures unwritten { end_line cart_and_desk desk_sites 7 (Row (N.Class 2 AfterAll) 1) ≡ None }

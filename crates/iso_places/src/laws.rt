@@ -26,7 +26,8 @@ pub fn nodes_have_their_own_sites(scripts: &[Script])
         → site_by_path nodes sites (path_text nodes n) ≡ site_at sites n }
 {}
 
-/// No plan of scripts that were read has a node without a site, be it of all nodes or of those that some paths keep.
+/// No plan of scripts that were read has a node without a site, be it of all nodes or of those that
+/// some paths keep.
 pub fn nodes_of_plans_have_sites(scripts: &[Script])
     ensures all { let nodes = tree (map script_of scripts.now) in
         (sites : List Site) → length nodes ≡ length sites + 1 → HasStranger nodes sites nodes → ⊥ }

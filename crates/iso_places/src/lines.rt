@@ -22,7 +22,8 @@ impl Model for LineTable {
 }
 
 impl LineTable {
-    /// The table of a script. A text beyond the numbers of 32 bits, which no script is, counts as want of memory.
+    /// The table of a script. A text beyond the numbers of 32 bits, which no script is, counts as
+    /// out of memory.
     pub fn new(alloc: Global, bytes: &[u8]) -> Result<LineTable, AllocError>
         ensures { IfOk result (λ table. table ≡ line_starts bytes.now) }
     {
@@ -46,8 +47,9 @@ impl LineTable {
         self.starts.len() as u64
     }
 
-    /// A line of the script of this table by its number, without its line end, LF or CR LF. Lines count from 1; one that isn't there is
-    /// empty. Takes no memory, and no longer where the script or the line is longer.
+    /// A line of the script of this table by its number, without its line end, LF or CR LF. Lines
+    /// count from 1; one that isn't there is empty. Takes no memory, and no longer where the script
+    /// or the line is longer.
     pub fn line<'a>(&self, bytes: &'a [u8], number: u64) -> &'a [u8]
         requires { self.now ≡ line_starts bytes.now }
         ensures { result.now ≡ source_line bytes.now number }

@@ -17,11 +17,13 @@ use iso_plan::plan::Plan;
 use iso_script::place::NodePlace;
 use std::alloc::Global;
 
-/// The sites of the nodes of a plan of scripts, whichever of their nodes it has: each stands where the first node of all scripts stands
-/// that has its path. The places are those of each script's nodes, in written order.
+/// The sites of the nodes of a plan of scripts, whichever of their nodes it has: each stands where
+/// the first node of all scripts stands that has its path. The places are those of each script's
+/// nodes, in written order.
 ///
-/// `NoPlace` is answered where a node of the plan has the path of none of them, or where no plan is of these scripts. Takes time as the
-/// paths of all scripts' nodes are long, and a look-up for each node of the plan.
+/// `NoPlace` is answered where a node of the plan has the path of none of them, or where no plan is
+/// of these scripts. Takes time as the paths of all scripts' nodes are long, and a look-up for each
+/// node of the plan.
 pub fn locate(
     alloc: Global,
     scripts: &[Script],

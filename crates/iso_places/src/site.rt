@@ -15,7 +15,8 @@ pub struct Site {
 
 const _: () = prove!(size_of::<Site>() <= 32);
 
-/// The sites of a plan's nodes, which contracts see as those of all nodes but the root, in their order.
+/// The sites of a plan's nodes, which contracts see as those of all nodes but the root, in their
+/// order.
 #[derive(Drop)]
 pub struct Sites {
     list: Vec<Site>,

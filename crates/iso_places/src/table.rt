@@ -14,7 +14,8 @@ use iso_script::place::NodePlace;
 use std::alloc::{AllocError, Global};
 use std::collections::BTreeMap;
 
-/// The sites of all nodes of scripts with these places. More scripts than have numbers of 32 bits count as want of memory.
+/// The sites of all nodes of scripts with these places. More scripts than have numbers of 32 bits
+/// count as out of memory.
 pub(crate) fn all_sites(alloc: Global, places: &[Vec<NodePlace>]) -> Result<Vec<Site>, LocateError>
     ensures sites { IfOk result (λ v. v.items ≡ all_sites (places_in places.now)) }
     ensures memory { IfErr result (λ e. e ≡ LocateError.OutOfMemory) }

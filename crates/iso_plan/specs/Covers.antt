@@ -6,7 +6,8 @@ use Rattle.iso_plan.specs.NodeChains.{node_rights}
 use Rattle.iso_plan.specs.Paths.{is_under}
 use Rattle.iso_plan.specs.Tree.{Row}
 
--- the locking node of n, which stands at or above it, takes the key, for READ_WRITE where n may change it
+-- the locking node of n, which stands at or above it, takes the key, for READ_WRITE where n may
+-- change it
 pub record IsCovered (tree : List Row) (n : ℕ) (key : List ℕ) : Type 0 where
   pub taker : ℕ
   pub locks : locking_node tree n ≡ Some taker

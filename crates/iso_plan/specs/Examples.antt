@@ -55,7 +55,8 @@ desk = a_class (codes "Desk") None false [] (member (a_test (codes "c") None [])
 abbrev pub isolated_alone : List Row
 isolated_alone = tree (shop (till ∷ []) ∷ [])
 
--- nodes 1 to 4 of class Hall { class Desk { isolated class Till { test d { } } } }: Hall, Desk, Till, d
+-- nodes 1 to 4 of class Hall { class Desk { isolated class Till { test d { } } } }: Hall, Desk,
+-- Till, d
 abbrev pub isolated_deep : List Row
 isolated_deep =
     tree (shop (a_class (codes "Hall") None false []
@@ -65,7 +66,8 @@ isolated_deep =
 abbrev pub cart_and_desk : List Row
 cart_and_desk = tree (shop (cart ∷ desk ∷ []) ∷ [])
 
--- parallel execution with two workers; classes and tests are concurrent where nothing else is marked
+-- parallel execution with two workers; classes and tests are concurrent where nothing else is
+-- marked
 abbrev pub concurrent_by_default : Settings
 concurrent_by_default = record { parallel = true; default_mode = Concurrent; classes_default_mode = Concurrent; worker_count = 2 }
 
@@ -88,7 +90,8 @@ write_lock k = record { key = k; access = Write }
 abbrev pub inner : Class
 inner = a_class (codes "Inner") (Some SameThread) false [] (member (a_test (codes "i") None []) no_members)
 
--- nodes 1 to 4 of class Loose { write "K" test w { } same_thread class Inner { test i { } } }: Loose, w, Inner, i
+-- nodes 1 to 4 of class Loose { write "K" test w { } same_thread class Inner { test i { } } }:
+-- Loose, w, Inner, i
 abbrev pub loose : List Row
 loose =
     tree (shop (a_class (codes "Loose") None false []
@@ -104,7 +107,8 @@ in_class =
     a_class (codes "In") (Some SameThread) false (reads key_k ∷ [])
     (member (a_test (codes "i") None (reads key_l ∷ [])) no_members)
 
--- nodes 1 to 4 of concurrent class Out { same_thread read "K" class In { read "L" test i { } } write "L" test w { } }: Out, In, i, w
+-- nodes 1 to 4 of concurrent class Out { same_thread read "K" class In { read "L" test i { } }
+-- write "L" test w { } }: Out, In, i, w
 abbrev pub nested : List Row
 nested =
     tree (shop (a_class (codes "Out") (Some Concurrent) false []
@@ -114,7 +118,8 @@ nested =
 abbrev pub iso : Class
 iso = a_class (codes "Iso") None true [] (member (a_test (codes "w") None (writes key_l ∷ [])) no_members)
 
--- nodes 1 to 4 of class Top { read "K" test r { } isolated class Iso { write "L" test w { } } }: Top, r, Iso, w
+-- nodes 1 to 4 of class Top { read "K" test r { } isolated class Iso { write "L" test w { } } }:
+-- Top, r, Iso, w
 abbrev pub isolated_with_keys : List Row
 isolated_with_keys =
     tree (shop (a_class (codes "Top") None false []
@@ -138,7 +143,8 @@ writing_children =
     tree (shop (a_class (codes "C") None false (for_children (writes key_k) ∷ [])
     (member (a_test (codes "a") None []) (member (a_test (codes "b") None []) no_members)) ∷ []) ∷ [])
 
--- nodes 1 to 4 of read children "K" class Out { class In { test t { } write "K" test u { } } }: Out, In, t, u
+-- nodes 1 to 4 of read children "K" class Out { class In { test t { } write "K" test u { } } }:
+-- Out, In, t, u
 abbrev pub reading_children : List Row
 reading_children =
     tree (shop (a_class (codes "Out") None false (for_children (reads key_k) ∷ [])

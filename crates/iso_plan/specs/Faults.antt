@@ -30,7 +30,8 @@ abbrev pub has_double : List (List ℕ) → Bool
 has_double [] = false
 has_double (n ∷ ns) = list_any (bytes_eq n) ns || has_double ns
 
--- what is wrong with scripts by themselves: there are too many, or two top-level classes of one team and name
+-- what is wrong with scripts by themselves: there are too many, or two top-level classes of one
+-- team and name
 abbrev pub scripts_fault : List Script → Option PlanFault
 scripts_fault scripts =
     cond (nat_lt SCRIPTS (length scripts)) (Some TooManyScripts)
@@ -49,7 +50,8 @@ full_fault tree = cond (nat_lt NODES (length tree)) (Some TooManyNodes) None
 abbrev pub keys_fault : List Row → Option PlanFault
 keys_fault tree = cond (nat_lt (KEYS + 1) (length (keys tree))) (Some TooManyKeys) None
 
--- what is wrong with paths that select among the nodes of scripts: one names no node, or too many nodes are kept
+-- what is wrong with paths that select among the nodes of scripts: one names no node, or too many
+-- nodes are kept
 abbrev pub nodes_fault : List Script → List (List ℕ) → Option PlanFault
 nodes_fault scripts only = option_or (not_selected (first_unknown (tree scripts) only)) (full_fault (plan_tree scripts only))
 
@@ -62,7 +64,8 @@ abbrev pub IsFaultOf : Option PlanFault → PlanError → Type 0
 IsFaultOf first (Fault fault) = first ≡ Some fault
 IsFaultOf first OutOfMemory = ⊤
 
--- a refusal while a tree grows to so many nodes: they are more than it may have, or memory is wanting
+-- a refusal while a tree grows to so many nodes: they are more than it may have, or memory is
+-- wanting
 abbrev pub IsFull : (most n : ℕ) → PlanError → Type 0
 IsFull most n (Fault fault) = (fault ≡ TooManyNodes) × (most < n)
 IsFull most n OutOfMemory = ⊤

@@ -120,7 +120,8 @@ CanRemove [] uses = Unit {0}
 CanRemove (l ∷ ls) uses =
     (l.key < length uses) × ((0 < counted l.access (use_of uses l.key)) × CanRemove ls (slice_set uses l.key (one_less l.access (use_of uses l.key))))
 
--- what is counted for a key excludes a lock on it: a node that writes it, or for READ_WRITE one that reads it
+-- what is counted for a key excludes a lock on it: a node that writes it, or for READ_WRITE one
+-- that reads it
 abbrev pub excluded : KeyUse → Lock → Bool
 excluded u l = not (u.writing == 0) || (is_write l && not (u.reading == 0))
 

@@ -26,7 +26,8 @@ abbrev pub firsts : List (List ℕ) → List (List ℕ)
 firsts [] = []
 firsts (k ∷ ks) = k ∷ filter (λ other. not (bytes_eq k other)) (firsts ks)
 
--- the keys of a tree: the global key and all that are marked on its nodes, each where it isn't there yet, so the first of each
--- (`laws::keys_are_the_first_of_each`). A key's number is its place.
+-- the keys of a tree: the global key and all that are marked on its nodes, each where it isn't
+-- there yet, so the first of each (`laws::keys_are_the_first_of_each`). A key's number is its
+-- place.
 abbrev pub keys : List Row → List (List ℕ)
 keys tree = insert_all bytes_eq (global_key ∷ []) (marked_keys tree)

@@ -30,7 +30,8 @@ is_isolated (test_node head) = false
 abbrev pub marks_global : List Mark → Bool
 marks_global marks = list_any (λ (m : Mark). bytes_eq global_key m.key) marks
 
--- whether a node asks for isolation: an isolated class, or a node that is marked with the global key itself
+-- whether a node asks for isolation: an isolated class, or a node that is marked with the global
+-- key itself
 abbrev pub isolates : List Row → ℕ → Bool
 isolates tree n = is_isolated (row_at tree n).kind || marks_global (effective_marks tree n)
 
@@ -42,7 +43,8 @@ holds_isolated tree n = is_top tree n && list_any (isolates tree) (nodes_under t
 abbrev pub is_marked : List Row → ℕ → Bool
 is_marked tree n = not (length (effective_marks tree n) == 0)
 
--- whether a node would lock for all that stands in it: it is marked, or it is a top-level class that holds an isolated one
+-- whether a node would lock for all that stands in it: it is marked, or it is a top-level class
+-- that holds an isolated one
 abbrev pub declares : List Row → ℕ → Bool
 declares tree n = holds_isolated tree n || is_marked tree n
 
@@ -63,13 +65,14 @@ is_locking tree n = is_that (locking_node tree n) n
 abbrev pub gathered : List Row → ℕ → Rights
 gathered tree n = rights_of (flat_map (effective_marks tree) (nodes_under tree n))
 
--- the access with which a top-level class takes the global key: READ_WRITE where it holds an isolated class, else READ
+-- the access with which a top-level class takes the global key: READ_WRITE where it holds an
+-- isolated class, else READ
 abbrev pub global_access : List Row → ℕ → List ℕ → Option Access
 global_access tree n k =
     cond (is_top tree n && bytes_eq global_key k) (Some (cond (holds_isolated tree n) Write Read)) None
 
--- the access with which a node takes a key, if it does: a locking node takes what is marked on it and below it, and a
--- top-level class the global key besides
+-- the access with which a node takes a key, if it does: a locking node takes what is marked on it
+-- and below it, and a top-level class the global key besides
 abbrev pub taken : List Row → ℕ → Rights
 taken tree n k = strongest (global_access tree n k) (cond (is_locking tree n) (gathered tree n k) None)
 

@@ -26,6 +26,7 @@ chosen_mode tree s n = unwrap_or (nearest_mode tree (path tree n)) (default_mode
 abbrev pub is_forced : List Row → ℕ → Bool
 is_forced tree n = list_any (takes_write tree) (path tree (parent tree n))
 
--- the execution mode of a node: all are on the same thread without parallel execution, and so are the root and what is forced
+-- the execution mode of a node: all are on the same thread without parallel execution, and so are
+-- the root and what is forced
 abbrev pub mode : List Row → Settings → ℕ → Mode
 mode tree s n = cond (s.parallel && not (is_root n) && not (is_forced tree n)) (chosen_mode tree s n) SameThread

@@ -5,7 +5,8 @@ use Rattle.std.specs.Str.{bytes_eq}
 use Rattle.iso_plan.specs.Paths.{is_root, path, row_at}
 use Rattle.iso_plan.specs.Tree.{Row}
 
--- the names on a node's path, from the top-level class down, with dots between them. A top-level class's name begins with its team's.
+-- the names on a node's path, from the top-level class down, with dots between them. A top-level
+-- class's name begins with its team's.
 abbrev pub path_text : List Row → ℕ → List ℕ
 path_text tree n = join_by (λ m. (row_at tree m).name) (codes ".") (reverse (path tree n))
 

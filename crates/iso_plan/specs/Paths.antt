@@ -25,7 +25,8 @@ up most tree zero = []
 up zero tree (suc n) = []
 up (suc most) tree (suc n) = suc n ∷ up most tree (parent tree (suc n))
 
--- the path of a node: itself and the classes that it stands in, innermost first, without the root. A class has a smaller number than what stands in it.
+-- the path of a node: itself and the classes that it stands in, innermost first, without the root.
+-- A class has a smaller number than what stands in it.
 unfoldable pub path : List Row → ℕ → List ℕ
 path tree n = up n tree n
 
@@ -82,8 +83,8 @@ pub record StandEarlier (rows : List Row) : Type 0 where
   pub first : parent rows 0 ≡ 0
   pub below : (n : ℕ) → 0 < n → parent rows n < n
 
--- there is a root, and each other node is a class or a test, stands in one with a smaller number, which is no test, and has as the
--- marks of its head those that are effective for it
+-- there is a root, and each other node is a class or a test, stands in one with a smaller number,
+-- which is no test, and has as the marks of its head those that are effective for it
 pub record IsTree (tree : List Row) : Type 0 where
   pub rooted : 0 < length tree
   pub root_is : row_at tree 0 ≡ root_row

@@ -1,4 +1,5 @@
--- Selection: the nodes that are kept where some are named by their paths, and what stands in their place in a tree.
+-- Selection: the nodes that are kept where some are named by their paths, and what stands in their
+-- place in a tree.
 use Rattle.std.specs.Prelude.{ℕ, zero, suc, List, [], ◌∷◌, ◌++◌, Option, Bool, true, ◌||◌, ◌&&◌, ◌-◌, cond, length, map, not}
 use Rattle.std.specs.Borrow.{Bor}
 use Rattle.std.specs.List.{list_any, position_from, range_with_len}

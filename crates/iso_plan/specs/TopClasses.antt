@@ -4,11 +4,13 @@ use Rattle.iso_plan.specs.Paths.{column, outermost, path}
 use Rattle.iso_plan.specs.PathTexts.{path_text}
 use Rattle.iso_plan.specs.Tree.{Row}
 
--- the top-level class that a node is or stands in: the outermost node of its path. The root's is the root.
+-- the top-level class that a node is or stands in: the outermost node of its path. The root's is
+-- the root.
 abbrev pub top_class : List Row → ℕ → ℕ
 top_class tree n = unwrap_or (outermost (λ m. true) (path tree n)) 0
 
--- the paths of all nodes by number, the root's among them, which is empty; and the top-level classes of all nodes
+-- the paths of all nodes by number, the root's among them, which is empty; and the top-level
+-- classes of all nodes
 abbrev pub all_paths : List Row → List (List ℕ)
 all_paths tree = column (path_text tree) (length tree)
 

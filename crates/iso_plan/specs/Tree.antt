@@ -1,4 +1,5 @@
--- The tree of scripts, as a list of its nodes in preorder: a node's number is its place in the list.
+-- The tree of scripts, as a list of its nodes in preorder: a node's number is its place in the
+-- list.
 use Rattle.std.specs.Prelude.{ℕ, ◌+◌, List, [], ◌∷◌, ◌++◌, Option, None, Bool, length, map, codes, slice_index_or, unwrap_or}
 use Rattle.iso_model.specs.Chains.{ClassHead, TestHead}
 use Rattle.iso_model.specs.Scripts.{Test, ClassTitle, Class, class, Member, class_member, test_member, Members, no_members, member, Script}
@@ -13,8 +14,8 @@ pub data Kind : Type 0 where
   class_node : Bool → ClassHead → Kind
   test_node : TestHead → Kind
 
--- a node: the number of the node that it stands in, what it is, the marks that are written on it as they count, its name and title, and the
--- execution mode marked on it
+-- a node: the number of the node that it stands in, what it is, the marks that are written on it as
+-- they count, its name and title, and the execution mode marked on it
 pub record Row : Type 0 where
   pub parent : ℕ
   pub kind : Kind
@@ -46,7 +47,8 @@ abbrev pub top_row : List ℕ → ClassTitle → Row
 top_row team c =
     record { parent = 0; kind = class_node c.isolated c.head; written = merged c.head.marks; name = in_team team c.name; title = in_team team (unwrap_or c.display c.name); mode = c.mode }
 
--- the nodes of the members of the class with this number, where the first has number n; and of one member; and of a class
+-- the nodes of the members of the class with this number, where the first has number n; and of one
+-- member; and of a class
 abbrev mutual
   pub members_rows : ℕ → ℕ → Members → List Row
   members_rows parent n no_members = []

@@ -77,7 +77,8 @@ pub(crate) fn key_all(alloc: Global, rows: &[Row], settings: Settings) -> Result
     key_in(alloc, rows, settings, &mut table)
 }
 
-/// The same, by a table in which the keys are numbered. More than 255 different declared keys are `TooManyKeys`.
+/// The same, by a table in which the keys are numbered. More than 255 different declared keys are
+/// `TooManyKeys`.
 fn key_in<'a>(
     alloc: Global,
     rows: &'a [Row],

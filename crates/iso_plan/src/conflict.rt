@@ -25,8 +25,9 @@ pub trait Holders {
         ensures { result ≡ held self.now node };
 }
 
-/// The lowest held node that conflicts with a node. None does with one that takes no locks, so that a node whose locks an enclosing
-/// class took costs no search; of the others, locks are compared with those of held nodes alone. Takes no memory.
+/// The lowest held node that conflicts with a node. None does with one that takes no locks, so that
+/// a node whose locks an enclosing class took costs no search; of the others, locks are compared
+/// with those of held nodes alone. Takes no memory.
 pub fn lowest_in_the_way<H: Holders>(plan: &Plan, holders: &H, node: u32) -> Option<u32>
     requires node { node < length plan.now.rows }
     requires holders { H.nodes holders.now ≡ length plan.now.rows }
@@ -44,7 +45,8 @@ pub fn lowest_in_the_way<H: Holders>(plan: &Plan, holders: &H, node: u32) -> Opt
     None
 }
 
-/// Whether two nodes of a plan conflict: they take one key, and one of them takes it for READ_WRITE. Takes no memory.
+/// Whether two nodes of a plan conflict: they take one key, and one of them takes it for
+/// READ_WRITE. Takes no memory.
 pub fn nodes_conflict(plan: &Plan, node: u32, other: u32) -> bool
     requires node { node < length plan.now.rows }
     requires other { other < length plan.now.rows }
@@ -53,8 +55,9 @@ pub fn nodes_conflict(plan: &Plan, node: u32, other: u32) -> bool
     conflicts(plan.locks(node), plan.locks(other))
 }
 
-/// Whether two nodes with these locks conflict: they take one key, and one of them takes it for READ_WRITE. Locks stand in the order
-/// of their keys, so both lists are gone through once, side by side.
+/// Whether two nodes with these locks conflict: they take one key, and one of them takes it for
+/// READ_WRITE. Locks stand in the order of their keys, so both lists are gone through once, side by
+/// side.
 fn conflicts(some: &[Lock], others: &[Lock]) -> bool
     requires some { Rise some.now }
     requires others { Rise others.now }

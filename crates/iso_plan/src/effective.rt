@@ -23,7 +23,8 @@ pub(crate) fn make_effective(alloc: Global, rows: &mut Vec<Row>) -> Result<(), A
     Ok(())
 }
 
-/// A node of this kind with its effective marks, where these are written on the class that it stands in and on itself.
+/// A node of this kind with its effective marks, where these are written on the class that it
+/// stands in and on itself.
 fn effective_kind(
     alloc: Global,
     kind: &Kind,
@@ -52,7 +53,8 @@ fn effective_kind(
     }
 }
 
-/// The effective marks of a node, where these are written on the class that it stands in and on itself.
+/// The effective marks of a node, where these are written on the class that it stands in and on
+/// itself.
 fn effective(alloc: Global, above: &[Mark], written: &[Mark]) -> Result<Vec<Mark>, AllocError>
     ensures { IfOk result (λ v. v.items ≡ effective above.now written.now) }
 {

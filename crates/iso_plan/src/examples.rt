@@ -32,7 +32,8 @@ pub fn keys_are_numbered_as_they_are_marked()
     ensures two { keys nested ≡ global_key ∷ key_k ∷ key_l ∷ [] }
 {}
 
-/// A locking node takes its own and its descendants' keys, each in the strongest access, and they take none.
+/// A locking node takes its own and its descendants' keys, each in the strongest access, and they
+/// take none.
 #[tactic(auto, unfolding(crate::specs::Paths::path))]
 pub fn locks_are_gathered()
     ensures class { locks cart_and_desk 1 ≡ read_lock 0 ∷ write_lock 1 ∷ [] }
@@ -70,7 +71,8 @@ pub fn isolation_gathers_at_the_top_level_class()
     ensures node { locking_node isolated_with_keys 4 ≡ Some 1 }
 {}
 
-/// A mark for children counts on each child and not on the class, which takes it for none of its own blocks.
+/// A mark for children counts on each child and not on the class, which takes it for none of its
+/// own blocks.
 #[tactic(auto, unfolding(crate::specs::Paths::path))]
 pub fn children_take_what_is_marked_for_them()
     ensures class { locks writing_children 1 ≡ read_lock 0 ∷ [] }
@@ -82,7 +84,8 @@ pub fn children_take_what_is_marked_for_them()
     ensures child { is_writable (node_rights writing_children 2 key_k) ≡ true }
 {}
 
-/// It isn't a grandchild's: that takes what it is marked with itself, gathered where its class takes the key.
+/// It isn't a grandchild's: that takes what it is marked with itself, gathered where its class
+/// takes the key.
 #[tactic(auto, unfolding(crate::specs::Paths::path))]
 pub fn grandchildren_are_no_children()
     ensures class { locks reading_children 1 ≡ read_lock 0 ∷ [] }
@@ -114,8 +117,9 @@ pub fn writers_conflict()
     ensures others { conflict nested 1 4 ≡ false }
 {}
 
-/// Of held nodes it is counted how many read and how many write each key. A node is excluded by one that writes a key which it takes, and by
-/// one that reads a key which it writes, as long as that is held; readers don't exclude each other.
+/// Of held nodes it is counted how many read and how many write each key. A node is excluded by one
+/// that writes a key which it takes, and by one that reads a key which it writes, as long as that
+/// is held; readers don't exclude each other.
 #[tactic(auto, unfolding(crate::specs::Paths::path))]
 pub fn held_nodes_are_counted_by_key()
     ensures class_reads { takers writing_children class_and_test Read 0 ≡ 1 }
@@ -127,7 +131,8 @@ pub fn held_nodes_are_counted_by_key()
     ensures readers { lowest_in_the_way two_classes (is_held first_and_second) 1 ≡ None }
 {}
 
-/// What stands in a node that takes a key for READ_WRITE is on the same thread, and that node itself need not be.
+/// What stands in a node that takes a key for READ_WRITE is on the same thread, and that node
+/// itself need not be.
 #[tactic(auto, unfolding(crate::specs::Paths::path))]
 pub fn descendants_of_a_writer_are_forced()
     ensures cart { mode cart_and_desk concurrent_by_default 1 ≡ Concurrent }
@@ -137,7 +142,8 @@ pub fn descendants_of_a_writer_are_forced()
     ensures deep { mode cart_and_desk concurrent_by_default 7 ≡ SameThread }
 {}
 
-/// The nearest mark counts, then the default: one for top-level classes, another for all other nodes.
+/// The nearest mark counts, then the default: one for top-level classes, another for all other
+/// nodes.
 #[tactic(auto, unfolding(crate::specs::Paths::path))]
 pub fn nearest_mark_counts()
     ensures nearest { mode nested concurrent_by_default 3 ≡ SameThread }
@@ -151,7 +157,8 @@ pub fn nearest_mark_counts()
     ensures root { mode loose concurrent_by_default 0 ≡ SameThread }
 {}
 
-/// A node's path is the names on the way down to it. A title is none, and neither is a part of a path.
+/// A node's path is the names on the way down to it. A title is none, and neither is a part of a
+/// path.
 #[tactic(auto, unfolding(crate::specs::Paths::path))]
 pub fn paths_are_of_names()
     ensures root { path_text two_classes 0 ≡ [] }
@@ -170,7 +177,8 @@ pub fn top_level_classes_are_known_at_each_depth()
     ensures { all_top_classes cart_and_desk ≡ 0 ∷ 1 ∷ 1 ∷ 1 ∷ 4 ∷ 4 ∷ 4 ∷ 4 ∷ [] }
 {}
 
-/// A named node is kept with what stands in it and the classes that it stands in, numbered anew. Keys are gathered of what is kept.
+/// A named node is kept with what stands in it and the classes that it stands in, numbered anew.
+/// Keys are gathered of what is kept.
 #[tactic(auto, unfolding(crate::specs::Paths::path))]
 pub fn named_nodes_are_kept()
     ensures test { those_below (is_kept cart_and_desk (codes "shop.Desk.Till.d" ∷ [])) 8 ≡ 0 ∷ 4 ∷ 6 ∷ 7 ∷ [] }

@@ -1,8 +1,9 @@
 use std::alloc::{AllocError, AllocFailed};
 use thiserror::Error;
 
-/// Why scripts have no plan. Where several hold, `TooManyScripts` is answered first, then `DoubleClass`,
-/// `NotSelected`, `TooManyNodes` and `TooManyKeys`; the last two count what is kept. A fault shows as its kind.
+/// Why scripts have no plan. Where several hold, `TooManyScripts` is answered first, then
+/// `DoubleClass`, `NotSelected`, `TooManyNodes` and `TooManyKeys`; the last two count what is kept.
+/// A fault shows as its kind.
 #[derive(Clone, Copy, Debug, PartialEq, Eq, Error)]
 pub enum PlanFault {
     /// Two top-level classes of one team and name.

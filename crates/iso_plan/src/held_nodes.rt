@@ -1,4 +1,5 @@
-//! The held nodes of a plan, with how many of them read and write each key, so that what stands in a node's way costs its own locks.
+//! The held nodes of a plan, with how many of them read and write each key, so that what stands in
+//! a node's way costs its own locks.
 ghost use Rattle.std.specs.Prelude.{◌≡◌, ◌<◌, ◌+◌, ◌^◌, IfOk, is_some, length};
 ghost use Rattle.std.specs.List.{All};
 ghost use Rattle.iso_plan.specs.Conflicts.{lowest_in_the_way};
@@ -12,7 +13,8 @@ use iso_model::access::Access;
 use std::alloc::{AllocError, Global};
 use std::marker::Model;
 
-/// The held nodes of a plan. Contracts see these alone; beside them stands how many of them read and write each key.
+/// The held nodes of a plan. Contracts see these alone; beside them stands how many of them read
+/// and write each key.
 #[derive(Drop)]
 pub struct HeldNodes<'a> {
     plan: &'a Plan,
@@ -88,7 +90,8 @@ impl<'a> HeldNodes<'a> {
         }
     }
 
-    /// Whether a held node conflicts with a node. It looks at the node's own locks, however many nodes are held. Takes no memory.
+    /// Whether a held node conflicts with a node. It looks at the node's own locks, however many
+    /// nodes are held. Takes no memory.
     pub fn excludes(&self, node: u32) -> bool
         requires { node < length self.now.plan.rows }
         ensures { result ≡ is_some (lowest_in_the_way (tree_of self.now.plan) (is_held self.now.held) node) }

@@ -18,8 +18,8 @@ use std::alloc::{AllocError, Global};
 /// The key that no script may declare.
 pub(crate) const GLOBAL_KEY: &str = "iso:global";
 
-/// Numbers the keys of nodes in a table, in the order in which they are first marked, the global key first.
-/// More than 255 besides it are `TooManyKeys`.
+/// Numbers the keys of nodes in a table, in the order in which they are first marked, the global
+/// key first. More than 255 besides it are `TooManyKeys`.
 pub(crate) fn number_keys<'a>(
     table: &mut IndexSet<&'a str>,
     rows: &'a [Row],

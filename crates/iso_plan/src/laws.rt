@@ -27,8 +27,9 @@ use crate::plan::Plan;
 use iso_model::heads::Mark;
 use iso_model::script::Script;
 
-/// The nodes are a tree: node 0 is the root, and each other one is a class or a test that stands in the root or in a class with a
-/// smaller number. What the laws below say of plans is proved of all such trees.
+/// The nodes are a tree: node 0 is the root, and each other one is a class or a test that stands in
+/// the root or in a class with a smaller number. What the laws below say of plans is proved of all
+/// such trees.
 pub fn nodes_are_a_tree(plan: &Plan)
     ensures { IsTree (tree_of plan.now) }
 {
@@ -84,7 +85,8 @@ pub fn chains_are_within_the_depth(plan: &Plan)
     plan.hold_a_tree();
 }
 
-/// The root has no rights, and what a class's chain lets do, the chain of each node that stands in it lets do.
+/// The root has no rights, and what a class's chain lets do, the chain of each node that stands in
+/// it lets do.
 pub fn rights_grow_down(plan: &Plan)
     ensures root { (k : List ℕ) → is_readable (node_rights (tree_of plan.now) 0 k) ≡ false }
     ensures look { (n : ℕ) (k : List ℕ) → 0 < n → is_readable (node_rights (tree_of plan.now) (parent (tree_of plan.now) n) k) ≡ true
@@ -95,8 +97,8 @@ pub fn rights_grow_down(plan: &Plan)
     plan.hold_a_tree();
 }
 
-/// A key that a node may look at is taken by its locking node, the node or one that it stands in, and for READ_WRITE where the
-/// node may change it.
+/// A key that a node may look at is taken by its locking node, the node or one that it stands in,
+/// and for READ_WRITE where the node may change it.
 pub fn rights_are_covered_by_locks(plan: &Plan)
     ensures { (n : ℕ) (k : List ℕ) → 0 < n → n < length (tree_of plan.now) → is_readable (node_rights (tree_of plan.now) n k) ≡ true
         → IsCovered (tree_of plan.now) n k }
@@ -125,7 +127,8 @@ pub fn conflicting_nodes_stand_apart(plan: &Plan)
     plan.hold_a_tree();
 }
 
-/// Who is in the way of a node that is no top-level class has gathered the locks of all that stands in it: nothing is in the way of that.
+/// Who is in the way of a node that is no top-level class has gathered the locks of all that stands
+/// in it: nothing is in the way of that.
 pub fn holders_gather_what_stands_in_them(plan: &Plan)
     ensures { (m n d j : ℕ) → conflict (tree_of plan.now) m n ≡ true → is_top (tree_of plan.now) n ≡ false
         → is_under (tree_of plan.now) m d ≡ true → (m ≡ d → ⊥) → conflict (tree_of plan.now) j d ≡ false }
@@ -133,7 +136,8 @@ pub fn holders_gather_what_stands_in_them(plan: &Plan)
     plan.hold_a_tree();
 }
 
-/// A node of a plan that these paths keep has the path, the class chain and the rights that it has in the plan.
+/// A node of a plan that these paths keep has the path, the class chain and the rights that it has
+/// in the plan.
 pub fn selected_nodes_keep_their_chains(plan: &Plan)
     ensures { (only : List (List ℕ)) (m : ℕ) → m < length (tree_of plan.now) → is_kept (tree_of plan.now) only m ≡ true
         → IsSameNode (tree_of plan.now) m (selection (tree_of plan.now) only) (number_among (is_kept (tree_of plan.now) only) m) }
@@ -141,34 +145,37 @@ pub fn selected_nodes_keep_their_chains(plan: &Plan)
     plan.hold_a_tree();
 }
 
-/// Which nodes are kept depends on which paths are given, and neither on their order nor on how often each is.
+/// Which nodes are kept depends on which paths are given, and neither on their order nor on how
+/// often each is.
 pub fn paths_are_a_set()
     ensures { (tree : List Row) (only others : List (List ℕ)) → ((p : List ℕ) → is_among only p ≡ is_among others p)
         → selection tree only ≡ selection tree others }
 {}
 
-/// In scripts that make a plan no node has as many marks as are kept of one: so the bound on them changes no plan.
+/// In scripts that make a plan no node has as many marks as are kept of one: so the bound on them
+/// changes no plan.
 pub fn no_mark_is_left_out(scripts: &[Script], only: &[&str])
     ensures { plan_fault (map script_of scripts.now) (texts_of only.now) ≡ None
         → (n : ℕ) → length (row_at (plan_tree (map script_of scripts.now) (texts_of only.now)) n).written < most_marks }
 {}
 
-/// Marks of which fewer are kept than may be are all kept. Those that are kept of more have keys that are written.
+/// Marks of which fewer are kept than may be are all kept. Those that are kept of more have keys
+/// that are written.
 pub fn fewer_marks_are_all_kept(marks: &[Mark])
     ensures all { length (merged marks.now) < most_marks → merged marks.now ≡ all_merged marks.now }
     ensures written { (k : List ℕ) → is_among (mark_keys (merged marks.now)) k ≡ true → is_among (mark_keys marks.now) k ≡ true }
 {}
 
-/// Merged marks give each key the access that they give it as they are written, to each target by itself. They name the same keys, the
-/// first of each in the same order.
+/// Merged marks give each key the access that they give it as they are written, to each target by
+/// itself. They name the same keys, the first of each in the same order.
 pub fn merged_marks_declare_the_same(marks: &[Mark])
     ensures rights { (t : Target) (k : List ℕ)
         → rights_of (marks_for t (all_merged marks.now)) k ≡ rights_of (marks_for t marks.now) k }
     ensures keys { firsts (mark_keys (all_merged marks.now)) ≡ firsts (mark_keys marks.now) }
 {}
 
-/// The keys of a plan with their numbers, and the locks, modes and rights of its nodes are those of the tree by the marks as they are
-/// written: of any marks of which those of its rows are merged.
+/// The keys of a plan with their numbers, and the locks, modes and rights of its nodes are those of
+/// the tree by the marks as they are written: of any marks of which those of its rows are merged.
 pub fn written_marks_make_the_same_plan(plan: &Plan)
     ensures keys { (marks : ℕ → List Mark) → AreWritten (tree_of plan.now) marks
         → keys (tree_with (tree_of plan.now) marks) ≡ keys (tree_of plan.now) }

@@ -1,4 +1,5 @@
-//! The locks of each node: what is marked on it and below it, gathered where it is the locking node.
+//! The locks of each node: what is marked on it and below it, gathered where it is the locking
+//! node.
 ghost use Rattle.std.specs.Prelude.{◌≡◌, ◌<◌, ◌≤◌, ◌+◌, ◌&&◌, ℕ, None, Some, [], IfOk, IfSome, ◌||◌, cond, length, map, not, replicate, slice_index_or, bytes_eq};
 ghost use Rattle.std.specs.List.{IsDistinct};
 ghost use Rattle.iso_model.specs.Rights.{declared_by, rights_of, strongest};
@@ -42,8 +43,8 @@ pub(crate) fn locks(
     listed_tables(alloc, &tables)
 }
 
-/// For each node that takes keys an access by key number: a top-level class takes the global key, and nothing is
-/// gathered yet. All other nodes have empty tables.
+/// For each node that takes keys an access by key number: a top-level class takes the global key,
+/// and nothing is gathered yet. All other nodes have empty tables.
 fn own_tables(
     alloc: Global,
     rows: &[Row],

@@ -14,8 +14,8 @@ use iso_model::script::Mode;
 use iso_settings::settings::Settings;
 use std::alloc::{AllocError, Global};
 
-/// The mode of each node: its own mark, else the nearest enclosing class's, else the default; what stands in a node
-/// that takes a key for READ_WRITE is on the same thread.
+/// The mode of each node: its own mark, else the nearest enclosing class's, else the default; what
+/// stands in a node that takes a key for READ_WRITE is on the same thread.
 pub(crate) fn modes(
     alloc: Global,
     rows: &[Row],
@@ -37,8 +37,8 @@ pub(crate) fn modes(
     Ok(modes)
 }
 
-/// The mode of a node that is a top-level class or isn't, is forced onto its parent's thread or isn't, and is marked
-/// with a mode or stands in a class that is.
+/// The mode of a node that is a top-level class or isn't, is forced onto its parent's thread or
+/// isn't, and is marked with a mode or stands in a class that is.
 fn mode_of(settings: Settings, top: bool, forced: bool, marked: Option<Mode>) -> Mode
     ensures { result ≡ cond (settings.parallel && not forced)
         (unwrap_or marked (cond top settings.classes_default_mode settings.default_mode)) SameThread }

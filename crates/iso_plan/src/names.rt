@@ -1,4 +1,5 @@
-//! What scripts have to keep by themselves: there are no more than so many, and the names of top-level classes differ.
+//! What scripts have to keep by themselves: there are no more than so many, and the names of
+//! top-level classes differ.
 ghost use Rattle.std.specs.Prelude.{◌≡◌, ◌++◌, IfErr, IfOk, None, OnOk, map};
 ghost use Rattle.iso_model.specs.ScriptView.{class_of, script_of};
 ghost use Rattle.iso_plan.specs.Faults.{IsFaultOf, has_double, scripts_fault, team_names, top_names};

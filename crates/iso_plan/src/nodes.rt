@@ -16,8 +16,9 @@ use iso_model::limits::NODES;
 use iso_model::script::Script;
 use std::alloc::Global;
 
-/// The nodes of scripts that these paths keep. More than 4,096 are `TooManyNodes`, after a path that names no node. Where some may be
-/// left out, more nodes than have numbers of 32 bits count as want of memory.
+/// The nodes of scripts that these paths keep. More than 4,096 are `TooManyNodes`, after a path
+/// that names no node. Where some may be left out, more nodes than have numbers of 32 bits count as
+/// out of memory.
 pub(crate) fn kept_rows(
     alloc: Global,
     scripts: &[Script],

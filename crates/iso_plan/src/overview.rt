@@ -25,10 +25,12 @@ pub struct Overview {
     pub classes: Vec<u32>,
 }
 
-/// All nodes of scripts, however many they are: of the limits of a plan those alone are looked at that speak of scripts.
+/// All nodes of scripts, however many they are: of the limits of a plan those alone are looked at
+/// that speak of scripts.
 ///
-/// More than 64 scripts are `TooManyScripts`; two top-level classes of one team and name `DoubleClass`. They are tested in this order.
-/// Want of memory may be answered at each growth, and more nodes than have numbers of 32 bits count as it.
+/// More than 64 scripts are `TooManyScripts`; two top-level classes of one team and name
+/// `DoubleClass`. They are tested in this order. Out of memory may be answered at each growth, and
+/// more nodes than have numbers of 32 bits count as it.
 pub fn look_over(alloc: Global, scripts: &[Script]) -> Result<Overview, PlanError>
     ensures paths { IfOk result (λ o. o.paths.items ≡ all_paths (tree (map script_of scripts.now))) }
     ensures classes { IfOk result (λ o. o.classes.items ≡ all_top_classes (tree (map script_of scripts.now))) }

@@ -1,4 +1,5 @@
-//! The paths of nodes as texts: the names of the team, the enclosing classes and the node, with dots between them.
+//! The paths of nodes as texts: the names of the team, the enclosing classes and the node, with
+//! dots between them.
 ghost use Rattle.std.specs.Prelude.{◌≡◌, ◌<◌, ◌++◌, ◌==◌, IfOk, bytes_eq, codes, cond, length, slice_index_or};
 ghost use Rattle.iso_plan.specs.Paths.{IsTree, column, parent, row_at};
 ghost use Rattle.iso_plan.specs.PathTexts.{path_text};
@@ -23,7 +24,8 @@ pub(crate) fn path_texts(alloc: Global, rows: &[Row]) -> Result<Vec<Text>, Alloc
     Ok(paths)
 }
 
-/// The path of a node of this name that stands in the class with this number and path, or in the root.
+/// The path of a node of this name that stands in the class with this number and path, or in the
+/// root.
 fn path_in(alloc: Global, class: usize, above: &Text, name: &Text) -> Result<Text, AllocError>
     ensures { IfOk result (λ t. t ≡ cond (class == 0) name.now (above.now ++ (codes "." ++ name.now))) }
 {
@@ -35,7 +37,8 @@ fn path_in(alloc: Global, class: usize, above: &Text, name: &Text) -> Result<Tex
     Ok(Text::new(format!(in alloc; "{above}.{name}")?))
 }
 
-/// Whether a text is the path of a node other than the root. It calls itself once for each class that the node stands in.
+/// Whether a text is the path of a node other than the root. It calls itself once for each class
+/// that the node stands in.
 #[cycle(path)]
 pub(crate) fn is_path_of(rows: &[Row], node: usize, path: &[u8]) -> bool
     requires tree { IsTree (nodes_in rows.now) }

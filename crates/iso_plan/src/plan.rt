@@ -36,9 +36,9 @@ use std::alloc::Global;
 use std::marker::Model;
 use std::sync::Arc;
 
-/// The plan that every run follows: the tree of classes and tests, its nodes numbered in preorder from the root,
-/// which is number 0, each with its class chain; and the keys that are marked on them, numbered. It lends what
-/// it answers, and takes no memory for it.
+/// The plan that every run follows: the tree of classes and tests, its nodes numbered in preorder
+/// from the root, which is number 0, each with its class chain; and the keys that are marked on
+/// them, numbered. It lends what it answers, and takes no memory for it.
 #[derive(Drop)]
 pub struct Plan {
     rows: Vec<Row>,
@@ -75,9 +75,10 @@ impl Model for Plan {
 
 /// The plan of scripts under settings.
 ///
-/// More than 64 scripts are `TooManyScripts`; two top-level classes of one team and name `DoubleClass`; more
-/// than 4,096 nodes, the root among them, `TooManyNodes`; more than 255 different declared keys `TooManyKeys`.
-/// They are tested in this order. Want of memory may be answered at each growth.
+/// More than 64 scripts are `TooManyScripts`; two top-level classes of one team and name
+/// `DoubleClass`; more than 4,096 nodes, the root among them, `TooManyNodes`; more than 255
+/// different declared keys `TooManyKeys`. They are tested in this order. Out of memory may be
+/// answered at each growth.
 pub fn build(alloc: Global, scripts: &[Script], settings: &Settings) -> Result<Plan, PlanError>
     ensures tree { IfOk result (λ p. tree_of p ≡ tree (map script_of scripts.now)) }
     ensures settings { IfOk result (λ p. p.settings ≡ settings.now) }
@@ -87,15 +88,19 @@ pub fn build(alloc: Global, scripts: &[Script], settings: &Settings) -> Result<P
     build_only(alloc, scripts, settings, &[])
 }
 
-/// The plan of those nodes of scripts that these paths name, under settings: the paths are as `jtap plan` prints them, the names of the
-/// team, the enclosing classes and the node with dots between them. Kept are the named nodes, what stands in them, and the classes that
-/// they stand in, each with all its own marks and blocks; nodes and keys are numbered anew. Without paths all nodes are kept.
+/// The plan of those nodes of scripts that these paths name, under settings: the paths are as `jtap
+/// plan` prints them, the names of the team, the enclosing classes and the node with dots between
+/// them. Kept are the named nodes, what stands in them, and the classes that they stand in, each
+/// with all its own marks and blocks; nodes and keys are numbered anew. Without paths all nodes are
+/// kept.
 ///
 /// The chain of a kept node is the one that it has where all nodes are kept.
 ///
-/// More than 64 scripts are `TooManyScripts`; two top-level classes of one team and name `DoubleClass`; a path that names no node, as an
-/// empty one does, `NotSelected`; more than 4,096 kept nodes, the root among them, `TooManyNodes`; more than 255 different keys that are
-/// declared on them `TooManyKeys`. They are tested in this order. Want of memory may be answered at each growth.
+/// More than 64 scripts are `TooManyScripts`; two top-level classes of one team and name
+/// `DoubleClass`; a path that names no node, as an empty one does, `NotSelected`; more than 4,096
+/// kept nodes, the root among them, `TooManyNodes`; more than 255 different keys that are declared
+/// on them `TooManyKeys`. They are tested in this order. Out of memory may be answered at each
+/// growth.
 pub fn build_only(
     alloc: Global,
     scripts: &[Script],
@@ -164,8 +169,9 @@ impl Plan {
         &self.children[node as usize]
     }
 
-    /// The node with this path, as `jtap plan` prints it: the names of the team, the enclosing classes and the node, with dots between
-    /// them. Of several the first. The root has no path. Takes no memory.
+    /// The node with this path, as `jtap plan` prints it: the names of the team, the enclosing
+    /// classes and the node, with dots between them. Of several the first. The root has no path.
+    /// Takes no memory.
     pub fn find(&self, path: &str) -> Option<u32>
         ensures { result ≡ found (tree_of self.now) path.now }
     {
@@ -186,8 +192,8 @@ impl Plan {
         matches!(self.rows[node as usize].kind, Kind::Test { .. })
     }
 
-    /// What a node is called in a report: its display text, or its name where it has none. A top-level class's
-    /// begins with the team's name and a dot, the root's is empty.
+    /// What a node is called in a report: its display text, or its name where it has none. A
+    /// top-level class's begins with the team's name and a dot, the root's is empty.
     pub fn title(&self, node: u32) -> &str
         requires { node < length self.now.rows }
         ensures { result.now ≡ (row_at (tree_of self.now) node).title }
@@ -195,7 +201,8 @@ impl Plan {
         self.rows[node as usize].title.as_str()
     }
 
-    /// A node's name. A top-level class's begins with the team's name and a dot, the root's is empty.
+    /// A node's name. A top-level class's begins with the team's name and a dot, the root's is
+    /// empty.
     pub fn name(&self, node: u32) -> &str
         requires { node < length self.now.rows }
         ensures { result.now ≡ (row_at (tree_of self.now) node).name }
@@ -203,7 +210,8 @@ impl Plan {
         self.rows[node as usize].name.as_str()
     }
 
-    /// A node's class chain: the heads of the classes that it stands in, with its own. They are the script's.
+    /// A node's class chain: the heads of the classes that it stands in, with its own. They are the
+    /// script's.
     pub fn chain(&self, node: u32) -> Chain<'_>
         requires { node < length self.now.rows }
         ensures classes { innermost_first result.classes.now ≡ chain_classes (tree_of self.now) node }
@@ -230,10 +238,10 @@ impl Plan {
         depth
     }
 
-    /// The execution mode of a node (JUnit 5 User Guide, parallel execution): its own mark, else that of the nearest
-    /// enclosing class that has one, else the default for top-level classes or that for all other nodes. The root,
-    /// all that stands in a node that takes a key for READ_WRITE, and every node where parallel execution is off
-    /// are on the same thread.
+    /// The execution mode of a node (JUnit 5 User Guide, parallel execution): its own mark, else
+    /// that of the nearest enclosing class that has one, else the default for top-level classes or
+    /// that for all other nodes. The root, all that stands in a node that takes a key for
+    /// READ_WRITE, and every node where parallel execution is off are on the same thread.
     pub fn mode(&self, node: u32) -> Mode
         requires { node < length self.now.rows }
         ensures { result ≡ mode (tree_of self.now) self.now.settings node }
@@ -241,9 +249,9 @@ impl Plan {
         self.modes[node as usize]
     }
 
-    /// The keys that a node takes and how, by key number: what is marked on it and below it where it is the locking
-    /// node of its path, each key in the strongest access, and the global key where it is a top-level class. Other
-    /// nodes take none.
+    /// The keys that a node takes and how, by key number: what is marked on it and below it where
+    /// it is the locking node of its path, each key in the strongest access, and the global key
+    /// where it is a top-level class. Other nodes take none.
     pub fn locks(&self, node: u32) -> &[Lock]
         requires { node < length self.now.rows }
         ensures locks { result.now ≡ locks (tree_of self.now) node }
@@ -252,9 +260,9 @@ impl Plan {
         &self.locks[node as usize]
     }
 
-    /// The locking node of a node's path, which takes the keys of all that stands in it: a top-level class that is
-    /// isolated or holds an isolated class, else the first node of the path from the root with a `read` or `write`
-    /// mark. A path without one has none.
+    /// The locking node of a node's path, which takes the keys of all that stands in it: a
+    /// top-level class that is isolated or holds an isolated class, else the first node of the path
+    /// from the root with a `read` or `write` mark. A path without one has none.
     pub fn locking_node(&self, node: u32) -> Option<u32>
         requires { node < length self.now.rows }
         ensures { result ≡ locking_node (tree_of self.now) node }
@@ -308,8 +316,8 @@ impl Plan {
         self.keys.len() as u32
     }
 
-    /// A key by its number: the global key is number 0, the others follow in the order in which they are first
-    /// marked.
+    /// A key by its number: the global key is number 0, the others follow in the order in which
+    /// they are first marked.
     pub fn key(&self, number: u32) -> &str
         requires { number < length (keys (tree_of self.now)) }
         ensures { result.now ≡ slice_index_or (keys (tree_of self.now)) number [] }
@@ -317,9 +325,9 @@ impl Plan {
         self.keys[number as usize].as_str()
     }
 
-    /// Whether two plans say the same: nodes of one tree with the same heads, marks, names and titles, and the same
-    /// settings. Takes no memory. It goes over the scripts of both, so a caller who knows the answer otherwise needn't
-    /// ask under a lock.
+    /// Whether two plans say the same: nodes of one tree with the same heads, marks, names and
+    /// titles, and the same settings. Takes no memory. It goes over the scripts of both, so a
+    /// caller who knows the answer otherwise needn't ask under a lock.
     pub fn same(&self, other: &Plan) -> bool
         ensures { IsTrue result ↔ (self.now ≡ other.now) }
     {

@@ -9,7 +9,8 @@ use crate::row::Row;
 use iso_model::rights::Rights;
 use std::alloc::{AllocError, Global};
 
-/// The access rights that each node's chain gives: those of the class that it stands in, which it shares, and its own.
+/// The access rights that each node's chain gives: those of the class that it stands in, which it
+/// shares, and its own.
 pub(crate) fn rights(alloc: Global, rows: &[Row]) -> Result<Vec<Rights>, AllocError>
     requires { IsTree (nodes_in rows.now) }
     ensures { IfOk result (λ v. map access_in v.items ≡ column (node_rights (nodes_in rows.now)) (length rows.now)) }

@@ -22,11 +22,13 @@ pub struct Row {
     /// The root has itself here, and so has each top-level class.
     pub parent: u32,
     pub kind: Kind,
-    /// The marks that are written on the node, each key once for each target, in the strongest access.
+    /// The marks that are written on the node, each key once for each target, in the strongest
+    /// access.
     pub written: Vec<Mark>,
     /// A top-level class's with the team's name and `.` before it.
     pub name: Text,
-    /// The display text, or the name where there is none; a top-level class's with the team's name and `.` before it.
+    /// The display text, or the name where there is none; a top-level class's with the team's name
+    /// and `.` before it.
     pub title: Text,
     /// The execution mode that is marked on the node, if one is.
     pub mode: Option<Mode>,

@@ -15,8 +15,9 @@ use iso_model::text::Text;
 use std::alloc::{AllocError, Global};
 use std::collections::BTreeSet;
 
-/// The nodes that are kept where these paths name some, numbered anew: a named node, what stands in it, and the classes that it
-/// stands in. Where no path is given, all are. The first path that names no node is `NotSelected`.
+/// The nodes that are kept where these paths name some, numbered anew: a named node, what stands in
+/// it, and the classes that it stands in. Where no path is given, all are. The first path that
+/// names no node is `NotSelected`.
 pub(crate) fn selection(alloc: Global, rows: Vec<Row>, only: &[&str]) -> Result<Vec<Row>, PlanError>
     requires tree { IsTree (nodes_in rows.items) }
     requires fits { length rows.items < 2 ^ 32 }
@@ -31,7 +32,8 @@ pub(crate) fn selection(alloc: Global, rows: Vec<Row>, only: &[&str]) -> Result<
     Ok(those_of(alloc, rows, &kept)?)
 }
 
-/// Whether each node is kept where some are named by these paths. The first path that names no node is `NotSelected`.
+/// Whether each node is kept where some are named by these paths. The first path that names no node
+/// is `NotSelected`.
 fn kept_by(alloc: Global, rows: &[Row], only: &[&str]) -> Result<Vec<bool>, PlanError>
     requires { IsTree (nodes_in rows.now) }
     ensures kept { IfOk result (λ v. v.items ≡ column (is_kept_by (nodes_in rows.now) (texts_of only.now)) (length rows.now)) }

@@ -12,8 +12,8 @@ use iso_model::script::{Class, Member, Script, Test};
 use iso_model::text::Text;
 use std::alloc::{AllocError, Global};
 
-/// The nodes of scripts as they are written, in preorder, after the root: scripts as handed in, members as written.
-/// More than so many, at least the root, are `TooManyNodes`.
+/// The nodes of scripts as they are written, in preorder, after the root: scripts as handed in,
+/// members as written. More than so many, at least the root, are `TooManyNodes`.
 pub(crate) fn written_tree(
     alloc: Global,
     scripts: &[Script],

@@ -13,7 +13,8 @@ abbrev pub times_in : ℕ → List (List ℕ) → ℕ
 times_in node [] = 0
 times_in node (xs ∷ lists) = times node xs + times_in node lists
 
--- each node was posted as often as its owner took it, its thieves stole it, a list for each, and it lies in the deque
+-- each node was posted as often as its owner took it, its thieves stole it, a list for each, and it
+-- lies in the deque
 abbrev pub IsAccount : List ℕ → List ℕ → List (List ℕ) → List ℕ → Type 0
 IsAccount posted taken stolen lying = (node : ℕ) → times node posted ≡ times node taken + times_in node stolen + times node lying
 
@@ -21,7 +22,8 @@ IsAccount posted taken stolen lying = (node : ℕ) → times node posted ≡ tim
 abbrev pub DequeId : Type 0
 DequeId = ℕ × ℕ
 
--- an owner's end: of which deque, what it posted and took, what the thieves had stolen who were joined to it, and how many thieves are out
+-- an owner's end: of which deque, what it posted and took, what the thieves had stolen who were
+-- joined to it, and how many thieves are out
 pub record OwnerView : Type 0 where
   pub deque : DequeId
   pub posted : List ℕ
@@ -42,7 +44,8 @@ new_owner deque thieves = record { deque = deque; posted = []; taken = []; retur
 abbrev pub new_thief : DequeId → ThiefView
 new_thief deque = record { deque = deque; stolen = [] }
 
--- the account of an owner holds, with some list for each thief that is out, where so many nodes lie in the deque
+-- the account of an owner holds, with some list for each thief that is out, where so many nodes lie
+-- in the deque
 abbrev pub AddsUp : OwnerView → ℕ → Type 0
 AddsUp owner count =
     (stolen : List (List ℕ)) × (lying : List ℕ) × (length stolen ≡ owner.thieves) × (length lying ≡ count)

@@ -19,14 +19,16 @@ IsOfOwner v = v.role ≡ Owner
 abbrev pub IsOfThief : Hand → Type 0
 IsOfThief v = v.role ≡ Thief
 
--- an owner's end: of a deque that is first in, first out, with so many slots, to which no more nodes were pushed than its pass has posted
+-- an owner's end: of a deque that is first in, first out, with so many slots, to which no more
+-- nodes were pushed than its pass has posted
 pub record IsOwnersEnd (flavor slots pushed : ℕ) (v : Hand) : Type 0 where
   pub first_out : flavor ≡ 0
   pub owned : IsOfOwner v
   pub room : 64 ≤ slots
   pub counted : pushed ≤ length v.posted
 
--- a pass that knows of nothing that was done: the owner's at first, a thief's at first, and one that was joined
+-- a pass that knows of nothing that was done: the owner's at first, a thief's at first, and one
+-- that was joined
 abbrev pub new_hand : Role → Hand
 new_hand role = record { role = role; posted = []; taken = []; returned = []; thieves = 0 }
 
@@ -39,7 +41,8 @@ thief_hand = new_hand Thief
 abbrev pub spent_hand : Hand
 spent_hand = new_hand Spent
 
--- a pass after nodes were posted by it, after nodes were taken or stolen by it, after a thief's was split off it and joined to it
+-- a pass after nodes were posted by it, after nodes were taken or stolen by it, after a thief's was
+-- split off it and joined to it
 abbrev pub with_posted : Hand → List ℕ → Hand
 with_posted v nodes = record v { posted = v.posted ++ nodes }
 
@@ -68,20 +71,23 @@ abbrev pub total : (Hand → ℕ) → List Hand → ℕ
 total f [] = 0
 total f (v ∷ vs) = f v + total f vs
 
--- how often a pass has posted a node, and how often it knows that a node was taken or stolen; one that was joined counts for nothing
+-- how often a pass has posted a node, and how often it knows that a node was taken or stolen; one
+-- that was joined counts for nothing
 abbrev pub times_posted : ℕ → Hand → ℕ
 times_posted node v = of_owner v.role (times node v.posted)
 
 abbrev pub times_gone : ℕ → Hand → ℕ
 times_gone node v = of_owner v.role (times node v.taken + times node v.returned) + of_thief v.role (times node v.taken)
 
--- one pass is the owner's, and knows how many are thieves'; each node was posted as often as it was taken or stolen and lies in the deque
+-- one pass is the owner's, and knows how many are thieves'; each node was posted as often as it was
+-- taken or stolen and lies in the deque
 pub record IsFair (items : List ℕ) (views : List Hand) : Type 0 where
   pub owner : total (λ v. of_owner v.role 1) views ≡ 1
   pub thieves : total (λ v. of_thief v.role 1) views ≡ total (λ v. of_owner v.role v.thieves) views
   pub account : (node : ℕ) → total (times_posted node) views ≡ total (times_gone node) views + times node items
 
--- what a pass learns of the nodes that lie in the deque: of an owner's the account, with a list for each thief that is out
+-- what a pass learns of the nodes that lie in the deque: of an owner's the account, with a list for
+-- each thief that is out
 abbrev pub Learned : Role → Hand → List ℕ → Type 0
 Learned Owner v items = (stolen : List (List ℕ)) × (length stolen ≡ v.thieves) × IsAccount v.posted v.taken (v.returned ∷ stolen) items
 Learned Thief v items = Unit {0}

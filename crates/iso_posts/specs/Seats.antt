@@ -11,8 +11,8 @@ without at xs = take at xs ++ drop (suc at) xs
 abbrev pub deques : List PostSeat → List DequeId
 deques seats = map (λ (seat : PostSeat). seat.owner.deque) seats
 
--- a seat for each worker: each owner did nothing but to send a thief to every other worker, and each worker has a thief of every other deque, in
--- their order, who did nothing
+-- a seat for each worker: each owner did nothing but to send a thief to every other worker, and
+-- each worker has a thief of every other deque, in their order, who did nothing
 pub record ArePosts (workers : ℕ) (seats : List PostSeat) : Type 0 where
   pub number : length seats ≡ workers
   pub owners : (w : ℕ) (seat : PostSeat) → slice_get seats w ≡ Some seat → seat.owner ≡ new_owner seat.owner.deque (workers - 1)

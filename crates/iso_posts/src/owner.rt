@@ -41,7 +41,8 @@ impl Owner {
         })
     }
 
-    /// An end for a thief, which has stolen nothing. It takes no memory, and is refused only where the ends of a deque can't be counted.
+    /// An end for a thief, which has stolen nothing. It takes no memory, and is refused only where
+    /// the ends of a deque can't be counted.
     pub fn thief(&mut self) -> Result<Thief, AllocError>
         ensures thief { IfOk result (λ t. t ≡ new_thief self.old.deque) }
         ensures counted { OnOk result (self.new ≡ record self.old { thieves = self.old.thieves + 1 }) }
@@ -52,7 +53,8 @@ impl Owner {
         Ok(Thief::new(stealer, pass))
     }
 
-    /// Posts a node at the back. Where the deque couldn't grow it hands the node back, and not before 64 nodes were posted.
+    /// Posts a node at the back. Where the deque couldn't grow it hands the node back, and not
+    /// before 64 nodes were posted.
     pub fn post(&mut self, node: u32) -> Result<(), (u32, AllocError)>
         ensures posted { OnOk result (self.new ≡ record self.old { posted = self.old.posted ++ node ∷ [] }) }
         ensures refused { IfErr result (λ refusal. refusal.0 ≡ node) }
@@ -74,7 +76,8 @@ impl Owner {
         self.deque.pop_as::<Taking>()
     }
 
-    /// How many nodes lay in the deque at one moment. Then each was posted as often as it was taken, was stolen and lay there.
+    /// How many nodes lay in the deque at one moment. Then each was posted as often as it was
+    /// taken, was stolen and lay there.
     pub fn balance(&mut self) -> usize
         ensures account { AddsUp self.old result }
         ensures same { self.new ≡ self.old }

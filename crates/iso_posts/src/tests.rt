@@ -112,7 +112,8 @@ fn stays_empty(thief: &mut Thief) -> bool {
     true
 }
 
-/// How many nodes a thief steals until it is told that the deque is empty, or nothing where it isn't from then on.
+/// How many nodes a thief steals until it is told that the deque is empty, or nothing where it
+/// isn't from then on.
 fn count_stolen(mut thief: Thief) -> Option<u32> {
     let mut count: u32 = 0;
     for _ in 0..u64::MAX {
@@ -130,8 +131,8 @@ fn sum(first: Option<u32>, second: Option<u32>) -> Option<u32> {
     Some(first?.saturating_add(second?))
 }
 
-/// Two thieves steal at once, and nobody posts any more: who is told that the deque is empty finds it so for ever, and who is told to try
-/// again isn't told that.
+/// Two thieves steal at once, and nobody posts any more: who is told that the deque is empty finds
+/// it so for ever, and who is told to try again isn't told that.
 #[test]
 fn thief_is_told_of_an_empty_deque_when_it_is_empty(rt: HostRuntime) -> Result<(), Fail> {
     let (mut owner, first) = pair(rt.alloc())?;
@@ -146,7 +147,8 @@ fn thief_is_told_of_an_empty_deque_when_it_is_empty(rt: HostRuntime) -> Result<(
     Ok(())
 }
 
-/// Whether the thieves of the first of so many workers steal what each other worker posted, in the order of the workers.
+/// Whether the thieves of the first of so many workers steal what each other worker posted, in the
+/// order of the workers.
 fn first_finds_all(alloc: Global, workers: u32) -> Result<bool, Fail> {
     let mut seats = Posts::new(alloc, workers as usize)?;
     for worker in 0..workers {

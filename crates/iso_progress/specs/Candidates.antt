@@ -39,8 +39,9 @@ module _ {H K V B F R : Type 0} (l : Language H K V B F R) (x : Suite H K V) (wo
   abbrev pub entered_by_owner : ℕ → Event
   entered_by_owner n = Enter (s.owner (x.parent n)) n
 
-  -- The candidate: the lowest worker's body goes on; where none has one, the lowest class that may be shut is shut; where there is
-  -- none, the lowest node that may be entered is entered. None after a stop.
+  -- The candidate: the lowest worker's body goes on; where none has one, the lowest class that may
+  -- be shut is shut; where there is none, the lowest node that may be entered is entered. None
+  -- after a stop.
   abbrev pub candidate : Option Event
   candidate =
       cond s.stopped None

@@ -1,4 +1,5 @@
--- Suites of the worked examples, in the language that counts: one that keeps all laws, and three that each keep all but one.
+-- Suites of the worked examples, in the language that counts: one that keeps all laws, and three
+-- that each keep all but one.
 use Rattle.std.specs.Prelude.{◌≡◌, ℕ, zero, suc, Bool, true, false, ◌&&◌, ◌||◌, List, [], ◌∷◌, ◌++◌, length, Option, Some, None}
 use Rattle.iso_isolation.specs.Suites.{Suite, SuiteLaws}
 use Rattle.iso_isolation.specs.States.{State, first}
@@ -9,9 +10,9 @@ use Rattle.iso_isolation.specs.ExampleRuns.{CrowdStatus, crowd, crowd_at}
 use Rattle.iso_progress.specs.Candidates.{candidate}
 use Rattle.iso_progress.specs.NeverStuck.{IsStuck}
 
--- Key 0 is the global key.
--- 1: a class without marks. In it 2, a class that takes key 1 for READ_WRITE, with a test 3, and 4, a test that takes it for READ.
--- 5: an isolated class with a test 6. 7: a class whose `before_all` fails, with a test 8.
+-- Key 0 is the global key. 1: a class without marks. In it 2, a class that takes key 1 for
+-- READ_WRITE, with a test 3, and 4, a test that takes it for READ. 5: an isolated class with a test
+-- 6. 7: a class whose `before_all` fails, with a test 8.
 abbrev pub mall_rows : List Row
 mall_rows =
     no_node
@@ -87,14 +88,15 @@ is_run_in rows es = is_run counting (suite_in rows) 2 (first counting (suite_in 
 abbrev pub is_complete_in : List Row → List Event → Bool
 is_complete_in rows es = is_complete (suite_in rows) (after_in rows es)
 
--- a run of a suite that keeps `SuiteLaws` comes to a stand before its end: no event is accepted any more
+-- a run of a suite that keeps `SuiteLaws` deadlocks before its end: no event is accepted any more
 pub record ComesToAStand (rows : List Row) (es : List Event) : Type 0 where
   pub suite : SuiteLaws counting (suite_in rows)
   pub run : is_run_in rows es ≡ true
   pub stuck : IsStuck counting (suite_in rows) 2 (after_in rows es)
   pub unfinished : is_complete_in rows es ≡ false
 
--- the candidate after these events of the mall; and all that follow one another from a state, at most so many
+-- the candidate after these events of the mall; and all that follow one another from a state, at
+-- most so many
 abbrev pub candidate_after : List Event → Option Event
 candidate_after es = candidate_in mall_rows es
 
@@ -113,7 +115,8 @@ one_by_one =
     ++ whole_body (Enter 0 4) 0 ++ whole_body (Shut 0 1) 0 ++ whole_body (Enter 0 5) 0 ++ whole_body (Enter 0 6) 0
     ++ whole_body (Shut 0 5) 0 ++ whole_body (Enter 0 7) 0 ++ whole_body (Shut 0 7) 0
 
--- the isolated class is opened by worker 1; so are class 1 and in it class 2; so is the class whose `before_all` fails
+-- the isolated class is opened by worker 1; so are class 1 and in it class 2; so is the class whose
+-- `before_all` fails
 abbrev pub isolated_opened : List Event
 isolated_opened = whole_body (Enter 1 5) 1
 

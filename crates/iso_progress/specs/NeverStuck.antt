@@ -8,7 +8,7 @@ use Rattle.iso_isolation.specs.Runs.{is_accepted, is_run, after_all_of, is_compl
 use Rattle.iso_progress.specs.Candidates.{NoneAtWork, is_at_work, going_on, may_be_shut, may_be_entered, shut_by_owner, entered_by_owner, candidate}
 
 module _ {H K V B F R : Type 0} (l : Language H K V B F R) (x : Suite H K V) where
-  -- a state that a run on so many workers, at least one, gives
+  -- a state that a run on some number of workers, at least one, gives
   pub record IsReached (workers : ℕ) (s : State K V B F R) : Type 0 where
     pub manned : 0 < workers
     pub events : List Event
@@ -24,12 +24,13 @@ module _ {H K V B F R : Type 0} (l : Language H K V B F R) (x : Suite H K V) whe
   abbrev pub IsStuck : ℕ → State K V B F R → Type 0
   IsStuck workers s = (e : Event) → is_accepted l x workers s e ≡ false
 
-  -- In every state that a run reaches, an event is accepted while a node but the root is unfinished.
+  -- In every state that a run reaches, an event is accepted while a node but the root is
+  -- unfinished.
   abbrev pub NeverStuck : Type 0
   NeverStuck = (workers : ℕ) (s : State K V B F R) → IsReached workers s → is_complete x s ≡ false → Accepts workers s
 
-  -- What a search may rely on in a state: each event that it finds is accepted, those of nodes where no worker has a body; and where
-  -- it finds none, all nodes but the root are finished.
+  -- What a search may rely on in a state: each event that it finds is accepted, those of nodes
+  -- where no worker has a body; and where it finds none, all nodes but the root are finished.
   pub record SearchServes (workers : ℕ) (s : State K V B F R) : Type 0 where
     pub body : (w : ℕ) → w < workers → is_at_work l x workers s w ≡ true → is_accepted l x workers s (going_on l x workers s w) ≡ true
     pub shut : (n : ℕ) → n < x.nodes → NoneAtWork l x workers s → may_be_shut l x workers s n ≡ true

@@ -12,7 +12,8 @@ module _ {H K V : Type 0} (x : Suite H K V) where
   abbrev pub RootIsFree : Type 0
   RootIsFree = (n : ℕ) → x.conflict 0 n ≡ false
 
-  -- Who is in the way of a node that isn't a top-level class has gathered all locks of what stands in it: that waits for none.
+  -- Who is in the way of a node that isn't a top-level class has gathered all locks of what stands
+  -- in it: that waits for none.
   abbrev pub HoldersGather : Type 0
   HoldersGather = (m n d : ℕ) → x.conflict m n ≡ true → (x.parent n ≡ 0 → ⊥) → On x m d → (m ≡ d → ⊥) → WaitsForNone d
 

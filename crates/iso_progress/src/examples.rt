@@ -17,8 +17,8 @@ pub fn candidates_lead_to_the_end()
     ensures unfinished { is_complete_in mall_rows isolated_opened ≡ false }
 {}
 
-/// The candidate is of the lowest worker with a body, goes by locks, and is the owner's: in an isolated class its test and not a
-/// class that waits for it, and by the worker that entered it.
+/// The candidate is of the lowest worker with a body, goes by locks, and is the owner's: in an
+/// isolated class its test and not a class that waits for it, and by the worker that entered it.
 pub fn candidate_keeps_locks_and_owners()
     ensures body { candidate_after (Enter 1 1 ∷ []) ≡ Some (Step 1) }
     ensures ended { candidate_after (Enter 1 1 ∷ Step 1 ∷ []) ≡ Some (Leave 1) }
@@ -30,8 +30,9 @@ pub fn candidate_keeps_locks_and_owners()
     ensures closing { candidate_after (failed ++ Shut 1 7 ∷ []) ≡ Some (Step 1) }
 {}
 
-/// Node 6 stands in node 3, and all others in node 1. Before a SAME_THREAD node its earlier SAME_THREAD siblings are finished, a
-/// barred class is shut whatever waits in it, and none is left after a stop.
+/// Node 6 stands in node 3, and all others in node 1. Before a SAME_THREAD node its earlier
+/// SAME_THREAD siblings are finished, a barred class is shut whatever waits in it, and none is left
+/// after a stop.
 pub fn candidate_keeps_the_order_of_siblings()
     ensures same_thread { candidate_at (λ n. true)
         (opened ∷ opened ∷ finished ∷ opened ∷ waiting ∷ finished ∷ waiting ∷ finished ∷ []) false ≡ Some (Enter 1 6) }
@@ -49,8 +50,9 @@ pub fn candidate_keeps_the_order_of_siblings()
         (opened ∷ opened ∷ opened ∷ opened ∷ live ∷ finished ∷ waiting ∷ finished ∷ []) true ≡ None }
 {}
 
-/// Each law of `ProgressLaws` is needed: a suite that keeps all but it comes to a stand. Two classes cross, of which each holds
-/// what a test of the other waits for; a test stands in a test; and a root takes a key.
+/// Each law of `ProgressLaws` is needed: a suite that keeps all but it deadlocks. Two classes
+/// cross, of which each holds what a test of the other waits for; a test stands in a test; and a
+/// root takes a key.
 pub fn each_law_is_needed()
     ensures crossed { ComesToAStand crossed_rows both_opened }
     ensures crossed_root { RootIsFree (suite_in crossed_rows) }

@@ -1,4 +1,5 @@
-//! That no run of the state machine of `iso_isolation` is ever stuck: definitions in `specs/`, and laws.
+//! That no run of the state machine of `iso_isolation` is ever stuck: definitions in `specs/`, and
+//! laws.
 #![tactic(auto)]
 
 pub mod examples;

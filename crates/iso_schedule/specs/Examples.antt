@@ -1,4 +1,5 @@
--- The words of example schedules. What each is read as is stated, and proved, in the source module `examples`.
+-- The words of example schedules. What each is read as is stated, and proved, in the source module
+-- `examples`.
 use Prim.Native.String.{String}
 use Rattle.std.specs.Prelude.{ℕ, List, codes, Ok, Err}
 use Rattle.iso_schedule.specs.Schedules.{AreRead}

@@ -30,7 +30,8 @@ pub data HaveFault : (number : ℕ) → List (List ℕ) → ScheduleFault → Ty
 abbrev pub Reading : Type 0
 Reading = Result (List Event) ScheduleFault
 
--- What bytes are read as. Their lines are those of Rust's `str::lines`: a line loses one carriage return before its line feed.
+-- What bytes are read as. Their lines are those of Rust's `str::lines`: a line loses one carriage
+-- return before its line feed.
 pub data AreRead (bytes : List ℕ) : Reading → Type 0 where
   too_long : FILE_BYTES < length bytes → AreRead bytes (Err (record { kind = TooLong; line = 1 }))
   as_events : {es : List Event} → length bytes ≤ FILE_BYTES → HaveEvents (lines bytes) es → AreRead bytes (Ok es)

@@ -20,7 +20,8 @@ fn without_return(line: &[u8]) -> &[u8]
     }
 }
 
-/// The first line of bytes, and what follows its line feed. A line loses the carriage return before its line feed.
+/// The first line of bytes, and what follows its line feed. A line loses the carriage return before
+/// its line feed.
 pub(crate) fn split_line(bytes: &[u8]) -> (&[u8], &[u8])
     requires { bytes.now ≢ [] }
     ensures first { lines bytes.now ≡ result.0.now ∷ lines result.1.now }

@@ -1,4 +1,5 @@
--- The lifecycle blocks of a class, by rules. `IsX x ps qs` says that the pieces ps are those of x, and then the pieces qs.
+-- The lifecycle blocks of a class, by rules. `IsX x ps qs` says that the pieces ps are those of x,
+-- and then the pieces qs.
 use Rattle.std.specs.Prelude.{ℕ, List, ◌∷◌, ◌≡◌, Bool, true, false, Option, Some, None, if◌then◌else◌}
 use Rattle.std.specs.List.{filter_map}
 use Rattle.std.specs.Option.{option_to_list}

@@ -1,4 +1,5 @@
--- Example scripts: texts, and what they say. That each text is its script, the source module `examples` states and proves.
+-- Example scripts: texts, and what they say. That each text is its script, the source module
+-- `examples` states and proves.
 use Prim.Native.String.{String}
 use Rattle.std.specs.Prelude.{ℕ, List, [], ◌∷◌, ◌++◌, Some, None, true, false, codes, negsuc}
 use Rattle.std.specs.List.{flat_map}
@@ -108,7 +109,8 @@ with_blocks =
       after_each = on 2 (fail "a");
     }
 
--- Tests and classes in a class. Nodes that stand in different classes have one name, and so have fields of classes beside each other.
+-- Tests and classes in a class. Nodes that stand in different classes have one name, and so have
+-- fields of classes beside each other.
 abbrev pub members_text : List String
 members_text =
     "class C { test C { } class D { field x = 1; test C { } }"
@@ -146,8 +148,8 @@ placed_class =
     (test_member (record (a_test "t" no_acts) { display = Some (codes "The test") })
     ∷ class_member (a_class "D" empty_head (empty_test "t" ∷ [])) ∷ empty_test "u" ∷ [])
 
--- the place of a test, by the line and column of its name and the line of its body; and of a class, by the lines of its
--- blocks, 0 for none
+-- the place of a test, by the line and column of its name and the line of its body; and of a class,
+-- by the lines of its blocks, 0 for none
 abbrev pub test_at : (line column body : ℕ) → NodePlace
 test_at line column body = record { name = at line column; blocks = B.Test body }
 

@@ -19,12 +19,14 @@ use Rattle.iso_script_statements.specs.declared.fault.ScriptFaultKind.TheVariant
 abbrev pub too_long : ScriptFault
 too_long = record { kind = TooLong; line = 1; column = 1 }
 
--- Pieces that don't begin with the word `team` and a name have the fault of the first of the two that isn't there.
+-- Pieces that don't begin with the word `team` and a name have the fault of the first of the two
+-- that isn't there.
 pub record IsOfBeginning (ps : List Piece) (kind : ScriptFaultKind) : Type 0 where
   pub word : after_word W.Team ps ≡ None → IsUnexpected ps kind
   pub name : (qs : List Piece) → after_word W.Team ps ≡ Some qs → name_next qs ≡ None → IsUnexpected qs kind
 
--- The fault that bytes have: they are no script, which is too long before all else. Of the kind is said what the beginning gives.
+-- The fault that bytes have: they are no script, which is too long before all else. Of the kind is
+-- said what the beginning gives.
 pub record HasScriptFault (bytes : List ℕ) (fault : ScriptFault) : Type 0 where
   pub unread : (s : Script) → Reads bytes s → ⊥
   pub long : FILE_BYTES < length bytes → fault ≡ too_long

@@ -1,7 +1,7 @@
--- The grammar of scripts, by rules. `IsX x places ps qs` says that the pieces ps are those of x, and then the pieces qs, and that
--- these are the places of the nodes of x, as they are written, a class before its members.
--- A number d among the arguments says how many more classes may be opened, and taken are the names of the statics and
--- fields of the enclosing classes.
+-- The grammar of scripts, by rules. `IsX x places ps qs` says that the pieces ps are those of x,
+-- and then the pieces qs, and that these are the places of the nodes of x, as they are written, a
+-- class before its members. A number d among the arguments says how many more classes may be
+-- opened, and taken are the names of the statics and fields of the enclosing classes.
 use Rattle.std.specs.Global.{Global}
 use Rattle.std.specs.Prelude.{ℕ, suc, ◌≤◌, List, [], ◌∷◌, ◌++◌, ◌≡◌, ◌≢◌, Option, Some, None, Vec, true, false, length, map}
 use Rattle.std.specs.List.{IsDistinct}
@@ -46,7 +46,8 @@ abbrev pub statements_in : Option Block → Acts
 statements_in None = no_acts
 statements_in (Some block) = block.body
 
--- what a class gives to its tests, from its keys, why it is disabled, its statics and fields, and its lifecycle blocks
+-- what a class gives to its tests, from its keys, why it is disabled, its statics and fields, and
+-- its lifecycle blocks
 abbrev pub class_head : List Mark → Option (List ℕ) → Variables → Blocks → ClassHead
 class_head keys reason variables blocks =
     record {
@@ -82,7 +83,8 @@ names_of no_members = []
 names_of (member m ms) = name_of m ∷ names_of ms
 
 mutual
-  -- A test or a class: marks, its word, its name, and what follows. The marks of a test have to fit one.
+  -- A test or a class: marks, its word, its name, and what follows. The marks of a test have to fit
+  -- one.
   pub data IsMember : (d : ℕ) (taken : List (List ℕ)) → Member → List NodePlace → List Piece → List Piece → Type 0 where
     as_test : {d : ℕ} {r q : Position} {taken : List (List ℕ)} {marks : Marks} {n : List ℕ} {t : Test} {places : List NodePlace}
         {ps qs rs : List Piece}
@@ -93,7 +95,8 @@ mutual
         → IsMarks marks ps (word_at r W.Class ∷ name_at q n ∷ qs) → IsClass d taken marks n q c places qs rs
         → IsMember (suc d) taken (class_member c) places ps rs
 
-  -- A class after its name, which stands at this position. A class in it can take no name of its statics and fields.
+  -- A class after its name, which stands at this position. A class in it can take no name of its
+  -- statics and fields.
   pub data IsClass : (d : ℕ) (taken : List (List ℕ)) (marks : Marks) (n : List ℕ) (at : Position)
       → Class → List NodePlace → List Piece → List Piece → Type 0 where
     a_class : {d : ℕ} {at b : Position} {taken : List (List ℕ)} {marks : Marks} {n : List ℕ}
@@ -141,8 +144,8 @@ pub data IsScript : Script → List NodePlace → List Piece → Type 0 where
       → ArePlaced IsTopClass cs places ps []
       → IsScript (record { team = n; classes = cs }) places (word_at r W.Team ∷ name_at q n ∷ ps)
 
--- The script of bytes, and the places of its nodes: they are not too many, and from line 1 on they have pieces of which the
--- script is read.
+-- The script of bytes, and the places of its nodes: they are not too many, and from line 1 on they
+-- have pieces of which the script is read.
 pub record ReadsPlaced (bytes : List ℕ) (s : Script) (places : List NodePlace) : Type 0 where
   pub short : length bytes ≤ FILE_BYTES
   pub pieces : List Piece

@@ -1,4 +1,5 @@
--- The marks of a class or test, by rules. `IsX x ps qs` says that the pieces ps are those of x, and then the pieces qs.
+-- The marks of a class or test, by rules. `IsX x ps qs` says that the pieces ps are those of x, and
+-- then the pieces qs.
 use Rattle.std.specs.Prelude.{ℕ, List, [], ◌∷◌, ◌++◌, ◌≡◌, Bool, true, false, not, ◌&&◌, Option, Some, None, length, nat_eq, nat_lt, if◌then◌else◌}
 use Rattle.std.specs.List.{filter_map, list_any}
 use Rattle.std.specs.Str.{bytes_eq}
@@ -112,8 +113,8 @@ abbrev pub isolation : Bool → List Marking
 isolation true = isolates ∷ []
 isolation false = []
 
--- What marks come to, as they are written: they name one mode at most, write `isolated` and `disabled` once at most each,
--- and all keys are kept.
+-- What marks come to, as they are written: they name one mode at most, write `isolated` and
+-- `disabled` once at most each, and all keys are kept.
 pub record ComeTo (written : List Marking) (marks : Marks) : Type 0 where
   pub mode : filter_map mode_in written ≡ option_to_list marks.mode
   pub isolated : filter_map isolation_in written ≡ isolation marks.isolated

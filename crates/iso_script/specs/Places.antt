@@ -50,8 +50,8 @@ with_places (Some places) more = Some (places ++ more)
 abbrev pub IsUnfound : {A : Type 0} → (A → List NodePlace → Type 0) → ScriptError → Type 0
 IsUnfound {A} Is e = (a : A) (places : List NodePlace) → Is a places → IsMemory e
 
--- What is answered is this, at some places, and these are added to those that are kept; and where there is such a thing, it
--- is answered, unless memory runs out.
+-- What is answered is this, at some places, and these are added to those that are kept; and where
+-- there is such a thing, it is answered, unless memory runs out.
 abbrev pub Finds : {X A : Type 0} → (X → A) → (A → List NodePlace → Type 0) → Result X ScriptError
     → (old new : Option (List NodePlace)) → Type 0
 Finds view Is result old new =
@@ -59,8 +59,8 @@ Finds view Is result old new =
     (λ x. (places : List NodePlace) × Is (view x) places × (new ≡ with_places old places))
     (IsUnfound Is)
 
--- The same of what is read of pieces: `Is x places ps qs` says that ps are the pieces of x, and then qs, and that x has these
--- places.
+-- The same of what is read of pieces: `Is x places ps qs` says that ps are the pieces of x, and
+-- then qs, and that x has these places.
 abbrev pub ParsesPlaced : {X A : Type 0} → (X → A) → (A → List NodePlace → List Piece → List Piece → Type 0)
     → Result X ScriptError → (ps qs : List Piece) → (old new : Option (List NodePlace)) → Type 0
 ParsesPlaced view Is result ps qs old new =

@@ -1,4 +1,5 @@
--- The statics and fields of a class, by rules. `IsX x ps qs` says that the pieces ps are those of x, and then the pieces qs.
+-- The statics and fields of a class, by rules. `IsX x ps qs` says that the pieces ps are those of
+-- x, and then the pieces qs.
 use Rattle.std.specs.Prelude.{ℕ, List, [], ◌∷◌, ◌++◌, ◌≡◌, Bool, false, Option, Some, None, map, ◌||◌}
 use Rattle.std.specs.Borrow.{Bor}
 use Rattle.std.specs.BTreeSet.{BTreeSet, contains_by}
@@ -69,8 +70,8 @@ name_in d = d.variable.name
 abbrev pub names_of : Variables → List (List ℕ)
 names_of v = map (λ (x : Variable). x.name) v.statics ++ map (λ (x : Variable). x.name) v.fields
 
--- The statics and fields of a class whose enclosing classes have these names, until none is next: each has a name that none
--- of the class and of the enclosing classes has.
+-- The statics and fields of a class whose enclosing classes have these names, until none is next:
+-- each has a name that none of the class and of the enclosing classes has.
 pub record IsVariables (taken : List (List ℕ)) (variables : Variables) (ps qs : List Piece) : Type 0 where
   pub written : List Declared
   pub read : AreRead IsDeclared written ps qs

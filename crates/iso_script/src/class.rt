@@ -63,8 +63,9 @@ fn member_place(members: usize, first: Wanted) -> Wanted
     if members == 0 { first } else { Wanted::Member }
 }
 
-/// Goes past the word `class`, which has to be next, where so many classes may be opened. Answers how many more
-/// may be. Where none may be, the class is `TooDeep` at its word, and where the word is not next, this is wanted.
+/// Goes past the word `class`, which has to be next, where so many classes may be opened. Answers
+/// how many more may be. Where none may be, the class is `TooDeep` at its word, and where the word
+/// is not next, this is wanted.
 fn open_class(parser: &mut Parser<'_>, left: u32, wanted: Wanted) -> Result<u32, ScriptError>
     requires { after_word W.Class parser.old.lexer ≡ None → IsUnmet wanted parser.old.lexer }
     ensures { MatchResult result
@@ -81,8 +82,9 @@ fn open_class(parser: &mut Parser<'_>, left: u32, wanted: Wanted) -> Result<u32,
     Ok(more)
 }
 
-/// A class of these marks, after its name, which stands at this position. So many more classes may be opened in it, and
-/// the scopes have the names of the statics and fields of the enclosing classes.
+/// A class of these marks, after its name, which stands at this position. So many more classes may
+/// be opened in it, and the scopes have the names of the statics and fields of the enclosing
+/// classes.
 #[cycle(class)]
 fn read_class<'a>(
     parser: &mut Parser<'a>,
@@ -128,8 +130,8 @@ fn read_class<'a>(
     })
 }
 
-/// The members of a class, up to the brace that closes it: one at least, of distinct names. Where the first is not next,
-/// this is wanted.
+/// The members of a class, up to the brace that closes it: one at least, of distinct names. Where
+/// the first is not next, this is wanted.
 #[cycle(class)]
 fn read_members<'a>(
     parser: &mut Parser<'a>,
@@ -157,8 +159,8 @@ fn read_members<'a>(
     Ok(members)
 }
 
-/// A member of a class, whose name is none of those seen and is added to them. The marks of a test have to fit one.
-/// Where no member is next, this is wanted.
+/// A member of a class, whose name is none of those seen and is added to them. The marks of a test
+/// have to fit one. Where no member is next, this is wanted.
 #[cycle(class)]
 fn read_member<'a>(
     parser: &mut Parser<'a>,

@@ -13,12 +13,14 @@ pub fn teams_have_classes()
         (a_class "C" empty_head (empty_test "t" ∷ []) ∷ a_class "C" empty_head (empty_test "t" ∷ []) ∷ []) }
 {}
 
-/// Marks stand in any order, and each that declares a key stands for itself. Display texts follow names.
+/// Marks stand in any order, and each that declares a key stands for itself. Display texts follow
+/// names.
 pub fn marks_and_display_texts_are_read()
     ensures { AreClasses marked_text (marked_class ∷ []) }
 {}
 
-/// Statics and fields begin at their literals. Lifecycle blocks stand in any order, and each counts its own rows.
+/// Statics and fields begin at their literals. Lifecycle blocks stand in any order, and each counts
+/// its own rows.
 pub fn heads_of_classes_are_read()
     ensures variables { AreClasses variables_text (a_class "C" with_variables (empty_test "t" ∷ []) ∷ []) }
     ensures blocks { AreClasses blocks_text (a_class "C" with_blocks (empty_test "t" ∷ []) ∷ []) }
@@ -32,12 +34,14 @@ pub fn members_are_read()
         ∷ class_member (a_class "E" with_field (empty_test "C" ∷ [])) ∷ empty_test "F" ∷ []) ∷ []) }
 {}
 
-/// Lines may end with a carriage return before the line feed, and comments may have tabs and carriage returns.
+/// Lines may end with a carriage return before the line feed, and comments may have tabs and
+/// carriage returns.
 pub fn comments_and_line_ends_are_left_out()
     ensures { AreCrlfClasses commented_text (commented_class ∷ []) }
 {}
 
-/// A node stands where its name does, with the lines of its blocks' opening braces, and a class stands before its members.
+/// A node stands where its name does, with the lines of its blocks' opening braces, and a class
+/// stands before its members.
 pub fn nodes_stand_where_their_names_do()
     ensures { ArePlacedClasses placed_text (placed_class ∷ [])
         (class_at 2 7 4 0 0 5 ∷ test_at 6 6 7 ∷ class_at 7 13 0 0 7 0 ∷ test_at 8 8 8 ∷ test_at 9 6 9 ∷ []) }

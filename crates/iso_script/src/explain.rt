@@ -44,8 +44,9 @@ pub enum Unread<'a> {
     Refused(Explained<'a>),
 }
 
-/// Reads a script as `read_placed` does, or as `read_script` where no places are to be kept: there are none then. Of bytes that are no script it
-/// answers, beside the fault of these two, why they have it. What is read takes memory from `alloc`.
+/// Reads a script as `read_placed` does, or as `read_script` where no places are to be kept: there
+/// are none then. Of bytes that are no script it answers, beside the fault of these two, why they
+/// have it. What is read takes memory from `alloc`.
 pub fn read_or_why(alloc: Global, bytes: &[u8], are_kept: bool) -> Result<PlacedScript, Unread<'_>>
     // What is read is the script of the bytes.
     ensures found { IfOk result (λ p. Reads bytes.now (script_of p.script)) }

@@ -13,8 +13,8 @@ use iso_model::tree::Stmt;
 use std::alloc::{AllocError, Global};
 use std::sync::Arc;
 
-/// The head of a class that declares these keys, is disabled for this reason, if for one, and has these statics, fields
-/// and lifecycle blocks.
+/// The head of a class that declares these keys, is disabled for this reason, if for one, and has
+/// these statics, fields and lifecycle blocks.
 pub(crate) fn class_head(
     alloc: Global,
     marks: Vec<Mark>,

@@ -53,8 +53,8 @@ pub fn lines_count_from_one()
     ensures { (bytes : List ℕ) (before ps : List Piece) (p : Piece) → ArePiecesOf bytes (before ++ p ∷ ps) → 1 ≤ line_of p }
 {}
 
-/// Where statements stand in a block, at any depth, the line of its opening brace and the row of the first of them say on
-/// which line this one's first token is: row 1 is the line of the brace.
+/// Where statements stand in a block, at any depth, the line of its opening brace and the row of
+/// the first of them say on which line this one's first token is: row 1 is the line of the brace.
 pub fn rows_count_lines_from_the_brace()
     ensures { (bytes : List ℕ) (before within ps qs : List Piece) (b : Position) (p : Piece)
         (d row : ℕ) (a : Act) (more : Acts)

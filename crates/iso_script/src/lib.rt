@@ -1,5 +1,6 @@
-//! The script reader: bytes to the tree of a script, or the first fault. It stands on the lexer and on the reader of
-//! statements; here are marks, display texts, statics and fields, lifecycle blocks, and the classes and tests that have them.
+//! The script reader: bytes to the tree of a script, or the first fault. It stands on the lexer and
+//! on the reader of statements; here are marks, display texts, statics and fields, lifecycle
+//! blocks, and the classes and tests that have them.
 #![tactic(auto)]
 
 mod block;

@@ -36,7 +36,8 @@ pub(crate) struct Marks {
 }
 
 impl Marks {
-    /// Whether a test may have these marks: none isolates it, and none is for the children of a class.
+    /// Whether a test may have these marks: none isolates it, and none is for the children of a
+    /// class.
     pub fn fits_test(&self) -> bool
         ensures { result ≡ fits_test (marks_of self.now) }
     {
@@ -61,7 +62,8 @@ impl Marks {
         }
     }
 
-    /// What is wanted after these marks, where no member of a class is next. Without a mark, this is.
+    /// What is wanted after these marks, where no member of a class is next. Without a mark, this
+    /// is.
     pub fn wanted_of_a_member(&self, place: Wanted) -> Wanted
         ensures { result ≡ after_marks (marks_of self.now) place }
     {
@@ -195,7 +197,8 @@ fn wanted_after(target: Target) -> Wanted
     }
 }
 
-/// The key of a mark. One that may not be declared is a fault at its quote. Where none is next, this is wanted.
+/// The key of a mark. One that may not be declared is a fault at its quote. Where none is next,
+/// this is wanted.
 fn key(parser: &mut Parser<'_>, wanted: Wanted) -> Result<Key, ScriptError>
     requires { IsUnmet W.Key parser.old.lexer → IsUnmet wanted parser.old.lexer }
     ensures { Parses (λ (k : List ℕ). k) IsKeyText result parser.old.lexer parser.new.lexer }

@@ -7,8 +7,8 @@ use iso_script_lexer::token::Position;
 use iso_script_statements::fault::ScriptError;
 use std::alloc::Global;
 
-/// Where a class or test stands in its script: where its name begins, and the line of the opening brace of each of its
-/// blocks, on which row 1 is.
+/// Where a class or test stands in its script: where its name begins, and the line of the opening
+/// brace of each of its blocks, on which row 1 is.
 #[derive(Clone, Copy, PartialEq, Eq)]
 pub struct NodePlace {
     pub name: Position,
@@ -33,7 +33,8 @@ pub struct LifecycleLines {
     pub after_each: BlockLine,
 }
 
-/// The line of a block's opening brace, where the block is written. Lines count from 1, so that 0 is none.
+/// The line of a block's opening brace, where the block is written. Lines count from 1, so that 0
+/// is none.
 #[derive(Clone, Copy, PartialEq, Eq)]
 pub struct BlockLine {
     pub(crate) number: u32,

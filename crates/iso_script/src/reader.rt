@@ -28,13 +28,14 @@ pub struct PlacedScript {
     pub places: Vec<NodePlace>,
 }
 
-/// Reads a script of at most 1,048,576 bytes: the name of a team, and its top-level classes in order. The tree
-/// takes memory from `alloc`, and where that is refused, the answer is `OutOfMemory`.
+/// Reads a script of at most 1,048,576 bytes: the name of a team, and its top-level classes in
+/// order. The tree takes memory from `alloc`, and where that is refused, the answer is
+/// `OutOfMemory`.
 ///
-/// What is no script is answered with its first fault from the left, with one token of look-ahead: a token that
-/// the grammar or a rule does not allow comes before anything in the bytes that follow it. A script above the
-/// limit is `TooLong` at line 1, column 1, before all else. That two top-level classes have one name is left to
-/// the plan.
+/// What is no script is answered with its first fault from the left, with one token of look-ahead:
+/// a token that the grammar or a rule does not allow comes before anything in the bytes that follow
+/// it. A script above the limit is `TooLong` at line 1, column 1, before all else. That two
+/// top-level classes have one name is left to the plan.
 pub fn read_script(alloc: Global, bytes: &[u8]) -> Result<Script, ScriptError>
     // What is read is the script of the bytes.
     ensures found { IfOk result (λ s. Reads bytes.now (script_of s)) }
@@ -48,7 +49,8 @@ pub fn read_script(alloc: Global, bytes: &[u8]) -> Result<Script, ScriptError>
     read(alloc, bytes, &mut places)
 }
 
-/// Reads a script as `read_script` does, and keeps the places of its nodes, which take memory from `alloc` too.
+/// Reads a script as `read_script` does, and keeps the places of its nodes, which take memory from
+/// `alloc` too.
 pub fn read_placed(alloc: Global, bytes: &[u8]) -> Result<PlacedScript, ScriptError>
     // What is read is the script of the bytes, and these are the places of its nodes.
     ensures found { IfOk result (λ p. ReadsPlaced bytes.now (script_of p.script) p.places.items) }

@@ -55,7 +55,8 @@ fn is_mode(word: Word) -> bool {
     matches!(word, Word::SameThread | Word::Concurrent)
 }
 
-/// Where something stood first: at the top, and in each brace that is open, outside the braces in it.
+/// Where something stood first: at the top, and in each brace that is open, outside the braces in
+/// it.
 #[derive(Drop)]
 struct Seen {
     places: Vec<Option<Position>>,
@@ -103,8 +104,8 @@ impl Seen {
         Ok(())
     }
 
-    /// The place of what stands a second time in a brace that is open: that of the innermost for a member, a mark and a
-    /// block, and of any for a static or field.
+    /// The place of what stands a second time in a brace that is open: that of the innermost for a
+    /// member, a mark and a block, and of any for a static or field.
     fn first(&self, twice: Twice<'_>) -> Option<Position> {
         match twice {
             Twice::Variable(_) => self.places.iter().copied().flatten().next(),

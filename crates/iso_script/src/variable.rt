@@ -56,8 +56,8 @@ fn variable_next(parser: &Parser<'_>) -> Option<VariableWord>
     }
 }
 
-/// The statics and fields that come next, in a class whose enclosing classes have these names. A name that an
-/// earlier one of the class or an enclosing class has is `NameTaken`, at the name.
+/// The statics and fields that come next, in a class whose enclosing classes have these names. A
+/// name that an earlier one of the class or an enclosing class has is `NameTaken`, at the name.
 pub(crate) fn read_variables<'a>(
     parser: &mut Parser<'a>,
     enclosing: &[BTreeSet<&'a str>],
@@ -81,8 +81,8 @@ pub(crate) fn read_variables<'a>(
     Ok(variables)
 }
 
-/// The static or field that is next, which begins with this word: its name is none of those of the enclosing
-/// classes and of its own, to which it is added.
+/// The static or field that is next, which begins with this word: its name is none of those of the
+/// enclosing classes and of its own, to which it is added.
 fn read_variable<'a>(
     parser: &mut Parser<'a>,
     word: VariableWord,

@@ -1,4 +1,5 @@
--- The words of the lexer's examples. Of which pieces each text is, the source module `examples` states and proves.
+-- The words of the lexer's examples. Of which pieces each text is, the source module `examples`
+-- states and proves.
 use Prim.Native.String.{String}
 use Rattle.std.specs.Prelude.{ℕ, ◌+◌, List, [], ◌∷◌, ◌++◌, codes, length, map}
 use Rattle.iso_script_lexer.specs.Lexical.{ArePiecesOf}

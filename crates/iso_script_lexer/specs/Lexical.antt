@@ -59,7 +59,8 @@ pub data IsGap : (line : Line) → List ℕ → (last : Line) → List ℕ → T
   a_comment : {r q : Line} {a b : ℕ} {bs cs : List ℕ} (text rest : List ℕ) → a ≡ slash → b ≡ slash → bs ≡ text ++ rest
       → AllByRecursion (λ c. in_comment c ≡ true) text → EndsLine rest → IsGap r rest q cs → IsGap r (a ∷ b ∷ bs) q cs
 
--- The front of the bytes spells the token at this position, and this is what follows. A token is the longest that fits.
+-- The front of the bytes spells the token at this position, and this is what follows. A token is
+-- the longest that fits.
 pub data Spells : (position : Position) → List ℕ → Piece → List ℕ → Type 0 where
   -- a name, that does not go on
   spells_name : {r : Position} {bs rest n : List ℕ} → bs ≡ n ++ rest → IsName n → EndsName rest → Spells r bs (name_at r n) rest
@@ -82,7 +83,8 @@ pub record IsNoToken (line : Line) (bs : List ℕ) : Type 0 where
   pub no_gap_begins : (last : Line) (cs : List ℕ) → IsGap line bs last cs → cs ≡ bs
   pub no_token_begins : (p : Piece) (rest : List ℕ) → Spells (position line bs) bs p rest → ⊥
 
--- The bytes from a line on are these pieces, with gaps between them. What is no token is the last piece, with its fault.
+-- The bytes from a line on are these pieces, with gaps between them. What is no token is the last
+-- piece, with its fault.
 pub data HasPieces : (line : Line) → List ℕ → List Piece → Type 0 where
   -- a gap, up to the end
   ends : {r q : Line} {bs : List ℕ} → IsGap r bs q [] → HasPieces r bs []

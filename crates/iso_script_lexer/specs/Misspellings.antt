@@ -10,8 +10,8 @@ use Rattle.iso_script_lexer.specs.declared.token.TokenFault.TheVariants.{BadByte
 abbrev pub unless_full : (room : ℕ) → (ℕ → TokenFault) → TokenFault
 unless_full room rest = if nat_eq room 0 then TooLong else rest (room - 1)
 
--- The fault of a text after its opening quote, in which so many decoded bytes fit: that of the first byte that may not
--- stand there. A text is open where its line ends before its closing quote.
+-- The fault of a text after its opening quote, in which so many decoded bytes fit: that of the
+-- first byte that may not stand there. A text is open where its line ends before its closing quote.
 unfoldable pub text_fault : (escaped : Bool) → (room : ℕ) → List ℕ → TokenFault
 text_fault escaped room [] = OpenText
 text_fault false room (b ∷ bs) =
@@ -24,7 +24,8 @@ text_fault true room (b ∷ bs) =
     else if is_escaped b then unless_full room (λ r. text_fault false r bs)
     else BadToken
 
--- the fault of digits that are no number: a letter or an underscore follows them, or their value is too great
+-- the fault of digits that are no number: a letter or an underscore follows them, or their value is
+-- too great
 abbrev pub number_fault : List ℕ → TokenFault
 number_fault bs = if begins_in in_name (drop (prefix_len is_digit bs) bs) then BadToken else NumberTooBig
 
@@ -43,6 +44,7 @@ abbrev pub begins_comment : List ℕ → Bool
 begins_comment [] = false
 begins_comment (b ∷ bs) = nat_eq b slash && begins slash bs
 
--- the fault of bytes that begin neither a gap nor a token: in a comment a byte stands that isn't allowed
+-- the fault of bytes that begin neither a gap nor a token: in a comment a byte stands that isn't
+-- allowed
 abbrev pub fault_of : List ℕ → TokenFault
 fault_of bs = if begins_comment bs then BadByte else token_fault bs

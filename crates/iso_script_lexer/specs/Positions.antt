@@ -13,6 +13,7 @@ first_line text = (1, text)
 abbrev pub line_after : Line → (rest : List ℕ) → Line
 line_after line rest = (line.0 + 1, rest)
 
--- where on a line the rest of the text begins: its column is one more than the number of bytes before it
+-- where on a line the rest of the text begins: its column is one more than the number of bytes
+-- before it
 abbrev pub position : Line → (rest : List ℕ) → Position
 position line rest = record { line = line.0; column = (length line.1 - length rest) + 1 }

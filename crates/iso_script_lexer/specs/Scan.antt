@@ -14,8 +14,8 @@ use Rattle.iso_script_lexer.specs.declared.word.Word as W
 use Rattle.iso_script_lexer.specs.declared.symbol.Symbol as S
 use Rattle.iso_script_lexer.specs.declared.symbol.Symbol.TheVariants.{OpenBrace, CloseBrace, OpenParen, CloseParen, Semicolon, Comma, Equals, Plus, Minus, Star, PlusPlus, EqualsEquals, NotEquals, Less}
 
--- The line and the bytes after a gap; in a comment, those after its end. A checker that computes it takes only the branch that is
--- chosen, since each is bound by a `let`.
+-- The line and the bytes after a gap; in a comment, those after its end. A checker that computes it
+-- takes only the branch that is chosen, since each is bound by a `let`.
 unfoldable pub gap_from : (comment : Bool) → (number : ℕ) → (line : List ℕ) → List ℕ → Line × List ℕ
 gap_from comment number line [] = ((number, line), [])
 gap_from false number line (b ∷ bs) =
@@ -85,7 +85,8 @@ unfoldable pub symbol_front : List ℕ → Option (S.Symbol × List ℕ)
 symbol_front [] = None
 symbol_front (b ∷ bs) = longest_symbol (double_symbol b bs) (single_symbol b) bs
 
--- what is read at the front of bytes: a piece and what follows it; what is no token is followed by nothing
+-- what is read at the front of bytes: a piece and what follows it; what is no token is followed by
+-- nothing
 abbrev pub Front : Type 0
 Front = Option (Piece × List ℕ)
 

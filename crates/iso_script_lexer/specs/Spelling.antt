@@ -1,4 +1,5 @@
--- How symbols and reserved words are written, and which bytes stand where. A byte is its ASCII code.
+-- How symbols and reserved words are written, and which bytes stand where. A byte is its ASCII
+-- code.
 use Rattle.std.specs.Prelude.{ℕ, List, [], ◌∷◌, Bool, false, Option, nat_eq, nat_le, ◌&&◌, ◌||◌, codes}
 use Rattle.std.specs.List.{find}
 use Rattle.std.specs.Str.{bytes_eq}

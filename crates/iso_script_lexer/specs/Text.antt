@@ -14,7 +14,8 @@ pub record IsText (bs : List ℕ) : Type 0 where
   pub printable : AllByRecursion (λ b. is_printable b ≡ true) bs
   pub short : length bs ≤ TEXT_BYTES
 
--- what is meant by bytes between quotes: a backslash is left out, and the byte after it stands for itself
+-- what is meant by bytes between quotes: a backslash is left out, and the byte after it stands for
+-- itself
 unfoldable pub decoded : (escaped : Bool) → List ℕ → List ℕ
 decoded escaped [] = []
 decoded false (b ∷ bs) = if nat_eq b backslash then decoded true bs else b ∷ decoded false bs

@@ -4,7 +4,8 @@ ghost use Rattle.iso_script_lexer.specs.Positions.{first_line, line_after, posit
 use crate::token::Position;
 use iso_model::limits::FILE_BYTES;
 
-/// The bytes that are left of a script, and the line that they begin on: its number, and its bytes from its first on.
+/// The bytes that are left of a script, and the line that they begin on: its number, and its bytes
+/// from its first on.
 #[derive(Clone, Copy)]
 pub(crate) struct Cursor<'a> {
     pub number: u32,

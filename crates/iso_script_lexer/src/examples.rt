@@ -8,9 +8,9 @@ ghost use Rattle.iso_script_lexer.specs.declared.symbol.Symbol.TheVariants.{Open
 ghost use Rattle.iso_script_lexer.specs.declared.symbol.Symbol.TheVariants.{Equals, Plus, Minus, Star, PlusPlus, EqualsEquals, NotEquals, Less};
 ghost use Rattle.iso_script_lexer.specs.declared.token.TokenFault.TheVariants.{BadByte, BadToken, NumberTooBig, OpenText, TooLong};
 
-/// Space, tab, carriage return and line feed stand between tokens, and so do comments, which may have
-/// all of them but the line feed: it ends them, as the end of the text does. Lines are counted, and on
-/// each line its bytes, of which a tab and a carriage return are one each.
+/// Space, tab, carriage return and line feed stand between tokens, and so do comments, which may
+/// have all of them but the line feed: it ends them, as the end of the text does. Lines are
+/// counted, and on each line its bytes, of which a tab and a carriage return are one each.
 pub fn gaps_stand_between_tokens()
     ensures blanks { Has " a\tb\r\n\nc" (name_at 1 2 "a" ∷ name_at 1 4 "b" ∷ name_at 3 1 "c" ∷ []) }
     ensures comments { Has "a// \"b\" // @\tc\r\n//\n//d\r\nb // c"
@@ -20,8 +20,8 @@ pub fn gaps_stand_between_tokens()
     ensures other_bytes { IsRefused "// \u{7f}" BadByte }
 {}
 
-/// The position of a token is that of its first byte: after a carriage return alone the line goes on, in a
-/// comment braces and quotes are none, and the next line begins at column 1.
+/// The position of a token is that of its first byte: after a carriage return alone the line goes
+/// on, in a comment braces and quotes are none, and the next line begins at column 1.
 pub fn tokens_have_positions()
     ensures { Has "{\r// {}\t\"\r\n\t\ta1 = \"b c\";\r\n  7}d"
         (symbol_at (at 1 1) OpenBrace ∷ name_at 2 3 "a1" ∷ symbol_at (at 2 6) Equals ∷ text_at 2 8 "b c"
@@ -40,7 +40,8 @@ pub fn names_are_no_reserved_words()
     ensures underscore { IsRefused "_a" BadToken }
 {}
 
-/// Leading zeros count for nothing. A number is at most 2^63, and neither a letter nor an underscore follows it.
+/// Leading zeros count for nothing. A number is at most 2^63, and neither a letter nor an
+/// underscore follows it.
 pub fn numbers_are_digits()
     ensures zeros { Has "0 007 10" (number_at 1 1 0 ∷ number_at 1 3 7 ∷ number_at 1 7 10 ∷ []) }
     ensures largest { Has "9223372036854775808" (number_at 1 1 9223372036854775808 ∷ []) }

@@ -3,8 +3,9 @@ ghost use Rattle.iso_script_lexer.specs.Text.{IsQuoted, IsText};
 
 use std::alloc::{AllocError, Global};
 
-/// A text as it stands between its quotes in the script: printable bytes, in which each quote and each
-/// backslash is escaped by a backslash, and nothing else is; at most 4,096 bytes without the escapes.
+/// A text as it stands between its quotes in the script: printable bytes, in which each quote and
+/// each backslash is escaped by a backslash, and nothing else is; at most 4,096 bytes without the
+/// escapes.
 #[derive(Clone, Copy)]
 pub struct QuotedText<'a> {
     pub(crate) raw: &'a [u8],

@@ -1,4 +1,5 @@
--- The words of examples: texts that are expressions and blocks. What each is, the source module `examples` states and proves.
+-- The words of examples: texts that are expressions and blocks. What each is, the source module
+-- `examples` states and proves.
 use Prim.Native.String.{String}
 use Rattle.std.specs.Prelude.{ℕ, List, [], ◌∷◌, ◌++◌, codes}
 use Rattle.std.specs.List.{flat_map}

@@ -1,5 +1,5 @@
--- The grammar of expressions, by rules. `IsX x ps qs` says that the pieces ps are those of x, and then the pieces qs.
--- A number d among the arguments says how many more parentheses may be opened.
+-- The grammar of expressions, by rules. `IsX x ps qs` says that the pieces ps are those of x, and
+-- then the pieces qs. A number d among the arguments says how many more parentheses may be opened.
 use Rattle.std.specs.Global.{Global}
 use Rattle.std.specs.Prelude.{ℕ, suc, ◌-◌, ◌<◌, ◌≤◌, ◌^◌, pos, neg_ℤ, List, ◌∷◌, ◌≡◌, true, false, Option, Some, None, Vec, option_map}
 use Rattle.iso_script_lexer.specs.Piece.{Piece, name_at, number_at, text_at, word_at, symbol_at}
@@ -89,9 +89,10 @@ mutual
     and_then : {d n : ℕ} {r : Position} {s : Symbol} {e : Term} {es : Terms} {ps qs rs : List Piece}
         → IsOperand d e ps qs → IsChained d s n es qs rs → IsChained d s (suc n) (term e es) (symbol_at r s ∷ ps) rs
 
-  -- An expression: one operand, a chain of up to 32 by one operator, which groups to the left, or two that are compared.
-  -- That no operator follows excludes nothing, since what may follow an expression is no operator. It keeps `a + b`
-  -- from being read as `a` with `+ b` behind it, and operators from being mixed.
+  -- An expression: one operand, a chain of up to 32 by one operator, which groups to the left, or
+  -- two that are compared. That no operator follows excludes nothing, since what may follow an
+  -- expression is no operator. It keeps `a + b` from being read as `a` with `+ b` behind it, and
+  -- operators from being mixed.
   pub data IsExpression : (d : ℕ) → Term → List Piece → List Piece → Type 0 where
     an_operand : {d : ℕ} {e : Term} {ps qs : List Piece} → IsOperand d e ps qs → infix_next qs ≡ None → IsExpression d e ps qs
     a_chain : {d : ℕ} {r : Position} {s : Symbol} {op : Operator} {e : Term} {es : Terms} {ps qs rs : List Piece}

@@ -33,15 +33,16 @@ abbrev pub IsMemoryOr : ScriptFaultKind → ScriptError → Type 0
 IsMemoryOr kind OutOfMemory = Unit {0}
 IsMemoryOr kind (Fault fault) = fault.kind ≡ kind
 
--- The kind of the fault at what is next, where the grammar does not allow it. What is no token has the kind of its fault,
--- and 2^63, which only the minus of a literal may precede, one of its own.
+-- The kind of the fault at what is next, where the grammar does not allow it. What is no token has
+-- the kind of its fault, and 2^63, which only the minus of a literal may precede, one of its own.
 abbrev pub IsUnexpected : List Piece → ScriptFaultKind → Type 0
 IsUnexpected [] kind = kind ≡ EndOfInput
 IsUnexpected (bad_at r fault ∷ ps) kind = kind ≡ kind_of fault
 IsUnexpected (number_at r n ∷ ps) kind = kind ≡ (if nat_lt n (2 ^ 63) then Expected else NumberTooBig)
 IsUnexpected (_ ∷ ps) kind = kind ≡ Expected
 
--- the kind of the fault where a symbol isn't next, and where it is and no more of them may be opened
+-- the kind of the fault where a symbol isn't next, and where it is and no more of them may be
+-- opened
 abbrev pub IsUnopened : Symbol → List Piece → ScriptFaultKind → Type 0
 IsUnopened symbol ps kind =
     (after symbol ps ≡ None → IsUnexpected ps kind) × (after symbol ps ≢ None → kind ≡ TooDeep)

@@ -26,8 +26,8 @@ line_of (word_at r w) = r.line
 line_of (symbol_at r s) = r.line
 line_of (bad_at r fault) = r
 
--- The row of the piece that is next, in a block whose opening brace has this many lines above its own: rows count from 1
--- on the line of the brace.
+-- The row of the piece that is next, in a block whose opening brace has this many lines above its
+-- own: rows count from 1 on the line of the brace.
 abbrev pub row_in : (above : ℕ) → List Piece → ℕ
 row_in above [] = 0
 row_in above (p ∷ ps) = line_of p - above

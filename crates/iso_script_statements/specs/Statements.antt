@@ -1,6 +1,7 @@
--- The grammar of statements and bodies, by rules. `IsX x ps qs` says that the pieces ps are those of x, and then the
--- pieces qs. A number d among the arguments says how many more bodies may be opened, and above is how many lines stand
--- above that of the block's opening brace, on which row 1 is.
+-- The grammar of statements and bodies, by rules. `IsX x ps qs` says that the pieces ps are those
+-- of x, and then the pieces qs. A number d among the arguments says how many more bodies may be
+-- opened, and above is how many lines stand above that of the block's opening brace, on which row 1
+-- is.
 use Rattle.std.specs.Global.{Global}
 use Rattle.std.specs.Prelude.{ℕ, suc, ◌-◌, List, [], ◌∷◌, ◌≡◌, Bool, true, false, not, ◌&&◌, nat_le, nat_eq, length, get_or, Option, Some, None, Vec}
 use Rattle.iso_script_lexer.specs.Piece.{Piece, name_at, text_at, word_at, symbol_at}
@@ -58,7 +59,8 @@ with_two SetProp = set_prop
 with_two WriteFile = write_file
 with_two AppendFile = append_file
 
--- whether a text may be a display text or a reason: it has 1 to 200 bytes, and neither the first nor the last is a space
+-- whether a text may be a display text or a reason: it has 1 to 200 bytes, and neither the first
+-- nor the last is a space
 abbrev pub is_display : List ℕ → Bool
 is_display [] = false
 is_display (b ∷ bs) =

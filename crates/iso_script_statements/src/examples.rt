@@ -7,8 +7,8 @@ ghost use Rattle.iso_model.specs.Examples.Words.{if_else, if_then, let_name, pri
 ghost use Rattle.iso_model.specs.Syntax.{locale, no_acts};
 ghost use Rattle.iso_script_statements.specs.Examples.{IsBlockText, IsExpressionText, IsStatementText, rows_acts, rows_text};
 
-/// Each literal, each operator, each function and each other operand. A chain has its operands in their
-/// order, and what stands in parentheses is one of them.
+/// Each literal, each operator, each function and each other operand. A chain has its operands in
+/// their order, and what stands in parentheses is one of them.
 pub fn expressions_are_read()
     ensures chains { IsExpressionText "(1 - 2 - -3) * (x + 004 + y)"
         (multiply (subtract (number 1) (number 2 ∷ minus 3 ∷ []))

@@ -208,7 +208,8 @@ impl Parser<'_> {
         self.followed(expression, Symbol::CloseParen)
     }
 
-    /// The operands after the first of a chain, with this operator before each. What follows the chain is this symbol.
+    /// The operands after the first of a chain, with this operator before each. What follows the
+    /// chain is this symbol.
     #[cycle(expression)]
     fn chained(
         &mut self,

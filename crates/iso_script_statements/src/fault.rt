@@ -8,27 +8,34 @@ use thiserror::Error;
 pub enum ScriptFaultKind {
     /// A byte that is not allowed where it stands, also in comments and texts: at the byte.
     BadByte,
-    /// Bytes that spell no token, at the first, or an escape that a text does not have, at its backslash.
+    /// Bytes that spell no token, at the first, or an escape that a text does not have, at its
+    /// backslash.
     BadToken,
     /// A number above 2^63 - 1, or right after the minus of a literal above 2^63: at the number.
     NumberTooBig,
     /// A text that is not closed on its line: at its opening quote.
     OpenText,
-    /// A token that the grammar does not allow where it stands, at the token, or an empty key, at its quote.
+    /// A token that the grammar does not allow where it stands, at the token, or an empty key, at
+    /// its quote.
     Expected,
     /// A second lifecycle block of one kind in a class: at its word.
     DoubleBlock,
-    /// A second test or class of one name in a class, at the name, or a second mark of one kind, at its word.
+    /// A second test or class of one name in a class, at the name, or a second mark of one kind, at
+    /// its word.
     DoubleMember,
-    /// A static or field whose name an earlier one of its class or an enclosing class has: at the name.
+    /// A static or field whose name an earlier one of its class or an enclosing class has: at the
+    /// name.
     NameTaken,
     /// A class without a test or class in it: at its closing brace.
     EmptyClass,
-    /// A class, body, parenthesis or operand beyond the depth or number that is allowed: at what opens it.
+    /// A class, body, parenthesis or operand beyond the depth or number that is allowed: at what
+    /// opens it.
     TooDeep,
-    /// A name or text beyond its length, at the first byte past it; a key, at its quote; a script, at its start.
+    /// A name or text beyond its length, at the first byte past it; a key, at its quote; a script,
+    /// at its start.
     TooLong,
-    /// A display text or reason that is empty or too long, or begins or ends with a space: at its quote.
+    /// A display text or reason that is empty or too long, or begins or ends with a space: at its
+    /// quote.
     BadDisplay,
     /// The key of the global lock, which no script may declare: at its quote.
     GlobalKey,
@@ -74,7 +81,8 @@ impl fmt::Display for ScriptFaultKind {
     }
 }
 
-/// A fault of a script, and where it lies. Lines and columns count from 1, and a column counts bytes.
+/// A fault of a script, and where it lies. Lines and columns count from 1, and a column counts
+/// bytes.
 #[derive(Clone, Copy, Debug, PartialEq, Eq)]
 pub struct ScriptFault {
     pub kind: ScriptFaultKind,

@@ -13,7 +13,8 @@ use iso_script_lexer::token::Token;
 use std::collections::BTreeSet;
 
 impl<'a> Parser<'a> {
-    /// A name that is none of those seen, and is added to them. Where it is one of them, the fault has this kind.
+    /// A name that is none of those seen, and is added to them. Where it is one of them, the fault
+    /// has this kind.
     pub fn new_name(
         &mut self,
         seen: &mut BTreeSet<&'a str>,

@@ -49,8 +49,8 @@ impl<'a> Parser<'a> {
         }
     }
 
-    /// The fault at the token that is next, where this is wanted, which it is not. What is no token has a kind
-    /// of its own, and so has 2^63, which only the minus of a literal may precede.
+    /// The fault at the token that is next, where this is wanted, which it is not. What is no token
+    /// has a kind of its own, and so has 2^63, which only the minus of a literal may precede.
     pub fn unexpected(&mut self, wanted: Wanted) -> ScriptError
         requires { IsUnmet wanted self.old.lexer }
         ensures fault { IsFaultOf (IsUnexpected self.old.lexer) result }
@@ -176,8 +176,9 @@ impl<'a> Parser<'a> {
         }
     }
 
-    /// Goes past an opening symbol, which has to be next, where so many may be opened. Answers how many more may be.
-    /// Where the symbol is not next, this is wanted, and where no more of them may be opened, this is their limit.
+    /// Goes past an opening symbol, which has to be next, where so many may be opened. Answers how
+    /// many more may be. Where the symbol is not next, this is wanted, and where no more of them
+    /// may be opened, this is their limit.
     pub fn open(
         &mut self,
         symbol: Symbol,
@@ -224,7 +225,8 @@ impl<'a> Parser<'a> {
         matches!(self.lexer.peek().0, Token::End)
     }
 
-    /// The row of the token that is next, in a block whose opening brace has this many lines above its own.
+    /// The row of the token that is next, in a block whose opening brace has this many lines above
+    /// its own.
     pub fn row_in(&self, above: u32) -> u32
         ensures { self.now.lexer ≢ [] → result ≡ row_in above self.now.lexer }
     {

@@ -99,8 +99,8 @@ fn simple_of(word: Word) -> Option<Simple>
     }
 }
 
-/// Whether a text may be a display text or a reason: it has 1 to 200 bytes, and neither the first nor the last
-/// is a space.
+/// Whether a text may be a display text or a reason: it has 1 to 200 bytes, and neither the first
+/// nor the last is a space.
 fn is_display(text: &[u8]) -> bool
     ensures { result ≡ is_display text.now }
 {

@@ -20,7 +20,8 @@ use iso_script_lexer::symbol::Symbol;
 use iso_script_lexer::word::Word;
 
 impl Parser<'_> {
-    /// A block: a body, with rows that count from 1 on the line of its opening brace. Where none is next, this is wanted.
+    /// A block: a body, with rows that count from 1 on the line of its opening brace. Where none is
+    /// next, this is wanted.
     pub fn block(&mut self, wanted: Wanted) -> Result<Vec<Stmt>, ScriptError>
         requires { after OpenBrace self.old.lexer ≡ None → IsUnmet wanted self.old.lexer }
         ensures { Parses body_of IsBlock result self.old.lexer self.new.lexer }
@@ -29,8 +30,8 @@ impl Parser<'_> {
         self.body(BODY_DEPTH, above, wanted)
     }
 
-    /// A body of a block whose opening brace has this many lines above its own, the outermost of so many that may be
-    /// opened. Where none is next, this is wanted.
+    /// A body of a block whose opening brace has this many lines above its own, the outermost of so
+    /// many that may be opened. Where none is next, this is wanted.
     #[cycle(body)]
     pub fn body(
         &mut self,
@@ -59,7 +60,8 @@ impl Parser<'_> {
         Ok(statements)
     }
 
-    /// What is wanted where neither a statement is next nor the brace that closes the body: an `else` too, where one may stand.
+    /// What is wanted where neither a statement is next nor the brace that closes the body: an
+    /// `else` too, where one may stand.
     fn wanted_in_body(&self) -> Wanted
         ensures { IsInBody self.now.lexer result }
     {

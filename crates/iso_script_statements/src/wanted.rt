@@ -5,8 +5,9 @@ ghost use Rattle.iso_script_statements.specs.Wanted.{after_operand};
 use iso_script_lexer::symbol::Symbol;
 use iso_script_lexer::word::Word;
 
-/// What could have stood where a script has a fault. What is one too many, or there already, has a fault of its own: so a
-/// class counts as wanted among members at any depth, and a mark after others, whichever these are.
+/// What could have stood where a script has a fault. What is one too many, or there already, has a
+/// fault of its own: so a class counts as wanted among members at any depth, and a mark after
+/// others, whichever these are.
 #[derive(Clone, Copy, PartialEq, Eq)]
 pub enum Wanted {
     /// This reserved word.
@@ -21,7 +22,8 @@ pub enum Wanted {
     Operand,
     /// An operator, or the symbol that follows the expression.
     Operator(Symbol),
-    /// The first of these, which is the operator of a chain, or the second, which follows the expression.
+    /// The first of these, which is the operator of a chain, or the second, which follows the
+    /// expression.
     SameOperator(Symbol, Symbol),
     /// A statement, or the brace that closes the body.
     Statement,

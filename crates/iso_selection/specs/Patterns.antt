@@ -5,7 +5,8 @@ use Rattle.std.specs.Prelude.{ℕ, List, [], ◌∷◌, Bool, false, ◌||◌, �
 abbrev pub star : ℕ
 star = 42
 
--- whether some end of a text passes: the whole text, or what is left of it where bytes are taken from its front
+-- whether some end of a text passes: the whole text, or what is left of it where bytes are taken
+-- from its front
 abbrev pub some_end : (List ℕ → Bool) → List ℕ → Bool
 some_end passes [] = passes []
 some_end passes (c ∷ cs) = passes (c ∷ cs) || some_end passes cs
@@ -15,7 +16,8 @@ abbrev pub begins : ℕ → (List ℕ → Bool) → List ℕ → Bool
 begins b passes [] = false
 begins b passes (c ∷ cs) = (b == c) && passes cs
 
--- whether a pattern takes in a text, from its first byte to its last. What stands after a star takes in some end of it.
+-- whether a pattern takes in a text, from its first byte to its last. What stands after a star
+-- takes in some end of it.
 abbrev pub is_match : (pattern text : List ℕ) → Bool
 is_match [] text = length text == 0
 is_match (b ∷ bs) text = cond (b == star) (some_end (is_match bs) text) (begins b (is_match bs) text)

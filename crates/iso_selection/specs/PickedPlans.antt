@@ -9,7 +9,8 @@ use Rattle.iso_selection.specs.Picks.{kept_tree, picked}
 use Rattle.iso_selection.specs.Wishes.{Wish, first_in_vain}
 use Rattle.iso_selection.specs.declared.shard.Shard.{Shard}
 
--- the tree of the nodes that picked paths keep. Where neither anything nor a shard is asked for, all are kept.
+-- the tree of the nodes that picked paths keep. Where neither anything nor a shard is asked for,
+-- all are kept.
 abbrev pub tree_by : List Row → Option (List (List ℕ)) → List Row
 tree_by nodes None = nodes
 tree_by nodes (Some paths) = kept_tree nodes paths

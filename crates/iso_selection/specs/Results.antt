@@ -11,8 +11,9 @@ use Rattle.iso_plan.specs.Selections.{is_kept_by, number_among}
 use Rattle.iso_suites.specs.PlanSuites.{suite_of}
 use Rattle.iso_suites.specs.ScriptLanguage.{scripts}
 
--- A node that these paths keep has the first outcome in some run of the whole plan and the second in some of its part, each on so many
--- workers as may be and in any order of events that the locks allow. The resources start alike at the keys that the node may look at.
+-- A node that these paths keep has the first outcome in some run of the whole plan and the second
+-- in some of its part, each on so many workers as may be and in any order of events that the locks
+-- allow. The resources start alike at the keys that the node may look at.
 pub record IsRunInBoth (whole part : Planned) (paths : List (List ℕ)) (n : ℕ) (first second : Outcome) : Type 0 where
   pub within : n < length (tree_of whole)
   pub kept : is_kept_by (tree_of whole) paths n ≡ true

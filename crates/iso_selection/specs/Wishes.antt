@@ -26,7 +26,8 @@ abbrev pub wishes_of : Option (Bor (List Wanted)) → Option (List Wish)
 wishes_of None = None
 wishes_of (Some wanted) = Some (map wish_of wanted.now)
 
--- all that is asked for: paths, then patterns, then the paths that a file lists. Where there is none of these, nothing is asked for.
+-- all that is asked for: paths, then patterns, then the paths that a file lists. Where there is
+-- none of these, nothing is asked for.
 abbrev pub all_wishes : (only patterns : List (List ℕ)) → Option (List ℕ) → Option (List Wish)
 all_wishes [] [] None = None
 all_wishes only patterns None = Some (map path only ++ map pattern patterns)

@@ -46,7 +46,8 @@ pub fn files_list_paths()
     ensures comment { listed (codes "# a") ≡ codes "# a" ∷ [] }
 {}
 
-/// What is asked for is looked for in this order: paths, patterns, then the paths of a file. An empty file asks for no node.
+/// What is asked for is looked for in this order: paths, patterns, then the paths of a file. An
+/// empty file asks for no node.
 pub fn wishes_are_in_order()
     ensures order { all_wishes (codes "a" ∷ []) (codes "b" ∷ []) (Some (codes "c"))
         ≡ Some (path (codes "a") ∷ pattern (codes "b") ∷ path (codes "c") ∷ []) }
@@ -54,7 +55,8 @@ pub fn wishes_are_in_order()
     ensures empty { all_wishes [] [] (Some []) ≡ Some [] }
 {}
 
-/// A node is named by its path or by a pattern. A path is no pattern. Where nothing is asked for, top-level classes are named.
+/// A node is named by its path or by a pattern. A path is no pattern. Where nothing is asked for,
+/// top-level classes are named.
 #[tactic(auto, unfolding(iso_plan::specs::Paths::path))]
 pub fn wishes_name_nodes()
     ensures both { those_below (is_named_by cart_and_desk (Some (pattern (codes "shop.Cart*") ∷ path (codes "shop.Desk.c") ∷ []))) 8
@@ -78,7 +80,8 @@ pub fn first_in_vain_is_told()
     ensures empty { first_in_vain two_classes (Some []) ≡ None }
 {}
 
-/// Of the top-level classes that hold a named node the first goes to shard 1, the second to shard 2 and so on, and then to shard 1 again.
+/// Of the top-level classes that hold a named node the first goes to shard 1, the second to shard 2
+/// and so on, and then to shard 1 again.
 #[tactic(auto, unfolding(iso_plan::specs::Paths::path))]
 pub fn classes_go_to_shards_in_turn()
     ensures first { shard_of two_classes (is_top two_classes) 2 1 ≡ 1 }

@@ -18,7 +18,8 @@ use iso_model::script::Script;
 use iso_plan::plan::Plan;
 use iso_suites::laws::selected_nodes_have_the_results_of_the_whole_run;
 
-/// The picked paths name just the nodes that are asked for; with a shard, just the picked ones where no two nodes have one path.
+/// The picked paths name just the nodes that are asked for; with a shard, just the picked ones
+/// where no two nodes have one path.
 pub fn picked_paths_name_the_picked_nodes(scripts: &[Script])
     ensures whole { let nodes = tree (map script_of scripts.now) in
         (wishes : List Wish) (n : ℕ) → n < length nodes
@@ -39,8 +40,8 @@ pub fn each_class_goes_to_one_shard(scripts: &[Script])
         × (shard_of nodes (is_named_by nodes wishes) count class ≤ count) }
 {}
 
-/// A node that is kept without a shard is kept by the shard that its top-level class goes to, and by no other; and no shard keeps
-/// another node. No two nodes may have one path for that.
+/// A node that is kept without a shard is kept by the shard that its top-level class goes to, and
+/// by no other; and no shard keeps another node. No two nodes may have one path for that.
 pub fn each_node_is_kept_by_one_shard(scripts: &[Script])
     ensures { let nodes = tree (map script_of scripts.now) in
         HaveOwnPaths nodes → (wishes : Option (List Wish)) (shard : Shard) (m : ℕ) → 0 < m
@@ -50,7 +51,8 @@ pub fn each_node_is_kept_by_one_shard(scripts: &[Script])
         (top_class nodes m) == shard.index)) }
 {}
 
-/// A node that is kept has the path, the class chain and the rights that it has where all nodes are kept, in each shard.
+/// A node that is kept has the path, the class chain and the rights that it has where all nodes are
+/// kept, in each shard.
 pub fn picked_nodes_keep_their_chains(scripts: &[Script])
     ensures { let nodes = tree (map script_of scripts.now) in
         (wishes : Option (List Wish)) (shard : Option Shard) (m : ℕ) → m < length nodes
@@ -60,8 +62,9 @@ pub fn picked_nodes_keep_their_chains(scripts: &[Script])
         (number_among (is_kept_by nodes (picked_paths nodes wishes shard)) m) }
 {}
 
-/// The isolation theorem of shards: each test and class that a shard keeps has, in every run of the shard's plan, the verdict and output
-/// that it has in every run of all scripts. The runs may have different settings and numbers of workers.
+/// The isolation theorem of shards: each test and class that a shard keeps has, in every run of the
+/// shard's plan, the verdict and output that it has in every run of all scripts. The runs may have
+/// different settings and numbers of workers.
 pub fn shards_have_the_results_of_the_whole_run(whole: &Plan, part: &Plan)
     ensures { (scripts : List S.Script) (wishes : Option (List Wish)) (shard : Shard)
         → tree_of whole.now ≡ tree scripts → tree_of part.now ≡ picked_tree scripts wishes (Some shard)

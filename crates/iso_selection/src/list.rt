@@ -9,8 +9,9 @@ use std::alloc::{AllocError, Global};
 /// Bytes of a file that lists paths.
 pub const LIST_BYTES: u32 = 4_194_304;
 
-/// The paths that a file lists, one a line, in its order: lines end with LF or CR LF, and empty ones count for nothing. They are parts of the
-/// file, and may be none of any node, as one that isn't UTF-8.
+/// The paths that a file lists, one a line, in its order: lines end with LF or CR LF, and empty
+/// ones count for nothing. They are parts of the file, and may be none of any node, as one that
+/// isn't UTF-8.
 pub fn listed<'a>(alloc: Global, file: &'a [u8]) -> Result<Vec<&'a [u8]>, AllocError>
     ensures { IfOk result (λ v. texts_of v.items ≡ listed file.now) }
 {

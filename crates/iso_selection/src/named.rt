@@ -17,7 +17,8 @@ use iso_plan::overview::Overview;
 use std::alloc::{AllocError, Global};
 use std::collections::BTreeSet;
 
-/// Whether each node is named by what is asked for. The first thing that names no node is `NotSelected`.
+/// Whether each node is named by what is asked for. The first thing that names no node is
+/// `NotSelected`.
 pub(crate) fn named(
     alloc: Global,
     nodes: &Overview,

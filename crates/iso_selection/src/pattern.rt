@@ -5,10 +5,11 @@ ghost use Rattle.iso_selection.specs.Patterns.{is_match, some_end};
 /// The byte of a pattern that stands for any bytes.
 const STAR: u8 = b'*';
 
-/// Whether a pattern takes in a text, from its first byte to its last: `*` stands for any bytes, each other byte for itself.
+/// Whether a pattern takes in a text, from its first byte to its last: `*` stands for any bytes,
+/// each other byte for itself.
 ///
-/// It goes on after each star with the first end of the text that fits, and looks at no byte of the text more often than the
-/// pattern has bytes. Takes no memory.
+/// It goes on after each star with the first end of the text that fits, and looks at no byte of the
+/// text more often than the pattern has bytes. Takes no memory.
 pub fn is_match(pattern: &[u8], text: &[u8]) -> bool
     ensures { result ≡ is_match pattern.now text.now }
 {
@@ -23,8 +24,8 @@ pub fn is_match(pattern: &[u8], text: &[u8]) -> bool
     pattern.len() == text.len()
 }
 
-/// Whether a pattern takes in some end of a text. A star that is met goes on from there: whatever an earlier one would still take in, it
-/// takes in too.
+/// Whether a pattern takes in some end of a text. A star that is met goes on from there: whatever
+/// an earlier one would still take in, it takes in too.
 fn has_end(pattern: &[u8], text: &[u8]) -> bool
     ensures { result ≡ some_end (is_match pattern.now) text.now }
 {

@@ -28,13 +28,15 @@ pub enum Picked {
     These(Vec<Text>),
 }
 
-/// What is kept of scripts of what is asked for: the nodes that it names, of all nodes of all scripts, and of their top-level classes those of
-/// the shard. Where nothing is asked for, all top-level classes are named. The paths are in the nodes' order, each node's once.
+/// What is kept of scripts of what is asked for: the nodes that it names, of all nodes of all
+/// scripts, and of their top-level classes those of the shard. Where nothing is asked for, all
+/// top-level classes are named. The paths are in the nodes' order, each node's once.
 ///
-/// More than 64 scripts are `TooManyScripts`; two top-level classes of one team and name `DoubleClass`; a path or a pattern that names
-/// no node, whichever shard is asked for, `NotSelected`, of the first such in the order in which they are asked for. They are tested in
-/// this order. Where neither a path or a pattern nor a shard is asked for, the scripts aren't looked at. Want of memory may be answered
-/// at each growth.
+/// More than 64 scripts are `TooManyScripts`; two top-level classes of one team and name
+/// `DoubleClass`; a path or a pattern that names no node, whichever shard is asked for,
+/// `NotSelected`, of the first such in the order in which they are asked for. They are tested in
+/// this order. Where neither a path or a pattern nor a shard is asked for, the scripts aren't
+/// looked at. Out of memory may be answered at each growth.
 pub fn pick(
     alloc: Global,
     scripts: &[Script],

@@ -17,13 +17,15 @@ use iso_plan::plan::{Plan, build, build_only};
 use iso_settings::settings::Settings;
 use std::alloc::{AllocError, Global};
 
-/// The plan of what is kept of scripts, under settings: of what is asked for, and of its top-level classes those of the shard. Where
-/// nothing is asked for, all are kept; where nothing is left, the root alone.
+/// The plan of what is kept of scripts, under settings: of what is asked for, and of its top-level
+/// classes those of the shard. Where nothing is asked for, all are kept; where nothing is left, the
+/// root alone.
 ///
-/// More than 64 scripts are `TooManyScripts`; two top-level classes of one team and name `DoubleClass`; a path or a pattern that names
-/// no node, whichever shard is asked for, `NotSelected`, of the first such in the order in which they are asked for; more than 4,096 kept
-/// nodes, the root among them, `TooManyNodes`; more than 255 different keys that are declared on them `TooManyKeys`. They are tested in
-/// this order. Want of memory may be answered at each growth.
+/// More than 64 scripts are `TooManyScripts`; two top-level classes of one team and name
+/// `DoubleClass`; a path or a pattern that names no node, whichever shard is asked for,
+/// `NotSelected`, of the first such in the order in which they are asked for; more than 4,096 kept
+/// nodes, the root among them, `TooManyNodes`; more than 255 different keys that are declared on
+/// them `TooManyKeys`. They are tested in this order. Out of memory may be answered at each growth.
 pub fn build_picked(
     alloc: Global,
     scripts: &[Script],

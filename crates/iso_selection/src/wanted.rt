@@ -17,8 +17,8 @@ pub enum Wanted<'a> {
     Pattern(&'a [u8]),
 }
 
-/// All that is asked for: these paths, then these patterns, then the paths that a file lists. Where there is none of these, nothing is; a file
-/// that lists no path asks for no node.
+/// All that is asked for: these paths, then these patterns, then the paths that a file lists. Where
+/// there is none of these, nothing is; a file that lists no path asks for no node.
 pub fn all_wanted<'a>(
     alloc: Global,
     only: &[&'a str],

@@ -1,5 +1,5 @@
--- A tray alone, beside the nodes on one path: which of their values it has, and which opening left what it holds.
--- Nothing here speaks of vault, results or frames.
+-- A tray alone, beside the nodes on one path: which of their values it has, and which opening left
+-- what it holds. Nothing here speaks of vault, results or frames.
 use Rattle.std.specs.Prelude.{◌≡◌, ℕ, List, Bool, true, false, length, is_some}
 use Rattle.iso_lifecycle.specs.Subjects.{opening_of, rights_of_subject, subject}
 use Rattle.iso_lifecycle.specs.WholeBodies.{IsAfterBody}
@@ -49,18 +49,20 @@ IsAsOpenedApart plan world p n t =
     (k : List ℕ) → is_writable (rights_of_subject (subject plan world n) k) ≡ false → is_some (held plan world t k) ≡ true
     → held plan world t k ≡ (opening_of (subject plan world p)).resources k
 
--- a tray has what the nodes on the path of n take for READ_WRITE, and all stands as the opening of p has left it: of n, or of its parent
+-- a tray has what the nodes on the path of n take for READ_WRITE, and all stands as the opening of
+-- p has left it: of n, or of its parent
 pub record StandsAsOpened (plan : Planned) (world : Start) (n p : ℕ) (t : TrayView) : Type 0 where
   pub holds : HoldsAlong plan world n t
   pub values : IsAsOpened plan world p t
 
--- a tray has what the nodes on the path of n take for READ_WRITE, and what n may not change stands as its parent's opening has left it
+-- a tray has what the nodes on the path of n take for READ_WRITE, and what n may not change stands
+-- as its parent's opening has left it
 pub record StandsApart (plan : Planned) (world : Start) (n : ℕ) (t : TrayView) : Type 0 where
   pub holds : HoldsAlong plan world n t
   pub values : IsAsOpenedApart plan world (parent (tree_of plan) n) n t
 
--- a tray before and after a whole body of a node: but for its frames, its values alone were changed, and stand as the
--- body leaves them
+-- a tray before and after a whole body of a node: but for its frames, its values alone were
+-- changed, and stand as the body leaves them
 pub record IsTrayAfter (plan : Planned) (world : Start) (kind : BodyKind) (n : ℕ) (old new : TrayView) : Type 0 where
   pub plan_is : new.plan ≡ old.plan
   pub world_is : new.world ≡ old.world

@@ -1,4 +1,5 @@
--- A run depth first: how its vault, its tray and its results stand between two nodes, and at a node's entry and exit.
+-- A run depth first: how its vault, its tray and its results stand between two nodes, and at a
+-- node's entry and exit.
 use Rattle.std.specs.Prelude.{◌≡◌, ℕ, ◌<◌, List, Bool, true, false, length, slice_index_or}
 use Rattle.iso_lifecycle.specs.ResultViews.{AreOpen, AreOpened, CanPut, ResultsView, has_result, is_ended, is_opened}
 use Rattle.iso_lifecycle.specs.Subjects.{opening_of, subject}
@@ -22,16 +23,17 @@ pub record AreAwayAlong (plan : Planned) (p : ℕ) (home : List Bool) : Type 0 w
   pub away : (i : ℕ) → IsWrittenOn (tree_of plan) p i → is_home home i ≡ false
   pub only : (i : ℕ) → i < length (keys (tree_of plan)) → is_home home i ≡ false → IsWrittenOn (tree_of plan) p i
 
--- exactly the nodes on the path of p are lent from a vault, and what they take for READ_WRITE is away
+-- exactly the nodes on the path of p are lent from a vault, and what they take for READ_WRITE is
+-- away
 pub record IsLentAlong (plan : Planned) (world : Start) (p : ℕ) (v : VaultView) : Type 0 where
   pub plan_is : v.plan ≡ plan
   pub world_is : v.world ≡ world
   pub lent : AreLentAlong plan p v.lent
   pub home : AreAwayAlong plan p v.home
 
--- The results while the nodes on the path of p are under way: their `before_all`s were put and not their ends, the
--- classes that p stands in were opened well, each other opened class has ended, and what stands in an ended class has a
--- result.
+-- The results while the nodes on the path of p are under way: their `before_all`s were put and not
+-- their ends, the classes that p stands in were opened well, each other opened class has ended, and
+-- what stands in an ended class has a result.
 pub record AreResultsAlong (plan : Planned) (world : Start) (p : ℕ) (v : ResultsView) : Type 0 where
   pub plan_is : v.plan ≡ plan
   pub start_is : v.start ≡ world
@@ -49,7 +51,8 @@ pub record IsEntered (plan : Planned) (world : Start) (p : ℕ) : Type 0 where
   pub within : p < length plan.rows
   pub well : (opening_of (subject plan world (parent (tree_of plan) p))).well ≡ true
 
--- between two nodes that stand directly in p: the nodes on p's path are lent, and all stands as p's opening has left it
+-- between two nodes that stand directly in p: the nodes on p's path are lent, and all stands as p's
+-- opening has left it
 pub record BetweenNodes (plan : Planned) (world : Start) (p : ℕ) (w : Walk) : Type 0 where
   pub entered : IsEntered plan world p
   pub vault : IsLentAlong plan world p w.vault
@@ -77,19 +80,21 @@ pub record AtExit (plan : Planned) (world : Start) (n : ℕ) (w : Walk) : Type 0
   pub results : AreResultsAlong plan world (parent (tree_of plan) n) w.results
   pub done : has_result w.results n ≡ true
 
--- from one state of a run to a later one: values in the tray were only changed further, and each result stays
+-- from one state of a run to a later one: values in the tray were only changed further, and each
+-- result stays
 pub record GoesFurther (old new : Walk) : Type 0 where
   pub tray : GoesOn old.tray new.tray
   pub results : (m : ℕ) → has_result old.results m ≡ true → has_result new.results m ≡ true
 
--- the innermost class whose frame a body of n begins with: the one that n stands in, and for an `after_all` n itself
+-- the innermost class whose frame a body of n begins with: the one that n stands in, and for an
+-- `after_all` n itself
 abbrev pub innermost : List Row → BodyKind → ℕ → ℕ
 innermost tree BeforeAll n = parent tree n
 innermost tree Test n = parent tree n
 innermost tree AfterAll n = n
 
--- a body of n can be done: the frames that it begins with are there, its keys stand as the openings before it left them,
--- and its end can be put
+-- a body of n can be done: the frames that it begins with are there, its keys stand as the openings
+-- before it left them, and its end can be put
 pub record CanPerform (plan : Planned) (world : Start) (kind : BodyKind) (n : ℕ) (w : Walk) : Type 0 where
   pub tray : w.tray.plan ≡ plan
   pub opened : AreOpened w.results (path (tree_of plan) (innermost (tree_of plan) kind n))

@@ -22,8 +22,8 @@ use iso_settings::world::World;
 use std::alloc::{AllocError, Global};
 use std::snapshot::Snapshot;
 
-/// Runs every class and test of a plan on one thread, depth first, and answers their results: that of each node
-/// is the one of the node run alone. Want of memory is the only error.
+/// Runs every class and test of a plan on one thread, depth first, and answers their results: that
+/// of each node is the one of the node run alone. Out of memory is the only error.
 pub fn run<'a>(alloc: Global, plan: &'a Plan, world: &'a World) -> Result<Results<'a>, AllocError>
     ensures plan { IfOk result (λ r. r.plan ≡ plan.now) }
     ensures start { IfOk result (λ r. r.start ≡ world.now) }
@@ -32,7 +32,8 @@ pub fn run<'a>(alloc: Global, plan: &'a Plan, world: &'a World) -> Result<Result
     run_at(alloc, plan, world, &OpenGate)
 }
 
-/// The same run at a gate, which is told of each body and met before its first step and after each, as by worker 0.
+/// The same run at a gate, which is told of each body and met before its first step and after each,
+/// as by worker 0.
 pub fn run_at<'a, G: Gate>(
     alloc: Global,
     plan: &'a Plan,
@@ -65,7 +66,8 @@ pub struct Serial<'g, 'a, G> {
     pub gate: &'g G,
 }
 
-/// How far a run is: where the values are, and the results so far. After want of memory it is only dropped.
+/// How far a run is: where the values are, and the results so far. After running out of memory it
+/// is only dropped.
 #[derive(Drop)]
 pub struct Walk<'a> {
     pub vault: Vault<'a>,
@@ -89,7 +91,8 @@ impl<'g, 'a, G: Gate> Serial<'g, 'a, G> {
         })
     }
 
-    /// A whole run: every class and test, depth first. At its end every value is home, and the tray has none.
+    /// A whole run: every class and test, depth first. At its end every value is home, and the tray
+    /// has none.
     pub fn to_end(&self) -> Result<Walk<'a>, AllocError>
         ensures vault { IfOk result (λ w. w.vault ≡ whole_vault self.now.plan.now self.now.world.now) }
         ensures lent { IfOk result (λ w. (n : ℕ) → is_lent w.tray.lent n ≡ false) }
@@ -103,8 +106,8 @@ impl<'g, 'a, G: Gate> Serial<'g, 'a, G> {
         Ok(walk)
     }
 
-    /// Runs what stands directly in a class that was opened, or in the root. Of a class whose `before_all` didn't end
-    /// well each such node has its result, and isn't entered.
+    /// Runs what stands directly in a class that was opened, or in the root. Of a class whose
+    /// `before_all` didn't end well each such node has its result, and isn't entered.
     #[cycle(depth)]
     fn children(&self, walk: &mut Walk<'a>, class: u32) -> Result<(), AllocError>
         requires { BetweenNodes self.now.plan.now self.now.world.now class walk.old }
@@ -120,9 +123,10 @@ impl<'g, 'a, G: Gate> Serial<'g, 'a, G> {
         Ok(())
     }
 
-    /// Runs a node that has no result, between two nodes of the root or of a class that was opened: lends it, does its bodies and
-    /// what stands in it, lets the values that it may change stand as they stood, and takes it back. Then the vault is as it was, and
-    /// what the tray holds stands as the opening of that class left it again, for the next node to begin on.
+    /// Runs a node that has no result, between two nodes of the root or of a class that was opened:
+    /// lends it, does its bodies and what stands in it, lets the values that it may change stand as
+    /// they stood, and takes it back. Then the vault is as it was, and what the tray holds stands
+    /// as the opening of that class left it again, for the next node to begin on.
     #[cycle(depth)]
     pub fn node(&self, walk: &mut Walk<'a>, node: u32) -> Result<(), AllocError>
         requires positive { 0 < node }
@@ -201,8 +205,8 @@ impl<'g, 'a, G: Gate> Serial<'g, 'a, G> {
         self.perform(walk, node, BodyKind::AfterAll)
     }
 
-    /// Runs a body of a node, with the frames of the classes around it, and puts what it came to. The worker meets its gate before the
-    /// first step and after each.
+    /// Runs a body of a node, with the frames of the classes around it, and puts what it came to.
+    /// The worker meets its gate before the first step and after each.
     fn perform(&self, walk: &mut Walk<'a>, node: u32, kind: BodyKind) -> Result<(), AllocError>
         requires { CanPerform self.now.plan.now self.now.world.now kind node walk.old }
         ensures vault { walk.new.vault ≡ walk.old.vault }

@@ -1,4 +1,5 @@
--- The words of example documents. What each is read as is stated, and proved, in the source module `examples`.
+-- The words of example documents. What each is read as is stated, and proved, in the source module
+-- `examples`.
 use Prim.Native.String.{String}
 use Rattle.std.specs.Prelude.{◌≡◌, ℕ, pos, true, false, List, [], ◌∷◌, codes, Option, Some, None, Ok, Err}
 use Rattle.std.specs.FinMap.{get}

@@ -1,4 +1,5 @@
--- The leaves of a TOML table: its values that are no tables, each under the path of its keys joined by dots.
+-- The leaves of a TOML table: its values that are no tables, each under the path of its keys joined
+-- by dots.
 use Rattle.std.specs.Prelude.{◌≡◌, ◌≤◌, ℕ, List, [], ◌∷◌, ◌++◌, cond, bytes_eq, codes, length}
 use Rattle.toml.specs.Data.{Data, table, Members, no_members, member}
 use Rattle.toml.specs.View.{view}
@@ -9,7 +10,8 @@ use Rattle.iso_settings.specs.declared.find.Found.TheVariants.{Nothing, One, Sev
 abbrev pub Leaf : Type 0
 Leaf = List ℕ × Data
 
--- the leaves of what stands at a key, and of a table whose keys are put behind a path; both in the table's order, depth first
+-- the leaves of what stands at a key, and of a table whose keys are put behind a path; both in the
+-- table's order, depth first
 abbrev mutual
   pub leaves_at : List ℕ → Data → List Leaf
   leaves_at key (table members) = leaves_behind (key ++ codes ".") members

@@ -19,7 +19,8 @@ abbrev pub IsFault : SettingsFault → SettingsError → Type 0
 IsFault fault (Fault answered) = answered ≡ fault
 IsFault fault OutOfMemory = Unit {0}
 
--- A result is a reading, unless memory ran out. By `seen` the result's value is seen as the reading's.
+-- A result is a reading, unless memory ran out. By `seen` the result's value is seen as the
+-- reading's.
 abbrev pub GivesAs : {A B : Type 0} → (seen : A → B) → Reading B → Result A SettingsError → Type 0
 GivesAs seen reading (Ok x) = reading ≡ Ok (seen x)
 GivesAs seen reading (Err (Fault fault)) = reading ≡ Err fault

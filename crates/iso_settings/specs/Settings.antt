@@ -1,5 +1,5 @@
--- Settings of a run, as a function of a TOML table. The keys and their values are JUnit 5's configuration parameters
--- (User Guide, parallel execution and test instance lifecycle).
+-- Settings of a run, as a function of a TOML table. The keys and their values are JUnit 5's
+-- configuration parameters (User Guide, parallel execution and test instance lifecycle).
 use Prim.Native.String.{String}
 use Rattle.std.specs.Prelude.{ℕ, ◌*◌, ℤ, pos, negsuc, Bool, true, false, ◌&&◌, nat_le, min, if◌then◌else◌, List, [], ◌∷◌, ◌++◌, codes, length, Option, Some, None, unwrap_or, Ok, Err}
 use Rattle.std.specs.Str.{str_eq_ignore_ascii_case, all_ascii_digits}
@@ -72,7 +72,8 @@ abbrev pub lifecycle : Rule (Unit {0})
 lifecycle key (string text) = if is_word text "per_method" then Ok tt else Err (Unsupported key)
 lifecycle key _ = Err (WrongValue key)
 
--- The only value at a key, if there is one. A key that two spellings reach is a wrong value, whatever its values are.
+-- The only value at a key, if there is one. A key that two spellings reach is a wrong value,
+-- whatever its values are.
 abbrev pub only_value : List ℕ → List Data → Reading (Option Data)
 only_value key [] = Ok None
 only_value key (value ∷ []) = Ok (Some value)
@@ -87,8 +88,8 @@ read rule key (Some value) = rule key value >>= (λ x. Ok (Some x))
 abbrev pub setting : {A : Type 0} → Rule A → List Leaf → List ℕ → Reading (Option A)
 setting rule all key = only_value key (values_at key all) >>= read rule key
 
--- The number of workers: one where parallel execution is off. The dynamic strategy gives the processors times the
--- factor, at most 64, the fixed one its parallelism.
+-- The number of workers: one where parallel execution is off. The dynamic strategy gives the
+-- processors times the factor, at most 64, the fixed one its parallelism.
 abbrev pub workers : (is_parallel : Bool) → (chosen : Strategy) → (factor : ℕ) → (parallelism : Option ℕ)
     → (processors : ℕ) → Reading ℕ
 workers false chosen factor parallelism processors = Ok 1

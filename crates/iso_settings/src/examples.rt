@@ -30,7 +30,8 @@ pub fn classes_take_the_default_mode()
         ≡ Ok (record { parallel = false; default_mode = Concurrent; classes_default_mode = SameThread; worker_count = 1 }) }
 {}
 
-/// The dynamic strategy multiplies, up to 64. The fixed one does not, and needs its number only where it counts.
+/// The dynamic strategy multiplies, up to 64. The fixed one does not, and needs its number only
+/// where it counts.
 pub fn strategies_choose_workers()
     ensures default { workers_in (enabled yes ∷ []) 3 ≡ Ok 3 }
     ensures dynamic { workers_in (enabled yes ∷ factor (number 2) ∷ []) 31 ≡ Ok 62 }
@@ -85,7 +86,8 @@ pub fn refused_values_have_their_fault()
         ≡ Err (OutOfRange (jupiter "execution.parallel.config.dynamic.factor")) }
 {}
 
-/// The first fault by the order of keys is answered, wherever they stand in the table. Unused keys count too.
+/// The first fault by the order of keys is answered, wherever they stand in the table. Unused keys
+/// count too.
 pub fn first_fault_of_settings_is_answered()
     ensures order { workers_in (parallelism (number 65) ∷ strategy (text "custom") ∷ enabled (text "on") ∷ []) 1
         ≡ Err (WrongValue (jupiter "execution.parallel.enabled")) }
@@ -93,7 +95,8 @@ pub fn first_fault_of_settings_is_answered()
         ≡ Err (OutOfRange (jupiter "execution.parallel.config.dynamic.factor")) }
 {}
 
-/// Of two keys that stand next to each other in this order, the first has the fault that is answered.
+/// Of two keys that stand next to each other in this order, the first has the fault that is
+/// answered.
 pub fn keys_of_settings_are_read_in_their_order()
     ensures on { ComesFirst "execution.parallel.enabled" "execution.parallel.mode.default" }
     ensures modes { ComesFirst "execution.parallel.mode.default" "execution.parallel.mode.classes.default" }
@@ -105,7 +108,8 @@ pub fn keys_of_settings_are_read_in_their_order()
         ≡ Err (WrongValue (jupiter "testinstance.lifecycle.default")) }
 {}
 
-/// Keys of tables are joined by dots. A key that two spellings reach is wrong, whatever stands there. A table is no value.
+/// Keys of tables are joined by dots. A key that two spellings reach is wrong, whatever stands
+/// there. A table is no value.
 pub fn joined_keys_of_settings_are_unique()
     ensures nested { workers_in (at "junit" (inner (at "jupiter.execution" (inner (at "parallel" (inner (at "enabled" yes ∷ [])) ∷ [])) ∷ [])) ∷ []) 5
         ≡ Ok 5 }
@@ -121,7 +125,8 @@ pub fn empty_world_starts_as_the_language_says()
     ensures starts { (key : List ℕ) → starting_value_in empty_start key ≡ starting_value key }
 {}
 
-/// A leaf of `files` is a file at its joined key, one of `properties` a property, and the locale is a text.
+/// A leaf of `files` is a file at its joined key, one of `properties` a property, and the locale is
+/// a text.
 #[tactic(auto, using(crate::proofs::ExampleLemmas::files))]
 pub fn worlds_give_starting_values()
     ensures file { file_in (files (at "a" (inner (at "b" (text "t") ∷ [])) ∷ []) ∷ []) "a.b"

@@ -3,13 +3,15 @@ use std::alloc::{AllocError, AllocFailed, Global};
 use std::fmt;
 use thiserror::Error;
 
-/// What is wrong with settings or with a world. A fault shows as its kind, and its key if it has one.
+/// What is wrong with settings or with a world. A fault shows as its kind, and its key if it has
+/// one.
 #[derive(Drop, Error)]
 pub enum SettingsFault {
     /// The text is no TOML document.
     #[error("NotToml")]
     NotToml,
-    /// The value at this key is of another kind or text than the key takes, or the key is reached by two spellings.
+    /// The value at this key is of another kind or text than the key takes, or the key is reached
+    /// by two spellings.
     #[error("WrongValue {}", .0.as_str())]
     WrongValue(Text),
     /// The value at this key is one of JUnit's that is left out here.
@@ -18,7 +20,8 @@ pub enum SettingsFault {
     /// Parallel execution is on and the strategy is fixed, but no parallelism is given.
     #[error("MissingParallelism")]
     MissingParallelism,
-    /// The number at this key is below 1 or above 64, or the text at it or the key itself is too long.
+    /// The number at this key is below 1 or above 64, or the text at it or the key itself is too
+    /// long.
     #[error("OutOfRange {}", .0.as_str())]
     OutOfRange(Text),
 }

@@ -1,5 +1,5 @@
-//! Leaves of a table by their joined keys. A look-up goes once over the members of the tables on the way, and
-//! down no further than the key has dots.
+//! Leaves of a table by their joined keys. A look-up goes once over the members of the tables on
+//! the way, and down no further than the key has dots.
 ghost use Rattle.std.specs.Prelude.{List, [], ◌++◌};
 ghost use Rattle.toml.specs.Data.{Data};
 ghost use Rattle.toml.specs.View.{table_view, view};

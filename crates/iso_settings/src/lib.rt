@@ -1,5 +1,5 @@
-//! What steers a run: settings by JUnit 5's configuration parameters, and the values that resources start with.
-//! Both are TOML.
+//! What steers a run: settings by JUnit 5's configuration parameters, and the values that resources
+//! start with. Both are TOML.
 #![tactic(auto)]
 
 pub mod examples;

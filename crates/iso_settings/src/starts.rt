@@ -157,7 +157,8 @@ impl PropertiesStart {
     }
 }
 
-/// The starting values of the files that are there, by their paths. Contracts see the texts by the paths.
+/// The starting values of the files that are there, by their paths. Contracts see the texts by the
+/// paths.
 #[derive(Drop)]
 pub(crate) struct FileStarts {
     entries: BTreeMap<String, FileStart>,
@@ -191,7 +192,8 @@ impl FileStarts {
         self.entries.get(path)
     }
 
-    /// Puts a starting value at a path, in place of the one there. After want of memory they are of no use.
+    /// Puts a starting value at a path, in place of the one there. After running out of memory they
+    /// are of no use.
     pub fn put(&mut self, path: String, start: FileStart) -> Result<(), AllocError>
         ensures { OnOk result (self.new ≡ map.insert self.old (string_bytes path) start) }
     {
@@ -199,8 +201,8 @@ impl FileStarts {
         Ok(())
     }
 
-    /// Whether both have the same files, with the same texts. Looks up each path of both in the other at most once,
-    /// and takes no memory.
+    /// Whether both have the same files, with the same texts. Looks up each path of both in the
+    /// other at most once, and takes no memory.
     pub fn same(&self, other: &FileStarts) -> bool
         ensures { IsTrue result ↔ (self.now ≡ other.now) }
     {

@@ -9,7 +9,8 @@ use std::alloc::{AllocError, Global};
 use std::collections::BTreeMap;
 use std::marker::Model;
 
-/// The texts of a table by their joined keys, of which properties or the starting values of files are made.
+/// The texts of a table by their joined keys, of which properties or the starting values of files
+/// are made.
 #[derive(Drop)]
 pub(crate) struct Texts {
     entries: BTreeMap<String, Text>,
@@ -43,7 +44,8 @@ impl Texts {
         self.entries.get(key)
     }
 
-    /// Puts a text at a key, in place of the one there. After want of memory they are of no use.
+    /// Puts a text at a key, in place of the one there. After running out of memory they are of no
+    /// use.
     pub fn set(&mut self, key: String, text: Text) -> Result<(), AllocError>
         ensures { OnOk result (self.new ≡ map.insert self.old (string_bytes key) text) }
     {

@@ -117,9 +117,10 @@ impl World {
         }
     }
 
-    /// The value that a key starts with, as `copy` gives it, but shared: a value that the world names stands in memory
-    /// once, however many look at it. A file that the world doesn't name and a key without a value get an `Arc` of their
-    /// own. Refused where memory is wanting, or where `Arc` refuses a further owner.
+    /// The value that a key starts with, as `copy` gives it, but shared: a value that the world
+    /// names stands in memory once, however many look at it. A file that the world doesn't name and
+    /// a key without a value get an `Arc` of their own. Refused where memory is wanting, or where
+    /// `Arc` refuses a further owner.
     pub fn share(&self, alloc: Global, key: &Key) -> Result<Arc<Resource>, AllocError>
         ensures { IfOk result (λ value. arc_value value ≡ starting_value_in self.now key.now) }
     {
@@ -138,8 +139,9 @@ impl World {
         }
     }
 
-    /// Whether two worlds say the same: every key starts with the same value, however they were written. Takes no
-    /// memory. It goes over both worlds, so a caller who knows the answer otherwise needn't ask under a lock.
+    /// Whether two worlds say the same: every key starts with the same value, however they were
+    /// written. Takes no memory. It goes over both worlds, so a caller who knows the answer
+    /// otherwise needn't ask under a lock.
     pub fn same(&self, other: &World) -> bool
         ensures { IsTrue result ↔ (self.now ≡ other.now) }
     {
@@ -198,7 +200,8 @@ fn table_of(alloc: Global, top: &str, value: &Value) -> Result<Texts, SettingsEr
     }
 }
 
-/// Adds the texts of a table, whose keys are put behind a path. After an error path and texts are of no use.
+/// Adds the texts of a table, whose keys are put behind a path. After an error path and texts are
+/// of no use.
 #[cycle(texts)]
 fn add_texts(
     alloc: Global,
@@ -245,7 +248,8 @@ fn add_value(
     }
 }
 
-/// Adds the text of a leaf. Tables nest up to some 6,500 deep, so what a leaf needs is kept out of the walk's frames.
+/// Adds the text of a leaf. Tables nest up to some 6,500 deep, so what a leaf needs is kept out of
+/// the walk's frames.
 #[inline(never)]
 fn add_text(
     alloc: Global,

@@ -1,4 +1,5 @@
--- Which event of a run an event of the program stands for, whose it is, and what a refusal stands for.
+-- Which event of a run an event of the program stands for, whose it is, and what a refusal stands
+-- for.
 use Rattle.std.specs.Prelude.{ℕ, List, map}
 use Rattle.iso_isolation.specs.Events as I
 use Rattle.iso_isolation.specs.Refusals as Why

@@ -1,4 +1,5 @@
--- How many of each node's first children are passed: the search for a child that is due goes on after them.
+-- How many of each node's first children are passed: the search for a child that is due goes on
+-- after them.
 use Rattle.std.specs.Prelude.{◌≡◌, ℕ, ◌<◌, ◌≤◌, List, Bool, false, ◌&&◌, not, length, slice_index_or}
 use Rattle.iso_standing.specs.Phases.{bare}
 use Rattle.iso_standing.specs.declared.phase.Phase.{Phase}

@@ -12,8 +12,8 @@ use Rattle.iso_plan.specs.RowView.{tree_of}
 use Rattle.iso_settings.specs.Worlds.{Start}
 use Rattle.iso_standing.specs.UnderWay.{is_after_all}
 
--- What was put are the `before_all`s of the classes that were left, and the last bodies of nodes that are finished; and just the
--- nodes that are finished have results.
+-- What was put are the `before_all`s of the classes that were left, and the last bodies of nodes
+-- that are finished; and just the nodes that are finished have results.
 pub record AreResultsOf (r : ResultsView) (s : RunNodes) : Type 0 where
   pub opened_fit : length r.opened ≡ length r.plan.rows
   pub ended_fit : length r.ended ≡ length r.plan.rows
@@ -22,7 +22,8 @@ pub record AreResultsOf (r : ResultsView) (s : RunNodes) : Type 0 where
   pub unended : (n : ℕ) → is_finished (s.status n) ≡ false → is_ended r n ≡ false
   pub finished : (n : ℕ) → 0 < n → n < length r.plan.rows → has_result r n ≡ is_finished (s.status n)
 
--- A body of a kind is under way at a node of a state that a run leads to, and these are the results of that state.
+-- A body of a kind is under way at a node of a state that a run leads to, and these are the results
+-- of that state.
 pub record AtLeave (plan : Planned) (world : Start) (r : ResultsView) (s : RunState) (n : ℕ) (b : Stage) (kind : BodyKind) : Type 0 where
   pub reached : IsReached plan world s
   pub results : AreResultsOf r s.nodes

@@ -28,7 +28,8 @@ use Rattle.iso_plan.specs.contracts.plan.Plan as plan
 use Rattle.iso_standing.specs.declared.event.Event.{Event as Taken}
 use Rattle.iso_standing.specs.declared.event.Event.TheVariants as Code
 
--- the plan; by node, its phase and its owner; by worker, the node of its body, if it has one; and whether the run was stopped
+-- the plan; by node, its phase and its owner; by worker, the node of its body, if it has one; and
+-- whether the run was stopped
 pub record Standing : Type 0 where
   pub plan : Planned
   pub phases : List Phase
@@ -120,14 +121,15 @@ pub record OfSame (v u : Standing) : Type 0 where
   pub plan : u.plan ≡ v.plan
   pub workers : workers_in u ≡ workers_in v
 
--- whether the body with which a worker's node was entered has ended well, where that is a `before_all`
+-- whether the body with which a worker's node was entered has ended well, where that is a
+-- `before_all`
 abbrev pub EndsWellAs : Standing → RunState → ℕ → Bool → Type 0
 EndsWellAs v s w well =
     (start : Resources) (n : ℕ) (b : Stage) → s.busy w ≡ Some n → s.nodes.status n ≡ Begun b → is_of_test ((suite_in v start).head n) ≡ false
     → ended_well scripts (suite_in v start) n b s.nodes ≡ well
 
--- What an event asks to be told of its worker's body: a Step and a Leave whether it has ended, a Leave that is taken whether it has
--- ended well. An Enter and a Shut ask nothing.
+-- What an event asks to be told of its worker's body: a Step and a Leave whether it has ended, a
+-- Leave that is taken whether it has ended well. An Enter and a Shut ask nothing.
 abbrev pub TellsEnd : Standing → RunState → Taken → Bool → Type 0
 TellsEnd v s (Code.Enter worker node) has_ended = Unit {0}
 TellsEnd v s (Code.Step worker) has_ended = EndsAs v s worker has_ended
@@ -167,7 +169,8 @@ pub record HasBody (v : Standing) (w : ℕ) : Type 0 where
   pub worker : w < workers_in v
   pub body : has_body_at v w ≡ true
 
--- what an event that is accepted is about: a worker and a node but the root, or a worker that has a body
+-- what an event that is accepted is about: a worker and a node but the root, or a worker that has a
+-- body
 abbrev pub CanTake : Standing → Taken → Type 0
 CanTake v (Code.Enter worker node) = Fits v worker node
 CanTake v (Code.Step worker) = HasBody v worker

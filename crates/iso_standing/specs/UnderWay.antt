@@ -34,7 +34,8 @@ pub record HasUnderWay (plan : Planned) (world : Start) (n : ℕ) (o : Option Bo
   pub there : o ≡ Some body
   pub is : IsUnderWay plan world n body s
 
--- each worker that has a node has the body under way there, no other worker has a body, and no two have one node
+-- each worker that has a node has the body under way there, no other worker has a body, and no two
+-- have one node
 pub record AreBodiesOf (plan : Planned) (world : Start) (bodies : List (Option Body)) (s : RunState) : Type 0 where
   pub free : (w : ℕ) → w < length bodies → s.busy w ≡ None → body_at bodies w ≡ None
   pub at : (w n : ℕ) → w < length bodies → s.busy w ≡ Some n → HasUnderWay plan world n (body_at bodies w) s.nodes

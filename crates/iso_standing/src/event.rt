@@ -1,4 +1,5 @@
-/// An event of a run: what one worker does next. Workers count from 0, and so do nodes: node 0 is the root of the plan.
+/// An event of a run: what one worker does next. Workers count from 0, and so do nodes: node 0 is
+/// the root of the plan.
 #[derive(Clone, Copy, Debug, PartialEq, Eq)]
 pub enum Event {
     /// The worker begins the node's first body: a test, or the `before_all` of a class.

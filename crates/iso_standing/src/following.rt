@@ -1,4 +1,5 @@
-//! How the results and the bodies of a core follow the events of a run. Each function does nothing: its contract is the law, and is proved.
+//! How the results and the bodies of a core follow the events of a run. Each function does nothing:
+//! its contract is the law, and is proved.
 ghost use Rattle.std.specs.Prelude.{◌≡◌, ◌<◌, ℕ, List, Option, None, Some, false, length, not, replicate, slice_set, true};
 ghost use Rattle.iso_standing.specs.ResultStates.{AreResultsOf, AtLeave};
 ghost use Rattle.iso_suites.specs.ScriptLanguage.{scripts};
@@ -33,8 +34,8 @@ pub fn results_follow_nodes(plan: &Plan)
         → AreResultsOf r (E.shutting scripts (suite_at plan.now world) n s) }
 {}
 
-/// How results follow a Leave: what the body came to may be put, and then they are those of the state after it. And of which nodes
-/// there are results.
+/// How results follow a Leave: what the body came to may be put, and then they are those of the
+/// state after it. And of which nodes there are results.
 pub fn results_follow_leaves(plan: &Plan)
     ensures put { (world : Start) (r : ResultsView) (s : RunState) (n : ℕ) (b : Stage) (kind : Kind)
         → AtLeave plan.now world r s n b kind → CanPut (record { subject = subject plan.now world n; kind = kind }) r }
@@ -67,7 +68,8 @@ pub fn bodies_follow_events(plan: &Plan)
         → AreBodiesOf plan.now world (slice_set bodies w (Some b)) (E.after scripts (suite_at plan.now world) s (E.Shut w n)) }
 {}
 
-/// Where bodies begin in a state that a run leads to, and that they stand where so many steps of them alone have left them.
+/// Where bodies begin in a state that a run leads to, and that they stand where so many steps of
+/// them alone have left them.
 pub fn bodies_stand_as_alone(plan: &Plan)
     ensures stands { (world : Start) (bodies : List (Option Under)) (s : RunState) (w n : ℕ) (b : Under) → IsReached plan.now world s → AreBodiesOf plan.now world bodies s
         → w < length bodies → s.busy w ≡ Some n → body_at bodies w ≡ Some b → Stands b s.nodes.flat }

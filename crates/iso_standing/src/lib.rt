@@ -1,4 +1,5 @@
-//! Where the nodes and workers of a run stand: its events, which of them are refused and why, and how results and bodies follow them.
+//! Where the nodes and workers of a run stand: its events, which of them are refused and why, and
+//! how results and bodies follow them.
 #![tactic(auto)]
 
 pub mod core_fault;

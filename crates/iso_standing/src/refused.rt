@@ -4,7 +4,8 @@ ghost use Rattle.iso_standing.specs.RefusalTexts.{kind_name, node_in};
 
 use std::fmt;
 
-/// Why an event is refused. An event tests its kinds in a stated order, and the first that applies is answered:
+/// Why an event is refused. An event tests its kinds in a stated order, and the first that applies
+/// is answered:
 ///
 /// | Event | Order |
 /// |---|---|
@@ -13,7 +14,8 @@ use std::fmt;
 /// | Leave | Stopped, NoWorker, NoBody, BodyNotEnded |
 /// | Shut | Stopped, NoWorker, NoNode, WorkerBusy, NotClass, NotOpen, NotOwner, ChildrenLeft |
 ///
-/// The last two are a book's alone, to which a worker brings the body that has ended and its values: no standing answers them.
+/// The last two are a book's alone, to which a worker brings the body that has ended and its
+/// values: no standing answers them.
 ///
 /// It shows as its kind, `LockHeld` and `OtherBody` with a space and their node.
 #[derive(Clone, Copy, Debug, PartialEq, Eq)]
@@ -30,7 +32,8 @@ pub enum Refused {
     ParentClosed,
     /// The node is the root, or was entered before.
     AlreadyEntered,
-    /// Enter: the node is SAME_THREAD and another worker owns its parent. Shut: another worker owns the node.
+    /// Enter: the node is SAME_THREAD and another worker owns its parent. Shut: another worker owns
+    /// the node.
     NotOwner,
     /// The node is SAME_THREAD, and an earlier SAME_THREAD sibling isn't finished.
     EarlierSibling,

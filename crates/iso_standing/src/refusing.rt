@@ -1,4 +1,5 @@
-//! Which event is refused where all nodes and workers stand so, and why: the kinds of refusal, each a test of its own.
+//! Which event is refused where all nodes and workers stand so, and why: the kinds of refusal, each
+//! a test of its own.
 ghost use Rattle.std.specs.Prelude.{◌≡◌, ◌<◌, None, false, option_map};
 ghost use Rattle.iso_isolation.specs.Events as E;
 ghost use Rattle.iso_isolation.specs.Refusals as Why;
@@ -20,8 +21,9 @@ use iso_model::script::Mode;
 use iso_plan::conflict::{Holders, lowest_in_the_way};
 
 impl<'a> Standing<'a> {
-    /// Why an event is refused, if it is: of the kinds that the event tests, the first that applies. `ended` tells of a Step and a
-    /// Leave whether the worker's body has ended, where it has one. Takes no memory.
+    /// Why an event is refused, if it is: of the kinds that the event tests, the first that
+    /// applies. `ended` tells of a Step and a Leave whether the worker's body has ended, where it
+    /// has one. Takes no memory.
     pub fn refusal(&self, event: Event, ended: bool) -> Option<Refused>
         ensures fits { result ≡ None → CanTake self.now event }
         ensures kind { (start : Resources) (s : RunState) → LooksLike self.now s → TellsEnd self.now s event ended
@@ -47,8 +49,8 @@ impl<'a> Standing<'a> {
         self.lock_held(node)
     }
 
-    /// Why an Enter is refused before locks are compared, if it is: of the kinds that it tests before them, the first that applies.
-    /// Takes no memory.
+    /// Why an Enter is refused before locks are compared, if it is: of the kinds that it tests
+    /// before them, the first that applies. Takes no memory.
     pub fn refusal_before_locks(&self, worker: u32, node: u32) -> Option<Refused>
         ensures fits { result ≡ None → Fits self.now worker node }
         ensures kind { (start : Resources) (s : RunState) → LooksLike self.now s
@@ -72,7 +74,8 @@ impl<'a> Standing<'a> {
         None
     }
 
-    /// Why a Step is refused, if it is. `ended` tells whether the worker's body has ended, where it has one.
+    /// Why a Step is refused, if it is. `ended` tells whether the worker's body has ended, where it
+    /// has one.
     fn refusal_of_step(&self, worker: u32, ended: bool) -> Option<Refused>
         ensures fits { result ≡ None → HasBody self.now worker }
         ensures kind { (start : Resources) (s : RunState) → LooksLike self.now s → EndsAs self.now s worker ended
@@ -87,7 +90,8 @@ impl<'a> Standing<'a> {
         None
     }
 
-    /// Why a Leave is refused, if it is. `ended` tells whether the worker's body has ended, where it has one.
+    /// Why a Leave is refused, if it is. `ended` tells whether the worker's body has ended, where
+    /// it has one.
     fn refusal_of_leave(&self, worker: u32, ended: bool) -> Option<Refused>
         ensures fits { result ≡ None → HasBody self.now worker }
         ensures kind { (start : Resources) (s : RunState) → LooksLike self.now s → EndsAs self.now s worker ended
@@ -102,8 +106,9 @@ impl<'a> Standing<'a> {
         None
     }
 
-    /// Why what a worker's body came to can't be booked, if it can't: of the kinds that a Leave tests but for the end of the body, the
-    /// first that applies. A Step tests them first, too. Takes no memory.
+    /// Why what a worker's body came to can't be booked, if it can't: of the kinds that a Leave
+    /// tests but for the end of the body, the first that applies. A Step tests them first, too.
+    /// Takes no memory.
     pub fn refusal_of_booking(&self, worker: u32) -> Option<Refused>
         ensures fits { result ≡ None → HasBody self.now worker }
         ensures kind { (start : Resources) (s : RunState) → LooksLike self.now s
@@ -202,8 +207,8 @@ impl<'a> Standing<'a> {
         self.is_same_thread(node) && self.has_unfinished_sibling(node)
     }
 
-    /// Whether an earlier SAME_THREAD sibling of a node isn't finished. It goes over the siblings that aren't passed, up to the node,
-    /// since they come in order, or the first that is due.
+    /// Whether an earlier SAME_THREAD sibling of a node isn't finished. It goes over the siblings
+    /// that aren't passed, up to the node, since they come in order, or the first that is due.
     fn has_unfinished_sibling(&self, node: u32) -> bool
         requires node { node < nodes_in self.now }
         requires inner { 0 < node }

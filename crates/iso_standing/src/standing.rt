@@ -23,7 +23,8 @@ use iso_plan::plan::Plan;
 use std::alloc::{AllocError, Global};
 use std::marker::Model;
 
-/// Where all nodes and workers stand: what decides whether an event is refused, but for whether a body has ended.
+/// Where all nodes and workers stand: what decides whether an event is refused, but for whether a
+/// body has ended.
 #[derive(Drop)]
 pub struct Standing<'a> {
     plan: &'a Plan,
@@ -31,10 +32,11 @@ pub struct Standing<'a> {
     owners: Vec<u32>,
     busy: Vec<Option<u32>>,
     stopped: bool,
-    /// By node, how many of its first children are passed: none of these is due, that is SAME_THREAD and not finished. It only
-    /// shortens a search, so contracts don't see it.
+    /// By node, how many of its first children are passed: none of these is due, that is
+    /// SAME_THREAD and not finished. It only shortens a search, so contracts don't see it.
     passed: Vec<u32>,
-    /// The nodes that hold their locks: those that were entered and aren't finished. Their phases say it too, so contracts don't see it.
+    /// The nodes that hold their locks: those that were entered and aren't finished. Their phases
+    /// say it too, so contracts don't see it.
     held: HeldNodes<'a>,
 }
 
@@ -55,7 +57,8 @@ impl<'a> Model for Standing<'a> {
 }
 
 impl<'a> Standing<'a> {
-    /// The standing of the first state: the root is open and worker 0 owns it, all other nodes wait, and no worker has a body.
+    /// The standing of the first state: the root is open and worker 0 owns it, all other nodes
+    /// wait, and no worker has a body.
     pub fn new(alloc: Global, plan: &'a Plan, workers: u32) -> Result<Standing<'a>, AllocError>
         ensures plan { IfOk result (λ v. v.plan ≡ plan.now) }
         ensures workers { IfOk result (λ v. workers_in v ≡ workers) }
@@ -79,7 +82,8 @@ impl<'a> Standing<'a> {
         })
     }
 
-    /// Takes an event that is accepted. `well` tells of a Leave whether the body has ended well, where it is a `before_all`. Takes no memory.
+    /// Takes an event that is accepted. `well` tells of a Leave whether the body has ended well,
+    /// where it is a `before_all`. Takes no memory.
     pub fn take(&mut self, event: Event, well: bool)
         requires { CanTake self.old event }
         ensures same { OfSame self.old self.new }
@@ -105,8 +109,9 @@ impl<'a> Standing<'a> {
         self.busy[worker as usize] = Some(node);
     }
 
-    /// Takes a Leave that is accepted. `well` tells whether the body has ended well, where it is a `before_all`. Takes no memory. Where
-    /// a class is barred it goes over the nodes after it, and up the path of each.
+    /// Takes a Leave that is accepted. `well` tells whether the body has ended well, where it is a
+    /// `before_all`. Takes no memory. Where a class is barred it goes over the nodes after it, and
+    /// up the path of each.
     pub fn leave(&mut self, worker: u32, well: bool)
         requires { HasBody self.old worker }
         ensures same { OfSame self.old self.new }
@@ -192,7 +197,8 @@ impl<'a> Standing<'a> {
         self.phases[node as usize]
     }
 
-    /// Whether a node that holds its locks conflicts with a node. It looks at that node's own locks, however many hold theirs.
+    /// Whether a node that holds its locks conflicts with a node. It looks at that node's own
+    /// locks, however many hold theirs.
     pub(crate) fn excludes(&self, node: u32) -> bool
         requires { node < nodes_in self.now }
         ensures { result ≡ is_some (lowest_in_the_way (tree_of self.now.plan) (λ n. is_held (bare (phase_at self.now n))) node) }
@@ -285,15 +291,16 @@ impl<'a> Standing<'a> {
         requires inner { 0 < node }
         ensures { ArePassed self.now.plan (slice_set self.now.phases node phase) (parent (tree_of self.now.plan) node) result }
     {
-        // No event that is accepted leads here, but the contracts of `enter` and `shut` don't rule it out.
+        // No event that is accepted leads here, but the contracts of `enter` and `shut` don't rule
+        // it out.
         if self.phase(node).is_finished() && !phase.is_finished() {
             return 0;
         }
         self.passed(self.parent(node))
     }
 
-    /// How many first children of a class can be passed: those before the first that is due. It begins after those that are passed,
-    /// so that it goes over each child once.
+    /// How many first children of a class can be passed: those before the first that is due. It
+    /// begins after those that are passed, so that it goes over each child once.
     fn passable(&self, class: u32) -> u32
         requires { class < nodes_in self.now }
         ensures { ArePassed self.now.plan self.now.phases class result }

@@ -1,4 +1,5 @@
--- Figures of a run, for examples. Its tree has the nodes 1 to 7: shop.Cart, a, b, shop.Desk, c, Till, d; key 0 is the global key, key 1 is K.
+-- Figures of a run, for examples. Its tree has the nodes 1 to 7: shop.Cart, a, b, shop.Desk, c,
+-- Till, d; key 0 is the global key, key 1 is K.
 use Rattle.std.specs.Prelude.{Some, None, true, false}
 use Rattle.iso_stats.specs.declared.figures.Best.{Best}
 use Rattle.iso_stats.specs.declared.figures.Chain.{Chain}

@@ -1,4 +1,5 @@
--- What is measured of a run: its tests, how long its bodies took together, and when the last one ended.
+-- What is measured of a run: its tests, how long its bodies took together, and when the last one
+-- ended.
 use Rattle.std.specs.Prelude.{ℕ, zero, suc, ◌+◌, ◌-◌, List, Option, Some, None, cond, length, max, min}
 use Rattle.iso_lifecycle.specs.declared.kind.BodyKind.TheVariants.{BeforeAll, AfterAll}
 use Rattle.iso_plan.specs.Paths.{is_test, row_at}
@@ -43,7 +44,8 @@ abbrev pub tests_below : List Row → ℕ → ℕ
 tests_below tree zero = 0
 tests_below tree (suc n) = tests_below tree n + cond (is_test (row_at tree n).kind) 1 0
 
--- of all nodes: how long their bodies took together, when the last one ended, and how many are tests
+-- of all nodes: how long their bodies took together, when the last one ended, and how many are
+-- tests
 abbrev pub work : List Row → List (Option BodyTime) → ℕ
 work tree bodies = work_below bodies (length tree)
 

@@ -5,7 +5,8 @@ use Rattle.std.specs.Prelude.{ℕ, ◌*◌, ◌/◌, ◌==◌, ◌||◌, cond, m
 abbrev pub most : ℕ
 most = 18446744073709551615
 
--- which part of a time so many workers spent in bodies, each of them an equal part of the bodies' time, in percent
+-- which part of a time so many workers spent in bodies, each of them an equal part of the bodies'
+-- time, in percent
 abbrev pub percent : (busy workers span : ℕ) → ℕ
 percent busy workers span = cond (workers == 0 || span == 0) 0 (min (busy / workers * 100 / span) most)
 

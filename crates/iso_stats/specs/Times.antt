@@ -1,4 +1,5 @@
--- Times as they are told: with two decimals, which are cut off, in the largest unit of which there is one.
+-- Times as they are told: with two decimals, which are cut off, in the largest unit of which there
+-- is one.
 use Rattle.std.specs.Prelude.{ℕ, ◌/◌, ◌%◌, List, ◌++◌, [], ◌∷◌, cond, codes, nat_lt}
 use Rattle.std.specs.Fmt.{decimal}
 

@@ -10,7 +10,8 @@ use iso_model::script::Mode;
 use iso_plan::lock::Lock;
 use iso_plan::plan::Plan;
 
-/// The longest of the chains of keys, but one that is left out, and of classes, where nodes take so long; of equal ones the first.
+/// The longest of the chains of keys, but one that is left out, and of classes, where nodes take so
+/// long; of equal ones the first.
 pub(crate) fn longest(
     plan: &Plan,
     times: &[u64],
@@ -42,8 +43,8 @@ fn longest_of_keys(plan: &Plan, times: &[u64], left_out: Option<u32>) -> Option<
     found
 }
 
-/// The chain of a key: of all nodes that take it for READ_WRITE, and of the one that takes longest of those that take it for READ. None
-/// where no node takes it for READ_WRITE.
+/// The chain of a key: of all nodes that take it for READ_WRITE, and of the one that takes longest
+/// of those that take it for READ. None where no node takes it for READ_WRITE.
 fn chain_of_key(plan: &Plan, times: &[u64], key: u32) -> Option<Chain> {
     let mut tally = Tally::none();
     let mut reader = None;

@@ -1,4 +1,5 @@
-//! Worked examples of the definitions: each function does nothing, and its contract is what is computed.
+//! Worked examples of the definitions: each function does nothing, and its contract is what is
+//! computed.
 ghost use Rattle.std.specs.Prelude.{◌≡◌, ◌++◌, None, codes};
 ghost use Rattle.iso_plan.specs.Examples.{cart_and_desk};
 ghost use Rattle.iso_stats.specs.Examples.{best_without_k, chain_of_k, chain_of_root, figures_of_four, figures_of_one, waited_for_k};
@@ -25,7 +26,8 @@ pub fn lines_of_a_run()
     ensures best { best_line cart_and_desk best_without_k ≡ codes "at best 1.4 times as fast as one worker; without K 3.6 times\n" }
 {}
 
-/// Of one test on one worker a line is told. A chain of the root's is told as that of the top level.
+/// Of one test on one worker a line is told. A chain of the root's is told as that of the top
+/// level.
 pub fn lines_that_dont_apply_are_left_out()
     ensures one { stats_text cart_and_desk figures_of_one ≡ codes "1 test, 1 of 1 worker, 12.34 ms; busy 99 %\n" }
     ensures root { chain_line cart_and_desk chain_of_root

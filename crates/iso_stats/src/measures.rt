@@ -17,7 +17,8 @@ use iso_times::times::Times;
 use iso_waits::wait::NodeWait;
 use std::alloc::{AllocError, Global};
 
-/// The figures of a run of a plan, whose bodies had these times and whose nodes these waits, and which started so many of so many workers.
+/// The figures of a run of a plan, whose bodies had these times and whose nodes these waits, and
+/// which started so many of so many workers.
 pub fn figures(
     alloc: Global,
     plan: &Plan,

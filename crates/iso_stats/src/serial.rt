@@ -10,8 +10,8 @@ use iso_plan::plan::Plan;
 use iso_times::times::Times;
 use std::alloc::{AllocError, Global};
 
-/// How long each node takes, however many workers there are: its own bodies, and what in it takes longest: its SAME_THREAD children one
-/// after another, or one of its CONCURRENT children.
+/// How long each node takes, however many workers there are: its own bodies, and what in it takes
+/// longest: its SAME_THREAD children one after another, or one of its CONCURRENT children.
 pub(crate) fn serial(
     alloc: Global,
     plan: &Plan,

@@ -22,8 +22,9 @@ enum Line<'a> {
     AtBest(Option<Best>),
 }
 
-/// Writes the figures of a run of a plan: its workers and its time; the key that was waited for longest; the longest chain; and how fast it is
-/// at best. The last three are left out where the figures have none. Takes no memory.
+/// Writes the figures of a run of a plan: its workers and its time; the key that was waited for
+/// longest; the longest chain; and how fast it is at best. The last three are left out where the
+/// figures have none. Takes no memory.
 ///
 /// The sink is asked again where it takes only some bytes, and no more once it has failed.
 pub fn write_stats<W: Sink>(plan: &Plan, figures: &Figures, sink: &mut W) -> Result<(), TapFault>

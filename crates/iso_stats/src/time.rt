@@ -6,7 +6,8 @@ ghost use Rattle.iso_tap.specs.Printers.{Prints};
 use iso_tap::printer::{Piece, Printer};
 use iso_tap::sink::{Sink, SinkFailed};
 
-/// Writes a time in nanoseconds: in seconds, below one in milliseconds, and below one of these in microseconds.
+/// Writes a time in nanoseconds: in seconds, below one in milliseconds, and below one of these in
+/// microseconds.
 pub(crate) fn time<W: Sink>(printer: &mut Printer<'_, W>, nanos: u64) -> Result<(), SinkFailed>
     ensures { Prints printer.old printer.new (time nanos) result }
 {

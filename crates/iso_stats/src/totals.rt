@@ -55,7 +55,8 @@ impl Total {
     }
 }
 
-/// The key for which nodes waited longest together, if one did for a key. Of keys for which they waited as long, the lowest.
+/// The key for which nodes waited longest together, if one did for a key. Of keys for which they
+/// waited as long, the lowest.
 pub(crate) fn most_waited(
     alloc: Global,
     plan: &Plan,

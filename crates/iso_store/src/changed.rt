@@ -10,8 +10,8 @@ use iso_model::properties::Properties;
 use iso_model::text::Text;
 use std::alloc::{AllocError, Global};
 
-/// Properties as they started, and beside them a place for each that was changed since. So the start
-/// stays as it was, and taking a change back takes no memory.
+/// Properties as they started, and beside them a place for each that was changed since. So the
+/// start stays as it was, and taking a change back takes no memory.
 #[derive(Drop)]
 pub(crate) struct ChangedProperties {
     start: Properties,
@@ -39,7 +39,7 @@ impl ChangedProperties {
         }
     }
 
-    /// Gives a property a text, or clears it where there is none. Answers what takes that back.
+    /// Gives a property a text, or clears it where there is none. Answers what undoes it.
     pub fn give(
         &mut self,
         alloc: Global,
@@ -58,7 +58,7 @@ impl ChangedProperties {
         }
     }
 
-    /// Lets a property be again as it started.
+    /// Resets a property to its starting value.
     pub fn reset(&mut self, name: &str)
         ensures { self.new ≡ record self.old { places = map.remove self.old.places name.now } }
     {

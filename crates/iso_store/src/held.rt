@@ -9,8 +9,8 @@ use std::alloc::{AllocError, Global};
 use std::marker::Model;
 use std::snapshot::Snapshot;
 
-/// One resource's value, with a journal of its changes. Contracts see its history: the value now, and
-/// each that it had before a change which wasn't taken back.
+/// One resource's value, with a journal of its changes. Contracts see its history: the value now,
+/// and each that it had before a change which wasn't taken back.
 ///
 /// It can't be copied, and it must be spent, by `into_resource` or by `discard`.
 pub struct Held {

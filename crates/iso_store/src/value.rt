@@ -61,7 +61,7 @@ impl Value {
         }
     }
 
-    /// Changes the value, and answers what takes that back. A value of another kind stays as it is.
+    /// Changes the value, and answers what undoes it. A value of another kind stays as it is.
     pub fn change(&mut self, alloc: Global, change: Change) -> Result<Undo, AllocError>
         ensures ok { OnOk result (resource_of self.new ≡ changed change (resource_of self.old)) }
         ensures undo { IfOk result (λ undo. undone undo self.new ≡ self.old) }

@@ -1,4 +1,4 @@
--- The suite of every tree keeps what a run needs so that it never comes to a stand.
+-- The suite of every tree keeps what a run needs so that it never deadlocks.
 use Rattle.std.proofs.Common.{◌≡◌, ℕ, zero, suc, List, Bool, true, false, ◌&&◌, refl, sym, ◌∙◌, arith}
 use Rattle.iso_isolation.specs.Suites.{Suite}
 use Rattle.iso_model.specs.Resources.{Resources}

@@ -47,7 +47,8 @@ cart_head = record empty_head { before_all = body (print (quoted "open") ∷ [])
 abbrev a_is_1 : Resources
 a_is_1 k = cond (bytes_eq k file_a) (Some (File (Some (codes "1")))) (empty_world k)
 
--- nodes 1 to 4: class Cart with test looks, test sets, and test looks again. All are CONCURRENT; file a is "1".
+-- nodes 1 to 4: class Cart with test looks, test sets, and test looks again. All are CONCURRENT;
+-- file a is "1".
 abbrev pub cart : Launch
 cart = record {
   written = record { team = codes "shop"; classes = a_class "Cart" cart_head (member looks (member writes_it (member looks no_members))) ∷ [] } ∷ [];
@@ -56,7 +57,8 @@ cart = record {
   start = a_is_1;
 }
 
--- whether these are accepted on two workers; why one more event is refused, if it is; and what a node came to, if it is finished
+-- whether these are accepted on two workers; why one more event is refused, if it is; and what a
+-- node came to, if it is finished
 abbrev pub is_run_of_cart : List Event → Bool
 is_run_of_cart es = is_run scripts (launched cart) 2 (first scripts (launched cart)) es
 

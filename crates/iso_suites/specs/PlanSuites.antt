@@ -1,4 +1,5 @@
--- The suite of a plan: its tree with its paths, modes and locks, and the starting values of a world; and what its runs may end with.
+-- The suite of a plan: its tree with its paths, modes and locks, and the starting values of a
+-- world; and what its runs may end with.
 use Rattle.std.specs.Prelude.{◌≡◌, ℕ, List, ◌∷◌, Some, None, Bool, true, false, length}
 use Rattle.iso_suites.specs.ScriptLanguage.{Head, of_class, of_test, scripts}
 use Rattle.iso_isolation.specs.Isolation.{Gives}
@@ -43,7 +44,8 @@ suite_of tree settings start = record {
   start = start;
 }
 
--- what is run: those nodes of scripts that some paths keep, or all, under settings, where the resources start so
+-- what is run: those nodes of scripts that some paths keep, or all, under settings, where the
+-- resources start so
 pub record Launch : Type 0 where
   pub written : List Script
   pub only : List (List ℕ)
@@ -60,11 +62,13 @@ nodes_of l = plan_tree l.written l.only
 abbrev pub launched : Launch → Suite Head (List ℕ) Resource
 launched l = suite_of (nodes_of l) l.settings l.start
 
--- in some run, on so many workers as may be and in any order of events that the locks allow, a node has this outcome
+-- in some run, on any number of workers and in any order of events that the locks allow, a node has
+-- this outcome
 abbrev pub MayEnd : Launch → ℕ → Outcome → Type 0
 MayEnd l n r = Gives scripts (launched l) n r
 
--- a node is a test with this head; and a class with this head, in classes with these heads, innermost first
+-- a node is a test with this head; and a class with this head, in classes with these heads,
+-- innermost first
 pub record IsTestAt (l : Launch) (n : ℕ) (t : TestHead) (cs : List ClassHead) : Type 0 where
   pub test : chain_test (nodes_of l) n ≡ Some t
   pub classes : chain_classes (nodes_of l) n ≡ cs

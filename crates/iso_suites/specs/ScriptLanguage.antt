@@ -1,4 +1,5 @@
--- The language of scripts: what a run asks of the bodies of classes and tests, made of their definitions.
+-- The language of scripts: what a run asks of the bodies of classes and tests, made of their
+-- definitions.
 use Rattle.std.specs.Prelude.{ℕ, List, [], ◌∷◌, ◌++◌, None, Bool, true, false}
 use Rattle.iso_isolation.specs.Languages.{Language, Progress}
 use Rattle.iso_model.specs.Alone.{barred, test_outcome}

@@ -1,4 +1,5 @@
--- What a node comes to in a run of a whole plan, and in one of the plan of what some paths keep of it.
+-- What a node comes to in a run of a whole plan, and in one of the plan of what some paths keep of
+-- it.
 use Rattle.std.specs.Prelude.{◌≡◌, ℕ, ◌<◌, List, true, length}
 use Rattle.iso_suites.specs.PlanSuites.{suite_of}
 use Rattle.iso_suites.specs.ScriptLanguage.{scripts}
@@ -11,8 +12,9 @@ use Rattle.iso_plan.specs.Planned.{Planned}
 use Rattle.iso_plan.specs.RowView.{tree_of}
 use Rattle.iso_plan.specs.Selections.{is_kept, number_among}
 
--- A node that these paths keep has the first outcome in some run of the whole plan and the second in some of the selected one, each on so
--- many workers as may be and in any order of events that the locks allow. The resources start alike at the keys that the node may look at.
+-- A node that these paths keep has the first outcome in some run of the whole plan and the second
+-- in some of the selected one, each on so many workers as may be and in any order of events that
+-- the locks allow. The resources start alike at the keys that the node may look at.
 pub record IsRunInBoth (whole selected : Planned) (only : List (List ℕ)) (n : ℕ) (first second : Outcome) : Type 0 where
   pub within : n < length (tree_of whole)
   pub kept : is_kept (tree_of whole) only n ≡ true

@@ -5,8 +5,8 @@ ghost use Rattle.iso_isolation.specs.Events.{Enter, Leave, Shut, Step};
 ghost use Rattle.iso_isolation.specs.Refusals as Why;
 ghost use Rattle.iso_model.specs.Examples.Words.{passed};
 
-/// A class with two readers of a file and a writer between them, all CONCURRENT, on two workers: each test has the
-/// outcome that it has alone, the readers after the writer too.
+/// A class with two readers of a file and a writer between them, all CONCURRENT, on two workers:
+/// each test has the outcome that it has alone, the readers after the writer too.
 #[tactic(auto, unfolding(iso_plan::specs::Paths::path))]
 pub fn tests_of_a_class_run_side_by_side()
     ensures accepted { is_run_of_cart whole ≡ true }
@@ -19,7 +19,8 @@ pub fn tests_of_a_class_run_side_by_side()
     ensures not_whole { is_whole side_by_side ≡ false }
 {}
 
-/// What is refused: a reader beside the writer, a body that hasn't ended, and a class with tests left.
+/// What is refused: a reader beside the writer, a body that hasn't ended, and a class with tests
+/// left.
 #[tactic(auto, unfolding(iso_plan::specs::Paths::path))]
 pub fn locks_and_bodies_are_waited_for()
     ensures reader { refused_after has_written (Enter 1 2) ≡ Some (Why.LockHeld 3) }

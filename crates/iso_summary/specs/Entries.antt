@@ -62,8 +62,8 @@ command_line again at path =
 abbrev pub again_line : AgainView → LocatedView → (path : List ℕ) → List ℕ
 again_line again at path = cond (can_be_told again at) (command_line again at path) []
 
--- a node that failed: its path, the place and the message, the line of the script, what mends it, how many tests it blocks, the command, and
--- an empty line
+-- a node that failed: its path, the place and the message, the line of the script, what mends it,
+-- how many tests it blocks, the command, and an empty line
 abbrev pub failure_text : AgainView → LocatedView → (path message : List ℕ) → (blocked : ℕ) → List ℕ
 failure_text again at path message blocked =
     line (codes "not ok " ∷ path ∷ [])

@@ -44,8 +44,8 @@ with_options = record { settings = Some (codes "it's.toml"); world = Some (codes
 abbrev pub with_escape : AgainView
 with_escape = record plain { settings = Some (27 ∷ codes "[2J") }
 
--- characters of two bytes: U+0085, which begins a new line, and U+009B, which begins a command of a terminal, as control characters; a
--- space that doesn't break, and ä
+-- characters of two bytes: U+0085, which begins a new line, and U+009B, which begins a command of a
+-- terminal, as control characters; a space that doesn't break, and ä
 abbrev pub next_line : List ℕ
 next_line = 194 ∷ 133 ∷ []
 
@@ -66,8 +66,9 @@ in_file name = record (in_cart 7 "fail \"no\";") { file = name ++ codes ".jtap" 
 abbrev says : String → Note
 says message = record { message = codes message; place = Row B.Test 1 }
 
--- What the root and Cart, a, Till, b, Drawer, c, d, Desk, e, f came to: the class Cart failed by itself after its tests, and so did
--- Till in it before them, which blocks b and c; d failed, which has the display text "the last"; e and f were skipped.
+-- What the root and Cart, a, Till, b, Drawer, c, d, Desk, e, f came to: the class Cart failed by
+-- itself after its tests, and so did Till in it before them, which blocks b and c; d failed, which
+-- has the display text "the last"; e and f were skipped.
 abbrev verdicts : List Verdict
 verdicts =
     Pass

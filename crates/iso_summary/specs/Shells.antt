@@ -22,14 +22,15 @@ with_byte b (Some (w ∷ ws)) = Some ((b ∷ w) ∷ ws)
 abbrev pub with_word : List ℕ → Option (List (List ℕ)) → Option (List (List ℕ))
 with_word word words = option_map (λ ws. word ∷ ws) words
 
--- What a byte outside of quotes begins, which is no space and no line feed: quotes, what is behind a backslash, or a byte of a word
--- where it means nothing to a shell. With any other byte a text is no command of words.
+-- What a byte outside of quotes begins, which is no space and no line feed: quotes, what is behind
+-- a backslash, or a byte of a word where it means nothing to a shell. With any other byte a text is
+-- no command of words.
 abbrev pub read_unquoted : ℕ → (quotes backslash word : Option (List (List ℕ))) → Option (List (List ℕ))
 read_unquoted b quotes backslash word = cond (b == 39) quotes (cond (b == 92) backslash (cond (is_plain b) (with_byte b word) None))
 
--- The words that bytes are from there on; in a word the first of them is what is left of it. Between quotes each byte up to the next
--- quote stands for itself, and so does the one behind a backslash. A line feed ends the command. Where a quote is open at the end it is
--- none.
+-- The words that bytes are from there on; in a word the first of them is what is left of it.
+-- Between quotes each byte up to the next quote stands for itself, and so does the one behind a
+-- backslash. A line feed ends the command. Where a quote is open at the end it is none.
 abbrev pub read_from : Reading → List ℕ → Option (List (List ℕ))
 read_from between_words [] = Some []
 read_from in_word [] = Some ([] ∷ [])

@@ -6,7 +6,8 @@ use Rattle.std.specs.Int.{is_in_range}
 abbrev pub is_printable : ℕ → Bool
 is_printable b = is_in_range 32 126 b
 
--- a byte of a line as it is shown: a tab as a space, each other one that isn't printable ASCII as `?`
+-- a byte of a line as it is shown: a tab as a space, each other one that isn't printable ASCII as
+-- `?`
 abbrev pub shown_byte : ℕ → ℕ
 shown_byte b = cond (b == 9) 32 (cond (is_printable b) b 63)
 

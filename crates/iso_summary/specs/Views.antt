@@ -4,7 +4,8 @@ use Rattle.std.specs.Option.{option_map}
 use Rattle.iso_summary.specs.declared.again.Again.{Again}
 use Rattle.iso_summary.specs.declared.located.Located.{Located}
 
--- where a failure stands: the file and whether it was named, the line's number, and the line; and what mends it, a line each
+-- where a failure stands: the file and whether it was named, the line's number, and the line; and
+-- what mends it, a line each
 pub record LocatedView : Type 0 where
   pub file : List ℕ
   pub named : Bool

@@ -16,8 +16,8 @@ use iso_plan::plan::Plan;
 use iso_tap::printer::Printer;
 use iso_tap::sink::{Sink, SinkFailed};
 
-/// Writes of a node that failed its path, the place and the message, the line of the script, what mends it, how many tests it
-/// blocks, and the command that runs it again.
+/// Writes of a node that failed its path, the place and the message, the line of the script, what
+/// mends it, how many tests it blocks, and the command that runs it again.
 pub(crate) fn failure<'x, W: Sink>(
     printer: &mut Printer<'_, W>,
     plan: &Plan,

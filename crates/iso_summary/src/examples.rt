@@ -10,7 +10,8 @@ ghost use Rattle.iso_summary.specs.Sources.{shown_source};
 ghost use Rattle.iso_summary.specs.Summaries.{counts_line, summary_text};
 ghost use Rattle.iso_summary.specs.Words.{file_word, has_control, shell_word};
 
-/// A word of letters, digits and some signs stands as it is, any other in single quotes, with each quote in it on its own.
+/// A word of letters, digits and some signs stands as it is, any other in single quotes, with each
+/// quote in it on its own.
 pub fn words_are_quoted_where_they_need_it()
     ensures plain { shell_word (codes "a/B_9.x:y=@%+,-z") ≡ codes "a/B_9.x:y=@%+,-z" }
     ensures space { shell_word (codes "my cart.jtap") ≡ codes "'my cart.jtap'" }
@@ -28,21 +29,24 @@ pub fn files_are_no_options()
     ensures inside { file_word (codes "a/-x.jtap") ≡ codes "a/-x.jtap" }
 {}
 
-/// Control characters of a name are shown by their escapes, those of one byte and of two, and all else as it is.
+/// Control characters of a name are shown by their escapes, those of one byte and of two, and all
+/// else as it is.
 pub fn control_characters_of_names_are_escaped()
     ensures one_byte { shown_name (codes "a\nb\r\t" ++ 27 ∷ 127 ∷ []) ≡ codes "a\\nb\\r\\t\\u001B\\u007F" }
     ensures two_bytes { shown_name (194 ∷ 133 ∷ 194 ∷ 160 ∷ []) ≡ codes "\\u0085" ++ 194 ∷ 160 ∷ [] }
     ensures as_they_are { shown_name (codes "my \"cart\" \\.jtap" ++ 195 ∷ 164 ∷ []) ≡ codes "my \"cart\" \\.jtap" ++ 195 ∷ 164 ∷ [] }
 {}
 
-/// A tab is shown as a space, each other byte that isn't printable ASCII as a question mark, and 160 bytes at most.
+/// A tab is shown as a space, each other byte that isn't printable ASCII as a question mark, and
+/// 160 bytes at most.
 pub fn lines_of_scripts_are_shown_as_printable_ascii()
     ensures bytes { shown_source (codes "\tfail \"no\"; // ~" ++ 195 ∷ 164 ∷ 127 ∷ 13 ∷ []) ≡ codes " fail \"no\"; // ~????" }
     ensures whole { shown_source (replicate 160 97) ≡ replicate 160 97 }
     ensures cut { shown_source (replicate 161 97) ≡ replicate 160 97 ++ codes ".." }
 {}
 
-/// A failed test is told by its path, the place with the message, the line of the script and the command that runs it again.
+/// A failed test is told by its path, the place with the message, the line of the script and the
+/// command that runs it again.
 pub fn failed_test_is_told()
     ensures { failure_text plain (in_cart 12 "        assert_equal 6, price + 2;") (codes "shop.Cart.adds") (codes "expected: <6> but was: <5>") 0
         ≡ text_of
@@ -54,7 +58,8 @@ pub fn failed_test_is_told()
         ∷ []) }
 {}
 
-/// Below the line of the script stands what mends it, a line each, a tab and other bytes as in that line.
+/// Below the line of the script stands what mends it, a line each, a tab and other bytes as in that
+/// line.
 pub fn what_mends_a_fault_is_told()
     ensures { failure_text plain (with_hints ("+ adds two whole numbers" ∷ "write \"a\tb\"" ∷ [])) (codes "shop.Cart") (codes "wrong kind") 2
         ≡ text_of
@@ -96,7 +101,8 @@ pub fn command_has_the_options_again()
         ∷ []) }
 {}
 
-/// Control characters are those of Unicode: those of ASCII and those of two bytes, and no space or letter of two bytes.
+/// Control characters are those of Unicode: those of ASCII and those of two bytes, and no space or
+/// letter of two bytes.
 pub fn control_characters_of_words_are_those_of_unicode()
     ensures line_feed { has_control (codes "a\nb") ≡ true }
     ensures delete { has_control (127 ∷ []) ≡ true }
@@ -107,7 +113,8 @@ pub fn control_characters_of_words_are_those_of_unicode()
     ensures empty { has_control [] ≡ false }
 {}
 
-/// No command is told where a file's name has a control character of two bytes, and one where it has other characters of two bytes.
+/// No command is told where a file's name has a control character of two bytes, and one where it
+/// has other characters of two bytes.
 pub fn command_is_told_with_characters_of_two_bytes()
     ensures next_line { failure_text plain (in_file next_line) (codes "shop.Cart.adds") (codes "no") 0
         ≡ text_of ("not ok shop.Cart.adds" ∷ "  \\u0085.jtap:7: no" ∷ "  7 | fail \"no\";" ∷ "" ∷ []) }
@@ -135,7 +142,8 @@ pub fn skipped_test_is_told()
         ≡ text_of ("skipped shop.Cart.pays" ∷ "  cart.jtap:9: later" ∷ "" ∷ []) }
 {}
 
-/// The failures of a suite in their order, by paths and not by display texts, an empty line after each, and then the counts.
+/// The failures of a suite in their order, by paths and not by display texts, an empty line after
+/// each, and then the counts.
 pub fn summary_tells_of_failures()
     ensures { summary_text till_in_cart outcome_of plain (1 ∷ 3 ∷ 7 ∷ []) places_of_failures
         ≡ text_of

@@ -1,4 +1,5 @@
-//! Laws of what a summary shows. Each function does nothing: its contract is the law, and is proved.
+//! Laws of what a summary shows. Each function does nothing: its contract is the law, and is
+//! proved.
 ghost use Rattle.std.specs.Prelude.{◌≡◌, ◌↔◌, ◌<◌, ◌^◌, ◌∷◌, [], ℕ, IfSome, List, Some, drop, false, map, true};
 ghost use Rattle.std.specs.List.{list_all};
 ghost use Rattle.std.specs.Str.{IsUtf8};
@@ -14,15 +15,17 @@ pub fn shells_read_words_back()
     ensures { (word : List ℕ) → read_words (shell_word word) ≡ Some (word ∷ []) }
 {}
 
-/// A shell reads the command that is told, behind the nine bytes before it, as the words that it is made of: the options that were
-/// given, the path and the script. A path is of plain bytes, as names are.
+/// A shell reads the command that is told, behind the nine bytes before it, as the words that it is
+/// made of: the options that were given, the path and the script. A path is of plain bytes, as
+/// names are.
 pub fn shells_read_the_command_back()
     ensures { (again : AgainView) (at : LocatedView) (path : List ℕ) → is_plain_word path ≡ true
         → IfSome again.processors (λ n. n < 2 ^ 64)
         → read_words (drop 9 (command_line again at path)) ≡ Some (command_words again at path) }
 {}
 
-/// What is shown of a file's name has no control character, be it of ASCII or of Unicode: it stays in its line, and no terminal obeys it.
+/// What is shown of a file's name has no control character, be it of ASCII or of Unicode: it stays
+/// in its line, and no terminal obeys it.
 pub fn names_stay_in_their_line()
     ensures ascii { (name : List ℕ) → has_ascii_control (shown_name name) ≡ false }
     ensures unicode { (name : List ℕ) → IsUtf8 name → has_control (shown_name name) ≡ false }

@@ -6,8 +6,8 @@ ghost use Rattle.iso_tap.specs.Printers.{Prints};
 use iso_tap::printer::Printer;
 use iso_tap::sink::{Sink, SinkFailed};
 
-/// Writes a file's name, with control characters as in a basic string of TOML: it stays in its line, and no terminal obeys it. Takes no
-/// memory.
+/// Writes a file's name, with control characters as in a basic string of TOML: it stays in its
+/// line, and no terminal obeys it. Takes no memory.
 ///
 /// The sink is asked again where it takes only some bytes, and no more once it has failed.
 pub fn name<W: Sink>(printer: &mut Printer<'_, W>, name: &str) -> Result<(), SinkFailed>

@@ -9,7 +9,8 @@ use iso_tap::sink::{Sink, SinkFailed};
 /// So many bytes of a line are shown.
 const SHOWN: usize = 160;
 
-/// Writes a line of a script: its first 160 bytes, each tab as a space and each other byte that isn't printable ASCII as `?`.
+/// Writes a line of a script: its first 160 bytes, each tab as a space and each other byte that
+/// isn't printable ASCII as `?`.
 pub(crate) fn source<W: Sink>(printer: &mut Printer<'_, W>, line: &[u8]) -> Result<(), SinkFailed>
     ensures { Prints printer.old printer.new (shown_source line.now) result }
 {

@@ -10,7 +10,8 @@ with_escapes other (b ∷ bs) = cond (nat_eq b 92 || nat_eq b other) (92 ∷ b �
 abbrev pub escaped : List ℕ → List ℕ
 escaped = with_escapes 35
 
--- a text as it stands between quotes: a backslash and a quote are escaped (YAML, double-quoted style)
+-- a text as it stands between quotes: a backslash and a quote are escaped (YAML, double-quoted
+-- style)
 abbrev pub quoted_bytes : List ℕ → List ℕ
 quoted_bytes = with_escapes 34
 

@@ -1,5 +1,5 @@
--- The plan as it is printed: the number of workers, then a line for each node: its number, its kind, its execution mode,
--- the locks that it takes, and its path.
+-- The plan as it is printed: the number of workers, then a line for each node: its number, its
+-- kind, its execution mode, the locks that it takes, and its path.
 use Rattle.std.specs.Prelude.{ℕ, zero, suc, ◌-◌, List, [], ◌++◌, cond, codes, length, slice_index_or}
 use Rattle.std.specs.Fmt.{decimal}
 use Rattle.std.specs.List.{join_by}

@@ -119,7 +119,8 @@ blocked_block =
     ∷ codes "..."
     ∷ [])
 
--- one of each verdict in the same suite: a faulted, b was blocked, c was skipped, the class Till failed over d, which passed
+-- one of each verdict in the same suite: a faulted, b was blocked, c was skipped, the class Till
+-- failed over d, which passed
 abbrev pub each_by_node : List Outcome
 each_by_node =
     silent

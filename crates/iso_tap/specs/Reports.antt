@@ -1,4 +1,5 @@
--- The report of a suite's outcomes (TAP version 14, subtests): the version, and then the level of the root.
+-- The report of a suite's outcomes (TAP version 14, subtests): the version, and then the level of
+-- the root.
 use Rattle.std.specs.Prelude.{ℕ, zero, suc, ◌+◌, List, [], ◌∷◌, ◌++◌, Bool, cond, length}
 use Rattle.std.specs.List.{filter, list_all, range_with_len}
 use Rattle.iso_model.specs.declared.outcome.Outcome.{Outcome}
@@ -32,8 +33,9 @@ level indent text ns = plan_line indent (length ns) ++ numbered text 1 ns
 abbrev pub subtest : (indent : ℕ) → Row → (text : ℕ → ℕ → List ℕ) → List ℕ → List ℕ
 subtest indent row text ns = cond (is_test row.kind) [] (subtest_line indent row.title ++ level (indent + 4) text ns)
 
--- What is reported of a node: its subtest, in which its children are reported, and then its point. The definition counts how deep it
--- may still go, and nodes stand in one another no deeper than there are nodes; the law `reports_go_down_the_tree` says it without.
+-- What is reported of a node: its subtest, in which its children are reported, and then its point.
+-- The definition counts how deep it may still go, and nodes stand in one another no deeper than
+-- there are nodes; the law `reports_go_down_the_tree` says it without.
 abbrev pub reported_within : (depth : ℕ) → List Row → (ℕ → Outcome) → (indent number n : ℕ) → List ℕ
 reported_within zero tree outcome indent number n = []
 reported_within (suc depth) tree outcome indent number n =

@@ -1,7 +1,8 @@
 -- Sinks of bytes: what they took, and whether they failed.
 use Rattle.std.specs.Prelude.{◌≡◌, ℕ, ◌+◌, ◌-◌, ◌<◌, ◌≤◌, suc, zero, min, List, [], ◌∷◌, ◌++◌, length, take, Bool, true, false, Option, None, Some, Result, Ok, Err}
 
--- what a sink tells of itself: the bytes that it took so far, where it tells them, their number, and how often it failed
+-- what a sink tells of itself: the bytes that it took so far, where it tells them, their number,
+-- and how often it failed
 pub record Account : Type 0 where
   pub bytes : Option (List ℕ)
   pub count : ℕ
@@ -47,7 +48,8 @@ pub record Wrote (old new : Account) (text : List ℕ) : Type 0 where
   pub took : Took old new text
   pub failures : new.failures ≡ old.failures
 
--- the sink failed once and was asked nothing more: what was written is the beginning of the text, not the whole of it
+-- the sink failed once and was asked nothing more: what was written is the beginning of the text,
+-- not the whole of it
 pub record CutOff (old new : Account) (text : List ℕ) : Type 0 where
   pub begun : old.count ≤ new.count
   pub within : new.count < old.count + length text

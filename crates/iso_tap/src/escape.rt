@@ -27,8 +27,8 @@ impl<'a, W: Sink> Printer<'a, W> {
     ghost use Rattle.iso_tap.specs.Escapes.{with_escapes};
     ghost use Rattle.iso_tap.specs.Printers.{Prints};
 
-    /// Writes a text with a backslash before each backslash and each of this other byte. What stands
-    /// between these goes to the sink in one call.
+    /// Writes a text with a backslash before each backslash and each of this other byte. What
+    /// stands between these goes to the sink in one call.
     pub(crate) fn escaped(&mut self, other: u8, text: &[u8]) -> Result<(), SinkFailed>
         ensures { Prints self.old self.new (with_escapes other text.now) result }
     {

@@ -26,18 +26,20 @@ pub fn empty_suite_has_no_points()
     ensures ok { all_ok (tree []) outcome_of ≡ true }
 {}
 
-/// A level counts its own nodes, a class's point comes after its level, and its block tells of the class alone.
+/// A level counts its own nodes, a class's point comes after its level, and its block tells of the
+/// class alone.
 pub fn classes_come_after_their_levels()
     ensures { report cart_and_desk outcome_of ≡ reported_text }
 {}
 
-/// Each of the five verdicts in one report: a fail, a fault and what is blocked are not ok, a skipped test is and says why, and only a
-/// pass without output has no block.
+/// Each of the five verdicts in one report: a fail, a fault and what is blocked are not ok, a
+/// skipped test is and says why, and only a pass without output has no block.
 pub fn each_verdict_has_its_point()
     ensures { report cart_and_desk each_of ≡ each_reported }
 {}
 
-/// A fault, a blocked test and a class that failed by itself reach up as a failed test does, and not down.
+/// A fault, a blocked test and a class that failed by itself reach up as a failed test does, and
+/// not down.
 pub fn what_is_not_ok_reaches_up()
     ensures fault { is_ok cart_and_desk each_of 2 ≡ false }
     ensures blocked { is_ok cart_and_desk each_of 3 ≡ false }

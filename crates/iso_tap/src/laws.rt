@@ -1,4 +1,5 @@
-//! Laws of reports, over any tree of nodes. Each function does nothing: its contract is the law, and is proved.
+//! Laws of reports, over any tree of nodes. Each function does nothing: its contract is the law,
+//! and is proved.
 ghost use Rattle.std.specs.Prelude.{◌≡◌, ◌<◌, ◌+◌, ◌&&◌, ◌++◌, ℕ, List, length};
 ghost use Rattle.std.specs.List.{list_all};
 ghost use Rattle.iso_model.specs.declared.outcome.Outcome.{Outcome};
@@ -8,7 +9,8 @@ ghost use Rattle.iso_tap.specs.ReportBlocks.{point};
 ghost use Rattle.iso_tap.specs.ReportLines.{is_ok_verdict};
 ghost use Rattle.iso_tap.specs.Reports.{is_ok, reported, subtest};
 
-/// What is reported of a node is its subtest, in which its children are reported four spaces further in, and then its point.
+/// What is reported of a node is its subtest, in which its children are reported four spaces
+/// further in, and then its point.
 pub fn reports_go_down_the_tree()
     ensures { (tree : List Row) (outcome : ℕ → Outcome) → IsTree tree → (indent number n : ℕ) → 0 < n → n < length tree
         → reported tree outcome indent number n

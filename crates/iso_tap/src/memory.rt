@@ -5,7 +5,7 @@ use crate::sink::{Sink, SinkFailed};
 use std::alloc::Global;
 use std::marker::Model;
 
-/// A sink that keeps what it takes in memory. Want of memory is a failure.
+/// A sink that keeps what it takes in memory. Running out of memory is a failure.
 #[derive(Drop)]
 pub struct MemorySink {
     bytes: Vec<u8>,

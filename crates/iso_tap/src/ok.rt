@@ -12,8 +12,8 @@ use iso_lifecycle::view::{View, ViewVerdict};
 use iso_plan::laws;
 use iso_plan::plan::Plan;
 
-/// Whether all points of the report are ok: a test's where it passed or was skipped, a class's where its own verdict is
-/// one of these and all its children's points are ok. Takes no memory.
+/// Whether all points of the report are ok: a test's where it passed or was skipped, a class's
+/// where its own verdict is one of these and all its children's points are ok. Takes no memory.
 pub fn all_ok(plan: &Plan, results: &Results<'_>) -> bool
     requires plan { results.now.plan ≡ plan.now }
     requires complete { AreComplete results.now }

@@ -15,10 +15,11 @@ use iso_model::script::Mode;
 use iso_plan::laws;
 use iso_plan::plan::Plan;
 
-/// Writes a plan for so many workers: the line `workers W`, then for each node but the root, in preorder, a line
-/// `N KIND MODE [LOCKS] PATH`. KIND is `class` or `test`, MODE `same_thread` or `concurrent`. LOCKS are `r:KEY` for READ
-/// and `w:KEY` for READ_WRITE, by key number, with commas between them. PATH is the names of the team, the enclosing
-/// classes and the node, with dots between them. Takes no memory.
+/// Writes a plan for so many workers: the line `workers W`, then for each node but the root, in
+/// preorder, a line `N KIND MODE [LOCKS] PATH`. KIND is `class` or `test`, MODE `same_thread` or
+/// `concurrent`. LOCKS are `r:KEY` for READ and `w:KEY` for READ_WRITE, by key number, with commas
+/// between them. PATH is the names of the team, the enclosing classes and the node, with dots
+/// between them. Takes no memory.
 ///
 /// The sink is asked again where it takes only some bytes, and no more once it has failed.
 pub fn write_plan<W: Sink>(plan: &Plan, workers: u32, sink: &mut W) -> Result<(), TapFault>
@@ -143,8 +144,8 @@ impl<'a, W: Sink> Printer<'a, W> {
         Ok(())
     }
 
-    /// Writes a node's path: the names on it from the top-level class down, with dots between them. It calls itself once
-    /// for each class that the node stands in.
+    /// Writes a node's path: the names on it from the top-level class down, with dots between them.
+    /// It calls itself once for each class that the node stands in.
     #[cycle(path)]
     pub fn path(&mut self, plan: &Plan, node: u32) -> Result<(), SinkFailed>
         requires above { 0 < node }

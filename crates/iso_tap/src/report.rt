@@ -14,9 +14,10 @@ use iso_lifecycle::results::Results;
 use iso_plan::laws;
 use iso_plan::plan::Plan;
 
-/// Writes the report of results (TAP version 14): the version, then the points of the plan's nodes in order, a class's level
-/// before its point (subtests). A block stands under each point whose node has something to tell (YAML diagnostics). All nodes
-/// but the root must have results. Takes no memory.
+/// Writes the report of results (TAP version 14): the version, then the points of the plan's nodes
+/// in order, a class's level before its point (subtests). A block stands under each point whose
+/// node has something to tell (YAML diagnostics). All nodes but the root must have results. Takes
+/// no memory.
 ///
 /// The sink is asked again where it takes only some bytes, and no more once it has failed.
 pub fn write_report<W: Sink>(

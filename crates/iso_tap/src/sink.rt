@@ -21,7 +21,7 @@ pub trait Sink {
             ≡ failures_after (is_failure result bytes.now) (account self.old).failures }
         ensures countable { (account self.new).count ≤ greatest };
 
-    /// Has what stands behind the sink pass on what it holds. A sink whose writer can't has failed.
+    /// Flushes what stands behind the sink. A sink whose writer can't has failed.
     fn flush(&mut self) -> Result<(), SinkFailed>
         ensures kept { TookNothing (account self.old) (account self.new) }
         ensures flushed { (account self.new).failures

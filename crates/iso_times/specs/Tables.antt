@@ -5,7 +5,8 @@ use Rattle.iso_lifecycle.specs.declared.kind.BodyKind.{BodyKind}
 use Rattle.iso_lifecycle.specs.declared.kind.BodyKind.TheVariants.{BeforeAll, Test, AfterAll}
 use Rattle.iso_times.specs.declared.times.BodyTime.{BodyTime}
 
--- the place of a node's body: each node has two, of which the second is that of a class's `after_all`
+-- the place of a node's body: each node has two, of which the second is that of a class's
+-- `after_all`
 abbrev pub slot_of : ℕ → BodyKind → ℕ
 slot_of node BeforeAll = 2 * node
 slot_of node Test = 2 * node

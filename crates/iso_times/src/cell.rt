@@ -4,7 +4,8 @@ use crate::moment::Moment;
 use crate::times::BodyTime;
 use std::sync::atomic::{AtomicU32, Ordering};
 
-/// When a body began and ended, and its worker. Each is written by that worker alone, and at most once.
+/// When a body began and ended, and its worker. Each is written by that worker alone, and at most
+/// once.
 #[derive(Drop)]
 pub(crate) struct Cell {
     worker: AtomicU32,

@@ -10,9 +10,10 @@ use std::marker::Model;
 use std::rt::Clock;
 use std::time::Instant;
 
-/// A gate that keeps when each body begins and ends, by a clock, and is another gate for all else. It takes no lock and, once it is made, no
-/// memory. A body has no time where the clock fails at its begin or end; where it fails as the gate is made, none has. Contracts see for how
-/// many nodes it is.
+/// A gate that keeps when each body begins and ends, by a clock, and is another gate for all else.
+/// It takes no lock and, once it is made, no memory. A body has no time where the clock fails at
+/// its begin or end; where it fails as the gate is made, none has. Contracts see for how many nodes
+/// it is.
 #[derive(Drop)]
 pub struct TimesGate<'g, C, G> {
     clock: &'g C,
@@ -67,7 +68,8 @@ impl<'g, C: Clock, G: Gate> TimesGate<'g, C, G> {
         self.table.into_times()
     }
 
-    /// How many nanoseconds have passed since the gate was made. None where a clock failed, or after 584 years.
+    /// How many nanoseconds have passed since the gate was made. None where a clock failed, or
+    /// after 584 years.
     fn nanos(&self) -> Option<u64> {
         let passed = now(self.clock)?.duration_since(self.start?);
         u64::try_from(passed.as_nanos()).ok()

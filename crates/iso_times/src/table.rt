@@ -8,7 +8,8 @@ use iso_lifecycle::kind::BodyKind;
 use std::alloc::{AllocError, Global};
 use std::marker::Model;
 
-/// A cell for each body of a run, two for each node, and room for their times. Contracts see how many nodes it is for.
+/// A cell for each body of a run, two for each node, and room for their times. Contracts see how
+/// many nodes it is for.
 #[derive(Drop)]
 pub(crate) struct Table {
     nodes: u32,
@@ -66,7 +67,8 @@ impl Table {
     }
 }
 
-/// The place of a node's body in the table: two for each node, the second that of a class's `after_all`.
+/// The place of a node's body in the table: two for each node, the second that of a class's
+/// `after_all`.
 pub(crate) fn slot_of(node: u32, kind: BodyKind) -> usize
     ensures { result ≡ slot_of node kind }
 {

@@ -38,8 +38,8 @@ impl BodyTime {
 
 /// The times of a run's bodies.
 ///
-/// Contracts see them in the order of the nodes, two for each, as they were kept: none of a body that didn't run or didn't end, or at whose
-/// begin or end the clock failed.
+/// Contracts see them in the order of the nodes, two for each, as they were kept: none of a body
+/// that didn't run or didn't end, or at whose begin or end the clock failed.
 #[derive(Drop)]
 pub struct Times {
     bodies: Vec<Option<BodyTime>>,
@@ -82,7 +82,8 @@ impl Times {
         micros(self.kept(node, BodyKind::BeforeAll)) + micros(self.kept(node, BodyKind::AfterAll))
     }
 
-    /// How many microseconds the bodies of each of so many nodes took, by the nodes' numbers; none of a node none of whose bodies has a time.
+    /// How many microseconds the bodies of each of so many nodes took, by the nodes' numbers; none
+    /// of a node none of whose bodies has a time.
     pub fn by_node(&self, alloc: Global, nodes: u32) -> Result<Vec<Option<u64>>, AllocError>
         ensures { IfOk result (λ v. v.items ≡ times_by_node self.now nodes) }
     {

@@ -20,7 +20,8 @@ joined (t ∷ ts) = t ++ joined ts
 abbrev pub micros : ℕ → List ℕ
 micros n = decimal (n / 1000) ++ codes "." ++ decimal (n / 100 % 10) ++ decimal (n / 10 % 10) ++ decimal (n % 10)
 
--- a node: its path, which has nothing to escape; a number that is no node's, and the root, have none
+-- a node: its path, which has nothing to escape; a number that is no node's, and the root, have
+-- none
 abbrev pub node_text : List Row → ℕ → List ℕ
 node_text tree n = cond (n == 0 || nat_le (length tree) n) [] (path_text tree n)
 

@@ -1,4 +1,5 @@
--- A trace in the format of Chrome (Trace Event Format): what each worker did, and what nodes waited for.
+-- A trace in the format of Chrome (Trace Event Format): what each worker did, and what nodes waited
+-- for.
 use Rattle.std.specs.Prelude.{ℕ, zero, suc, ◌-◌, List, [], ◌∷◌, ◌++◌, Option, Some, None, Bool, cond, codes, length}
 use Rattle.std.specs.Fmt.{decimal}
 use Rattle.iso_critical.specs.Critical.{is_among}
@@ -83,8 +84,8 @@ body_events tree bodies results critical zero n = []
 body_events tree bodies results critical (suc count) n =
     node_events tree bodies results critical n ++ body_events tree bodies results critical count (suc n)
 
--- a wait of a node for a key, with a number: its begin, and its end. Told are the node that it waited for longest, how many single waits there
--- were, and how long they were together.
+-- a wait of a node for a key, with a number: its begin, and its end. Told are the node that it
+-- waited for longest, how many single waits there were, and how long they were together.
 abbrev pub wait_event : List Row → ℕ → NodeWait → List ℕ
 wait_event tree id w =
     joined
@@ -123,7 +124,8 @@ section_text tree bodies results critical (Threads workers) = thread_events work
 section_text tree bodies results critical Bodies = body_events tree bodies results critical (length tree - 1) 1
 section_text tree bodies results critical (Waits waits) = wait_events tree 0 waits.now
 
--- the trace: the lanes of so many workers, the bodies in the order of the nodes, of which some are critical, and the waits
+-- the trace: the lanes of so many workers, the bodies in the order of the nodes, of which some are
+-- critical, and the waits
 abbrev pub trace_text : List Row → List (Option BodyTime) → ResultsView → (workers : ℕ) → List NodeWait → (critical : List Body) → List ℕ
 trace_text tree bodies results workers waits critical =
     joined

@@ -18,7 +18,8 @@ use iso_tap::sink::{Sink, SinkFailed};
 use iso_times::times::Times;
 use iso_waits::wait::NodeWait;
 
-/// A run that is told of: its plan, its results, the times of its bodies, those of them that are critical, and the names of its keys.
+/// A run that is told of: its plan, its results, the times of its bodies, those of them that are
+/// critical, and the names of its keys.
 #[derive(Clone, Copy)]
 pub struct Run<'r, 'p> {
     pub plan: &'r Plan,
@@ -30,7 +31,7 @@ pub struct Run<'r, 'p> {
     ghost named: { AreNames (tree_of plan.now) names.now.locks.items names.now.waits.items },
 }
 
-/// Writes the trace of a run on so many workers, whose nodes had these waits. Takes no memory.
+/// Writes the trace of a run on `workers` workers, whose nodes had these waits. Takes no memory.
 ///
 /// The sink is asked again where it takes only some bytes, and no more once it has failed.
 pub fn write_trace<W: Sink>(

@@ -24,8 +24,9 @@ pub(crate) fn wait_events<W: Sink>(
     Ok(())
 }
 
-/// Writes a wait of a node for a key, with a number: its begin, and its end. Among its arguments are the node that it waited for longest, how
-/// many single waits there were, and how long they were together.
+/// Writes a wait of a node for a key, with a number: its begin, and its end. Among its arguments
+/// are the node that it waited for longest, how many single waits there were, and how long they
+/// were together.
 fn wait_event<W: Sink>(
     printer: &mut Printer<'_, W>,
     run: &Run<'_, '_>,

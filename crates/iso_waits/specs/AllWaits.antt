@@ -15,7 +15,8 @@ pub record IsFor (tree : List Row) (n : ℕ) (w : Wait) : Type 0 where
   pub within : w.holder < length tree
   pub conflicts : conflict tree w.holder n ≡ true
 
--- the key that node n waits for by a wait: the lowest on which the two nodes conflict. There is one, since they do.
+-- the key that node n waits for by a wait: the lowest on which the two nodes conflict. There is
+-- one, since they do.
 abbrev pub key_of : List Row → ℕ → Wait → ℕ
 key_of tree n w = unwrap_or (contended_key tree n w.holder) 0
 
@@ -55,16 +56,19 @@ abbrev pub and_then : ℕ → ℕ → Option NodeWait → Wait → NodeWait
 and_then n k None w = alone n k w
 and_then n k (Some sum) w = with_later sum w
 
--- what single waits of node n for key k, in the order of time, add up to, with what came before them
+-- what single waits of node n for key k, in the order of time, add up to, with what came before
+-- them
 abbrev pub added_up : ℕ → ℕ → (before : Option NodeWait) → List Wait → Option NodeWait
 added_up n k before [] = before
 added_up n k before (w ∷ ws) = added_up n k (Some (and_then n k before w)) ws
 
--- the wait of node n for key k: what those of its single waits that are for this key add up to. None where there are none.
+-- the wait of node n for key k: what those of its single waits that are for this key add up to.
+-- None where there are none.
 abbrev pub wait_for : List Row → ℕ → List Wait → ℕ → Option NodeWait
 wait_for tree n ws k = added_up n k None (filter (has_key tree n k) ws)
 
--- the waits of node n: for each of its locks, which stand in the order of their keys, that for the key
+-- the waits of node n: for each of its locks, which stand in the order of their keys, that for the
+-- key
 abbrev pub key_waits : List Row → ℕ → List Wait → List NodeWait
 key_waits tree n ws = filter_map (λ l. wait_for tree n ws l.key) (locks tree n)
 

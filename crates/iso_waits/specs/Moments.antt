@@ -30,7 +30,8 @@ abbrev pub lowest_at : ℕ → List Stay → Option ℕ
 lowest_at t [] = None
 lowest_at t (s ∷ ss) = lower_of (node_at t s) (lowest_at t ss)
 
--- what was waited for up to a moment: the waits that are over, and the one that goes on, if one does
+-- what was waited for up to a moment: the waits that are over, and the one that goes on, if one
+-- does
 pub record Waited : Type 0 where
   pub over : List Wait
   pub last : Option Wait
@@ -63,11 +64,13 @@ abbrev pub goes_on : ℕ → ℕ → Option ℕ → Waited → Waited
 goes_on from until None w = closed w
 goes_on from until (Some m) w = held from until m w.over w.last
 
--- what was waited for in so many nanoseconds from a moment on, where a function says who is in the way at each
+-- what was waited for in so many nanoseconds from a moment on, where a function says who is in the
+-- way at each
 abbrev pub waited : (ℕ → Option ℕ) → ℕ → ℕ → Waited
 waited holder from zero = nothing_told
 waited holder from (suc n) = goes_on (from + n) (from + n + 1) (holder (from + n)) (waited holder from n)
 
--- the waits from a moment until another: one for each node and each time that it is in the way without a break
+-- the waits from a moment until another: one for each node and each time that it is in the way
+-- without a break
 abbrev pub waits_within : (ℕ → Option ℕ) → ℕ → ℕ → List Wait
 waits_within holder from until = all_of (waited holder from (until - from))

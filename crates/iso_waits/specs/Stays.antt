@@ -14,7 +14,8 @@ use Rattle.iso_waits.specs.declared.stay.Stay.{Stay}
 abbrev pub body_time : List (Option BodyTime) → ℕ → BodyKind → Option BodyTime
 body_time bodies n kind = option_map (since (first_begin bodies)) (time_in bodies n kind)
 
--- a node from the begin of its first body until the end of its last one, of which a test has none but the first
+-- a node from the begin of its first body until the end of its last one, of which a test has none
+-- but the first
 abbrev pub stay_of : ℕ → Option BodyTime → Option BodyTime → Option Stay
 stay_of n None last = None
 stay_of n (Some first) last = Some (record { node = n; begin = first.begin; end = (unwrap_or last first).end })
@@ -42,6 +43,7 @@ is_within t (Some s) = is_at t s
 abbrev pub is_entered : List (Option BodyTime) → ℕ → ℕ → Bool
 is_entered bodies t m = is_within t (stayed bodies m)
 
--- the node that is in another's way at a moment: the lowest one that is entered and conflicts with it
+-- the node that is in another's way at a moment: the lowest one that is entered and conflicts with
+-- it
 abbrev pub holder : List Row → List (Option BodyTime) → ℕ → ℕ → Option ℕ
 holder tree bodies n t = lowest_in_the_way tree (is_entered bodies t) n

@@ -1,4 +1,5 @@
--- What single waits add up to, in a table that has a place for each key and is used for one node after another.
+-- What single waits add up to, in a table that has a place for each key and is used for one node
+-- after another.
 use Rattle.std.specs.Prelude.{◌≡◌, ℕ, ◌<◌, ◌≤◌, ◌==◌, List, Option, Some, None, IfSome, cond, length, slice_index_or}
 use Rattle.std.specs.List.{filter_map}
 use Rattle.iso_plan.specs.KeyTable.{keys}
@@ -21,7 +22,8 @@ sum_at n sums k = of_node n (slice_index_or sums k None)
 abbrev pub sums_of : ℕ → List (Option NodeWait) → List Lock → List NodeWait
 sums_of n sums ls = filter_map (λ l. sum_at n sums l.key) ls
 
--- a table has for each key what some single waits of node n add up to, and nothing of nodes after it
+-- a table has for each key what some single waits of node n add up to, and nothing of nodes after
+-- it
 pub record AreSums (tree : List Row) (n : ℕ) (ws : List Wait) (sums : List (Option NodeWait)) : Type 0 where
   pub size : length sums ≡ length (keys tree)
   pub all : (k : ℕ) → k < length (keys tree) → sum_at n sums k ≡ wait_for tree n ws k

@@ -38,7 +38,8 @@ abbrev pub highest : (ℕ → Bool) → ℕ → Option ℕ
 highest test zero = None
 highest test (suc n) = cond (test n) (Some n) (highest test n)
 
--- the last SAME_THREAD sibling before a node, where the node is SAME_THREAD too: the one that it has to let finish
+-- the last SAME_THREAD sibling before a node, where the node is SAME_THREAD too: the one that it
+-- has to let finish
 abbrev pub earlier : List Row → Settings → List (Option BodyTime) → ℕ → Option ℕ
 earlier tree settings bodies n = cond (is_same_thread (mode tree settings n)) (highest (is_sibling tree settings bodies n) n) None
 
@@ -62,6 +63,7 @@ waits_until holder None s = []
 waits_until holder (Some from) None = []
 waits_until holder (Some from) (Some s) = waits_within holder from s.begin
 
--- the waits of a node for others. What is left of the time until it was entered, it waited for a worker.
+-- the waits of a node for others. What is left of the time until it was entered, it waited for a
+-- worker.
 abbrev pub waits : List Row → Settings → List (Option BodyTime) → ℕ → List Wait
 waits tree settings bodies n = waits_until (holder tree bodies n) (ready tree settings bodies n) (stayed bodies n)

@@ -11,9 +11,10 @@ use iso_plan::plan::Plan;
 use iso_times::times::Times;
 use std::alloc::{AllocError, Global};
 
-/// The waits of all nodes of a run of this plan, whose bodies had these times, one for each node and key that it waited for: in the order of
-/// the nodes, and of each in the order of keys. The single waits of a node are kept until they are added up; so this takes memory in
-/// proportion to the nodes and their locks.
+/// The waits of all nodes of a run of this plan, whose bodies had these times, one for each node
+/// and key that it waited for: in the order of the nodes, and of each in the order of keys. The
+/// single waits of a node are kept until they are added up; so this takes memory in proportion to
+/// the nodes and their locks.
 pub fn all_waits(alloc: Global, plan: &Plan, times: &Times) -> Result<Vec<NodeWait>, AllocError>
     ensures { IfOk result (λ v. v.items ≡ all_waits (tree_of plan.now) plan.now.settings times.now) }
 {

@@ -9,7 +9,8 @@ use iso_plan::plan::Plan;
 use std::alloc::{AllocError, Global};
 use std::collections::BTreeMap;
 
-/// For each node of a plan one that takes the same keys in the same way: mostly the first that does, so that nodes that do have the same one.
+/// For each node of a plan one that takes the same keys in the same way: mostly the first that
+/// does, so that nodes that do have the same one.
 pub(crate) fn firsts(alloc: Global, plan: &Plan) -> Result<Vec<u32>, AllocError>
     ensures { IfOk result (λ v. AreFirsts (tree_of plan.now) v.items) }
 {
@@ -24,7 +25,8 @@ pub(crate) fn firsts(alloc: Global, plan: &Plan) -> Result<Vec<u32>, AllocError>
     Ok(firsts)
 }
 
-/// A node before another, if one was found that takes the same keys in the same way; else this one itself.
+/// A node before another, if one was found that takes the same keys in the same way; else this one
+/// itself.
 fn twin(plan: &Plan, found: Option<u32>, node: u32) -> u32
     requires { node < length plan.now.rows }
     ensures { IsTwin (tree_of plan.now) node result }
@@ -63,7 +65,8 @@ fn same_locks(some: &[Lock], others: &[Lock]) -> bool
     true
 }
 
-/// A number of some locks, mostly another one than that of other locks. Nothing but time hangs on it.
+/// A number of some locks, mostly another one than that of other locks. Nothing but time hangs on
+/// it.
 fn fingerprint(locks: &[Lock]) -> u64 {
     let mut print: u64 = 0;
     for lock in locks {

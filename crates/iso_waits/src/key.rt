@@ -9,8 +9,9 @@ use iso_model::access::Access;
 use iso_plan::lock::Lock;
 use iso_plan::plan::Plan;
 
-/// The lowest key on which two nodes of a plan conflict; none where they don't. Takes no memory. Locks stand in the order of their keys, so
-/// both lists are gone through once, side by side, up to this key.
+/// The lowest key on which two nodes of a plan conflict; none where they don't. Takes no memory.
+/// Locks stand in the order of their keys, so both lists are gone through once, side by side, up to
+/// this key.
 pub fn contended_key(plan: &Plan, node: u32, other: u32) -> Option<u32>
     requires node { node < length plan.now.rows }
     requires other { other < length plan.now.rows }

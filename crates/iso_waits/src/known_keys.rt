@@ -17,8 +17,9 @@ pub(crate) struct KnownKey {
     pub key: Option<u32>,
 }
 
-/// For each node of a plan one that takes the same keys in the same way, and for each such one the key on which it conflicts with the node
-/// that was last compared with it. So two nodes aren't compared where two with the same keys were.
+/// For each node of a plan one that takes the same keys in the same way, and for each such one the
+/// key on which it conflicts with the node that was last compared with it. So two nodes aren't
+/// compared where two with the same keys were.
 #[derive(Drop)]
 pub(crate) struct KnownKeys {
     pub firsts: Vec<u32>,

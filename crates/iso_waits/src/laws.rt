@@ -14,7 +14,8 @@ ghost use Rattle.iso_waits.specs.Moments.{waits_within};
 ghost use Rattle.iso_waits.specs.Waits.{waits};
 ghost use Rattle.iso_waits.specs.declared.wait.Wait.{Wait};
 
-/// The waits between two moments lie between them and follow one another: none begins before the one before it is over.
+/// The waits between two moments lie between them and follow one another: none begins before the
+/// one before it is over.
 pub fn waits_follow_one_another()
     ensures { (holder : ℕ → Option ℕ) (from until : ℕ) → AreInTurn from until (waits_within holder from until) }
 {}
@@ -35,13 +36,15 @@ pub fn nodes_conflict_on_a_key()
     ensures { (tree : List Row) (m n : ℕ) → is_some (contended_key tree m n) ≡ conflict tree m n }
 {}
 
-/// Each single wait of a node lies within what is told of its waits for the same key, and isn't longer than the longest that is told.
+/// Each single wait of a node lies within what is told of its waits for the same key, and isn't
+/// longer than the longest that is told.
 pub fn single_waits_lie_within()
     ensures { (tree : List Row) (settings : Settings) (bodies : List (Option BodyTime)) (n : ℕ)
         → All (λ w. Any (λ sum. Covers (key_of tree n w) sum w) (node_waits tree settings bodies n)) (waits tree settings bodies n) }
 {}
 
-/// What is told of a node's waits for a key is how long its single waits for this key took together, and how many there were.
+/// What is told of a node's waits for a key is how long its single waits for this key took
+/// together, and how many there were.
 pub fn single_waits_add_up()
     ensures { (tree : List Row) (n k : ℕ) (ws : List Wait) → IfSome (wait_for tree n ws k) (AddUpTo (filter (has_key tree n k) ws)) }
 {}

@@ -10,8 +10,8 @@ use iso_plan::laws::parents_come_first;
 use iso_plan::plan::Plan;
 use iso_times::times::Times;
 
-/// When a node other than the root was ready: its class was open and, where it is SAME_THREAD, its earlier SAME_THREAD sibling had
-/// finished. None where its class's `before_all` has no time.
+/// When a node other than the root was ready: its class was open and, where it is SAME_THREAD, its
+/// earlier SAME_THREAD sibling had finished. None where its class's `before_all` has no time.
 pub(crate) fn ready(plan: &Plan, times: &Times, node: u32) -> Option<u64>
     requires above { 0 < node }
     requires within { node < length plan.now.rows }
@@ -56,7 +56,8 @@ pub(crate) fn earlier(plan: &Plan, times: &Times, node: u32) -> Option<u32>
     }
 }
 
-/// The last SAME_THREAD sibling before a node that was entered. Siblings have higher numbers than their class.
+/// The last SAME_THREAD sibling before a node that was entered. Siblings have higher numbers than
+/// their class.
 fn last_sibling(plan: &Plan, times: &Times, node: u32) -> Option<u32>
     requires above { 0 < node }
     requires within { node < length plan.now.rows }

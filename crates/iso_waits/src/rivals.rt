@@ -11,8 +11,9 @@ use crate::stay::Stay;
 use iso_plan::plan::Plan;
 use std::alloc::{AllocError, Global};
 
-/// The stays of nodes that conflict with a node, once they are known of one. They are those of each node that takes the same keys in the
-/// same way, as tests of a class often do, so they aren't looked for again.
+/// The stays of nodes that conflict with a node, once they are known of one. They are those of each
+/// node that takes the same keys in the same way, as tests of a class often do, so they aren't
+/// looked for again.
 #[derive(Drop)]
 pub(crate) struct Rivals {
     pub of: Option<u32>,
@@ -68,7 +69,8 @@ fn is_that(of: Option<u32>, node: u32) -> bool
     }
 }
 
-/// Adds the stays of nodes that conflict with a node, of all stays. With one that takes no key none does.
+/// Adds the stays of nodes that conflict with a node, of all stays. With one that takes no key none
+/// does.
 fn collect(
     found: &mut Vec<Stay>,
     keys: &mut KnownKeys,

@@ -5,7 +5,8 @@ ghost use Rattle.iso_waits.specs.Moments.{begin_of, lower, lowest_at};
 
 use crate::stay::Stay;
 
-/// The lowest node that is entered at a moment, if one is, and a later moment before which none other is.
+/// The lowest node that is entered at a moment, if one is, and a later moment before which none
+/// other is.
 #[derive(Clone, Copy)]
 pub(crate) struct Sight {
     pub holder: Option<u32>,

@@ -7,7 +7,8 @@ ghost use Rattle.iso_waits.specs.Stays.{stayed};
 use iso_lifecycle::kind::BodyKind;
 use iso_times::times::Times;
 
-/// A node, from the begin of its first body until the end of its last one, in nanoseconds from the first begin of all bodies.
+/// A node, from the begin of its first body until the end of its last one, in nanoseconds from the
+/// first begin of all bodies.
 #[derive(Clone, Copy)]
 pub struct Stay {
     pub node: u32,
@@ -15,8 +16,9 @@ pub struct Stay {
     pub end: u64,
 }
 
-/// When a node was entered and hadn't finished. None where its first body has no time. A class whose `after_all` has none, since a clock
-/// failed, counts as finished when its `before_all` had ended.
+/// When a node was entered and hadn't finished. None where its first body has no time. A class
+/// whose `after_all` has none, since a clock failed, counts as finished when its `before_all` had
+/// ended.
 pub fn stayed(times: &Times, node: u32) -> Option<Stay>
     ensures { result ≡ stayed times.now node }
 {

@@ -11,7 +11,8 @@ use crate::waits::Waits;
 use iso_plan::lock::Lock;
 use std::alloc::AllocError;
 
-/// Adds up the single waits of a node, in a table that has a place for each key. What it has of nodes before this one counts for nothing.
+/// Adds up the single waits of a node, in a table that has a place for each key. What it has of
+/// nodes before this one counts for nothing.
 pub(crate) fn add_up(sums: &mut Vec<Option<NodeWait>>, told: &Waits<'_>, node: u32, waits: &[Wait])
     requires node { node < length told.now.plan.rows }
     requires waits { All (IsFor (tree_of told.now.plan) node) waits.now }

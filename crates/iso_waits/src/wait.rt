@@ -1,4 +1,5 @@
-/// A single wait of a node, in nanoseconds from the first begin: the node that was in its way, and from when to when it was.
+/// A single wait of a node, in nanoseconds from the first begin: the node that was in its way, and
+/// from when to when it was.
 #[derive(Clone, Copy)]
 pub struct Wait {
     pub holder: u32,
@@ -6,8 +7,8 @@ pub struct Wait {
     pub end: u64,
 }
 
-/// A wait of a node for a key: all its single waits that were for this key, from the first one's begin until the last one's end. Times are in
-/// nanoseconds, moments from the first begin.
+/// A wait of a node for a key: all its single waits that were for this key, from the first one's
+/// begin until the last one's end. Times are in nanoseconds, moments from the first begin.
 #[derive(Clone, Copy)]
 pub struct NodeWait {
     pub node: u32,

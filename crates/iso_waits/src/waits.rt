@@ -17,7 +17,8 @@ use iso_times::times::Times;
 use std::alloc::{AllocError, Global};
 use std::marker::Model;
 
-/// What tells what the nodes of a run waited for. Contracts see the plan of the run and the times of its bodies.
+/// What tells what the nodes of a run waited for. Contracts see the plan of the run and the times
+/// of its bodies.
 #[derive(Drop)]
 pub struct Waits<'a> {
     plan: &'a Plan,
@@ -62,9 +63,10 @@ impl<'a> Waits<'a> {
         })
     }
 
-    /// The waits of a node other than the root for others, from when it was ready until it was entered: at each moment for the lowest node
-    /// that conflicts with it, was entered and hadn't finished. None where it wasn't entered, or the times don't tell when it was ready. The
-    /// rest of that time it waited for a worker.
+    /// The waits of a node other than the root for others, from when it was ready until it was
+    /// entered: at each moment for the lowest node that conflicts with it, was entered and hadn't
+    /// finished. None where it wasn't entered, or the times don't tell when it was ready. The rest
+    /// of that time it waited for a worker.
     pub fn waits(&mut self, alloc: Global, node: u32) -> Result<Vec<Wait>, AllocError>
         requires above { 0 < node }
         requires within { node < length self.old.plan.rows }
@@ -98,8 +100,9 @@ impl<'a> Waits<'a> {
         stayed(self.times, node)
     }
 
-    /// When a node other than the root was ready: its class was open and, where it is SAME_THREAD, its earlier SAME_THREAD sibling had
-    /// finished. None where its class's `before_all` has no time.
+    /// When a node other than the root was ready: its class was open and, where it is SAME_THREAD,
+    /// its earlier SAME_THREAD sibling had finished. None where its class's `before_all` has no
+    /// time.
     pub fn ready(&self, node: u32) -> Option<u64>
         requires above { 0 < node }
         requires within { node < length self.now.plan.rows }
@@ -108,8 +111,8 @@ impl<'a> Waits<'a> {
         ready::ready(self.plan, self.times, node)
     }
 
-    /// The sibling that a node other than the root has to let finish: the last SAME_THREAD one before it that was entered, where the node is
-    /// SAME_THREAD too.
+    /// The sibling that a node other than the root has to let finish: the last SAME_THREAD one
+    /// before it that was entered, where the node is SAME_THREAD too.
     pub fn earlier(&self, node: u32) -> Option<u32>
         requires above { 0 < node }
         requires within { node < length self.now.plan.rows }

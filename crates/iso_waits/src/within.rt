@@ -9,7 +9,8 @@ use crate::told::Told;
 use crate::wait::Wait;
 use std::alloc::{AllocError, Global};
 
-/// The waits from a moment until another for the lowest of these that is entered, which are in the order of their begins.
+/// The waits from a moment until another for the lowest of these that is entered, which are in the
+/// order of their begins.
 pub(crate) fn waits_within(
     alloc: Global,
     stays: &[Stay],

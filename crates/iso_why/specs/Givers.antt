@@ -16,8 +16,8 @@ is_as Read (Some Write) = false
 is_as Write (Some Read) = false
 is_as Write (Some Write) = true
 
--- whether a node gives a lock to the node that gathers for it: its marks declare the key in that access. The global key, number 0, is given by
--- what asks for isolation.
+-- whether a node gives a lock to the node that gathers for it: its marks declare the key in that
+-- access. The global key, number 0, is given by what asks for isolation.
 abbrev pub gives : List Row → Lock → ℕ → Bool
 gives tree l m = cond (l.key == 0) (isolates tree m) (is_as l.access (declared tree m (slice_index_or (keys tree) l.key [])))
 

@@ -15,7 +15,8 @@ use Rattle.iso_why.specs.declared.why.Cause.TheVariants.{Off, Forced, Marked, De
 abbrev pub writes_key : List Row → (node key : ℕ) → Bool
 writes_key tree m key = list_any (λ (l : Lock). l.key == key && is_write l) (locks tree m)
 
--- node n stands in node m, which takes this key for READ_WRITE: that alone puts it on its class's thread
+-- node n stands in node m, which takes this key for READ_WRITE: that alone puts it on its class's
+-- thread
 pub record IsForcing (tree : List Row) (s : Settings) (n m key : ℕ) : Type 0 where
   pub parallel : s.parallel ≡ true
   pub above : is_under tree m (parent tree n) ≡ true

@@ -24,7 +24,8 @@ why_text tree n (Default top) = cond top (codes "by mode.classes.default") (code
 abbrev pub paths_text : List Row → List ℕ → List ℕ
 paths_text tree ns = join_by (path_text tree) (codes ", ") ns
 
--- where a node has a lock from: the nodes whose marks gave it; the global key from isolated classes, or as each top-level class has it
+-- where a node has a lock from: the nodes whose marks gave it; the global key from isolated
+-- classes, or as each top-level class has it
 abbrev pub from_text : List Row → (node : ℕ) → Lock → List ℕ
 from_text tree n l =
     cond (l.key == 0) (cond (is_write l) (codes "isolated " ++ paths_text tree (givers tree n l)) (codes "every top-level class"))

@@ -42,7 +42,8 @@ pub fn tests_have_their_reasons()
         ∷ []) }
 {}
 
-/// A class that writes forces what stands in it, whatever is marked there, and not itself; then a mark counts, the nearest; then the default.
+/// A class that writes forces what stands in it, whatever is marked there, and not itself; then a
+/// mark counts, the nearest; then the default.
 pub fn force_comes_before_marks()
     ensures off { reason cart_and_desk one_thread 2 ≡ Off }
     ensures forced { reason cart_and_desk concurrent_by_default 2 ≡ Forced 1 1 }
@@ -52,7 +53,8 @@ pub fn force_comes_before_marks()
     ensures default { reason loose concurrent_by_default 2 ≡ Default false }
 {}
 
-/// Who writes gave a key that is taken for READ_WRITE, and who reads doesn't; a mark for children is one of each child.
+/// Who writes gave a key that is taken for READ_WRITE, and who reads doesn't; a mark for children
+/// is one of each child.
 pub fn marks_gave_the_locks()
     ensures writer { givers cart_and_desk 1 (write_lock 1) ≡ 3 ∷ [] }
     ensures readers { givers nested 2 (read_lock 1) ≡ 2 ∷ [] }

@@ -15,11 +15,14 @@ use iso_tap::fault::TapFault;
 use iso_tap::printer::{Piece, Printer};
 use iso_tap::sink::{Sink, SinkFailed};
 
-/// Writes a plan as `iso_placed_plan::plan::write_placed_plan` does, and below the line of each node, indented, `mode: WHY` and for each of
-/// its locks, in their order, `r:KEY from NODES` or `w:KEY from NODES`. WHY is `parallel execution is off`, `forced by w:KEY of PATH`,
-/// `marked`, `marked on PATH`, `by mode.classes.default` or `by mode.default`, the first that holds. NODES are the paths of those at or
-/// under the node whose effective marks declare the key in that access, with commas between them; of the global key `every top-level class`,
-/// or `isolated` and the paths of the isolated classes. `reach` is what `reach` answers for the plan. Takes no memory.
+/// Writes a plan as `iso_placed_plan::plan::write_placed_plan` does, and below the line of each
+/// node, indented, `mode: WHY` and for each of its locks, in their order, `r:KEY from NODES` or
+/// `w:KEY from NODES`. WHY is `parallel execution is off`, `forced by w:KEY of PATH`, `marked`,
+/// `marked on PATH`, `by mode.classes.default` or `by mode.default`, the first that holds. NODES
+/// are the paths of those at or under the node whose effective marks declare the key in that
+/// access, with commas between them; of the global key `every top-level class`, or `isolated` and
+/// the paths of the isolated classes. `reach` is what `reach` answers for the plan. Takes no
+/// memory.
 ///
 /// The sink is asked again where it takes only some bytes, and no more once it has failed.
 pub fn write_plan_why<W: Sink>(

@@ -8,7 +8,8 @@ use iso_plan::laws;
 use iso_plan::plan::Plan;
 use std::alloc::{AllocError, Global};
 
-/// For each node a number past those of all nodes that stand in it. Takes memory for one number a node, which may be refused.
+/// For each node a number past those of all nodes that stand in it. Takes memory for one number a
+/// node, which may be refused.
 pub fn reach(alloc: Global, plan: &Plan) -> Result<Vec<u32>, AllocError>
     ensures { IfOk result (λ v. IsReach (tree_of plan.now) v.items) }
 {

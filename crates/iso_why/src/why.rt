@@ -17,7 +17,8 @@ pub enum Cause {
     Off,
     /// A class that it stands in takes a key for READ_WRITE.
     Forced { class: u32, key: u32 },
-    /// It is marked with the mode, or else the nearest class that it stands in and that is marked with one.
+    /// It is marked with the mode, or else the nearest class that it stands in and that is marked
+    /// with one.
     Marked { node: u32 },
     /// Neither is, and it is a top-level class, or is none.
     Default { top: bool },
@@ -41,7 +42,8 @@ pub fn why(plan: &Plan, node: u32) -> Cause
     }
 }
 
-/// The nearest of a class and those that it stands in that takes a key for READ_WRITE, with the first such key.
+/// The nearest of a class and those that it stands in that takes a key for READ_WRITE, with the
+/// first such key.
 fn forced_by(plan: &Plan, class: u32) -> Option<Cause>
     requires { class < length plan.now.rows }
     ensures forced { result ≡ forced_by (tree_of plan.now) (path (tree_of plan.now) class) }

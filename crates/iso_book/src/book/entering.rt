@@ -20,8 +20,9 @@ use iso_standing::refused::Refused;
 use std::alloc::AllocError;
 
 impl<'a> Book<'a> {
-    /// Enters a node with any tray. It asks by value whether the tray is of this plan and these starting values, which takes time by
-    /// what these say, and is then as `enter_own`: a tray of others is a stranger's.
+    /// Enters a node with any tray. It asks by value whether the tray is of this plan and these
+    /// starting values, which takes time by what these say, and is then as `enter_own`: a tray of
+    /// others is a stranger's.
     pub fn enter(&mut self, worker: u32, node: u32, tray: &mut Tray<'_>) -> Result<(), CoreFault>
         ensures event { MatchResult result (λ _. IsTaken (Event.Enter worker node) (MayEnterWith self.old node tray.old) self.old self.new)
             (λ fault. IsNotTaken fault (Event.Enter worker node) (MayEnterWith self.old node tray.old) self.old self.new tray.old tray.new) }
@@ -36,10 +37,11 @@ impl<'a> Book<'a> {
         self.enter_own(worker, node, tray)
     }
 
-    /// Enters a node with a tray of this plan and these starting values, where nothing refuses it and the tray is the book's: the node
-    /// is lent to it, and the frames of the classes around the node are handed to it in place of others. A refusal is of the first kind
-    /// that applies, Stranger the last of them. Want of memory, of a further owner of a frame alone, comes after it. Neither changes
-    /// anything.
+    /// Enters a node with a tray of this plan and these starting values, where nothing refuses it
+    /// and the tray is the book's: the node is lent to it, and the frames of the classes around the
+    /// node are handed to it in place of others. A refusal is of the first kind that applies,
+    /// Stranger the last of them. Out of memory, of a further owner of a frame alone, comes after
+    /// it. Neither changes anything.
     pub fn enter_own(
         &mut self,
         worker: u32,
@@ -60,7 +62,8 @@ impl<'a> Book<'a> {
         Ok(())
     }
 
-    /// Why an Enter with a tray of this plan and these starting values is refused, if it is. Takes no memory.
+    /// Why an Enter with a tray of this plan and these starting values is refused, if it is. Takes
+    /// no memory.
     fn refusal_of_enter(&self, worker: u32, node: u32, tray: &Tray<'_>) -> Option<Refused>
         requires plan { tray.now.plan ≡ self.now.plan }
         requires world { tray.now.world ≡ self.now.world }

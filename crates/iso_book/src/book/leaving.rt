@@ -23,8 +23,8 @@ use iso_standing::laws::standings_tell_of_states;
 use iso_standing::refused::Refused;
 use iso_suites::laws::histories_go_on_by_leaves;
 
-/// What the Leave of a body does to the values: the last body of a node brings home what the node takes for READ_WRITE. Takes no
-/// memory.
+/// What the Leave of a body does to the values: the last body of a node brings home what the node
+/// takes for READ_WRITE. Takes no memory.
 fn bring_home(vault: &mut Vault<'_>, node: u32, kind: BodyKind, tray: &mut Tray<'_>)
     requires { is_last kind ≡ true → CanTakeBack node vault.old tray.old }
     ensures vault { vault.new ≡ home_after kind node vault.old }
@@ -37,7 +37,8 @@ fn bring_home(vault: &mut Vault<'_>, node: u32, kind: BodyKind, tray: &mut Tray<
 }
 
 impl<'a> Book<'a> {
-    /// Books what a worker's body came to, with any tray: it asks by value, as `enter` does, and is then as `leave_own`.
+    /// Books what a worker's body came to, with any tray: it asks by value, as `enter` does, and is
+    /// then as `leave_own`.
     pub fn leave(
         &mut self,
         worker: u32,
@@ -59,13 +60,14 @@ impl<'a> Book<'a> {
         self.leave_own(worker, done, tray)
     }
 
-    /// Books what a worker's body came to, with a tray of this plan and these starting values, where nothing refuses it, the body
-    /// is the one that the worker has, and the tray is the book's. The last body of a node gives the node back: what it takes for
-    /// READ_WRITE comes home, and what another node of the tray holds for READ stays open. The receipt tells the place in the
-    /// history.
+    /// Books what a worker's body came to, with a tray of this plan and these starting values,
+    /// where nothing refuses it, the body is the one that the worker has, and the tray is the
+    /// book's. The last body of a node gives the node back: what it takes for READ_WRITE comes
+    /// home, and what another node of the tray holds for READ stays open. The receipt tells the
+    /// place in the history.
     ///
-    /// A refusal is of the first kind that applies: Stopped, NoWorker, NoBody, OtherBody, Stranger. It changes nothing, and hands
-    /// back what was brought. Takes no memory.
+    /// A refusal is of the first kind that applies: Stopped, NoWorker, NoBody, OtherBody, Stranger.
+    /// It changes nothing, and hands back what was brought. Takes no memory.
     pub fn leave_own(
         &mut self,
         worker: u32,
@@ -86,7 +88,8 @@ impl<'a> Book<'a> {
         Ok(self.take_leave(worker, done, tray))
     }
 
-    /// Why a Leave with a tray of this plan and these starting values is refused, if it is. Takes no memory.
+    /// Why a Leave with a tray of this plan and these starting values is refused, if it is. Takes
+    /// no memory.
     fn refusal_of_leave(&self, worker: u32, done: &Done, tray: &Tray<'_>) -> Option<Refused>
         requires plan { tray.now.plan ≡ self.now.plan }
         requires world { tray.now.world ≡ self.now.world }

@@ -32,8 +32,9 @@ impl<'a> Book<'a> {
         self.shut_own(worker, node, tray)
     }
 
-    /// Shuts a class with a tray of this plan and these starting values, where nothing refuses it and the tray is the book's: the frames
-    /// of the class and of those around it are handed to it in place of others. Refusals and want of memory are as for an Enter.
+    /// Shuts a class with a tray of this plan and these starting values, where nothing refuses it
+    /// and the tray is the book's: the frames of the class and of those around it are handed to it
+    /// in place of others. Refusals and running out of memory are as for an Enter.
     pub fn shut_own(&mut self, worker: u32, node: u32, tray: &mut Tray<'_>) -> Result<(), CoreFault>
         requires plan { tray.old.plan ≡ self.old.plan }
         requires world { tray.old.world ≡ self.old.world }
@@ -49,7 +50,8 @@ impl<'a> Book<'a> {
         Ok(())
     }
 
-    /// Why a Shut with a tray of this plan and these starting values is refused, if it is. Takes no memory.
+    /// Why a Shut with a tray of this plan and these starting values is refused, if it is. Takes no
+    /// memory.
     fn refusal_of_shut(&self, worker: u32, node: u32, tray: &Tray<'_>) -> Option<Refused>
         requires plan { tray.now.plan ≡ self.now.plan }
         requires world { tray.now.world ≡ self.now.world }

@@ -1,5 +1,6 @@
-//! When the names of a block are indexed. An index costs as much as many look-ups, and most blocks do few: so the first ones go
-//! over the names, and what they cost together is about what the index costs.
+//! When the names of a block are indexed. An index costs as much as many look-ups, and most blocks
+//! do few: so the first ones go over the names, and what they cost together is about what the index
+//! costs.
 ghost use Rattle.std.specs.Prelude.{◌≡◌};
 ghost use Rattle.iso_interp.specs.Runs.{SameWork, local_of};
 
@@ -12,7 +13,8 @@ use std::alloc::AllocError;
 pub(super) const LOOKS: u32 = 50;
 
 impl<'a> BlockRun<'a> {
-    /// Counts the look-ups that a statement may do, before it does them, and has the names indexed where they are too many.
+    /// Counts the look-ups that a statement may do, before it does them, and has the names indexed
+    /// where they are too many.
     #[inline(always)]
     pub(super) fn count_looks(&mut self, statement: &Stmt) -> Result<(), AllocError>
         ensures local { local_of self.new ≡ local_of self.old }
@@ -29,8 +31,8 @@ impl<'a> BlockRun<'a> {
     }
 }
 
-/// What a statement leaves of so many look-ups. A literal counts as a name, so no more of an expression is gone over than
-/// there are look-ups.
+/// What a statement leaves of so many look-ups. A literal counts as a name, so no more of an
+/// expression is gone over than there are look-ups.
 fn left_after_form(form: &Form, looks: u32) -> u32 {
     match form {
         Form::Let(_, value) | Form::Assign(_, value) => left_after(value, looks.saturating_sub(1)),

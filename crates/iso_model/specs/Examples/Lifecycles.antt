@@ -1,10 +1,12 @@
--- Example scripts on the order of lifecycle blocks, and on what one that doesn't end well does to the others.
+-- Example scripts on the order of lifecycle blocks, and on what one that doesn't end well does to
+-- the others.
 use Rattle.std.specs.Prelude.{Some, [], ◌∷◌, false, codes}
 use Rattle.iso_model.specs.Chains.{ClassHead, TestHead, empty_head}
 use Rattle.iso_model.specs.Examples.Words.{body, a_test, quoted, flag, print, fail, assume}
 
--- class Out { before_each { print "ob"; } after_each { print "oa"; } class In { before_each { print "ib"; } after_each { print "ia"; } test t { print "t"; } } }
--- The outer class's `before_each` runs first and its `after_each` last.
+-- class Out { before_each { print "ob"; } after_each { print "oa"; } class In { before_each { print
+-- "ib"; } after_each { print "ia"; } test t { print "t"; } } } The outer class's `before_each` runs
+-- first and its `after_each` last.
 abbrev pub outer : ClassHead
 outer = record empty_head { before_each = body (print (quoted "ob") ∷ []); after_each = body (print (quoted "oa") ∷ []) }
 
@@ -14,8 +16,9 @@ inner = record empty_head { before_each = body (print (quoted "ib") ∷ []); aft
 abbrev pub prints_t : TestHead
 prints_t = a_test (print (quoted "t") ∷ [])
 
--- class C { before_all { print "open"; fail "no db"; } after_all { print "close"; fail "still no db"; } test t { } }
--- A fail in `before_all` blocks the tests; `after_all` runs nevertheless, and comes second in all that the class says.
+-- class C { before_all { print "open"; fail "no db"; } after_all { print "close"; fail "still no
+-- db"; } test t { } } A fail in `before_all` blocks the tests; `after_all` runs nevertheless, and
+-- comes second in all that the class says.
 abbrev pub no_database : ClassHead
 no_database =
     record empty_head {
@@ -26,17 +29,19 @@ no_database =
 abbrev pub does_nothing : TestHead
 does_nothing = a_test []
 
--- class C { before_all { print "open"; fail "no db"; } .. class In { before_all { print "in"; } test t { } } }
--- It blocks nested classes too, whose own blocks don't run.
+-- class C { before_all { print "open"; fail "no db"; } .. class In { before_all { print "in"; }
+-- test t { } } } It blocks nested classes too, whose own blocks don't run.
 abbrev pub opens_inside : ClassHead
 opens_inside = record empty_head { before_all = body (print (quoted "in") ∷ []) }
 
--- class C { before_each { assume false, "no"; } after_each { print "a"; } class In { before_each { print "ib"; } after_each { print "ia"; } test t { print "t"; } } }
--- After a `before_each` that didn't end well neither a further one nor the test is run; each `after_each` is.
+-- class C { before_each { assume false, "no"; } after_each { print "a"; } class In { before_each {
+-- print "ib"; } after_each { print "ia"; } test t { print "t"; } } } After a `before_each` that
+-- didn't end well neither a further one nor the test is run; each `after_each` is.
 abbrev pub assumes_before_each : ClassHead
 assumes_before_each = record empty_head { before_each = body (assume (flag false) "no" ∷ []); after_each = body (print (quoted "a") ∷ []) }
 
--- class C { before_each { fail "no"; } class In { before_each { print "ib"; } after_each { print "ia"; } test t { print "t"; } } }
+-- class C { before_each { fail "no"; } class In { before_each { print "ib"; } after_each { print
+-- "ia"; } test t { print "t"; } } }
 abbrev pub fails_before_each : ClassHead
 fails_before_each = record empty_head { before_each = body (fail "no" ∷ []) }
 
@@ -45,8 +50,9 @@ fails_before_each = record empty_head { before_each = body (fail "no" ∷ []) }
 abbrev pub assumes_false : TestHead
 assumes_false = a_test (assume (flag false) "no #1" ∷ [])
 
--- class Out { before_each { print "ob"; } after_each { print "oa"; } class In { after_each { fail "late"; } test t { assume false, "no #1"; } } }
--- A later fail is stronger than an earlier false assumption.
+-- class Out { before_each { print "ob"; } after_each { print "oa"; } class In { after_each { fail
+-- "late"; } test t { assume false, "no #1"; } } } A later fail is stronger than an earlier false
+-- assumption.
 abbrev pub fails_late : ClassHead
 fails_late = record empty_head { after_each = body (fail "late" ∷ []) }
 
@@ -60,12 +66,13 @@ assumes_false_first = record empty_head { before_all = body (assume (flag false)
 abbrev pub assumes_twice : ClassHead
 assumes_twice = record assumes_false_first { after_all = body (assume (flag false) "late" ∷ []) }
 
--- class C { before_each { print "ob"; } after_each { print "oa"; } disabled "later" test t { print "t"; } }
--- None of a disabled test's blocks runs, and it is skipped with its reason.
+-- class C { before_each { print "ob"; } after_each { print "oa"; } disabled "later" test t { print
+-- "t"; } } None of a disabled test's blocks runs, and it is skipped with its reason.
 abbrev pub disabled_test : TestHead
 disabled_test = record prints_t { disabled = Some (codes "later") }
 
--- disabled "soon" class C { before_all { print "open"; fail "no db"; } after_all { print "close"; fail "still no db"; } test t { } }
--- None of a disabled class's blocks runs, and all in it is skipped with its reason.
+-- disabled "soon" class C { before_all { print "open"; fail "no db"; } after_all { print "close";
+-- fail "still no db"; } test t { } } None of a disabled class's blocks runs, and all in it is
+-- skipped with its reason.
 abbrev pub disabled_class : ClassHead
 disabled_class = record no_database { disabled = Some (codes "soon") }

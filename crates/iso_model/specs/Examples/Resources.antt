@@ -1,12 +1,14 @@
--- Example scripts on resources and access rights. P stands for `java.lang.System.properties`, L for `java.util.Locale.default`.
+-- Example scripts on resources and access rights. P stands for `java.lang.System.properties`, L for
+-- `java.util.Locale.default`.
 use Rattle.std.specs.Prelude.{[], ◌∷◌, None}
 use Rattle.iso_model.specs.Chains.{ClassHead, TestHead, empty_head}
 use Rattle.iso_model.specs.Keys.{properties_key, locale_key}
 use Rattle.iso_model.specs.Syntax.{locale}
 use Rattle.iso_model.specs.Examples.Words.{body, a_test, reads, writes, file_a, quoted, number, name, join, text, prop, has_prop, file, has_file, variable, let_name, assign, print, assert_equal, fail, set_prop, clear_prop, set_locale, write_file, append_file, delete_file}
 
--- write "P" class A { before_all { set_prop "a", "x"; } test one { set_prop "a", "y"; } test two { assert_equal "x", prop("a"); } }
--- A test sees what `before_all` left, and nothing that another test changed.
+-- write "P" class A { before_all { set_prop "a", "x"; } test one { set_prop "a", "y"; } test two {
+-- assert_equal "x", prop("a"); } } A test sees what `before_all` left, and nothing that another
+-- test changed.
 abbrev pub sets_x_first : ClassHead
 sets_x_first = record empty_head { marks = writes properties_key ∷ []; before_all = body (set_prop (quoted "a") (quoted "x") ∷ []) }
 
@@ -16,11 +18,12 @@ sets_y = a_test (set_prop (quoted "a") (quoted "y") ∷ [])
 abbrev pub expects_x : TestHead
 expects_x = a_test (assert_equal (quoted "x") (prop (quoted "a")) ∷ [])
 
--- write "L" class Out {
---   static s = 1; field f = 2; before_all { s = 3; set_locale locale() ++ "-A"; } before_each { let x = 4; set_locale locale() ++ "-B"; }
---   class In { field g = 5; before_all { set_locale locale() ++ "-a"; } before_each { set_locale locale() ++ "-b"; }
+-- write "L" class Out { static s = 1; field f = 2; before_all { s = 3; set_locale locale() ++ "-A";
+-- } before_each { let x = 4; set_locale locale() ++ "-B"; } class In { field g = 5; before_all {
+-- set_locale locale() ++ "-a"; } before_each { set_locale locale() ++ "-b"; }
 --     test t { print text(s) ++ text(f) ++ text(g) ++ locale(); print x; } } }
--- Each block sees what the earlier ones changed, the statics and fields of all enclosing classes, and no local of another.
+-- Each block sees what the earlier ones changed, the statics and fields of all enclosing classes,
+-- and no local of another.
 abbrev pub marks_locale : ClassHead
 marks_locale =
     record empty_head {
@@ -42,10 +45,10 @@ marks_locale_inside =
 abbrev pub prints_all : TestHead
 prints_all = a_test (print (join (text (name "s")) (text (name "f") ∷ text (name "g") ∷ locale ∷ [])) ∷ print (name "x") ∷ [])
 
--- class Out { .. write "file:a" class In {
---   static n = 1; before_all { print "in"; write_file "a", "m"; n = 2; }
---   after_all { append_file "a", "n"; print file("a") ++ text(n) ++ text(s); n = 3; } test t { } } }, with Out as above
--- `after_all` has the rights of its own class, the resources and all statics as they were left, and may assign none; it begins to print anew.
+-- class Out { .. write "file:a" class In { static n = 1; before_all { print "in"; write_file "a",
+-- "m"; n = 2; } after_all { append_file "a", "n"; print file("a") ++ text(n) ++ text(s); n = 3; }
+-- test t { } } }, with Out as above `after_all` has the rights of its own class, the resources and
+-- all statics as they were left, and may assign none; it begins to print anew.
 abbrev pub closes_file : ClassHead
 closes_file =
     record empty_head {
@@ -56,8 +59,8 @@ closes_file =
       after_all = body (append_file (quoted "a") (quoted "n") ∷ print (join (file (quoted "a")) (text (name "n") ∷ text (name "s") ∷ [])) ∷ assign "n" (number 3) ∷ []);
     }
 
--- write "file:a" class C { before_all { write_file "a", "m"; fail "no db"; } after_all { print file("a"); } .. }
--- So it does where `before_all` didn't end well.
+-- write "file:a" class C { before_all { write_file "a", "m"; fail "no db"; } after_all { print
+-- file("a"); } .. } So it does where `before_all` didn't end well.
 abbrev pub fails_with_a_file : ClassHead
 fails_with_a_file =
     record empty_head {
@@ -71,8 +74,8 @@ fails_with_a_file =
 abbrev pub sets_2 : TestHead
 sets_2 = record { marks = writes properties_key ∷ []; disabled = None; body = body (assert_equal (quoted "1") (prop (quoted "a")) ∷ set_prop (quoted "a") (quoted "2") ∷ []) }
 
--- write "P" class Out { class In { test t { set_prop "a", "1"; } } }, and the same with read "P" before the test
--- The marks of all enclosing classes count, and of two on one key the stronger.
+-- write "P" class Out { class In { test t { set_prop "a", "1"; } } }, and the same with read "P"
+-- before the test The marks of all enclosing classes count, and of two on one key the stronger.
 abbrev pub writes_properties : ClassHead
 writes_properties = record empty_head { marks = writes properties_key ∷ [] }
 
@@ -90,8 +93,8 @@ prints_a = a_test (print (prop (quoted "a")) ∷ [])
 abbrev pub reads_and_prints_a : TestHead
 reads_and_prints_a = record prints_a { marks = reads properties_key ∷ [] }
 
--- class C { before_each { print has_prop("a"); } after_each { print has_prop("a"); } read "P" test t { print prop("a"); } }
--- The blocks around a test have its rights.
+-- class C { before_each { print has_prop("a"); } after_each { print has_prop("a"); } read "P" test
+-- t { print prop("a"); } } The blocks around a test have its rights.
 abbrev pub looks_around : ClassHead
 looks_around = record empty_head { before_each = body (print (has_prop (quoted "a")) ∷ []); after_each = body (print (has_prop (quoted "a")) ∷ []) }
 
@@ -100,8 +103,8 @@ looks_around = record empty_head { before_each = body (print (has_prop (quoted "
 abbrev pub reads_properties : ClassHead
 reads_properties = record empty_head { marks = reads properties_key ∷ [] }
 
--- write "P" class C { test t { print has_prop("a"); clear_prop "a"; clear_prop "a"; print has_prop("a"); } }
--- An absent property stays absent when it is cleared.
+-- write "P" class C { test t { print has_prop("a"); clear_prop "a"; clear_prop "a"; print
+-- has_prop("a"); } } An absent property stays absent when it is cleared.
 abbrev pub clears_a : TestHead
 clears_a = a_test (print (has_prop (quoted "a")) ∷ clear_prop (quoted "a") ∷ clear_prop (quoted "a") ∷ print (has_prop (quoted "a")) ∷ [])
 
@@ -110,8 +113,9 @@ clears_a = a_test (print (has_prop (quoted "a")) ∷ clear_prop (quoted "a") ∷
 abbrev pub changes_b : TestHead
 changes_b = a_test (set_prop (quoted "b") (quoted "2") ∷ clear_prop (quoted "b") ∷ print (prop (quoted "a")) ∷ [])
 
--- write "file:a" test t { write_file "a", "m"; append_file "a", "n"; print file("a"); print has_file("a"); delete_file "a"; print has_file("a"); }
--- A file is written, grows, and is missing again.
+-- write "file:a" test t { write_file "a", "m"; append_file "a", "n"; print file("a"); print
+-- has_file("a"); delete_file "a"; print has_file("a"); } A file is written, grows, and is missing
+-- again.
 abbrev pub writes_and_deletes : TestHead
 writes_and_deletes =
     record {

@@ -1,5 +1,5 @@
--- The words in which example scripts are written and their outcomes said. Most are spelled as in a script.
--- All of a script stands on one line, so every row is 1 where none is given.
+-- The words in which example scripts are written and their outcomes said. Most are spelled as in a
+-- script. All of a script stands on one line, so every row is 1 where none is given.
 use Prim.Native.String.{String}
 use Rattle.std.specs.Prelude.{ℕ, zero, suc, List, [], ◌∷◌, Bool, None, Some, codes, true, map, pos, negsuc, cond, bytes_eq, replicate}
 use Rattle.std.specs.FinMap.{empty, insert}
@@ -201,7 +201,8 @@ property_a_is_1 k = cond (bytes_eq k properties_key) (Some (Props (insert empty 
 abbrev pub values_of : List Term → List Given
 values_of = map (evaluated [] empty_world (rights_of []))
 
--- a body as the block of a test, by itself: with the rights of these marks, where no name is visible and so many bytes were printed before it
+-- a body as the block of a test, by itself: with the rights of these marks, where no name is
+-- visible and so many bytes were printed before it
 abbrev pub block_with : List Mark → ℕ → Acts → State
 block_with marks printed acts = block (rights_of marks) acts (environment [] printed Test) empty_world
 
@@ -216,7 +217,8 @@ beside_a_long_file acts = block (rights_of (reads file_a ∷ [])) (body acts) (e
 abbrev pub endings_of : List Act → List Ending
 endings_of = map (λ a. (by_itself (a ∷ [])).here.ending)
 
--- a block of a test in which n is a frozen static, f a field and x a local, and which may print no further line
+-- a block of a test in which n is a frozen static, f a field and x a local, and which may print no
+-- further line
 abbrev pub crowded : Environment
 crowded =
     let one : Data = Whole (pos 1) in

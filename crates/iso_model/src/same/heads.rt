@@ -62,7 +62,8 @@ pub fn same_reason(a: &Option<Text>, b: &Option<Text>) -> bool
     }
 }
 
-/// Whether two classes declare the same statics and fields, and are disabled for one reason, or neither is.
+/// Whether two classes declare the same statics and fields, and are disabled for one reason, or
+/// neither is.
 fn same_declarations(a: &ClassContents, b: &ClassContents) -> bool
     ensures { IsTrue result ↔ ((a.now.statics.items ≡ b.now.statics.items)
         × (a.now.fields.items ≡ b.now.fields.items) × (a.now.disabled ≡ b.now.disabled)) }

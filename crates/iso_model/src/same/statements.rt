@@ -31,7 +31,8 @@ fn same_form(a: &Form, b: &Form) -> bool
     }
 }
 
-/// Whether two statements stand on one row of their blocks and do the same. Takes no memory, and recurses down their nesting alone.
+/// Whether two statements stand on one row of their blocks and do the same. Takes no memory, and
+/// recurses down their nesting alone.
 #[cycle(statement)]
 pub fn same_stmt(a: &Stmt, b: &Stmt) -> bool
     ensures { IsTrue result ↔ (stmt_of a.now ≡ stmt_of b.now) }
