@@ -1,5 +1,7 @@
 -- Histories that become one another by changes.
-use Rattle.std.proofs.Common.{◌≡◌, ◌<◌, ◌≤◌, suc, List, [], ◌∷◌, ◌++◌, length, refl, sym, ap, subst, ◌∙◌, arith, append_assoc, length-append}
+use Rattle.std.proofs.Common.{◌≡◌, ◌<◌, ◌≤◌, ℕ, suc, List, [], ◌∷◌, ◌++◌, length, reverse, take, refl, sym, ap, subst, ◌∙◌, arith, append_assoc, length-append}
+use Rattle.std.proofs.Math.Seq.{take-append_seam}
+use Rattle.std.proofs.lemmas.List.{length-reverse, reverse-append, reverse-reverse}
 use Rattle.iso_model.specs.declared.resource.Resource.{Resource}
 use Rattle.iso_model.specs.declared.resource.Change.{Change}
 use Rattle.iso_store.specs.Histories.{History, values, after, before_last, before, oldest, start_of, IsEarlier}
@@ -67,3 +69,16 @@ same_start m x xs (n ∷ newer) e =
 -- a mark has the start of the histories that came after it
 pub start_of_earlier : (m h : History) → IsEarlier m h → start_of h ≡ start_of m
 start_of_earlier m h e = same_start m h.now h.past e.newer e.is
+
+-- the past of a history ends with that of its mark
+ends_with : (now : Resource) (ps newer : List Resource) (m : History) → now ∷ ps ≡ newer ++ values m → (front : List Resource) × (ps ≡ front ++ m.past)
+ends_with now ps [] m e = let same : ps ≡ m.past = cc in ([], same)
+ends_with now ps (n ∷ ns) m e = let same : ps ≡ ns ++ values m = cc in (ns ++ m.now ∷ [], same ∙ sym (append_assoc ns (m.now ∷ []) m.past))
+
+-- of values that are kept the oldest first, as many as a mark has stood before it
+pub moment-past : (vs : List Resource) (m : History) (now : Resource) (newer : List Resource) → now ∷ reverse vs ≡ newer ++ values m → reverse (take (length m.past) vs) ≡ m.past
+moment-past vs m now newer e =
+    let ends = ends_with now (reverse vs) newer m e in
+    let is : vs ≡ reverse m.past ++ reverse ends.0 = sym (reverse-reverse vs) ∙ ap reverse ends.1 ∙ reverse-append ends.0 m.past in
+    ap reverse (ap (λ (n : ℕ). take n vs) (sym (length-reverse m.past)) ∙ ap (take (length (reverse m.past))) is ∙ take-append_seam (reverse m.past) (reverse ends.0))
+    ∙ reverse-reverse m.past

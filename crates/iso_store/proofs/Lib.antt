@@ -1,3 +1,5 @@
 pub mod HistoryLemmas
-pub mod JournalLemmas
+pub mod LayerLemmas
+pub mod MomentLemmas
 pub mod PlaceLemmas
+pub mod Sharing

@@ -1,4 +1,4 @@
 pub mod Histories
-pub mod Journals
+pub mod Layers
 pub mod Places
 pub mod Values

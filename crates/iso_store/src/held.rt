@@ -1,22 +1,26 @@
-//! A value with its journal, and the marks to which it can go back.
-ghost use Rattle.std.specs.Prelude.{◌≡◌, ◌<◌, OnOk, OnErr, [], length, option_copied};
+//! A value, and the marks to which it can go back.
+ghost use Rattle.std.specs.Prelude.{◌≡◌, IfOk, OnOk, OnErr, [], length, option_copied};
 ghost use Rattle.iso_model.specs.Touch.{answer};
-ghost use Rattle.iso_store.specs.Histories.{History, after, before, start_of, IsEarlier};
+ghost use Rattle.iso_store.specs.Histories.{History, after, start_of, IsEarlier};
 
-use crate::value::{Undo, Value};
+use crate::layers::Layers;
+use crate::value::Value;
 use iso_model::resource::{Ask, Change, Resource};
 use std::alloc::{AllocError, Global};
 use std::marker::Model;
 use std::snapshot::Snapshot;
 
-/// One resource's value, with a journal of its changes. Contracts see its history: the value now,
-/// and each that it had before a change which wasn't taken back.
+/// One resource's value, which keeps what a mark needs to go back: of each property, or the file or
+/// locale, the text at the mark. Contracts see its history: the value now, and each that it had
+/// before a change which wasn't taken back.
 ///
 /// It can't be copied, and it must be spent, by `into_resource` or by `discard`.
 pub struct Held {
     alloc: Global,
     value: Value,
-    journal: Vec<Undo>,
+    /// The value before each change that wasn't taken back. Contracts alone see these: they have no
+    /// size.
+    past: Vec<Snapshot<Value>>,
 }
 
 impl Model for Held {
@@ -26,24 +30,25 @@ impl Model for Held {
 
     ghost coded = { history_code };
 
-    ghost use Rattle.iso_store.specs.Values.{IsStarted};
-    ghost use Rattle.iso_store.specs.Journals.{history};
+    ghost use Rattle.std.specs.Prelude.{◌≡◌};
+    ghost use Rattle.iso_store.specs.Values.{history};
 
-    ghost view = { λ h. history h.journal.items h.value };
+    ghost view = { λ h. history h.past.items h.value };
 
-    ghost invariant = { λ h. IsStarted h.value (start_of (history h.journal.items h.value)) };
+    ghost invariant = { λ h. start_of (history h.past.items h.value) ≡ h.value.start };
 }
 
 /// A moment of a value, to which it can go back. Contracts see the history as it was then.
 #[derive(Drop)]
 pub struct Savepoint {
+    layers: Layers,
     changes: usize,
     history: Snapshot<Held>,
 }
 
 impl Model for Savepoint {
-    ghost use Rattle.std.specs.Prelude.{◌≡◌, length};
     ghost use Rattle.iso_store.specs.Histories.{History, history_code};
+    ghost use Rattle.iso_store.specs.Values.{IsMoment};
 
     ghost Value = { History };
 
@@ -51,11 +56,11 @@ impl Model for Savepoint {
 
     ghost view = { λ m. m.history.value };
 
-    ghost invariant = { λ m. m.changes ≡ length m.history.value.past };
+    ghost invariant = { λ m. IsMoment m.layers m.changes m.history.value };
 }
 
 impl Held {
-    /// This value, which wasn't changed. The journal grows in this allocator's memory; none is
+    /// This value, which wasn't changed. Changes and marks take this allocator's memory; none is
     /// taken now.
     pub fn new(alloc: Global, value: Resource) -> Held
         ensures { result ≡ record { now = value; past = [] } }
@@ -63,41 +68,49 @@ impl Held {
         Held {
             alloc,
             value: Value::new(alloc, value),
-            journal: Vec::new(alloc),
+            past: Vec::new(alloc),
         }
     }
 
-    /// This moment.
-    pub fn mark(&self) -> Savepoint
-        ensures { result ≡ self.now }
+    /// This moment. It takes memory where something was changed: a few words for each mark since
+    /// which something was.
+    pub fn mark(&self) -> Result<Savepoint, AllocError>
+        ensures { IfOk result (λ m. m ≡ self.now) }
     {
-        Savepoint {
-            changes: self.changes(),
+        Ok(Savepoint {
+            layers: self.value.layers.share(self.alloc)?,
+            changes: self.past.len(),
             history: Snapshot::of(self),
-        }
+        })
     }
 
-    /// Changes the value: sets or clears a property, sets the locale, writes or deletes the file.
-    /// A value of another kind stays as it is. Once out of memory nothing is changed.
+    /// Changes the value: sets or clears a property, sets the locale, writes or deletes the file. A
+    /// value of another kind stays as it is. Once out of memory nothing is changed. Of the texts
+    /// that it gets between two marks a property, the locale or the file keeps the last.
     pub fn apply(&mut self, change: Change) -> Result<(), AllocError>
         ensures ok { OnOk result (self.new ≡ after change self.old) }
         ensures err { OnErr result (self.new ≡ self.old) }
     {
-        self.journal.reserve(1)?;
-        let undo = self.value.change(self.alloc, change)?;
-        self.journal.push_reserved(undo);
+        self.past.reserve(1)?;
+        let before = Snapshot::of(&self.value);
+        self.value.change(self.alloc, change)?;
+        self.past.push_reserved(before);
         Ok(())
     }
 
     /// Goes back to a mark of this value, unless it went back to an earlier one since. Takes no
-    /// memory, and as many steps as there were changes since.
+    /// memory.
     pub fn undo_to(&mut self, mark: Savepoint)
         requires { IsEarlier mark self.old }
         ensures { self.new ≡ mark }
     {
-        while self.changes() > mark.changes {
-            self.undo_last();
-        }
+        let Savepoint {
+            layers,
+            changes,
+            history: _,
+        } = mark;
+        self.value.layers = layers;
+        self.past.truncate(changes);
     }
 
     /// The text that is asked for, or `None` where the property is absent or the file missing, or
@@ -116,9 +129,9 @@ impl Held {
         let Held {
             alloc: _,
             value,
-            journal: _,
+            past: _,
         } = self;
-        value.into_started()
+        value.start
     }
 
     /// Spends it, wherever it stands.
@@ -126,24 +139,7 @@ impl Held {
         let Held {
             alloc: _,
             value: _,
-            journal: _,
+            past: _,
         } = self;
-    }
-
-    /// How many changes were made and not taken back.
-    fn changes(&self) -> usize
-        ensures { result ≡ length self.now.past }
-    {
-        self.journal.as_slice().len()
-    }
-
-    /// Takes the last change back.
-    fn undo_last(&mut self)
-        requires { 0 < length self.old.past }
-        ensures { self.new ≡ before self.old }
-    {
-        if let Some(undo) = self.journal.pop() {
-            self.value.undo(undo);
-        }
     }
 }

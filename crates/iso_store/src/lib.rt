@@ -1,7 +1,7 @@
-//! A resource's value with its journal: changes of it can be taken back.
+//! A resource's value with the marks to which it can go back.
 #![tactic(auto)]
 
-mod changed;
 pub mod held;
+mod layers;
 mod places;
 mod value;
