@@ -7,7 +7,7 @@ use Rattle.std.proofs.lemmas.Slice.Eq.{bytes_eq-Decides}
 use Rattle.std.specs.List.{IsDistinct, list_any}
 use Rattle.iso_plan.proofs.ConflictLemmas.{any-at}
 use Rattle.iso_locks.specs.Moves.{is_written}
-use Rattle.iso_locks.specs.Trays.{any_lent, holds_read, is_lent, is_open, is_read, key_at, number_below, number_of}
+use Rattle.iso_locks.specs.Trays.{any_lent, holds_read, is_lent, is_open, is_read, key_at, number_of}
 use Rattle.iso_model.specs.Rights.{is_readable, is_writable}
 use Rattle.iso_model.specs.declared.access.Access.{Access}
 use Rattle.iso_model.specs.declared.access.Access.TheVariants.{Read, Write}
@@ -15,6 +15,7 @@ use Rattle.iso_plan.proofs.KeyLemmas.{distinct-at, keys-distinct}
 use Rattle.iso_plan.proofs.LawLemmas.{taken-known}
 use Rattle.iso_plan.proofs.PathLemmas.{eq_not, eq_same}
 use Rattle.iso_plan.specs.Paths.{IsTree}
+use Rattle.iso_plan.specs.KeyNumbers.{number_below}
 use Rattle.iso_plan.specs.KeyTable.{keys}
 use Rattle.iso_plan.specs.Locks.{conflict, exclude, lock_of, locks, locks_from, taken}
 use Rattle.iso_plan.specs.Tree.{Row}

@@ -4,20 +4,27 @@ use denote.Param.SendFields.{as_row_send, declared_send}
 use denote.Ref.{NamedLft}
 use Rattle.std.proofs.Crossing.{crosses}
 use Rattle.iso_lifecycle.proofs.Sharing.{frame_sent}
-use Rattle.iso_locks.proofs.slots.Slots.TheSendSync as slots
 use Rattle.iso_locks.proofs.starting.Starting.TheSendSync as starting
 use Rattle.iso_locks.specs.contracts.lent.LentNodes as lent
 use Rattle.iso_locks.specs.contracts.lent.LentNodes.TheInside as lent_inside
 use Rattle.iso_locks.specs.contracts.lockers.Lockers as lockers
 use Rattle.iso_locks.specs.contracts.lockers.Lockers.TheInside as lockers_inside
+use Rattle.iso_locks.specs.contracts.slots.Slots as slots
+use Rattle.iso_locks.specs.contracts.slots.Slots.TheInside as slots_inside
 use Rattle.iso_locks.specs.contracts.tray.Tray as tray
 use Rattle.iso_locks.specs.contracts.tray.Tray.TheInside as tray_inside
 use Rattle.iso_locks.specs.contracts.vault.Vault as vault
 use Rattle.iso_locks.specs.contracts.vault.Vault.TheInside as vault_inside
-use Rattle.iso_plan.proofs.Sharing.{held_sent, plan_shared}
+use Rattle.iso_plan.proofs.Sharing.{held_sent, option_sent, plan_shared}
 use Rattle.iso_settings.proofs.world.World.TheSendSync as world
+use Rattle.iso_store.proofs.Sharing as stored
 
-ruleset held = (plan_shared, held_sent, world.the_sync, slots.the_send, starting.the_send, frame_sent, as_row_send, crosses, sendable)
+ruleset values = (stored.held_sent, option_sent, as_row_send, crosses, sendable)
+
+slots_sent : IsSend slots.the_row
+slots_sent = search (declared_send slots_inside.the_type (search values, tt), sendable)
+
+ruleset held = (plan_shared, held_sent, world.the_sync, slots_sent, starting.the_send, frame_sent, as_row_send, crosses, sendable)
 
 lockers_sent : (a : NamedLft) → IsSend (lockers.the_row a)
 lockers_sent a = search (declared_send (lockers_inside.the_type a) (search held, (search held, tt)), sendable)

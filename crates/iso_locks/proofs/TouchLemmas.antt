@@ -13,7 +13,7 @@ use Rattle.iso_plan.specs.Tree.{Row}
 use Rattle.iso_settings.specs.Worlds.{Start, starting_value_in}
 use Rattle.iso_store.specs.Histories.{History, after}
 use Rattle.iso_locks.specs.Slots.{Slots, slot}
-use Rattle.iso_locks.specs.Trays.{has_at, is_open, number_below, number_of, resources, seen, seen_at, start_at}
+use Rattle.iso_locks.specs.Trays.{has_at, is_open, number_of, resources, seen, seen_at, start_at}
 use Rattle.iso_locks.specs.declared.starting.Starting.{Starting}
 use Rattle.iso_locks.proofs.NumberLemmas.{number-spells, number-within, spelled}
 
@@ -27,11 +27,6 @@ keys-of tree world starts e = ap (map spelled) e ∙ keys-spelled world (keys tr
 
 pub count-of : (tree : List Row) (world : Start) (starts : List Starting) → starts ≡ map (start_at world) (keys tree) → length starts ≡ length (keys tree)
 count-of tree world starts e = ap length e ∙ length-map (keys tree) (start_at world)
-
--- the number that was found is that of the tree
-pub number-is : (tree : List Row) (world : Start) (starts : List Starting) (k : List ℕ) (o : Option ℕ) → starts ≡ map (start_at world) (keys tree) → o ≡ number_below (map spelled starts) k (length starts) → number_of tree k ≡ o
-number-is tree world starts k o e found =
-    sym (found ∙ ap₂ (λ (ks : List (List ℕ)) (n : ℕ). number_below ks k n) (keys-of tree world starts e) (count-of tree world starts e))
 
 -- a starting value by its key's number
 started : (world : Start) (ks : List (List ℕ)) (starts : List Starting) (i : ℕ) (s : Starting) → starts ≡ map (start_at world) ks → i < length ks → s ≡ get_or starts i s → s ≡ start_at world (get_or ks i [])

@@ -8,6 +8,7 @@ use Rattle.iso_model.specs.Rights.{access_in, is_writable}
 use Rattle.iso_model.specs.declared.access.Access.{Access}
 use Rattle.iso_model.specs.declared.access.Access.TheVariants.{Read, Write}
 use Rattle.iso_model.specs.declared.resource.Resource.{Resource}
+use Rattle.iso_plan.specs.KeyNumbers.{number_below}
 use Rattle.iso_plan.specs.KeyTable.{keys}
 use Rattle.iso_plan.specs.Locks.{locking_node, taken}
 use Rattle.iso_plan.specs.NodeChains.{node_rights}
@@ -77,11 +78,6 @@ start_at world k = record { key = k; value = starting_value_in world k }
 -- the key with a number
 abbrev pub key_at : List Row → ℕ → List ℕ
 key_at tree i = slice_index_or (keys tree) i []
-
--- the number of a key among the first n
-abbrev pub number_below : List (List ℕ) → List ℕ → ℕ → Option ℕ
-number_below keys k zero = None
-number_below keys k (suc n) = cond (bytes_eq k (slice_index_or keys n [])) (Some n) (number_below keys k n)
 
 -- the number of a key, if a node declares it
 abbrev pub number_of : List Row → List ℕ → Option ℕ

@@ -1,15 +1,13 @@
 //! The keys of a plan with their starting values.
 ghost use Rattle.std.specs.Prelude.{◌≡◌, IfOk, IfSome, Bool, Option, length, map, option_copied, slice_index_or};
 ghost use Rattle.std.specs.Arc.{arc_value};
-ghost use Rattle.iso_locks.specs.Trays.{number_below, start_at};
-ghost use Rattle.iso_model.specs.ResourceKeys.{spelling};
+ghost use Rattle.iso_locks.specs.Trays.{start_at};
 ghost use Rattle.iso_model.specs.Touch.{answer};
 ghost use Rattle.iso_plan.specs.KeyTable.{keys};
 ghost use Rattle.iso_plan.specs.RowView.{tree_of};
 
 use iso_model::key::Key;
 use iso_model::resource::{Ask, Resource};
-use iso_model::resource_key::ResourceKey;
 use iso_model::text::Text;
 use iso_plan::plan::Plan;
 use iso_settings::world::World;
@@ -75,18 +73,4 @@ pub(crate) fn starts_of(
         starts.push(Starting { key, value })?;
     }
     Ok(starts)
-}
-
-/// The number of a key, if it is among them.
-pub(crate) fn number_of(starts: &[Starting], key: ResourceKey<'_>) -> Option<usize>
-    ensures { result ≡ number_below (map (λ s. s.key) starts.now) (spelling key.entry) (length starts.now) }
-{
-    let mut number = starts.len();
-    'keys: while number > 0 {
-        number -= 1;
-        if key.is(&starts[number].key) {
-            return Some(number);
-        }
-    }
-    None
 }

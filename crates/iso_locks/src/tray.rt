@@ -20,7 +20,7 @@ use crate::lent::LentNodes;
 use crate::moves::move_values;
 use crate::savepoint::Savepoint;
 use crate::slots::Slots;
-use crate::starting::{Starting, number_of, starts_of};
+use crate::starting::{Starting, starts_of};
 use crate::vault::values;
 use iso_lifecycle::frame::Frame;
 use iso_lifecycle::results::Results;
@@ -271,7 +271,7 @@ impl<'a> Touch for Tray<'a> {
     ghost goes_on = { IsOnward };
 
     fn look(&self, key: ResourceKey<'_>, ask: Ask<'_>) -> Option<&str> {
-        match number_of(&self.starts, key) {
+        match self.plan.key_number(key) {
             Some(number) => match self.values.get(number) {
                 Some(held) => held.look(ask),
                 None => self.starts[number].value.look(ask),
@@ -281,7 +281,7 @@ impl<'a> Touch for Tray<'a> {
     }
 
     fn change(&mut self, key: ResourceKey<'_>, change: Change) -> Result<(), AllocError> {
-        match number_of(&self.starts, key) {
+        match self.plan.key_number(key) {
             Some(number) => self.values.apply(number, change),
             None => Ok(()),
         }
@@ -304,19 +304,28 @@ fn kept(
     requires { length starts.now ≡ length values.now }
     ensures { IfOk result (λ v. v.items ≡ column (kept_at rights.now (map (λ s. s.key) starts.now) values.now) (length values.now)) }
 {
-    let mut marks = Vec::new(alloc);
+    let mut marks = Vec::with_capacity(alloc, values.len())?;
     'keys: for number in 0..values.len() {
-        marks.push(kept_at(rights, &starts[number].key, values.get(number)))?;
+        let mark = kept_at(rights, &starts[number].key, values.get(number))?;
+        marks.push(mark)?;
     }
     Ok(marks)
 }
 
-/// A value that rights let be changed, as it stands now.
-fn kept_at(rights: &Rights, key: &Key, value: Option<&Held>) -> Option<held::Savepoint>
-    ensures { result ≡ cond (is_writable (access_in rights.now key.now)) (option_copied value.entry) None }
+/// A value that rights let be changed, as it stands now. Where there is none, the rights aren't
+/// asked.
+fn kept_at(
+    rights: &Rights,
+    key: &Key,
+    value: Option<&Held>,
+) -> Result<Option<held::Savepoint>, AllocError>
+    ensures { IfOk result (λ m. m ≡ cond (is_writable (access_in rights.now key.now)) (option_copied value.entry) None) }
 {
-    match (value, rights.access(key)) {
-        (Some(held), Some(Access::Write)) => Some(held.mark()),
-        _ => None,
+    let Some(held) = value else {
+        return Ok(None);
+    };
+    match rights.access(key) {
+        Some(Access::Write) => Ok(Some(held.mark()?)),
+        _ => Ok(None),
     }
 }

@@ -13,6 +13,7 @@ pub mod ExampleLemmas
 pub mod Finishing
 pub mod GivenLemmas
 pub mod Keeps
+pub mod KeyMapLemmas
 pub mod LastingNames
 pub mod LawLemmas
 pub mod LayerLemmas

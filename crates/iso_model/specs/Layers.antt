@@ -9,4 +9,4 @@ use Rattle.iso_model.specs.declared.rights.Layer.{Layer}
 
 -- the keys of layers with their accesses, the innermost layer's first
 abbrev pub declared_in : List (Arc Layer Global) → List (List ℕ × Access)
-declared_in layers = flat_map (λ (l : Arc Layer Global). (arc_value l).entries.items) layers
+declared_in layers = flat_map (λ (l : Arc Layer Global). (arc_value l).entries) layers

@@ -11,6 +11,7 @@ pub mod Environments
 pub mod Evaluation
 pub mod Examples
 pub mod Jobs
+pub mod KeyMaps
 pub mod Keys
 pub mod Layers
 pub mod Lines

@@ -1,8 +1,11 @@
 ghost use Rattle.std.specs.Prelude.{◌≡◌, IfOk};
+ghost use Rattle.std.specs.Ordering.{nat_cmp};
+ghost use Rattle.std.specs.Cmp.Lexicographic.{slice_cmp};
 ghost use Rattle.iso_model.specs.Keys.{file_key};
 
 use crate::text::Text;
 use std::alloc::{AllocError, Global};
+use std::cmp::Ordering;
 use std::marker::Model;
 use std::sync::Arc;
 
@@ -46,6 +49,13 @@ impl Key {
         ensures { result.now ≡ self.now }
     {
         self.spelling.as_str()
+    }
+
+    /// How its spelling stands to that of another key, by their bytes. Takes no memory.
+    pub fn order(&self, other: &Key) -> Ordering
+        ensures { result ≡ slice_cmp nat_cmp self.now other.now }
+    {
+        self.as_str().cmp(other.as_str())
     }
 
     /// An equal key, which shares the spelling.

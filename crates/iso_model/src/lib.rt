@@ -12,6 +12,7 @@ pub mod examples;
 pub mod fault;
 pub mod heads;
 pub mod key;
+pub mod key_map;
 pub mod laws;
 pub mod limits;
 pub mod lines;

@@ -1,10 +1,13 @@
 ghost use Rattle.std.specs.Prelude.{◌≡◌, IfOk, bytes_eq};
+ghost use Rattle.std.specs.Ordering.{nat_cmp};
+ghost use Rattle.std.specs.Cmp.Lexicographic.{slice_cmp};
 ghost use Rattle.iso_model.specs.ResourceKeys.{spelling};
 ghost use Rattle.iso_model.specs.Keys.{file_key};
 
 use crate::key::Key;
 use crate::text::Text;
 use std::alloc::{AllocError, Global};
+use std::cmp::Ordering;
 
 /// The key by which a block names a resource, borrowed: looking one up takes no memory.
 #[derive(Clone, Copy)]
@@ -26,6 +29,17 @@ impl<'a> ResourceKey<'a> {
             ResourceKey::Properties => "java.lang.System.properties" == declared.as_str(),
             ResourceKey::Locale => "java.util.Locale.default" == declared.as_str(),
             ResourceKey::File(path) => is_file_key(path, declared.as_str()),
+        }
+    }
+
+    /// How its spelling stands to that of a declared key, by their bytes. Takes no memory.
+    pub fn order(self, declared: &Key) -> Ordering
+        ensures { result ≡ slice_cmp nat_cmp (spelling self.entry) declared.now }
+    {
+        match self {
+            ResourceKey::Properties => "java.lang.System.properties".cmp(declared.as_str()),
+            ResourceKey::Locale => "java.util.Locale.default".cmp(declared.as_str()),
+            ResourceKey::File(path) => order_of_file(path, declared.as_str()),
         }
     }
 
@@ -53,5 +67,16 @@ fn is_file_key(path: &str, spelling: &str) -> bool
     match spelling.as_bytes().strip_prefix(b"file:") {
         Some(rest) => path.as_bytes() == rest,
         None => false,
+    }
+}
+
+/// How the spelling of the file at this path stands to a spelling. One that doesn't begin as a
+/// file's does differs within these bytes.
+fn order_of_file(path: &str, spelling: &str) -> Ordering
+    ensures { result ≡ slice_cmp nat_cmp (file_key path.now) spelling.now }
+{
+    match spelling.as_bytes().strip_prefix(b"file:") {
+        Some(rest) => path.as_bytes().cmp(rest),
+        None => "file:".cmp(spelling),
     }
 }

@@ -6,6 +6,7 @@ ghost use Rattle.iso_model.specs.Rights.{access_in, declared_by, is_readable, is
 use crate::access::Access;
 use crate::heads::Mark;
 use crate::key::Key;
+use crate::key_map::KeyMap;
 use crate::resource_key::ResourceKey;
 use std::alloc::{AllocError, Global};
 use std::marker::Model;
@@ -22,10 +23,10 @@ fn covers(known: Option<Access>, wanted: Access) -> bool
     }
 }
 
-/// Keys that were declared together, the newest first.
+/// Keys that were declared together, each once.
 #[derive(Drop)]
 struct Layer {
-    entries: Vec<(Key, Access)>,
+    entries: KeyMap<Access>,
 }
 
 impl Layer {
@@ -33,31 +34,21 @@ impl Layer {
 
     /// The access that a key is declared with here, if it is.
     fn access(&self, key: &Key) -> Option<Access>
-        ensures { result ≡ access_in self.now.entries.items key.now }
+        ensures { result ≡ access_in self.now.entries key.now }
     {
-        for (declared, access) in &self.entries {
-            if key.as_str() == declared.as_str() {
-                return Some(*access);
-            }
-        }
-        None
+        self.entries.get_of(key)
     }
 
     /// The access that a resource is declared with here, if it is.
     fn access_of(&self, resource: ResourceKey<'_>) -> Option<Access>
-        ensures { result ≡ access_in self.now.entries.items (spelling resource.entry) }
+        ensures { result ≡ access_in self.now.entries (spelling resource.entry) }
     {
-        for (declared, access) in &self.entries {
-            if resource.is(declared) {
-                return Some(*access);
-            }
-        }
-        None
+        self.entries.get(resource)
     }
 
     /// The access that a key is declared with here, or else by the outer rights, if it is.
     fn known(&self, outer: &Rights, key: &Key) -> Option<Access>
-        ensures { result ≡ access_in (self.now.entries.items ++ outer.now) key.now }
+        ensures { result ≡ access_in (self.now.entries ++ outer.now) key.now }
     {
         match self.access(key) {
             Some(access) => Some(access),
@@ -67,24 +58,24 @@ impl Layer {
 
     /// What one mark declares besides these and the outer rights.
     fn mark(&mut self, alloc: Global, outer: &Rights, mark: &Mark) -> Result<(), AllocError>
-        ensures { OnOk result ((k : List ℕ) → access_in (self.new.entries.items ++ outer.now) k
-            ≡ strongest (declared_by mark.now k) (access_in (self.old.entries.items ++ outer.now) k)) }
+        ensures { OnOk result ((k : List ℕ) → access_in (self.new.entries ++ outer.now) k
+            ≡ strongest (declared_by mark.now k) (access_in (self.old.entries ++ outer.now) k)) }
     {
         if covers(self.known(outer, &mark.key), mark.access) {
             return Ok(());
         }
         let key = mark.key.share()?;
-        self.entries.insert(0, (key, mark.access))?;
+        self.entries.set(key, mark.access)?;
         Ok(())
     }
 
     /// What marks declare besides the outer rights.
     fn of_marks(alloc: Global, outer: &Rights, marks: &[Mark]) -> Result<Layer, AllocError>
-        ensures { IfOk result (λ l. (k : List ℕ) → access_in (l.entries.items ++ outer.now) k
+        ensures { IfOk result (λ l. (k : List ℕ) → access_in (l.entries ++ outer.now) k
             ≡ strongest (rights_of marks.now k) (access_in outer.now k)) }
     {
         let mut layer = Layer {
-            entries: Vec::new(alloc),
+            entries: KeyMap::new(alloc),
         };
         'marks: for mark in marks {
             layer.mark(alloc, outer, mark)?;
@@ -127,8 +118,7 @@ impl Rights {
         ensures ok { OnOk result (self.new ≡ (key, access) ∷ self.old) }
         ensures err { OnErr result (self.new ≡ self.old) }
     {
-        let mut entries = Vec::new(alloc);
-        entries.push((key, access))?;
+        let entries = KeyMap::of_one(alloc, key, access)?;
         let layer = Arc::new(alloc, Layer { entries })?;
         self.layers.insert(0, layer)?;
         Ok(())
@@ -139,8 +129,10 @@ impl Rights {
         ensures { IfOk result (λ r. (k : List ℕ) → access_in r k ≡ strongest (rights_of marks.now k) (access_in self.now k)) }
     {
         let layer = Layer::of_marks(alloc, self, marks)?;
-        let mut layers = Vec::with_capacity(alloc, 1)?;
-        layers.push(Arc::new(alloc, layer)?)?;
+        let mut layers = Vec::with_capacity(alloc, self.layers.len() + 1)?;
+        if !layer.entries.is_empty() {
+            layers.push(Arc::new(alloc, layer)?)?;
+        }
         'outer: for outer in &self.layers {
             layers.push(outer.clone()?)?;
         }

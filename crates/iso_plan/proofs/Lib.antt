@@ -21,8 +21,10 @@ pub mod ModeLemmas
 pub mod NumberLemmas
 pub mod PathLemmas
 pub mod PathTextLemmas
+pub mod PreorderLemmas
 pub mod SameMarks
 pub mod SameTrees
+pub mod SelectFirst
 pub mod SelectionLemmas
 pub mod Sharing
 pub mod SoFar

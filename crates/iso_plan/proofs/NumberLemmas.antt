@@ -135,3 +135,13 @@ map_one p f g n false one rest = rest
 pub map-agree : {A : Type 0} (p : ℕ → Bool) (f g : ℕ → A) (n : ℕ) → ((m : ℕ) → m < n → f m ≡ g m) → map f (those_below p n) ≡ map g (those_below p n)
 map-agree p f g zero same = refl
 map-agree p f g (suc n) same = map_one p f g n (p n) (same n (omega arith)) (map-agree p f g n (λ m h. same m (omega arith)))
+
+passing_one : {A : Type 0} (p : ℕ → Bool) (f g : ℕ → A) (n : ℕ) (t : Bool) → (t ≡ true → f n ≡ g n) → map f (those_below p n) ≡ map g (those_below p n)
+    → map f (cond t (those_below p n ++ n ∷ []) (those_below p n)) ≡ map g (cond t (those_below p n ++ n ∷ []) (those_below p n))
+passing_one p f g n true one rest = map_one p f g n true (one refl) rest
+passing_one p f g n false one rest = rest
+
+-- and what agrees on those of them that pass
+pub map-passing : {A : Type 0} (p : ℕ → Bool) (f g : ℕ → A) (n : ℕ) → ((m : ℕ) → m < n → p m ≡ true → f m ≡ g m) → map f (those_below p n) ≡ map g (those_below p n)
+map-passing p f g zero same = refl
+map-passing p f g (suc n) same = passing_one p f g n (p n) (same n (omega arith)) (map-passing p f g n (λ m h. same m (omega arith)))

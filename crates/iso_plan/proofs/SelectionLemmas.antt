@@ -12,7 +12,7 @@ use Rattle.iso_plan.proofs.PathLemmas.{IsBelow, along, chain-step, eq_from, not-
 use Rattle.iso_plan.proofs.PathTextLemmas.{path_text-root, path_text-step, text_in}
 use Rattle.iso_plan.specs.KeyTable.{kind_marks}
 use Rattle.iso_plan.specs.NodeChains.{chain_classes, class_heads, own_test, rights_with}
-use Rattle.iso_plan.specs.Paths.{IsTree, is_class_or_test, is_root, is_test, is_under, nodes_under, parent, path, row_at}
+use Rattle.iso_plan.specs.Paths.{IsRooted, IsTree, is_class_or_test, is_root, is_test, is_under, nodes_under, parent, path, row_at}
 use Rattle.iso_plan.specs.PathTexts.{path_text}
 use Rattle.iso_plan.specs.SameNodes.{IsSameNode}
 use Rattle.iso_plan.specs.Selections.{is_chosen, is_kept, is_kept_by, number_among, renumbered, selection, those_below, those_of}
@@ -27,6 +27,13 @@ pub record AreClosed (tree : List Row) (passes : ℕ → Bool) : Type 0 where
   pub root : passes 0 ≡ true
   pub up : (n : ℕ) → 0 < n → passes n ≡ true → passes (parent tree n) ≡ true
 
+-- the row of a kept node
+pub row-left : (tree : List Row) (passes : ℕ → Bool) (n : ℕ) → n < length tree → passes n ≡ true → row_at (those_of passes tree) (number_among passes n) ≡ renumbered passes (row_at tree n)
+row-left tree passes n h e =
+    let low = number-less passes n (length tree) h e in
+    get_or-map (λ m. renumbered passes (row_at tree m)) (those_below passes (length tree)) (number_among passes n) 0 root_row low
+    ∙ ap (λ m. renumbered passes (row_at tree m)) (those-at passes (length tree) n 0 h e)
+
 module _ (tree : List Row) (t : IsTree tree) (passes : ℕ → Bool) (closed : AreClosed tree passes) where
   abbrev left : List Row
   left = those_of passes tree
@@ -39,10 +46,7 @@ module _ (tree : List Row) (t : IsTree tree) (passes : ℕ → Bool) (closed : A
 
   -- a kept node
   row-there : (n : ℕ) → n < length tree → passes n ≡ true → row_at left (number n) ≡ renumbered passes (row_at tree n)
-  row-there n h e =
-      let low = number-less passes n (length tree) h e in
-      get_or-map (λ m. renumbered passes (row_at tree m)) (those_below passes (length tree)) (number n) 0 root_row low
-      ∙ ap (λ m. renumbered passes (row_at tree m)) (those-at passes (length tree) n 0 h e)
+  row-there n h e = row-left tree passes n h e
 
   parent-there : (n : ℕ) → n < length tree → passes n ≡ true → parent left (number n) ≡ number (parent tree n)
   parent-there n h e = ap (λ (r : Row). r.parent) (row-there n h e)
@@ -51,14 +55,14 @@ module _ (tree : List Row) (t : IsTree tree) (passes : ℕ → Bool) (closed : A
   within n pos h = let below = t.below n pos in omega arith
 
   -- a node of those that are left, and which it was
-  record WasNode (n : ℕ) : Type 0 where
-    was : ℕ
-    pos : 0 < was
-    inside : was < length tree
-    kept : passes was ≡ true
-    is : number was ≡ n
+  pub record WasNode (n : ℕ) : Type 0 where
+    pub was : ℕ
+    pub pos : 0 < was
+    pub inside : was < length tree
+    pub kept : passes was ≡ true
+    pub is : number was ≡ n
 
-  was_node : (n : ℕ) → 0 < n → n < length left → WasNode n
+  pub was_node : (n : ℕ) → 0 < n → n < length left → WasNode n
   was_node n pos h =
       let low : n < number (length tree) = rw count at h in
       let m = get_or (those_below passes (length tree)) n 0 in
@@ -72,7 +76,7 @@ module _ (tree : List Row) (t : IsTree tree) (passes : ℕ → Bool) (closed : A
   row-of : (n : ℕ) (w : WasNode n) → row_at left n ≡ renumbered passes (row_at tree w.was)
   row-of n w = ap (row_at left) (sym w.is) ∙ row-there w.was w.inside w.kept
 
-  parent-of : (n : ℕ) (w : WasNode n) → parent left n ≡ number (parent tree w.was)
+  pub parent-of : (n : ℕ) (w : WasNode n) → parent left n ≡ number (parent tree w.was)
   parent-of n w = ap (λ (r : Row). r.parent) (row-of n w)
 
   above-of : (n : ℕ) (w : WasNode n) → row_at left (parent left n) ≡ renumbered passes (row_at tree (parent tree w.was))
@@ -206,8 +210,11 @@ up_kept tree b only n (suc p) is pos e =
     let above : 0 < parent tree n = omega arith in
     any-more (is_chosen tree only) (is_under tree n) (is_under tree (suc p)) (λ m h. subst (λ (q : ℕ). is_under tree q m ≡ true) is (under-up tree b n pos above m h)) (range_with_len 0 (length tree)) some
 
+pub closed-below : (tree : List Row) → IsBelow tree → (only : List (List ℕ)) → AreClosed tree (is_kept_by tree only)
+closed-below tree b only = record { root = refl; up = λ n pos e. up_kept tree b only n (parent tree n) refl pos e }
+
 pub kept-closed : (tree : List Row) → IsTree tree → (only : List (List ℕ)) → AreClosed tree (is_kept_by tree only)
-kept-closed tree t only = record { root = refl; up = λ n pos e. up_kept tree t.below only n (parent tree n) refl pos e }
+kept-closed tree t only = closed-below tree t.below only
 
 -- the tree of the kept nodes is one
 pub selection-is-tree : (tree : List Row) → IsTree tree → (only : List (List ℕ)) → IsTree (selection tree only)
@@ -226,17 +233,17 @@ pub selection-by : (tree : List Row) (only : List (List ℕ)) → (length only =
 selection-by tree [] h = let no : true ≡ false = h in absurd (cc)
 selection-by tree (p ∷ ps) h = refl
 
-parent_low : (tree : List Row) → IsTree tree → (n : ℕ) → parent tree n ≤ n
-parent_low tree t zero = let first : parent tree 0 ≡ 0 = ap (λ (r : Row). r.parent) t.root_is in omega arith
-parent_low tree t (suc n) = let below = t.below (suc n) (omega arith) in omega arith
+pub parent-low : (rows : List Row) → IsRooted rows → (n : ℕ) → parent rows n ≤ n
+parent-low rows r zero = let first = r.first in omega arith
+parent-low rows r (suc n) = let below = r.below (suc n) (omega arith) in omega arith
 
--- tests that agree on the nodes of a tree keep the same of it
-pub those_of-agree : (tree : List Row) → IsTree tree → (f g : ℕ → Bool) → ((n : ℕ) → n < length tree → f n ≡ g n) → those_of f tree ≡ those_of g tree
+-- tests that agree on nodes keep the same of them
+pub those_of-agree : (tree : List Row) → IsRooted tree → (f g : ℕ → Bool) → ((n : ℕ) → n < length tree → f n ≡ g n) → those_of f tree ≡ those_of g tree
 those_of-agree tree t f g same =
     ap (map (λ n. renumbered f (row_at tree n))) (those-agree f g (length tree) same)
     ∙ map-agree g (λ n. renumbered f (row_at tree n)) (λ n. renumbered g (row_at tree n)) (length tree)
     (λ n h.
-    let low = parent_low tree t n in
+    let low = parent-low tree t n in
     let number : number_among f (parent tree n) ≡ number_among g (parent tree n) = ap length (those-agree f g (parent tree n) (λ m less. same m (omega arith))) in
     λ i. record (row_at tree n) { parent = number i })
 

@@ -6,6 +6,7 @@ use Rattle.std.specs.declared.vec.Vec.{Vec}
 use Rattle.iso_model.specs.ChainView.{innermost_first}
 use Rattle.iso_model.specs.Rights.{access_in}
 use Rattle.iso_model.specs.declared.heads.ClassHead.{ClassHead}
+use Rattle.iso_plan.specs.KeyNumbers.{AreNumbers}
 use Rattle.iso_plan.specs.KeyTable.{keys}
 use Rattle.iso_plan.specs.Locks.{locking_node, locks}
 use Rattle.iso_plan.specs.Modes.{mode}
@@ -33,5 +34,6 @@ pub record IsLocked (rows : List Row) (l : Locked) : Type 0 where
 -- the keys, and the locks and modes of all nodes under settings
 pub record IsKeyed (rows : List Row) (settings : Settings) (k : Keyed) : Type 0 where
   pub keys_are : k.keys.items ≡ keys (nodes_in rows)
+  pub numbers_are : AreNumbers k.numbers (keys (nodes_in rows))
   pub locked : IsLocked rows k.locked
   pub modes_are : k.modes.items ≡ column (mode (nodes_in rows) settings) (length rows)

@@ -4,22 +4,26 @@ use Rattle.iso_model.specs.Chains.{ClassHead}
 use Rattle.iso_model.specs.Rights.{Rights}
 use Rattle.iso_model.specs.declared.script.Mode.{Mode}
 use Rattle.iso_model.specs.declared.limits.TheConstants.{NODES, KEYS}
+use Rattle.iso_plan.specs.KeyNumbers.{AreNumbers}
 use Rattle.iso_plan.specs.KeyTable.{keys}
 use Rattle.iso_plan.specs.Locks.{locking_node, locks}
 use Rattle.iso_plan.specs.Modes.{mode}
 use Rattle.iso_plan.specs.NodeChains.{chain_classes, node_rights}
 use Rattle.iso_plan.specs.Paths.{IsTree, children, column}
+use Rattle.iso_plan.specs.Preorder.{IsPreorder}
 use Rattle.iso_plan.specs.Tree.{Row}
 use Rattle.iso_plan.specs.declared.lock.Lock.{Lock}
 use Rattle.iso_settings.specs.declared.settings.Settings.{Settings}
 
-pub record IsPlan (tree : List Row) (settings : Settings) (kids : List (List ℕ)) (heads : List (List ClassHead)) (rights : List Rights) (table : List (List ℕ)) (lockers : List (Option ℕ)) (taken : List (List Lock)) (modes : List Mode) : Type 0 where
+pub record IsPlan (tree : List Row) (settings : Settings) (kids : List (List ℕ)) (heads : List (List ClassHead)) (rights : List Rights) (table : List (List ℕ)) (numbers : List (List ℕ × ℕ)) (lockers : List (Option ℕ)) (taken : List (List Lock)) (modes : List Mode) : Type 0 where
   pub is_tree : IsTree tree
+  pub in_order : IsPreorder tree
   pub fits : length tree ≤ NODES
   pub kids_are : kids ≡ column (children tree) (length tree)
   pub heads_are : heads ≡ column (chain_classes tree) (length tree)
   pub rights_are : rights ≡ column (node_rights tree) (length tree)
   pub table_is : table ≡ keys tree
+  pub numbers_are : AreNumbers numbers (keys tree)
   pub few : length table ≤ KEYS + 1
   pub lockers_are : lockers ≡ column (locking_node tree) (length tree)
   pub taken_are : taken ≡ column (locks tree) (length tree)

@@ -6,6 +6,7 @@ pub mod Examples
 pub mod Faults
 pub mod HeldNodes
 pub mod IsPlan
+pub mod KeyNumbers
 pub mod KeyTable
 pub mod Locks
 pub mod Merged
@@ -14,6 +15,7 @@ pub mod NodeChains
 pub mod PathTexts
 pub mod Paths
 pub mod Planned
+pub mod Preorder
 pub mod Rising
 pub mod RowView
 pub mod SameNodes

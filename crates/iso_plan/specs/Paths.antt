@@ -83,6 +83,13 @@ pub record StandEarlier (rows : List Row) : Type 0 where
   pub first : parent rows 0 ≡ 0
   pub below : (n : ℕ) → 0 < n → parent rows n < n
 
+-- there is a first node, which stands in itself, and each other one stands in one with a smaller
+-- number
+pub record IsRooted (rows : List Row) : Type 0 where
+  pub rooted : 0 < length rows
+  pub first : parent rows 0 ≡ 0
+  pub below : (n : ℕ) → 0 < n → parent rows n < n
+
 -- there is a root, and each other node is a class or a test, stands in one with a smaller number,
 -- which is no test, and has as the marks of its head those that are effective for it
 pub record IsTree (tree : List Row) : Type 0 where

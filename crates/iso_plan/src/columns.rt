@@ -10,7 +10,7 @@ ghost use Rattle.iso_plan.specs.RowView.{nodes_in};
 use crate::chains::chains;
 use crate::children::children;
 use crate::fault::PlanError;
-use crate::keys::{copied, number_keys};
+use crate::keys::{copied, number_keys, numbers};
 use crate::lock::Lock;
 use crate::locking::{isolated, locking_nodes};
 use crate::locks::locks;
@@ -19,6 +19,7 @@ use crate::rights::rights;
 use crate::row::Row;
 use indexmap::IndexSet;
 use iso_model::heads::ClassHead;
+use iso_model::key_map::KeyMap;
 use iso_model::rights::Rights;
 use iso_model::script::Mode;
 use iso_model::text::Text;
@@ -45,6 +46,7 @@ pub(crate) struct Locked {
 #[derive(Drop)]
 pub(crate) struct Keyed {
     pub keys: Vec<Text>,
+    pub numbers: KeyMap<usize>,
     pub locked: Locked,
     pub modes: Vec<Mode>,
 }
@@ -112,8 +114,10 @@ fn key_by(
     let locked = lock_all(alloc, rows, table)?;
     let modes = modes(alloc, rows, settings, &locked.locks)?;
     let keys = copied(alloc, table.as_slice())?;
+    let numbers = numbers(alloc, &keys)?;
     Ok(Keyed {
         keys,
+        numbers,
         locked,
         modes,
     })

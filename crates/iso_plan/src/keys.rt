@@ -4,6 +4,7 @@ ghost use Rattle.std.specs.Str.{bytes_eq};
 ghost use Rattle.indexmap.specs.IndexSet.{insert_all, keys as set_keys};
 ghost use Rattle.iso_model.specs.declared.limits.TheConstants.{KEYS};
 ghost use Rattle.iso_plan.specs.Faults.{IsCrowded};
+ghost use Rattle.iso_plan.specs.KeyNumbers.{AreNumbers};
 ghost use Rattle.iso_plan.specs.KeyTable.{keys, mark_keys, kind_marks};
 ghost use Rattle.iso_plan.specs.RowView.{kind_of, nodes_in};
 
@@ -11,6 +12,8 @@ use crate::fault::{PlanError, PlanFault};
 use crate::row::{Kind, Row};
 use indexmap::IndexSet;
 use iso_model::heads::Mark;
+use iso_model::key::Key;
+use iso_model::key_map::KeyMap;
 use iso_model::limits::KEYS;
 use iso_model::text::Text;
 use std::alloc::{AllocError, Global};
@@ -59,6 +62,18 @@ pub(crate) fn copied(alloc: Global, keys: &[&str]) -> Result<Vec<Text>, AllocErr
         texts.push(Text::copied(alloc, *key)?)?;
     }
     Ok(texts)
+}
+
+/// The number of each of these keys.
+pub(crate) fn numbers(alloc: Global, keys: &[Text]) -> Result<KeyMap<usize>, AllocError>
+    ensures { IfOk result (λ m. AreNumbers m keys.now) }
+{
+    let mut numbers = KeyMap::new(alloc);
+    'keys: for number in 0..keys.len() {
+        let key = Key::new(alloc, keys[number].copy(alloc)?)?;
+        numbers.set(key, number)?;
+    }
+    Ok(numbers)
 }
 
 impl Kind {

@@ -17,6 +17,7 @@ ghost use Rattle.iso_plan.specs.Merged.{all_merged, merged, most_marks};
 ghost use Rattle.iso_plan.specs.Modes.{mode};
 ghost use Rattle.iso_plan.specs.NodeChains.{chain_classes, class_heads, depth, node_rights};
 ghost use Rattle.iso_plan.specs.Paths.{IsTree, children, is_test, is_top, is_under, parent, path, row_at};
+ghost use Rattle.iso_plan.specs.Preorder.{IsPreorder};
 ghost use Rattle.iso_plan.specs.RowView.{tree_of};
 ghost use Rattle.iso_plan.specs.SameNodes.{IsSameNode};
 ghost use Rattle.iso_plan.specs.Selections.{is_kept, number_among, plan_tree, selection, texts_of};
@@ -34,6 +35,13 @@ pub fn nodes_are_a_tree(plan: &Plan)
     ensures { IsTree (tree_of plan.now) }
 {
     plan.hold_a_tree();
+}
+
+/// The nodes stand in preorder: what stands in a node follows it without a gap.
+pub fn nodes_stand_in_preorder(plan: &Plan)
+    ensures { IsPreorder (tree_of plan.now) }
+{
+    plan.hold_an_order();
 }
 
 /// The children of a node are those nodes that have it as their parent.

@@ -18,7 +18,8 @@ use std::alloc::Global;
 
 /// The nodes of scripts that these paths keep. More than 4,096 are `TooManyNodes`, after a path
 /// that names no node. Where some may be left out, more nodes than have numbers of 32 bits count as
-/// out of memory.
+/// out of memory, and those that aren't kept get no effective marks: they cost their rows and their
+/// paths alone.
 pub(crate) fn kept_rows(
     alloc: Global,
     scripts: &[Script],
@@ -32,13 +33,14 @@ pub(crate) fn kept_rows(
     if only.is_empty() {
         return all_rows(alloc, scripts, NODES);
     }
-    let Ok(rows) = all_rows(alloc, scripts, u32::MAX) else {
+    let Ok(rows) = written_tree(alloc, scripts, u32::MAX) else {
         return Err(PlanError::OutOfMemory);
     };
-    let kept = selection(alloc, rows, only)?;
+    let mut kept = selection(alloc, rows, only)?;
     if kept.len() > NODES as usize {
         return Err(PlanError::Fault(PlanFault::TooManyNodes));
     }
+    make_effective(alloc, &mut kept)?;
     Ok(kept)
 }
 

@@ -2,16 +2,16 @@
 ghost use Rattle.std.specs.Prelude.{◌≡◌, ◌<◌, ◌^◌, IfErr, IfOk, None, length, map};
 ghost use Rattle.iso_model.specs.ScriptView.{script_of};
 ghost use Rattle.iso_plan.specs.Faults.{IsFaultOf, scripts_fault};
-ghost use Rattle.iso_plan.specs.Paths.{IsTree, column};
+ghost use Rattle.iso_plan.specs.Paths.{IsRooted, column};
 ghost use Rattle.iso_plan.specs.RowView.{nodes_in};
 ghost use Rattle.iso_plan.specs.TopClasses.{all_paths, all_top_classes, top_class};
 ghost use Rattle.iso_plan.specs.Tree.{tree};
 
 use crate::fault::PlanError;
 use crate::names::check_scripts;
-use crate::nodes::all_rows;
 use crate::paths::path_texts;
 use crate::row::Row;
+use crate::tree::written_tree;
 use iso_model::script::Script;
 use iso_model::text::Text;
 use std::alloc::{AllocError, Global};
@@ -26,7 +26,7 @@ pub struct Overview {
 }
 
 /// All nodes of scripts, however many they are: of the limits of a plan those alone are looked at
-/// that speak of scripts.
+/// that speak of scripts. A node costs its row and its path: it gets no effective marks.
 ///
 /// More than 64 scripts are `TooManyScripts`; two top-level classes of one team and name
 /// `DoubleClass`. They are tested in this order. Out of memory may be answered at each growth, and
@@ -38,7 +38,7 @@ pub fn look_over(alloc: Global, scripts: &[Script]) -> Result<Overview, PlanErro
     ensures refused { IfErr result (IsFaultOf (scripts_fault (map script_of scripts.now))) }
 {
     check_scripts(alloc, scripts)?;
-    let Ok(rows) = all_rows(alloc, scripts, u32::MAX) else {
+    let Ok(rows) = written_tree(alloc, scripts, u32::MAX) else {
         return Err(PlanError::OutOfMemory);
     };
     Ok(overview_of(alloc, &rows)?)
@@ -46,7 +46,7 @@ pub fn look_over(alloc: Global, scripts: &[Script]) -> Result<Overview, PlanErro
 
 /// The same of nodes.
 fn overview_of(alloc: Global, rows: &[Row]) -> Result<Overview, AllocError>
-    requires tree { IsTree (nodes_in rows.now) }
+    requires tree { IsRooted (nodes_in rows.now) }
     requires fits { length rows.now < 2 ^ 32 }
     ensures paths { IfOk result (λ o. o.paths.items ≡ all_paths (nodes_in rows.now)) }
     ensures classes { IfOk result (λ o. o.classes.items ≡ all_top_classes (nodes_in rows.now)) }
@@ -58,7 +58,7 @@ fn overview_of(alloc: Global, rows: &[Row]) -> Result<Overview, AllocError>
 
 /// The number of the top-level class that each node is or stands in.
 fn top_classes(alloc: Global, rows: &[Row]) -> Result<Vec<u32>, AllocError>
-    requires tree { IsTree (nodes_in rows.now) }
+    requires tree { IsRooted (nodes_in rows.now) }
     requires fits { length rows.now < 2 ^ 32 }
     ensures { IfOk result (λ v. v.items ≡ column (top_class (nodes_in rows.now)) (length rows.now)) }
 {

@@ -1,7 +1,7 @@
 //! The paths of nodes as texts: the names of the team, the enclosing classes and the node, with
 //! dots between them.
 ghost use Rattle.std.specs.Prelude.{◌≡◌, ◌<◌, ◌++◌, ◌==◌, IfOk, bytes_eq, codes, cond, length, slice_index_or};
-ghost use Rattle.iso_plan.specs.Paths.{IsTree, column, parent, row_at};
+ghost use Rattle.iso_plan.specs.Paths.{IsRooted, IsTree, column, parent, row_at};
 ghost use Rattle.iso_plan.specs.PathTexts.{path_text};
 ghost use Rattle.iso_plan.specs.RowView.{nodes_in, row_of};
 
@@ -11,7 +11,7 @@ use std::alloc::{AllocError, Global};
 
 /// The path of each node; the root's is empty.
 pub(crate) fn path_texts(alloc: Global, rows: &[Row]) -> Result<Vec<Text>, AllocError>
-    requires { IsTree (nodes_in rows.now) }
+    requires { IsRooted (nodes_in rows.now) }
     ensures { IfOk result (λ v. v.items ≡ column (path_text (nodes_in rows.now)) (length rows.now)) }
 {
     let mut paths = Vec::with_capacity(alloc, rows.len())?;

@@ -3,16 +3,19 @@ ghost use Rattle.std.specs.Prelude.{◌≡◌, ◌<◌, ◌≤◌, ◌↔◌, �
 ghost use Rattle.std.specs.List.{All};
 ghost use Rattle.std.specs.Option.{option_map};
 ghost use Rattle.iso_model.specs.ChainView.{innermost_first};
+ghost use Rattle.iso_model.specs.ResourceKeys.{spelling};
 ghost use Rattle.iso_model.specs.Rights.{access_in};
 ghost use Rattle.iso_model.specs.ScriptView.{script_of, test_head_of};
 ghost use Rattle.iso_model.specs.declared.limits.TheConstants.{KEYS, NODES};
 ghost use Rattle.iso_plan.specs.Faults.{IsFaultOf, keys_fault, plan_fault};
+ghost use Rattle.iso_plan.specs.KeyNumbers.{number_below};
 ghost use Rattle.iso_plan.specs.KeyTable.{keys};
 ghost use Rattle.iso_plan.specs.Locks.{effective_marks, isolates, locking_node, locks};
 ghost use Rattle.iso_plan.specs.Modes.{mode};
 ghost use Rattle.iso_plan.specs.NodeChains.{chain_classes, chain_test, depth, node_rights};
 ghost use Rattle.iso_plan.specs.Paths.{IsTree, children, is_test, parent_of, row_at};
 ghost use Rattle.iso_plan.specs.PathTexts.{found};
+ghost use Rattle.iso_plan.specs.Preorder.{IsPreorder};
 ghost use Rattle.iso_plan.specs.RowView.{nodes_in, tree_of};
 ghost use Rattle.iso_plan.specs.SameNodes.{KeepsChains};
 ghost use Rattle.iso_plan.specs.Selections.{plan_tree, texts_of};
@@ -28,6 +31,8 @@ use crate::row::{Kind, Row};
 use crate::same::same_rows;
 use iso_model::chain::Chain;
 use iso_model::heads::{ClassHead, Mark};
+use iso_model::key_map::KeyMap;
+use iso_model::resource_key::ResourceKey;
 use iso_model::rights::Rights;
 use iso_model::script::{Mode, Script};
 use iso_model::text::Text;
@@ -47,6 +52,7 @@ pub struct Plan {
     chains: Vec<Vec<Arc<ClassHead>>>,
     rights: Vec<Rights>,
     keys: Vec<Text>,
+    numbers: KeyMap<usize>,
     locking: Vec<Option<u32>>,
     locks: Vec<Vec<Lock>>,
     modes: Vec<Mode>,
@@ -69,7 +75,7 @@ impl Model for Plan {
     ghost view = { λ p. record { rows = nodes_in p.rows.items; settings = p.settings } };
 
     ghost invariant = { λ p. IsPlan (nodes_in p.rows.items) p.settings (map (λ c. c.items) p.children.items)
-        (map (λ c. innermost_first c.items) p.chains.items) (map access_in p.rights.items) p.keys.items
+        (map (λ c. innermost_first c.items) p.chains.items) (map access_in p.rights.items) p.keys.items p.numbers
         p.locking.items (map (λ l. l.items) p.locks.items) p.modes.items };
 }
 
@@ -94,7 +100,8 @@ pub fn build(alloc: Global, scripts: &[Script], settings: &Settings) -> Result<P
 /// with all its own marks and blocks; nodes and keys are numbered anew. Without paths all nodes are
 /// kept.
 ///
-/// The chain of a kept node is the one that it has where all nodes are kept.
+/// The chain of a kept node is the one that it has where all nodes are kept. What isn't kept costs
+/// its row and its path: it gets no effective marks.
 ///
 /// More than 64 scripts are `TooManyScripts`; two top-level classes of one team and name
 /// `DoubleClass`; a path that names no node, as an empty one does, `NotSelected`; more than 4,096
@@ -121,6 +128,7 @@ pub fn build_only(
 /// The plan of nodes. More than 255 different declared keys are `TooManyKeys`.
 fn plan_of(alloc: Global, rows: Vec<Row>, settings: Settings) -> Result<Plan, PlanError>
     requires tree { IsTree (nodes_in rows.items) }
+    requires order { IsPreorder (nodes_in rows.items) }
     requires fits { length rows.items ≤ NODES }
     ensures tree { IfOk result (λ p. tree_of p ≡ nodes_in rows.items) }
     ensures settings { IfOk result (λ p. p.settings ≡ settings) }
@@ -136,6 +144,7 @@ fn plan_of(alloc: Global, rows: Vec<Row>, settings: Settings) -> Result<Plan, Pl
         chains: chained.chains,
         rights: chained.rights,
         keys: keyed.keys,
+        numbers: keyed.numbers,
         locking: keyed.locked.locking,
         locks: keyed.locked.locks,
         modes: keyed.modes,
@@ -325,6 +334,13 @@ impl Plan {
         self.keys[number as usize].as_str()
     }
 
+    /// The number of the key of a resource, if a node is marked with it. Takes no memory.
+    pub fn key_number(&self, resource: ResourceKey<'_>) -> Option<usize>
+        ensures { result ≡ number_below (keys (tree_of self.now)) (spelling resource.entry) (length (keys (tree_of self.now))) }
+    {
+        self.numbers.get(resource)
+    }
+
     /// Whether two plans say the same: nodes of one tree with the same heads, marks, names and
     /// titles, and the same settings. Takes no memory. It goes over the scripts of both, so a
     /// caller who knows the answer otherwise needn't ask under a lock.
@@ -337,6 +353,13 @@ impl Plan {
     /// Its nodes are a tree.
     pub(crate) fn hold_a_tree(&self)
         ensures { IsTree (tree_of self.now) }
+    {
+        let _rows = &self.rows;
+    }
+
+    /// Its nodes stand in preorder.
+    pub(crate) fn hold_an_order(&self)
+        ensures { IsPreorder (tree_of self.now) }
     {
         let _rows = &self.rows;
     }

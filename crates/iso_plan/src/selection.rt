@@ -2,7 +2,7 @@
 ghost use Rattle.std.specs.Prelude.{◌≡◌, ◌<◌, ◌||◌, ◌^◌, ℕ, Bool, List, None, IfErr, IfOk, OnOk, length, slice_index_or, false};
 ghost use Rattle.iso_model.specs.NameSets.{Knows};
 ghost use Rattle.iso_plan.specs.Faults.{IsFaultOf, not_selected};
-ghost use Rattle.iso_plan.specs.Paths.{IsTree, column, is_on, path};
+ghost use Rattle.iso_plan.specs.Paths.{IsRooted, column, is_on, path};
 ghost use Rattle.iso_plan.specs.PathTexts.{path_text};
 ghost use Rattle.iso_plan.specs.RowView.{nodes_in, row_of};
 ghost use Rattle.iso_plan.specs.Selections.{first_unknown, is_chosen, is_kept_by, is_named, node_paths, number_among, renumbered, selection, texts_of, those_below, those_of};
@@ -19,7 +19,7 @@ use std::collections::BTreeSet;
 /// it, and the classes that it stands in. Where no path is given, all are. The first path that
 /// names no node is `NotSelected`.
 pub(crate) fn selection(alloc: Global, rows: Vec<Row>, only: &[&str]) -> Result<Vec<Row>, PlanError>
-    requires tree { IsTree (nodes_in rows.items) }
+    requires tree { IsRooted (nodes_in rows.items) }
     requires fits { length rows.items < 2 ^ 32 }
     ensures kept { IfOk result (λ v. nodes_in v.items ≡ selection (nodes_in rows.items) (texts_of only.now)) }
     ensures known { IfOk result (λ v. first_unknown (nodes_in rows.items) (texts_of only.now) ≡ None) }
@@ -35,7 +35,7 @@ pub(crate) fn selection(alloc: Global, rows: Vec<Row>, only: &[&str]) -> Result<
 /// Whether each node is kept where some are named by these paths. The first path that names no node
 /// is `NotSelected`.
 fn kept_by(alloc: Global, rows: &[Row], only: &[&str]) -> Result<Vec<bool>, PlanError>
-    requires { IsTree (nodes_in rows.now) }
+    requires { IsRooted (nodes_in rows.now) }
     ensures kept { IfOk result (λ v. v.items ≡ column (is_kept_by (nodes_in rows.now) (texts_of only.now)) (length rows.now)) }
     ensures known { IfOk result (λ v. first_unknown (nodes_in rows.now) (texts_of only.now) ≡ None) }
     ensures unknown { IfErr result (IsFaultOf (not_selected (first_unknown (nodes_in rows.now) (texts_of only.now)))) }
@@ -48,7 +48,7 @@ fn kept_by(alloc: Global, rows: &[Row], only: &[&str]) -> Result<Vec<bool>, Plan
 
 /// Refuses the first path that is that of no node.
 fn check_known(alloc: Global, rows: &[Row], paths: &[Text], only: &[&str]) -> Result<(), PlanError>
-    requires tree { IsTree (nodes_in rows.now) }
+    requires tree { IsRooted (nodes_in rows.now) }
     requires paths { paths.now ≡ column (path_text (nodes_in rows.now)) (length rows.now) }
     ensures ok { OnOk result (first_unknown (nodes_in rows.now) (texts_of only.now) ≡ None) }
     ensures err { IfErr result (IsFaultOf (not_selected (first_unknown (nodes_in rows.now) (texts_of only.now)))) }
@@ -68,7 +68,7 @@ fn known_paths<'a>(
     rows: &[Row],
     paths: &'a [Text],
 ) -> Result<BTreeSet<&'a str>, AllocError>
-    requires tree { IsTree (nodes_in rows.now) }
+    requires tree { IsRooted (nodes_in rows.now) }
     requires paths { paths.now ≡ column (path_text (nodes_in rows.now)) (length rows.now) }
     ensures { IfOk result (λ known. Knows known (node_paths (nodes_in rows.now))) }
 {
@@ -97,7 +97,7 @@ fn chosen(
     paths: &[Text],
     only: &[&str],
 ) -> Result<Vec<bool>, AllocError>
-    requires tree { IsTree (nodes_in rows.now) }
+    requires tree { IsRooted (nodes_in rows.now) }
     requires paths { paths.now ≡ column (path_text (nodes_in rows.now)) (length rows.now) }
     ensures { IfOk result (λ v. v.items ≡ column (is_chosen (nodes_in rows.now) (texts_of only.now)) (length rows.now)) }
 {
@@ -113,7 +113,7 @@ fn chosen(
 
 /// Whether each node is chosen, or one that stands in it, or it is the root.
 fn kept(alloc: Global, rows: &[Row], chosen: &[bool]) -> Result<Vec<bool>, AllocError>
-    requires tree { IsTree (nodes_in rows.now) }
+    requires tree { IsRooted (nodes_in rows.now) }
     requires each { length chosen.now ≡ length rows.now }
     ensures { (only : List (List ℕ)) → chosen.now ≡ column (is_chosen (nodes_in rows.now) only) (length rows.now)
         → IfOk result (λ v. v.items ≡ column (is_kept_by (nodes_in rows.now) only) (length rows.now)) }
@@ -130,7 +130,7 @@ fn kept(alloc: Global, rows: &[Row], chosen: &[bool]) -> Result<Vec<bool>, Alloc
 
 /// Marks a node and all that it stands in but the root.
 fn mark_path(kept: &mut Vec<bool>, rows: &[Row], node: usize)
-    requires tree { IsTree (nodes_in rows.now) }
+    requires tree { IsRooted (nodes_in rows.now) }
     requires within { node < length rows.now }
     requires each { length kept.old.items ≡ length rows.now }
     ensures marked { (m : ℕ) → slice_index_or kept.new.items m false
@@ -146,7 +146,7 @@ fn mark_path(kept: &mut Vec<bool>, rows: &[Row], node: usize)
 
 /// The nodes that are kept, numbered anew.
 fn those_of(alloc: Global, rows: Vec<Row>, kept: &[bool]) -> Result<Vec<Row>, AllocError>
-    requires tree { IsTree (nodes_in rows.items) }
+    requires tree { IsRooted (nodes_in rows.items) }
     requires each { length kept.now ≡ length rows.items }
     requires fits { length rows.items < 2 ^ 32 }
     ensures { IfOk result (λ v. nodes_in v.items ≡ those_of (λ n. slice_index_or kept.now n false) (nodes_in rows.items)) }

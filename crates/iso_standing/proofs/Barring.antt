@@ -1,5 +1,5 @@
 -- What becomes of the phases where a class is barred.
-use Rattle.std.proofs.Common.{◌≡◌, ℕ, ◌<◌, List, length, Bool, true, false, cond, eqb, ◌&&◌, get_or, set, ap, sym, ◌∙◌, arith, inl, inr, refl}
+use Rattle.std.proofs.Common.{◌≡◌, ℕ, ◌<◌, ◌≤◌, List, length, Bool, true, false, cond, eqb, ◌&&◌, get_or, set, ap, sym, ◌∙◌, arith, inl, inr, refl}
 use Rattle.std.proofs.lemmas.Bool.{cases_eq}
 use Rattle.std.proofs.lemmas.List.{get_or-set_other, get_or-set_same}
 use Rattle.iso_standing.proofs.Inside.{not-inside}
@@ -19,13 +19,17 @@ and-false false = refl
 stays : (v : Standing) (c m : ℕ) → is_waiting (bare (phase_at v m)) ≡ false → phase_under v c m ≡ phase_at v m
 stays v c m e = ap (λ (b : Bool). cond b Finished (phase_at v m)) (ap (λ (b : Bool). is_inside v m c && b) e ∙ and-false (is_inside v m c))
 
--- a node before the class doesn't stand in it
-pub stays-before : (v : Standing) → IsBelow (tree_of v.plan) → phase_at v 0 ≡ Open → (c m : ℕ) → m < c → phase_under v c m ≡ phase_at v m
+-- and so does what stands elsewhere
+pub stays-outside : (v : Standing) (c m : ℕ) → is_inside v m c ≡ false → phase_under v c m ≡ phase_at v m
+stays-outside v c m e = ap (λ (b : Bool). cond (b && is_waiting (bare (phase_at v m))) Finished (phase_at v m)) e
+
+-- a node that isn't behind the class doesn't stand in it
+pub stays-before : (v : Standing) → IsBelow (tree_of v.plan) → phase_at v 0 ≡ Open → (c m : ℕ) → m ≤ c → phase_under v c m ≡ phase_at v m
 stays-before v below root c m h = elim (cases_eq m 0) [
   | inl first ↦ stays v c m (ap (λ j. is_waiting (bare (phase_at v j))) first ∙ ap (λ (p : Phase). is_waiting (bare p)) root)
   | inr other ↦
       let less = below m (omega (arith, other)) in
-      ap (λ (b : Bool). cond (b && is_waiting (bare (phase_at v m))) Finished (phase_at v m)) (not-inside (tree_of v.plan) below _ c (omega arith))
+      stays-outside v c m (not-inside (tree_of v.plan) below _ c (omega arith))
 ]
 
 -- the phases with the class barred, before any other node is looked at
@@ -37,14 +41,8 @@ barred-at ps d c m h = elim (cases_eq m c) [
   | inr other ↦ get_or-set_other ps c m Barred d other ∙ sym (ap (λ (b : Bool). cond b Barred (get_or ps m d)) (eq_not m c other))
 ]
 
--- a standing with other phases, of which one place was looked at
-module _ (v u : Standing) (rest : u ≡ record v { phases = u.phases }) (c n : ℕ) (later : phase_at u n ≡ cond (eqb n c) Barred (phase_at v n)) where
-  here-by : (b : Bool) (x : Bool) → cond (x && is_waiting (bare (cond b Barred (phase_at v n)))) Finished (cond b Barred (phase_at v n)) ≡ cond b Barred (cond (x && is_waiting (bare (phase_at v n))) Finished (phase_at v n))
-  here-by true x = ap (λ (b : Bool). cond b Finished Barred) (and-false x)
-  here-by false x = refl
-
-  pub under-here : phase_under u c n ≡ cond (eqb n c) Barred (phase_under v c n)
-  under-here =
-      ap (λ (s : Standing). cond (is_inside s n c && is_waiting (bare (phase_at u n))) Finished (phase_at u n)) rest
-      ∙ ap (λ (p : Phase). cond (is_inside v n c && is_waiting (bare p)) Finished p) later
-      ∙ here-by (eqb n c) (is_inside v n c)
+-- what stands in the class is finished where it waits
+pub under-inside : (v : Standing) (c m : ℕ) → is_inside v m c ≡ true → (p : Phase) → p ≡ phase_at v m → cond (is_waiting (bare p)) Finished p ≡ phase_under v c m
+under-inside v c m inside p e =
+    ap (λ (q : Phase). cond (is_waiting (bare q)) Finished q) e
+    ∙ sym (ap (λ (b : Bool). cond (b && is_waiting (bare (phase_at v m))) Finished (phase_at v m)) inside)

@@ -1,9 +1,10 @@
 -- Nodes that stand in a class.
 use Rattle.std.proofs.Common.{◌≡◌, ℕ, ◌<◌, ◌≤◌, List, Bool, true, false, cond, eqb, ap, sym, ◌∙◌, arith, inl, inr}
-use Rattle.std.proofs.lemmas.Bool.{cases_eq}
+use Rattle.std.proofs.lemmas.Bool.{cases_eq, cases_lt}
 use Rattle.iso_isolation.specs.Events.{is_in}
 use Rattle.iso_plan.proofs.PathLemmas.{IsBelow, along, eq_not, eq_same, path-root, path-step}
 use Rattle.iso_plan.specs.Paths.{parent, path}
+use Rattle.iso_plan.specs.Preorder.{IsPreorder}
 use Rattle.iso_plan.specs.Tree.{Row}
 
 module _ (tree : List Row) (below : IsBelow tree) where
@@ -26,9 +27,26 @@ module _ (tree : List Row) (below : IsBelow tree) where
   pub itself-inside : (n : ℕ) → 0 < n → is_in n (path tree n) ≡ true
   itself-inside n h = at-step n n h ∙ ap (λ (b : Bool). cond b true (is_in n (path tree (parent tree n)))) (eq_same n)
 
-  -- the first node up the path that isn't past the class tells whether the path has the class
-  pub found-inside : (n m : ℕ) → n ≤ m → 0 < m → eqb n m ≡ is_in m (path tree n)
-  found-inside n m h pos = elim (cases_eq n m) [
-    | inl same ↦ ap (λ j. eqb j m) same ∙ eq_same m ∙ sym (itself-inside m pos) ∙ ap (λ j. is_in m (path tree j)) (sym same)
-    | inr other ↦ eq_not n m other ∙ sym (not-inside n m (omega (arith, other)))
-  ]
+  -- where each of the nodes behind a class stands in the class or in one behind it, all of them stand in the class
+  pub run-inside : (c most : ℕ) → 0 < c → ((m : ℕ) → c < m → m < most → c ≤ parent tree m) → (n : ℕ) → c < n → n < most → is_in c (path tree (parent tree n)) ≡ true
+  run-inside c most inner run = along tree below (λ n. c < n → n < most → is_in c (path tree (parent tree n)) ≡ true)
+      (λ h less. absurd (omega arith))
+      (λ n pos up h less.
+      let above = run n h less in
+      let lower = below n pos in
+      elim (cases_eq (parent tree n) c) [
+        | inl same ↦ ap (λ j. is_in c (path tree j)) same ∙ itself-inside c inner
+        | inr other ↦ sym (inside-up c (parent tree n) (omega (arith, other))) ∙ up (omega (arith, other)) (omega arith)
+      ])
+
+  -- in preorder no node stands in a class behind one that doesn't
+  pub none-inside : IsPreorder tree → (c m : ℕ) → c < m → parent tree m < c → (n : ℕ) → m ≤ n → is_in c (path tree (parent tree n)) ≡ false
+  none-inside order c m behind out = along tree below (λ n. m ≤ n → is_in c (path tree (parent tree n)) ≡ false)
+      (λ h. absurd (omega arith))
+      (λ n pos up h. elim (cases_lt (parent tree n) m) [
+        | inl less ↦ not-inside (parent tree n) c (elim (cases_eq n m) [
+          | inl same ↦ let above : parent tree n ≡ parent tree m = ap (parent tree) same in omega arith
+          | inr other ↦ let above = order m n (omega (arith, other)) less in omega arith
+        ])
+        | inr past ↦ sym (inside-up c (parent tree n) (omega arith)) ∙ up past
+      ])

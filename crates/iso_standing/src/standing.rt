@@ -1,15 +1,15 @@
 //! Where all nodes and workers stand.
-ghost use Rattle.std.specs.Prelude.{◌≡◌, ◌<◌, ◌||◌, IfOk, is_some, length, slice_set};
+ghost use Rattle.std.specs.Prelude.{◌≡◌, ◌<◌, ◌||◌, IfOk, cond, is_some, length, slice_set};
 ghost use Rattle.iso_standing.specs.Phases.{bare};
 ghost use Rattle.iso_standing.specs.declared.phase.Phase.TheVariants.{Finished};
 ghost use Rattle.iso_standing.specs.CodeEvents.{event_of};
 ghost use Rattle.iso_standing.specs.Holding.{with_held};
 ghost use Rattle.iso_suites.specs.SuiteStates.{RunState};
 ghost use Rattle.iso_standing.specs.Passed.{ArePassed};
-ghost use Rattle.iso_standing.specs.Standings.{CanTake, EndsWellAs, Fits, HasBody, IsBarred, LooksLike, OfSame, TellsWell, after_in, body_under_way, first_in, has_body_at, is_complete_in, is_inside, node_of, nodes_in, owner_at, phase_at, phase_under, with_phase, workers_in};
+ghost use Rattle.iso_standing.specs.Standings.{CanTake, EndsWellAs, Fits, HasBody, IsBarred, LooksLike, OfSame, TellsWell, after_in, body_under_way, first_in, has_body_at, is_complete_in, node_of, nodes_in, owner_at, phase_at, with_phase, workers_in};
 ghost use Rattle.iso_isolation.specs.Events as E;
 ghost use Rattle.iso_isolation.specs.Events.{stop};
-ghost use Rattle.iso_isolation.specs.States.{is_closing, is_held};
+ghost use Rattle.iso_isolation.specs.States.{is_closing, is_held, is_waiting};
 ghost use Rattle.iso_model.specs.Resources.{Resources};
 ghost use Rattle.iso_plan.specs.Conflicts.{lowest_in_the_way};
 ghost use Rattle.iso_plan.specs.Paths.{is_test, parent, row_at};
@@ -18,7 +18,7 @@ ghost use Rattle.iso_plan.specs.RowView.{tree_of};
 use crate::event::Event;
 use crate::phase::Phase;
 use iso_plan::held_nodes::HeldNodes;
-use iso_plan::laws::parents_come_first;
+use iso_plan::laws::{nodes_stand_in_preorder, parents_come_first};
 use iso_plan::plan::Plan;
 use std::alloc::{AllocError, Global};
 use std::marker::Model;
@@ -110,8 +110,8 @@ impl<'a> Standing<'a> {
     }
 
     /// Takes a Leave that is accepted. `well` tells whether the body has ended well, where it is a
-    /// `before_all`. Takes no memory. Where a class is barred it goes over the nodes after it, and
-    /// up the path of each.
+    /// `before_all`. Takes no memory. Where a class is barred it goes over the nodes that stand in
+    /// it, once each.
     pub fn leave(&mut self, worker: u32, well: bool)
         requires { HasBody self.old worker }
         ensures same { OfSame self.old self.new }
@@ -245,21 +245,6 @@ impl<'a> Standing<'a> {
         self.phase(node).is_closing() || self.plan.is_test(node)
     }
 
-    /// Whether a node stands in a class, at any depth. It goes up the node's path.
-    fn is_inside(&self, node: u32, class: u32) -> bool
-        requires node { node < nodes_in self.now }
-        requires inner { 0 < node }
-        requires class { 0 < class }
-        ensures { result ≡ is_inside self.now node class }
-    {
-        parents_come_first(self.plan);
-        let mut above = self.parent(node);
-        'path: while above > class {
-            above = self.parent(above);
-        }
-        above == class
-    }
-
     /// Finishes a node, and passes those children of its parent that come next and aren't due.
     fn finish(&mut self, node: u32)
         requires node { node < nodes_in self.old }
@@ -321,29 +306,32 @@ impl<'a> Standing<'a> {
         self.passed[class as usize]
     }
 
-    /// Bars a class: what waits in it is finished.
+    /// Bars a class: what waits in it is finished. What stands in it follows it, so it ends at the
+    /// first node that stands elsewhere.
     fn bar(&mut self, class: u32)
         requires class { class < nodes_in self.old }
         requires inner { 0 < class }
         ensures { IsBarred class self.old self.new }
     {
         parents_come_first(self.plan);
+        nodes_stand_in_preorder(self.plan);
         self.set_phase(class, Phase::Barred);
-        'nodes: for node in class..self.plan.len() {
-            let next = self.phase_under(node, class);
+        let nodes = self.plan.len();
+        let mut node = class + 1;
+        'inside: while node < nodes && self.parent(node) >= class {
+            let next = self.phase_inside(node);
             self.set_phase(node, next);
+            node += 1;
         }
     }
 
-    /// What becomes of a node where a class is barred.
-    fn phase_under(&self, node: u32, class: u32) -> Phase
-        requires node { node < nodes_in self.now }
-        requires inner { 0 < node }
-        requires class { 0 < class }
-        ensures { result ≡ phase_under self.now class node }
+    /// What becomes of a node that stands in a class that is barred.
+    fn phase_inside(&self, node: u32) -> Phase
+        requires { node < nodes_in self.now }
+        ensures { result ≡ cond (is_waiting (bare (phase_at self.now node))) Finished (phase_at self.now node) }
     {
         let phase = self.phase(node);
-        if phase.is_waiting() && self.is_inside(node, class) {
+        if phase.is_waiting() {
             return Phase::Finished;
         }
         phase

@@ -17,7 +17,7 @@ keys-preserved c =
     let start = c.index-starts-number.result in
     let within : n < length starts = omega arith in
     let key : (get_or starts n start).key ≡ get_or keys n [] = sym (get_or-map (λ (s : Starting). s.key) starts n start [] within) in
-    let this : c.kept_at.result ≡ kept_at rights keys values n =
-    c.kept_at.ensures ∙ ap₂ (λ (k : List ℕ) (h : Option History). cond (is_writable (access_in rights k)) h None) key c.get.ensures in
-    let pushed : c.push.new.self.items ≡ c.keys.marks.items ++ c.kept_at.result ∷ [] = c.in_ok-push.ensures.items in
-    pushed ∙ column-push (kept_at rights keys values) c.keys.marks.items n c.kept_at.result c.keys.invariant this
+    let this : c.in_ok-mark.mark ≡ kept_at rights keys values n =
+    c.in_ok-mark.ensures ∙ ap₂ (λ (k : List ℕ) (h : Option History). cond (is_writable (access_in rights k)) h None) key c.get.ensures in
+    let pushed : c.push.new.self.items ≡ c.keys.marks.items ++ c.in_ok-mark.mark ∷ [] = c.in_ok-push.ensures.items in
+    pushed ∙ column-push (kept_at rights keys values) c.keys.marks.items n c.in_ok-mark.mark c.keys.invariant this

@@ -5,6 +5,7 @@ use Rattle.std.proofs.Common.{◌≡◌, ◌+◌, ◌≤◌, ℕ, List}
 use Rattle.iso_model.specs.declared.limits.TheConstants.{KEYS}
 use Rattle.iso_plan.proofs.FaultLemmas.{keys-none, keys-refused}
 use Rattle.iso_plan.specs.Faults.{IsCrowded}
+use Rattle.iso_plan.specs.KeyNumbers.{AreNumbers}
 use Rattle.iso_plan.specs.KeyTable.{keys}
 use Rattle.iso_plan.specs.Locks.{locking_node, locks}
 use Rattle.iso_plan.specs.Modes.{mode}
@@ -34,6 +35,7 @@ invariant_of-result c =
     let keyed = c.in_ok-keyed.ensures.keyed in
     record {
       is_tree = c.requires.tree;
+      in_order = c.requires.order;
       fits = rw count c.requires.fits;
       kids_are =
           chained.children_are ∙ ap (λ (rs : List Row). column (children (map row_of rs)) (length rs)) c.deref-2.ensures.value ∙ ap (column (children tree)) (sym count);
@@ -42,6 +44,7 @@ invariant_of-result c =
       rights_are =
           chained.rights_are ∙ ap (λ (rs : List Row). column (node_rights (map row_of rs)) (length rs)) c.deref-2.ensures.value ∙ ap (column (node_rights tree)) (sym count);
       table_is = keyed.keys_are ∙ ap (λ (rs : List Row). keys (map row_of rs)) c.deref.ensures.value;
+      numbers_are = subst (λ (rs : List Row). AreNumbers c.in_ok-keyed.keyed.numbers (keys (map row_of rs))) c.deref.ensures.value keyed.numbers_are;
       few = c.in_ok-keyed.ensures.few;
       lockers_are =
           keyed.locked.locking_are ∙ ap (λ (rs : List Row). column (locking_node (map row_of rs)) (length rs)) c.deref.ensures.value ∙ ap (column (locking_node tree)) (sym count);

@@ -1,9 +1,10 @@
-use Rattle.std.proofs.Common.{◌≡◌, ◌<◌, ◌≤◌, ◌+◌, ◌∷◌, [], ◌++◌, ℕ, zero, suc, List, Vec, Global, vec_len, Bool, true, false, drop, get_or, length, map, refl, ap, ap₂, sym, ◌∙◌, add-one, arith}
+use Rattle.std.proofs.Common.{◌≡◌, ◌<◌, ◌+◌, ◌∷◌, [], ◌++◌, ℕ, List, Vec, Global, vec_len, Bool, true, false, drop, get_or, length, map, refl, ap, ap₂, sym, ◌∙◌, add-one, arith}
 use Rattle.std.proofs.lemmas.List.{length-map, length_push, map_push}
 use Rattle.std.specs.Vec.Iter.{into_iter_items}
 use Rattle.iso_plan.proofs.ColumnLemmas.{column-push, parent-at, row-at}
 use Rattle.iso_plan.proofs.NumberLemmas.{all-taken, left-first, left-rest, left-some, number-small, those-next, those-skip}
-use Rattle.iso_plan.specs.Paths.{IsTree, column, parent, row_at}
+use Rattle.iso_plan.proofs.SelectionLemmas.{parent-low}
+use Rattle.iso_plan.specs.Paths.{column, parent, row_at}
 use Rattle.iso_plan.specs.RowView.{row_of}
 use Rattle.iso_plan.specs.Selections.{number_among, renumbered, those_below}
 use Rattle.iso_plan.specs.Tree as T
@@ -44,10 +45,6 @@ numbers_more kept numbers i n more long before is e =
 
 kept_here : (kept : List Bool) (i at : ℕ) (numbers : Vec ℕ Global) → at ≡ vec_len numbers → {b : Bool} → get_or kept at false ≡ b → i ≡ length numbers.items → keeps kept i ≡ b
 kept_here kept i at numbers e same is = let here : i ≡ at = omega (arith, numbers.ok.0) in ap (λ (k : ℕ). get_or kept k false) here ∙ same
-
-up_low : (tree : List T.Row) → IsTree tree → (n : ℕ) → parent tree n ≤ n
-up_low tree t zero = let first : parent tree 0 ≡ 0 = ap (λ (r : T.Row). r.parent) t.root_is in omega arith
-up_low tree t (suc n) = let below = t.below (suc n) (omega arith) in omega arith
 
 pub nodes-init : goal.nodes-init
 nodes-init c =
@@ -94,7 +91,7 @@ renumbered-requires c =
     let at = sym c.in-Some.ensures.steps.0 ∙ c.nodes.invariant.rest in
     let less = left-some c.in-Some.row _ rows i at in
     let own : c.in-Some.row.parent ≡ parent (map row_of rows) i = ap (λ (r : Row). r.parent) (left-first c.in-Some.row _ rows i at) ∙ sym (parent-at rows i c.in-Some.row less) in
-    let low = up_low (map row_of rows) c.requires.tree i in
+    let low = parent-low (map row_of rows) c.requires.tree i in
     let more : length c.push.new.self.items ≡ i + 1 = ap length c.in_ok-push.ensures.items ∙ length_push numbers.items _ in
     let long : length c.deref.result.now ≡ i + 1 = ap length c.deref.ensures.value ∙ more in
     omega arith

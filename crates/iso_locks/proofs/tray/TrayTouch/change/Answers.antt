@@ -1,22 +1,17 @@
-use Rattle.std.proofs.Common.{◌≡◌, ℕ, ◌<◌, List, length, map, Option, Some, None, true, ap, ◌∙◌, arith, subst}
+use Rattle.std.proofs.Common.{◌≡◌, ℕ, ◌<◌, List, length, Some, None, true, ap, sym, ◌∙◌, arith, subst}
 use Rattle.std.proofs.lemmas.Result.{on_ok_weaker}
 use Rattle.iso_model.specs.ResourceKeys.{spelling}
 use Rattle.iso_model.specs.Resources.{changed_at}
 use Rattle.iso_plan.specs.KeyTable.{keys}
 use Rattle.iso_plan.specs.RowView.{tree_of}
 use Rattle.iso_plan.specs.Tree.{Row}
-use Rattle.iso_settings.specs.Worlds.{Start}
 use Rattle.iso_locks.specs.Slots.{Slots}
-use Rattle.iso_locks.specs.Trays.{IsOnward, TrayView, content, has_at, has_value, number_below, number_of, start_at}
-use Rattle.iso_locks.specs.declared.starting.Starting.{Starting}
+use Rattle.iso_locks.specs.Trays.{IsOnward, TrayView, content, has_at, has_value, number_of}
 use Rattle.iso_locks.proofs.LawLemmas.{on-apply, on-there}
-use Rattle.iso_locks.proofs.NumberLemmas.{number-within, spelled}
+use Rattle.iso_locks.proofs.NumberLemmas.{number-within}
 use Rattle.iso_locks.proofs.OwnerLemmas.{owned-still}
-use Rattle.iso_locks.proofs.TouchLemmas.{changes, nothing-there, number-is}
+use Rattle.iso_locks.proofs.TouchLemmas.{changes, nothing-there}
 use Rattle.iso_locks.proofs.tray.TrayTouch.change.Goals as goal
-
-numbered : (tree : List Row) (world : Start) (starts found : List Starting) (k : List ℕ) (o : Option ℕ) → starts ≡ map (start_at world) (keys tree) → found ≡ starts → o ≡ number_below (map spelled found) k (length found) → number_of tree k ≡ o
-numbered tree world starts found k o e same is = number-is tree world found k o (same ∙ e) is
 
 below : (tree : List Row) (k : List ℕ) (i : ℕ) (values : Slots) → number_of tree k ≡ Some i → length values ≡ length (keys tree) → i < length values
 below tree k i values e fits = let less : i < length (keys tree) = number-within (keys tree) k (length (keys tree)) i e in omega arith
@@ -24,7 +19,7 @@ below tree k i values e fits = let less : i < length (keys tree) = number-within
 pub apply-requires : goal.apply-requires
 apply-requires c =
     let tree = tree_of c.self.inside.plan.now in
-    let at = numbered tree c.self.inside.world.now c.self.inside.starts.items c.deref.result.now (spelling c.args.key) (Some c.in-Some.number) c.self.invariant.starts_are c.deref.ensures.value c.in-Some.ensures in
+    let at : number_of tree (spelling c.args.key) ≡ Some c.in-Some.number = sym c.in-Some.ensures in
     below tree (spelling c.args.key) c.in-Some.number c.self.inside.values at c.self.invariant.values_fit
 
 pub returns-in-Some-clause-ok : goal.returns-in-Some-clause-ok
@@ -32,7 +27,7 @@ returns-in-Some-clause-ok c =
     let tree = tree_of c.self.inside.plan.now in
     let k = spelling c.args.key in
     let i = c.in-Some.number in
-    let at = numbered tree c.self.inside.world.now c.self.inside.starts.items c.deref.result.now k (Some i) c.self.invariant.starts_are c.deref.ensures.value c.in-Some.ensures in
+    let at : number_of tree k ≡ Some i = sym c.in-Some.ensures in
     let within = below tree k i c.self.inside.values at c.self.invariant.values_fit in
     let has : has_at c.self.inside.values (number_of tree k) ≡ true = ap (λ (t : TrayView). has_value t k) c.self.view_is ∙ c.requires.writes in
     on_ok_weaker c.apply.result
@@ -44,7 +39,7 @@ pub returns-in-None-clause-ok : goal.returns-in-None-clause-ok
 returns-in-None-clause-ok c =
     let tree = tree_of c.self.inside.plan.now in
     let k = spelling c.args.key in
-    let at = numbered tree c.self.inside.world.now c.self.inside.starts.items c.deref.result.now k None c.self.invariant.starts_are c.deref.ensures.value c.in-None.ensures in
+    let at : number_of tree k ≡ None = sym c.in-None.ensures in
     let has : has_at c.self.inside.values (number_of tree k) ≡ true = ap (λ (t : TrayView). has_value t k) c.self.view_is ∙ c.requires.writes in
     absurd (nothing-there c.self.inside.values (number_of tree k) at has)
 
@@ -53,7 +48,7 @@ returns-in-Some-clause-goes_on c =
     let tree = tree_of c.self.inside.plan.now in
     let k = spelling c.args.key in
     let i = c.in-Some.number in
-    let at = numbered tree c.self.inside.world.now c.self.inside.starts.items c.deref.result.now k (Some i) c.self.invariant.starts_are c.deref.ensures.value c.in-Some.ensures in
+    let at : number_of tree k ≡ Some i = sym c.in-Some.ensures in
     let within = below tree k i c.self.inside.values at c.self.invariant.values_fit in
     let t : TrayView = record { plan = c.self.inside.plan.now; world = c.self.inside.world.now; flat = c.self.inside.flat; lent = c.self.inside.lent.held; values = c.self.inside.values; frames = c.self.inside.frames.items } in
     subst (λ (u : TrayView). IsOnward u (record t { values = c.apply.new.self })) c.self.view_is (on-apply c.apply.result t c.apply.new.self i c.args.change within c.apply.ensures.ok c.apply.ensures.err)
@@ -63,7 +58,7 @@ invariant_of-self c =
     let tree = tree_of c.self.inside.plan.now in
     let k = spelling c.args.key in
     let i = c.in-Some.number in
-    let at = numbered tree c.self.inside.world.now c.self.inside.starts.items c.deref.result.now k (Some i) c.self.invariant.starts_are c.deref.ensures.value c.in-Some.ensures in
+    let at : number_of tree k ≡ Some i = sym c.in-Some.ensures in
     let within = below tree k i c.self.inside.values at c.self.invariant.values_fit in
     let t : TrayView = record { plan = c.self.inside.plan.now; world = c.self.inside.world.now; flat = c.self.inside.flat; lent = c.self.inside.lent.held; values = c.self.inside.values; frames = c.self.inside.frames.items } in
     let u : TrayView = record t { values = c.apply.new.self } in

@@ -1,25 +1,19 @@
-use Rattle.std.proofs.Common.{◌≡◌, ℕ, ◌<◌, List, length, map, Option, Some, None, ap, sym, ◌∙◌, subst, arith}
+use Rattle.std.proofs.Common.{◌≡◌, ℕ, ◌<◌, List, length, Some, None, ap, sym, ◌∙◌, subst, arith}
 use Rattle.iso_model.specs.ResourceKeys.{spelling}
 use Rattle.iso_model.specs.Touch.{HasKind, answered, kind_of_ask}
 use Rattle.iso_plan.specs.KeyTable.{keys}
 use Rattle.iso_plan.specs.RowView.{tree_of}
-use Rattle.iso_plan.specs.Tree.{Row}
-use Rattle.iso_settings.specs.Worlds.{Start}
-use Rattle.iso_locks.specs.Trays.{TrayView, content, number_below, number_of, resources, start_at}
-use Rattle.iso_locks.specs.declared.starting.Starting.{Starting}
-use Rattle.iso_locks.proofs.NumberLemmas.{number-within, spelled}
-use Rattle.iso_locks.proofs.TouchLemmas.{count-of, look-nothing, look-start, look-value, number-is}
+use Rattle.iso_locks.specs.Trays.{TrayView, content, number_of, resources}
+use Rattle.iso_locks.proofs.NumberLemmas.{number-within}
+use Rattle.iso_locks.proofs.TouchLemmas.{count-of, look-nothing, look-start, look-value}
 use Rattle.iso_locks.proofs.tray.TrayTouch.look.Goals as goal
-
-numbered : (tree : List Row) (world : Start) (starts found : List Starting) (k : List ℕ) (o : Option ℕ) → starts ≡ map (start_at world) (keys tree) → found ≡ starts → o ≡ number_below (map spelled found) k (length found) → number_of tree k ≡ o
-numbered tree world starts found k o e same is = number-is tree world found k o (same ∙ e) is
 
 pub get-requires : goal.get-requires
 get-requires c =
     let tree = tree_of c.self.inside.plan.now in
     let k = spelling c.args.key in
     let i = c.in-Some.number in
-    let at = numbered tree c.self.inside.world.now c.self.inside.starts.items c.deref.result.now k (Some i) c.self.invariant.starts_are c.deref.ensures.value c.in-Some.ensures in
+    let at : number_of tree k ≡ Some i = sym c.in-Some.ensures in
     let less : i < length (keys tree) = number-within (keys tree) k (length (keys tree)) i at in
     let fits = c.self.invariant.values_fit in
     omega arith
@@ -29,7 +23,7 @@ index-requires c =
     let tree = tree_of c.self.inside.plan.now in
     let k = spelling c.args.key in
     let i = c.in-Some.number in
-    let at = numbered tree c.self.inside.world.now c.self.inside.starts.items c.deref.result.now k (Some i) c.self.invariant.starts_are c.deref.ensures.value c.in-Some.ensures in
+    let at : number_of tree k ≡ Some i = sym c.in-Some.ensures in
     let less : i < length (keys tree) = number-within (keys tree) k (length (keys tree)) i at in
     let all = count-of tree c.self.inside.world.now c.self.inside.starts.items c.self.invariant.starts_are in
     omega (arith, c.self.inside.starts.ok.0)
@@ -39,7 +33,7 @@ returns-in-Some-get c =
     let tree = tree_of c.self.inside.plan.now in
     let k = spelling c.args.key in
     let i = c.in-Some.number in
-    let at = numbered tree c.self.inside.world.now c.self.inside.starts.items c.deref.result.now k (Some i) c.self.invariant.starts_are c.deref.ensures.value c.in-Some.ensures in
+    let at : number_of tree k ≡ Some i = sym c.in-Some.ensures in
     c.look.ensures
     ∙ look-value tree c.self.inside.world.now c.self.inside.lent.held c.self.inside.values k i c.in-Some-get.held.now c.args.ask at (sym c.in-Some-get.ensures)
     ∙ ap (λ (t : TrayView). answered (content t k) c.args.ask) c.self.view_is
@@ -49,7 +43,7 @@ returns-in-None-get c =
     let tree = tree_of c.self.inside.plan.now in
     let k = spelling c.args.key in
     let i = c.in-Some.number in
-    let at = numbered tree c.self.inside.world.now c.self.inside.starts.items c.deref.result.now k (Some i) c.self.invariant.starts_are c.deref.ensures.value c.in-Some.ensures in
+    let at : number_of tree k ≡ Some i = sym c.in-Some.ensures in
     let P : TrayView → Type 0 = λ t. HasKind (content t k) (kind_of_ask c.args.ask) in
     let has : HasKind (resources tree c.self.inside.world.now c.self.inside.lent.held c.self.inside.values k) (kind_of_ask c.args.ask) = subst P (sym c.self.view_is) c.requires in
     c.look-in-None-get.ensures
@@ -60,7 +54,7 @@ pub returns-in-None : goal.returns-in-None
 returns-in-None c =
     let tree = tree_of c.self.inside.plan.now in
     let k = spelling c.args.key in
-    let at = numbered tree c.self.inside.world.now c.self.inside.starts.items c.deref.result.now k None c.self.invariant.starts_are c.deref.ensures.value c.in-None.ensures in
+    let at : number_of tree k ≡ None = sym c.in-None.ensures in
     let P : TrayView → Type 0 = λ t. HasKind (content t k) (kind_of_ask c.args.ask) in
     let has : HasKind (resources tree c.self.inside.world.now c.self.inside.lent.held c.self.inside.values k) (kind_of_ask c.args.ask) = subst P (sym c.self.view_is) c.requires in
     absurd (look-nothing tree c.self.inside.world.now c.self.inside.lent.held c.self.inside.values k c.args.ask (kind_of_ask c.args.ask) at has)

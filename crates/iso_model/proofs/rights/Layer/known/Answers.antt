@@ -8,9 +8,9 @@ use Rattle.iso_model.proofs.rights.Layer.known.Goals as goal
 pub returns-in-Some : goal.returns-in-Some
 returns-in-Some c =
     let key = c.args.key.now in
-    sym (access-both c.args.self.now.entries.items c.args.outer.now key ∙ ap (λ (o : Option Access). option_or o (access_in c.args.outer.now key)) (sym c.access.ensures ∙ c.in-Some.is))
+    sym (access-both c.args.self.now.entries c.args.outer.now key ∙ ap (λ (o : Option Access). option_or o (access_in c.args.outer.now key)) (sym c.access.ensures ∙ c.in-Some.is))
 
 pub returns-in-None : goal.returns-in-None
 returns-in-None c =
     let key = c.args.key.now in
-    c.access-in-None.ensures ∙ sym (access-both c.args.self.now.entries.items c.args.outer.now key ∙ ap (λ (o : Option Access). option_or o (access_in c.args.outer.now key)) (sym c.access.ensures ∙ c.in-None.is))
+    c.access-in-None.ensures ∙ sym (access-both c.args.self.now.entries c.args.outer.now key ∙ ap (λ (o : Option Access). option_or o (access_in c.args.outer.now key)) (sym c.access.ensures ∙ c.in-None.is))

@@ -15,9 +15,9 @@ returns-in-Some c =
     let l = c.layer-item.result in
     let key = c.args.key.now in
     let rest = declared_in (drop (i + 1) ls) in
-    let here : access_in (arc_value l).entries.items key ≡ Some c.in-Some.access = ap (λ (x : Layer). access_in x.entries.items key) (sym c.deref.ensures) ∙ sym c.access.ensures ∙ c.in-Some.is in
+    let here : access_in (arc_value l).entries key ≡ Some c.in-Some.access = ap (λ (x : Layer). access_in x.entries key) (sym c.deref.ensures) ∙ sym c.access.ensures ∙ c.in-Some.is in
     sym (sym c.loop-layer.invariant ∙ ap (λ es. access_in es key) (layers-next ls i l (omega arith) c.layer-item.is)
-    ∙ access-both (arc_value l).entries.items rest key ∙ ap (λ (o : Option Access). option_or o (access_in rest key)) here)
+    ∙ access-both (arc_value l).entries rest key ∙ ap (λ (o : Option Access). option_or o (access_in rest key)) here)
 
 pub loop-layer-preserved : goal.loop-layer-preserved
 loop-layer-preserved c =
@@ -26,6 +26,6 @@ loop-layer-preserved c =
     let l = c.layer-item.result in
     let key = c.args.key.now in
     let rest = declared_in (drop (i + 1) ls) in
-    let here : access_in (arc_value l).entries.items key ≡ None = ap (λ (x : Layer). access_in x.entries.items key) (sym c.deref.ensures) ∙ sym c.access.ensures ∙ c.in_default.is in
+    let here : access_in (arc_value l).entries key ≡ None = ap (λ (x : Layer). access_in x.entries key) (sym c.deref.ensures) ∙ sym c.access.ensures ∙ c.in_default.is in
     sym (ap (λ es. access_in es key) (layers-next ls i l (omega arith) c.layer-item.is)
-    ∙ access-both (arc_value l).entries.items rest key ∙ ap (λ (o : Option Access). option_or o (access_in rest key)) here) ∙ c.loop-layer.invariant
+    ∙ access-both (arc_value l).entries rest key ∙ ap (λ (o : Option Access). option_or o (access_in rest key)) here) ∙ c.loop-layer.invariant

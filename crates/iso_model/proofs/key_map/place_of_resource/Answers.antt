@@ -1,0 +1,12 @@
+use Rattle.std.proofs.Common.{rules, of_calls, List, ℕ}
+use Rattle.std.proofs.lemmas.Fn.{always_returns_same}
+use Rattle.std.specs.Cmp.Lexicographic.{slice_cmp}
+use Rattle.std.specs.Ordering.{nat_cmp}
+use Rattle.iso_model.proofs.KeyMapLemmas.{place}
+use Rattle.iso_model.specs.ResourceKeys.{spelling}
+use Rattle.iso_model.proofs.key_map.place_of_resource.Goals as goal
+
+pub returns : goal.returns
+returns g c =
+    let found = c.binary_search_by.ensures.position (λ e. slice_cmp nat_cmp e.0 (spelling c.args.resource)) (always_returns_same _ _ _ (λ a r f k. search (rules, of_calls))) in
+    place c.args.entries.now (spelling c.args.resource) c.binary_search_by.result c.requires c.binary_search_by.ensures.bound found

@@ -1,6 +1,0 @@
-use Rattle.std.proofs.Common.{◌≡◌, drop}
-use Rattle.iso_model.specs.Rights.{access_in}
-use Rattle.iso_model.proofs.rights.Layer.access.Given as goal
-
-abbrev pub invariant-loop-declared : goal.invariant-loop-declared
-invariant-loop-declared l = access_in (drop l.declared-index l.declared-items) l.key ≡ access_in l.self.entries.items l.key
