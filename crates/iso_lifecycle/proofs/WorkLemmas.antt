@@ -1,17 +1,37 @@
 -- What follows from an unchanged chain.
-use Rattle.std.proofs.Common.{◌≡◌, ◌<◌, ◌+◌, List, ◌∷◌, length, Option, Some, None, true, ap, sym, ◌∙◌, subst, arith, add-one}
+use Rattle.std.proofs.Common.{◌≡◌, ◌<◌, ◌+◌, ℕ, List, ◌∷◌, length, Option, Some, None, true, ap, sym, ◌∙◌, subst, arith, add-one}
+use Rattle.std.proofs.lemmas.List.{length-map}
+use Rattle.std.specs.Arc.{arc_value}
 use Rattle.std.specs.Prelude.{IfSome}
+use Rattle.std.specs.declared.alloc.Global.{Global}
+use Rattle.std.specs.declared.sync.Arc.{Arc}
 use Rattle.iso_model.specs.Bodies.{account_after, stage_from}
 use Rattle.iso_model.specs.Rights.{access_in}
+use Rattle.iso_model.specs.ScriptView.{class_head_of}
 use Rattle.iso_model.specs.Steps.{is_done}
+use Rattle.iso_model.specs.Syntax.{Acts}
+use Rattle.iso_model.specs.declared.heads.ClassHead.{ClassHead}
 use Rattle.iso_interp.specs.Runs.{local_of, names_before, pieces_of, run_rights}
 use Rattle.iso_interp.specs.declared.run.BlockRun.{BlockRun}
 use Rattle.iso_lifecycle.specs.BodyRuns.{settled_with}
 use Rattle.iso_lifecycle.specs.Heads.{heads_in}
-use Rattle.iso_lifecycle.specs.JobPlaces.{jobs_from}
+use Rattle.iso_lifecycle.specs.JobPlaces.{IsPlaced, job_after, job_at, jobs_from}
 use Rattle.iso_lifecycle.specs.Works.{HaveRights, SameChain, account_in, begun_with, beside_in, jobs_left}
+use Rattle.iso_lifecycle.specs.declared.job.Job.{Job}
 use Rattle.iso_lifecycle.specs.declared.work.Rest.{Rest}
 use Rattle.iso_lifecycle.proofs.Following.{passes}
+use Rattle.iso_lifecycle.proofs.JobLemmas.{jobs-after}
+
+-- the jobs that were left are this one and those after it
+pub first-job : (classes : List (Arc ClassHead Global)) (body : Acts) (next after : Option Job) (j : Job) → IsPlaced (length classes) next → next ≡ Some j → after ≡ job_after (length classes) j
+    → jobs_from (heads_in classes) body next ≡ job_at (heads_in classes) body j ∷ jobs_from (heads_in classes) body after
+first-job classes body next after j placed is follows =
+    let os = heads_in classes in
+    let count : length os ≡ length classes = length-map classes (λ h. class_head_of (arc_value h)) in
+    let here : IsPlaced (length os) (Some j) = subst (λ (n : ℕ). IsPlaced n (Some j)) (sym count) (subst (λ (o : Option Job). IsPlaced (length classes) o) is placed) in
+    ap (jobs_from os body) is ∙ jobs-after os body j here
+    ∙ ap (λ n. job_at os body j ∷ jobs_from os body (job_after n j)) count
+    ∙ ap (λ o. job_at os body j ∷ jobs_from os body o) (sym follows)
 
 pub same-jobs : {r s : Rest} → SameChain r s → s.next ≡ r.next → jobs_left s ≡ jobs_left r
 same-jobs {r} {s} chain next = λ i. jobs_from (heads_in (chain.classes i).now) (chain.test i) (next i)

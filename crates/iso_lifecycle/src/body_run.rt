@@ -131,6 +131,13 @@ impl<'a> BodyRun<'a> {
         ensures stage { IfOk result (λ run. stage_of run ≡ stage_from (test_jobs (test_head_of test.now) (innermost_first classes.now)) (fresh_account names)) }
         ensures rights { IfOk result (λ run. rights_of run ≡ access_in rights.now) }
     {
+        let endings = match room_for_endings(alloc, classes.len()) {
+            Ok(endings) => endings,
+            Err(error) => {
+                drop(names);
+                return Err(error);
+            }
+        };
         let mut rest = Rest {
             alloc,
             rights,
@@ -140,7 +147,7 @@ impl<'a> BodyRun<'a> {
             names,
             printed: 0,
             lines: Lines::new(alloc),
-            endings: Vec::new(alloc),
+            endings,
         };
         match rest.follow() {
             Ok(block) => Ok(BodyRun { rest, block }),
@@ -272,4 +279,12 @@ fn endings_of_disabled(alloc: Global, reason: &Text) -> Result<Vec<Ending>, Allo
     let mut endings = Vec::new(alloc);
     endings.push(Ending::Assumed(note))?;
     Ok(endings)
+}
+
+/// Room for the endings of a test's blocks, in so many classes.
+fn room_for_endings(alloc: Global, classes: usize) -> Result<Vec<Ending>, AllocError>
+    requires { classes < 2 ^ 32 }
+    ensures { IfOk result (λ endings. endings.items ≡ []) }
+{
+    Vec::with_capacity(alloc, 2 * classes + 1)
 }

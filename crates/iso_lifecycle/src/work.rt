@@ -1,5 +1,5 @@
 //! What a body has beside its block under way.
-ghost use Rattle.std.specs.Prelude.{◌≡◌, ◌<◌, [], ◌∷◌, ◌++◌, ◌^◌, length, true, Some, OnOk, IfOk, IfSome};
+ghost use Rattle.std.specs.Prelude.{◌≡◌, ◌<◌, [], ◌∷◌, ◌++◌, ◌^◌, length, true, false, Some, OnOk, IfOk, IfSome};
 ghost use Rattle.iso_lifecycle.specs.JobPlaces.{IsPlaced, IsPlaced-prop};
 
 use crate::blocks::{names_of, part, statements};
@@ -40,6 +40,7 @@ impl<'a> Rest<'a> {
     ghost use Rattle.iso_model.specs.Jobs.{is_due};
     ghost use Rattle.iso_model.specs.Statements.{is_well};
     ghost use Rattle.iso_model.specs.Steps.{first_point, is_done};
+    ghost use Rattle.iso_interp.specs.Blocks.{is_empty};
     ghost use Rattle.iso_interp.specs.Runs.{local_of, names_before, pieces_of, point_of_run, run_rights};
     ghost use Rattle.iso_model.specs.Rights.{access_in};
     ghost use Rattle.iso_lifecycle.specs.BodyRuns.{settled_with};
@@ -95,7 +96,7 @@ impl<'a> Rest<'a> {
         Ok(Names::new(bindings, self.printed, job.words()))
     }
 
-    /// Begins the block of a job, which may have nothing to do.
+    /// Begins the block of a job.
     fn begin_block(&mut self, job: Job) -> Result<BlockRun<'a>, AllocError>
         requires { IsPlaced (length self.old.classes.now) (Some job) }
         ensures point { IfOk result (λ run. point_of_run run ≡ first_point (job_in self.old job).acts (job_environment (job_in self.old job) (account_in self.old))) }
@@ -131,6 +132,14 @@ impl<'a> Rest<'a> {
         }
     }
 
+    /// Whether a job's block has no statement, or isn't written.
+    fn is_empty(&self, job: Job) -> bool
+        requires { IsPlaced (length self.now.classes.now) (Some job) }
+        ensures { result ≡ is_empty (job_in self.now job).acts }
+    {
+        Block::of(statements(self.classes, self.test.statements(), job)).is_empty()
+    }
+
     /// Whether all blocks ended well so far.
     fn all_well(&self) -> bool
         ensures { result ≡ list_all is_well (account_in self.now).endings }
@@ -140,21 +149,43 @@ impl<'a> Rest<'a> {
             .all(|ending| matches!(ending, Ending::Well))
     }
 
-    /// Begins the next job, or leaves it out where it isn't due. Answers its block, where that has
-    /// something to do.
-    fn begin(&mut self, job: Job) -> Result<Option<BlockRun<'a>>, AllocError>
+    /// Leaves the next job behind where it isn't due, or where its block has no statement: such a
+    /// block takes no step, changes nothing and ends well, so no run is made of it. Tells whether
+    /// it did. Any other job is still the next.
+    fn pass(&mut self, job: Job) -> Result<bool, AllocError>
         requires { self.old.next ≡ Some job }
-        ensures begun { IfOk result (λ run. begun_with run self.new ≡ stage_from (jobs_left self.old) (account_in self.old)) }
-        ensures rights { IfOk result (λ run. HaveRights run self.old) }
+        ensures stage { OnOk result (stage_from (jobs_left self.new) (account_in self.new) ≡ stage_from (jobs_left self.old) (account_in self.old)) }
+        ensures jobs { IfOk result (λ passed. passed ≡ true → jobs_left self.old ≡ job_in self.old job ∷ jobs_left self.new) }
+        ensures next { IfOk result (λ passed. passed ≡ false → self.new.next ≡ Some job) }
+        ensures due { IfOk result (λ passed. passed ≡ false → is_due (job_in self.new job) (account_in self.new).endings ≡ true) }
+        ensures some { IfOk result (λ passed. passed ≡ false → is_empty (job_in self.new job).acts ≡ false) }
         ensures chain { SameChain self.old self.new }
-        ensures jobs { jobs_left self.old ≡ job_in self.old job ∷ jobs_left self.new }
+    {
+        let next = job.after(self.classes.len());
+        if !self.is_due(job) {
+            self.next = next;
+            return Ok(true);
+        }
+        if !self.is_empty(job) {
+            return Ok(false);
+        }
+        add_ending(&mut self.endings, Ending::Well)?;
+        self.next = next;
+        Ok(true)
+    }
+
+    /// Begins the next job, which is due and has statements.
+    fn begin(&mut self, job: Job) -> Result<BlockRun<'a>, AllocError>
+        requires next { self.old.next ≡ Some job }
+        requires due { is_due (job_in self.old job) (account_in self.old).endings ≡ true }
+        requires some { is_empty (job_in self.old job).acts ≡ false }
+        ensures begun { IfOk result (λ run. stage_with (Some run) self.new ≡ stage_from (jobs_left self.old) (account_in self.old)) }
+        ensures rights { IfOk result (λ run. HaveRights (Some run) self.old) }
+        ensures chain { SameChain self.old self.new }
     {
         self.next = job.after(self.classes.len());
-        if !self.is_due(job) {
-            return Ok(None);
-        }
         let run = self.begin_block(job)?;
-        self.end_block_if_done(run)
+        Ok(run)
     }
 
     /// Begins the next block that has something to do, if there is one.
@@ -165,7 +196,9 @@ impl<'a> Rest<'a> {
         ensures chain { SameChain self.old self.new }
     {
         while let Some(job) = self.next {
-            if let Some(run) = self.begin(job)? {
+            let passed = self.pass(job)?;
+            if !passed {
+                let run = self.begin(job)?;
                 return Ok(Some(run));
             }
         }
