@@ -5,7 +5,7 @@ use std::alloc::{AllocError, Global};
 static ABOUT: &str =
     "Runs scripted test classes in parallel, each as if alone, and reports in TAP 14.
 
-Without a subcommand, `jtap` is `jtap run`.";
+Without any word, `jtap` is `jtap run`, and reads a script from standard input.";
 
 static FIRST_PAGE_END: &str = "Example:
   jtap run --settings junit.toml --world start.toml cart.jtap desk.jtap
@@ -121,7 +121,7 @@ pub(crate) fn command_line<'a>(alloc: Global) -> Result<Command<'a>, AllocError>
 fn first_page<'a>(alloc: Global) -> Result<Command<'a>, AllocError> {
     Command::new(alloc, "jtap")
         .no_binary_name(true)
-        .version("0.2.0")
+        .version("0.2.1")
         .about(ABOUT)
         .after_help(FIRST_PAGE_END)
         .disable_help_subcommand(true)

@@ -8,7 +8,8 @@ use Rattle.iso_commands.specs.Parts.{each_file, each_word, shard_option}
 use Rattle.iso_commands.specs.declared.replay.Recorded.{Recorded}
 use Rattle.iso_summary.specs.Lines.{file_option, line, number_option}
 use Rattle.iso_summary.specs.Names.{shown_name}
-use Rattle.iso_summary.specs.Words.{file_word, has_control}
+use Rattle.iso_summary.specs.Unseen.{has_unseen}
+use Rattle.iso_summary.specs.Words.{file_word}
 
 -- a recorded run: the file of its schedule, and the words of its command that decide its results
 pub record RecordedView : Type 0 where
@@ -57,14 +58,14 @@ replay_line run =
     ∷ each_file run.scripts
     ∷ [])
 
--- whether a word was given and has a control character
-abbrev pub given_has_control : Option (List ℕ) → Bool
-given_has_control None = false
-given_has_control (Some word) = has_control word
+-- whether a word was given and has a character that no reader sees
+abbrev pub given_has_unseen : Option (List ℕ) → Bool
+given_has_unseen None = false
+given_has_unseen (Some word) = has_unseen word
 
 -- whether one of these words has one
-abbrev pub has_control_in : List (List ℕ) → Bool
-has_control_in words = list_any has_control words
+abbrev pub has_unseen_in : List (List ℕ) → Bool
+has_unseen_in words = list_any has_unseen words
 
 -- whether a name is that of standard input
 abbrev pub is_dash : List ℕ → Bool
@@ -77,18 +78,18 @@ abbrev pub is_stdin : Option (List ℕ) → Bool
 is_stdin None = false
 is_stdin (Some name) = is_dash name
 
--- whether some file of an option has a control character
-abbrev pub has_control_option : RecordedView → Bool
-has_control_option run = has_control run.schedule || (given_has_control run.settings || (given_has_control run.world || given_has_control run.only_from))
+-- whether some file of an option has a character that no reader sees
+abbrev pub has_unseen_option : RecordedView → Bool
+has_unseen_option run = has_unseen run.schedule || (given_has_unseen run.settings || (given_has_unseen run.world || given_has_unseen run.only_from))
 
 -- whether some path, pattern or script has one
-abbrev pub has_control_word : RecordedView → Bool
-has_control_word run = has_control_in run.only || (has_control_in run.patterns || has_control_in run.scripts)
+abbrev pub has_unseen_word : RecordedView → Bool
+has_unseen_word run = has_unseen_in run.only || (has_unseen_in run.patterns || has_unseen_in run.scripts)
 
 -- whether the command can be told: a script is named, nothing is read from standard input, and no
--- word has a control character
+-- word has a character that no reader sees
 abbrev pub can_be_told : RecordedView → Bool
-can_be_told run = not (length run.scripts == 0) && (not (is_stdin run.only_from) && (not (has_control_option run) && not (has_control_word run)))
+can_be_told run = not (length run.scripts == 0) && (not (is_stdin run.only_from) && (not (has_unseen_option run) && not (has_unseen_word run)))
 
 -- the line of a run whose schedule, in a file of this name, is longer than what is replayed
 abbrev pub too_large_line : List ℕ → List ℕ

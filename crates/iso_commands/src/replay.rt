@@ -2,13 +2,13 @@
 ghost use Rattle.std.specs.Prelude.{◌≡◌};
 ghost use Rattle.std.specs.Option.{option_map};
 ghost use Rattle.iso_commands.specs.Lent.{lent};
-ghost use Rattle.iso_commands.specs.Replays.{can_be_told, given_has_control, has_control_in, has_control_option, has_control_word, is_dash, is_stdin, recorded_of, replay_line, too_large_line};
+ghost use Rattle.iso_commands.specs.Replays.{can_be_told, given_has_unseen, has_unseen_in, has_unseen_option, has_unseen_word, is_dash, is_stdin, recorded_of, replay_line, too_large_line};
 ghost use Rattle.iso_tap.specs.Printers.{Prints};
 
 use crate::part::{Part, line};
-use crate::word::has_control;
 use iso_arguments::request::InputFiles;
 use iso_summary::name::name;
+use iso_summary::unseen::has_unseen;
 use iso_tap::printer::Printer;
 use iso_tap::sink::{Sink, SinkFailed};
 
@@ -56,34 +56,34 @@ fn processors(run: &Recorded<'_>) -> Option<u32>
     }
 }
 
-/// Whether that command can be told: nothing is read from standard input, and no word has a control
-/// character.
+/// Whether that command can be told: nothing is read from standard input, and no word has a
+/// character that no reader sees.
 pub fn can_be_told(run: &Recorded<'_>) -> bool
     ensures { result ≡ can_be_told (recorded_of run.now) }
 {
     !run.files.scripts.is_empty()
         && !is_stdin(run.files.only_from)
-        && !has_control_option(run)
-        && !has_control_word(run)
+        && !has_unseen_option(run)
+        && !has_unseen_word(run)
 }
 
-/// Whether some option of a run has a control character.
-fn has_control_option(run: &Recorded<'_>) -> bool
-    ensures { result ≡ has_control_option (recorded_of run.now) }
+/// Whether some option of a run has a character that no reader sees.
+fn has_unseen_option(run: &Recorded<'_>) -> bool
+    ensures { result ≡ has_unseen_option (recorded_of run.now) }
 {
-    has_control(run.schedule)
-        || given_has_control(run.files.settings)
-        || given_has_control(run.files.world)
-        || given_has_control(run.files.only_from)
+    has_unseen(run.schedule)
+        || given_has_unseen(run.files.settings)
+        || given_has_unseen(run.files.world)
+        || given_has_unseen(run.files.only_from)
 }
 
 /// Whether some path, pattern or script of a run has one.
-fn has_control_word(run: &Recorded<'_>) -> bool
-    ensures { result ≡ has_control_word (recorded_of run.now) }
+fn has_unseen_word(run: &Recorded<'_>) -> bool
+    ensures { result ≡ has_unseen_word (recorded_of run.now) }
 {
-    has_control_in(&run.files.only)
-        || has_control_in(&run.files.patterns)
-        || has_control_in(&run.files.scripts)
+    has_unseen_in(&run.files.only)
+        || has_unseen_in(&run.files.patterns)
+        || has_unseen_in(&run.files.scripts)
 }
 
 /// Writes the line of a recorded run whose schedule, in a file of this name, is longer than what is
@@ -116,22 +116,22 @@ fn is_dash(name: &[u8]) -> bool
     matches!(name, [b'-'])
 }
 
-/// Whether a word was given and has a control character.
-fn given_has_control(given: Option<&str>) -> bool
-    ensures { result ≡ given_has_control (option_map (λ w. w.now) given.entry) }
+/// Whether a word was given and has a character that no reader sees.
+fn given_has_unseen(given: Option<&str>) -> bool
+    ensures { result ≡ given_has_unseen (option_map (λ w. w.now) given.entry) }
 {
     match given {
-        Some(word) => has_control(word),
+        Some(word) => has_unseen(word),
         None => false,
     }
 }
 
-/// Whether one of these words has a control character.
-fn has_control_in(words: &[&str]) -> bool
-    ensures { result ≡ has_control_in (lent words.now) }
+/// Whether one of these words has a character that no reader sees.
+fn has_unseen_in(words: &[&str]) -> bool
+    ensures { result ≡ has_unseen_in (lent words.now) }
 {
     for word in words {
-        if has_control(word) {
+        if has_unseen(word) {
             return true;
         }
     }

@@ -1,6 +1,6 @@
 //! Words as a shell reads them, written as a summary writes them.
 ghost use Rattle.std.specs.Prelude.{◌≡◌, flat_map};
-ghost use Rattle.iso_summary.specs.Words.{file_word, folder, has_control, in_quotes, is_plain, is_plain_word, shell_word};
+ghost use Rattle.iso_summary.specs.Words.{file_word, folder, in_quotes, is_plain, is_plain_word, shell_word};
 ghost use Rattle.iso_tap.specs.Printers.{Prints};
 
 use iso_tap::printer::Printer;
@@ -78,11 +78,4 @@ fn is_plain(byte: u8) -> bool
     ensures { result ≡ is_plain byte }
 {
     byte.is_ascii_alphanumeric() || PLAIN.contains(&byte)
-}
-
-/// Whether a word has a control character.
-pub(crate) fn has_control(word: &str) -> bool
-    ensures { result ≡ has_control word.now }
-{
-    word.chars().any(|c| c.is_control())
 }

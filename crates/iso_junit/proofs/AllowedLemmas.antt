@@ -5,10 +5,12 @@ use Rattle.std.proofs.lemmas.Bool.Decides.{nat_tests}
 use Rattle.std.proofs.lemmas.List.Folds.{list_all-append}
 use Rattle.std.proofs.lemmas.Str.{IsUtf8-append, IsUtf8-encode, IsUtf8-nil, chars-append, chars-nil, chars_past_char, encode_ascii, scalars-chars}
 use Rattle.std.proofs.Math.Utf8.{scalars}
-use Rattle.std.specs.Char.{IsScalar, encode_utf8, is_control}
+use Rattle.std.specs.Char.{IsScalar, encode_utf8}
 use Rattle.std.specs.List.{flat_map, list_all}
 use Rattle.std.specs.Str.{IsUtf8, chars}
-use Rattle.iso_summary.specs.Names.{escape, hex_digit}
+use Rattle.iso_summary.specs.Names.{escape, hex_digit, long_escape, short_escape}
+use Rattle.iso_summary.specs.Unseen.{is_unseen}
+use Rattle.iso_summary.proofs.UnseenLemmas.{seen-is-no-control}
 use Rattle.iso_junit.specs.Files.{file_char, file_name, is_allowed}
 
 -- a text whose characters are all allowed
@@ -55,40 +57,45 @@ digit d h = by (nat_lt d 10) refl
     by true e = record { from = omega arith; to = grind (arith, nat_tests) }
     by false e = record { from = omega arith; to = omega arith }
 
-fit_six : (a b c d : ℕ) → IsDigit a → IsDigit b → IsDigit c → IsDigit d → IsFit (92 ∷ 117 ∷ a ∷ b ∷ c ∷ d ∷ [])
-fit_six a b c d p q r s =
-    fit_ascii 92 _ (omega arith) (omega arith)
-    (fit_ascii 117 _ (omega arith) (omega arith)
-    (fit_ascii a _ p.from p.to (fit_ascii b _ q.from q.to (fit_ascii c _ r.from r.to (fit_ascii d _ s.from s.to fit_nil)))))
+-- the last digit of a number, before a text
+with_digit : (n : ℕ) (rest : List ℕ) → IsFit rest → IsFit (hex_digit (n % 16) ∷ rest)
+with_digit n rest p = let d = digit (n % 16) (omega arith) in fit_ascii (hex_digit (n % 16)) rest d.from d.to p
 
-zero_digit : IsDigit 48
-zero_digit = record { from = omega arith; to = omega arith }
+fit_digits : (c : ℕ) → IsFit (hex_digit (c / 4096 % 16) ∷ hex_digit (c / 256 % 16) ∷ hex_digit (c / 16 % 16) ∷ hex_digit (c % 16) ∷ [])
+fit_digits c = with_digit (c / 4096) _ (with_digit (c / 256) _ (with_digit (c / 16) _ (with_digit c [] fit_nil)))
 
-fit_escape : (c : ℕ) → is_control c ≡ true → IsFit (escape c)
-fit_escape c h =
-    let small : c ≤ 159 = grind (arith, nat_tests) in
-    fit_six 48 48 (hex_digit (c / 16)) (hex_digit (c % 16)) zero_digit zero_digit (digit (c / 16) (omega arith)) (digit (c % 16) (omega arith))
+fit_escape : (c : ℕ) → IsFit (escape c)
+fit_escape c = by (nat_lt c 65536)
+  where
+    by : (short : Bool) → IsFit (cond short (short_escape c) (long_escape c))
+    by true = fit_ascii 92 _ (omega arith) (omega arith) (fit_ascii 117 _ (omega arith) (omega arith) (fit_digits c))
+    by false =
+        fit_ascii 92 _ (omega arith) (omega arith)
+        (fit_ascii 85 _ (omega arith) (omega arith)
+        (with_digit (c / 268435456) _ (with_digit (c / 16777216) _ (with_digit (c / 1048576) _ (with_digit (c / 65536) _ (fit_digits c))))))
 
-fit_letters : (last : ℕ) → IsDigit last → IsFit (92 ∷ 117 ∷ 70 ∷ 70 ∷ 70 ∷ last ∷ [])
-fit_letters last p =
-    let f : IsDigit 70 = record { from = omega arith; to = omega arith } in
-    fit_six 70 70 70 last f f f p
+-- the two that XML doesn't allow, by their escapes
+fit_last : (c : ℕ) → (nat_lt c 65536) ≡ true → IsFit (short_escape c)
+fit_last c h = subst (λ (b : Bool). IsFit (cond b (short_escape c) (long_escape c))) h (fit_escape c)
 
 fit_named : (letter : ℕ) → 32 ≤ letter → letter < 127 → IsFit (92 ∷ letter ∷ [])
 fit_named letter from to = fit_ascii 92 _ (omega arith) (omega arith) (fit_ascii letter _ from to fit_nil)
 
 fit_shown : (c : ℕ) → IsScalar c → IsFit (file_char c)
-fit_shown c scalar = by (c == 65534) (c == 65535) (c == 10) (c == 13) (c == 9) (is_control c) refl refl refl
+fit_shown c scalar = by (c == 65534) (c == 65535) (c == 10) (c == 13) (c == 9) (is_unseen c) refl refl refl
   where
-    by : (p q s t u v : Bool) → (c == 65534) ≡ p → (c == 65535) ≡ q → is_control c ≡ v
+    by : (p q s t u v : Bool) → (c == 65534) ≡ p → (c == 65535) ≡ q → is_unseen c ≡ v
         → IsFit (cond p (codes "\\uFFFE") (cond q (codes "\\uFFFF") (cond s (codes "\\n") (cond t (codes "\\r") (cond u (codes "\\t") (cond v (escape c) (encode_utf8 c)))))))
-    by true q s t u v e f g = fit_letters 69 (record { from = omega arith; to = omega arith })
-    by false true s t u v e f g = fit_letters 70 (record { from = omega arith; to = omega arith })
+    by true q s t u v e f g = fit_last 65534 refl
+    by false true s t u v e f g = fit_last 65535 refl
     by false false true t u v e f g = fit_named 110 (omega arith) (omega arith)
     by false false false true u v e f g = fit_named 114 (omega arith) (omega arith)
     by false false false false true v e f g = fit_named 116 (omega arith) (omega arith)
-    by false false false false false true e f g = fit_escape c g
-    by false false false false false false e f g = let allowed : is_allowed c ≡ true = grind (arith, nat_tests) in fit_char c scalar allowed
+    by false false false false false true e f g = fit_escape c
+    by false false false false false false e f g =
+        let none = seen-is-no-control c g in
+        let allowed : is_allowed c ≡ true = grind (arith, nat_tests) in
+        fit_char c scalar allowed
 
 all_fit : (cs : List ℕ) → scalars cs ≡ true → IsFit (flat_map file_char cs)
 all_fit [] h = fit_nil

@@ -7,6 +7,7 @@ ghost use Rattle.iso_junit.specs.Examples.{all_passed, cart_run, holders, holder
 ghost use Rattle.iso_junit.specs.Files.{file_name};
 ghost use Rattle.iso_junit.specs.Readers.{unescaped};
 ghost use Rattle.iso_junit.specs.Times.{time_attribute, time_of};
+ghost use Rattle.iso_summary.specs.Examples.{language_tag, turned_text};
 
 /// Bytes that mean something to a reader of XML stand by their names, control characters by their
 /// numbers, all else as it is.
@@ -28,10 +29,12 @@ pub fn readers_refuse_what_is_not_escaped()
     ensures read { unescaped (codes "a&lt;&#10;b") ≡ Some (codes "a<\nb") }
 {}
 
-/// Control characters of a file's name are told by their escapes, and U+FFFE and U+FFFF, which XML
-/// doesn't allow.
+/// Characters of a file's name that no reader sees are told by their escapes, and U+FFFE and
+/// U+FFFF, which XML doesn't allow.
 pub fn names_of_files_have_allowed_characters()
     ensures control { file_name (codes "a\nb" ++ 27 ∷ []) ≡ codes "a\\nb\\u001B" }
+    ensures turned { file_name (codes "a" ++ turned_text) ≡ codes "a\\u202E" }
+    ensures language_tag { file_name language_tag ≡ codes "\\U000E0001" }
     ensures none { file_name (239 ∷ 191 ∷ 190 ∷ 239 ∷ 191 ∷ 191 ∷ []) ≡ codes "\\uFFFE\\uFFFF" }
     ensures as_they_are { file_name (codes "a<b" ++ 239 ∷ 191 ∷ 189 ∷ []) ≡ codes "a<b" ++ 239 ∷ 191 ∷ 189 ∷ [] }
 {}

@@ -7,10 +7,12 @@ ghost use Rattle.iso_tap.specs.Printers.{Prints};
 
 use crate::escape::escaped;
 use iso_summary::name::name;
+use iso_summary::unseen::is_unseen;
 use iso_tap::printer::Printer;
 use iso_tap::sink::{Sink, SinkFailed};
 
-/// Writes a file's name, with control characters and those that XML doesn't allow by their escapes.
+/// Writes a file's name, with the characters that no reader sees and those that XML doesn't allow
+/// by their escapes.
 pub fn file<W: Sink>(printer: &mut Printer<'_, W>, file: &str) -> Result<(), SinkFailed>
     ensures { Prints printer.old printer.new (escaped (file_name file.now)) result }
 {
@@ -31,13 +33,13 @@ fn char<W: Sink>(printer: &mut Printer<'_, W>, c: char) -> Result<(), SinkFailed
     }
 }
 
-/// Writes a character, a control character by its escape, which has nothing special.
+/// Writes a character, one that no reader sees by its escape, which has nothing special.
 fn shown<W: Sink>(printer: &mut Printer<'_, W>, c: char) -> Result<(), SinkFailed>
     ensures { Prints printer.old printer.new (escaped (shown_char c)) result }
 {
     let mut bytes = [0; 4];
     let text = c.encode_utf8(&mut bytes);
-    if c.is_control() {
+    if is_unseen(c) {
         name(printer, text)
     } else {
         escaped(printer, text.as_bytes())

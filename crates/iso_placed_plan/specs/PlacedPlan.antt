@@ -6,7 +6,7 @@ use Rattle.iso_places.specs.declared.site.Site.{Site}
 use Rattle.iso_plan.specs.Paths.{is_test, row_at}
 use Rattle.iso_plan.specs.Tree.{Row}
 use Rattle.iso_settings.specs.declared.settings.Settings.{Settings}
-use Rattle.iso_summary.specs.Names.{shown_name}
+use Rattle.iso_summary.specs.Names.{planned_name}
 use Rattle.iso_tap.specs.PlanText.{node_fields}
 
 -- the name of a script by its number; one that has none was read from standard input
@@ -16,7 +16,7 @@ script_name names script = slice_index_or names script (codes "stdin")
 -- a place, as FILE:LINE:COLUMN
 abbrev pub place_text : (names : List (List ℕ)) → Site → List ℕ
 place_text names s =
-    shown_name (script_name names s.script) ++ codes ":" ++ decimal s.place.name.line ++ codes ":" ++ decimal s.place.name.column
+    planned_name (script_name names s.script) ++ codes ":" ++ decimal s.place.name.line ++ codes ":" ++ decimal s.place.name.column
 
 -- a place as a further field of a line, where there is one
 abbrev pub place_field : (names : List (List ℕ)) → Option Site → List ℕ

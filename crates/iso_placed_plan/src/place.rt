@@ -6,7 +6,7 @@ ghost use Rattle.iso_plan.specs.Selections.{texts_of};
 ghost use Rattle.iso_tap.specs.Printers.{Prints};
 
 use iso_places::site::{Site, Sites};
-use iso_summary::name::name;
+use iso_summary::name::planned_name;
 use iso_tap::printer::{Piece, Printer};
 use iso_tap::sink::{Sink, SinkFailed};
 
@@ -39,7 +39,7 @@ fn place<W: Sink>(
 ) -> Result<(), SinkFailed>
     ensures { Prints printer.old printer.new (place_text (texts_of names.now) site) result }
 {
-    name(printer, script_name(names, site.script))?;
+    planned_name(printer, script_name(names, site.script))?;
     printer.pieces(&[
         Piece::Plain(b":"),
         Piece::Number(u64::from(site.place.name.line)),

@@ -5,8 +5,10 @@ use Rattle.std.proofs.lemmas.List.Folds.{list_all-append, list_any-append}
 use Rattle.std.specs.Char.{encode_utf8, is_ascii_control, is_control}
 use Rattle.std.specs.List.{flat_map, list_all}
 use Rattle.std.specs.Str.{chars}
-use Rattle.iso_summary.specs.Names.{escape, has_ascii_control, hex_digit, shown_char, shown_name}
+use Rattle.iso_summary.specs.Names.{escape, has_ascii_control, hex_digit, long_escape, short_escape, shown_char, shown_name}
+use Rattle.iso_summary.proofs.UnseenLemmas.{seen-is-no-control}
 use Rattle.iso_summary.specs.Sources.{cut_end, is_printable, shown_byte, shown_bytes, shown_source}
+use Rattle.iso_summary.specs.Unseen.{is_unseen}
 
 -- a byte from a space on that isn't 127 is no control character
 no_control : (b : ℕ) → 32 ≤ b → (b == 127) ≡ false → is_ascii_control b ≡ false
@@ -18,10 +20,17 @@ beyond b h = no_control b (omega arith) (grind (arith, nat_tests))
 digit_has_none : (d : ℕ) → d < 16 → is_ascii_control (hex_digit d) ≡ false
 digit_has_none d h = grind (arith, nat_tests)
 
-escape_has_none : (c : ℕ) → is_control c ≡ true → has_ascii_control (escape c) ≡ false
-escape_has_none c h =
-    let small : c ≤ 159 = grind (arith, nat_tests) in
-    rw (digit_has_none (c / 16) (omega arith), digit_has_none (c % 16) (omega arith)) refl
+escape_has_none : (c : ℕ) → has_ascii_control (escape c) ≡ false
+escape_has_none c = by (nat_lt c 65536)
+  where
+    digit : (n : ℕ) → is_ascii_control (hex_digit (n % 16)) ≡ false
+    digit n = digit_has_none (n % 16) (omega arith)
+
+    by : (short : Bool) → has_ascii_control (cond short (short_escape c) (long_escape c)) ≡ false
+    by true = rw (digit (c / 4096), digit (c / 256), digit (c / 16), digit c) refl
+    by false =
+        rw (digit (c / 268435456), digit (c / 16777216), digit (c / 1048576), digit (c / 65536), digit (c / 4096), digit (c / 256), digit (c / 16), digit c)
+        refl
 
 -- a character that is no control character is written without one
 plain_has_none : (c : ℕ) → is_control c ≡ false → has_ascii_control (encode_utf8 c) ≡ false
@@ -39,15 +48,15 @@ plain_has_none c h = by (nat_lt c 128) (nat_lt c 2048) (nat_lt c 65536) refl
     by false false false e = rw (beyond (240 + c / 262144) (omega arith), next (c / 4096), next (c / 64), next c) refl
 
 char_has_none : (c : ℕ) → has_ascii_control (shown_char c) ≡ false
-char_has_none c = by (c == 10) (c == 13) (c == 9) (is_control c) refl
+char_has_none c = by (c == 10) (c == 13) (c == 9) (is_unseen c) refl
   where
-    by : (s t u v : Bool) → is_control c ≡ v
+    by : (s t u v : Bool) → is_unseen c ≡ v
         → has_ascii_control (cond s (codes "\\n") (cond t (codes "\\r") (cond u (codes "\\t") (cond v (escape c) (encode_utf8 c))))) ≡ false
     by true t u v e = refl
     by false true u v e = refl
     by false false true v e = refl
-    by false false false true e = escape_has_none c e
-    by false false false false e = plain_has_none c e
+    by false false false true e = escape_has_none c
+    by false false false false e = plain_has_none c (seen-is-no-control c e)
 
 all_have_none : (cs : List ℕ) → has_ascii_control (flat_map shown_char cs) ≡ false
 all_have_none [] = refl

@@ -4,8 +4,9 @@ use Rattle.std.specs.Fmt.{decimal}
 use Rattle.iso_summary.specs.Lines.{counted, file_option, line, number_option}
 use Rattle.iso_summary.specs.Names.{shown_name}
 use Rattle.iso_summary.specs.Sources.{shown_byte, shown_source}
+use Rattle.iso_summary.specs.Unseen.{has_unseen}
 use Rattle.iso_summary.specs.Views.{AgainView, LocatedView}
-use Rattle.iso_summary.specs.Words.{file_word, has_control}
+use Rattle.iso_summary.specs.Words.{file_word}
 
 -- the line of a place, with what is said of it
 abbrev pub place_line : LocatedView → (message : List ℕ) → List ℕ
@@ -31,18 +32,19 @@ source_lines at = source_line at ++ hint_lines at
 abbrev pub blocks_line : ℕ → List ℕ
 blocks_line n = cond (n == 0) [] (line (codes "  blocks " ∷ counted n (codes " test") (codes " tests") ∷ []))
 
--- whether a word was given and has a control character
-abbrev pub given_has_control : Option (List ℕ) → Bool
-given_has_control None = false
-given_has_control (Some word) = has_control word
+-- whether a word was given and has a character that no reader sees
+abbrev pub given_has_unseen : Option (List ℕ) → Bool
+given_has_unseen None = false
+given_has_unseen (Some word) = has_unseen word
 
--- whether the command can be told: the script is a file, and no word has a control character
+-- whether the command can be told: the script is a file, and no word has a character that no reader
+-- sees
 abbrev pub can_be_told : AgainView → LocatedView → Bool
 can_be_told again at =
     at.named
-    && (not (has_control at.file)
-    && (not (given_has_control again.settings)
-    && not (given_has_control again.world)))
+    && (not (has_unseen at.file)
+    && (not (given_has_unseen again.settings)
+    && not (given_has_unseen again.world)))
 
 -- the command that runs a node again, of the one script in which it stands
 abbrev pub command_line : AgainView → LocatedView → (path : List ℕ) → List ℕ

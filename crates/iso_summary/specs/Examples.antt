@@ -58,6 +58,27 @@ wide_space = 194 ∷ 160 ∷ []
 abbrev pub umlaut : List ℕ
 umlaut = 195 ∷ 164 ∷ []
 
+-- characters of three bytes: U+202E, from which on a text is shown from right to left; U+200B, a
+-- space without width; U+2028 and U+2029, which end a line and a paragraph; and a dash, U+2010
+abbrev pub turned_text : List ℕ
+turned_text = 226 ∷ 128 ∷ 174 ∷ []
+
+abbrev pub no_width : List ℕ
+no_width = 226 ∷ 128 ∷ 139 ∷ []
+
+abbrev pub line_end : List ℕ
+line_end = 226 ∷ 128 ∷ 168 ∷ []
+
+abbrev pub paragraph_end : List ℕ
+paragraph_end = 226 ∷ 128 ∷ 169 ∷ []
+
+abbrev pub long_dash : List ℕ
+long_dash = 226 ∷ 128 ∷ 144 ∷ []
+
+-- a character of four bytes: U+E0001, a tag of a language
+abbrev pub language_tag : List ℕ
+language_tag = 243 ∷ 160 ∷ 128 ∷ 129 ∷ []
+
 -- a line of a script whose name has some bytes before `.jtap`
 abbrev pub in_file : List ℕ → LocatedView
 in_file name = record (in_cart 7 "fail \"no\";") { file = name ++ codes ".jtap" }

@@ -6,5 +6,6 @@ pub mod Parts
 pub mod Shells
 pub mod Sources
 pub mod Summaries
+pub mod Unseen
 pub mod Views
 pub mod Words

@@ -1,6 +1,6 @@
 -- Words of a command as a shell reads them.
-use Rattle.std.specs.Prelude.{ℕ, List, [], ◌∷◌, ◌++◌, Bool, false, not, ◌&&◌, ◌||◌, ◌==◌, cond, chars, codes, flat_map, length, nat_eq}
-use Rattle.std.specs.Char.{is_ascii_alphanumeric, is_control}
+use Rattle.std.specs.Prelude.{ℕ, List, [], ◌∷◌, ◌++◌, Bool, false, not, ◌&&◌, ◌||◌, ◌==◌, cond, codes, flat_map, length, nat_eq}
+use Rattle.std.specs.Char.{is_ascii_alphanumeric}
 use Rattle.std.specs.List.{list_all, list_any}
 
 -- whether a byte means nothing to a shell: it is a letter, a digit or one of these
@@ -31,7 +31,3 @@ folder name = cond (begins_with_dash name) (codes "./") []
 -- a file's name as a word
 abbrev pub file_word : List ℕ → List ℕ
 file_word name = folder name ++ shell_word name
-
--- whether a word has a control character: U+0000 to U+001F, or U+007F to U+009F
-abbrev pub has_control : List ℕ → Bool
-has_control word = list_any is_control (chars word)

@@ -3,7 +3,7 @@ ghost use Rattle.std.specs.Prelude.{◌≡◌, ◌<◌, ◌++◌, length};
 ghost use Rattle.std.specs.Option.{option_map};
 ghost use Rattle.iso_plan.specs.PathTexts.{path_text};
 ghost use Rattle.iso_plan.specs.RowView.{tree_of};
-ghost use Rattle.iso_summary.specs.Entries.{again_line, blocks_line, can_be_told, failure_text, given_has_control, hint_lines, place_line, skipped_text, source_line, source_lines};
+ghost use Rattle.iso_summary.specs.Entries.{again_line, blocks_line, can_be_told, failure_text, given_has_unseen, hint_lines, place_line, skipped_text, source_line, source_lines};
 ghost use Rattle.iso_summary.specs.Views.{again_of, located_of};
 ghost use Rattle.iso_tap.specs.Printers.{Prints};
 
@@ -11,7 +11,7 @@ use crate::again::Again;
 use crate::line::{line, line_with_path};
 use crate::located::Located;
 use crate::part::Part;
-use crate::word::has_control;
+use crate::unseen::has_unseen;
 use iso_plan::plan::Plan;
 use iso_tap::printer::Printer;
 use iso_tap::sink::{Sink, SinkFailed};
@@ -159,22 +159,23 @@ fn command<W: Sink>(
     )
 }
 
-/// Whether the command can be told: the script is a file, and no word has a control character.
+/// Whether the command can be told: the script is a file, and no word has a character that no
+/// reader sees.
 fn can_be_told(at: &Located<'_>, again: &Again<'_>) -> bool
     ensures { result ≡ can_be_told (again_of again.now) (located_of at.now) }
 {
     at.named
-        && !has_control(at.file)
-        && !given_has_control(again.settings)
-        && !given_has_control(again.world)
+        && !has_unseen(at.file)
+        && !given_has_unseen(again.settings)
+        && !given_has_unseen(again.world)
 }
 
-/// Whether a word was given and has a control character.
-fn given_has_control(word: Option<&str>) -> bool
-    ensures { result ≡ given_has_control (option_map (λ w. w.now) word.entry) }
+/// Whether a word was given and has a character that no reader sees.
+fn given_has_unseen(word: Option<&str>) -> bool
+    ensures { result ≡ given_has_unseen (option_map (λ w. w.now) word.entry) }
 {
     match word {
-        Some(word) => has_control(word),
+        Some(word) => has_unseen(word),
         None => false,
     }
 }

@@ -4,11 +4,12 @@ ghost use Rattle.iso_failures.specs.Examples.{till_in_cart, unopened_of};
 ghost use Rattle.iso_plan.specs.Tree.{tree};
 ghost use Rattle.iso_summary.specs.Entries.{again_line, failure_text, skipped_text};
 ghost use Rattle.iso_summary.specs.Examples.{in_cart, in_dash, in_stdin, in_two_lines, outcome_of, places_of_failures, places_of_skipped, plain, text_of, with_escape, with_hints, with_options};
-ghost use Rattle.iso_summary.specs.Examples.{command_start, in_file, next_line, umlaut, wide_space};
-ghost use Rattle.iso_summary.specs.Names.{shown_name};
+ghost use Rattle.iso_summary.specs.Examples.{command_start, in_file, language_tag, line_end, long_dash, next_line, no_width, paragraph_end, turned_text, umlaut, wide_space};
+ghost use Rattle.iso_summary.specs.Names.{planned_name, shown_name};
 ghost use Rattle.iso_summary.specs.Sources.{shown_source};
 ghost use Rattle.iso_summary.specs.Summaries.{counts_line, summary_text};
-ghost use Rattle.iso_summary.specs.Words.{file_word, has_control, shell_word};
+ghost use Rattle.iso_summary.specs.Unseen.{has_unseen};
+ghost use Rattle.iso_summary.specs.Words.{file_word, shell_word};
 
 /// A word of letters, digits and some signs stands as it is, any other in single quotes, with each
 /// quote in it on its own.
@@ -29,12 +30,24 @@ pub fn files_are_no_options()
     ensures inside { file_word (codes "a/-x.jtap") ≡ codes "a/-x.jtap" }
 {}
 
-/// Control characters of a name are shown by their escapes, those of one byte and of two, and all
-/// else as it is.
-pub fn control_characters_of_names_are_escaped()
+/// The characters of a name that no reader sees are shown by their escapes, of one byte up to four,
+/// and all else as it is.
+pub fn unseen_characters_of_names_are_escaped()
     ensures one_byte { shown_name (codes "a\nb\r\t" ++ 27 ∷ 127 ∷ []) ≡ codes "a\\nb\\r\\t\\u001B\\u007F" }
     ensures two_bytes { shown_name (194 ∷ 133 ∷ 194 ∷ 160 ∷ []) ≡ codes "\\u0085" ++ 194 ∷ 160 ∷ [] }
+    ensures turned { shown_name (codes "a" ++ turned_text ++ codes ".jtap") ≡ codes "a\\u202E.jtap" }
+    ensures no_width { shown_name no_width ≡ codes "\\u200B" }
+    ensures line_end { shown_name line_end ≡ codes "\\u2028" }
+    ensures paragraph_end { shown_name paragraph_end ≡ codes "\\u2029" }
+    ensures four_bytes { shown_name language_tag ≡ codes "\\U000E0001" }
+    ensures long_dash { shown_name long_dash ≡ long_dash }
     ensures as_they_are { shown_name (codes "my \"cart\" \\.jtap" ++ 195 ∷ 164 ∷ []) ≡ codes "my \"cart\" \\.jtap" ++ 195 ∷ 164 ∷ [] }
+{}
+
+/// In a printed plan control characters alone are shown by their escapes.
+pub fn control_characters_of_planned_names_are_escaped()
+    ensures controls { planned_name (codes "a\nb\r\t" ++ 27 ∷ 127 ∷ 194 ∷ 133 ∷ []) ≡ codes "a\\nb\\r\\t\\u001B\\u007F\\u0085" }
+    ensures turned { planned_name (codes "a" ++ turned_text) ≡ codes "a" ++ turned_text }
 {}
 
 /// A tab is shown as a space, each other byte that isn't printable ASCII as a question mark, and
@@ -101,32 +114,43 @@ pub fn command_has_the_options_again()
         ∷ []) }
 {}
 
-/// Control characters are those of Unicode: those of ASCII and those of two bytes, and no space or
-/// letter of two bytes.
-pub fn control_characters_of_words_are_those_of_unicode()
-    ensures line_feed { has_control (codes "a\nb") ≡ true }
-    ensures delete { has_control (127 ∷ []) ≡ true }
-    ensures next_line { has_control (codes "a" ++ next_line) ≡ true }
-    ensures command_start { has_control (command_start ++ codes "2J") ≡ true }
-    ensures wide_space { has_control (codes "a" ++ wide_space) ≡ false }
-    ensures umlaut { has_control (umlaut ++ codes " b") ≡ false }
-    ensures empty { has_control [] ≡ false }
+/// Characters that no reader sees are those of Unicode: control characters of ASCII and of two
+/// bytes, marks of format and the ends of lines and paragraphs, and no space, dash or letter.
+pub fn unseen_characters_of_words_are_those_of_unicode()
+    ensures line_feed { has_unseen (codes "a\nb") ≡ true }
+    ensures delete { has_unseen (127 ∷ []) ≡ true }
+    ensures next_line { has_unseen (codes "a" ++ next_line) ≡ true }
+    ensures command_start { has_unseen (command_start ++ codes "2J") ≡ true }
+    ensures turned { has_unseen (codes "a" ++ turned_text) ≡ true }
+    ensures no_width { has_unseen no_width ≡ true }
+    ensures line_end { has_unseen line_end ≡ true }
+    ensures paragraph_end { has_unseen paragraph_end ≡ true }
+    ensures language_tag { has_unseen language_tag ≡ true }
+    ensures long_dash { has_unseen long_dash ≡ false }
+    ensures wide_space { has_unseen (codes "a" ++ wide_space) ≡ false }
+    ensures umlaut { has_unseen (umlaut ++ codes " b") ≡ false }
+    ensures empty { has_unseen [] ≡ false }
 {}
 
-/// No command is told where a file's name has a control character of two bytes, and one where it
-/// has other characters of two bytes.
-pub fn command_is_told_with_characters_of_two_bytes()
+/// No command is told where a file's name has a character that no reader sees, and one where it has
+/// other characters of two or three bytes.
+pub fn command_is_told_with_characters_that_are_seen()
     ensures next_line { failure_text plain (in_file next_line) (codes "shop.Cart.adds") (codes "no") 0
         ≡ text_of ("not ok shop.Cart.adds" ∷ "  \\u0085.jtap:7: no" ∷ "  7 | fail \"no\";" ∷ "" ∷ []) }
     ensures command_start { failure_text plain (in_file command_start) (codes "shop.Cart.adds") (codes "no") 0
         ≡ text_of ("not ok shop.Cart.adds" ∷ "  \\u009B.jtap:7: no" ∷ "  7 | fail \"no\";" ∷ "" ∷ []) }
+    ensures turned { failure_text plain (in_file turned_text) (codes "shop.Cart.adds") (codes "no") 0
+        ≡ text_of ("not ok shop.Cart.adds" ∷ "  \\u202E.jtap:7: no" ∷ "  7 | fail \"no\";" ∷ "" ∷ []) }
+    ensures long_dash { again_line plain (in_file long_dash) (codes "shop.Cart.adds")
+        ≡ codes "  again: jtap run --only shop.Cart.adds '" ++ long_dash ++ codes ".jtap'\n" }
     ensures wide_space { again_line plain (in_file wide_space) (codes "shop.Cart.adds")
         ≡ codes "  again: jtap run --only shop.Cart.adds '" ++ wide_space ++ codes ".jtap'\n" }
     ensures umlaut { again_line plain (in_file umlaut) (codes "shop.Cart.adds")
         ≡ codes "  again: jtap run --only shop.Cart.adds '" ++ umlaut ++ codes ".jtap'\n" }
 {}
 
-/// No command is told for standard input, nor where the name of a file has a control character.
+/// No command is told for standard input, nor where the name of a file has a character that no
+/// reader sees.
 pub fn command_is_told_where_it_can_be_pasted()
     ensures stdin { failure_text plain (in_stdin 7 "fail \"no\";") (codes "shop.Cart.adds") (codes "no") 0
         ≡ text_of ("not ok shop.Cart.adds" ∷ "  stdin:7: no" ∷ "  7 | fail \"no\";" ∷ "" ∷ []) }

@@ -11,4 +11,5 @@ pub mod name;
 mod part;
 mod source;
 pub mod summary;
+pub mod unseen;
 mod word;

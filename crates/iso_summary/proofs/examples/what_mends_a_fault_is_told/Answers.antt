@@ -2,8 +2,9 @@ use Rattle.std.proofs.Common.{refl}
 use Rattle.std.specs.Char.{encode_utf8}
 use Rattle.std.specs.Fmt.{digits}
 use Rattle.std.specs.Str.{chars}
+use Rattle.iso_summary.proofs.Computing.{unseen}
 use Rattle.iso_summary.proofs.examples.what_mends_a_fault_is_told.Goals as goal
 
 pub returns : goal.returns
-unfolding digits chars encode_utf8
+unfolding digits chars encode_utf8 unseen
 returns c = refl

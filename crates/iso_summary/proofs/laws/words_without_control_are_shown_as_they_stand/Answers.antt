@@ -1,7 +1,0 @@
-use Rattle.std.proofs.Common.{◌≡◌, ℕ, List, false, subst}
-use Rattle.iso_summary.specs.Words.{has_control}
-use Rattle.iso_summary.proofs.PlainLemmas.{name-is-plain, plain-as-it-stands}
-use Rattle.iso_summary.proofs.laws.words_without_control_are_shown_as_they_stand.Goals as goal
-
-pub returns : goal.returns
-returns c word text = (λ same. subst (λ (w : List ℕ). has_control w ≡ false) same (name-is-plain word text), plain-as-it-stands word text)
