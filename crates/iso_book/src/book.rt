@@ -1,10 +1,12 @@
 //! The book of a run.
 ghost use Rattle.std.specs.Prelude.{◌≡◌, ◌<◌, ◌≤◌, ◌↔◌, ◌*◌, ℕ, IfOk, IfSome, IsTrue, length, true};
 ghost use Rattle.std.specs.Option.{option_map};
-ghost use Rattle.iso_book.specs.Books.{is_complete, new_book, outcome_in, suite_in};
+ghost use Rattle.iso_book.specs.Books.{is_complete, new_book, outcome_in, state_in, suite_in};
 ghost use Rattle.iso_isolation.specs.Histories.{IsHistory};
+ghost use Rattle.iso_isolation.specs.States.{is_held};
 ghost use Rattle.iso_lifecycle.specs.ResultViews.{AreComplete, outcome_of_view, result_in};
 ghost use Rattle.iso_lifecycle.specs.Subjects.{outcome_alone, started};
+ghost use Rattle.iso_plan.specs.HeldNodes.{is_held as is_held_node};
 ghost use Rattle.iso_plan.specs.RowView.{tree_of};
 ghost use Rattle.iso_standing.specs.CodeEvents.{events_of};
 ghost use Rattle.iso_suites.specs.ScriptLanguage.{scripts};
@@ -17,6 +19,7 @@ use iso_lifecycle::results::Results;
 use iso_lifecycle::view::View;
 use iso_locks::tray::Tray;
 use iso_locks::vault::Vault;
+use iso_plan::held_nodes::HeldNodes;
 use iso_plan::laws::nodes_are_a_tree;
 use iso_plan::plan::Plan;
 use iso_settings::world::World;
@@ -120,6 +123,14 @@ impl<'a> Book<'a> {
         ensures { result ≡ self.now.stopped }
     {
         self.standing.is_stopped()
+    }
+
+    /// The nodes that hold their locks: those that were entered and aren't finished.
+    pub fn held(&self) -> &HeldNodes<'a>
+        ensures plan { result.now.plan ≡ self.now.plan }
+        ensures held { (n : ℕ) → n < length self.now.plan.rows → is_held_node result.now.held n ≡ is_held ((state_in self.now).nodes.status n) }
+    {
+        self.standing.held()
     }
 
     /// Stops: it refuses every event from now on. Takes no memory.

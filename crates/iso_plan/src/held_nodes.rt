@@ -3,7 +3,8 @@
 ghost use Rattle.std.specs.Prelude.{◌≡◌, ◌<◌, ◌+◌, ◌^◌, IfOk, is_some, length};
 ghost use Rattle.std.specs.List.{All};
 ghost use Rattle.iso_plan.specs.Conflicts.{lowest_in_the_way};
-ghost use Rattle.iso_plan.specs.HeldNodes.{CanAdd, CanRemove, added, any_excluded, counted, excluded, holding, is_held, none_held, one_less, one_more, releasing, removed};
+ghost use Rattle.iso_plan.specs.HeldNodes.{CanAdd, CanRemove, added, any_excluded, counted, excluded, holding, is_held, none_held, one_less, one_more, releasing, removed, takers};
+ghost use Rattle.iso_plan.specs.KeyTable.{keys};
 ghost use Rattle.iso_plan.specs.RowView.{tree_of};
 
 use crate::conflict::Holders;
@@ -90,6 +91,14 @@ impl<'a> HeldNodes<'a> {
         }
     }
 
+    /// How many held nodes take a key so, by the key's number.
+    pub fn takers(&self, key: u32, access: Access) -> usize
+        requires { key < length (keys (tree_of self.now.plan)) }
+        ensures { result ≡ takers (tree_of self.now.plan) self.now.held access key }
+    {
+        self.uses[key as usize].takers(access)
+    }
+
     /// Whether a held node conflicts with a node. It looks at the node's own locks, however many
     /// nodes are held. Takes no memory.
     pub fn excludes(&self, node: u32) -> bool
@@ -147,6 +156,16 @@ impl KeyUse {
                 reading,
                 writing: writing - 1,
             },
+        }
+    }
+
+    /// How many nodes take the key so.
+    fn takers(self, access: Access) -> usize
+        ensures { result ≡ counted access self }
+    {
+        match access {
+            Access::Read => self.reading,
+            Access::Write => self.writing,
         }
     }
 

@@ -1,5 +1,5 @@
 //! Where all nodes and workers stand.
-ghost use Rattle.std.specs.Prelude.{◌≡◌, ◌<◌, ◌||◌, IfOk, cond, is_some, length, slice_set};
+ghost use Rattle.std.specs.Prelude.{◌≡◌, ◌<◌, ◌||◌, ℕ, IfOk, cond, is_some, length, slice_set};
 ghost use Rattle.iso_standing.specs.Phases.{bare};
 ghost use Rattle.iso_standing.specs.declared.phase.Phase.TheVariants.{Finished};
 ghost use Rattle.iso_standing.specs.CodeEvents.{event_of};
@@ -12,6 +12,7 @@ ghost use Rattle.iso_isolation.specs.Events.{stop};
 ghost use Rattle.iso_isolation.specs.States.{is_closing, is_held, is_waiting};
 ghost use Rattle.iso_model.specs.Resources.{Resources};
 ghost use Rattle.iso_plan.specs.Conflicts.{lowest_in_the_way};
+ghost use Rattle.iso_plan.specs.HeldNodes.{is_held as is_held_node};
 ghost use Rattle.iso_plan.specs.Paths.{is_test, parent, row_at};
 ghost use Rattle.iso_plan.specs.RowView.{tree_of};
 
@@ -204,6 +205,14 @@ impl<'a> Standing<'a> {
         ensures { result ≡ is_some (lowest_in_the_way (tree_of self.now.plan) (λ n. is_held (bare (phase_at self.now n))) node) }
     {
         self.held.excludes(node)
+    }
+
+    /// The nodes that hold their locks: those that were entered and aren't finished.
+    pub fn held(&self) -> &HeldNodes<'a>
+        ensures plan { result.now.plan ≡ self.now.plan }
+        ensures held { (n : ℕ) → is_held_node result.now.held n ≡ is_held (bare (phase_at self.now n)) }
+    {
+        &self.held
     }
 
     /// The worker that owns a node.
