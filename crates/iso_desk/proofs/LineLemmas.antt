@@ -1,4 +1,5 @@
--- A line when a node joins it at its end, when its first leaves it, and when the rest of the table changes.
+-- A line when a node joins it at its end, when its first leaves it, and when the rest of the table
+-- changes.
 use Rattle.std.proofs.Common.{◌≡◌, ℕ, ◌<◌, ◌≤◌, ◌≢◌, Bool, true, false, cond, Option, None, Some, ◌==◌, sym, ap, subst, ◌∙◌, inl, inr, arith, refl}
 use Rattle.std.proofs.lemmas.Bool.{cases_eq}
 use Rattle.std.proofs.lemmas.Bool.Decides.{Decides-eqb}

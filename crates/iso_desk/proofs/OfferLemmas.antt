@@ -1,5 +1,5 @@
 -- What the marks of the lines say of what is on offer.
-use Rattle.std.proofs.Common.{◌≡◌, ℕ, ◌+◌, ◌-◌, ◌*◌, ◌/◌, ◌%◌, ◌<◌, ◌≤◌, Bool, true, false, ◌||◌, ◌&&◌, not, cond, List, length, get_or, replicate, set, Option, None, Some, MatchOption, is_some, ◌==◌, sym, ap, ap₂, subst, ◌∙◌, inl, inr, arith, refl}
+use Rattle.std.proofs.Common.{◌≡◌, ℕ, ◌+◌, ◌-◌, ◌*◌, ◌/◌, ◌%◌, ◌<◌, ◌≤◌, Bool, true, false, ◌||◌, ◌&&◌, not, cond, List, length, get_or, replicate, set, Option, None, Some, IfSome, MatchOption, is_some, ◌==◌, sym, ap, ap₂, subst, ◌∙◌, inl, inr, arith, refl}
 use Rattle.std.proofs.lemmas.Bool.{and_parts, cases_eq, cases_lt, or_cases}
 use Rattle.std.proofs.lemmas.List.{get_or-set_same, get_or-set_other, length-replicate, length-set}
 use Rattle.iso_desk.specs.Lines.{IsLineOf, line_number, party_number}
@@ -194,3 +194,8 @@ module _ (workers : ℕ) (places : List Place) (next : List ℕ) (ends : List (O
         | inl low ↦ absurd (both (offers_key filled (party_number p) held written l.key) (offered_true p held written l e o) (f.2 l.key low))
         | inr high ↦ high
       ])
+
+-- a number that is answered is below another one
+pub below_by : (bound : ℕ) (o : Option ℕ) (none : Type 0) (a b : ℕ → Type 0) → MatchOption o none (λ k. (k < bound) × a k × b k) → IfSome o (λ k. k < bound)
+below_by bound None none a b is = tt
+below_by bound (Some k) none a b is = is.0

@@ -1,4 +1,5 @@
--- The lines of a table after a node is put at the end of one, leaves its line, or gets another place in none.
+-- The lines of a table after a node is put at the end of one, leaves its line, or gets another
+-- place in none.
 use Rattle.std.proofs.Common.{◌≡◌, ℕ, ◌+◌, ◌*◌, ◌^◌, ◌<◌, ◌≤◌, ◌≢◌, Bool, true, false, cond, List, length, get_or, set, Option, None, Some, MatchOption, sym, ap, ap₂, subst, ◌∙◌, inl, inr, arith, refl, replicate}
 use Rattle.std.proofs.lemmas.Bool.{cases_eq, cases_lt}
 use Rattle.std.proofs.lemmas.List.{get_or-set_same, get_or-set_other, get_or_past, get_or_read_under, length-replicate, length-set}

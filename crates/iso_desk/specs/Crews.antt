@@ -46,7 +46,8 @@ abbrev pub called : Option ℕ → List Member → List Member
 called None ms = ms
 called (Some w) ms = slice_set ms w (record (member_of ms w) { called = true })
 
--- a worker of whom this is kept is to be called: it waits, wasn't called since, and has something to wake for
+-- a worker of whom this is kept is to be called: it waits, wasn't called since, and has something
+-- to wake for
 pub record IsToCall (places : List Place) (held written : Marks) (is_over is_loose : Bool) (rounds w : ℕ) (m : Member) : Type 0 where
   pub awaiting : awaits m ≡ true
   pub something : ¬ HasNothing places held written is_over is_loose rounds w m.seen

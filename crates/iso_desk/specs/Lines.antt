@@ -10,7 +10,8 @@ abbrev pub party_number : Party → ℕ
 party_number Everyone = 0
 party_number (Worker w) = w + 1
 
--- the number of a line: each party has nine words of 64, four for the keys that are read, four for those that are written, and one for its own line
+-- the number of a line: each party has nine words of 64, four for the keys that are read, four for
+-- those that are written, and one for its own line
 abbrev pub line_number : Line → ℕ
 line_number (Key l) = 576 * party_number l.party + cond l.writes 256 0 + l.key
 line_number (Own w) = 576 * (w + 1) + 512

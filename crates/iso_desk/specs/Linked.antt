@@ -21,7 +21,8 @@ mark places n = mark_of (line_in (place_of places n))
 abbrev pub since : List Place → ℕ → ℕ
 since places n = since_in (place_of places n)
 
--- a line with a first and a last node, by what stands in it (at), since when (since) and who is behind whom (next)
+-- a line with a first and a last node, by what stands in it (at), since when (since) and who is
+-- behind whom (next)
 pub record IsLinked (at since next : ℕ → ℕ) (i first last : ℕ) : Type 0 where
   pub head : at first ≡ i
   pub tail : at last ≡ i

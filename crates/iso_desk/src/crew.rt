@@ -17,7 +17,8 @@ pub struct Member {
     pub waits: bool,
     /// Whether it was called since it began to wait.
     pub called: bool,
-    /// How often nodes had been posted before its last look into the deques, if that found each of them empty.
+    /// How often nodes had been posted before its last look into the deques, if that found each of
+    /// them empty.
     pub seen: Option<u64>,
 }
 
@@ -73,7 +74,8 @@ impl Crew {
         };
     }
 
-    /// Calls the lowest worker that waits, wasn't called since, and has something to wake for; nobody where there is none.
+    /// Calls the lowest worker that waits, wasn't called since, and has something to wake for;
+    /// nobody where there is none.
     pub fn call(&mut self, scene: &Scene) -> Option<u32>
         requires workers { length self.old.members.items ≡ scene.now.table.now.workers }
         requires held { 256 ≤ room scene.now.held.now }

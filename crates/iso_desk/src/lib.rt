@@ -1,4 +1,5 @@
-//! The table of a scheduler: where each node of a run stands, the lines of those that are to be tried, and whom a change calls.
+//! The table of a scheduler: where each node of a run stands, the lines of those that are to be
+//! tried, and whom a change calls.
 #![tactic(auto)]
 
 pub mod crew;

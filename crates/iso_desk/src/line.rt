@@ -31,7 +31,8 @@ pub enum Line {
     Own(u32),
 }
 
-/// The line of a party's nodes that wait for a key: of those that take it for READ_WRITE, or of the others.
+/// The line of a party's nodes that wait for a key: of those that take it for READ_WRITE, or of the
+/// others.
 #[derive(Clone, Copy, PartialEq, Eq)]
 pub struct KeyLine {
     pub party: Party,

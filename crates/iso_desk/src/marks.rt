@@ -11,7 +11,8 @@ pub struct Marks {
 }
 
 impl Marks {
-    /// The empty set, with room for the numbers below `count`. It takes all memory that its calls need.
+    /// The empty set, with room for the numbers below `count`. It takes all memory that its calls
+    /// need.
     pub fn new(alloc: Global, count: usize) -> Result<Marks, AllocError>
         ensures { IfOk result (λ s. (count ≤ room s) × ((k : ℕ) → has s k ≡ false)) }
     {

@@ -1,10 +1,14 @@
 //! Where a node stands.
+ghost use Rattle.std.specs.Prelude.{◌≡◌, is_some};
+ghost use Rattle.iso_desk.specs.Places.{line_in};
+
 use crate::line::Line;
 
 /// Where a node stands.
 #[derive(Clone, Copy, PartialEq, Eq)]
 pub enum Place {
-    /// It can't be entered yet: its class isn't opened up, or an earlier sibling isn't over beside which it may not run.
+    /// It can't be entered yet: its class isn't opened up, or an earlier sibling isn't over beside
+    /// which it may not run.
     Closed,
     /// It lies in a deque, or is in the hand of who took it there.
     Loose,
@@ -16,6 +20,15 @@ pub enum Place {
     Open,
     /// It is finished.
     Over,
+}
+
+impl Place {
+    /// Whether it is one in a line.
+    pub fn is_in_line(self) -> bool
+        ensures { result ≡ is_some (line_in self) }
+    {
+        matches!(self, Place::InLine(_))
+    }
 }
 
 /// A node's stand in a line.

@@ -24,8 +24,9 @@ pub struct Scene<'a> {
     pub rounds: u64,
 }
 
-/// Whether a worker that waits has nothing to wake for: the run goes on, its own line is empty, nothing of its own or of everyone's is on
-/// offer, and no node is `Loose`, or the worker found each deque empty after nodes had been posted so often.
+/// Whether a worker that waits has nothing to wake for: the run goes on, its own line is empty,
+/// nothing of its own or of everyone's is on offer, and no node is `Loose`, or the worker found
+/// each deque empty after nodes had been posted so often.
 pub fn has_nothing_for(scene: &Scene, worker: u32, seen: Option<u64>) -> bool
     requires worker { worker < scene.now.table.now.workers }
     requires held { 256 ≤ room scene.now.held.now }

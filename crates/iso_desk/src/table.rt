@@ -2,12 +2,12 @@
 //!
 //! 1. Each node has one place, and the table alone says which.
 //! 2. A node stands in one line at most, where its place says so: behind all others, or before them, as it was put there. A node that
-//!    waits for a key stands in a line of its party, of the key, and of READ or READ_WRITE as it takes the key; each worker has a line of
-//!    its own besides.
+//! waits for a key stands in a line of its party, of the key, and of READ or READ_WRITE as it takes
+//! the key; each worker has a line of its own besides.
 //! 3. Who leaves a line is its first. So each call takes the same time, however many stand there.
 //! 4. A node that waits for a key is on offer where nobody writes the key and, if the node writes it, nobody holds it. This is stored
-//!    nowhere: it follows from the sets of the held and of the written keys, and no call makes it so.
-ghost use Rattle.std.specs.Prelude.{◌≡◌, ◌<◌, ◌≤◌, ◌+◌, ◌-◌, ◌^◌, IfOk, MatchOption, None, OnErr, OnOk, length};
+//! nowhere: it follows from the sets of the held and of the written keys, and no call makes it so.
+ghost use Rattle.std.specs.Prelude.{◌≡◌, ◌<◌, ◌≤◌, ◌+◌, ◌-◌, ◌^◌, IfOk, IfSome, MatchOption, None, OnErr, OnOk, length};
 ghost use Rattle.std.specs.Bool.{Decides};
 ghost use Rattle.iso_desk.specs.Lines.{IsLineOf, party_number};
 ghost use Rattle.iso_desk.specs.Marking.{room};
@@ -36,7 +36,8 @@ pub struct Table {
     ends: Vec<Option<Ends>>,
     /// The lines in which somebody stands, by their numbers.
     filled: Marks,
-    /// The number of the next node that is put at the end of a line, and one more than that of the next at the front of one.
+    /// The number of the next node that is put at the end of a line, and one more than that of the
+    /// next at the front of one.
     clock: u64,
     front: u64,
 }
@@ -80,6 +81,13 @@ impl Table {
         self.workers
     }
 
+    /// How many nodes it has.
+    pub fn nodes(&self) -> usize
+        ensures { result ≡ length self.now.places }
+    {
+        self.places.len()
+    }
+
     /// Where a node stands.
     pub fn place(&self, node: u32) -> Place
         requires { node < length self.now.places }
@@ -97,13 +105,15 @@ impl Table {
         Some(ends.first)
     }
 
-    /// The lowest key at which a line of a party is on offer: somebody stands in it, and the key isn't written, nor held where it is to be
-    /// written. It looks at eight words of 64 bits, however many wait.
+    /// The lowest key at which a line of a party is on offer: somebody stands in it, and the key
+    /// isn't written, nor held where it is to be written. It looks at eight words of 64 bits,
+    /// however many wait.
     pub fn on_offer(&self, party: Party, held: &Marks, written: &Marks) -> Option<u32>
         requires party { party_number party ≤ self.now.workers }
         requires held { 256 ≤ room held.now }
         requires written { 256 ≤ room written.now }
-        ensures { MatchOption result (NothingOffered self.now.places held.now written.now party) (λ k. IsLowestOffer self.now.places held.now written.now party k) }
+        ensures key { IfSome result (λ k. k < 256) }
+        ensures offer { MatchOption result (NothingOffered self.now.places held.now written.now party) (λ k. IsLowestOffer self.now.places held.now written.now party k) }
     {
         lowest_key(&self.filled, party.number(), held, written)
     }
@@ -126,8 +136,8 @@ impl Table {
         self.on_offer(party, held, written).is_none()
     }
 
-    /// Puts a node that stands in no line at the end of one. It is refused, and nothing changes, only where 2^63 - 1 nodes were put
-    /// at the end of one before.
+    /// Puts a node that stands in no line at the end of one. It is refused, and nothing changes,
+    /// only where 2^63 - 1 nodes were put at the end of one before.
     pub fn line_up(&mut self, node: u32, line: Line) -> Result<(), AllocError>
         requires node { node < length self.old.places }
         requires free { line_in (place_of self.old.places node) ≡ None }
@@ -150,8 +160,8 @@ impl Table {
         Ok(())
     }
 
-    /// Puts a node that stands in no line at the front of one. It is refused, and nothing changes, only where 2^63 nodes were put at the
-    /// front of one before.
+    /// Puts a node that stands in no line at the front of one. It is refused, and nothing changes,
+    /// only where 2^63 nodes were put at the front of one before.
     pub fn line_up_first(&mut self, node: u32, line: Line) -> Result<(), AllocError>
         requires node { node < length self.old.places }
         requires free { line_in (place_of self.old.places node) ≡ None }
