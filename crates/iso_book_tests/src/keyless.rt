@@ -1,4 +1,5 @@
-//! What a worker does with a book and a tray, where nodes have no keys of their own and their blocks are empty.
+//! What a worker does with a book and a tray, where nodes have no keys of their own and their
+//! blocks are empty.
 ghost use Rattle.std.specs.Prelude.{◌≡◌, ◌<◌, ℕ, false, length, true};
 ghost use Rattle.iso_book.specs.Leaves.{MayBring};
 ghost use Rattle.iso_book.specs.Turns.{BeginsIn};
@@ -119,8 +120,8 @@ fn are_read(locks: &[Lock]) -> bool
     }
 }
 
-/// Asserts that the node of a body takes no key for READ_WRITE, so that the body may be brought with any tray of its plan and
-/// world.
+/// Asserts that the node of a body takes no key for READ_WRITE, so that the body may be brought
+/// with any tray of its plan and world.
 pub(crate) fn expect_keyless<R: Abort>(rt: &R, done: &Done, tray: &Tray<'_>)
     requires of_plan { done.now.subject.plan ≡ tray.now.plan }
     requires of_start { done.now.subject.start ≡ tray.now.world }
@@ -135,7 +136,8 @@ pub(crate) fn expect_keyless<R: Abort>(rt: &R, done: &Done, tray: &Tray<'_>)
     );
 }
 
-/// Books what a body came to, which nothing refuses: the place, the worker and the node that the receipt tells of.
+/// Books what a body came to, which nothing refuses: the place, the worker and the node that the
+/// receipt tells of.
 pub(crate) fn taken<R: Abort>(
     rt: &R,
     book: &mut Book<'_>,
@@ -159,7 +161,8 @@ pub(crate) fn taken<R: Abort>(
     }
 }
 
-/// Enters a node and books what its first body came to: the place, the worker and the node that the receipt tells of.
+/// Enters a node and books what its first body came to: the place, the worker and the node that the
+/// receipt tells of.
 pub(crate) fn do_node<R: Abort>(
     rt: &R,
     alloc: Global,

@@ -16,7 +16,8 @@ const A_AND_B: &str = "team shop
 class C { test a { } test b { } }
 ";
 
-/// Worker 0 opens the class and enters its first test, worker 1 enters the second: what the two came to.
+/// Worker 0 opens the class and enters its first test, worker 1 enters the second: what the two
+/// came to.
 fn enter_both<R: Abort>(
     rt: &R,
     alloc: Global,
@@ -46,7 +47,8 @@ fn enter_both<R: Abort>(
     (own, other)
 }
 
-/// A worker that brings the body of another one has it handed back, and books its own; the receipts tell where in the history.
+/// A worker that brings the body of another one has it handed back, and books its own; the receipts
+/// tell where in the history.
 struct OtherWorker;
 
 impl Play for OtherWorker {
@@ -91,8 +93,8 @@ fn refused_with_new<R: Abort>(
     refused(rt, book, worker, done, &mut tray, want)
 }
 
-/// What a body came to is handed back where it comes with another tray of the plan, and booked with the tray that its node is
-/// lent to.
+/// What a body came to is handed back where it comes with another tray of the plan, and booked with
+/// the tray that its node is lent to.
 struct OtherTray;
 
 impl Play for OtherTray {
@@ -118,8 +120,8 @@ fn another_tray_of_the_plan_is_a_stranger(rt: HostRuntime) {
     play_script(&rt, rt.alloc(), A_AND_B, 2, &OtherTray);
 }
 
-/// Brings the body of node 3, with trays that hold no node, as a worker that there isn't, as one that has no body, as one that
-/// has another body, and as the worker whose it is.
+/// Brings the body of node 3, with trays that hold no node, as a worker that there isn't, as one
+/// that has no body, as one that has another body, and as the worker whose it is.
 fn refuse_all<R: Abort>(
     rt: &R,
     alloc: Global,

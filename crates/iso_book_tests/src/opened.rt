@@ -19,7 +19,8 @@ const CLASS: &str = "team shop
 class C { same_thread test a { } same_thread test b { } concurrent test c { } }
 ";
 
-/// While the class is open, and nobody has a body. A row says which kinds apply besides the one that is answered.
+/// While the class is open, and nobody has a body. A row says which kinds apply besides the one
+/// that is answered.
 static OPEN: [Row; 8] = [
     // NotOwner, ChildrenLeft
     Row("shut 2 1", NoWorker),
@@ -74,7 +75,8 @@ fn expect_refused<R: Abort>(rt: &R, alloc: Global, book: &mut Book<'_>, rows: &[
     }
 }
 
-/// Worker 1 enters the test beside the others, and leaves it when all that is refused meanwhile was refused.
+/// Worker 1 enters the test beside the others, and leaves it when all that is refused meanwhile was
+/// refused.
 fn expect_busy<R: Abort>(rt: &R, alloc: Global, book: &mut Book<'_>, tray: &mut Tray<'_>)
     requires plan { tray.old.plan ≡ book.old.plan }
     requires world { tray.old.world ≡ book.old.world }
@@ -111,7 +113,8 @@ fn expect_finished<R: Abort>(rt: &R, alloc: Global, book: &mut Book<'_>, tray: &
     expect(rt, book.complete(), "all nodes are finished");
 }
 
-/// Two workers do a class, and each event that is refused on the way is refused for the first kind that applies.
+/// Two workers do a class, and each event that is refused on the way is refused for the first kind
+/// that applies.
 struct FirstKinds;
 
 impl Play for FirstKinds {

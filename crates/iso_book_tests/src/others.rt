@@ -75,7 +75,8 @@ fn expect_entered<R: Abort>(rt: &R, book: &mut Book<'_>, tray: &mut Tray<'_>, is
     expect(rt, book.enter(0, 1, tray) == want, "with this tray");
 }
 
-/// Worker 0 enters a node with a tray that the book asks by value: what the node's first body comes to.
+/// Worker 0 enters a node with a tray that the book asks by value: what the node's first body comes
+/// to.
 fn enter<R: Abort>(
     rt: &R,
     alloc: Global,
@@ -91,8 +92,8 @@ fn enter<R: Abort>(
     end_of_first(rt, alloc, node, tray)
 }
 
-/// Worker 0 brings what a body came to with a tray that the book asks by value, and has it handed back since the tray is a
-/// stranger's.
+/// Worker 0 brings what a body came to with a tray that the book asks by value, and has it handed
+/// back since the tray is a stranger's.
 fn refused<R: Abort>(rt: &R, book: &mut Book<'_>, done: Done, tray: &mut Tray<'_>) -> Done
     requires of_plan { done.subject.plan ≡ tray.old.plan }
     requires of_start { done.subject.start ≡ tray.old.world }
@@ -106,8 +107,8 @@ fn refused<R: Abort>(rt: &R, book: &mut Book<'_>, done: Done, tray: &mut Tray<'_
     back
 }
 
-/// Worker 0 books what a body came to with a tray that the book asks by value: the place, the worker and the node that the
-/// receipt tells of.
+/// Worker 0 books what a body came to with a tray that the book asks by value: the place, the
+/// worker and the node that the receipt tells of.
 fn taken<R: Abort>(
     rt: &R,
     book: &mut Book<'_>,
@@ -124,7 +125,8 @@ fn taken<R: Abort>(
     }
 }
 
-/// Enters the class with one tray, brings what its `before_all` came to with another one, and then with the first.
+/// Enters the class with one tray, brings what its `before_all` came to with another one, and then
+/// with the first.
 fn expect_left<R: Abort>(
     rt: &R,
     alloc: Global,

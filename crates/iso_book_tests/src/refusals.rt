@@ -18,8 +18,8 @@ use iso_standing::refused::Refused::{
 use std::alloc::Global;
 use std::process::Abort;
 
-/// Two classes on the root's thread (1 and 3), of which the later writes a key, and two others, a reader (6) and a writer (8) of
-/// it.
+/// Two classes on the root's thread (1 and 3), of which the later writes a key, and two others, a
+/// reader (6) and a writer (8) of it.
 const CLASSES: &str = "team shop
 same_thread class A { write \"K\" test a { } }
 same_thread write \"K\" class B { test b { } test c { } }
@@ -61,8 +61,8 @@ fn strange_tray<'a, R: Abort>(rt: &R, alloc: Global, book: &Book<'a>) -> Tray<'a
     Tray::flat(alloc, book.plan(), book.world()).expect(rt, "memory")
 }
 
-/// Asserts why a book refuses an Enter or a Shut that comes with a stranger's tray, and what it answers then to one with a new
-/// tray.
+/// Asserts why a book refuses an Enter or a Shut that comes with a stranger's tray, and what it
+/// answers then to one with a new tray.
 fn expect_answers<R: Abort>(
     rt: &R,
     alloc: Global,
@@ -104,8 +104,9 @@ fn has_grown(history: &[Event], length: usize, events: &[Event]) -> bool {
     length <= history.len() && &history[length..] == events
 }
 
-/// Asserts that the last of a row's events is refused for its reason, whatever the tray, and that all those before it are taken,
-/// but not with a stranger's tray; and that the book has only those more then.
+/// Asserts that the last of a row's events is refused for its reason, whatever the tray, and that
+/// all those before it are taken, but not with a stranger's tray; and that the book has only those
+/// more then.
 fn expect_last_refused<R: Abort>(
     rt: &R,
     alloc: Global,
@@ -187,7 +188,8 @@ fn each_kind_is_refused_by_a_book(rt: HostRuntime) {
 
 /// Every two kinds that an event can be refused for at once where no class is open.
 static PAIRS: AreRefused = AreRefused(&[
-    // NoWorker comes before NoNode, ParentClosed, AlreadyEntered, NotOwner, EarlierSibling and LockHeld.
+    // NoWorker comes before NoNode, ParentClosed, AlreadyEntered, NotOwner, EarlierSibling and
+    // LockHeld.
     Row("enter 2 10", NoWorker),
     Row("enter 2 7", NoWorker),
     Row("enter 2 0", NoWorker),
@@ -213,8 +215,9 @@ static PAIRS: AreRefused = AreRefused(&[
     Row("enter 1 3", NotOwner),
     Row("enter 0 6\nenter 1 3", NotOwner),
     Row("enter 1 6\nenter 0 3", EarlierSibling),
-    // In a Shut NoWorker comes before NoNode, NotClass and NotOpen, NoNode before WorkerBusy, WorkerBusy before NotClass and
-    // NotOpen, NotClass before NotOpen and NotOwner, and NotOpen before NotOwner.
+    // In a Shut NoWorker comes before NoNode, NotClass and NotOpen, NoNode before WorkerBusy,
+    // WorkerBusy before NotClass and NotOpen, NotClass before NotOpen and NotOwner, and NotOpen
+    // before NotOwner.
     Row("shut 2 10", NoWorker),
     Row("shut 2 0", NoWorker),
     Row("shut 2 1", NoWorker),
@@ -245,7 +248,8 @@ shut 0 0
 shut 0 1
 ";
 
-/// Asserts that a book refuses each of these events since it was stopped, whatever the tray, and has taken none then.
+/// Asserts that a book refuses each of these events since it was stopped, whatever the tray, and
+/// has taken none then.
 fn expect_stopped<R: Abort>(rt: &R, alloc: Global, book: &mut Book<'_>) {
     let events = read_schedule(alloc, EVENTS.as_bytes()).expect(rt, "a schedule");
     let refused = Err(CoreFault::Refused(Stopped));
@@ -262,7 +266,8 @@ fn expect_stopped<R: Abort>(rt: &R, alloc: Global, book: &mut Book<'_>) {
     expect(rt, book.history().is_empty(), "it has taken nothing");
 }
 
-/// A book that was stopped refuses every Enter and Shut, whatever else stands against it, and keeps its history.
+/// A book that was stopped refuses every Enter and Shut, whatever else stands against it, and keeps
+/// its history.
 struct StopsAll;
 
 impl Play for StopsAll {
@@ -295,7 +300,8 @@ fn answer_of_new<R: Abort>(
     book.enter_own(0, node, tray)
 }
 
-/// What a second book of the same plan and world answers to an Enter with a tray to which the first one lent class C.
+/// What a second book of the same plan and world answers to an Enter with a tray to which the first
+/// one lent class C.
 fn second_answer<R: Abort>(
     rt: &R,
     alloc: Global,
@@ -309,7 +315,8 @@ fn second_answer<R: Abort>(
     answer_of_new(rt, alloc, node, &mut tray)
 }
 
-/// A tray with a node that was lent to it by another book is a stranger's for that node and for those that conflict with it.
+/// A tray with a node that was lent to it by another book is a stranger's for that node and for
+/// those that conflict with it.
 struct KnowsItsTrays;
 
 impl Check for KnowsItsTrays {

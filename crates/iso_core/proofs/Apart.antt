@@ -1,4 +1,5 @@
--- Of two entered nodes that may change one key, the one that was entered or ends last stands under the other.
+-- Of two entered nodes that may change one key, the one that was entered or ends last stands under
+-- the other.
 use Rattle.std.proofs.Common.{◌≡◌, ℕ, ◌<◌, ◌≤◌, Some, true, false, inl, inr, sym, ap, ◌∙◌, subst, arith}
 use Rattle.iso_suites.proofs.LanguageLaws.{scripts-laws}
 use Rattle.iso_suites.proofs.SuiteLaws.{chain-rights, suite-laws}

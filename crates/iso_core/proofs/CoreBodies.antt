@@ -1,4 +1,5 @@
--- The body that a Step or a Leave is about, as it was found in the list of bodies: where it is, and what the core knows there.
+-- The body that a Step or a Leave is about, as it was found in the list of bodies: where it is, and
+-- what the core knows there.
 use Rattle.std.proofs.Common.{◌≡◌, ℕ, ◌<◌, List, Option, Some, None, Bool, true, false, length, ap, ◌∙◌, arith}
 use Rattle.iso_core.proofs.CoreRefusals.{BodyTold, leave-told, step-told, told_of}
 use Rattle.iso_core.proofs.CoreRuns.{reached, unstopped}

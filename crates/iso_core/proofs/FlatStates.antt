@@ -1,4 +1,5 @@
--- The flat map of a run follows its events: an Enter, a Step, and a Leave that goes back to what was saved.
+-- The flat map of a run follows its events: an Enter, a Step, and a Leave that goes back to what
+-- was saved.
 use Rattle.std.proofs.Common.{◌≡◌, ◌⊎◌, ℕ, ◌<◌, List, [], length, set, replicate, Option, Some, None, Bool, true, false, cond, is_some, inl, inr, refl, sym, ap, ◌∙◌, subst, arith}
 use Rattle.std.proofs.lemmas.Bool.{cases_eq, cases_lt}
 use Rattle.std.proofs.lemmas.List.{get_or_past, get_or-replicate, get_or-set_other, get_or-set_same, length-replicate, length-set}

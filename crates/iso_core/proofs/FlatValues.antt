@@ -1,4 +1,5 @@
--- The values of flat maps: at declared keys, at the start, in marks, and once one has gone back to a mark.
+-- The values of flat maps: at declared keys, at the start, in marks, and once one has gone back to
+-- a mark.
 use Rattle.std.proofs.Common.{◌≡◌, ℕ, zero, suc, ◌<◌, List, [], ◌∷◌, length, get_or, Option, Some, None, Bool, true, false, ◌||◌, cond, bytes_eq, nat_eq, is_some, option_map, inl, inr, refl, sym, ap, ◌∙◌, arith, Result, Ok, Err, OnOk, OnErr}
 use Rattle.std.proofs.lemmas.Bool.{cases_eq, cases_lt}
 use Rattle.std.proofs.lemmas.List.{get_or_past}
@@ -13,7 +14,7 @@ use Rattle.iso_locks.proofs.FlatLemmas.{back, flat-undone}
 use Rattle.iso_locks.proofs.NumberLemmas.{number-spells}
 use Rattle.iso_locks.specs.Flats.{IsFlat, flat}
 use Rattle.iso_locks.specs.Slots.{Slots, slot}
-use Rattle.iso_locks.specs.Trays.{TrayView, content, has_at, has_value, is_open, kept, key_at, marked, may_write, number_below, number_of, restored, seen, seen_at, undone}
+use Rattle.iso_locks.specs.Trays.{TrayView, content, has_at, has_value, is_open, kept, key_at, marked, may_write, number_of, restored, seen, seen_at, undone}
 use Rattle.iso_model.proofs.TouchLemmas.{changed_at-kind}
 use Rattle.iso_model.specs.Keys.{file_prefix, locale_key, properties_key}
 use Rattle.iso_model.specs.Resources.{Resources, changed_at}
@@ -23,6 +24,7 @@ use Rattle.iso_model.specs.declared.resource.Change.{Change}
 use Rattle.iso_model.specs.declared.resource.Resource.{Resource}
 use Rattle.iso_plan.proofs.ColumnLemmas.{column-read, length-column}
 use Rattle.iso_plan.proofs.LawLemmas.{taken-known}
+use Rattle.iso_plan.specs.KeyNumbers.{number_below}
 use Rattle.iso_plan.specs.KeyTable.{keys}
 use Rattle.iso_plan.specs.NodeChains.{node_rights}
 use Rattle.iso_plan.specs.Paths.{IsTree}
@@ -168,7 +170,8 @@ start-by world k false false false ea eb ec = rw (ea, eb, ec) refl
 start-kind : (world : Start) (k : List ℕ) → kind_of_value (starting_value_in world k) ≡ kind_of_key k
 start-kind world k = start-by world k (bytes_eq k properties_key) (bytes_eq k locale_key) (starts_with nat_eq k file_prefix) refl refl refl
 
--- each value is of its key's kind: at the start, after a change, and once a flat map has gone back to a mark
+-- each value is of its key's kind: at the start, after a change, and once a flat map has gone back
+-- to a mark
 pub kinds-start : (t : TrayView) → flat t ≡ started t.world → AreOfKinds t
 kinds-start t is k h =
     ap (option_map kind_of_value) (content-flat t k h ∙ ap (λ (m : Resources). m k) is) ∙ ap (λ (kind : Kind). Some kind) (start-kind t.world k)

@@ -1,4 +1,5 @@
--- What the finished nodes of a core came to is theirs alone: the isolation theorem at the events that it has accepted.
+-- What the finished nodes of a core came to is theirs alone: the isolation theorem at the events
+-- that it has accepted.
 use Rattle.std.proofs.Common.{◌≡◌, ℕ, zero, suc, ◌<◌, List, [], ◌∷◌, Some, None, true, sym, ap, ◌∙◌, arith}
 use Rattle.iso_suites.proofs.AloneRuns.{class-alone, test-alone}
 use Rattle.iso_suites.proofs.LanguageLaws.{scripts-laws}

@@ -1,4 +1,5 @@
--- Where a core refuses all events by which it might go on, every node but the root is finished; and then it refuses all others.
+-- Where a core refuses all events by which it might go on, every node but the root is finished; and
+-- then it refuses all others.
 use Rattle.std.proofs.Common.{◌≡◌, ℕ, zero, suc, ◌<◌, ◌+◌, ◌==◌, ◌||◌, Option, Some, None, IfSome, option_map, Bool, true, false, true≢false, not, is_none, is_some, refl, sym, ap, ◌∙◌, subst, arith}
 use Rattle.std.proofs.lemmas.Bool.Decides.{nat_tests}
 use Rattle.iso_core.proofs.CoreRuns.{IsRun, going-on, unstopped}

@@ -1,4 +1,5 @@
--- How a core takes an event that nothing refuses, told of its parts: `seen` is what contracts see of it.
+-- How a core takes an event that nothing refuses, told of its parts: `seen` is what contracts see
+-- of it.
 use Rattle.std.proofs.Common.{◌≡◌, ℕ, ◌<◌, List, [], ◌∷◌, ◌++◌, Option, Some, None, true, false, get_or, length, set, sym, ap, ◌∙◌, subst, arith}
 use Rattle.std.proofs.lemmas.List.{get_or_default, length-set}
 use Rattle.iso_core.proofs.CoreBodies.{AreInside, BodyFound, leave-found, step-found}

@@ -27,7 +27,8 @@ use Rattle.iso_standing.specs.declared.event.Event.{Event}
 use Rattle.iso_standing.specs.declared.event.Event.TheVariants as Code
 use Rattle.iso_settings.specs.Worlds.{Start, start_code}
 
--- the plan and the world that it was made for, the number of workers, the events that it accepted, and whether it was stopped
+-- the plan and the world that it was made for, the number of workers, the events that it accepted,
+-- and whether it was stopped
 pub record CoreView : Type 0 where
   pub plan : Planned
   pub world : Start
@@ -78,7 +79,8 @@ pub record Accepted (e : Event) (old new : CoreView) : Type 0 where
   pub allowed : refusal_in old e ≡ None
   pub core : new ≡ with_event old e
 
--- an event was refused by the first kind that applies, and nothing has changed; or nothing refuses it and memory was wanted
+-- an event was refused by the first kind that applies, and nothing has changed; or nothing refuses
+-- it and memory was wanted
 pub record IsRefused (why : Option Why.Refused) (e : Event) (old new : CoreView) : Type 0 where
   pub first : refusal_in old e ≡ why
   pub same : new ≡ old
@@ -99,8 +101,9 @@ outcome_in c n = result_of (state_in c) n
 abbrev pub is_complete : CoreView → Bool
 is_complete c = Runs.is_complete (suite_in c) (state_in c)
 
--- What every core is: its events are a run of its suite; its workers have numbers of 32 bits; where its nodes and workers stand and its
--- results are those of its state, and so are its flat map and its bodies, until it is stopped.
+-- What every core is: its events are a run of its suite; its workers have numbers of 32 bits; where
+-- its nodes and workers stand and its results are those of its state, and so are its flat map and
+-- its bodies, until it is stopped.
 pub record IsCore (c : CoreView) (standing : Standing) (flat : FlatView) (bodies : List (Option Body)) (results : ResultsView) : Type 0 where
   pub run : is_run scripts (suite_in c) c.workers (first scripts (suite_in c)) (events_of c.events) ≡ true
   pub few : c.workers < 2 ^ 32

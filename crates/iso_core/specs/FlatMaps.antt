@@ -15,7 +15,8 @@ use Rattle.iso_plan.specs.RowView.{tree_of}
 use Rattle.iso_plan.specs.Tree.{Row}
 use Rattle.iso_store.specs.Histories.{History, IsEarlier}
 
--- a tray with all values; and by node the values that it may change as they stood at its Enter, while it is entered
+-- a tray with all values; and by node the values that it may change as they stood at its Enter,
+-- while it is entered
 pub record FlatView : Type 0 where
   pub tray : TrayView
   pub marks : List (Option SavepointView)
@@ -53,8 +54,8 @@ pub record WasMade (t : TrayView) (n : ℕ) (m : SavepointView) : Type 0 where
 abbrev pub ComesBefore : SavepointView → SavepointView → Type 0
 ComesBefore l m = (i : ℕ) (g h : History) → slot l.values i ≡ Some g → slot m.values i ≡ Some h → IsEarlier g h
 
--- what every flat map of a run is: it can go back to each mark, and of two nodes that saved a value of one key the lower did so
--- first
+-- what every flat map of a run is: it can go back to each mark, and of two nodes that saved a value
+-- of one key the lower did so first
 pub record IsFlatMap (v : FlatView) : Type 0 where
   pub fits : length v.marks ≡ length v.tray.plan.rows
   pub flat : IsFlat v.tray

@@ -1,4 +1,5 @@
-//! What is entered beside a node. The function does nothing: its contract is the law, and is proved.
+//! What is entered beside a node. The function does nothing: its contract is the law, and is
+//! proved.
 ghost use Rattle.std.specs.Prelude.{◌≡◌, ℕ, Some, true};
 ghost use Rattle.iso_core.specs.FlatMaps.{FlatView, IsFlatOf, IsInnermost};
 ghost use Rattle.iso_isolation.specs.Events as E;
@@ -11,8 +12,8 @@ ghost use Rattle.iso_suites.specs.SuiteStates.{RunState, IsReached, suite_at};
 use iso_plan::laws::nodes_are_a_tree;
 use iso_plan::plan::Plan;
 
-/// What is entered beside a node: where a node is entered, or its last body has ended, each other entered node that may change a
-/// key which this one may change stands above it.
+/// What is entered beside a node: where a node is entered, or its last body has ended, each other
+/// entered node that may change a key which this one may change stands above it.
 pub(crate) fn entered_nodes_are_apart(plan: &Plan)
     ensures enter { (world : Start) (v : FlatView) (s : RunState) (w n : ℕ) → IsReached plan.now world s → v.tray.plan ≡ plan.now → IsFlatOf v s.nodes
         → IsReached plan.now world (E.after scripts (suite_at plan.now world) s (E.Enter w n)) → is_waiting (s.nodes.status n) ≡ true → IsInnermost v n }

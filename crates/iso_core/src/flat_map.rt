@@ -23,8 +23,8 @@ use iso_settings::world::World;
 use std::alloc::{AllocError, Global};
 use std::marker::Model;
 
-/// The flat map of a run: a tray that has every value, and by node the values that it may change as they stood at its Enter, while it
-/// is entered. Contracts see both.
+/// The flat map of a run: a tray that has every value, and by node the values that it may change as
+/// they stood at its Enter, while it is entered. Contracts see both.
 #[derive(Drop)]
 pub(crate) struct FlatMap<'a> {
     tray: Tray<'a>,
@@ -70,7 +70,8 @@ impl<'a> FlatMap<'a> {
         Ok(FlatMap { tray, marks })
     }
 
-    /// Saves the values that a node may change, as it is entered. After want of memory nothing has changed.
+    /// Saves the values that a node may change, as it is entered. After want of memory nothing has
+    /// changed.
     pub(crate) fn enter(&mut self, alloc: Global, node: u32) -> Result<(), AllocError>
         requires inner { 0 < node }
         requires within { node < length self.old.tray.plan.rows }
@@ -85,7 +86,8 @@ impl<'a> FlatMap<'a> {
         Ok(())
     }
 
-    /// Does one step of a body that stands where its steps so far have left it. After want of memory the map may be changed in part.
+    /// Does one step of a body that stands where its steps so far have left it. After want of
+    /// memory the map may be changed in part.
     pub(crate) fn step(&mut self, body: &mut Body<'_>) -> Result<(), AllocError>
         requires under_way { is_ended (stage_of_body body.old) ≡ false }
         requires of_map { subject_of body.old ≡ subject self.old.tray.plan self.old.tray.world (subject_of body.old).node }
@@ -101,7 +103,8 @@ impl<'a> FlatMap<'a> {
         body.step(self)
     }
 
-    /// Lets the values that a node may change stand as they stood when it was entered, as it is finished. Takes no memory.
+    /// Lets the values that a node may change stand as they stood when it was entered, as it is
+    /// finished. Takes no memory.
     pub(crate) fn leave(&mut self, node: u32)
         requires within { node < length self.old.tray.plan.rows }
         requires marked { is_some (mark_at self.old.marks node) ≡ true }

@@ -1,5 +1,6 @@
-//! The core of a run, as pure code: events of several workers on one map of resources, each accepted or refused by name; and the
-//! isolation theorem, which is the contract of what it tells of finished classes and tests.
+//! The core of a run, as pure code: events of several workers on one map of resources, each
+//! accepted or refused by name; and the isolation theorem, which is the contract of what it tells
+//! of finished classes and tests.
 #![tactic(auto)]
 
 mod beside;

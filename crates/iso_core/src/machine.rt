@@ -41,10 +41,12 @@ use std::alloc::{AllocError, Global};
 use std::marker::Model;
 use std::snapshot::Snapshot;
 
-/// The core of a run: where its nodes and workers stand, all resources in one flat map, a body for each worker at most, and the results.
+/// The core of a run: where its nodes and workers stand, all resources in one flat map, a body for
+/// each worker at most, and the results.
 ///
-/// Contracts see the plan and the world that it was made for, the number of workers, the events that it has accepted, in order, and whether it
-/// was stopped. That it stands in the state that these events lead to is kept by the type.
+/// Contracts see the plan and the world that it was made for, the number of workers, the events
+/// that it has accepted, in order, and whether it was stopped. That it stands in the state that
+/// these events lead to is kept by the type.
 #[derive(Drop)]
 pub struct Core<'a> {
     alloc: Global,
@@ -109,7 +111,8 @@ fn class_count(plan: &Plan, class: u32) -> usize
     plan.chain(class).classes.len()
 }
 
-/// The frames of a class that was opened and of the classes that it stands in, outermost first; of the root there are none.
+/// The frames of a class that was opened and of the classes that it stands in, outermost first; of
+/// the root there are none.
 fn opened_frames(
     alloc: Global,
     plan: &Plan,
@@ -128,7 +131,8 @@ fn opened_frames(
     Ok(frames)
 }
 
-/// What the Leave of a body does to the flat map: the last body of a node lets the values that it may change stand as at its Enter.
+/// What the Leave of a body does to the flat map: the last body of a node lets the values that it
+/// may change stand as at its Enter.
 fn leave_values(flat: &mut FlatMap<'_>, node: u32, kind: BodyKind)
     requires within { node < length flat.old.tray.plan.rows }
     requires fits { is_kind_of kind (row_at (tree_of flat.old.tray.plan) node).kind ≡ true }
@@ -172,8 +176,8 @@ fn give_body<'a>(bodies: &mut Vec<Option<Body<'a>>>, worker: u32, body: Body<'a>
     drop(bodies[worker as usize].replace(body));
 }
 
-/// Makes room for one event more, and saves the values that a node may change, as it is entered. After want of memory nothing has
-/// changed.
+/// Makes room for one event more, and saves the values that a node may change, as it is entered.
+/// After want of memory nothing has changed.
 fn enter_values(
     alloc: Global,
     events: &mut Vec<Event>,
@@ -227,7 +231,8 @@ impl<'a> Core<'a> {
         })
     }
 
-    /// Takes an event where nothing refuses it. A refusal is of the first kind that applies. Want of memory comes last.
+    /// Takes an event where nothing refuses it. A refusal is of the first kind that applies. Want
+    /// of memory comes last.
     pub fn apply(&mut self, event: Event) -> Result<(), CoreFault>
         ensures { MatchResult result (λ _. Accepted event self.old self.new) (λ fault. NotAccepted fault event self.old self.new) }
     {
@@ -380,7 +385,8 @@ impl<'a> Core<'a> {
         self.results.get(node)
     }
 
-    /// The results of all finished nodes: those of tests and classes run alone, whatever else has run.
+    /// The results of all finished nodes: those of tests and classes run alone, whatever else has
+    /// run.
     pub fn results(&self) -> &Results<'a>
         ensures plan { result.now.plan ≡ self.now.plan }
         ensures start { result.now.start ≡ self.now.world }
@@ -438,8 +444,9 @@ impl<'a> Core<'a> {
     }
 }
 
-/// Two cores, of whatever plans, worlds, workers and events, have equal outcomes of nodes that agree on their heads, on those of the
-/// classes around them and on the starting values of the keys that these are marked with. It does nothing: its contract is the law.
+/// Two cores, of whatever plans, worlds, workers and events, have equal outcomes of nodes that
+/// agree on their heads, on those of the classes around them and on the starting values of the keys
+/// that these are marked with. It does nothing: its contract is the law.
 pub fn agreeing_nodes_have_equal_outcomes(left: &Core<'_>, right: &Core<'_>)
     ensures { AreUnaffected left.now right.now }
 {

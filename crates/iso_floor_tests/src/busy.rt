@@ -5,8 +5,9 @@ use iso_floor::busy::busy_workers;
 use std::alloc::Global;
 use std::process::Abort;
 
-/// The classes of a suite, and how many of 64 workers they keep busy at most, as counted by hand: a CONCURRENT node one, but all of them
-/// that write one key one together, and all that is on the root's thread one.
+/// The classes of a suite, and how many of 64 workers they keep busy at most, as counted by hand: a
+/// CONCURRENT node one, but all of them that write one key one together, and all that is on the
+/// root's thread one.
 static ROWS: [(&str, u32); 10] = [
     ("", 1),
     (

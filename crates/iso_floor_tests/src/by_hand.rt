@@ -1,4 +1,5 @@
-//! What a worker does by hand: it sits down, and opens a class whose `before_all` has nothing to do.
+//! What a worker does by hand: it sits down, and opens a class whose `before_all` has nothing to
+//! do.
 ghost use Rattle.std.specs.Prelude.{◌≡◌, ◌<◌, length, true};
 ghost use Rattle.iso_book.specs.Leaves.{MayBring};
 ghost use Rattle.iso_lifecycle.specs.Subjects.{is_kind_of, subject};

@@ -136,8 +136,8 @@ fn seats_on<'a, G: Ground, R: Abort + Wait>(
     seats
 }
 
-/// Has the worker of each seat work to its end, for this cause, while something is done beside them. Where a thread can't be started the
-/// test ends.
+/// Has the worker of each seat work to its end, for this cause, while something is done beside
+/// them. Where a thread can't be started the test ends.
 fn work_all<
     'a,
     G: Ground + Send + Sync,

@@ -1,4 +1,5 @@
-//! Gates at which bodies meet, are held, or rest. No call waits without end: each gives up after so many turns of a millisecond.
+//! Gates at which bodies meet, are held, or rest. No call waits without end: each gives up after so
+//! many turns of a millisecond.
 use crate::crew::Beside;
 use iso_floor::floor::Floor;
 use iso_floor::ground::Ground;
@@ -172,7 +173,8 @@ impl<C: Clock> Beside for Watcher<'_, '_, C> {
     }
 }
 
-/// Sits down as a third worker while two bodies stand in a gate, stops the floor, and then opens the gate.
+/// Sits down as a third worker while two bodies stand in a gate, stops the floor, and then opens
+/// the gate.
 #[derive(Drop)]
 pub(crate) struct Stopper<'h, 'r, C: Clock> {
     alloc: Global,

@@ -27,9 +27,10 @@ fn expect_event<R: Abort + Clock + Threads + Wait + Sync>(
     expect(rt, ran.closed.is_ok(), "a book");
 }
 
-/// One worker enters and leaves the class, and enters its first test: the third event. The body stands in the gate until the floor has told
-/// of it. A floor that books the Enter only at the Leave has nothing to tell; one that holds its Mutex from Enter to Leave doesn't let
-/// anybody ask. On both the body gives up, and is late.
+/// One worker enters and leaves the class, and enters its first test: the third event. The body
+/// stands in the gate until the floor has told of it. A floor that books the Enter only at the
+/// Leave has nothing to tell; one that holds its Mutex from Enter to Leave doesn't let anybody ask.
+/// On both the body gives up, and is late.
 #[test]
 fn enter_is_booked_before_its_body(rt: HostRuntime) {
     let crew = Crew {
@@ -39,15 +40,16 @@ fn enter_is_booked_before_its_body(rt: HostRuntime) {
     expect_event(&rt, rt.alloc(), crew, 3);
 }
 
-/// While one test stands in the gate another worker enters and leaves the other one: the fourth and fifth event. On a floor that holds its
-/// Mutex over a body nobody can, and the first one is late.
+/// While one test stands in the gate another worker enters and leaves the other one: the fourth and
+/// fifth event. On a floor that holds its Mutex over a body nobody can, and the first one is late.
 #[test]
 fn body_in_the_gate_holds_up_nobody(rt: HostRuntime) {
     expect_event(&rt, rt.alloc(), Crew::of(2), 5);
 }
 
-/// A third worker stops the floor while both tests stand in the gate: both workers end, with no Leave booked, so that the history is as long
-/// as it was, the class is unfinished, and the one receipt, of its opening, isn't lost.
+/// A third worker stops the floor while both tests stand in the gate: both workers end, with no
+/// Leave booked, so that the history is as long as it was, the class is unfinished, and the one
+/// receipt, of its opening, isn't lost.
 #[test]
 fn stop_ends_workers_whose_bodies_are_in_the_gate(rt: HostRuntime) {
     let gate = Holding::new(&rt, true);

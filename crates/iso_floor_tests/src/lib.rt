@@ -1,4 +1,5 @@
-//! Tests of floors: seats, waits that end, strangers, a floor that is stopped, and workers in threads of their own.
+//! Tests of floors: seats, waits that end, strangers, a floor that is stopped, and workers in
+//! threads of their own.
 #![tactic(auto)]
 
 #[cfg(test)]

@@ -1,4 +1,5 @@
-//! Two tests at a gate: they meet there unless they write one key, and the closing of the floor tells of all that they did.
+//! Two tests at a gate: they meet there unless they write one key, and the closing of the floor
+//! tells of all that they did.
 use crate::crew::{Crew, Nothing, run_script, run_suite};
 use crate::gates::{LONG, Meeting};
 use crate::reports::{expect_events, expect_fault, expect_report, serial_report};
@@ -12,8 +13,9 @@ use std::rt::Clock;
 use std::sync::Wait;
 use std::thread::Threads;
 
-/// Two workers run a class of two tests at a gate. The floor hands out a whole book: an Enter and a Leave of each test, an Enter, a Leave,
-/// a Shut and a Leave of the class, each Leave with its receipt; and its report is that of the serial run.
+/// Two workers run a class of two tests at a gate. The floor hands out a whole book: an Enter and a
+/// Leave of each test, an Enter, a Leave, a Shut and a Leave of the class, each Leave with its
+/// receipt; and its report is that of the serial run.
 fn expect_whole<R: Abort + Threads + Wait + Sync, T: Gate + Sync>(
     rt: &R,
     alloc: Global,
@@ -28,7 +30,8 @@ fn expect_whole<R: Abort + Threads + Wait + Sync, T: Gate + Sync>(
     expect_report(rt, &ran.closed, &serial);
 }
 
-/// Each test has a call before its statement and one after it, and at each the two wait for one another.
+/// Each test has a call before its statement and one after it, and at each the two wait for one
+/// another.
 #[test]
 fn two_tests_meet_at_each_step(rt: HostRuntime) {
     let meeting = Meeting::new(&rt, LONG);
@@ -67,8 +70,9 @@ fn expect_lost<R: Abort + Clock + Threads + Wait + Sync>(rt: &R, alloc: Global, 
     expect_fault(rt, &ran.closed, CloseFault::Lost(number));
 }
 
-/// Since the tests meet, each worker leaves one of them: each seat has a receipt, and what is first in it is the lowest that is lost. It is
-/// number 1 in the seat that opened the class, and in the other one 4 or 5, after the Enters of both tests.
+/// Since the tests meet, each worker leaves one of them: each seat has a receipt, and what is first
+/// in it is the lowest that is lost. It is number 1 in the seat that opened the class, and in the
+/// other one 4 or 5, after the Enters of both tests.
 #[test]
 fn first_receipt_of_a_seat_that_is_not_handed_in_is_lost(rt: HostRuntime) {
     expect_lost(&rt, rt.alloc(), 0);

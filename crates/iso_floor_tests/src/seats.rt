@@ -97,7 +97,8 @@ fn wait_ends_after_an_event_and_after_a_stop(rt: HostRuntime) {
     play_script(&rt, rt.alloc(), A_AND_B, 2, &WaitEnds);
 }
 
-/// A worker whose tray has a node is a stranger, also where it has booked what it did; it stops the run.
+/// A worker whose tray has a node is a stranger, also where it has booked what it did; it stops the
+/// run.
 struct LentSeat;
 
 impl Play for LentSeat {

@@ -2,7 +2,8 @@
 use std::fmt::Debug;
 use std::process::Abort;
 
-/// Asserts a fact, which is named: an assertion in a function of its own is no way out of the caller's.
+/// Asserts a fact, which is named: an assertion in a function of its own is no way out of the
+/// caller's.
 pub(crate) fn expect(rt: &impl Abort, holds: bool, of: &str) {
     assert!(rt; holds, "{of}");
 }

@@ -14,7 +14,8 @@ use std::alloc::Global;
 use std::process::Abort;
 use std::sync::Wait;
 
-/// A floor that was stopped refuses each event, hands back what a body came to, and with all seats is unfinished.
+/// A floor that was stopped refuses each event, hands back what a body came to, and with all seats
+/// is unfinished.
 struct RefuseAll;
 
 impl Play for RefuseAll {
@@ -27,8 +28,8 @@ impl Play for RefuseAll {
     }
 }
 
-/// The seat of the first worker, who has entered the class and stopped the floor. Each event is refused since, and what the Leave brought
-/// is handed back.
+/// The seat of the first worker, who has entered the class and stopped the floor. Each event is
+/// refused since, and what the Leave brought is handed back.
 fn stopped_seat<'a, G: Ground, R: Abort + Wait>(
     rt: &R,
     alloc: Global,

@@ -40,7 +40,8 @@ pub(crate) const READERS: &str = "team shop
 class C { read \"file:a\" test a { } read \"file:a\" test b { } }
 ";
 
-/// A test that is held up by a class, and one after it that is held up by another, whose own test is left in a deque then.
+/// A test that is held up by a class, and one after it that is held up by another, whose own test
+/// is left in a deque then.
 pub(crate) const HELD_UP: &str = "team shop
 read \"K\" class C { test c { } }
 read \"L\" class D { test d { } }
@@ -50,8 +51,9 @@ class A { same_thread write \"K\" test e { } same_thread write \"L\" test f { } 
 /// How many teams the contended suite has.
 const TEAMS: u32 = 6;
 
-/// The classes of each of its teams. One writes a key that all teams write, and sees the file as the run began; one reads it; one takes no
-/// key, so that its tests and those of the class in it are for all workers but two, which are for its owner; and one doesn't open.
+/// The classes of each of its teams. One writes a key that all teams write, and sees the file as
+/// the run began; one reads it; one takes no key, so that its tests and those of the class in it
+/// are for all workers but two, which are for its owner; and one doesn't open.
 const CLASSES: &str = "write \"file:a\" class Writer {
   before_all { append_file \"a\", \"+\"; }
   after_all { print file(\"a\"); }

@@ -1,4 +1,5 @@
--- Commands that GitHub reads in the output of a workflow's step (GitHub Docs, workflow commands for GitHub Actions).
+-- Commands that GitHub reads in the output of a workflow's step (GitHub Docs, workflow commands for
+-- GitHub Actions).
 use Rattle.std.specs.Prelude.{ℕ, List, [], ◌∷◌, ◌==◌, cond, codes, flat_map}
 use Rattle.std.specs.Fmt.{decimal}
 use Rattle.iso_junit.specs.Texts.{joined}

@@ -9,7 +9,8 @@ use Rattle.iso_plan.specs.PathTexts.{path_text}
 use Rattle.iso_plan.specs.Tree.{Row}
 use Rattle.iso_github.specs.Commands.{error_line}
 
--- what is told of a node with this path: the message of a fail or a fault, with the line of what ended it
+-- what is told of a node with this path: the message of a fail or a fault, with the line of what
+-- ended it
 abbrev pub error_of : (path : List ℕ) → PlacedView → Verdict → List ℕ
 error_of path at Pass = []
 error_of path at (Fail note) = error_line at.file at.ended path note.message

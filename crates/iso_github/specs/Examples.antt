@@ -22,8 +22,8 @@ says message = record { message = codes message; place = Row B.Test 1 }
 abbrev pub in_cart : (line ended : ℕ) → PlacedView
 in_cart line ended = record { file = codes "cart.jtap"; line = line; ended = ended }
 
--- What the root and Cart, a, Till, b, Drawer, c, d, Desk, e, f came to: the class Cart failed by itself, and so did Till in it, by a fault,
--- which blocks b and c; d failed; e and f were skipped.
+-- What the root and Cart, a, Till, b, Drawer, c, d, Desk, e, f came to: the class Cart failed by
+-- itself, and so did Till in it, by a fault, which blocks b and c; d failed; e and f were skipped.
 abbrev verdicts : List Verdict
 verdicts =
     Pass

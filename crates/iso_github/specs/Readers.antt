@@ -29,8 +29,8 @@ abbrev pub with_byte : Option ℕ → Option (List ℕ) → Option (List ℕ)
 with_byte None text = None
 with_byte (Some b) text = option_map (λ bs. b ∷ bs) text
 
--- The text that bytes are from there on, where these bytes would end it. With one of them in it, or a percent sign without two digits that
--- stand for a byte, it is none.
+-- The text that bytes are from there on, where these bytes would end it. With one of them in it, or
+-- a percent sign without two digits that stand for a byte, it is none.
 abbrev pub read_from : (ends : ℕ → Bool) → Reading → List ℕ → Option (List ℕ)
 read_from ends in_text [] = Some []
 read_from ends behind_percent [] = None

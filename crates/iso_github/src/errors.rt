@@ -18,9 +18,10 @@ use iso_tap::fault::TapFault;
 use iso_tap::printer::Printer;
 use iso_tap::sink::{Sink, SinkFailed};
 
-/// Writes an error for each test and each class that failed by itself, in the order in which they are written: its path, the message, and
-/// the line of what ended it. Nothing is told of what is blocked. All nodes but the root must have results. Each node, the root too, has
-/// its place at its number. Takes no memory.
+/// Writes an error for each test and each class that failed by itself, in the order in which they
+/// are written: its path, the message, and the line of what ended it. Nothing is told of what is
+/// blocked. All nodes but the root must have results. Each node, the root too, has its place at its
+/// number. Takes no memory.
 ///
 /// The sink is asked again where it takes only some bytes, and no more once it has failed.
 pub fn write_errors<W: Sink>(

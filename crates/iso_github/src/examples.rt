@@ -6,7 +6,8 @@ ghost use Rattle.iso_github.specs.Errors.{errors_text};
 ghost use Rattle.iso_github.specs.Examples.{outcome_of, places, text_of};
 ghost use Rattle.iso_github.specs.Readers.{message_of, property_of};
 
-/// A percent sign and the ends of lines are escaped, in properties colons and commas too, and all else stands as it is.
+/// A percent sign and the ends of lines are escaped, in properties colons and commas too, and all
+/// else stands as it is.
 pub fn texts_are_escaped()
     ensures message { in_message (codes "50%: a,b\nc" ++ 13 ∷ []) ≡ codes "50%25: a,b%0Ac%0D" }
     ensures property { in_property (codes "50%: a,b\nc" ++ 13 ∷ []) ≡ codes "50%25%3A a%2Cb%0Ac%0D" }
@@ -35,7 +36,8 @@ pub fn refused_script_is_an_error()
     ensures { refusal_line (codes "cart.jtap") 3 7 (codes "BadToken") ≡ codes "::error file=cart.jtap,line=3,col=7,title=jtap::BadToken\n" }
 {}
 
-/// Tests and classes that failed by themselves are told in their order, and none that is blocked, was skipped or passed.
+/// Tests and classes that failed by themselves are told in their order, and none that is blocked,
+/// was skipped or passed.
 pub fn failures_are_told_in_their_order()
     ensures told { errors_text till_in_cart outcome_of places
         ≡ text_of

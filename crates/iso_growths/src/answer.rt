@@ -27,7 +27,8 @@ pub(crate) fn expect(holds: bool, wrong: &'static str) -> Result<(), Answer> {
     }
 }
 
-/// What came of a call that was refused memory: out of memory, where what stands is as it should be.
+/// What came of a call that was refused memory: out of memory, where what stands is as it should
+/// be.
 pub(crate) fn out_of_memory(stands: bool, wrong: &'static str) -> Answer {
     if stands {
         Answer::OutOfMemory

@@ -1,4 +1,5 @@
-//! Calls that are told of on standard error, so that what stands outside knows which growths are theirs.
+//! Calls that are told of on standard error, so that what stands outside knows which growths are
+//! theirs.
 use crate::host::Host;
 use std::alloc::Global;
 

@@ -63,7 +63,8 @@ fn name_of(event: Event) -> &'static str {
     }
 }
 
-/// Takes events in turn. After one that was refused memory the core takes it and all after it, but for a step, after which it is stopped.
+/// Takes events in turn. After one that was refused memory the core takes it and all after it, but
+/// for a step, after which it is stopped.
 fn take_in_turn<H: Host>(
     calls: &Calls<'_, H>,
     core: &mut Core<'_>,

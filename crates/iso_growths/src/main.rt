@@ -1,6 +1,6 @@
-//! Makes public calls that take memory, or promise to take none, and tells what they answered and whether what stands after them is as it
-//! should be. It tells on standard error where the call that is named by its word begins and ends, for `tests/growths`, which refuses growths
-//! between.
+//! Makes public calls that take memory, or promise to take none, and tells what they answered and
+//! whether what stands after them is as it should be. It tells on standard error where the call
+//! that is named by its word begins and ends, for `tests/growths`, which refuses growths between.
 #![tactic(auto)]
 
 mod answer;
@@ -27,7 +27,7 @@ use std::env::{self, Env};
 use std::io;
 
 /// The calls that the program makes, by their names.
-static NAMES: [&str; 51] = [
+static NAMES: [&str; 53] = [
     "read_settings",
     "read_script",
     "build",
@@ -42,6 +42,8 @@ static NAMES: [&str; 51] = [
     "Results::new",
     "run_events",
     "Held::apply",
+    "Held::mark",
+    "HeldNodes::new",
     "Tray::new",
     "Tray::mark",
     "Vault::new",

@@ -1,6 +1,7 @@
 //! The suite that the calls are made on.
 
-/// Classes with every kind of resource, blocks of every kind, every verdict, and one that is disabled.
+/// Classes with every kind of resource, blocks of every kind, every verdict, and one that is
+/// disabled.
 pub(crate) const SCRIPT: &[u8] = b"team shop
 write \"java.util.Locale.default\" write \"java.lang.System.properties\"
 class Prices \"prices #1\" {

@@ -7,6 +7,7 @@ use crate::host::Host;
 use iso_locks::laws::lent_nodes_may_be_taken_back;
 use iso_locks::tray::Tray;
 use iso_locks::vault::Vault;
+use iso_plan::held_nodes::HeldNodes;
 use iso_plan::plan::Plan;
 use iso_settings::world::{World, read_world};
 use std::alloc::Global;
@@ -18,14 +19,28 @@ pub(crate) fn lend<H: Host>(
     world: &World,
 ) -> Result<(), Answer> {
     over_worlds(calls, plan)?;
+    hold_class(calls, plan)?;
     calls.begin("Tray::new");
     let made = Tray::new(calls.alloc(), plan, world);
     calls.end("Tray::new");
     with_tray(calls, plan, world, &mut made?)
 }
 
-/// The names by which trays are made over worlds, and how many properties each world has. `tests/refuse-calls` counts that a tray takes as
-/// many growths over each.
+/// Counts the first class among the held nodes of a plan.
+fn hold_class<H: Host>(calls: &Calls<'_, H>, plan: &Plan) -> Result<(), Answer> {
+    if plan.len() < 2 {
+        return Err(Answer::Wrong("no class"));
+    }
+    calls.begin("HeldNodes::new");
+    let made = HeldNodes::new(calls.alloc(), plan);
+    calls.end("HeldNodes::new");
+    let mut held = made?;
+    held.hold(1);
+    expect(held.is_held(1), "the class isn't held")
+}
+
+/// The names by which trays are made over worlds, and how many properties each world has.
+/// `tests/refuse-calls` counts that a tray takes as many growths over each.
 static WORLDS: [(&str, u32); 2] = [
     ("Tray::new over an empty world", 0),
     ("Tray::new over 1,000 properties", 1_000),

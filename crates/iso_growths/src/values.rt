@@ -1,4 +1,5 @@
 //! Values that change and go back.
+ghost use Rattle.std.specs.Prelude.{◌≡◌, IfOk};
 ghost use Rattle.iso_store.specs.Histories.{IsEarlier};
 
 use crate::answer::{Answer, expect, out_of_memory};
@@ -169,15 +170,26 @@ fn apply_rows<H: Host>(
     Ok(())
 }
 
-/// Changes a value by each row, and goes back to where it was.
+/// Marks where a value is.
+fn marked<H: Host>(calls: &Calls<'_, H>, held: &Held) -> Result<Savepoint, Answer>
+    ensures { IfOk result (λ m. m ≡ held.now) }
+{
+    calls.begin("Held::mark");
+    let marked = held.mark();
+    calls.end("Held::mark");
+    Ok(marked?)
+}
+
+/// Changes a value by each row, marks where it is then, and goes back to where it was.
 fn change_and_go_back<H: Host>(
     calls: &Calls<'_, H>,
     held: &mut Held,
     first: Looks,
     rows: &[Row],
 ) -> Result<(), Answer> {
-    let mark = held.mark();
+    let mark = marked(calls, held)?;
     apply_rows(calls, held, first, rows)?;
+    let _changed = marked(calls, held)?;
     calls.begin("Held::undo_to");
     held.undo_to(mark);
     calls.end("Held::undo_to");

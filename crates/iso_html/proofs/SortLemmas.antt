@@ -1,4 +1,5 @@
--- What a sort of entries leaves is the only order in which they are listed, as in `iso_durations`, whose entries are its own.
+-- What a sort of entries leaves is the only order in which they are listed, as in `iso_durations`,
+-- whose entries are its own.
 use Rattle.std.proofs.Common.{◌≡◌, ◌<◌, ◌≤◌, ℕ, suc, ◌+◌, List, [], ◌∷◌, length, get_or, map, Bool, false, ◌||◌, nat_lt, refl, sym, ap, ◌&&◌, ap₂, ◌∙◌, subst, arith}
 use Rattle.std.proofs.Common.{is_lt, nat_cmp}
 use Rattle.std.proofs.lemmas.Bool.Decides.{nat_tests}

@@ -69,7 +69,8 @@ taken_mark s a = record { bar = record { node = s.node; look = taking_look a; cr
 abbrev pub lock_marks : (key : ℕ) → Stay → Lock → List Mark
 lock_marks key s l = cond (l.key == key) (taken_mark s l.access ∷ []) []
 
--- of a node with these locks, where it was entered; the law `nodes_take_a_key_once` says that no key stands twice among them
+-- of a node with these locks, where it was entered; the law `nodes_take_a_key_once` says that no
+-- key stands twice among them
 abbrev pub stay_marks : (key : ℕ) → List Lock → Option Stay → List Mark
 stay_marks key ls None = []
 stay_marks key ls (Some s) = flat_map (lock_marks key s) ls

@@ -24,6 +24,7 @@ had node begin end = taken_mark (record { node = node; begin = begin; end = end 
 abbrev pub several : (count first begin end : ℕ) → Group
 several count first begin end = record { count = count; first = first; look = Writing; critical = false; begin = begin; end = end }
 
--- a key that two nodes take for READ_WRITE, which were entered for 5 ns together, and that one of them waited for, for 3 ns
+-- a key that two nodes take for READ_WRITE, which were entered for 5 ns together, and that one of
+-- them waited for, for 3 ns
 abbrev pub taken_by_two : Usage
 taken_by_two = record { readers = 0; writers = 2; held = 5; waits = 1; waited = 3 }

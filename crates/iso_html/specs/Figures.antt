@@ -13,7 +13,8 @@ abbrev pub best_text : Option Best → List ℕ
 best_text None = []
 best_text (Some b) = joined (codes "<li><b>" ∷ tenths b.tenths ∷ codes " times</b> at best</li>\n" ∷ [])
 
--- the workers, the time from the first begin until the last end, and which part of it they were busy
+-- the workers, the time from the first begin until the last end, and which part of it they were
+-- busy
 abbrev pub workers_text : Figures → List ℕ
 workers_text f =
     joined

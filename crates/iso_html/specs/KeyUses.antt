@@ -37,7 +37,8 @@ with_taker Write time u = record { readers = u.readers; writers = plus u.writers
 abbrev pub with_lock : (key time : ℕ) → Usage → Lock → Usage
 with_lock key time u l = cond (l.key == key) (with_taker l.access time u) u
 
--- how the nodes with a number below n took it; the law `nodes_take_a_key_once` says that no key stands twice among the locks of a node
+-- how the nodes with a number below n took it; the law `nodes_take_a_key_once` says that no key
+-- stands twice among the locks of a node
 abbrev pub usage_below : List Row → List (Option BodyTime) → (key : ℕ) → ℕ → Usage
 usage_below tree bodies key zero = no_usage
 usage_below tree bodies key (suc n) = fold (with_lock key (stay_time (stayed bodies n))) (usage_below tree bodies key n) (locks tree n)
@@ -50,8 +51,8 @@ with_wait time u = record { readers = u.readers; writers = u.writers; held = u.h
 abbrev pub with_wait_for : (key : ℕ) → Usage → NodeWait → Usage
 with_wait_for key u w = cond (w.key == key) (with_wait w.time u) u
 
--- how a key was used: how many nodes take it for READ and for READ_WRITE, how long they were entered, added up, and how many nodes waited
--- for it and how long, added up
+-- how a key was used: how many nodes take it for READ and for READ_WRITE, how long they were
+-- entered, added up, and how many nodes waited for it and how long, added up
 abbrev pub usage_of : List Row → List (Option BodyTime) → List NodeWait → (key : ℕ) → Usage
 usage_of tree bodies waits key = fold (with_wait_for key) (usage_below tree bodies key (length tree)) waits
 

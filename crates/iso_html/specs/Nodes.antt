@@ -53,7 +53,8 @@ place_text path at =
     ∷ codes "</code></p>\n"
     ∷ [])
 
--- The beginning of what went wrong in a node: its sign and its path, which leads to the node in the tree, and the place of what ended it with the message.
+-- The beginning of what went wrong in a node: its sign and its path, which leads to the node in the
+-- tree, and the place of what ended it with the message.
 abbrev pub wrong_head : (sign path message : List ℕ) → (n : ℕ) → PlacedView → List ℕ
 wrong_head sign path message n at =
     joined
@@ -76,8 +77,8 @@ wrong_head sign path message n at =
 abbrev pub blocks_text : ℕ → List ℕ
 blocks_text n = cond (n == 0) [] (joined (codes "<p>blocks " ∷ decimal n ∷ word_for n (codes " test</p>\n") (codes " tests</p>\n") ∷ []))
 
--- What went wrong in a node: that, the lines of the script there, how many tests it blocks, what it printed, and the command that runs it
--- again.
+-- What went wrong in a node: that, the lines of the script there, how many tests it blocks, what it
+-- printed, and the command that runs it again.
 abbrev pub entry_text : Verdict → (path message : List ℕ) → (n : ℕ) → PlacedView → (lines : List LineView) → (blocked : ℕ) → (output : List (List ℕ)) → (again : List ℕ) → List ℕ
 entry_text verdict path message n at lines blocked output again =
     wrong_head (sign false verdict) path message n at

@@ -21,7 +21,8 @@ use Rattle.iso_html.specs.Trees.{tree_text}
 abbrev pub wrong_heading : Counts → List ℕ
 wrong_heading c = cond (c.not_ok == 0 && c.classes_not_ok == 0) [] (codes "<h2>What went wrong</h2>\n")
 
--- what went wrong in a node, with the lines that are shown of its script, and the command that runs it again
+-- what went wrong in a node, with the lines that are shown of its script, and the command that runs
+-- it again
 abbrev pub failure_text : RunView → List (List LineView) → CommandsView → ℕ → List ℕ
 failure_text r quotes commands n =
     wrong_text (r.outcome n).verdict (path_text r.tree n) n (place r n) (quoted quotes n) (blocked_by r.tree r.outcome n) (r.outcome n).output

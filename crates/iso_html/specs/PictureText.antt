@@ -77,7 +77,8 @@ word_text r n = cond (is_none r.tree n) [] (verdict_word (r.outcome n).verdict)
 abbrev pub more : ℕ → List ℕ
 more n = cond (n == 1) [] (codes ", ..")
 
--- the title of a body: its path, what its node came to, whether it is critical, and when it began and ended
+-- the title of a body: its path, what its node came to, whether it is critical, and when it began
+-- and ended
 abbrev pub body_title : RunView → Bar → BodyKind → List ℕ
 body_title r b kind =
     joined

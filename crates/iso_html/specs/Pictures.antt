@@ -1,4 +1,5 @@
--- The picture of a run: a lane for each worker with the bars of its bodies, and a row for each key that was waited for with those who had it.
+-- The picture of a run: a lane for each worker with the bars of its bodies, and a row for each key
+-- that was waited for with those who had it.
 use Rattle.std.specs.Prelude.{ℕ, zero, suc, List, [], ◌∷◌, ◌++◌, Option, ◌==◌, cond, flat_map, length, slice_index_or}
 use Rattle.std.specs.List.{fold}
 use Rattle.iso_critical.specs.declared.body.Body.{Body}
@@ -60,7 +61,8 @@ keys_below takers usages pixels span zero = []
 keys_below takers usages pixels span (suc k) =
     keys_below takers usages pixels span k ++ key_shapes pixels span k (usage_at usages k) (slice_index_or takers k [])
 
--- the whole picture: the bodies by their workers, with those that are critical, and the nodes by the keys that they took
+-- the whole picture: the bodies by their workers, with those that are critical, and the nodes by
+-- the keys that they took
 abbrev pub picture : RunView → List (Option BodyTime) → (critical : List Body) → List Usage → (pixels span workers : ℕ) → List Shape
 picture r bodies critical usages pixels span workers =
     labels_below workers

@@ -1,4 +1,5 @@
--- What the page tells of what was measured: the picture of the run, the locks, and the slowest tests and classes.
+-- What the page tells of what was measured: the picture of the run, the locks, and the slowest
+-- tests and classes.
 use Rattle.std.specs.Prelude.{ℕ, ◌/◌, List, [], ◌∷◌, Option, Some, None, Bool, cond, codes, flat_map, length}
 use Rattle.std.specs.Fmt.{decimal}
 use Rattle.std.specs.List.{range_with_len}
@@ -34,7 +35,8 @@ abbrev pub locks_heading : List ℕ
 locks_heading =
     codes "<h2>Locks</h2>\n<div class=\"wide\">\n<table>\n<thead><tr><th scope=\"col\">key</th><th scope=\"col\" class=\"n\">readers</th><th scope=\"col\" class=\"n\">writers</th><th scope=\"col\" class=\"n\">held</th><th scope=\"col\" class=\"n\">waited for</th></tr></thead>\n<tbody>\n"
 
--- the line of a key: how many nodes take it, how long they were entered, and how long it was waited for
+-- the line of a key: how many nodes take it, how long they were entered, and how long it was waited
+-- for
 abbrev pub key_line : List Row → (key : ℕ) → Usage → List ℕ
 key_line tree key u =
     joined

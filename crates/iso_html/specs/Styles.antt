@@ -1,4 +1,5 @@
--- How the page looks (CSS). The page has no other style: its policy allows this one alone, by its SHA-256.
+-- How the page looks (CSS). The page has no other style: its policy allows this one alone, by its
+-- SHA-256.
 use Rattle.std.specs.Prelude.{ℕ, List, [], ◌∷◌, codes}
 use Rattle.iso_junit.specs.Texts.{joined}
 

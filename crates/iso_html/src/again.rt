@@ -4,16 +4,16 @@ ghost use Rattle.std.specs.Option.{option_map};
 ghost use Rattle.iso_html.specs.Commands.{again_text, command_text, commands_of, script_at, script_text};
 ghost use Rattle.iso_junit.specs.Runs.{placed_of};
 ghost use Rattle.iso_plan.specs.RowView.{tree_of};
-ghost use Rattle.iso_summary.specs.Entries.{can_be_told, given_has_control};
+ghost use Rattle.iso_summary.specs.Entries.{can_be_told, given_has_unseen};
 ghost use Rattle.iso_summary.specs.Views.{again_of};
 ghost use Rattle.iso_tap.specs.Printers.{Prints};
 
 use crate::part::Part;
-use crate::word::has_control;
 use crate::writing::write_parts;
 use iso_junit::placed::Placed;
 use iso_plan::plan::Plan;
 use iso_summary::again::Again;
+use iso_summary::unseen::has_unseen;
 use iso_tap::printer::Printer;
 use iso_tap::sink::{Sink, SinkFailed};
 
@@ -90,22 +90,23 @@ fn script<W: Sink>(printer: &mut Printer<'_, W>, plan: &Plan, file: &str) -> Res
     )
 }
 
-/// Whether the command can be told: the script is a file, and no word has a control character.
+/// Whether the command can be told: the script is a file, and no word has a character that no
+/// reader sees.
 fn can_be_told(at: &Placed<'_>, commands: &Commands<'_>) -> bool
     ensures { result ≡ can_be_told (again_of commands.now.again) (script_at commands.now.named (placed_of at.now)) }
 {
     commands.named
-        && !has_control(at.file)
-        && !given_has_control(commands.again.settings)
-        && !given_has_control(commands.again.world)
+        && !has_unseen(at.file)
+        && !given_has_unseen(commands.again.settings)
+        && !given_has_unseen(commands.again.world)
 }
 
-/// Whether a word was given and has a control character.
-fn given_has_control(word: Option<&str>) -> bool
-    ensures { result ≡ given_has_control (option_map (λ w. w.now) word.entry) }
+/// Whether a word was given and has a character that no reader sees.
+fn given_has_unseen(word: Option<&str>) -> bool
+    ensures { result ≡ given_has_unseen (option_map (λ w. w.now) word.entry) }
 {
     match word {
-        Some(word) => has_control(word),
+        Some(word) => has_unseen(word),
         None => false,
     }
 }

@@ -40,7 +40,8 @@ pub fn failed_test_is_open()
         ∷ []) }
 {}
 
-/// What went wrong is told with the place of what ended it and the command that runs it again, and leads to the node in the tree.
+/// What went wrong is told with the place of what ended it and the command that runs it again, and
+/// leads to the node in the tree.
 pub fn failed_test_has_an_entry()
     ensures { failure_text cart_run [] of_files 7 ≡ text_of
         ("<article>"
@@ -54,7 +55,8 @@ pub fn failed_test_has_an_entry()
         ∷ []) }
 {}
 
-/// A class whose own blocks ended by a fault tells how many tests it blocks. Of a script from standard input no command is told.
+/// A class whose own blocks ended by a fault tells how many tests it blocks. Of a script from
+/// standard input no command is told.
 pub fn fault_of_a_class_has_an_entry()
     ensures { failure_text cart_run [] of_input 3
         ≡ text_of
@@ -99,7 +101,8 @@ pub fn skipped_tests_have_their_reason()
         ∷ []) }
 {}
 
-/// Behind the mode of a node stand its locks by key, and whether it reads or writes. What stands in a node that writes is on its thread.
+/// Behind the mode of a node stand its locks by key, and whether it reads or writes. What stands in
+/// a node that writes is on its thread.
 pub fn locks_stand_behind_the_mode()
     ensures class { mode_text cart_and_desk concurrent_by_default 1
         ≡ text_of ("<p>concurrent, reads <code>iso:global</code>, writes <code>K</code></p>" ∷ []) }
@@ -118,7 +121,8 @@ pub fn empty_run_has_an_empty_page()
         ∷ []) }
 {}
 
-/// Of the lines of a script the one that ended a block is marked, and what isn't printable ASCII is told by a question mark.
+/// Of the lines of a script the one that ended a block is marked, and what isn't printable ASCII is
+/// told by a question mark.
 pub fn line_that_ended_a_block_is_marked()
     ensures some { quote_text 11 (record {
       number = 10;
@@ -131,7 +135,8 @@ pub fn line_that_ended_a_block_is_marked()
     ensures none { quote_text 11 [] ≡ [] }
 {}
 
-/// Who had a key: the nodes that take it, in their order, from when they were entered until they had finished. One waited for the other.
+/// Who had a key: the nodes that take it, in their order, from when they were entered until they
+/// had finished. One waited for the other.
 pub fn takers_of_a_key_had_it()
     ensures takers { key_marks writing_children b_before_a 1 ≡ had 2 7 9 ∷ had 3 3 6 ∷ [] }
     ensures usage { usage_of writing_children b_before_a (wait_for_b ∷ []) 1 ≡ taken_by_two }
@@ -149,7 +154,8 @@ pub fn critical_bodies_are_marked()
         ∷ []) }
 {}
 
-/// In a row, here of two pixels, a bar as wide as a pixel stands by itself, and thinner ones are one bar for each pixel in which they begin.
+/// In a row, here of two pixels, a bar as wide as a pixel stands by itself, and thinner ones are
+/// one bar for each pixel in which they begin.
 pub fn thin_bars_of_a_pixel_are_one()
     ensures { row_shapes 2 100000 5 (had 1 0 50 ∷ had 2 150 180 ∷ had 3 20 90 ∷ had 4 20 120 ∷ [])
         ≡ One 5 (had 4 20 120) ∷ Several 5 0 (several 2 1 0 90) ∷ Several 5 1 (several 1 2 150 180) ∷ [] }

@@ -30,7 +30,8 @@ pub(crate) fn figures<W: Sink>(
     }
 }
 
-/// Writes the workers, the time from the first begin until the last end, and which part of it they were busy.
+/// Writes the workers, the time from the first begin until the last end, and which part of it they
+/// were busy.
 fn workers<W: Sink>(
     printer: &mut Printer<'_, W>,
     plan: &Plan,

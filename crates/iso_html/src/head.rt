@@ -32,7 +32,8 @@ pub(crate) fn head<W: Sink>(
     figures(printer, plan, counts, measured)
 }
 
-/// Writes the first lines: no script and nothing from elsewhere is allowed, and as style the one below alone, by its SHA-256.
+/// Writes the first lines: no script and nothing from elsewhere is allowed, and as style the one
+/// below alone, by its SHA-256.
 fn first_lines<W: Sink>(printer: &mut Printer<'_, W>) -> Result<(), SinkFailed>
     ensures { Prints printer.old printer.new first_lines result }
 {

@@ -18,12 +18,14 @@ pub fn pages_go_down_the_tree()
         → node_text r settings n ≡ opening_text r settings n ++ inside_text r (node_text r settings) n ++ codes "</details></li>\n" }
 {}
 
-/// No byte of a text begins or ends a tag or a quoted attribute where the text stands escaped, whatever bytes it has.
+/// No byte of a text begins or ends a tag or a quoted attribute where the text stands escaped,
+/// whatever bytes it has.
 pub fn texts_are_no_markup()
     ensures { (text : List ℕ) → list_all is_no_markup (escaped text) ≡ true }
 {}
 
-/// A node that takes a key has one lock on it, as it takes it, and another none: so it stands once in the key's row, and is counted once.
+/// A node that takes a key has one lock on it, as it takes it, and another none: so it stands once
+/// in the key's row, and is counted once.
 pub fn nodes_take_a_key_once()
     ensures { (tree : List Row) (key n : ℕ) → key < length (keys tree)
         → locks_on key (locks tree n) ≡ lock_of key (taken tree n (slice_index_or (keys tree) key [])) }

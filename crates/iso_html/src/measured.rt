@@ -19,7 +19,8 @@ use std::marker::Model;
 /// How many pixels wide the picture is.
 const PIXELS: u32 = 1_000;
 
-/// What the page shows of what was measured of a run: its figures, how its keys were used, the picture of it, and the slowest of its nodes.
+/// What the page shows of what was measured of a run: its figures, how its keys were used, the
+/// picture of it, and the slowest of its nodes.
 #[derive(Drop)]
 pub struct Measured<'a> {
     figures: &'a Figures,
@@ -42,8 +43,8 @@ impl<'a> Model for Measured<'a> {
 }
 
 impl<'a> Measured<'a> {
-    /// Of a run whose bodies had these times, whose figures these are, whose nodes had these waits and whose critical bodies are these. All nodes but the root must have
-    /// results.
+    /// Of a run whose bodies had these times, whose figures these are, whose nodes had these waits
+    /// and whose critical bodies are these. All nodes but the root must have results.
     pub fn new(
         alloc: Global,
         run: &Run<'_, '_>,

@@ -202,8 +202,8 @@ pub(crate) fn wrong<W: Sink>(
     }
 }
 
-/// Writes what went wrong in a node, the lines of the script there, how many tests it blocks, what it printed, and the command that runs it
-/// again.
+/// Writes what went wrong in a node, the lines of the script there, how many tests it blocks, what
+/// it printed, and the command that runs it again.
 fn entry<'x, W: Sink>(
     printer: &mut Printer<'_, W>,
     verdict: ViewVerdict<'_>,

@@ -32,11 +32,13 @@ use iso_tap::ok::all_ok;
 use iso_tap::printer::Printer;
 use iso_tap::sink::{Sink, SinkFailed};
 
-/// Writes results as a page of HTML: how many tests came to what, what went wrong with its place, its message and what was printed, and
-/// the tree of classes and tests, in which those are open that aren't ok. It needs no script, fetches nothing, and says so in its policy.
-/// All nodes but the root must have results. Each node, the root too, has its place at its number. So have times, in microseconds: what
-/// isn't there wasn't measured. So has each node the lines that are shown of its script where something went wrong in it: they can be none.
-/// The commands that run again what went wrong are told where they can be, and what was measured where it was. Takes no memory.
+/// Writes results as a page of HTML: how many tests came to what, what went wrong with its place,
+/// its message and what was printed, and the tree of classes and tests, in which those are open
+/// that aren't ok. It needs no script, fetches nothing, and says so in its policy. All nodes but
+/// the root must have results. Each node, the root too, has its place at its number. So have times,
+/// in microseconds: what isn't there wasn't measured. So has each node the lines that are shown of
+/// its script where something went wrong in it: they can be none. The commands that run again what
+/// went wrong are told where they can be, and what was measured where it was. Takes no memory.
 ///
 /// The sink is asked again where it takes only some bytes, and no more once it has failed.
 pub fn write_html<W: Sink>(

@@ -16,7 +16,8 @@ use iso_junit::run::Run;
 use iso_times::times::Times;
 use std::alloc::{AllocError, Global};
 
-/// The picture of a run that took so long, on so many workers, so many pixels wide, whose critical bodies are these.
+/// The picture of a run that took so long, on so many workers, so many pixels wide, whose critical
+/// bodies are these.
 pub(crate) fn picture(
     alloc: Global,
     run: &Run<'_, '_>,

@@ -3,7 +3,8 @@
 use iso_lifecycle::kind::BodyKind;
 use iso_model::access::Access;
 
-/// How a bar looks: of a body of a node that failed or of another, or of a node that took a key for READ or for READ_WRITE.
+/// How a bar looks: of a body of a node that failed or of another, or of a node that took a key for
+/// READ or for READ_WRITE.
 #[derive(Clone, Copy)]
 pub enum Look {
     Well,
@@ -12,8 +13,8 @@ pub enum Look {
     Writing,
 }
 
-/// A bar: what a node did, which is critical or not, or that it had a key, from a moment until another, in nanoseconds from the first
-/// begin.
+/// A bar: what a node did, which is critical or not, or that it had a key, from a moment until
+/// another, in nanoseconds from the first begin.
 #[derive(Clone, Copy)]
 pub struct Bar {
     pub node: u32,
@@ -38,7 +39,8 @@ pub struct Mark {
     pub what: What,
 }
 
-/// Bars that are drawn as one: how many, the node of the first, whether one is critical, and from the earliest begin until the latest end.
+/// Bars that are drawn as one: how many, the node of the first, whether one is critical, and from
+/// the earliest begin until the latest end.
 #[derive(Clone, Copy)]
 pub struct Group {
     pub count: u64,

@@ -17,7 +17,8 @@ pub struct Timed {
     pub node: u32,
 }
 
-/// The ten slowest of those that were measured, slowest first, and of those that took as long the first.
+/// The ten slowest of those that were measured, slowest first, and of those that took as long the
+/// first.
 pub(crate) fn slowest(
     alloc: Global,
     plan: &Plan,

@@ -15,8 +15,8 @@ use iso_waits::stay::stayed;
 use iso_waits::wait::NodeWait;
 use std::alloc::{AllocError, Global};
 
-/// How a key was used: how many nodes take it for READ and for READ_WRITE, how many nanoseconds they were entered, added up, how many nodes
-/// waited for it, and how many nanoseconds, added up.
+/// How a key was used: how many nodes take it for READ and for READ_WRITE, how many nanoseconds
+/// they were entered, added up, how many nodes waited for it, and how many nanoseconds, added up.
 #[derive(Clone, Copy)]
 pub struct Usage {
     pub readers: u64,

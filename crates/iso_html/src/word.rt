@@ -1,7 +1,7 @@
 //! Words of a command as a shell reads them, as they stand on the page.
 ghost use Rattle.std.specs.Prelude.{◌≡◌, flat_map};
 ghost use Rattle.iso_junit.specs.Escapes.{escaped};
-ghost use Rattle.iso_summary.specs.Words.{file_word, folder, has_control, in_quotes, is_plain, is_plain_word, shell_word};
+ghost use Rattle.iso_summary.specs.Words.{file_word, folder, in_quotes, is_plain, is_plain_word, shell_word};
 ghost use Rattle.iso_tap.specs.Printers.{Prints};
 
 use iso_junit::escape::escaped;
@@ -52,7 +52,8 @@ fn within_quotes<W: Sink>(printer: &mut Printer<'_, W>, word: &[u8]) -> Result<(
     Ok(())
 }
 
-/// Writes a byte as it stands between single quotes: a quote ends them, stands behind a backslash, and begins them again.
+/// Writes a byte as it stands between single quotes: a quote ends them, stands behind a backslash,
+/// and begins them again.
 fn in_quotes<W: Sink>(printer: &mut Printer<'_, W>, byte: u8) -> Result<(), SinkFailed>
     ensures { Prints printer.old printer.new (escaped (in_quotes byte)) result }
 {
@@ -79,11 +80,4 @@ fn is_plain(byte: u8) -> bool
     ensures { result ≡ is_plain byte }
 {
     byte.is_ascii_alphanumeric() || PLAIN.contains(&byte)
-}
-
-/// Whether a word has a control character.
-pub(crate) fn has_control(word: &str) -> bool
-    ensures { result ≡ has_control word.now }
-{
-    word.chars().any(|c| c.is_control())
 }

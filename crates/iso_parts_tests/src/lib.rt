@@ -1,4 +1,5 @@
-//! Tests of the parts under the core, in one crate: each crate of tests pays once for linking and comparing all that it reaches.
+//! Tests of the parts under the core, in one crate: each crate of tests pays once for linking and
+//! comparing all that it reaches.
 #![tactic(auto)]
 
 #[cfg(test)]

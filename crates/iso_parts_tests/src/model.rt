@@ -54,7 +54,8 @@ fn values_are_written_in_decimal_and_words(rt: HostRuntime) -> Result<(), AllocE
     check_written(&rt, alloc, &text, "a b")
 }
 
-/// Lines: empty ones, one with a line feed, and the first and last characters of each length in UTF-8.
+/// Lines: empty ones, one with a line feed, and the first and last characters of each length in
+/// UTF-8.
 static LINES: [&str; 5] = [
     "",
     "a\nb",
@@ -254,7 +255,8 @@ fn visible_name_is_assigned(rt: HostRuntime) -> Result<(), AllocError> {
     Ok(())
 }
 
-/// Names that are declared again and again: so often that they are few, some more than few, and many.
+/// Names that are declared again and again: so often that they are few, some more than few, and
+/// many.
 static AGAIN: [&str; 11] = ["a", "b", "c", "d", "e", "f", "g", "h", "i", "j", "k"];
 
 static TURNS: [i64; 3] = [2, 3, 10];

@@ -1,3 +1,4 @@
-//! Schedules: how a fault shows, and changed bytes. Each rule of a line is a worked example of `iso_schedule`.
+//! Schedules: how a fault shows, and changed bytes. Each rule of a line is a worked example of
+//! `iso_schedule`.
 mod changes;
 mod schedules;

@@ -54,7 +54,8 @@ pub fn set_property(
     properties.set(name, Text::copied(alloc, text)?)
 }
 
-/// Asserts a fact, which is named: an assertion in a function of its own is no way out of the caller's.
+/// Asserts a fact, which is named: an assertion in a function of its own is no way out of the
+/// caller's.
 pub fn expect(rt: &impl Abort, holds: bool, of: &str) {
     assert!(rt; holds, "{of}");
 }

@@ -66,7 +66,7 @@ fn expect(rt: &impl Abort, held: &Held, ask: Ask<'_>, want: Option<&str>) {
 }
 
 fn a_and_b_go_back(rt: &impl Abort, alloc: Global, held: &mut Held) -> Result<(), AllocError> {
-    let mark = held.mark();
+    let mark = held.mark()?;
     make(held, clear(alloc, "a"))?;
     expect(rt, held, Ask::Prop("a"), None);
     make(held, set(alloc, "b", "2"))?;
@@ -84,9 +84,9 @@ fn properties_go_back_to_a_mark(rt: HostRuntime) -> Result<(), AllocError> {
 }
 
 fn file_goes_back(rt: &impl Abort, alloc: Global, held: &mut Held) -> Result<(), AllocError> {
-    let missing = held.mark();
+    let missing = held.mark()?;
     make(held, write(alloc, "made"))?;
-    let made = held.mark();
+    let made = held.mark()?;
     make(held, Ok(Change::DeleteFile))?;
     expect(rt, held, Ask::File, None);
     make(held, write(alloc, "made again"))?;
@@ -107,9 +107,9 @@ fn file_that_was_missing_is_missing_again(rt: HostRuntime) -> Result<(), AllocEr
 }
 
 fn a_goes_back_twice(rt: &impl Abort, alloc: Global, held: &mut Held) -> Result<(), AllocError> {
-    let outer = held.mark();
+    let outer = held.mark()?;
     make(held, set(alloc, "a", "2"))?;
-    let inner = held.mark();
+    let inner = held.mark()?;
     make(held, set(alloc, "a", "3"))?;
     held.undo_to(inner);
     expect(rt, held, Ask::Prop("a"), Some("2"));
@@ -126,7 +126,7 @@ fn marks_stand_inside_marks(rt: HostRuntime) -> Result<(), AllocError> {
 }
 
 fn locale_goes_back(rt: &impl Abort, alloc: Global, held: &mut Held) -> Result<(), AllocError> {
-    let mark = held.mark();
+    let mark = held.mark()?;
     make(held, set_locale(alloc, "fr"))?;
     expect(rt, held, Ask::Locale, Some("fr"));
     held.undo_to(mark);
@@ -164,7 +164,7 @@ fn deletion_changes_no_property(
     alloc: Global,
     held: &mut Held,
 ) -> Result<(), AllocError> {
-    let mark = held.mark();
+    let mark = held.mark()?;
     make(held, Ok(Change::DeleteFile))?;
     expect(rt, held, Ask::Prop("a"), Some("1"));
     expect(rt, held, Ask::Locale, None);
@@ -206,7 +206,7 @@ fn many_changes_are_undone(
     long: &str,
 ) -> Result<(), AllocError> {
     make(held, set(alloc, long, long))?;
-    let mark = held.mark();
+    let mark = held.mark()?;
     set_many(alloc, held, long)?;
     expect(rt, held, Ask::Prop("9998"), Some(long));
     held.undo_to(mark);
@@ -238,14 +238,20 @@ fn changes_or_stays(
 }
 
 /// Makes two changes that may be refused, and goes back.
-fn refused_changes_go_back(rt: &impl Abort, held: &mut Held, cleared: Change, again: Change) {
-    let mark = held.mark();
+fn refused_changes_go_back(
+    rt: &impl Abort,
+    held: &mut Held,
+    cleared: Change,
+    again: Change,
+) -> Result<(), AllocError> {
+    let mark = held.mark()?;
     assert!(rt; changes_or_stays(held, cleared, Some("1"), None));
     let before = held.look(Ask::Prop("a")).is_some();
     let before = if before { Some("1") } else { None };
     assert!(rt; changes_or_stays(held, again, before, Some("2")));
     held.undo_to(mark);
     expect(rt, held, Ask::Prop("a"), Some("1"));
+    Ok(())
 }
 
 /// Run with each growth refused in turn, by `rt try --test --fail-alloc N`.
@@ -255,6 +261,6 @@ fn refused_growth_changes_nothing(rt: HostRuntime) {
         && let Ok(cleared) = clear(rt.alloc(), "a")
         && let Ok(again) = set(rt.alloc(), "a", "2")
     {
-        refused_changes_go_back(&rt, &mut trial.held, cleared, again);
+        let _ = refused_changes_go_back(&rt, &mut trial.held, cleared, again);
     }
 }

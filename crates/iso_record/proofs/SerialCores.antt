@@ -123,7 +123,8 @@ are_serial plan world workers tree c same taken run es are =
 back : (c d : CoreView) → OfSameSuite c d → OfSameSuite d c
 back c d s = record { plan = sym s.plan; world = sym s.world; workers = sym s.workers }
 
--- a class that was opened is run inside and closed: the cores before it, once it was opened, once it was run inside, and at the end
+-- a class that was opened is run inside and closed: the cores before it, once it was opened, once
+-- it was run inside, and at the end
 module _ (c d e f : CoreView) (tree : IsTree (tree_of c.plan)) (n : ℕ) (to_d : OfSameSuite c d) (to_e : OfSameSuite d e) (to_f : OfSameSuite e f)
     (may : MayRun c.plan c.world c.workers n (history_in c)) (o : HasOpened c.plan c.world c.workers n (history_in c) (history_in d)) where
   opened_may : MayRunInside c.plan c.world c.workers n (history_in d)

@@ -17,8 +17,9 @@ use Rattle.iso_standing.specs.declared.event.Event.TheVariants as Code
 use Rattle.iso_suites.specs.ScriptLanguage.{scripts}
 use Rattle.iso_suites.specs.SuiteStates.{suite_at}
 
--- Events that record a history: they are the history in full, with the steps of each body right before its Leave, each is accepted
--- after those before it, and after them as many nodes are finished as after the history.
+-- Events that record a history: they are the history in full, with the steps of each body right
+-- before its Leave, each is accepted after those before it, and after them as many nodes are
+-- finished as after the history.
 pub record AreRecordOf (plan : Planned) (world : Start) (workers : ℕ) (h es : List Event) : Type 0 where
   pub in_full : events_of es ≡ full scripts (suite_at plan world) (first scripts (suite_at plan world)) (events_of h)
   pub accepted : AreAccepted plan world workers es

@@ -20,8 +20,9 @@ use Rattle.iso_standing.specs.declared.phase.Phase.TheVariants.{Finished}
 use Rattle.iso_suites.specs.ScriptLanguage.{scripts}
 use Rattle.iso_suites.specs.SuiteStates.{RunState, suite_at}
 
--- The history of a node by worker 0: a test is entered and left; a class is entered and left, then what stands directly in it has its
--- history, then it is shut and left. Of nodes in their order each has its history, or is left out, as in a class that is barred.
+-- The history of a node by worker 0: a test is entered and left; a class is entered and left, then
+-- what stands directly in it has its history, then it is shut and left. Of nodes in their order
+-- each has its history, or is left out, as in a class that is barred.
 mutual
   pub data IsNodeHistory (tree : List Row) : ℕ → List Event → Type 0 where
     of_test : {n : ℕ} → is_test (row_at tree n).kind ≡ true → IsNodeHistory tree n (Enter 0 n ∷ Leave 0 ∷ [])
@@ -58,7 +59,8 @@ module _ (plan : Planned) (world : Start) (workers : ℕ) where
     pub at : IsBetween (parent (tree_of plan) n) h
     pub next : ComesNext (suite_at plan world) n (after_history h)
 
-  -- it has run the node: the history goes on by the node's, and it and all that stands in it is finished
+  -- it has run the node: the history goes on by the node's, and it and all that stands in it is
+  -- finished
   pub record HasRun (n : ℕ) (h g : List Event) : Type 0 where
     pub at : IsBetween (parent (tree_of plan) n) g
     pub done : IsDone (suite_at plan world) n (after_history h) (after_history g)
@@ -111,7 +113,8 @@ module _ (plan : Planned) (world : Start) (workers : ℕ) where
     pub others : (m : ℕ) → (m ≡ n → ⊥) → phase_in (after_history g) m ≡ phase_in (after_history h) m
     pub more : g ≡ (h ++ Shut 0 n ∷ []) ++ Leave 0 ∷ []
 
-  -- of the children of a class so many have run, or are left out since the class is barred; the others are as they were
+  -- of the children of a class so many have run, or are left out since the class is barred; the
+  -- others are as they were
   pub record HasRunSome (c : ℕ) (h : List Event) (i : ℕ) (g : List Event) : Type 0 where
     pub may : MayRunInside c h
     pub at : IsBetween c g
@@ -123,8 +126,8 @@ module _ (plan : Planned) (world : Start) (workers : ℕ) where
     pub history : AreHistories (tree_of plan) (take i (children (tree_of plan) c)) events
     pub more : g ≡ h ++ events
 
--- Events of a whole run by worker 0: all are its own, they are a history by worker 0 in full, each is accepted after those before it, and
--- all nodes are finished at the end.
+-- Events of a whole run by worker 0: all are its own, they are a history by worker 0 in full, each
+-- is accepted after those before it, and all nodes are finished at the end.
 pub record AreSerialRecordOf (plan : Planned) (world : Start) (workers : ℕ) (es : List Code.Event) : Type 0 where
   pub alone : AllByRecursion (λ e. worker_of e ≡ 0) es
   pub serial : IsSerialHistory (tree_of plan) (history_of (events_of es))

@@ -1,4 +1,5 @@
--- A run by worker 0 alone, node by node in the order in which they are written: what is so between two nodes.
+-- A run by worker 0 alone, node by node in the order in which they are written: what is so between
+-- two nodes.
 use Rattle.std.specs.Prelude.{◌≡◌, ℕ, ◌<◌, List, None, Bool, true, cond}
 use Rattle.iso_isolation.specs.States.{is_held}
 use Rattle.iso_isolation.specs.Suites.{On, Suite}
@@ -21,14 +22,15 @@ abbrev pub left_in : Bool → Phase
 left_in well = cond well Waiting Finished
 
 module _ (x : Suite Head (List ℕ) Resource) where
-  -- Between two nodes of a class no worker has a body, worker 0 owns every node, and only that class and those around it are entered
-  -- and unfinished.
+  -- Between two nodes of a class no worker has a body, worker 0 owns every node, and only that
+  -- class and those around it are entered and unfinished.
   pub record BetweenNodes (c : ℕ) (s : RunState) : Type 0 where
     pub free : (w : ℕ) → s.busy w ≡ None
     pub owned : (n : ℕ) → s.owner n ≡ 0
     pub held : (n : ℕ) → is_held (s.nodes.status n) ≡ true → On x n c
 
-  -- a node comes next in an open class: it and all that stands in it waits, and what is written before it in the class is finished
+  -- a node comes next in an open class: it and all that stands in it waits, and what is written
+  -- before it in the class is finished
   pub record ComesNext (n : ℕ) (s : RunState) : Type 0 where
     pub opened : phase_in s (x.parent n) ≡ Open
     pub waits : (m : ℕ) → On x n m → phase_in s m ≡ Waiting
@@ -39,7 +41,8 @@ module _ (x : Suite Head (List ℕ) Resource) where
     pub done : (m : ℕ) → m < x.nodes → On x n m → phase_in t m ≡ Finished
     pub others : (m : ℕ) → (On x n m → ⊥) → phase_in t m ≡ phase_in s m
 
-  -- a class is open, and all that stands in it waits; or it is barred, and that is finished; no other node has changed
+  -- a class is open, and all that stands in it waits; or it is barred, and that is finished; no
+  -- other node has changed
   pub record IsOpened (n : ℕ) (s t : RunState) : Type 0 where
     pub well : Bool
     pub here : phase_in t n ≡ rest_of well

@@ -14,7 +14,8 @@ use iso_standing::event::Event;
 use std::alloc::{AllocError, Global};
 use std::marker::Model;
 
-/// A core, and the events that it has taken. Contracts see the core. After want of memory it is only dropped.
+/// A core, and the events that it has taken. Contracts see the core. After want of memory it is
+/// only dropped.
 #[derive(Drop)]
 pub(crate) struct Recording<'a> {
     core: Core<'a>,
@@ -84,7 +85,8 @@ impl<'a> Recording<'a> {
         }
     }
 
-    /// A worker leaves its body, or makes a step of it where it hasn't ended. Answers whether it left.
+    /// A worker leaves its body, or makes a step of it where it hasn't ended. Answers whether it
+    /// left.
     fn leave_or_step(&mut self, worker: u32) -> Result<bool, AllocError>
         requires { IsLeaving self.old worker }
         ensures left { IfOk result (λ left. left ≡ true → Accepted (Code.Leave worker) self.old self.new) }

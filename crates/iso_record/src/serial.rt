@@ -15,8 +15,9 @@ use std::alloc::{AllocError, Global};
 /// The one worker.
 const WORKER: u32 = 0;
 
-/// The events of a run of a plan by worker 0 alone, of so many workers: each class and test in the order in which they are written, depth
-/// first. A core takes them, so it does each step. Want of memory is the only error.
+/// The events of a run of a plan by worker 0 alone, of so many workers: each class and test in the
+/// order in which they are written, depth first. A core takes them, so it does each step. Want of
+/// memory is the only error.
 pub fn record_serial(
     alloc: Global,
     plan: &Plan,
@@ -52,7 +53,8 @@ impl Recording<'_> {
         self.last_body(plan, node)
     }
 
-    /// Worker 0 runs what stands directly in a class, each node in its turn. Of a class that is barred each is finished, and left out.
+    /// Worker 0 runs what stands directly in a class, each node in its turn. Of a class that is
+    /// barred each is finished, and left out.
     #[cycle(depth)]
     pub(crate) fn children(&mut self, plan: &Plan, class: u32) -> Result<(), AllocError>
         requires of { plan.now ≡ self.old.plan }

@@ -1,4 +1,5 @@
--- Why a replay ends early, by what its parts answer, and how far a replay went that no event stopped.
+-- Why a replay ends early, by what its parts answer, and how far a replay went that no event
+-- stopped.
 use Rattle.std.proofs.Common.{◌≡◌, ℕ, List, Bool, Some, Err, Ok, refl, subst, ap, ◌∙◌}
 use Rattle.std.specs.Borrow.{Bor}
 use Rattle.iso_core.specs.Cores.{CoreView, is_complete}

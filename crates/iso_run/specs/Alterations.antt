@@ -31,7 +31,8 @@ pub record AreBelow (folder : List ℕ) (files older : InputFiles) : Type 0 wher
   pub only_from : older.only_from ≡ None
   pub shard : older.shard ≡ None
 
--- These are the fates of the new nodes, what differs of those that are changed, and the old nodes that are gone.
+-- These are the fates of the new nodes, what differs of those that are changed, and the old nodes
+-- that are gone.
 pub record IsAlteration (s : Suites) (made : List Fate) (apart : List (Option Difference)) (lost : List ℕ) : Type 0 where
   pub each : length made ≡ length s.new.rows
   pub fates : AreFates s made
@@ -54,14 +55,15 @@ pub record IsSideOf (inputs : Inputs) (suite : Suite) (side : SideView) : Type 0
 abbrev pub both : (was now : Suite) → Suites
 both was now = suites (planned was) was.start (planned now) now.start
 
--- what is told of a change, or the paths of changed and new nodes alone; so many files weren't in the folder
+-- what is told of a change, or the paths of changed and new nodes alone; so many files weren't in
+-- the folder
 abbrev pub change_text : (paths : Bool) → ChangeView → (folder : List ℕ) → (missing : ℕ) → List ℕ
 change_text paths c folder missing =
     cond paths (paths_text (affected_rows c))
     (affected_text (affected_rows c) (record { counts = counts c.old.tree c.new.tree c.fates c.gone; folder = folder; missing = missing }))
 
--- The change is that of one suite to another: its fates, its differences and what is gone are those of their nodes. A property that is told starts
--- with another value.
+-- The change is that of one suite to another: its fates, its differences and what is gone are those
+-- of their nodes. A property that is told starts with another value.
 pub record IsChangeOf (was now : Suite) (change : ChangeView) : Type 0 where
   pub altered : IsAlteration (both was now) change.fates change.told change.gone
   pub property : IfSome change.property (StartsOtherwise was.start now.start)

@@ -14,7 +14,8 @@ abbrev pub text_in : Option Account → List ℕ
 text_in None = []
 text_in (Some text) = unwrap_or text.bytes []
 
--- how a recorded run is replayed: by a command, where one can be told, but not where its schedule is longer than what is replayed
+-- how a recorded run is replayed: by a command, where one can be told, but not where its schedule
+-- is longer than what is replayed
 abbrev pub replayed : (schedule : List ℕ) → RecordedView → List ℕ
 replayed schedule run =
     cond (nat_lt FILE_BYTES (length schedule)) (too_large_line run.schedule) (cond (can_be_told run) (replay_line run) [])
@@ -63,6 +64,7 @@ files_of besides = besides.failed ∷ besides.junit ∷ besides.html ∷ besides
 abbrev pub NamesNone : Besides → Type 0
 NamesNone besides = (besides.failed ≡ None) × (besides.junit ≡ None) × (besides.html ≡ None) × (besides.schedule ≡ None) × (besides.trace ≡ None)
 
--- nothing is to be told on standard error, nothing of the course of a run, and no file is to be written
+-- nothing is to be told on standard error, nothing of the course of a run, and no file is to be
+-- written
 abbrev pub IsPlain : Besides → Type 0
 IsPlain besides = IsQuiet besides.tells × IsUnasked besides.course × NamesNone besides

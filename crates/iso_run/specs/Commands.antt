@@ -45,9 +45,10 @@ use Rattle.iso_summary.specs.declared.again.Again.{Again}
 use Rattle.iso_tap.specs.Sinks.{Account, HasFailed, Wrote}
 use Rattle.toml.specs.Data.{Members}
 
--- Bytes that were read for these files: none for settings or a world that isn't named; for each script that is named one text, and where
--- none is, what the input has left, if that is known, up to one byte past the limit; and a list of paths, where one is named, which for `-`
--- is all that the input has left. What a named file holds isn't known.
+-- Bytes that were read for these files: none for settings or a world that isn't named; for each
+-- script that is named one text, and where none is, what the input has left, if that is known, up
+-- to one byte past the limit; and a list of paths, where one is named, which for `-` is all that
+-- the input has left. What a named file holds isn't known.
 pub record AreOf (files : InputFiles) (input : Option (List ℕ)) (settings world : List ℕ) (scripts : List (List ℕ)) (listed : Option (List ℕ)) : Type 0 where
   pub settings_named : files.settings ≡ None → settings ≡ []
   pub world_named : files.world ≡ None → world ≡ []
@@ -56,7 +57,8 @@ pub record AreOf (files : InputFiles) (input : Option (List ℕ)) (settings worl
   pub list_named : is_some listed ≡ is_some files.only_from
   pub list_piped : option_copied files.only_from ≡ Some (codes "-") → (files.scripts.items ≡ [] → ⊥) → IfSome input (λ bytes. listed ≡ Some bytes)
 
--- so many processors are counted with: one without a word, as many as it says, or those of the machine, of which there may be so many
+-- so many processors are counted with: one without a word, as many as it says, or those of the
+-- machine, of which there may be so many
 abbrev pub IsCountedAs : Option Processors → ℕ → Type 0
 IsCountedAs None n = n ≡ 1
 IsCountedAs (Some (Count asked)) n = n ≡ asked
@@ -85,7 +87,8 @@ pub record AreReads (files : InputFiles) (input : Option (List ℕ)) (reads : Fi
 abbrev pub shard_asked : Shard → A.Shard
 shard_asked shard = record { number = shard.index; of = shard.count }
 
--- These are the inputs that were read for these files, with the paths and the processors that are asked for.
+-- These are the inputs that were read for these files, with the paths and the processors that are
+-- asked for.
 pub record AreFor (files : InputFiles) (input : Option (List ℕ)) (inputs : Inputs) : Type 0 where
   pub are_of : AreOf files input inputs.settings.now inputs.world.now (texts inputs.scripts.now) (option_copied inputs.listed)
   pub only : inputs.only.now ≡ files.only.items
@@ -100,7 +103,8 @@ IsWrittenFor product files input way old new ok = (inputs : Inputs) × AreFor fi
 abbrev pub way_of : (serial : Bool) → Way
 way_of serial = cond serial Serial ByWorkers
 
--- what is printed of a plan: all of it, or its tests alone; without the sites of its nodes, or with them; with why its modes and locks are so
+-- what is printed of a plan: all of it, or its tests alone; without the sites of its nodes, or with
+-- them; with why its modes and locks are so
 abbrev pub plan_of : Printed → (names : List (List ℕ)) → List Site → Suite → Product
 plan_of printed names sites =
     cond printed.why (suite_why printed.tests names sites) (cond printed.places (suite_places printed.tests names sites) (cond printed.tests suite_tests suite_plan))
@@ -119,7 +123,8 @@ IsPrintedFor printed files input old new ok = (sites : List Site) × ((inputs : 
 abbrev pub IsAcceptedFor : InputFiles → Option (List ℕ) → Type 0
 IsAcceptedFor files input = (inputs : Inputs) × AreFor files input inputs × OfSuite inputs (λ suite. ⊤)
 
--- What settings come to was written, whole: those that were read of a file of this name, where so many processors are counted with.
+-- What settings come to was written, whole: those that were read of a file of this name, where so
+-- many processors are counted with.
 pub record IsListedFor (name : Option (Bor (List ℕ))) (asked : Option Processors) (old new : Account) : Type 0 where
   pub bytes : List ℕ
   pub named : name ≡ None → bytes ≡ []
@@ -131,13 +136,15 @@ pub record IsListedFor (name : Option (Bor (List ℕ))) (asked : Option Processo
   pub document : document bytes ≡ Some members
   pub wrote : Wrote old new (listing_text (leaves members) settings processors)
 
--- A state that was read of inputs: their suite, with the bytes of its scripts, and where its nodes stand in them.
+-- A state that was read of inputs: their suite, with the bytes of its scripts, and where its nodes
+-- stand in them.
 pub record IsStateOf (inputs : Inputs) (state : State) : Type 0 where
   pub suite : IsRead inputs true state.suite
   pub texts : map (λ v. v.items) state.bytes.scripts.items ≡ texts inputs.scripts.now
   pub sites : AreSitesOf inputs (suite_of inputs state.suite) state.sites
 
--- The paths of a state are those of its nodes, and its tables are those of the lines of its scripts.
+-- The paths of a state are those of its nodes, and its tables are those of the lines of its
+-- scripts.
 pub record IsReady (state : State) : Type 0 where
   pub paths : state.paths.items ≡ all_paths (tree_of state.suite.plan)
   pub tables : state.tables.items ≡ map line_starts (map (λ v. v.items) state.bytes.scripts.items)
@@ -156,8 +163,9 @@ pub record IsComparedIn (asked : Asked) (was now : State) (scripts : List (Bor (
   pub property : IfSome change.property (StartsOtherwise was.suite.world now.suite.world)
   pub wrote : Wrote old new (change_text asked.paths change asked.folder.now missing)
 
--- What a change can alter was told, whole, or the paths alone: the change of the suite that stands below the folder by the names of these files to
--- the suite that these files are. What the files below the folder hold isn't known, nor how many of them weren't there.
+-- What a change can alter was told, whole, or the paths alone: the change of the suite that stands
+-- below the folder by the names of these files to the suite that these files are. What the files
+-- below the folder hold isn't known, nor how many of them weren't there.
 pub record IsToldFor (asked : Asked) (files : InputFiles) (input : Option (List ℕ)) (old new : Account) : Type 0 where
   pub older : InputFiles
   pub below : AreBelow asked.folder.now files older
@@ -175,7 +183,8 @@ pub record IsToldFor (asked : Asked) (files : InputFiles) (input : Option (List 
   pub missing : ℕ
   pub wrote : Wrote old new (change_text asked.paths change asked.folder.now missing)
 
--- what a request asks for was done: its text was written, or the plan or the report for its files, of a replay after some schedule
+-- what a request asks for was done: its text was written, or the plan or the report for its files,
+-- of a replay after some schedule
 abbrev pub Did : Request → Option (List ℕ) → (old new : Account) → (ok : Bool) → Type 0
 Did (Show text) input old new ok = (ok ≡ true) × Wrote old new (string_bytes text)
 Did (Plan tests places why files) input old new ok = IsPrintedFor (record { tests = tests; places = places; why = why }) files input old new ok
@@ -217,13 +226,15 @@ pub record AnsweredBesides {A : Type 0} (words : List A) (input : Option (List �
   pub answered : Answered words input old new ok
   pub names : NamesFile (files_named answered.request)
 
--- How a command ended, by its exit status. What is left of an output that broke off is that it failed, once.
+-- How a command ended, by its exit status. What is left of an output that broke off is that it
+-- failed, once.
 pub record Ended {A : Type 0} (words : List A) (input : Option (List ℕ)) (old new : Account) (status : ℕ) : Type 0 where
   pub end : End
   pub status_is : status ≡ exit_status end
   pub leaves : Leaves (Answered words input old new) (AnsweredBesides words input old new) (HasFailed old.failures new.failures) old new end
 
--- The report of all of a script was written, whole, without settings and world and for one processor, and the status tells of it.
+-- The report of all of a script was written, whole, without settings and world and for one
+-- processor, and the status tells of it.
 pub record RanOn (script : List ℕ) (old new : Account) (status : ℕ) : Type 0 where
   pub files : InputFiles
   pub nothing : NamesNothing files
@@ -232,7 +243,8 @@ pub record RanOn (script : List ℕ) (old new : Account) (status : ℕ) : Type 0
   pub written : IsWrittenFor suite_report files (Some script) (way_of serial) old new ok
   pub tells : status ≡ exit_status (Whole ok)
 
--- A plain run is refused: the inputs that were read for it have a cause of a fault that refuses them.
+-- A plain run is refused: the inputs that were read for it have a cause of a fault that refuses
+-- them.
 pub record IsRefused (input : Option (List ℕ)) : Type 0 where
   pub files : InputFiles
   pub nothing : NamesNothing files
@@ -248,7 +260,8 @@ abbrev pub tells_of_skipped : Summarized → Bool
 tells_of_skipped Failed = false
 tells_of_skipped All = true
 
--- the words of a command with these files that another one needs for the same results, where so many processors were counted with
+-- the words of a command with these files that another one needs for the same results, where so
+-- many processors were counted with
 abbrev pub again_of : InputFiles → (processors : ℕ) → Again
 again_of files processors =
     record {
@@ -257,6 +270,7 @@ again_of files processors =
       processors = option_map (λ asked. processors) files.processors;
     }
 
--- the commands that a page tells, of a command with these files where so many processors were counted with
+-- the commands that a page tells, of a command with these files where so many processors were
+-- counted with
 abbrev pub page_commands : InputFiles → (processors : ℕ) → P.Commands
 page_commands files processors = record { again = again_of files processors; named = not (length files.scripts.items == 0) }

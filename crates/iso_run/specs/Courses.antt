@@ -45,14 +45,15 @@ IsUnasked course = (course.schedule ≡ None) × (course.trace ≡ None) × (cou
 abbrev pub wants_times : Course → Bool
 wants_times course = is_some course.trace || is_some course.stats
 
--- Events are a whole run of a plan by so many workers: each is accepted after those before it, the steps of each body stand right before its
--- Leave, and every node is finished at the end.
+-- Events are a whole run of a plan by so many workers: each is accepted after those before it, the
+-- steps of each body stand right before its Leave, and every node is finished at the end.
 pub record AreWhole (plan : Planned) (start : Start) (workers : ℕ) (events : List Event) : Type 0 where
   pub accepted : AreAccepted plan start workers events
   pub in_full : events_of events ≡ full scripts (suite_at plan start) (first scripts (suite_at plan start)) (history_of (events_of events))
   pub complete : is_complete (core_after plan start workers events) ≡ true
 
--- in a run on one thread all events are worker 0's, node by node in the order in which they are written
+-- in a run on one thread all events are worker 0's, node by node in the order in which they are
+-- written
 abbrev pub AreInOrder : Way → Planned → List Event → Type 0
 AreInOrder Serial plan events = AllByRecursion (λ e. worker_of e ≡ 0) events × IsSerialHistory (tree_of plan) (history_of (events_of events))
 AreInOrder ByWorkers plan events = ⊤
@@ -62,13 +63,15 @@ AreInOrder (BySchedule schedule) plan events = ⊤
 abbrev pub AreEvents : Way → Planned → Start → (workers : ℕ) → List Event → Type 0
 AreEvents way plan start workers events = AreWhole plan start workers events × AreInOrder way plan events
 
--- lines of events of which something is true were told where they are asked for, and nothing where they aren't
+-- lines of events of which something is true were told where they are asked for, and nothing where
+-- they aren't
 abbrev pub IsScheduled : (List Event → Type 0) → (old new : Option Account) → Type 0
 IsScheduled Are None new = new ≡ None
 IsScheduled Are (Some old) None = ⊥
 IsScheduled Are (Some old) (Some new) = (events : List Event) × Are events × Wrote old new (schedule_text events)
 
--- a run that was observed: its plan, its results, the times of its bodies, and how many workers were started of how many
+-- a run that was observed: its plan, its results, the times of its bodies, and how many workers
+-- were started of how many
 pub record ObservedView : Type 0 where
   pub plan : Planned
   pub results : ResultsView
@@ -127,7 +130,8 @@ pub record IsRunOf (way : Way) (plan : Planned) (start : Start) (workers : ℕ) 
   pub started : AreStarted way workers run.started
   pub of : run.of ≡ workers
 
--- All that is asked for of a run's course was told: its events, of which something is true, its trace and its figures.
+-- All that is asked for of a run's course was told: its events, of which something is true, its
+-- trace and its figures.
 pub record IsCourse (Are : List Event → Type 0) (way : Way) (plan : Planned) (start : Start) (workers : ℕ) (old new : Course) : Type 0 where
   pub schedule : IsScheduled Are old.schedule new.schedule
   pub run : ObservedView
@@ -135,8 +139,9 @@ pub record IsCourse (Are : List Event → Type 0) (way : Way) (plan : Planned) (
   pub trace : IsTold (trace_of run) old.trace new.trace
   pub stats : IsCounted run old.stats new.stats
 
--- Events are the record of a run of the suite that inputs are. Where their text is no longer than a schedule may be, a replay of it comes to
--- its end with every node finished, and so writes the same report.
+-- Events are the record of a run of the suite that inputs are. Where their text is no longer than a
+-- schedule may be, a replay of it comes to its end with every node finished, and so writes the same
+-- report.
 pub record AreRecord (inputs : Inputs) (suite : Suite) (way : Way) (events : List Event) : Type 0 where
   pub whole : AreWhole (planned suite) suite.start suite.settings.worker_count events
   pub in_order : AreInOrder way (planned suite) events

@@ -9,8 +9,9 @@ use Rattle.iso_run.specs.declared.fault.RunFault.{RunFault}
 use Rattle.iso_run.specs.declared.fault.RunFault.TheVariants.{Start, Lost, Memory, Write}
 use Rattle.iso_tap.specs.Sinks.{Account, HasFailed}
 
--- all was written, and whether it tells that all is ok; the output was, and some file that was to be written besides wasn't; refused or given
--- up before anything was written; or the output broke off
+-- all was written, and whether it tells that all is ok; the output was, and some file that was to
+-- be written besides wasn't; refused or given up before anything was written; or the output broke
+-- off
 pub data End : Type 0 where
   Whole : (ok : Bool) → End
   LacksFile : End
@@ -65,8 +66,8 @@ IfLate Refuses P = ⊤
 IfLate GivesUp P = ⊤
 IfLate BreaksOff P = P
 
--- What an end leaves of the output: what is stated of the whole, of one beside which a file is lacking, or of an output that broke off; else
--- it was asked nothing.
+-- What an end leaves of the output: what is stated of the whole, of one beside which a file is
+-- lacking, or of an output that broke off; else it was asked nothing.
 abbrev pub Leaves : (whole : Bool → Type 0) → (lacking broken : Type 0) → (old new : Account) → End → Type 0
 Leaves whole lacking broken old new (Whole ok) = whole ok
 Leaves whole lacking broken old new LacksFile = lacking

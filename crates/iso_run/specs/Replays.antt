@@ -32,12 +32,14 @@ events_fault stopped = elim stopped.fault [
 abbrev pub OfReplay : Inputs → List ℕ → (Suite → List Event → Type 0) → Type 0
 OfReplay inputs schedule Is = OfSuite inputs (λ suite. (events : List Event) × AreRead schedule (Ok events) × Is suite events)
 
--- The workers of the settings have each event accepted, and this tells whether every node but the root is finished then.
+-- The workers of the settings have each event accepted, and this tells whether every node but the
+-- root is finished then.
 abbrev pub IsAccepted : Suite → List Event → (whole : Bool) → Type 0
 IsAccepted suite events whole = AreAccepted (planned suite) suite.start suite.settings.worker_count events
     × (is_complete (core_after (planned suite) suite.start suite.settings.worker_count events) ≡ whole)
 
--- what a way came to, and whether every node but the root is finished then; of workers only that the inputs are a suite
+-- what a way came to, and whether every node but the root is finished then; of workers only that
+-- the inputs are a suite
 abbrev pub IsPlayed : Inputs → Way → (whole : Bool) → Type 0
 IsPlayed inputs Serial whole = whole ≡ true
 IsPlayed inputs ByWorkers whole = OfSuite inputs (λ suite. ⊤)
@@ -48,8 +50,9 @@ abbrev pub IsByScheduleAnd : Way → (List ℕ → Type 0) → Type 0
 IsByScheduleAnd (BySchedule schedule) Is = Is schedule.now
 IsByScheduleAnd _ Is = ⊥
 
--- Why a text of a suite wasn't written whole. Of what stops workers it is told that the inputs are a suite, and where a thread wasn't
--- started, that there are two workers at least: the first has none of its own.
+-- Why a text of a suite wasn't written whole. Of what stops workers it is told that the inputs are
+-- a suite, and where a thread wasn't started, that there are two workers at least: the first has
+-- none of its own.
 abbrev pub Cause : Inputs → Way → RunFault → Type 0
 Cause inputs way (Schedule fault) = IsByScheduleAnd way (λ schedule. OfSuite inputs (λ suite. AreRead schedule (Err fault)))
 Cause inputs way (Refused index why) = IsByScheduleAnd way (λ schedule. OfReplay inputs schedule (λ suite events.
@@ -60,7 +63,8 @@ Cause inputs way Lost = (way ≡ ByWorkers) × OfSuite inputs (λ suite. ⊤)
 Cause inputs way (Write written) = IsPlayed inputs way true
 Cause inputs way fault = NoSuite inputs fault
 
--- one of so many workers couldn't be started, memory ran out, a receipt is lost, or a node isn't finished
+-- one of so many workers couldn't be started, memory ran out, a receipt is lost, or a node isn't
+-- finished
 abbrev pub IsOfWorkers : (workers : ℕ) → RunFault → Type 0
 IsOfWorkers workers Start = 2 ≤ workers
 IsOfWorkers workers Memory = ⊤

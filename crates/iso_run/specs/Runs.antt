@@ -31,7 +31,8 @@ use Rattle.iso_telling.specs.Telling.{HasTold, wants_places}
 use Rattle.iso_telling.specs.Written.{ArePlaced, WrittenView}
 use Rattle.iso_telling.specs.declared.tells.Tells.{Tells}
 
--- the outcome of each node of a suite, by its number: that of the node run alone on what the world starts with
+-- the outcome of each node of a suite, by its number: that of the node run alone on what the world
+-- starts with
 abbrev pub suite_outcome : Suite → ℕ → Outcome
 suite_outcome suite = outcome_alone suite.nodes (started suite.start)
 
@@ -57,7 +58,8 @@ abbrev pub IsWritten : (Suite → Product) → Inputs → Way → (old new : Acc
 IsWritten product inputs way old new ok = IsPlayed inputs way true
     × OfSuite inputs (λ suite. Wrote old new (product suite).text × (ok ≡ (product suite).ok))
 
--- The fault is that the sink failed while a text was written: it took the first bytes, as many as the fault says and not all.
+-- The fault is that the sink failed while a text was written: it took the first bytes, as many as
+-- the fault says and not all.
 pub record IsCutOff (text : List ℕ) (old new : Account) (fault : RunFault) : Type 0 where
   pub written : ℕ
   pub is : fault ≡ Write written
@@ -76,7 +78,8 @@ pub record Writes {A : Type 0} (ok_of : A → Bool) (product : Suite → Product
   pub leaves : Leaves (IsWritten product inputs way old new) ⊥
       (OfSuite inputs (λ suite. IfErr result (IsCutOff (product suite).text old new))) old new (end_of ok_of run_end result)
 
--- The inputs are the suite that was read, with its plan, with 1 to 64 workers, and with the places of its scripts' nodes, where these are kept.
+-- The inputs are the suite that was read, with its plan, with 1 to 64 workers, and with the places
+-- of its scripts' nodes, where these are kept.
 pub record IsRead (inputs : Inputs) (keeps : Bool) (suite : ReadSuite) : Type 0 where
   pub is_suite : IsSuite inputs (suite_of inputs suite)
   pub planned_as : suite.plan ≡ planned (suite_of inputs suite)
@@ -87,8 +90,9 @@ pub record IsRead (inputs : Inputs) (keeps : Bool) (suite : ReadSuite) : Type 0 
 abbrev pub as_written : ReadSuite → List (Bor (List ℕ)) → WrittenView
 as_written suite scripts = record { scripts = map script_of suite.scripts.items; places = places_in suite.places.items; texts = texts scripts }
 
--- Of a suite all that is asked for was told besides, with these times of its nodes, and with what was watched of a run. What is told with places is
--- told with those that stand in the bytes of its scripts.
+-- Of a suite all that is asked for was told besides, with these times of its nodes, and with what
+-- was watched of a run. What is told with places is told with those that stand in the bytes of its
+-- scripts.
 pub record IsToldOf (inputs : Inputs) (suite : Suite) (times : List (Option ℕ)) (watched : Option WatchedView) (old new : Tells) : Type 0 where
   pub written : WrittenView
   pub texts_are : written.texts ≡ texts inputs.scripts.now
@@ -98,7 +102,8 @@ pub record IsToldOf (inputs : Inputs) (suite : Suite) (times : List (Option ℕ)
 abbrev pub TellsOf : Inputs → (times : List (Option ℕ)) → (watched : Option WatchedView) → (old new : Tells) → Type 0
 TellsOf inputs times watched old new = OfSuite inputs (λ suite. IsToldOf inputs suite times watched old new)
 
--- Sites are those of the nodes of the suite that inputs are, by what stands in the bytes of its scripts.
+-- Sites are those of the nodes of the suite that inputs are, by what stands in the bytes of its
+-- scripts.
 pub record AreSitesOf (inputs : Inputs) (suite : Suite) (sites : List Site) : Type 0 where
   pub scripts : List Script
   pub places : List (List NodePlace)

@@ -26,7 +26,8 @@ use Rattle.iso_run.specs.declared.fault.RunFault.TheVariants as F
 use Rattle.iso_run.specs.declared.inputs.Inputs.{Inputs}
 use Rattle.iso_run.specs.declared.inputs.Suite.{Suite as ReadSuite}
 
--- a suite: its nodes, which are those of its scripts that are kept, the settings, and what the world says that resources start with
+-- a suite: its nodes, which are those of its scripts that are kept, the settings, and what the
+-- world says that resources start with
 pub record Suite : Type 0 where
   pub nodes : List Row
   pub settings : Settings
@@ -36,7 +37,8 @@ pub record Suite : Type 0 where
 abbrev pub planned : Suite → Planned
 planned suite = record { rows = suite.nodes; settings = suite.settings }
 
--- whether inputs ask for paths alone, and all that they ask for: paths, patterns, and the paths that a file lists
+-- whether inputs ask for paths alone, and all that they ask for: paths, patterns, and the paths
+-- that a file lists
 abbrev pub asks_for_paths : Inputs → Bool
 asks_for_paths inputs = (length inputs.patterns.now == 0) && (is_none inputs.listed && is_none inputs.shard)
 
@@ -100,7 +102,8 @@ pub record FirstUnread (scripts : List (Bor (List ℕ))) (index : ℕ) (fault : 
   pub earlier : (ss : List Script) × AreRead (texts (take index scripts)) ss
   pub unread : HasScriptFault (get_or (texts scripts) index []) fault
 
--- Why inputs are no suite: the first fault in the order settings, world, scripts in turn, plan; or memory ran out.
+-- Why inputs are no suite: the first fault in the order settings, world, scripts in turn, plan; or
+-- memory ran out.
 abbrev pub NoSuite : Inputs → RunFault → Type 0
 NoSuite inputs (F.Settings fault) = settings_from inputs.settings.now inputs.processors ≡ Err fault
 NoSuite inputs (F.World fault) = IsOk (settings_from inputs.settings.now inputs.processors) × (world_from inputs.world.now ≡ Err fault)

@@ -44,15 +44,17 @@ use std::fs::Files;
 use std::io::Read;
 use std::thread::Threads;
 
-/// What is asked of a change: the folder of the older state, and whether the paths of changed and new nodes alone are told.
+/// What is asked of a change: the folder of the older state, and whether the paths of changed and
+/// new nodes alone are told.
 #[derive(Clone, Copy)]
 pub(crate) struct Asked<'a> {
     pub folder: &'a str,
     pub paths: bool,
 }
 
-/// Tells what a change of these files can alter, which stand below a folder as they were before. The first fault is that of the files as they are;
-/// one of the older state is told here, by the name with which its file was read.
+/// Tells what a change of these files can alter, which stand below a folder as they were before.
+/// The first fault is that of the files as they are; one of the older state is told here, by the
+/// name with which its file was read.
 pub(crate) fn show_affected<'a, G: AllocGlobal + Files + Threads, R: Read, W: Sink, E: Sink>(
     rt: &G,
     asked: Asked<'a>,
@@ -165,7 +167,8 @@ fn show_change<W: Sink>(
     write_change(alloc, &change, &last, asked.paths, output)
 }
 
-/// A change of one state to another, lent with the bytes of the scripts of both and the names of these.
+/// A change of one state to another, lent with the bytes of the scripts of both and the names of
+/// these.
 fn lent_change<'c>(
     was: &'c State,
     was_texts: &'c [&'c [u8]],

@@ -23,8 +23,8 @@ use std::fs::Files;
 use std::io::Read;
 use std::thread::Threads;
 
-/// Tells the first fault of each file, one after another, and where none has one that of their plan; or else what was likely meant
-/// otherwise. Nothing is run.
+/// Tells the first fault of each file, one after another, and where none has one that of their
+/// plan; or else what was likely meant otherwise. Nothing is run.
 pub(crate) fn check<'a, G: AllocGlobal + Files + Threads, R: Read, E: Sink>(
     rt: &G,
     files: &InputFiles<'a>,
@@ -44,8 +44,8 @@ pub(crate) fn check<'a, G: AllocGlobal + Files + Threads, R: Read, E: Sink>(
     }
 }
 
-/// Whether the inputs that were read are a suite, or why they are none. Of a suite it tells what was likely meant otherwise. A fault is
-/// explained only where none was told before.
+/// Whether the inputs that were read are a suite, or why they are none. Of a suite it tells what
+/// was likely meant otherwise. A fault is explained only where none was told before.
 fn accept_reads<'a, E: Sink>(
     alloc: Global,
     reads: FileReads<'a>,
@@ -69,7 +69,8 @@ fn accept_reads<'a, E: Sink>(
     }
 }
 
-/// What was told of files: whether something is refused, and whether a file couldn't be read or memory ran out.
+/// What was told of files: whether something is refused, and whether a file couldn't be read or
+/// memory ran out.
 #[derive(Clone, Copy)]
 struct Tally {
     refused: bool,
@@ -196,7 +197,8 @@ impl Tally {
         }
     }
 
-    /// Whether something failed, also where this fault is the last one. It is told, if nothing was told before.
+    /// Whether something failed, also where this fault is the last one. It is told, if nothing was
+    /// told before.
     fn fails<E: Sink>(self, fault: &CommandFault<'_>, errors: &mut E) -> bool {
         if self.is_empty() {
             say(errors, fault);

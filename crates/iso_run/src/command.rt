@@ -52,12 +52,14 @@ use std::rt::Clock;
 use std::sync::Wait;
 use std::thread::Threads;
 
-/// Runs the program: reads the words, then the files that they name in the order settings, world, scripts, schedule, writes
-/// a report, a plan or a help page to `output`, and what is asked for besides, or a fault's line, to `errors`. Where no script is named, one is read
-/// from `input`. Answers the exit status: 0 where every top-level point is ok, or a plan or help was printed, 1 where
-/// some top-level point is not ok, 2 for refused input, 3 for want of memory, failed reads and writes, and workers that couldn't be
-/// started or lost a receipt. A failed write to `errors` changes nothing. It may wait for the workers of a run.
-/// How far a run has come, where that is asked for, is shown on the terminal that standard error is, if it is one.
+/// Runs the program: reads the words, then the files that they name in the order settings, world,
+/// scripts, schedule, writes a report, a plan or a help page to `output`, and what is asked for
+/// besides, or a fault's line, to `errors`. Where no script is named, one is read from `input`.
+/// Answers the exit status: 0 where every top-level point is ok, or a plan or help was printed, 1
+/// where some top-level point is not ok, 2 for refused input, 3 for want of memory, failed reads
+/// and writes, and workers that couldn't be started or lost a receipt. A failed write to `errors`
+/// changes nothing. It may wait for the workers of a run. How far a run has come, where that is
+/// asked for, is shown on the terminal that standard error is, if it is one.
 pub fn command<
     G: AllocGlobal + Clock + Files + Threads + Wait + Copy + Send + Sync + Drop + 'static,
     R: Read,
@@ -84,7 +86,8 @@ pub fn command<
     }
 }
 
-/// Says that memory ran out before the program began, or that a word is wrong, and answers the status.
+/// Says that memory ran out before the program began, or that a word is wrong, and answers the
+/// status.
 pub fn refuse_words<E: Sink>(fault: WordsFault, errors: &mut E) -> u8
     ensures { result ≡ exit_status (command_end (words_fault fault)) }
 {
@@ -253,7 +256,8 @@ fn asked_way(serial: bool) -> Way<'static>
     if serial { Way::Serial } else { Way::ByWorkers }
 }
 
-/// Runs what these bytes are as `run` does, and shows on the terminal how far the run has come, if that is asked for and it is one.
+/// Runs what these bytes are as `run` does, and shows on the terminal how far the run has come, if
+/// that is asked for and it is one.
 fn run_shown<
     'b,
     G: AllocGlobal + Clock + Threads + Wait + Copy + Send + Sync + Drop + 'static,
@@ -285,7 +289,8 @@ fn run_shown<
     ran
 }
 
-/// Runs in some way what these bytes are, as it is asked for with these files, and writes its report.
+/// Runs in some way what these bytes are, as it is asked for with these files, and writes its
+/// report.
 fn run<'b, G: AllocGlobal + Clock + Threads + Wait + Sync, P: Progress, W: Sink>(
     rt: &G,
     bytes: &'b InputBytes,
@@ -374,7 +379,8 @@ fn plan<'b, W: Sink>(
     }
 }
 
-/// Prints the plan of inputs, or its tests alone, without the places of their names or with them. The names are those of the scripts.
+/// Prints the plan of inputs, or its tests alone, without the places of their names or with them.
+/// The names are those of the scripts.
 fn print_plan<W: Sink>(
     alloc: Global,
     inputs: Inputs<'_>,
@@ -398,7 +404,8 @@ fn print_plan<W: Sink>(
     }
 }
 
-/// The inputs that these bytes are, whose scripts are lent, as they are asked for with these files and this shard.
+/// The inputs that these bytes are, whose scripts are lent, as they are asked for with these files
+/// and this shard.
 pub(crate) fn inputs_of<'b>(
     bytes: &'b InputBytes,
     scripts: &'b [&'b [u8]],
@@ -437,8 +444,8 @@ pub(crate) fn shard_of(asked: Option<AskedShard>) -> Option<Shard>
     }
 }
 
-/// Answers a run whose report was written, once the output is flushed, what is asked for besides is told and the files besides are written;
-/// or why it has none.
+/// Answers a run whose report was written, once the output is flushed, what is asked for besides is
+/// told and the files besides are written; or why it has none.
 fn told<'a, G: AllocGlobal + Files, W: Sink, E: Sink>(
     rt: &G,
     ran: Result<Summary, RunFault>,
@@ -480,8 +487,9 @@ pub(crate) fn flushed<W: Sink>(ok: bool, output: &mut W) -> Result<bool, Command
     Ok(ok)
 }
 
-/// A fault of a run, with the word that it is of: the name of a script, where one is named, or what names no class or test; and with what
-/// is told after it, also for GitHub, where that is asked for and memory is left.
+/// A fault of a run, with the word that it is of: the name of a script, where one is named, or what
+/// names no class or test; and with what is told after it, also for GitHub, where that is asked for
+/// and memory is left.
 pub(crate) fn named<'a>(
     alloc: Global,
     fault: RunFault,
@@ -518,8 +526,8 @@ pub(crate) fn with_mending<'a>(
     }
 }
 
-/// The fault of a path or a pattern that names nothing, by its number among those of the words, and after them those of the file; with what
-/// mends it, where that is known.
+/// The fault of a path or a pattern that names nothing, by its number among those of the words, and
+/// after them those of the file; with what mends it, where that is known.
 fn not_selected<'a>(
     index: usize,
     bytes: InputBytes,

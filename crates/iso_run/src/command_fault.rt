@@ -10,7 +10,8 @@ use iso_arguments::request::WordsFault;
 use iso_tap::memory::MemorySink;
 use std::alloc::{AllocError, AllocFailed};
 
-/// Why a command ends with status 2 or 3. It shows as what is written to standard error, without the last line feed.
+/// Why a command ends with status 2 or 3. It shows as what is written to standard error, without
+/// the last line feed.
 #[derive(Drop)]
 pub(crate) enum CommandFault<'a> {
     /// Wrong words, and what is said of them.
@@ -27,9 +28,11 @@ pub(crate) enum CommandFault<'a> {
     Uncounted,
     /// The faults of a check were told; whether one of them is other than that of refused input.
     Told(bool),
-    /// The path with this number of those that this file lists, counted from 0, names no class or test; and what mends it, where it is told.
+    /// The path with this number of those that this file lists, counted from 0, names no class or
+    /// test; and what mends it, where it is told.
     NotListed(Vec<u8>, usize, Option<MemorySink>),
-    /// A fault of the run, and the word that it is of: the name of a script, where one was named, or a path.
+    /// A fault of the run, and the word that it is of: the name of a script, where one was named,
+    /// or a path.
     Run(RunFault, Option<&'a str>),
     /// The same, with a text that says what mends it.
     Explained(RunFault, Option<&'a str>, MemorySink),

@@ -7,7 +7,8 @@ use std::alloc::{AllocError, Global};
 use std::fmt;
 use std::sync::atomic::{AtomicU32, Ordering};
 
-/// What is counted of a run. Whoever looks while bodies begin and end may find one number a moment older than another.
+/// What is counted of a run. Whoever looks while bodies begin and end may find one number a moment
+/// older than another.
 #[derive(Drop)]
 pub(crate) struct Counts {
     /// The tests of the plan; none as long as there is no plan.
@@ -101,7 +102,8 @@ impl<'g> Counter<'g> {
         self.counts.running.fetch_add(1, Ordering::SeqCst);
     }
 
-    /// A body of a node has ended, and well or not. Where it was to open a class and didn't, nothing runs of what stands there.
+    /// A body of a node has ended, and well or not. Where it was to open a class and didn't,
+    /// nothing runs of what stands there.
     fn end(&self, node: u32, kind: BodyKind, well: bool) {
         match kind {
             BodyKind::Test => self.counts.test(well),

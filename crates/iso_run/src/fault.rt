@@ -26,7 +26,8 @@ pub enum RunFault {
     Schedule(ScheduleFault),
     /// The first event of a schedule that was refused, counted from 0, and why.
     Refused(usize, Refused),
-    /// A schedule was accepted to its end, or the workers have ended, and a node but the root isn't finished.
+    /// A schedule was accepted to its end, or the workers have ended, and a node but the root isn't
+    /// finished.
     Unfinished,
     /// A thread for a worker couldn't be started.
     Start,

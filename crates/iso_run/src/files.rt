@@ -38,9 +38,9 @@ pub(crate) struct InputBytes {
     pub processors: u32,
 }
 
-/// Counts the processors, and reads the settings, the world, the scripts in turn, or a script from standard input where none is named,
-/// the schedule, and the file in which the paths of what is kept stand. Settings, a world or a schedule that isn't named counts as an
-/// empty file.
+/// Counts the processors, and reads the settings, the world, the scripts in turn, or a script from
+/// standard input where none is named, the schedule, and the file in which the paths of what is
+/// kept stand. Settings, a world or a schedule that isn't named counts as an empty file.
 pub(crate) fn read_files<'a, G: AllocGlobal + Files + Threads, R: Read>(
     rt: &G,
     files: &InputFiles<'a>,
@@ -166,7 +166,8 @@ fn all_scripts<'a>(
     Ok(scripts)
 }
 
-/// How many processors are counted with: as many as is asked for, those of the machine, but no more than may be asked for, or one.
+/// How many processors are counted with: as many as is asked for, those of the machine, but no more
+/// than may be asked for, or one.
 pub(crate) fn counted<'a, T: Threads>(
     rt: &T,
     asked: Option<Processors>,

@@ -12,8 +12,9 @@ use iso_tap::printer::Printer;
 use iso_tap::sink::Sink;
 use std::fs::Files;
 
-/// Writes what is asked for to the files that are named for it, each though another one can't be written, and answers whether all is ok. The last
-/// of the files that can't be written is answered, and each other one is told at once. Something was told before, or not.
+/// Writes what is asked for to the files that are named for it, each though another one can't be
+/// written, and answers whether all is ok. The last of the files that can't be written is answered,
+/// and each other one is told at once. Something was told before, or not.
 pub(crate) fn filed<'a, G: Files, E: Sink>(
     rt: &G,
     ok: bool,
@@ -39,8 +40,9 @@ pub(crate) fn filed<'a, G: Files, E: Sink>(
     }
 }
 
-/// Writes a text to a file, if one is named for it. Answers the file's name where it can't be written, else that of the one that was lost before,
-/// which is told where another one is. A line that comes after parts has an empty line before it.
+/// Writes a text to a file, if one is named for it. Answers the file's name where it can't be
+/// written, else that of the one that was lost before, which is told where another one is. A line
+/// that comes after parts has an empty line before it.
 fn unwritten<'a, G: Files, E: Sink>(
     rt: &G,
     lost: Option<&'a str>,

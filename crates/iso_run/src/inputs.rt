@@ -27,8 +27,8 @@ use iso_settings::settings::{Settings, read_settings};
 use iso_settings::world::{World, read_world};
 use std::alloc::Global;
 
-/// What a run is given: the bytes of each script, of the settings and of the world, what is kept of the scripts, and how many
-/// processors there are, at least 1.
+/// What a run is given: the bytes of each script, of the settings and of the world, what is kept of
+/// the scripts, and how many processors there are, at least 1.
 #[derive(Clone, Copy)]
 pub struct Inputs<'a> {
     pub scripts: &'a [&'a [u8]],
@@ -38,29 +38,31 @@ pub struct Inputs<'a> {
     pub only: &'a [&'a str],
     /// The patterns of the paths of others.
     pub patterns: &'a [&'a str],
-    /// The bytes of a file in which the paths of others stand, one a line. Without it, and where no path and no pattern is given, all
-    /// classes and tests are kept.
+    /// The bytes of a file in which the paths of others stand, one a line. Without it, and where no
+    /// path and no pattern is given, all classes and tests are kept.
     pub listed: Option<&'a [u8]>,
     /// What part of the top-level classes is kept of these. Without it each is.
     pub shard: Option<Shard>,
     pub processors: u32,
 }
 
-/// What inputs are: scripts, settings, the values that resources start with, and the plan of what is kept of the scripts
-/// under the settings.
+/// What inputs are: scripts, settings, the values that resources start with, and the plan of what
+/// is kept of the scripts under the settings.
 #[derive(Drop)]
 pub struct Suite {
     pub scripts: Vec<Script>,
-    /// Where the classes and tests of each script stand, in written order, where their places are kept.
+    /// Where the classes and tests of each script stand, in written order, where their places are
+    /// kept.
     pub places: Vec<Vec<NodePlace>>,
     pub settings: Settings,
     pub world: World,
     pub plan: Plan,
 }
 
-/// Reads inputs as a suite: the settings, the world and the scripts in turn, and plans what is kept of the scripts. The first
-/// fault in this order is answered. Settings or a world that isn't UTF-8 is `NotToml`. Where places are asked for, those of the
-/// classes and tests of each script are kept. Want of memory may be answered at each growth.
+/// Reads inputs as a suite: the settings, the world and the scripts in turn, and plans what is kept
+/// of the scripts. The first fault in this order is answered. Settings or a world that isn't UTF-8
+/// is `NotToml`. Where places are asked for, those of the classes and tests of each script are
+/// kept. Want of memory may be answered at each growth.
 pub fn read_inputs(alloc: Global, inputs: Inputs<'_>, places: bool) -> Result<Suite, RunFault>
     requires { 1 ≤ inputs.processors }
     ensures { MatchResult result (IsRead inputs.entry places) (NoSuite inputs.entry) }
@@ -68,7 +70,8 @@ pub fn read_inputs(alloc: Global, inputs: Inputs<'_>, places: bool) -> Result<Su
     read_explained(alloc, inputs, places, &mut ScriptMending::unasked())
 }
 
-/// Reads inputs as `read_inputs` does. Where places are asked for, it is told what mends the first script that is none, if that is asked for.
+/// Reads inputs as `read_inputs` does. Where places are asked for, it is told what mends the first
+/// script that is none, if that is asked for.
 pub(crate) fn read_explained(
     alloc: Global,
     inputs: Inputs<'_>,
@@ -139,8 +142,8 @@ struct ReadScripts {
     places: Vec<Vec<NodePlace>>,
 }
 
-/// Reads the scripts of inputs in turn, up to the first that is none, and keeps places, if it is to. Settings and world are read
-/// before.
+/// Reads the scripts of inputs in turn, up to the first that is none, and keeps places, if it is
+/// to. Settings and world are read before.
 fn read_scripts(
     alloc: Global,
     inputs: Inputs<'_>,
@@ -168,8 +171,8 @@ fn read_scripts(
     Ok(read)
 }
 
-/// Reads a script, and adds the places of what stands in it, where they are kept. Of bytes that are none it is told what mends them, where that is
-/// asked for.
+/// Reads a script, and adds the places of what stands in it, where they are kept. Of bytes that are
+/// none it is told what mends them, where that is asked for.
 fn read_one(
     alloc: Global,
     bytes: &[u8],
@@ -193,7 +196,8 @@ fn read_one(
     Ok(script)
 }
 
-/// Reads a script with the places of what stands in it. Of bytes that are none it is told what mends them, where that is asked for.
+/// Reads a script with the places of what stands in it. Of bytes that are none it is told what
+/// mends them, where that is asked for.
 pub(crate) fn placed(
     alloc: Global,
     bytes: &[u8],

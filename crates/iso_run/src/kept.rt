@@ -14,7 +14,8 @@ use iso_selection::wanted::all_wanted;
 use iso_settings::settings::Settings;
 use std::alloc::Global;
 
-/// The plan of what inputs keep of their scripts. Where nothing but paths is asked for, it is `build_only` of these.
+/// The plan of what inputs keep of their scripts. Where nothing but paths is asked for, it is
+/// `build_only` of these.
 pub(crate) fn plan_kept(
     alloc: Global,
     scripts: &[Script],

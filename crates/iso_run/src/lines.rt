@@ -5,6 +5,7 @@ use iso_plan::fault::PlanFault;
 use iso_schedule::fault::ScheduleFault;
 use iso_script::fault::ScriptFault;
 use iso_settings::fault::SettingsFault;
+use iso_summary::unseen::is_unseen;
 use iso_tap::printer::Printer;
 use iso_tap::sink::Sink;
 use iso_tap::text::write_text;
@@ -45,7 +46,8 @@ impl fmt::Display for CommandFault<'_> {
     }
 }
 
-/// The line of a fault of a run. The word is the name of the script that the fault is of, where one was named, or the path.
+/// The line of a fault of a run. The word is the name of the script that the fault is of, where one
+/// was named, or the path.
 #[derive(Clone, Copy)]
 struct RunFaultLine<'a> {
     fault: &'a RunFault,
@@ -79,7 +81,8 @@ impl fmt::Display for RunFaultLine<'_> {
     }
 }
 
-/// The path with this number of those that a file lists, counted from 0. Where it isn't UTF-8, U+FFFD stands.
+/// The path with this number of those that a file lists, counted from 0. Where it isn't UTF-8,
+/// U+FFFD stands.
 #[derive(Clone, Copy)]
 struct ListedPath<'a> {
     file: &'a [u8],
@@ -115,8 +118,9 @@ pub(crate) fn listed_at(file: &[u8], index: usize) -> &[u8] {
     &[]
 }
 
-/// What may hold any text, as a key or a file's name, with control characters as in a TOML basic string (`\n`, `\u001B`): it
-/// stays in its line, and no terminal obeys it.
+/// What may hold any text, as a key or a file's name, with the characters that no reader sees as in
+/// a TOML basic string (`\n`, `\u001B`): it stays in its line, it is read as it is spelled, and no
+/// terminal obeys it.
 #[derive(Clone, Copy)]
 struct Escaped<T: fmt::Display>(T);
 
@@ -127,7 +131,7 @@ impl<T: fmt::Display> fmt::Display for Escaped<T> {
     }
 }
 
-/// Writes on all characters but control characters, and of these their escapes.
+/// Writes on all characters that are seen, and of the others their escapes.
 #[derive(Drop)]
 struct EscapingWriter<'a, W: fmt::Write> {
     writer: &'a mut W,
@@ -140,7 +144,7 @@ impl<W: fmt::Write> fmt::Write for EscapingWriter<'_, W> {
                 '\n' => self.writer.write_str("\\n")?,
                 '\r' => self.writer.write_str("\\r")?,
                 '\t' => self.writer.write_str("\\t")?,
-                _ if c.is_control() => write!(self.writer, "\\u{:04X}", u32::from(c))?,
+                _ if is_unseen(c) => escape(&mut *self.writer, c)?,
                 _ => self.writer.write_char(c)?,
             }
         }
@@ -148,7 +152,16 @@ impl<W: fmt::Write> fmt::Write for EscapingWriter<'_, W> {
     }
 }
 
-/// A text of several lines, whose other control characters are escaped, without the white space at its end.
+/// Writes a character by its number of four digits, or of eight where these are too few.
+fn escape<W: fmt::Write>(writer: &mut W, c: char) -> fmt::Result {
+    match u32::from(c) {
+        number @ ..=0xFFFF => write!(writer, "\\u{number:04X}"),
+        number => write!(writer, "\\U{number:08X}"),
+    }
+}
+
+/// A text of several lines, whose other characters that no reader sees are escaped, without the
+/// white space at its end.
 #[derive(Clone, Copy)]
 struct EscapedLines<'a>(&'a str);
 
@@ -165,7 +178,8 @@ impl fmt::Display for EscapedLines<'_> {
     }
 }
 
-/// Writes a fault's line, and what mends it, where that is told, as far as the sink takes them; nothing of faults that were told before.
+/// Writes a fault's line, and what mends it, where that is told, as far as the sink takes them;
+/// nothing of faults that were told before.
 pub(crate) fn say<E: Sink>(errors: &mut E, fault: &CommandFault<'_>) {
     if let CommandFault::Told(_) = fault {
         return;

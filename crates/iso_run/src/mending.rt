@@ -35,7 +35,8 @@ use std::alloc::Global;
 /// How a world is called that no file has.
 const WORLD: &str = "world";
 
-/// What mends a fault of a run of these bytes, as it is asked for with these files, where that is to be told. None where memory runs out.
+/// What mends a fault of a run of these bytes, as it is asked for with these files, where that is
+/// to be told. None where memory runs out.
 fn mending(
     alloc: Global,
     fault: &RunFault,
@@ -50,8 +51,9 @@ fn mending(
     Some(text)
 }
 
-/// What is told after the line of a fault, where something is asked for and memory is left: what mends it, which of a script was told while it was
-/// read, and then a script's fault as GitHub reads it.
+/// What is told after the line of a fault, where something is asked for and memory is left: what
+/// mends it, which of a script was told while it was read, and then a script's fault as GitHub
+/// reads it.
 pub(crate) fn after_fault(
     alloc: Global,
     fault: &RunFault,
@@ -74,7 +76,8 @@ pub(crate) fn after_fault(
     }
 }
 
-/// A text with a script's fault after it, as GitHub reads it; as it was where the fault is of something else, or memory runs out.
+/// A text with a script's fault after it, as GitHub reads it; as it was where the fault is of
+/// something else, or memory runs out.
 fn with_refusal(
     alloc: Global,
     fault: &RunFault,
@@ -245,7 +248,8 @@ fn placed_scripts(alloc: Global, scripts: &[Vec<u8>]) -> Option<Placed> {
     Some(placed)
 }
 
-/// The suite that these bytes are, with its places, or why they are none. It is told what mends the first script that is none, where that is asked for.
+/// The suite that these bytes are, with its places, or why they are none. It is told what mends the
+/// first script that is none, where that is asked for.
 pub(crate) fn suite_of<'b>(
     alloc: Global,
     bytes: &'b InputBytes,

@@ -20,8 +20,8 @@ use iso_waits::all::all_waits;
 use iso_waits::wait::NodeWait;
 use std::alloc::{AllocError, Global};
 
-/// Tells what is asked for of the times of a run, and answers what was watched of it, if that is asked for. What nodes waited for is worked
-/// out only where it is.
+/// Tells what is asked for of the times of a run, and answers what was watched of it, if that is
+/// asked for. What nodes waited for is worked out only where it is.
 pub(crate) fn observe(
     alloc: Global,
     run: &Observed<'_, '_>,

@@ -16,7 +16,8 @@ use std::alloc::{AllocError, AllocGlobal, Global};
 use std::fs::{File, Files};
 use std::io;
 
-/// A script without classes. It stands for one that isn't there, so that those behind it keep their numbers.
+/// A script without classes. It stands for one that isn't there, so that those behind it keep their
+/// numbers.
 const NO_SCRIPT: &str = "team gone\n";
 
 /// The names of files below a folder.
@@ -108,7 +109,8 @@ pub(crate) struct Older {
     pub missing: u32,
 }
 
-/// Reads the world and the scripts of an older state. One that isn't there is empty, or a script without classes.
+/// Reads the world and the scripts of an older state. One that isn't there is empty, or a script
+/// without classes.
 pub(crate) fn read_older<'n, G: AllocGlobal + Files>(
     rt: &G,
     files: &InputFiles<'n>,

@@ -24,8 +24,8 @@ enum Part<'p> {
     TooLarge(&'p str),
 }
 
-/// Tells on standard error what is asked for there of a run of these files, as far as the sink takes it, with an empty line between two
-/// parts. Answers whether there are any.
+/// Tells on standard error what is asked for there of a run of these files, as far as the sink
+/// takes it, with an empty line between two parts. Answers whether there are any.
 pub(crate) fn say_parts<E: Sink>(
     besides: &Besides<'_, '_>,
     files: &InputFiles<'_>,
@@ -117,7 +117,8 @@ fn is_empty(part: &Part<'_>) -> bool
     }
 }
 
-/// Writes a part, and where it comes after another one an empty line before it; nothing of an empty text.
+/// Writes a part, and where it comes after another one an empty line before it; nothing of an empty
+/// text.
 fn print_part<E: Sink>(
     printer: &mut Printer<'_, E>,
     after: bool,

@@ -30,8 +30,8 @@ use iso_why::plan::{write_plan_why, write_tests_why};
 use iso_why::reach::reach;
 use std::alloc::Global;
 
-/// Reads inputs as `run_serial` does, for every script, and writes their plan to the sink: the line `workers W`, and then
-/// of each node its number, kind, mode, locks and path.
+/// Reads inputs as `run_serial` does, for every script, and writes their plan to the sink: the line
+/// `workers W`, and then of each node its number, kind, mode, locks and path.
 ///
 /// The first fault of the inputs is answered; with any but `Write` the sink is asked nothing.
 pub fn show_plan<W: Sink>(alloc: Global, inputs: Inputs<'_>, sink: &mut W) -> Result<(), RunFault>
@@ -45,7 +45,8 @@ pub fn show_plan<W: Sink>(alloc: Global, inputs: Inputs<'_>, sink: &mut W) -> Re
     }
 }
 
-/// Reads inputs as `show_plan` does, and writes of their plan the lines of its tests alone, with the numbers that they have in it.
+/// Reads inputs as `show_plan` does, and writes of their plan the lines of its tests alone, with
+/// the numbers that they have in it.
 ///
 /// The first fault of the inputs is answered; with any but `Write` the sink is asked nothing.
 pub fn show_tests<W: Sink>(alloc: Global, inputs: Inputs<'_>, sink: &mut W) -> Result<(), RunFault>
@@ -59,8 +60,9 @@ pub fn show_tests<W: Sink>(alloc: Global, inputs: Inputs<'_>, sink: &mut W) -> R
     }
 }
 
-/// Reads inputs as `show_plan` does, and writes their plan, or of it the lines of its tests alone, with the place of each node's name as
-/// a last field. The names are those of the scripts, in their order; a script without one is standard input.
+/// Reads inputs as `show_plan` does, and writes their plan, or of it the lines of its tests alone,
+/// with the place of each node's name as a last field. The names are those of the scripts, in their
+/// order; a script without one is standard input.
 ///
 /// The first fault of the inputs is answered; with any but `Write` the sink is asked nothing.
 pub fn show_places<W: Sink>(
@@ -82,8 +84,9 @@ pub fn show_places<W: Sink>(
     }
 }
 
-/// Reads inputs as `show_plan` does, and writes their plan, or of it the lines of its tests alone, with the place of each node's name as
-/// a last field where places are asked for, and below the line of each node why its mode and its locks are so.
+/// Reads inputs as `show_plan` does, and writes their plan, or of it the lines of its tests alone,
+/// with the place of each node's name as a last field where places are asked for, and below the
+/// line of each node why its mode and its locks are so.
 ///
 /// The first fault of the inputs is answered; with any but `Write` the sink is asked nothing.
 pub fn show_why<W: Sink>(
@@ -107,8 +110,8 @@ pub fn show_why<W: Sink>(
     }
 }
 
-/// Reads inputs as `show_plan` does, and writes for each key of their plan which classes and tests take it, and how many tests can't run
-/// beside one another for it.
+/// Reads inputs as `show_plan` does, and writes for each key of their plan which classes and tests
+/// take it, and how many tests can't run beside one another for it.
 ///
 /// The first fault of the inputs is answered; with any but `Write` the sink is asked nothing.
 pub fn show_conflicts<W: Sink>(
@@ -172,7 +175,8 @@ fn write_places<W: Sink>(
     }
 }
 
-/// The sites of a suite's nodes where places are asked for, and else none. There is no fault but want of memory.
+/// The sites of a suite's nodes where places are asked for, and else none. There is no fault but
+/// want of memory.
 fn sites_asked(alloc: Global, suite: &Suite, places: bool) -> Result<Sites, RunFault>
     ensures found { places ≡ true → IfOk result (AreSites (tree (map script_of suite.now.scripts.items)) (all_sites (places_in suite.now.places.items)) (tree_of suite.now.plan)) }
     ensures none { places ≡ false → IfOk result (λ sites. sites ≡ []) }
@@ -185,7 +189,8 @@ fn sites_asked(alloc: Global, suite: &Suite, places: bool) -> Result<Sites, RunF
     }
 }
 
-/// The sites of a suite's nodes. Each node of a suite that was read has one, so there is no fault but want of memory.
+/// The sites of a suite's nodes. Each node of a suite that was read has one, so there is no fault
+/// but want of memory.
 pub(crate) fn sites_of(alloc: Global, suite: &Suite) -> Result<Sites, RunFault>
     ensures found { IfOk result (AreSites (tree (map script_of suite.now.scripts.items)) (all_sites (places_in suite.now.places.items)) (tree_of suite.now.plan)) }
     ensures fault { IfErr result (λ fault. fault ≡ Memory) }

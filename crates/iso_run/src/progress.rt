@@ -39,8 +39,9 @@ impl Progress for Unshown {
     fn ends(&mut self) {}
 }
 
-/// A line of a terminal, if it is asked for, which a thread of its own writes over until the run has ended. Where there is no memory or no
-/// thread for it nothing is shown, and the run goes on. So it does where the terminal fails.
+/// A line of a terminal, if it is asked for, which a thread of its own writes over until the run
+/// has ended. Where there is no memory or no thread for it nothing is shown, and the run goes on.
+/// So it does where the terminal fails.
 #[derive(Drop)]
 pub(crate) struct Shown<R> {
     rt: R,
@@ -125,7 +126,8 @@ fn begin_showing<
     Some(Showing { board, thread })
 }
 
-/// Writes how far a run has come until it has ended, each line over the last, and clears the last one then.
+/// Writes how far a run has come until it has ended, each line over the last, and clears the last
+/// one then.
 fn write_over<R: Wait + Clock, T: Eprint>(rt: &R, terminal: &T, board: &Board) {
     let mut shown = false;
     let mut pause = FIRST_PAUSE;

@@ -9,7 +9,8 @@ use std::alloc::{AllocError, Global};
 use std::collections::BTreeMap;
 use toml::{Table, Value};
 
-/// The first property, by its name's bytes, that starts with another value in the second of two worlds, which were read from these bytes.
+/// The first property, by its name's bytes, that starts with another value in the second of two
+/// worlds, which were read from these bytes.
 pub(crate) fn first_apart(
     alloc: Global,
     before: &World,

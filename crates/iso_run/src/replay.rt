@@ -16,12 +16,14 @@ use iso_tap::sink::Sink;
 use iso_telling::tells::Tells;
 use std::alloc::Global;
 
-/// Replays a recorded schedule on one thread, event by event, with as many workers as the settings give, tells what is
-/// asked for besides, without times, and writes the suite's report to the sink. It is the report that `run_serial` writes.
+/// Replays a recorded schedule on one thread, event by event, with as many workers as the settings
+/// give, tells what is asked for besides, without times, and writes the suite's report to the sink.
+/// It is the report that `run_serial` writes.
 ///
-/// The inputs are read as by `run_serial`, and the schedule after their plan: the first fault is answered. Then comes the
-/// first event that is refused, and `Unfinished` where a node but the root is left after the last event. Nothing is written
-/// before: with any fault but `Write` the sink is asked nothing. Want of memory may be answered at each growth.
+/// The inputs are read as by `run_serial`, and the schedule after their plan: the first fault is
+/// answered. Then comes the first event that is refused, and `Unfinished` where a node but the root
+/// is left after the last event. Nothing is written before: with any fault but `Write` the sink is
+/// asked nothing. Want of memory may be answered at each growth.
 pub fn run_schedule<W: Sink>(
     alloc: Global,
     inputs: Inputs<'_>,

@@ -27,8 +27,8 @@ pub struct Summary {
     pub all_ok: bool,
 }
 
-/// A run that is over: its results, how many microseconds the bodies of its nodes took, as far as that was measured, and what was watched of
-/// it.
+/// A run that is over: its results, how many microseconds the bodies of its nodes took, as far as
+/// that was measured, and what was watched of it.
 #[derive(Clone, Copy)]
 pub(crate) struct Finished<'r, 't, 'p> {
     pub results: &'r Results<'p>,
@@ -36,7 +36,8 @@ pub(crate) struct Finished<'r, 't, 'p> {
     pub watched: Option<Watched<'t>>,
 }
 
-/// Tells what is asked for besides, and writes the report of the results of all nodes of a suite, whose scripts have these bytes.
+/// Tells what is asked for besides, and writes the report of the results of all nodes of a suite,
+/// whose scripts have these bytes.
 pub(crate) fn write_results<W: Sink>(
     alloc: Global,
     suite: &Suite,

@@ -17,7 +17,8 @@ const RESOURCES_LOCALE: &str = "Resources.LOCALE";
 /// What stands before the path of a file in its key.
 const FILE: &str = "file:";
 
-/// The key of a resource that was likely meant by a declared key, in two parts. None where the key is a resource's, or nearly names none.
+/// The key of a resource that was likely meant by a declared key, in two parts. None where the key
+/// is a resource's, or nearly names none.
 pub(crate) fn meant<'k>(key: &'k str) -> Option<(&'static str, &'k str)> {
     if key.eq_ignore_ascii_case(PROPERTIES) && key != PROPERTIES {
         return Some((PROPERTIES, ""));

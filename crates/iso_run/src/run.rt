@@ -28,12 +28,12 @@ use iso_times::times::Times;
 use std::alloc::{AllocError, Global};
 use std::rt::Clock;
 
-/// Runs a suite on one thread, depth first, tells what is asked for besides, and writes its report to the sink. The clock is read only
-/// where times are told.
+/// Runs a suite on one thread, depth first, tells what is asked for besides, and writes its report
+/// to the sink. The clock is read only where times are told.
 ///
-/// The settings are read first, then the world, the scripts in turn, and the plan of the scripts is made: the first
-/// fault is answered. Nothing is written before the suite has run; with any fault but `Write` the sink is asked nothing.
-/// Want of memory may be answered at each growth.
+/// The settings are read first, then the world, the scripts in turn, and the plan of the scripts is
+/// made: the first fault is answered. Nothing is written before the suite has run; with any fault
+/// but `Write` the sink is asked nothing. Want of memory may be answered at each growth.
 pub fn run_serial<C: Clock, W: Sink>(
     clock: &C,
     alloc: Global,
@@ -83,7 +83,8 @@ pub(crate) fn run_serial_shown<C: Clock, P: Progress, W: Sink>(
     }
 }
 
-/// The results of a suite, when its bodies ran, how many microseconds those of its nodes took, and what was watched, where that was measured.
+/// The results of a suite, when its bodies ran, how many microseconds those of its nodes took, and
+/// what was watched, where that was measured.
 #[derive(Drop)]
 struct Ran<'s> {
     results: Results<'s>,
@@ -92,7 +93,8 @@ struct Ran<'s> {
     watch: Option<Watch>,
 }
 
-/// Runs a suite at a gate, tells of its course, and measures and watches it as far as what is told asks for it.
+/// Runs a suite at a gate, tells of its course, and measures and watches it as far as what is told
+/// asks for it.
 fn run_timed<'s, C: Clock, G: Gate>(
     clock: &C,
     alloc: Global,

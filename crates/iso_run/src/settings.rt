@@ -31,7 +31,8 @@ use std::thread::Threads;
 /// How settings are called that no file has.
 pub(crate) const SETTINGS: &str = "settings";
 
-/// Prints what the settings in a file come to, and tells on standard error what was likely meant otherwise. Without a name there is none.
+/// Prints what the settings in a file come to, and tells on standard error what was likely meant
+/// otherwise. Without a name there is none.
 pub(crate) fn show_settings<'a, G: AllocGlobal + Files + Threads, W: Sink, E: Sink>(
     rt: &G,
     name: Option<&'a str>,
@@ -57,7 +58,8 @@ pub(crate) fn show_settings<'a, G: AllocGlobal + Files + Threads, W: Sink, E: Si
     }
 }
 
-/// What settings come to that were read from these bytes, where so many processors are counted with.
+/// What settings come to that were read from these bytes, where so many processors are counted
+/// with.
 fn listing(
     alloc: Global,
     bytes: &[u8],

@@ -6,8 +6,9 @@ use iso_plan::plan::Plan;
 use iso_times::times::Times;
 use std::alloc::{AllocError, Global};
 
-/// How many microseconds the bodies of each node took, as far as they were measured; none at all where they weren't. A node has no time where nothing of it was to be run: it
-/// is disabled, or a class without blocks of its own.
+/// How many microseconds the bodies of each node took, as far as they were measured; none at all
+/// where they weren't. A node has no time where nothing of it was to be run: it is disabled, or a
+/// class without blocks of its own.
 pub(crate) fn node_times(
     alloc: Global,
     timed: bool,

@@ -26,8 +26,9 @@ use iso_tap::printer::{Piece, Printer};
 use iso_tap::sink::Sink;
 use std::alloc::Global;
 
-/// Hands on the bytes that were read, as they are. Where faults are to be explained, it tells on standard error what was likely meant
-/// otherwise; what is no suite is then refused at once, so that it isn't read once more.
+/// Hands on the bytes that were read, as they are. Where faults are to be explained, it tells on
+/// standard error what was likely meant otherwise; what is no suite is then refused at once, so
+/// that it isn't read once more.
 pub(crate) fn looked_over<'a, E: Sink>(
     alloc: Global,
     bytes: InputBytes,

@@ -10,7 +10,8 @@ use iso_telling::watched::Watched;
 use iso_times::times::Times;
 use iso_waits::wait::NodeWait;
 
-/// What was watched of a run besides the times of its bodies: its figures, what its nodes waited for, and which bodies were critical.
+/// What was watched of a run besides the times of its bodies: its figures, what its nodes waited
+/// for, and which bodies were critical.
 #[derive(Drop)]
 pub(crate) struct Watch {
     pub figures: Figures,

@@ -41,16 +41,19 @@ use std::sync::Wait;
 use std::thread;
 use std::thread::{Builder, JoinHandle, Threads};
 
-/// The stack of a worker's thread, in bytes, whatever `ulimit -s` says. The deepest accepted body takes less than a tenth of it.
+/// The stack of a worker's thread, in bytes, whatever `ulimit -s` says. The deepest accepted body
+/// takes less than a tenth of it.
 const WORKER_STACK: usize = 2 << 20;
 
-/// Runs a suite by as many workers as its settings give, tells what is asked for besides, and writes its report to the sink. It is the
-/// report that `run_serial` writes, whatever workers there are and whatever the gate lets them do. The clock is read only where times are told.
+/// Runs a suite by as many workers as its settings give, tells what is asked for besides, and
+/// writes its report to the sink. It is the report that `run_serial` writes, whatever workers there
+/// are and whatever the gate lets them do. The clock is read only where times are told.
 ///
-/// The inputs are read as by `run_serial`: the first fault is answered. Then comes the first of these that applies: `Start` where a
-/// thread could not be started, `Memory`, `Lost`, `Unfinished`. Nothing is written before all workers have ended: with any fault but
-/// `Write` the sink is asked nothing. Want of memory may be answered at each growth. It may wait, as workers do for one another and
-/// at the gate.
+/// The inputs are read as by `run_serial`: the first fault is answered. Then comes the first of
+/// these that applies: `Start` where a thread could not be started, `Memory`, `Lost`, `Unfinished`.
+/// Nothing is written before all workers have ended: with any fault but `Write` the sink is asked
+/// nothing. Want of memory may be answered at each growth. It may wait, as workers do for one
+/// another and at the gate.
 pub fn run_workers<R: Threads + Wait + Clock + Sync, G: Gate + Sync, W: Sink>(
     rt: &R,
     alloc: Global,
@@ -105,7 +108,8 @@ pub(crate) fn run_workers_shown<
     write_results(alloc, &suite, inputs.scripts, &run, tells, sink)
 }
 
-/// The book of a suite's run, when its bodies ran, how many microseconds those of its nodes took, and what was watched, where that was measured.
+/// The book of a suite's run, when its bodies ran, how many microseconds those of its nodes took,
+/// and what was watched, where that was measured.
 #[derive(Drop)]
 struct RanBook<'s> {
     book: Book<'s>,
@@ -114,7 +118,8 @@ struct RanBook<'s> {
     watch: Option<Watch>,
 }
 
-/// Has its workers run a suite, tells of its course, and measures and watches it as far as what is told asks for it.
+/// Has its workers run a suite, tells of its course, and measures and watches it as far as what is
+/// told asks for it.
 fn run_timed<'s, L: Ground + Send + Sync, R: Threads + Wait + Clock + Sync, G: Gate + Sync>(
     rt: &R,
     alloc: Global,
@@ -172,8 +177,8 @@ struct FloorRun<'s> {
     started: u32,
 }
 
-/// Has its workers run a suite, each in a seat of its own, and answers the book of the run. A worker whom the suite can't keep busy isn't
-/// started.
+/// Has its workers run a suite, each in a seat of its own, and answers the book of the run. A
+/// worker whom the suite can't keep busy isn't started.
 fn run_on_floor<'s, L: Ground + Send + Sync, R: Threads + Wait + Sync, G: Gate + Sync>(
     rt: &R,
     alloc: Global,
@@ -237,7 +242,8 @@ fn seats_on<'a, L: Ground, R: Wait>(
     Ok(seats)
 }
 
-/// Has the worker of each seat work to its end, the first here and each other in a thread of its own, and answers the seats.
+/// Has the worker of each seat work to its end, the first here and each other in a thread of its
+/// own, and answers the seats.
 fn run_seats<'a, L: Ground + Send + Sync, R: Threads + Wait + Sync, G: Gate + Sync>(
     rt: &R,
     alloc: Global,
@@ -304,7 +310,8 @@ fn seats_of<'a, L: Ground, R: Threads>(
     }
 }
 
-/// Puts the seat of a worker that has ended to those of others, and answers whether there was memory for this and for its work.
+/// Puts the seat of a worker that has ended to those of others, and answers whether there was
+/// memory for this and for its work.
 fn keep<'a, L: Ground>(seats: &mut Vec<Seat<'a, L>>, end: WorkEnd<'a, L>) -> bool {
     let WorkEnd { seat, cause } = end;
     seats.push(seat).is_ok() && cause != Cause::OutOfMemory

@@ -1,4 +1,5 @@
-//! Figures of runs whose bodies are held, each for as long, by a gate that sleeps: no processor is in the way.
+//! Figures of runs whose bodies are held, each for as long, by a gate that sleeps: no processor is
+//! in the way.
 
 use crate::suites::{Surroundings, expect};
 use iso_lifecycle::gate::Gate;
@@ -133,8 +134,8 @@ fn stats_of<R: Abort + Clock + Threads + Wait + Sync>(
     }
 }
 
-/// The digits of the number that stands behind some words in a text, without its point; 0 where there is none. Of a time it is hundredths of
-/// a millisecond, in whichever of s and ms it is told.
+/// The digits of the number that stands behind some words in a text, without its point; 0 where
+/// there is none. Of a time it is hundredths of a millisecond, in whichever of s and ms it is told.
 fn number_behind(text: &[u8], words: &str) -> u64 {
     let words = words.as_bytes();
     let Some(at) = text

@@ -1,4 +1,5 @@
-//! The example of three teams: properties, a locale, files, a class that isn't opened, a skipped test, an isolated class.
+//! The example of three teams: properties, a locale, files, a class that isn't opened, a skipped
+//! test, an isolated class.
 
 pub(crate) const WORLD: &str = r#"locale = "de"
 

@@ -17,7 +17,8 @@ use std::rt::Clock;
 use std::sync::Wait;
 use std::thread::Threads;
 
-/// Runs inputs by workers whose bodies come to a gate, and asserts the report and whether all is ok in it.
+/// Runs inputs by workers whose bodies come to a gate, and asserts the report and whether all is ok
+/// in it.
 fn expect_report<R: Abort + Clock + Threads + Wait + Sync, G: Gate + Sync>(
     rt: &R,
     alloc: Global,

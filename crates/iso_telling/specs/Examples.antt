@@ -45,8 +45,8 @@ skipped_at place n = with_verdict (Skipped (at_place place))
 abbrev pub faulted_of : ℕ → Outcome
 faulted_of n = with_verdict (Fault BadCount (record { message = codes "bad count"; place = Row Test 1 }))
 
--- the sites of Cart, a, Till, b, Drawer, c, d, Desk, e, f: Cart has an after_all at line 3 and a before_each at line 6, Till a before_all at
--- line 12
+-- the sites of Cart, a, Till, b, Drawer, c, d, Desk, e, f: Cart has an after_all at line 3 and a
+-- before_each at line 6, Till a before_all at line 12
 abbrev pub till_sites : List Site
 till_sites =
     all_sites (

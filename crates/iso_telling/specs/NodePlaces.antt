@@ -11,8 +11,8 @@ use Rattle.iso_telling.specs.ToldLines.{line_told, name_line}
 abbrev pub nowhere : PlacedView
 nowhere = record { file = []; line = 0; ended = 0 }
 
--- where a node other than the root stands: the name of its script, or `stdin` where none has a name, the line of its own name, and the line
--- that is told of it
+-- where a node other than the root stands: the name of its script, or `stdin` where none has a
+-- name, the line of its own name, and the line that is told of it
 abbrev pub place_told : (names : List (List ℕ)) → List Row → List Site → ℕ → (ℕ → Outcome) → PlacedView
 place_told names tree sites n outcome =
     record {

@@ -15,7 +15,8 @@ use Rattle.iso_telling.specs.declared.watched.Watched.{Watched}
 use Rattle.iso_times.specs.declared.times.BodyTime.{BodyTime}
 use Rattle.iso_waits.specs.declared.wait.NodeWait.{NodeWait}
 
--- what was watched of a run: the times of its bodies, its figures, what its nodes waited for, and which bodies were critical
+-- what was watched of a run: the times of its bodies, its figures, what its nodes waited for, and
+-- which bodies were critical
 pub record WatchedView : Type 0 where
   pub bodies : List (Option BodyTime)
   pub figures : Figures
@@ -29,7 +30,8 @@ watched_of w = record { bodies = w.times.now; figures = w.figures.now; waits = w
 abbrev pub measured : RunView → WatchedView → MeasuredView
 measured run w = measured_of run w.bodies w.figures w.waits w.critical
 
--- the page of a run under these settings with these lines of its scripts, of which this was watched, where it was
+-- the page of a run under these settings with these lines of its scripts, of which this was
+-- watched, where it was
 abbrev pub page_of : RunView → Settings → List (List LineView) → Option WatchedView → PageText → List ℕ
 page_of run settings lines watched asked = page_text run settings lines (commands_of asked.commands) (option_map (measured run) watched)
 

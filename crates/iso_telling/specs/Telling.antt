@@ -40,8 +40,8 @@ IsTold text None new = new ≡ None
 IsTold text (Some old) None = ⊥
 IsTold text (Some old) (Some new) = Wrote old new text
 
--- A text is the summary of outcomes: of the nodes that are told of, each at the line that is told of it, which its site gives, and with what
--- mends it, where that is asked for.
+-- A text is the summary of outcomes: of the nodes that are told of, each at the line that is told
+-- of it, which its site gives, and with what mends it, where that is asked for.
 abbrev pub summary_of : (texts : List (List ℕ)) → List Row → (ℕ → Outcome) → List Site → (names : List (List ℕ)) → SummaryText → List ℕ
 summary_of texts tree outcome sites names asked =
     let nodes = told_nodes tree outcome asked.skipped in
@@ -75,13 +75,14 @@ wants_places asked = is_some asked.summary || (is_some asked.junit || (is_some a
 abbrev pub wants_times : Tells → Bool
 wants_times asked = is_some asked.junit || (is_some asked.html || is_some asked.durations)
 
--- a run whose nodes stand at these sites and whose bodies took these times, as it is told in JUnit's XML and on a page
+-- a run whose nodes stand at these sites and whose bodies took these times, as it is told in
+-- JUnit's XML and on a page
 abbrev pub run_told : (names : List (List ℕ)) → List Row → (ℕ → Outcome) → (times : List (Option ℕ)) → List Site → RunView
 run_told names tree outcome times sites =
     record { tree = tree; outcome = outcome; places = node_places names tree sites outcome; times = times }
 
--- Of the outcomes of a tree's nodes, which stand at these sites and whose bodies took these times, all was told that is asked for with places,
--- and with what was watched of the run.
+-- Of the outcomes of a tree's nodes, which stand at these sites and whose bodies took these times,
+-- all was told that is asked for with places, and with what was watched of the run.
 pub record HasToldPlaces (written : WrittenView) (tree : List Row) (settings : Settings) (outcome : ℕ → Outcome) (times : List (Option ℕ)) (watched : Option WatchedView) (sites : List Site) (old new : Tells) : Type 0 where
   pub names : new.names ≡ old.names
   pub failed : new.failed ≡ old.failed
@@ -91,8 +92,8 @@ pub record HasToldPlaces (written : WrittenView) (tree : List Row) (settings : S
   pub html : IsPaged (page_of (run_told (lent old.names.now) tree outcome times sites) settings (excerpts written.texts tree sites outcome) watched) old.html new.html
   pub github : IsTold (errors_text tree outcome (node_places (lent old.names.now) tree sites outcome)) old.github new.github
 
--- All that is asked for was told of them. Where places are wanted, each node stands where the first node of all scripts stands that has its
--- path.
+-- All that is asked for was told of them. Where places are wanted, each node stands where the first
+-- node of all scripts stands that has its path.
 pub record HasTold (written : WrittenView) (tree : List Row) (settings : Settings) (outcome : ℕ → Outcome) (times : List (Option ℕ)) (watched : Option WatchedView) (old new : Tells) : Type 0 where
   pub failed : IsTold (failed_text tree outcome) old.failed new.failed
   pub durations : IsTimed tree times old.durations new.durations

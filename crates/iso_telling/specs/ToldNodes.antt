@@ -6,7 +6,8 @@ use Rattle.iso_model.specs.declared.outcome.Outcome.{Outcome}
 use Rattle.iso_plan.specs.Selections.{those_below}
 use Rattle.iso_plan.specs.Tree.{Row}
 
--- whether a node is told of: it failed, or it is a test that was skipped, where these are told of, too
+-- whether a node is told of: it failed, or it is a test that was skipped, where these are told of,
+-- too
 abbrev pub is_told : List Row → (ℕ → Outcome) → (skipped : Bool) → ℕ → Bool
 is_told tree outcome skipped n = is_failure outcome n || (skipped && is_test_with tree outcome was_skipped n)
 

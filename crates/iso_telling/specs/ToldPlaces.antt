@@ -10,7 +10,8 @@ use Rattle.iso_telling.specs.Explained.{hints_told}
 use Rattle.iso_telling.specs.ToldLines.{line_told}
 use Rattle.iso_telling.specs.declared.told.Told.{Told}
 
--- a line of scripts with these names and bytes: the name of its script, or `stdin` where none has a name, and the line itself
+-- a line of scripts with these names and bytes: the name of its script, or `stdin` where none has a
+-- name, and the line itself
 abbrev pub located : (names texts : List (List ℕ)) → ScriptLine → LocatedView
 located names texts at =
     record {

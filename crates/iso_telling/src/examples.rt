@@ -19,7 +19,8 @@ pub fn failures_are_told()
     ensures none { told_nodes till_in_cart unassumed_of false ≡ [] }
 {}
 
-/// Skipped and disabled tests are told of where they are asked for, in their places between the others.
+/// Skipped and disabled tests are told of where they are asked for, in their places between the
+/// others.
 pub fn skipped_tests_are_told_where_they_are_asked_for()
     ensures { told_nodes till_in_cart outcome_of true ≡ 1 ∷ 3 ∷ 7 ∷ 9 ∷ 10 ∷ [] }
 {}
@@ -84,7 +85,8 @@ pub fn lines_of_standard_input_have_no_file()
         ≡ record { file = codes "stdin"; named = false; line = 2; source = codes "class A { }"; hints = [] } }
 {}
 
-/// The XML and GitHub get each node's file, the line of its own name, and the line of what ended it; of the root nothing.
+/// The XML and GitHub get each node's file, the line of its own name, and the line of what ended
+/// it; of the root nothing.
 #[tactic(auto, unfolding(iso_plan::specs::Paths::path))]
 pub fn nodes_have_their_files_and_lines()
     ensures row { node_place two_names till_in_cart till_sites (failed_at (Row N.Test 3)) 7

@@ -19,8 +19,9 @@ use iso_places::site::Sites;
 use iso_plan::plan::Plan;
 use std::alloc::{AllocError, Global};
 
-/// The lines that are shown of each node's script, the root's too, by the node's number: none of a node that didn't fail. A line beyond the
-/// numbers of 32 bits, which no script has, counts as want of memory.
+/// The lines that are shown of each node's script, the root's too, by the node's number: none of a
+/// node that didn't fail. A line beyond the numbers of 32 bits, which no script has, counts as want
+/// of memory.
 pub(crate) fn node_lines<'a>(
     alloc: Global,
     texts: &'a [&'a [u8]],

@@ -15,7 +15,8 @@ use iso_model::text::Text;
 use iso_plan::plan::Plan;
 use std::alloc::{AllocError, Global};
 
-/// What mends the fault that ended a node, where this is asked for: a line each, and none where no fault ended it.
+/// What mends the fault that ended a node, where this is asked for: a line each, and none where no
+/// fault ended it.
 pub(crate) fn hints_told(
     alloc: Global,
     plan: &Plan,

@@ -1,4 +1,5 @@
-//! Laws of suites as they are written. Each function does nothing that lasts: its contract is the law, and is proved.
+//! Laws of suites as they are written. Each function does nothing that lasts: its contract is the
+//! law, and is proved.
 ghost use Rattle.std.specs.Prelude.{◌≡◌, ℕ, List, false, map};
 ghost use Rattle.iso_model.specs.ScriptView.{script_of};
 ghost use Rattle.iso_model.specs.declared.outcome.Outcome.{Outcome};
@@ -21,7 +22,8 @@ pub fn nodes_are_told_with_their_lines_alone()
         → located_told names texts (told false tree sites outcome n) ≡ located names texts (line_told tree sites outcome n) }
 {}
 
-/// No plan of scripts that were read with these places has a node without a place, be it of all nodes or of those that some paths keep.
+/// No plan of scripts that were read with these places has a node without a place, be it of all
+/// nodes or of those that some paths keep.
 pub fn nodes_of_suites_have_places(scripts: &[Script])
     ensures all { let scripts = map script_of scripts.now in
         (texts : List (List ℕ)) (places : List (List NodePlace)) → ArePlaced texts scripts places

@@ -12,7 +12,8 @@ use iso_plan::laws;
 use iso_plan::plan::Plan;
 use std::alloc::{AllocError, Global};
 
-/// The nodes that are told of, in the order in which they are written: those that failed, and skipped tests where they are told of, too.
+/// The nodes that are told of, in the order in which they are written: those that failed, and
+/// skipped tests where they are told of, too.
 pub(crate) fn told_nodes(
     alloc: Global,
     plan: &Plan,

@@ -5,7 +5,8 @@ use iso_stats::figures::Figures;
 use iso_times::times::Times;
 use iso_waits::wait::NodeWait;
 
-/// What was watched of a run: the times of its bodies, its figures, what its nodes waited for, and which bodies were critical.
+/// What was watched of a run: the times of its bodies, its figures, what its nodes waited for, and
+/// which bodies were critical.
 #[derive(Clone, Copy)]
 pub struct Watched<'a> {
     pub times: &'a Times,

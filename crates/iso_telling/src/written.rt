@@ -3,7 +3,8 @@
 use iso_model::script::Script;
 use iso_script::place::NodePlace;
 
-/// A suite as it is written: its scripts, where the classes and tests of each stand, in written order, and the bytes of each.
+/// A suite as it is written: its scripts, where the classes and tests of each stand, in written
+/// order, and the bytes of each.
 #[derive(Clone, Copy)]
 pub struct Written<'a> {
     pub scripts: &'a [Script],

@@ -93,7 +93,8 @@ impl Gate for Notes {
     }
 }
 
-/// What is told of the four bodies: each is met once outside, and inside after each of the five statements, which are a step each.
+/// What is told of the four bodies: each is met once outside, and inside after each of the five
+/// statements, which are a step each.
 const TOLD: [u64; 6] = [4, 5, 4, 4, 3, 0];
 
 #[test]

@@ -14,7 +14,8 @@ const TESTS: &str = "team shop
 class C { test a { print \"1\"; } test b { print \"2\"; } }
 ";
 
-/// The times of the bodies, by a clock that fails at one reading. Reading 0 is the gate's own, and each body takes two.
+/// The times of the bodies, by a clock that fails at one reading. Reading 0 is the gate's own, and
+/// each body takes two.
 fn times_by<R: Abort>(rt: &R, alloc: Global, fails: u64) -> Times {
     let clock = Readings::new(fails);
     let plan = read_plan(rt, alloc, TESTS);
@@ -59,7 +60,8 @@ fn bodies_have_the_times_at_which_they_were_told(rt: HostRuntime) {
     check(&rt, "microseconds", &micros, &[0, 2, 1]);
 }
 
-/// Without the opening, whose begin has reading 1, the first begin is the first test's, of reading 3.
+/// Without the opening, whose begin has reading 1, the first begin is the first test's, of reading
+/// 3.
 const WITHOUT_THE_FIRST: [Option<(u64, u64)>; 6] = [
     None,
     Some((0, 1_000)),

@@ -46,7 +46,8 @@ fn in_the_way(rt: &impl Abort, vault: &mut Vault<'_>, tray: &mut Tray<'_>, node:
     other
 }
 
-/// A class and a test of it are lent to one tray. An isolated class waits for the class, and is lent after both came home.
+/// A class and a test of it are lent to one tray. An isolated class waits for the class, and is
+/// lent after both came home.
 fn lend_after_two(rt: &impl Abort, vault: &mut Vault<'_>, cart: &mut Tray<'_>, desk: &mut Tray<'_>)
     requires cart_plan { cart.old.plan ≡ vault.old.plan }
     requires cart_world { cart.old.world ≡ vault.old.world }
@@ -62,8 +63,8 @@ fn lend_after_two(rt: &impl Abort, vault: &mut Vault<'_>, cart: &mut Tray<'_>, d
     lend(rt, vault, desk, 4);
 }
 
-/// The same with a vault and trays of a suite. It is lent, and want of memory ends the test here: what is dropped on each way out makes a
-/// proof dear.
+/// The same with a vault and trays of a suite. It is lent, and want of memory ends the test here:
+/// what is dropped on each way out makes a proof dear.
 fn check_isolated(rt: &impl Abort, alloc: Global, suite: &Suite) {
     let mut vault = Vault::new(alloc, &suite.plan, &suite.world).expect(rt, "memory");
     let mut cart = Tray::new(alloc, &suite.plan, &suite.world).expect(rt, "memory");
@@ -78,7 +79,8 @@ fn isolated_class_is_lent_after_two_nodes_came_home(rt: HostRuntime) -> Result<(
     Ok(())
 }
 
-/// Two readers have a file in two trays. A writer of it waits in a third, and a writer of another file takes that file's value away.
+/// Two readers have a file in two trays. A writer of it waits in a third, and a writer of another
+/// file takes that file's value away.
 fn lend_to_three(
     rt: &impl Abort,
     vault: &mut Vault<'_>,

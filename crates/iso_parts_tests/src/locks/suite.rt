@@ -5,7 +5,8 @@ use iso_settings::world::{World, read_world};
 use std::alloc::Global;
 use std::test::Fail;
 
-/// Two classes: one that reads a key which a test in it writes, and one that holds an isolated class.
+/// Two classes: one that reads a key which a test in it writes, and one that holds an isolated
+/// class.
 pub(crate) const CART_AND_DESK: &str = "team shop
 concurrent read \"K\" class Cart { concurrent test a { } write \"K\" test b { } }
 class Desk { test c { } isolated class Till { test d { } } }

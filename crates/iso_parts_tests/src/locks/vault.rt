@@ -105,7 +105,8 @@ fn away(vault: &Vault<'_>, plan: &Plan) -> u32
     away
 }
 
-/// Lends a node to a tray where none is in the way, and takes it back: what came of that, where so many values were away before.
+/// Lends a node to a tray where none is in the way, and takes it back: what came of that, where so
+/// many values were away before.
 fn lend_second(
     rt: &impl Abort,
     plan: &Plan,
@@ -140,7 +141,8 @@ fn lend_second(
     }
 }
 
-/// Lends a node to a tray and a second one to another, and takes both back, after which every value is home: what came of the second.
+/// Lends a node to a tray and a second one to another, and takes both back, after which every value
+/// is home: what came of the second.
 fn lend_both(
     rt: &impl Abort,
     plan: &Plan,

@@ -23,7 +23,8 @@ fn check_refused(rt: &impl Abort, alloc: Global, scripts: &[Script], fault: Plan
     assert_eq!(rt; planned(alloc, scripts), Err(PlanError::Fault(fault)));
 }
 
-/// A script of one class with so many tests. Each test has one of so many keys for itself, where there are some.
+/// A script of one class with so many tests. Each test has one of so many keys for itself, where
+/// there are some.
 fn large(alloc: Global, tests: u32, keys: u32) -> Result<String, AllocError> {
     let mut text = String::from_str(alloc, "team shop\nclass Large {\n")?;
     for number in 0..tests {

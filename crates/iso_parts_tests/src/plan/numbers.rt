@@ -1,4 +1,5 @@
-//! How the nodes and keys of a small plan are numbered. What `jtap plan` prints of plans is in `tests/rows`.
+//! How the nodes and keys of a small plan are numbered. What `jtap plan` prints of plans is in
+//! `tests/rows`.
 use crate::plan::scripts::{concurrent, read};
 use iso_plan::plan::{Plan, build};
 use std::test::Fail;

@@ -116,7 +116,8 @@ fn scripts_are_judged_before_paths(rt: HostRuntime) -> Result<(), ScriptError> {
     Ok(())
 }
 
-/// Paths, and the node with it in the plan of these paths: names alone are looked at, and the root has no path.
+/// Paths, and the node with it in the plan of these paths: names alone are looked at, and the root
+/// has no path.
 static FOUND: [(&str, Option<u32>); 8] = [
     ("bank.Cart", Some(5)),
     ("bank.Cart.adds", Some(6)),
@@ -174,7 +175,8 @@ static CLASSES: [&str; 17] = [
     "shop.C63",
 ];
 
-/// As many scripts as there may be, with 16,000 tests: ample memory gives the plan of some 4,000 that are kept.
+/// As many scripts as there may be, with 16,000 tests: ample memory gives the plan of some 4,000
+/// that are kept.
 #[test]
 fn many_are_left_out(rt: HostRuntime) -> Result<(), ScriptError> {
     let scripts = widest(rt.alloc())?;

@@ -246,8 +246,8 @@ fn one_other_setting_is_another_plan(rt: HostRuntime) -> Result<(), Fail> {
     Ok(())
 }
 
-/// Texts in two ways of writing one plan: comments, spaces, zeros, parentheses, a title that is the name, an `else`
-/// without statements.
+/// Texts in two ways of writing one plan: comments, spaces, zeros, parentheses, a title that is the
+/// name, an `else` without statements.
 static WRITTEN: [(&str, &str); 5] = [
     (CART, "team shop class Cart { test adds { } } // a cart"),
     (

@@ -11,7 +11,8 @@ fn refusal(alloc: Global, bytes: &[u8]) -> Result<String, AllocError> {
     }
 }
 
-/// Bytes, and how they are refused. `tests/rows` has more, and the line that the program writes, which is another.
+/// Bytes, and how they are refused. `tests/rows` has more, and the line that the program writes,
+/// which is another.
 static REFUSALS: [(&[u8], &str); 2] = [
     (b"enter 0 1\nleave 0\nent", "BadLine at line 3"),
     (

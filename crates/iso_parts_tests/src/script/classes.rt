@@ -156,7 +156,8 @@ fn add_numbered(
     Ok(())
 }
 
-/// As many members as a plan can have, and as many statics, fields and marks as a script has room for.
+/// As many members as a plan can have, and as many statics, fields and marks as a script has room
+/// for.
 fn full_script(alloc: Global) -> Result<String, AllocError> {
     let mut script = made(
         alloc,

@@ -147,7 +147,8 @@ fn prefixes_up_to_the_team_are_scripts_without_classes(rt: HostRuntime) -> Resul
     Ok(())
 }
 
-/// Where a growth is refused, as by `rt try --test --fail-alloc N`, there is no answer but want of memory.
+/// Where a growth is refused, as by `rt try --test --fail-alloc N`, there is no answer but want of
+/// memory.
 #[test]
 fn memory_makes_no_fault(rt: HostRuntime) {
     match read_script(rt.alloc(), SHOP.as_bytes()) {

@@ -82,7 +82,8 @@ fn check_alike(rt: &impl Abort, key: &str, one: &Resource, other: &Resource) {
     assert!(rt; one.look(Ask::File) == other.look(Ask::File), "{key}");
 }
 
-/// Keys of each kind, and how many own what two who share it look at: the world too, where it names the value.
+/// Keys of each kind, and how many own what two who share it look at: the world too, where it names
+/// the value.
 static OWNERS: [(&str, usize); 6] = [
     ("java.lang.System.properties", 3),
     ("java.util.Locale.default", 3),

@@ -54,7 +54,8 @@ static WHOLE: Row = Row {
     nodes: OF_TWO_FILES,
 };
 
-/// On two workers all nodes come to what they come to alone, in so many events; then none is allowed.
+/// On two workers all nodes come to what they come to alone, in so many events; then none is
+/// allowed.
 #[derive(Clone, Copy)]
 struct EndsIn(usize);
 

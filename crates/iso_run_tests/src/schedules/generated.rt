@@ -1,4 +1,5 @@
-//! Suites that are picked at random. The script of a seed is the one that `tests/suites SEED` prints.
+//! Suites that are picked at random. The script of a seed is the one that `tests/suites SEED`
+//! prints.
 use crate::random::Numbers;
 use std::alloc::{AllocError, Global};
 
@@ -19,7 +20,8 @@ static CLASS_TARGETS: [&str; 2] = ["", "children "];
 /// And what a test may.
 static TEST_TARGETS: [&str; 1] = [""];
 
-/// Statements of bodies. Some end the body, where the world or the declared keys are not as they want.
+/// Statements of bodies. Some end the body, where the world or the declared keys are not as they
+/// want.
 static STATEMENTS: [&str; 14] = [
     "print \"x\";",
     "print file(\"a\");",
@@ -75,7 +77,8 @@ impl Draft {
         Ok(())
     }
 
-    /// Writes the marks of a node, whose keys are for one of these targets each. At times it is disabled.
+    /// Writes the marks of a node, whose keys are for one of these targets each. At times it is
+    /// disabled.
     fn push_marks(&mut self, targets: &[&'static str]) -> Result<(), AllocError> {
         if self.once_in(3) {
             let mode = self.one_of(&["same_thread ", "concurrent "]);
@@ -116,7 +119,8 @@ impl Draft {
         Ok(())
     }
 
-    /// Writes a test, in a new class where none is open, and else at times; and at times closes a class after it.
+    /// Writes a test, in a new class where none is open, and else at times; and at times closes a
+    /// class after it.
     fn push_test(&mut self, number: u32) -> Result<(), AllocError> {
         if self.open == 0 || self.open < 4 && self.once_in(3) {
             self.open_class(number)?;

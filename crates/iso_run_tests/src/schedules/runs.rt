@@ -117,7 +117,8 @@ fn nodes_come_to_what_they_come_to_alone(rt: HostRuntime) {
     }
 }
 
-/// Whether a core refuses every event since it was stopped, before it looks at the worker, and so allows none.
+/// Whether a core refuses every event since it was stopped, before it looks at the worker, and so
+/// allows none.
 fn is_stopped(core: &mut Core<'_>) -> bool {
     for event in [
         Event::Enter { worker: 2, node: 9 },
@@ -132,7 +133,8 @@ fn is_stopped(core: &mut Core<'_>) -> bool {
     core.allowed_event().is_none()
 }
 
-/// Whether a core takes events to the end, but for a step that is refused memory, which stops it, and any other event that is, which it takes next.
+/// Whether a core takes events to the end, but for a step that is refused memory, which stops it,
+/// and any other event that is, which it takes next.
 fn takes_or_stops(core: &mut Core<'_>, events: &[Event]) -> bool {
     for event in events {
         if core.apply(*event).is_ok() {
@@ -156,8 +158,8 @@ fn new_core_takes_or_stops(alloc: Global, suite: &Suite, events: &[Event]) -> bo
     }
 }
 
-/// Run with each growth refused in turn, by `rt try --test --fail-alloc N`: a step that is refused one stops the core, and
-/// any other event is accepted after it.
+/// Run with each growth refused in turn, by `rt try --test --fail-alloc N`: a step that is refused
+/// one stops the core, and any other event is accepted after it.
 #[test]
 fn refused_growth_stops_a_step_alone(rt: HostRuntime) {
     let scripts = [TWO_FILES.as_bytes()];

@@ -11,8 +11,8 @@ use std::time::Duration;
 /// How many turns a worker waits for the other, a millisecond each.
 const TURNS: u32 = 5_000;
 
-/// A gate at which the workers of nodes 2 and 3 meet: at its kth call each waits until both have made their kth, or its turns are
-/// used up.
+/// A gate at which the workers of nodes 2 and 3 meet: at its kth call each waits until both have
+/// made their kth, or its turns are used up.
 #[derive(Drop)]
 struct Meeting<'a, C: Clock> {
     clock: &'a C,

@@ -12,7 +12,8 @@ use std::time::Duration;
 /// How many milliseconds a worker waits for the other one, who may have nothing to do.
 const PATIENCE: u32 = 200;
 
-/// A gate at which two workers take turns: who was here last waits until the other one has been, or its patience ends.
+/// A gate at which two workers take turns: who was here last waits until the other one has been, or
+/// its patience ends.
 #[derive(Drop)]
 struct Turns<'a, C: Clock> {
     clock: &'a C,

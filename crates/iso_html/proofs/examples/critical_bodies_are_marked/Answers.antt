@@ -3,8 +3,9 @@ use Rattle.iso_plan.specs.Paths.{path}
 use Rattle.std.specs.Char.{encode_utf8}
 use Rattle.std.specs.Fmt.{digits}
 use Rattle.std.specs.Str.{chars}
+use Rattle.iso_summary.proofs.Computing.{unseen}
 use Rattle.iso_html.proofs.examples.critical_bodies_are_marked.Goals as goal
 
 pub returns : goal.returns
-unfolding digits chars encode_utf8 path
+unfolding digits chars encode_utf8 path unseen
 returns c = refl

@@ -3,4 +3,4 @@ use Rattle.iso_store.proofs.HistoryLemmas.{earlier_same}
 use Rattle.iso_parts_tests.proofs.store.deletion_changes_no_property.Goals as goal
 
 pub undo_to-requires : goal.undo_to-requires
-undo_to-requires g c = c.in_ok-make.ensures c.mark-mark.result (earlier_same (sym c.mark-mark.ensures))
+undo_to-requires g c = c.in_ok-make.ensures c.in_ok-mark.mark (earlier_same (sym c.in_ok-mark.ensures))
