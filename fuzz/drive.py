@@ -4,6 +4,7 @@ import re
 import signal
 import tempfile
 import time
+import unicodedata
 from collections import Counter
 from pathlib import Path
 
@@ -21,6 +22,8 @@ COMMANDS = {
 }
 SECONDS = 10
 TRIES = 60
+# The general categories of the characters that no reader sees.
+UNSEEN = ("Cc", "Cf", "Zl", "Zp")
 
 
 class Ran:
@@ -176,8 +179,8 @@ def faults_of(command, ran, size):
         if ran.output:
             yield "words on standard output of a refused run"
         # A byte that is no UTF-8 was decoded as a surrogate.
-        if not re.fullmatch(r"jtap: [^\x00-\x1f\x7f-\x9f\ud800-\udfff]+\n", ran.errors):
-            yield "standard error isn't one line of UTF-8 without control characters that begins with `jtap: `"
+        if not re.fullmatch(r"jtap: [^\n\ud800-\udfff]+\n", ran.errors) or any(unicodedata.category(char) in UNSEEN for char in ran.errors[:-1]):
+            yield "standard error isn't one line of UTF-8 without characters that no reader sees that begins with `jtap: `"
 
 
 def output_faults(command, ran):

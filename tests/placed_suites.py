@@ -7,11 +7,12 @@ from pathlib import Path
 from random import Random
 from typing import NamedTuple, Optional
 
-from summaries import FAILS, Command, failure, shown_name, skipped
+from summaries import FAILS, Command, failure, planned_name, skipped
 
 DEEPEST = 8
 BEFORE_ALL, AFTER_ALL, BEFORE_EACH, AFTER_EACH = BLOCKS = ("before_all", "after_all", "before_each", "after_each")
-NAMES = ("a.jtap", "two words.jtap", "it's.jtap", "-d.jtap", "e$f;g.jtap", "ü.jtap", "tab\t.jtap", "below/h.jtap")
+NAMES = ("a.jtap", "two words.jtap", "it's.jtap", "-d.jtap", "e$f;g.jtap", "ü.jtap", "tab\t.jtap", "below/h.jtap", "pat\u202e.jtap", "i\u200bj.jtap",
+         "k\u2028l.jtap", "m\U000e0001.jtap", "n\u2010o.jtap")
 TITLES = ('"The total"', '"a { b } // c"', r'"says \"no\""', r'"#1 \\ {"')
 # What stands between tokens: where a line ends, and where it doesn't.
 COMMENTS = ("// } {", '// "open', '// fail "line 1"; }', "//", "/// \\", "// class C { test t {", "//\ttab", "// " + "long " * 40)
@@ -327,7 +328,7 @@ class Suite:
 
     def places(self):
         """What `plan --places` adds to the line of each node."""
-        return [f" {shown_name(name)}:{node.place[0]}:{node.place[1]}" for name, _, node in self.nodes()]
+        return [f" {planned_name(name)}:{node.place[0]}:{node.place[1]}" for name, _, node in self.nodes()]
 
 
 def written(folder, seed, suite):

@@ -4,6 +4,7 @@ by those of `docs/COMMAND.md`. Nothing here comes from what the program says.
 import os
 import re
 import subprocess
+import unicodedata
 from pathlib import Path
 from typing import NamedTuple, Optional
 
@@ -16,6 +17,10 @@ POINT = re.compile(rb"(ok|not ok) (\d+) - (.*)")
 KEY = re.compile(rb"  (verdict|message|at): (.*)")
 PRINTED = re.compile(rb'    - "(.*)"')
 NAMED_CONTROLS = {"\n": "\\n", "\r": "\\r", "\t": "\\t"}
+# The general categories of the characters that no reader sees. The table of Python is of an older
+# version of Unicode than that of the program. Python 3.12 and later have the same characters, 3.8 to
+# 3.11 lack U+13439 to U+1343F, and 3.8 to 3.10 U+0890 and U+0891. No name here has these.
+UNSEEN = ("Cc", "Cf", "Zl", "Zp")
 
 
 class Point(NamedTuple):
@@ -126,14 +131,25 @@ def counts_line(points):
     return as_bytes(f"{counted(len(tests), 'test', 'tests')} in {counted(len(classes), 'class', 'classes')}: {told}{end}\n")
 
 
-def has_control(word):
-    """Whether a word has a control character."""
-    return any(ord(char) < 32 or 127 <= ord(char) < 160 for char in word)
+def has_unseen(word):
+    """Whether a word has a character that no reader sees."""
+    return any(unicodedata.category(char) in UNSEEN for char in word)
+
+
+def with_escapes(name, categories):
+    """A name with the characters of these general categories as in a basic string of TOML."""
+    escape = lambda char: NAMED_CONTROLS.get(char, f"\\u{ord(char):04X}" if ord(char) < 65_536 else f"\\U{ord(char):08X}")
+    return "".join(escape(char) if unicodedata.category(char) in categories else char for char in name)
 
 
 def shown_name(name):
-    """A file's name as a line has it: each control character as in a basic string of TOML."""
-    return "".join(NAMED_CONTROLS.get(char, f"\\u{ord(char):04X}") if has_control(char) else char for char in name)
+    """A file's name as a line has it: each character that no reader sees by its escape."""
+    return with_escapes(name, UNSEEN)
+
+
+def planned_name(name):
+    """A file's name as a printed plan has it: each control character by its escape, and no other one."""
+    return with_escapes(name, ("Cc",))
 
 
 def source_line(script, line):
@@ -169,7 +185,7 @@ class Command(NamedTuple):
 
     def again(self, path, name):
         """The line that runs a node of a script again, where it can be told."""
-        if any(map(has_control, (name, self.settings or "", self.world or ""))):
+        if any(map(has_unseen, (name, self.settings or "", self.world or ""))):
             return b""
         files = [(b" --settings ", self.settings), (b" --world ", self.world)]
         told = b"".join(option + file_word(file) for option, file in files if file is not None)
