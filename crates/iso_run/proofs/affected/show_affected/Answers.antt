@@ -1,4 +1,5 @@
-use Rattle.std.proofs.Common.{◌≡◌, Bool, Err, true, subst, sym, ◌∙◌}
+use Rattle.std.proofs.Common.{◌≡◌, Bool, Err, true, refl, subst, sym, ◌∙◌}
+use Rattle.std.proofs.lemmas.Result.{err_from_is_err_and}
 use Rattle.iso_run.proofs.Altering.{told-for}
 use Rattle.iso_run.proofs.Answering.{answered-as}
 use Rattle.iso_run.proofs.affected.show_affected.Goals as goal
@@ -7,6 +8,16 @@ use Rattle.iso_run.proofs.Flushing.{told-early}
 use Rattle.iso_run.specs.Commands.{IsComparedIn, IsToldFor}
 use Rattle.iso_run.specs.Ends.{Answers}
 use Rattle.iso_run.specs.declared.command_fault.CommandFault.{CommandFault}
+
+pub returns-in_err-names : goal.returns-in_err-names
+returns-in_err-names g c =
+    let p = err_from_is_err_and c.from_residual-in_err-names.result c.from_residual-in_err-names.ensures.1 in
+    rw (p.1, p.2) refl
+
+pub returns-in_err-older : goal.returns-in_err-older
+returns-in_err-older g c =
+    let p = err_from_is_err_and c.from_residual-in_err-older.result c.from_residual-in_err-older.ensures.1 in
+    rw (p.1, p.2) refl
 
 pub returns-in-Ok : goal.returns-in-Ok
 returns-in-Ok g c =
