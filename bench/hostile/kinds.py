@@ -561,3 +561,51 @@ def looked_up_keys(share):
     marks = "".join(f'read "file:{path}"\n' for path in paths)
     return one(marks + "class C {\n" + "".join(tests(20, "", f' repeat 4999 {{ let x=has_file("{path}"); }} ') for path in paths[:1])
                + "class D {\n" + "".join(tests(20, "", f' repeat 4999 {{ let x=has_file("{path}"); }} ') for path in paths[-1:]) + "}}")
+
+
+# What is told of plans, runs and states.
+
+
+@kind("plan", "--why")
+def why_gathered(share):
+    """A class that takes 255 keys, each of which all of the 4,000 tests in it declare."""
+    return one('read "255" class C { ' + reads(0, 254, "children ") + "class D {\n" + tests(int(4000 * share)) + "}}")
+
+
+@kind("plan", "--conflicts")
+def conflicts_of_all_keys(share):
+    """4,000 tests that read 255 keys."""
+    return one(reads(0, 255, "children ") + "class C {\n" + tests(int(4000 * share)) + "}")
+
+
+@kind("run", "--serial", "--html", "page")
+def failed_in_one_line(share):
+    """1,000 tests that fail in a script of one line, of each of which the page shows that line."""
+    return {"s0.jtap": "team t class C {" + tests(int(1000 * share), "", f' print "{"a" * 200}"; fail "no"; ').replace("\n", " ") + "}"}
+
+
+@kind("run", "--serial", "--junit", "results")
+def blocked_in_results(share):
+    """4,094 tests that are blocked with a message of 8 KiB, each letter a quote, for which XML takes six."""
+    return blocked(share)
+
+
+@kind("run", "--serial", "--summary", "--explain")
+def missing_under_many_names(share):
+    """Half a script of statements that give properties values, and 4,000 tests that miss another one."""
+    before = filled("before_each { if false { ", 'set_prop "#","1"; ', "} }\n", int(MEBIBYTE * share / 2))
+    return one('write "java.lang.System.properties" class C { ' + before + tests(int(4000 * share), "", ' print prop("q"); ') + "}")
+
+
+@kind("run", "--serial", "--summary", "--explain")
+def unknown_under_statics(share):
+    """Half a script of statics, and 4,000 tests that name another one."""
+    return one(filled("class C { ", "static s#=1;", "", int(MEBIBYTE * share / 2)) + tests(int(4000 * share), "", " print r; ") + "}")
+
+
+@kind("affected", "--old", "old", "--world", "world.toml")
+def worlds_of_readers(share):
+    """1,000 tests that read the properties, of which there are 15,000 and the last one differs."""
+    script = one("class C {\n" + tests(int(1000 * share), 'read "java.lang.System.properties" ') + "}")["s0.jtap"]
+    world = "[properties]\n" + "".join(f"p{10000 + number} = ''\n" for number in range(int(15000 * share)))
+    return {"s0.jtap": script, "old/s0.jtap": script, "world.toml": world + "q = '1'\n", "old/world.toml": world + "q = '2'\n"}

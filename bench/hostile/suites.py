@@ -38,11 +38,6 @@ def picked(count, seed, pick):
     return [f"{writes(pick(generator))}test t{number} {{ }}\n" for number in range(count)]
 
 
-def nested(depth, before=lambda level: "", inside=""):
-    """Classes each in the one before, with a test in each."""
-    return "".join(f"{before(level)}class C{level} {{ {inside} test t {{ }}\n" for level in range(depth)) + "}" * depth + "\n"
-
-
 # Ordinary suites, without locks of their own.
 
 
@@ -188,18 +183,42 @@ def writers_below_a_reader(nodes):
     return in_a_class([tests(nodes)], 'read "r" ' + reads(0, 253, "children ") + 'write children "253" ')
 
 
+@suite()
+def halves_of_all_keys_read(nodes):
+    """A random half of 255 keys, which each test reads."""
+    generator = random.Random(3)
+    texts = ["".join(f'read "{key}" ' for key in range(255) if generator.random() < 0.5) + f"test t{number} {{ }}\n" for number in range(nodes)]
+    return in_scripts(f"class C{place} {{ {''.join(texts[place:place + 50])} }}\n" for place in range(0, len(texts), 50))
+
+
+@suite()
+def keys_that_begin_alike(nodes):
+    """Tests that write one of 255 keys of 255 bytes each."""
+    texts = [f'write "{"k" * 252}{number % 255:03}" test t{number} {{ }}\n' for number in range(nodes)]
+    return in_scripts(f"class C{place} {{ {''.join(texts[place:place + 100])} }}\n" for place in range(0, len(texts), 100))
+
+
+@suite()
+def readers_and_a_writer(nodes):
+    """Classes of 20 tests that read one key and one that writes it."""
+    return in_scripts(f'class C{number} {{ {tests(20, """read "k" """)}write "k" test w {{ }} }}\n' for number in range(nodes // 22))
+
+
+@suite()
+def modes_in_turn(nodes):
+    """Tests of one class, SAME_THREAD and CONCURRENT in turn."""
+    modes = ("same_thread", "concurrent")
+    return in_a_class(f"{modes[number % 2]} test t{number} {{ }}\n" for number in range(nodes))
+
+
+@suite()
+def marks_for_few_children(nodes):
+    """Classes with 255 marks for their children, which are 8 tests each."""
+    marks = reads(0, 255, "children ")
+    return in_scripts(f"{marks}class C{number} {{ {tests(8)}}}\n" for number in range(nodes // 9))
+
+
 # Nesting.
-
-
-@suite()
-def nested_classes(nodes):
-    return one(nested(nodes // 2))
-
-
-@suite()
-def nested_classes_with_keys(nodes):
-    """Classes each in the one before, which read a key each, of 255."""
-    return one(nested(nodes // 2, lambda level: f'read "{level % 255}" '))
 
 
 @suite()
@@ -207,6 +226,14 @@ def nested_classes_with_blocks(nodes):
     """Towers of 8 classes, each with a block before and after each test."""
     tower = "".join(f"class C{level} {{ before_each {{ }} after_each {{ }} test t {{ }} " for level in range(1, 8)) + "}" * 7
     return classes(nodes // 16, "", f"before_each {{ }} after_each {{ }} test t {{ }} {tower}")
+
+
+@suite()
+def nested_classes_with_marks(nodes):
+    """Towers of 8 classes and a test, each class with 31 keys of its own for its child."""
+    marks = [reads(31 * level, 31 * level + 31, "children ") for level in range(8)]
+    inside = "".join(f"{marks[level]}class D{level} {{ " for level in range(1, 8)) + "test t { } " + "}" * 7
+    return classes(nodes // 9, marks[0], inside)
 
 
 # What is kept.
@@ -246,7 +273,7 @@ def many_properties(nodes):
 @suite()
 def a_longer_file(nodes):
     """A body that appends a byte to a file for each node."""
-    return in_a_class([f'write "file:a" test t {{ repeat {nodes} {{ append_file "a", "1"; }} }}\n'])
+    return in_a_class([f'write "file:a" test t {{ write_file "a", ""; repeat {nodes} {{ append_file "a", "1"; }} }}\n'])
 
 
 @suite("--world", "world.toml")
@@ -255,6 +282,22 @@ def properties_that_all_write(nodes):
     world = "[properties]\n" + "".join(f"p{number} = ''\n" for number in range(nodes))
     return {**in_a_class(f'write "java.lang.System.properties" test t{number} {{ set_prop "p{number}", "1"; }}\n' for number in range(nodes)),
             "world.toml": world}
+
+
+@suite()
+def a_property_of_many(nodes):
+    """A class that sets a property for each node, and tests that set one of them each."""
+    opening = f'before_all {{ let n = 0; repeat {min(3300, nodes)} {{ set_prop text(n), "1"; n = n + 1; }} }}\n'
+    return in_a_class([opening, tests(nodes, "", ' set_prop "7", "2"; print prop("8"); ')], 'write "java.lang.System.properties" ')
+
+
+# What is told.
+
+
+@suite("--stats")
+def waits_that_are_told(nodes):
+    """Up to 3 of 12 keys, at random; who waited for whom is worked out wait by wait."""
+    return few_of_twelve_keys(nodes)
 
 
 # Schedules.
@@ -279,19 +322,20 @@ def depth_first(nodes):
     return replayed(nodes, [event for node in range(1, nodes // 2 * 2, 2) for event in enter(0, node) + enter(0, node + 1) + shut(0, node)])
 
 
-@suite("--schedule", "e", command="replay")
+@suite("--schedule", "e", "--settings", "settings.toml", command="replay")
 def opened_before_closed(nodes):
     """All classes are opened before one is closed."""
     events = [event for node in range(1, nodes // 2 * 2, 2) for event in enter(0, node)]
-    return replayed(nodes, events + [event for node in range(1, nodes // 2 * 2, 2) for event in enter(0, node + 1) + shut(0, node)])
+    events += [event for node in range(1, nodes // 2 * 2, 2) for event in enter(0, node + 1) + shut(0, node)]
+    return {**replayed(nodes, events), "settings.toml": settings(1)}
 
 
-@suite("--schedule", "e", command="replay")
+@suite("--schedule", "e", "--settings", "settings.toml", command="replay")
 def closed_last_first(nodes):
     """All classes are opened before one is closed, and closed in the other order, each with 20 locks."""
     events = [event for node in range(1, nodes // 2 * 2, 2) for event in enter(0, node)]
     events += [event for node in reversed(range(1, nodes // 2 * 2, 2)) for event in enter(0, node + 1) + shut(0, node)]
-    return replayed(nodes, events, reads(0, 20))
+    return {**replayed(nodes, events, reads(0, 20)), "settings.toml": settings(1)}
 
 
 @suite("--schedule", "e", "--settings", "settings.toml", command="replay")
@@ -304,3 +348,23 @@ def by_64_workers(nodes):
         events += [event for worker, node in some for event in enter(worker, node + 1)]
         events += [event for worker, node in some for event in shut(worker, node)]
     return {**replayed(nodes, events), "settings.toml": settings(64)}
+
+
+@suite("--schedule", "e", "--settings", "settings.toml", command="replay")
+def towers_side_by_side(nodes):
+    """64 workers have a tower of 8 classes and a test each, which they open and close side by side."""
+    towers, events = range(1, nodes // 9 * 9, 9), []
+    for place in range(0, len(towers), 64):
+        some = list(enumerate(towers[place:place + 64]))
+        events += [event for level in range(9) for worker, first in some for event in enter(worker, first + level)]
+        events += [event for level in reversed(range(8)) for worker, first in some for event in shut(worker, first + level)]
+    inside = "".join(f"class D{level} {{ " for level in range(7)) + "test t { } " + "}" * 7
+    return {**classes(len(towers), "", inside), "e": "".join(event + "\n" for event in events), "settings.toml": settings(64)}
+
+
+@suite("--schedule", "e", "--settings", "settings.toml", command="replay")
+def concurrent_ones_first(nodes):
+    """Tests SAME_THREAD and CONCURRENT in turn, of which first the CONCURRENT ones are entered, from the last on."""
+    order = [1, *reversed(range(3, nodes + 2, 2)), *range(2, nodes + 2, 2)]
+    events = [event for node in order for event in enter(0, node)] + shut(0, 1)
+    return {**modes_in_turn(nodes), "e": "".join(event + "\n" for event in events), "settings.toml": settings(64)}

@@ -10,3 +10,4 @@ pub mod PathAgreement
 pub mod PropertyLemmas
 pub mod ReasonLemmas
 pub mod SameRuns
+pub mod StartLemmas

@@ -9,4 +9,5 @@ pub mod OwnHeads
 pub mod Parts
 pub mod PropertyStarts
 pub mod Reasons
+pub mod Starting
 pub mod Told

@@ -12,7 +12,7 @@ use Rattle.iso_plan.specs.Tree.{Row}
 abbrev pub FindsNamed : List Row → List ℕ → BTreeMap (Bor (List ℕ)) ℕ → Type 0
 FindsNamed tree nodes table = (name : List ℕ) → get_by (λ key. slice_cmp nat_cmp name key.now) table ≡ named tree name nodes
 
--- there is a table for each node, which finds by each name the first node that stands in it and has
+-- there is a table for each node, which finds by each name the first child of the node that has
 -- it
 pub record FindChildren (tree : List Row) (tables : List (BTreeMap (Bor (List ℕ)) ℕ)) : Type 0 where
   pub each : length tables ≡ length tree

@@ -69,6 +69,6 @@ abbrev pub AgreesItself : Suites → ℕ → Type 0
 AgreesItself s n = (m : ℕ) → namesake (tree_of s.old) (tree_of s.new) n ≡ Some m
     → OwnAgree s.before s.after (head_of (row_at (tree_of s.old) m).kind) (head_of (row_at (tree_of s.new) n).kind)
 
--- so does each node on its path: the node and the classes that it stands in
+-- so does each node on its path: the node and its enclosing classes
 abbrev pub AllAgree : Suites → ℕ → Type 0
 AllAgree s n = (k : ℕ) → is_on (path (tree_of s.new) n) k ≡ true → AgreesItself s k

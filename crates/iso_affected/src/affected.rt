@@ -8,6 +8,7 @@ ghost use Rattle.iso_plan.specs.RowView.{tree_of};
 
 use crate::namesake::{names, namesake_in, namesakes};
 use crate::own::own_agree;
+use crate::starts::Starts;
 use iso_plan::laws::nodes_are_a_tree;
 use iso_plan::plan::Plan;
 use iso_settings::world::World;
@@ -40,39 +41,40 @@ pub fn fates(
     nodes_are_a_tree(old);
     nodes_are_a_tree(new);
     let names = names(alloc, old)?;
+    let mut starts = Starts::new(alloc, before, after);
     let mut fates = Vec::with_capacity(alloc, new.len() as usize)?;
     fates.push(Fate::Same(0))?;
     'nodes: for node in 1..new.len() {
         let class = new.parent(node).unwrap_or(0);
         let above = fates[class as usize];
-        let fate = fate_in(alloc, old, before, &names, new, after, node, above)?;
+        let fate = fate_in(alloc, old, &names, new, &mut starts, node, above)?;
         fates.push(fate)?;
     }
     Ok(fates)
 }
 
-/// The fate of a node, from that of the class that it stands in.
+/// The fate of a node, from that of its parent.
 fn fate_in(
     alloc: Global,
     old: &Plan,
-    before: &World,
     names: &[BTreeMap<&str, u32>],
     new: &Plan,
-    after: &World,
+    starts: &mut Starts<'_>,
     node: u32,
     above: Fate,
 ) -> Result<Fate, AllocError>
     requires above { 0 < node }
     requires within { node < length new.now.rows }
-    requires class { IsFate (suites old.now before.now new.now after.now) (parent (tree_of new.now) node) above }
+    requires class { IsFate (suites old.now starts.old.before new.now starts.old.after) (parent (tree_of new.now) node) above }
     requires names { FindChildren (tree_of old.now) names.now }
-    ensures { IfOk result (IsFate (suites old.now before.now new.now after.now) node) }
+    ensures fate { IfOk result (IsFate (suites old.now starts.old.before new.now starts.old.after) node) }
+    ensures same { starts.new ≡ starts.old }
 {
     nodes_are_a_tree(old);
     nodes_are_a_tree(new);
     match above {
         Fate::Same(class) => match namesake_in(old, names, class, new, node) {
-            Some(namesake) if own_agree(alloc, old, before, namesake, new, after, node)? => {
+            Some(namesake) if own_agree(alloc, old, namesake, new, node, starts)? => {
                 Ok(Fate::Same(namesake))
             }
             Some(namesake) => Ok(Fate::Changed(namesake)),

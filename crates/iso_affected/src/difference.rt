@@ -11,11 +11,10 @@ ghost use Rattle.iso_suites.specs.ScriptLanguage.{is_of_test};
 
 use crate::firsts::{RowsApart, first_variable, rows_apart};
 use crate::own::{OwnHead, own_head};
-use crate::starts::first_apart;
+use crate::starts::{Starts, first_apart};
 use iso_model::place::Lifecycle;
 use iso_model::same::heads::{same_marks, same_reason};
 use iso_plan::plan::Plan;
-use iso_settings::world::World;
 use std::alloc::{AllocError, Global};
 
 /// What differs of what two heads declare.
@@ -41,8 +40,8 @@ pub struct Blocks {
     pub test: Option<RowsApart>,
 }
 
-/// What differs of what a node and its namesake have themselves, besides the classes that they
-/// stand in.
+/// What differs of what a node and its namesake have themselves, besides their enclosing
+/// classes.
 #[derive(Clone, Copy, PartialEq, Eq)]
 pub struct Difference {
     /// One is a test, and the other a class.
@@ -91,22 +90,22 @@ impl Difference {
 }
 
 /// What differs of a node of the new suite and one of the old, of what they have themselves.
-/// Neither of them is the root.
+/// Neither of them is the root. `starts` has the worlds of both.
 pub fn what_differs(
     alloc: Global,
     old: &Plan,
-    before: &World,
     namesake: u32,
     new: &Plan,
-    after: &World,
     node: u32,
+    starts: &mut Starts<'_>,
 ) -> Result<Difference, AllocError>
     requires above { 0 < namesake }
     requires within { namesake < length old.now.rows }
     requires further { 0 < node }
     requires inside { node < length new.now.rows }
-    ensures { IfOk result (IsDifference before.now after.now
+    ensures difference { IfOk result (IsDifference starts.old.before starts.old.after
         (head_of (row_at (tree_of old.now) namesake).kind) (head_of (row_at (tree_of new.now) node).kind)) }
+    ensures same { starts.new ≡ starts.old }
 {
     let was = own_head(old, namesake);
     let now = own_head(new, node);
@@ -114,7 +113,7 @@ pub fn what_differs(
         kind: is_other_kind(was, now),
         declared: declared_apart(was, now),
         blocks: blocks_apart(was, now),
-        start: first_apart(alloc, before, after, now.marks())?,
+        start: first_apart(alloc, starts, now.marks())?,
     })
 }
 

@@ -45,7 +45,7 @@ pub fn same_nodes_have_the_outcomes_that_they_had(old: &Plan, new: &Plan)
 }
 
 /// Why a node is changed: it agrees with its namesake just where each node on its path, the node
-/// and the classes that it stands in, agrees with its own on what it has itself. So where it
+/// and its enclosing classes, agrees with its own on what it has itself. So where it
 /// doesn't, one of these has another head or a mark whose key starts with another value.
 pub fn nodes_agree_where_all_on_their_paths_do(old: &Plan, new: &Plan)
     ensures { (before after : Start) (n m : ℕ) → n < length new.now.rows → namesake (tree_of old.now) (tree_of new.now) n ≡ Some m
@@ -62,8 +62,8 @@ pub fn heads_agree_where_nothing_differs()
         → ((is_nothing d ≡ true) ↔ OwnAgree before after h g) }
 {}
 
-/// A changed node is told of with a reason: something differs of what it has itself, or of what a
-/// class that it stands in has.
+/// A changed node is told of with a reason: something differs of what it has itself, or of what
+/// an enclosing class has.
 pub fn changed_nodes_have_a_reason(old: &Plan, new: &Plan)
     ensures { (before after : Start) (fates : List Fate) (told : List (Option Difference)) → AreFates (suites old.now before new.now after) fates
         → AreDifferences (suites old.now before new.now after) fates told → (n m : ℕ) → n < length new.now.rows

@@ -11,5 +11,5 @@ pub mod listed;
 mod namesake;
 pub mod own;
 pub mod properties;
-mod starts;
+pub mod starts;
 pub mod told;

@@ -32,8 +32,8 @@ pub fn namesakes(alloc: Global, one: &Plan, other: &Plan) -> Result<Vec<Option<u
     Ok(namesakes)
 }
 
-/// The namesake in the first plan of a node of the second, from that of the class that the node
-/// stands in. It stands in that.
+/// The namesake in the first plan of a node of the second, from that of the node's parent. It is a
+/// child of that.
 pub(crate) fn namesake_in(
     one: &Plan,
     names: &[BTreeMap<&str, u32>],
@@ -64,7 +64,7 @@ fn child_named(plan: &Plan, names: &[BTreeMap<&str, u32>], class: u32, name: &st
     names[class as usize].get(name).copied()
 }
 
-/// For each node of a plan a table of the nodes that stand in it, by their names. Of several with
+/// For each node of a plan a table of its children, by their names. Of several with
 /// one name it has the first.
 pub(crate) fn names<'a>(
     alloc: Global,

@@ -1,4 +1,4 @@
-//! What nodes have themselves, besides the classes that they stand in, and whether two nodes agree
+//! What nodes have themselves, besides their enclosing classes, and whether two nodes agree
 //! on it.
 ghost use Rattle.std.specs.Prelude.{◌≡◌, ◌<◌, ◌↔◌, ◌∷◌, IfOk, IsTrue, List, length};
 ghost use Rattle.iso_affected.specs.Agreeing.{OwnAgree};
@@ -13,7 +13,7 @@ ghost use Rattle.iso_plan.specs.RowView.{tree_of};
 ghost use Rattle.iso_suites.specs.PlanSuites.{head_of};
 ghost use Rattle.iso_suites.specs.ScriptLanguage.{is_of_test, marks_on, of_class};
 
-use crate::starts::start_alike;
+use crate::starts::{Starts, start_alike};
 use iso_model::heads::{ClassHead, Mark, TestHead, Variable};
 use iso_model::place::Lifecycle;
 use iso_model::same::heads::{same_class_head, same_test_head};
@@ -21,7 +21,6 @@ use iso_model::text::Text;
 use iso_model::tree::Stmt;
 use iso_plan::laws::nodes_are_a_tree;
 use iso_plan::plan::Plan;
-use iso_settings::world::World;
 use std::alloc::{AllocError, Global};
 use std::sync::Arc;
 
@@ -157,22 +156,22 @@ fn same_head(was: OwnHead<'_>, now: OwnHead<'_>) -> bool
 pub(crate) fn own_agree(
     alloc: Global,
     old: &Plan,
-    before: &World,
     node: u32,
     new: &Plan,
-    after: &World,
     other: u32,
+    starts: &mut Starts<'_>,
 ) -> Result<bool, AllocError>
     requires above { 0 < node }
     requires within { node < length old.now.rows }
     requires further { 0 < other }
     requires inside { other < length new.now.rows }
-    ensures { IfOk result (λ agree. IsTrue agree ↔ OwnAgree before.now after.now
+    ensures agree { IfOk result (λ agree. IsTrue agree ↔ OwnAgree starts.old.before starts.old.after
         (head_of (row_at (tree_of old.now) node).kind) (head_of (row_at (tree_of new.now) other).kind)) }
+    ensures same { starts.new ≡ starts.old }
 {
     let was = own_head(old, node);
     if !same_head(was, own_head(new, other)) {
         return Ok(false);
     }
-    start_alike(alloc, before, after, was.marks())
+    start_alike(alloc, starts, was.marks())
 }

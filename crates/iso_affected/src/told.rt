@@ -6,6 +6,7 @@ ghost use Rattle.iso_plan.specs.RowView.{tree_of};
 
 use crate::affected::Fate;
 use crate::difference::{Difference, what_differs};
+use crate::starts::Starts;
 use iso_plan::laws::nodes_are_a_tree;
 use iso_plan::plan::Plan;
 use iso_settings::world::World;
@@ -27,10 +28,11 @@ pub fn differences(
     ensures told { IfOk result (λ told. AreDifferences (suites old.now before.now new.now after.now) fates.now told.items) }
 {
     nodes_are_a_tree(new);
+    let mut starts = Starts::new(alloc, before, after);
     let mut told = Vec::with_capacity(alloc, new.len() as usize)?;
     told.push(None)?;
     'nodes: for node in 1..new.len() {
-        let difference = difference_of(alloc, old, before, new, after, node, fates[node as usize])?;
+        let difference = difference_of(alloc, old, new, &mut starts, node, fates[node as usize])?;
         told.push(difference)?;
     }
     Ok(told)
@@ -40,22 +42,22 @@ pub fn differences(
 fn difference_of(
     alloc: Global,
     old: &Plan,
-    before: &World,
     new: &Plan,
-    after: &World,
+    starts: &mut Starts<'_>,
     node: u32,
     fate: Fate,
 ) -> Result<Option<Difference>, AllocError>
     requires above { 0 < node }
     requires within { node < length new.now.rows }
-    requires fate { IsFate (suites old.now before.now new.now after.now) node fate }
-    ensures { IfOk result (IsDifferenceOf (suites old.now before.now new.now after.now) node fate) }
+    requires fate { IsFate (suites old.now starts.old.before new.now starts.old.after) node fate }
+    ensures told { IfOk result (IsDifferenceOf (suites old.now starts.old.before new.now starts.old.after) node fate) }
+    ensures same { starts.new ≡ starts.old }
 {
     nodes_are_a_tree(old);
     nodes_are_a_tree(new);
     match fate {
         Fate::Changed(namesake) => {
-            let difference = what_differs(alloc, old, before, namesake, new, after, node)?;
+            let difference = what_differs(alloc, old, namesake, new, node, starts)?;
             Ok(Some(difference))
         }
         Fate::Same(_) | Fate::New => Ok(None),

@@ -23,8 +23,8 @@ pub fn plan_paths(alloc: Global, plan: &Plan) -> Result<Vec<Text>, AllocError>
     Ok(paths)
 }
 
-/// The path of a node of this name that stands in the class with this number and path, or in the
-/// root.
+/// The path of a node of this name that is a child of the class with this number and path, or of
+/// the root.
 fn path_in(alloc: Global, class: u32, above: &Text, name: &str) -> Result<Text, AllocError>
     ensures { IfOk result (λ t. t ≡ cond (class == 0) name.now (above.now ++ (codes "." ++ name.now))) }
 {

@@ -94,7 +94,7 @@ fn add_row<'a>(
 }
 
 /// Adds the rows of what differs of the nodes on a node's path, the outermost class first. It calls
-/// itself once for each class that the node stands in.
+/// itself once for each enclosing class of the node.
 #[cycle(reasons)]
 fn add_reasons<'a>(
     rows: &mut Vec<Row<'a>>,

@@ -9,7 +9,7 @@ use iso_summary::name::name;
 use iso_tap::printer::Printer;
 use iso_tap::sink::{Sink, SinkFailed};
 
-/// So many bytes of a line are shown.
+/// How many bytes of a line are shown at most.
 const SHOWN: usize = 160;
 
 /// A word of a line.

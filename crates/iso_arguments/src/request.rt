@@ -156,7 +156,7 @@ pub enum Request<'a> {
         paths: bool,
         files: InputFiles<'a>,
     },
-    /// What the settings in a file of this name come to, with so many processors; `explain` with
+    /// What the settings in a file of this name come to, by the number of processors; `explain` with
     /// what mends a fault.
     Settings {
         settings: Option<&'a str>,

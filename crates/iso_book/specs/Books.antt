@@ -57,7 +57,7 @@ new_book plan world workers = record { plan = plan; world = world; workers = wor
 abbrev pub suite_in : BookView → Suite Head (List ℕ) Resource
 suite_in b = suite_at b.plan b.world
 
--- the state that it stands in: the one that its history in full gives
+-- the state that it is in: the one that its history in full gives
 abbrev pub state_in : BookView → RunState
 state_in b = stopped_if b.stopped (state_of scripts (suite_in b) (events_of b.history))
 

@@ -75,7 +75,7 @@ pub record IsNotTaken (fault : CoreFault) (e : Event) (asked : Type 0) (b c : Bo
   pub book : c ≡ b
   pub tray : u ≡ t
 
--- the frames of a class and of the classes that it stands in, outermost first, and a tray that was
+-- the frames of a class and of its enclosing classes, outermost first, and a tray that was
 -- handed these in place of others
 abbrev pub frames_of : TrayView → ℕ → List Subject
 frames_of t class = map (subject t.plan t.world) (reverse (path (tree_of t.plan) class))

@@ -125,7 +125,8 @@ impl<'a> Book<'a> {
         self.standing.is_stopped()
     }
 
-    /// The nodes that hold their locks: those that were entered and aren't finished.
+    /// The nodes that hold their locks: those that were entered and aren't finished, and the root,
+    /// which is open from the start and takes no key.
     pub fn held(&self) -> &HeldNodes<'a>
         ensures plan { result.now.plan ≡ self.now.plan }
         ensures held { (n : ℕ) → n < length self.now.plan.rows → is_held_node result.now.held n ≡ is_held ((state_in self.now).nodes.status n) }

@@ -9,7 +9,7 @@ use iso_settings::world::World;
 use std::alloc::Global;
 use std::process::Abort;
 
-/// A new book on so many workers.
+/// A new book on `workers` workers.
 pub(crate) fn new_book<'a, R: Abort>(
     rt: &R,
     alloc: Global,
@@ -53,7 +53,7 @@ pub(crate) trait Play {
         requires second_world { second.old.world ≡ book.old.world };
 }
 
-/// Plays with a new book of a suite on so many workers.
+/// Plays with a new book of a suite on `workers` workers.
 pub(crate) fn play_on<R: Abort, P: Play>(
     rt: &R,
     alloc: Global,
@@ -68,7 +68,7 @@ pub(crate) fn play_on<R: Abort, P: Play>(
     play.play(rt, alloc, &mut book, &mut first, &mut second);
 }
 
-/// A play with the book of a suite on so many workers.
+/// A play with the book of a suite on `workers` workers.
 #[derive(Drop)]
 struct OnWorkers<'a, P> {
     workers: u32,
@@ -81,7 +81,7 @@ impl<P: Play> Check for OnWorkers<'_, P> {
     }
 }
 
-/// Plays with the book of a script's suite on so many workers.
+/// Plays with the book of a script's suite on `workers` workers.
 pub(crate) fn play_script<R: Abort, P: Play>(
     rt: &R,
     alloc: Global,

@@ -11,7 +11,8 @@ use Rattle.iso_summary.specs.Names.{shown_name}
 use Rattle.iso_summary.specs.Unseen.{has_unseen}
 use Rattle.iso_summary.specs.Words.{file_word}
 
--- a recorded run: the file of its schedule, and the words of its command that decide its results
+-- a recorded run: the file of its schedule, and the words of its command that decide its results;
+-- files are told by their names as they were given
 pub record RecordedView : Type 0 where
   pub schedule : List ℕ
   pub settings : Option (List ℕ)
@@ -23,8 +24,8 @@ pub record RecordedView : Type 0 where
   pub shard : Option Shard
   pub scripts : List (List ℕ)
 
--- of these files, where so many processors were counted with, and the schedule is in a file of this
--- name
+-- of these files, by the number of processors that were counted with, and the schedule is in a file
+-- of this name
 abbrev pub recorded : InputFiles → (processors : ℕ) → (name : List ℕ) → RecordedView
 recorded files processors name =
     record {

@@ -1,5 +1,5 @@
 -- Chains: tests that wait for one another, for a key that nodes take, or for the thread of the
--- class that they stand in.
+-- class of which they are children.
 use Rattle.std.specs.Prelude.{ℕ, ◌+◌, ◌<◌, List, ◌++◌, Bool, true, false, cond, filter, length, map, nat_lt}
 use Rattle.std.specs.List.{count_by, fold, range_with_len, sum_by}
 use Rattle.iso_conflicts.specs.Takers.{takers}
@@ -16,7 +16,7 @@ use Rattle.iso_plan.specs.Paths.{children, is_test, nodes_under, row_at}
 use Rattle.iso_plan.specs.Tree.{Row}
 use Rattle.iso_settings.specs.declared.settings.Settings.{Settings}
 
--- how many tests a node is or has in it
+-- how many tests a node is or has in it; 0 for the root
 abbrev pub tests_in : List Row → ℕ → ℕ
 tests_in tree n = count_by (λ m. is_test (row_at tree m).kind) (nodes_under tree n)
 

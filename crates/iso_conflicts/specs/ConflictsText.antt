@@ -15,7 +15,7 @@ use Rattle.iso_plan.specs.PathTexts.{path_text}
 use Rattle.iso_plan.specs.Tree.{Row}
 use Rattle.iso_settings.specs.declared.settings.Settings.{Settings}
 
--- so many tests
+-- a number of tests
 abbrev pub counted : ℕ → List ℕ
 counted n = decimal n ++ cond (n == 1) (codes " test") (codes " tests")
 

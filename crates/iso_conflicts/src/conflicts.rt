@@ -19,7 +19,7 @@ use iso_tap::fault::TapFault;
 use iso_tap::printer::{Piece, Printer};
 use iso_tap::sink::{Sink, SinkFailed};
 
-/// Writes the keys of a plan for so many workers: the line `workers W`, then of each key, by its
+/// Writes the keys of a plan for `workers` workers: the line `workers W`, then of each key, by its
 /// number, the line `KEY: longest chain N tests` and, indented, the lines `write: PATH ..` and
 /// `read: PATH ..` of the nodes that take it, where there are any; and last `longest chain of all:
 /// N tests, WHAT`. A key's chain is the tests of all nodes that take it for READ_WRITE and of the
@@ -209,7 +209,7 @@ fn shared_class<W: Sink>(
     printer.path(plan, class)
 }
 
-/// Writes so many tests.
+/// Writes a number of tests.
 fn counted<W: Sink>(printer: &mut Printer<'_, W>, tests: u64) -> Result<(), SinkFailed>
     ensures { Prints printer.old printer.new (counted tests) result }
 {

@@ -30,7 +30,7 @@ pub fn one_reader_counts()
     ensures writer { takers nested Write 2 ≡ 4 ∷ [] }
 {}
 
-/// A class has the tests of all that stands in it; its chain those of its children on the same
+/// A class has the tests of all its descendants; its chain those of its children on the same
 /// thread.
 pub fn children_on_one_thread_are_a_chain()
     ensures inside { tests_in cart_and_desk 4 ≡ 2 }

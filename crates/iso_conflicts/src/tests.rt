@@ -1,4 +1,4 @@
-//! How many tests stand in each node.
+//! How many tests are descendants of each node.
 ghost use Rattle.std.specs.Prelude.{◌≡◌, ◌<◌, ◌+◌, ◌^◌, ℕ, IfOk, cond, length, slice_index_or};
 ghost use Rattle.iso_conflicts.specs.Chains.{tests_in};
 ghost use Rattle.iso_plan.specs.Paths.{column, is_test, is_under, parent, row_at};
@@ -8,8 +8,8 @@ use iso_plan::laws;
 use iso_plan::plan::Plan;
 use std::alloc::{AllocError, Global};
 
-/// How many tests each node is or has in it, by its number. Takes memory for one number a node,
-/// which may be refused.
+/// How many tests each node is or has in it, by its number; 0 for the root, which counts for none.
+/// Takes memory for one number a node, which may be refused.
 pub fn tests_in(alloc: Global, plan: &Plan) -> Result<Vec<u32>, AllocError>
     ensures { IfOk result (λ v. v.items ≡ column (tests_in (tree_of plan.now)) (length plan.now.rows)) }
 {
@@ -21,7 +21,7 @@ pub fn tests_in(alloc: Global, plan: &Plan) -> Result<Vec<u32>, AllocError>
     Ok(counts)
 }
 
-/// Counts a node, where it is a test, in each node that it stands in.
+/// Counts a node, where it is a test, for each node of which it is a descendant.
 fn count_node(counts: &mut Vec<u32>, plan: &Plan, node: u32)
     requires within { node < length plan.now.rows }
     requires each { length counts.old.items ≡ length plan.now.rows }
@@ -53,7 +53,7 @@ fn count_up(counts: &mut Vec<u32>, plan: &Plan, test: u32)
     }
 }
 
-/// The class that a node stands in, or the root.
+/// The class of which a node is a child, or the root.
 fn class_of(plan: &Plan, node: u32) -> u32
     requires above { 0 < node }
     requires within { node < length plan.now.rows }

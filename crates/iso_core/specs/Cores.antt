@@ -1,4 +1,4 @@
--- What contracts see of the core of a run, and the state that it stands in.
+-- What contracts see of the core of a run, and the state that it is in.
 use Rattle.std.specs.Prelude.{◌≡◌, ◌<◌, ◌^◌, ℕ, List, [], ◌∷◌, ◌++◌, Option, Some, None, Bool, true, false, length, refl}
 use Rattle.std.specs.Coded.{Coded, code_by, coded×, coded_list, coded_bool, coded_ℕ}
 use Rattle.iso_core.specs.FlatMaps.{FlatView, IsFlatOf}
@@ -55,7 +55,7 @@ new_core plan world workers = record { plan = plan; world = world; workers = wor
 abbrev pub suite_in : CoreView → Suite Head (List ℕ) Resource
 suite_in c = suite_at c.plan c.world
 
--- the state that it stands in: the one after the events that it accepted
+-- the state that it is in: the one after the events that it accepted
 abbrev pub state_in : CoreView → RunState
 state_in c = stopped_if c.stopped (after_all_of scripts (suite_in c) (first scripts (suite_in c)) (events_of c.events))
 
@@ -67,7 +67,7 @@ refusal_in c e = refusal scripts (suite_in c) c.workers (state_in c) (event_of e
 abbrev pub with_event : CoreView → Event → CoreView
 with_event c e = record c { events = c.events ++ e ∷ [] }
 
--- the core after want of memory: in a Step it is stopped, in any other event nothing has changed
+-- the core after it ran out of memory: in a Step it is stopped, in any other event nothing changed
 abbrev pub after_want : CoreView → Event → CoreView
 after_want c (Code.Enter worker node) = c
 after_want c (Code.Step worker) = record c { stopped = true }

@@ -32,15 +32,15 @@ pub record Ran (plan : Planned) (world : Start) (workers : ℕ) (es : List Event
 abbrev pub event_at : List Event → ℕ → Event
 event_at es i = slice_index_or es i (Step 0)
 
--- the event after the first so many is refused for this reason, and all those before it were
+-- the event after the first `i` is refused for this reason, and all those before it were
 -- accepted
 pub record RefusedAt (plan : Planned) (world : Start) (workers : ℕ) (es : List Event) (i : ℕ) (why : Option Refused) : Type 0 where
   pub within : i < length es
   pub earlier : AreAccepted plan world workers (take i es)
   pub refused : refusal_in (core_after plan world workers (take i es)) (event_at es i) ≡ why
 
--- Memory was wanted for the event after the first so many: those were accepted, and nothing refuses
--- it in the state after them. Where there are none, memory may have been wanted for a new core.
+-- Memory ran out at the event after the first `i`: those were accepted, and nothing refuses
+-- it in the state after them. Where there are none, it may have run out for a new core.
 pub record WantedAt (plan : Planned) (world : Start) (workers : ℕ) (es : List Event) (i : ℕ) : Type 0 where
   pub within : (i ≡ 0 → ⊥) → i < length es
   pub earlier : AreAccepted plan world workers (take i es)

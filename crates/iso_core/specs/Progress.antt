@@ -6,11 +6,11 @@ use Rattle.iso_plan.specs.RowView.{tree_of}
 use Rattle.iso_standing.specs.declared.event.Event.{Event}
 use Rattle.iso_standing.specs.declared.event.Event.TheVariants.{Enter, Shut}
 
--- an event is refused, for another reason than want of memory
+-- an event is refused, for another reason than that memory ran out
 abbrev pub Refuses : CoreView → Event → Type 0
 Refuses c e = is_none (refusal_in c e) ≡ false
 
--- a class is shut by its owner, and a node is entered by the owner of the class that it stands in
+-- a class is shut by its owner, and a node is entered by the owner of its parent
 abbrev pub shut_by_owner : CoreView → ℕ → Event
 shut_by_owner c n = Shut ((state_in c).owner n) n
 

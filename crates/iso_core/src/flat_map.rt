@@ -43,7 +43,7 @@ impl<'a> Model for FlatMap<'a> {
     ghost invariant = { λ m. IsFlatMap (record { tray = m.tray; marks = m.marks.items }) };
 }
 
-/// So many nodes that saved nothing.
+/// `count` nodes that saved nothing.
 fn no_marks(alloc: Global, count: usize) -> Result<Vec<Option<Savepoint>>, AllocError>
     ensures { IfOk result (λ v. v.items ≡ replicate count None) }
 {
@@ -70,8 +70,8 @@ impl<'a> FlatMap<'a> {
         Ok(FlatMap { tray, marks })
     }
 
-    /// Saves the values that a node may change, as it is entered. After want of memory nothing has
-    /// changed.
+    /// Saves the values that a node may change, as it is entered. After running out of memory
+    /// nothing has changed.
     pub(crate) fn enter(&mut self, alloc: Global, node: u32) -> Result<(), AllocError>
         requires inner { 0 < node }
         requires within { node < length self.old.tray.plan.rows }
@@ -86,8 +86,8 @@ impl<'a> FlatMap<'a> {
         Ok(())
     }
 
-    /// Does one step of a body that stands where its steps so far have left it. After want of
-    /// memory the map may be changed in part.
+    /// Does one step of a body that stands where its steps so far have left it. After running out
+    /// of memory the map may be changed in part.
     pub(crate) fn step(&mut self, body: &mut Body<'_>) -> Result<(), AllocError>
         requires under_way { is_ended (stage_of_body body.old) ≡ false }
         requires of_map { subject_of body.old ≡ subject self.old.tray.plan self.old.tray.world (subject_of body.old).node }

@@ -101,7 +101,7 @@ fn first_kind(plan: &Plan, node: u32) -> BodyKind
     }
 }
 
-/// How many classes there are on the path of a class: it and those that it stands in.
+/// How many classes there are on the path of a class: it and its enclosing classes.
 fn class_count(plan: &Plan, class: u32) -> usize
     requires within { class < length plan.now.rows }
     requires class { is_test (row_at (tree_of plan.now) class).kind ≡ false }
@@ -111,7 +111,7 @@ fn class_count(plan: &Plan, class: u32) -> usize
     plan.chain(class).classes.len()
 }
 
-/// The frames of a class that was opened and of the classes that it stands in, outermost first; of
+/// The frames of a class that was opened and of its enclosing classes, outermost first; of
 /// the root there are none.
 fn opened_frames(
     alloc: Global,
@@ -149,7 +149,7 @@ fn leave_values(flat: &mut FlatMap<'_>, node: u32, kind: BodyKind)
     }
 }
 
-/// No body for each of so many workers.
+/// No body for each of `workers` workers.
 fn no_bodies<'a>(alloc: Global, workers: usize) -> Result<Vec<Option<Body<'a>>>, AllocError>
     ensures { IfOk result (λ v. v.items ≡ replicate workers None) }
 {
@@ -177,7 +177,7 @@ fn give_body<'a>(bodies: &mut Vec<Option<Body<'a>>>, worker: u32, body: Body<'a>
 }
 
 /// Makes room for one event more, and saves the values that a node may change, as it is entered.
-/// After want of memory nothing has changed.
+/// After running out of memory nothing has changed.
 fn enter_values(
     alloc: Global,
     events: &mut Vec<Event>,
@@ -208,7 +208,7 @@ fn has_ended(bodies: &[Option<Body<'_>>], worker: u32) -> bool
 }
 
 impl<'a> Core<'a> {
-    /// The core of a plan and a world on so many workers, which has accepted no event.
+    /// The core of a plan and a world on `workers` workers, which has accepted no event.
     pub fn new(
         alloc: Global,
         plan: &'a Plan,
@@ -231,8 +231,8 @@ impl<'a> Core<'a> {
         })
     }
 
-    /// Takes an event where nothing refuses it. A refusal is of the first kind that applies. Want
-    /// of memory comes last.
+    /// Takes an event where nothing refuses it. A refusal is of the first kind that applies.
+    /// Running out of memory comes last.
     pub fn apply(&mut self, event: Event) -> Result<(), CoreFault>
         ensures { MatchResult result (λ _. Accepted event self.old self.new) (λ fault. NotAccepted fault event self.old self.new) }
     {
@@ -260,7 +260,7 @@ impl<'a> Core<'a> {
         self.standing.refusal(event, ended)
     }
 
-    /// Takes an Enter that nothing refuses. After want of memory nothing has changed.
+    /// Takes an Enter that nothing refuses. After running out of memory nothing has changed.
     fn enter(&mut self, worker: u32, node: u32) -> Result<(), AllocError>
         requires { refusal_in self.old (Event.Enter worker node) ≡ None }
         ensures taken { OnOk result (self.new ≡ with_event self.old (Event.Enter worker node)) }
@@ -277,7 +277,7 @@ impl<'a> Core<'a> {
         Ok(())
     }
 
-    /// Takes a Step that nothing refuses. After want of memory it is stopped.
+    /// Takes a Step that nothing refuses. After running out of memory it is stopped.
     fn step(&mut self, worker: u32) -> Result<(), AllocError>
         requires { refusal_in self.old (Event.Step worker) ≡ None }
         ensures taken { OnOk result (self.new ≡ with_event self.old (Event.Step worker)) }
@@ -302,7 +302,7 @@ impl<'a> Core<'a> {
         Ok(())
     }
 
-    /// Takes a Leave that nothing refuses. After want of memory nothing has changed.
+    /// Takes a Leave that nothing refuses. After running out of memory nothing has changed.
     fn leave(&mut self, worker: u32) -> Result<(), AllocError>
         requires { refusal_in self.old (Event.Leave worker) ≡ None }
         ensures taken { OnOk result (self.new ≡ with_event self.old (Event.Leave worker)) }
@@ -327,7 +327,7 @@ impl<'a> Core<'a> {
         Ok(())
     }
 
-    /// Takes a Shut that nothing refuses. After want of memory nothing has changed.
+    /// Takes a Shut that nothing refuses. After running out of memory nothing has changed.
     fn shut(&mut self, worker: u32, node: u32) -> Result<(), AllocError>
         requires { refusal_in self.old (Event.Shut worker node) ≡ None }
         ensures taken { OnOk result (self.new ≡ with_event self.old (Event.Shut worker node)) }

@@ -8,7 +8,7 @@ use iso_plan::laws::nodes_are_a_tree;
 use iso_standing::event::Event;
 
 impl Core<'_> {
-    /// An event that `apply` refuses for want of memory alone, if there is one: there is, exactly
+    /// An event that `apply` refuses only where memory runs out, if there is one: there is, exactly
     /// while a node but the root is unfinished and the core isn't stopped. Takes no memory. It goes
     /// over the workers, and where none has a body over all nodes.
     pub fn allowed_event(&self) -> Option<Event>
@@ -59,8 +59,8 @@ impl Core<'_> {
         None
     }
 
-    /// The event by which the lowest node that may be entered is entered by the owner of the class
-    /// that it stands in.
+    /// The event by which the lowest node that may be entered is entered by the owner of its
+    /// parent.
     fn entering(&self) -> Option<Event>
         ensures allowed { IfSome result (λ e. refusal_in self.now e ≡ None) }
         ensures none { result ≡ None → (n : ℕ) → 0 < n → n < length self.now.plan.rows → Refuses self.now (entered_by_owner self.now n) }

@@ -9,16 +9,16 @@ use iso_standing::core_fault::CoreFault;
 use iso_standing::event::Event;
 use std::alloc::Global;
 
-/// Which event of a list the core didn't take, counted from 0, and why. Want of memory for a new
-/// core is of event 0.
+/// Which event of a list the core didn't take, counted from 0, and why. Running out of memory for
+/// a new core is of event 0.
 #[derive(Clone, Copy, Debug, PartialEq, Eq)]
 pub struct EventsFault {
     pub index: usize,
     pub fault: CoreFault,
 }
 
-/// The core of a plan and a world on so many workers once it has taken these events in turn, or the
-/// first event that it didn't take.
+/// The core of a plan and a world on `workers` workers once it has taken these events in turn, or
+/// the first event that it didn't take.
 pub fn run_events<'a>(
     alloc: Global,
     plan: &'a Plan,

@@ -39,7 +39,7 @@ end_at bodies i = (body_at bodies i).time.end
 abbrev pub has_run : List (Option BodyTime) → ℕ → Bool
 has_run bodies i = not (is_root (i / 2)) && is_some (time_at bodies i)
 
--- the places of the bodies of so many nodes
+-- the places of the bodies of `nodes` nodes
 abbrev pub ran : List (Option BodyTime) → (nodes : ℕ) → List ℕ
 ran bodies nodes = those_below (has_run bodies) (2 * nodes)
 
@@ -48,7 +48,7 @@ ran bodies nodes = those_below (has_run bodies) (2 * nodes)
 abbrev pub latest_first : List (Option BodyTime) → (nodes : ℕ) → List Body
 latest_first bodies nodes = map (body_at bodies) (slowest_first (end_at bodies) (ran bodies nodes))
 
--- it is a body of one of so many nodes, of which the first has none
+-- it is a body of one of `nodes` nodes, of which the first has none
 pub record IsWithin (nodes : ℕ) (b : Body) : Type 0 where
   pub above : 0 < b.node
   pub node : b.node < nodes

@@ -18,7 +18,7 @@ use Rattle.iso_waits.specs.declared.wait.NodeWait.{NodeWait}
 abbrev pub previous : Run → Option Body → Option Body
 previous run b = find (comes_before run.tree (option_map (needs run) b)) (latest_first run.bodies (length run.tree))
 
--- a body and those before it, one after another, at most so many
+-- a body and those before it, one after another, at most `most` of them
 abbrev pub back_from : Run → (most : ℕ) → Option Body → List Body
 back_from run most None = []
 back_from run zero (Some b) = []

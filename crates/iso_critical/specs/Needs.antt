@@ -30,7 +30,7 @@ last_wait n found (w ∷ ws) = last_wait n (noted n found w) ws
 abbrev pub last_holder : List NodeWait → ℕ → Option ℕ
 last_holder waits n = option_map (λ (w : NodeWait). w.last) (last_wait n None waits)
 
--- the same of each of so many nodes
+-- the same of each of `nodes` nodes
 abbrev pub last_holders : List NodeWait → (nodes : ℕ) → List (Option ℕ)
 last_holders waits nodes = column (last_holder waits) nodes
 
@@ -58,7 +58,7 @@ ended_by p b = nat_le p.end b.begin && nat_lt p.end b.end
 abbrev pub lets_in : Needs → Body → Bool
 lets_in needs p = is_node needs.class p.node && not p.closes || is_node needs.earlier p.node || is_node needs.holder p.node
 
--- it is a body of the class that closes, or of what stands in it; or else it had to end before the
+-- it is a body of the class that closes, or of a descendant of it; or else it had to end before the
 -- node was entered
 abbrev pub is_needed : List Row → Needs → Body → Bool
 is_needed tree needs p = cond needs.body.closes (is_under tree needs.body.node p.node) (lets_in needs p)

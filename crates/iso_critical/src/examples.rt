@@ -28,7 +28,7 @@ pub fn ends_may_be_equal()
     ensures { critical_places end_together ≡ 4 ∷ [] }
 {}
 
-/// A class closes after whatever stands in it, at any depth.
+/// A class closes after all its descendants, at any depth.
 pub fn classes_close_after_all_in_them()
     ensures { critical_places unclosed ≡ 3 ∷ 8 ∷ 6 ∷ 4 ∷ 2 ∷ [] }
 {}

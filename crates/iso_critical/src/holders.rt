@@ -7,7 +7,7 @@ ghost use Rattle.iso_plan.specs.Paths.{column};
 use iso_waits::wait::NodeWait;
 use std::alloc::{AllocError, Global};
 
-/// The node that each of so many nodes waited for last, by their numbers.
+/// The node that each of `nodes` nodes waited for last, by their numbers.
 pub(crate) fn last_holders(
     alloc: Global,
     waits: &[NodeWait],
@@ -23,7 +23,7 @@ pub(crate) fn last_holders(
     Ok(holders)
 }
 
-/// Of the waits of each of so many nodes the one that ended last, by their numbers.
+/// Of the waits of each of `nodes` nodes the one that ended last, by their numbers.
 fn last_waits(
     alloc: Global,
     waits: &[NodeWait],

@@ -5,7 +5,7 @@ ghost use Rattle.std.specs.List.{All, list_any};
 use crate::body::Body;
 use std::alloc::{AllocError, Global};
 
-/// A mark for each of so many places: whether one of some bodies has it.
+/// A mark for each of `places` places: whether one of some bodies has it.
 pub(crate) fn marks(alloc: Global, bodies: &[Body], places: usize) -> Result<Vec<bool>, AllocError>
     requires { All (λ b. b.place < places) bodies.now }
     ensures { IfOk result (λ v. (i : ℕ) → slice_index_or v.items i false ≡ list_any (λ b. b.place == i) bodies.now) }

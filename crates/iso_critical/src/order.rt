@@ -10,7 +10,7 @@ use iso_times::times::Times;
 use std::alloc::{AllocError, Global};
 use std::cmp::Reverse;
 
-/// The bodies of so many nodes that have a time: those that ended last first.
+/// The bodies of `nodes` nodes that have a time: those that ended last first.
 pub(crate) fn latest_first(
     alloc: Global,
     times: &Times,
@@ -24,7 +24,7 @@ pub(crate) fn latest_first(
     Ok(bodies)
 }
 
-/// The bodies of so many nodes that have a time, in the order of their places. The root has none.
+/// The bodies of `nodes` nodes that have a time, in the order of their places. The root has none.
 fn by_place(alloc: Global, times: &Times, nodes: u32) -> Result<Vec<Body>, AllocError>
     requires { 0 < nodes }
     ensures { IfOk result (λ v. v.items ≡ map (body_at times.now) (ran times.now nodes)) }

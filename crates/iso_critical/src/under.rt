@@ -1,4 +1,4 @@
-//! What stands in classes.
+//! What classes have in them.
 ghost use Rattle.std.specs.Prelude.{◌≡◌, ◌<◌, length};
 ghost use Rattle.iso_plan.specs.Paths.{is_under, parent};
 ghost use Rattle.iso_plan.specs.RowView.{tree_of};
@@ -6,7 +6,7 @@ ghost use Rattle.iso_plan.specs.RowView.{tree_of};
 use iso_plan::laws::{parents_come_first, paths_lead_up};
 use iso_plan::plan::Plan;
 
-/// Whether a node is a class or stands in it at any depth.
+/// Whether a node is this class or a descendant of it.
 pub(crate) fn is_under(plan: &Plan, class: u32, node: u32) -> bool
     requires { node < length plan.now.rows }
     ensures { result ≡ is_under (tree_of plan.now) class node }
@@ -23,7 +23,7 @@ pub(crate) fn is_under(plan: &Plan, class: u32, node: u32) -> bool
     false
 }
 
-/// The class that a node stands in, or the root.
+/// A node's parent, a class or the root.
 fn class_of(plan: &Plan, node: u32) -> u32
     requires above { 0 < node }
     requires within { node < length plan.now.rows }

@@ -16,7 +16,7 @@ abbrev pub line_number : Line → ℕ
 line_number (Key l) = 576 * party_number l.party + cond l.writes 256 0 + l.key
 line_number (Own w) = 576 * (w + 1) + 512
 
--- a line of so many workers and of 256 keys
+-- a line of `workers` workers and of 256 keys
 abbrev pub IsLineOf : ℕ → Line → Type 0
 IsLineOf workers (Key l) = (party_number l.party ≤ workers) × (l.key < 256)
 IsLineOf workers (Own w) = w < workers

@@ -8,7 +8,7 @@ use Rattle.iso_desk.specs.declared.place.Place.{Place}
 use Rattle.iso_desk.specs.declared.ends.Ends.{Ends}
 use Rattle.iso_desk.specs.declared.marks.Marks.{Marks}
 
--- one more than the number of the line that a node stands in, or 0
+-- one more than the number of the line that a node is in, or 0
 abbrev pub mark_of : Option Line → ℕ
 mark_of None = 0
 mark_of (Some l) = line_number l + 1
@@ -21,7 +21,7 @@ mark places n = mark_of (line_in (place_of places n))
 abbrev pub since : List Place → ℕ → ℕ
 since places n = since_in (place_of places n)
 
--- a line with a first and a last node, by what stands in it (at), since when (since) and who is
+-- a line with a first and a last node, by who is in it (at), since when (since) and who is
 -- behind whom (next)
 pub record IsLinked (at since next : ℕ → ℕ) (i first last : ℕ) : Type 0 where
   pub head : at first ≡ i

@@ -8,7 +8,7 @@ use Rattle.iso_desk.specs.declared.line.Party.{Party}
 use Rattle.iso_desk.specs.declared.marks.Marks.{Marks}
 use Rattle.iso_desk.specs.declared.place.Place.{Place}
 
--- a line's key excludes who stands in it: somebody writes the key, or holds it where it is to be
+-- a line's key excludes who waits in it: somebody writes the key, or holds it where it is to be
 -- written
 abbrev pub excludes : Marks → Marks → KeyLine → Bool
 excludes held written l = cond l.writes (has held l.key) (has written l.key)

@@ -16,7 +16,7 @@ pub record TableView : Type 0 where
 abbrev pub place_of : List Place → ℕ → Place
 place_of places n = slice_index_or places n Closed
 
--- the line in which a node stands that has this place
+-- the line of a node that has this place
 abbrev pub line_in : Place → Option Line
 line_in (InLine s) = Some s.line
 line_in Closed = None
@@ -25,7 +25,7 @@ line_in (With w) = None
 line_in Open = None
 line_in Over = None
 
--- the number by which a node stands in its line that has this place
+-- the number of a node that has this place, by which it is ordered in its line
 abbrev pub since_in : Place → ℕ
 since_in (InLine s) = s.since
 since_in Closed = 0
@@ -34,7 +34,7 @@ since_in (With w) = 0
 since_in Open = 0
 since_in Over = 0
 
--- a node stands in a line
+-- a node is in a line
 abbrev pub StandsIn : List Place → Line → ℕ → Type 0
 StandsIn places l n = line_in (place_of places n) ≡ Some l
 
@@ -46,7 +46,7 @@ IsFirst places l n = StandsIn places l n × ((m : ℕ) → StandsIn places l m �
 abbrev pub IsEmpty : List Place → Line → Type 0
 IsEmpty places l = (n : ℕ) → ¬ StandsIn places l n
 
--- the table of so many nodes, all closed
+-- the table of `nodes` nodes, all closed
 abbrev pub all_closed : ℕ → ℕ → TableView
 all_closed nodes workers = record { workers = workers; places = replicate nodes Closed; clock = 2 ^ 63; front = 2 ^ 63 }
 

@@ -1,7 +1,7 @@
 //! The workers who wait, and whom a change calls. Its rules:
 //!
-//! 1. Of each worker it is kept whether it waits, whether it was called since, and what it has seen.
-//! 2. A call marks one worker that waits, wasn't called, and has something to wake for, and no other; where there is none, nobody.
+//! 1. It is kept of each worker whether it waits, whether it was called since, and what it saw.
+//! 2. A call marks just one worker that waits, wasn't called and has something to wake for, if any.
 //! 3. One is enough: who is called makes a turn, which ends with a call, so that it calls the next.
 ghost use Rattle.std.specs.Prelude.{◌≡◌, ◌<◌, ◌≤◌, ℕ, false, true, length, MatchOption, IfOk};
 ghost use Rattle.iso_desk.specs.Crews.{HasNothing, HaveNothing, IsToCall, awaits, called, idle_crew, looking, member_of, waiting};
@@ -29,7 +29,7 @@ pub struct Crew {
 }
 
 impl Crew {
-    /// Of so many workers, of whom none waits or has looked.
+    /// Of `workers` workers, of whom none waits or has looked.
     pub fn new(alloc: Global, workers: u32) -> Result<Crew, AllocError>
         ensures { IfOk result (λ crew. crew.members.items ≡ idle_crew workers) }
     {

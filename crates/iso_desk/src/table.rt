@@ -1,12 +1,12 @@
 //! One table for all nodes. Its rules:
 //!
 //! 1. Each node has one place, and the table alone says which.
-//! 2. A node stands in one line at most, where its place says so: behind all others, or before them, as it was put there. A node that
-//! waits for a key stands in a line of its party, of the key, and of READ or READ_WRITE as it takes
-//! the key; each worker has a line of its own besides.
+//! 2. A node is in one line at most, where its place says so: behind all others, or before them, as
+//! it was put there. A node that waits for a key is in a line of its party, of the key, and of READ
+//! or READ_WRITE as it takes the key; each worker has a line of its own besides.
 //! 3. Who leaves a line is its first. So each call takes the same time, however many stand there.
-//! 4. A node that waits for a key is on offer where nobody writes the key and, if the node writes it, nobody holds it. This is stored
-//! nowhere: it follows from the sets of the held and of the written keys, and no call makes it so.
+//! 4. A node that waits for a key is on offer where nobody writes the key and, if the node does,
+//! nobody holds it. That follows from the sets of held and of written keys: no call stores it.
 ghost use Rattle.std.specs.Prelude.{◌≡◌, ◌<◌, ◌≤◌, ◌+◌, ◌-◌, ◌^◌, IfOk, IfSome, MatchOption, None, OnErr, OnOk, length};
 ghost use Rattle.std.specs.Bool.{Decides};
 ghost use Rattle.iso_desk.specs.Lines.{IsLineOf, party_number};
@@ -54,7 +54,7 @@ impl Model for Table {
 }
 
 impl Table {
-    /// Of so many nodes, all closed, for so many workers. It takes all memory that its calls need.
+    /// Of `nodes` nodes, all closed, for `workers` workers. Takes all memory that its calls need.
     pub fn new(alloc: Global, nodes: u32, workers: u32) -> Result<Table, AllocError>
         ensures { IfOk result (λ t. t ≡ all_closed nodes workers) }
     {
@@ -105,7 +105,7 @@ impl Table {
         Some(ends.first)
     }
 
-    /// The lowest key at which a line of a party is on offer: somebody stands in it, and the key
+    /// The lowest key at which a line of a party is on offer: the line isn't empty, and the key
     /// isn't written, nor held where it is to be written. It looks at eight words of 64 bits,
     /// however many wait.
     pub fn on_offer(&self, party: Party, held: &Marks, written: &Marks) -> Option<u32>

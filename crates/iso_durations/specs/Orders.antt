@@ -16,7 +16,7 @@ abbrev pub slowest_first : (micros : ℕ → ℕ) → List ℕ → List ℕ
 slowest_first micros [] = []
 slowest_first micros (n ∷ ns) = placed micros n (slowest_first micros ns)
 
--- so many of the first, or all where this is 0
+-- the first `most`, or all where this is 0
 abbrev pub first_of : {A : Type 0} → (most : ℕ) → List A → List A
 first_of most all = cond (most == 0) all (take most all)
 

@@ -32,7 +32,7 @@ impl Model for Durations {
 }
 
 impl Durations {
-    /// Room for so many nodes. It takes all memory that is wanted.
+    /// Room for `nodes` nodes. It takes all memory that is wanted.
     pub fn new(alloc: Global, nodes: u32) -> Result<Durations, AllocError>
         ensures { IfOk result (λ d. d ≡ nodes) }
     {

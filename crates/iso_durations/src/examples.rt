@@ -18,8 +18,8 @@ pub fn equal_times_stand_in_written_order()
     ensures rising { slowest_first (λ n. n) (1 ∷ 2 ∷ 3 ∷ []) ≡ 3 ∷ 2 ∷ 1 ∷ [] }
 {}
 
-/// 0 lists all, as a number does that is larger than there are; another one lists so many of the
-/// first.
+/// 0 lists all, as a number does that is larger than there are; another one lists that number of
+/// the first.
 pub fn zero_lists_all()
     ensures zero { listed cart_and_desk cart_times 0 ≡ 2 ∷ 1 ∷ 5 ∷ 3 ∷ [] }
     ensures more { listed cart_and_desk cart_times 9 ≡ 2 ∷ 1 ∷ 5 ∷ 3 ∷ [] }

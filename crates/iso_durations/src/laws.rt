@@ -27,7 +27,7 @@ pub fn listed_nodes_were_measured()
     ensures within { (tree : List Row) (times : List (Option ℕ)) (most : ℕ) → All (λ n. n < length tree) (listed tree times most) }
 {}
 
-/// As many are listed as are asked for, where so many were measured; all are where 0 is asked for.
+/// As many are listed as are asked for, where that many were measured; where 0 is asked for, all.
 pub fn as_many_are_listed_as_are_asked_for()
     ensures some { (tree : List Row) (times : List (Option ℕ)) (most : ℕ) → 0 < most
         → length (listed tree times most) ≡ min most (length (measured tree times)) }

@@ -17,7 +17,7 @@ use iso_tap::fault::TapFault;
 use iso_tap::printer::Printer;
 use iso_tap::sink::{Sink, SinkFailed};
 
-/// Writes the slowest tests and classes of a run, so many of them at most, or all where this is 0:
+/// Writes the slowest tests and classes of a run, `most` of them at most, or all where this is 0:
 /// a line that says how many they are, of how many, and how long all bodies took, and a line for
 /// each, slowest first, those that took as long in the order in which they are written. Each node
 /// has its time at its number, in microseconds, a class that of its own blocks; a node without a
@@ -44,7 +44,7 @@ pub fn write_durations<W: Sink>(
     }
 }
 
-/// Writes the text that lists so many of these nodes.
+/// Writes the text that lists `most` of these nodes, or all where this is 0.
 fn durations<W: Sink>(
     printer: &mut Printer<'_, W>,
     plan: &Plan,

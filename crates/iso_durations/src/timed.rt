@@ -9,7 +9,7 @@ pub(crate) struct Timed {
     pub(crate) node: u32,
 }
 
-/// So many of the first, or all where this is 0.
+/// The first `most`, or all where this is 0.
 pub(crate) fn first_of(timed: &[Timed], most: u32) -> &[Timed]
     ensures { result.now ≡ first_of most timed.now }
 {

@@ -11,7 +11,7 @@ use Rattle.iso_script_statements.specs.declared.reason.Limit.TheVariants as L
 use Rattle.iso_script_statements.specs.declared.reason.Reason.{Reason}
 use Rattle.iso_script_statements.specs.declared.reason.Reason.TheVariants as R
 
--- of what there may be so many
+-- what is limited in number
 abbrev pub limit_words : Limit → List ℕ
 limit_words L.Classes = codes " classes stand in one another"
 limit_words L.Bodies = codes " bodies stand in one another"

@@ -18,8 +18,8 @@ use Rattle.iso_script_statements.specs.declared.wanted.Wanted.TheVariants as W
 use Rattle.iso_explain.specs.Spots.{place_at_fault}
 use Rattle.iso_explain.specs.Wants.{is_symbol, symbol_wanted}
 
--- the words that begin a top-level class, a member, a lifecycle block or a member, and what stands
--- in a class
+-- the words that begin a top-level class, a member, a lifecycle block or a member, and any part
+-- of a class
 abbrev pub class_words : List Word
 class_words = Class ∷ SameThread ∷ Concurrent ∷ Isolated ∷ Disabled ∷ Read ∷ Write ∷ []
 

@@ -7,8 +7,8 @@ use Rattle.iso_hints.specs.declared.place.Place.{Place}
 use Rattle.iso_script_statements.specs.declared.fault.ScriptFault.{ScriptFault}
 use Rattle.iso_explain.specs.declared.spot.Spot.{Spot}
 
--- how many bytes so many lines have from here on, with their line feeds: all, where there are fewer
--- lines
+-- how many bytes this number of lines has from here on, with their line feeds: all, where there are
+-- fewer lines
 abbrev pub lines_bytes : ℕ → List ℕ → ℕ
 lines_bytes zero bytes = 0
 lines_bytes (suc n) [] = 0

@@ -53,7 +53,7 @@ abbrev pub is_display : Wanted → Bool
 is_display W.Display = true
 is_display _ = false
 
--- a key is wanted
+-- a key is wanted, alone or beside `children`
 abbrev pub is_key : Wanted → Bool
 is_key W.Key = true
 is_key W.Target = true
@@ -64,7 +64,7 @@ abbrev pub is_class : Wanted → Bool
 is_class W.TopClass = true
 is_class _ = false
 
--- anything is wanted that stands in a class
+-- any part of a class is wanted
 abbrev pub is_class_part : Wanted → Bool
 is_class_part W.ClassPart = true
 is_class_part _ = false

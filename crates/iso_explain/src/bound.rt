@@ -38,7 +38,7 @@ fn of_limit<W: Sink>(printer: &mut Printer<'_, W>, limit: Limit) -> Result<(), S
     )
 }
 
-/// Of what there may be so many.
+/// What is limited in number.
 fn limit_words(limit: Limit) -> &'static str
     ensures { result.now ≡ limit_words limit }
 {

@@ -62,7 +62,7 @@ const BLOCKS: &[&str] = &[
     "write",
 ];
 
-/// Words that begin what stands in a class.
+/// Words that begin a part of a class.
 const PARTS: &[&str] = &[
     "static",
     "field",

@@ -25,7 +25,7 @@ pub(crate) enum Want {
     Key,
     /// A top-level class.
     Class,
-    /// Anything that stands in a class.
+    /// Any part of a class.
     Part,
     /// A lifecycle block or a member.
     Block,
@@ -138,7 +138,7 @@ fn is_class(wanted: Wanted) -> bool
     matches!(wanted, Wanted::TopClass)
 }
 
-/// Whether anything is wanted that stands in a class.
+/// Whether any part of a class is wanted.
 fn is_class_part(wanted: Wanted) -> bool
     ensures { result ≡ is_class_part wanted }
 {

@@ -8,7 +8,7 @@ use Rattle.iso_model.specs.ScriptView.{class_head_of}
 use Rattle.iso_model.specs.declared.heads.ClassHead.{ClassHead}
 use Rattle.iso_model.specs.declared.heads.Variable.{Variable}
 
--- shared class heads, as they stand there
+-- what shared class heads stand for, in the same order
 abbrev pub heads_of : List (Arc ClassHead Global) → List C.ClassHead
 heads_of heads = map (λ c. class_head_of (arc_value c)) heads
 

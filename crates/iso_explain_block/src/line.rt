@@ -5,10 +5,10 @@ ghost use Rattle.iso_explain_block.specs.Lines.{has_line, with_line};
 use iso_model::text::Text;
 use std::alloc::AllocError;
 
-/// So many lines are told at most.
+/// How many lines are told at most.
 const MOST: usize = 4;
 
-/// Adds a line, unless it stands there already, or so many do.
+/// Adds a line, unless it stands there already, or `MOST` lines do.
 #[tactic(auto, unfolding(crate::specs::Lines::with_line))]
 pub(crate) fn add_line(lines: &mut Vec<Text>, line: Text) -> Result<(), AllocError>
     ensures { OnOk result (lines.new.items ≡ with_line line lines.old.items) }

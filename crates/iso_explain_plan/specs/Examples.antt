@@ -18,7 +18,7 @@ lines_of (line ∷ lines) = codes line ++ codes "\n" ++ lines_of lines
 abbrev pub at : String → (line column : ℕ) → Spot
 at file line column = (codes file, Some (record { line = line; column = column }))
 
--- a class with so many things
+-- a class with `count` things
 abbrev pub sized : String → ℕ → Size
 sized path count = record { path = record { ref_ptr = (0, 0); now = codes path }; count = count }
 

@@ -46,7 +46,7 @@ pub record TellsOfNodes (scripts : List Script) (text : List ℕ) : Type 0 where
   pub all : map size_of sizes ≡ all_sizes (all_paths (tree scripts)) (all_top_classes (tree scripts))
   pub told : text ≡ nodes_notes (length (tree scripts) - 1) (take 3 (by_size sizes))
 
--- a text tells of so many keys, and of three top-level classes at most that declare some
+-- a text tells of `count` keys, and of three top-level classes at most that declare some
 pub record TellsOfKeys (text : List ℕ) : Type 0 where
   pub count : ℕ
   pub sizes : List Size

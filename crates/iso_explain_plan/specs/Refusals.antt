@@ -29,7 +29,7 @@ node_of (Step worker) = 0
 node_of (Leave worker) = 0
 node_of (Shut worker node) = node
 
--- the class that a node stands in; the root of one that isn't there
+-- the parent of a node; the root of one that isn't there
 abbrev pub class_in : List Row → ℕ → ℕ
 class_in tree node = cond (nat_lt node (length tree)) (unwrap_or (parent_of tree node) 0) 0
 

@@ -30,7 +30,7 @@ event_notes =
     note (codes "an event is `enter W N`, `step W`, `leave W` or `shut W N`: W is a worker, N a node, both in digits" ∷ [])
     ++ note (codes "spaces stand between its words, and none before or behind them" ∷ [])
 
--- a number has so many digits, and how many it may have
+-- a number has `digits` digits, and how many it may have
 abbrev pub number_note : ℕ → List ℕ
 number_note digits =
     note (codes "it has " ∷ decimal digits ∷ codes " digits, and at most " ∷ decimal 9 ∷ codes " are read, zeros in front among them" ∷ [])
@@ -39,8 +39,8 @@ number_note digits =
 abbrev pub length_note : List ℕ
 length_note = note (codes "at most " ∷ decimal FILE_BYTES ∷ codes " bytes stand in a schedule" ∷ [])
 
--- the longest word from here on, where so many bytes stand in front of the first one, and another
--- word has so many
+-- the longest word from here on, where `front` bytes stand in front of the first one, and another
+-- word has `longest`
 abbrev pub longest_from : (longest front : ℕ) → List ℕ → ℕ
 longest_from longest front [] = longest
 longest_from longest front (b ∷ bs) = longest_from (max longest (cond (b == 32) 0 (front + 1))) (cond (b == 32) 0 (front + 1)) bs

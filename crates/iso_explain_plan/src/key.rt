@@ -47,7 +47,7 @@ fn add_sizes<'a>(
     Ok(())
 }
 
-/// How many different keys a class declares, with what stands in it.
+/// How many different keys a class declares, with its descendants.
 fn class_key_count(alloc: Global, class: &Class) -> Result<usize, AllocError> {
     let mut keys = BTreeSet::new(alloc);
     add_class(&mut keys, class)?;
@@ -62,7 +62,7 @@ fn add_all<'a>(keys: &mut BTreeSet<&'a str>, classes: &'a [Class]) -> Result<(),
     Ok(())
 }
 
-/// Adds the keys of a class and of what stands in it. It calls itself once for each class around
+/// Adds the keys of a class and of its descendants. It calls itself once for each class around
 /// the innermost one.
 #[cycle(keys)]
 fn add_class<'a>(keys: &mut BTreeSet<&'a str>, class: &'a Class) -> Result<(), AllocError> {

@@ -6,7 +6,7 @@ ghost use Rattle.iso_explain_plan.specs.Largest.{by_size, put_by_size};
 use crate::size::Size;
 use std::alloc::{AllocError, Global};
 
-/// So many are told.
+/// How many are told.
 const TOLD: usize = 3;
 
 /// The three largest, or as many as there are: the largest first, equal ones in their order.

@@ -72,7 +72,7 @@ fn node_of(event: Event) -> u32
     }
 }
 
-/// The class that a node stands in; the root of one that isn't there.
+/// The parent of a node; the root of one that isn't there.
 fn class_in(plan: &Plan, node: u32) -> u32
     ensures { result ≡ class_in (tree_of plan.now) node }
 {

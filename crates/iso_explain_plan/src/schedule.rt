@@ -13,7 +13,7 @@ use iso_schedule::fault::{ScheduleFault, ScheduleFaultKind};
 use iso_tap::printer::{Piece, Printer};
 use iso_tap::sink::{Sink, SinkFailed};
 
-/// So many bytes of a line are shown.
+/// How many bytes of a line are shown at most.
 const SHOWN: usize = 160;
 /// The most digits of a number.
 const DIGITS: u64 = 9;
@@ -115,7 +115,7 @@ fn event_notes<W: Sink>(printer: &mut Printer<'_, W>) -> Result<(), SinkFailed>
     )
 }
 
-/// Writes how many digits a number may have, and that this one has so many.
+/// Writes how many digits a number may have, and that this one has `digits`.
 fn number_note<W: Sink>(printer: &mut Printer<'_, W>, digits: usize) -> Result<(), SinkFailed>
     ensures { Prints printer.old printer.new (number_note digits) result }
 {

@@ -64,8 +64,8 @@ fn is_own(classes: &[u32], n: usize) -> bool
     n > 0 && classes[n] as usize == n
 }
 
-/// How many nodes stand in the top-level class with this number, and itself: they stand one behind
-/// another.
+/// How many nodes the top-level class with this number has as descendants, itself among them: they
+/// stand one behind another.
 fn nodes_from(classes: &[u32], class: usize) -> usize
     requires { class < length classes.now }
     ensures { result ≡ nodes_from classes.now class }

@@ -28,7 +28,7 @@ pub(crate) enum Stage {
 }
 
 /// Writes what a schedule leaves whose events are all accepted: that it ends early, and the first
-/// top-level class that isn't finished. What stands in a finished class is finished.
+/// top-level class that isn't finished. The descendants of a finished class are finished.
 ///
 /// It takes memory from `alloc`, and none is left taken.
 pub fn explain_unfinished<W: Sink>(

@@ -16,11 +16,11 @@ use iso_tap::printer::Printer;
 use iso_tap::sink::{Sink, SinkFailed};
 use std::alloc::{AllocError, Global};
 
-/// So many paths are told.
+/// How many paths are told at most.
 const TOLD: usize = 3;
-/// At most so many paths are compared with a word.
+/// How many paths are compared with a word at most.
 const COMPARED: usize = 4_096;
-/// At most so many pairs of bytes are compared, if no path is longer than the word.
+/// How many pairs of bytes are compared at most, if no path is longer than the word.
 const PAIRS: usize = 16_777_216;
 
 /// The first class of the first script of this team that has one.

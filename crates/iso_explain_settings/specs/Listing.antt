@@ -18,7 +18,7 @@ meant_line key = unknown_line key (meant_key key)
 abbrev pub limit_text : ℕ → List ℕ
 limit_text workers = cond (nat_lt 64 workers) (codes ", at most 64") (codes "")
 
--- why there are so many workers, by each strategy
+-- why there are `workers` workers, by each strategy
 abbrev pub fixed_text : (workers : ℕ) → List ℕ
 fixed_text workers = joined (codes "strategy is fixed, fixed.parallelism is " ∷ decimal workers ∷ [])
 

@@ -18,7 +18,7 @@ in_front (t ∷ ts) last = t ++ in_front ts last
 abbrev pub joined : List (List ℕ) → List ℕ
 joined texts = in_front texts []
 
--- at most so many bytes of a text as they are shown, and a mark where it has more
+-- at most `most` bytes of a text as they are shown, and a mark where it has more
 abbrev pub shown_text : ℕ → List ℕ → List ℕ
 shown_text most text = map shown_byte (take most text) ++ cut (nat_lt most (length text))
 

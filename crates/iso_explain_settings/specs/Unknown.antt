@@ -13,7 +13,7 @@ Kept = List (List ℕ) × ℕ
 unfoldable pub with_one : Kept → List ℕ → Kept
 with_one kept key = cond (nat_lt (length kept.0) 10) (kept.0 ++ key ∷ [], kept.1) (kept.0, min (kept.1 + 1) 18446744073709551615)
 
--- so many more
+-- `more` more of them
 abbrev pub with_more : Kept → ℕ → Kept
 with_more kept more = (kept.0, min (kept.1 + more) 18446744073709551615)
 

@@ -27,10 +27,10 @@ use iso_tap::sink::SinkFailed;
 use std::alloc::{AllocError, Global};
 use toml::Table;
 
-/// Adds what settings come to that were read from these bytes, for so many processors: each key
-/// with its value and where this is from, keys that are unknown, and how many workers there are and
-/// why. Of unknown keys ten are told, and how many there are more. After running out of memory the
-/// text is of no use.
+/// Adds what settings come to that were read from these bytes, for `processors` processors: each
+/// key with its value and where this is from, keys that are unknown, and how many workers there
+/// are and why. Of unknown keys ten are told, and how many there are more. After running out of
+/// memory the text is of no use.
 pub fn list_settings(
     alloc: Global,
     bytes: &[u8],
@@ -47,8 +47,8 @@ pub fn list_settings(
     }
 }
 
-/// Adds how many workers settings come to that were read from these bytes, for so many processors,
-/// and why.
+/// Adds how many workers settings come to that were read from these bytes, for `processors`
+/// processors, and why.
 pub fn tell_workers(
     alloc: Global,
     bytes: &[u8],
@@ -204,7 +204,7 @@ fn why_of(
     Ok(why)
 }
 
-/// Adds why there are so many workers.
+/// Adds why there are `workers` workers.
 fn tell_why(
     is_parallel: bool,
     is_fixed: bool,
@@ -222,7 +222,7 @@ fn tell_why(
     }
 }
 
-/// Adds why there are so many workers by the fixed strategy.
+/// Adds why there are `workers` workers by the fixed strategy.
 fn tell_fixed(workers: u32, text: &mut MemorySink) -> Result<(), AllocError>
     ensures { OnOk result (Wrote text.old text.new (fixed_text workers)) }
 {
@@ -235,7 +235,7 @@ fn tell_fixed(workers: u32, text: &mut MemorySink) -> Result<(), AllocError>
     )
 }
 
-/// Adds why there are so many workers by the dynamic strategy.
+/// Adds how the dynamic strategy comes to its number of workers.
 fn tell_dynamic(processors: u32, factor: u32, text: &mut MemorySink) -> Result<(), AllocError>
     ensures { OnOk result (Wrote text.old text.new (dynamic_text processors factor)) }
 {

@@ -18,7 +18,7 @@ pub(crate) enum Part<'a> {
     Plain(&'a str),
     /// A number in decimal.
     Number(u64),
-    /// At most so many bytes of a text, as they are shown.
+    /// At most this number of bytes of a text, as they are shown.
     Shown(&'a str, usize),
     /// A file's name as it is shown.
     Name(&'a str),
@@ -34,7 +34,7 @@ pub(crate) struct Picture<'a> {
     pub number: u32,
     pub line: &'a [u8],
     pub column: u32,
-    /// So many carets.
+    /// How many carets there are.
     pub width: u32,
     pub label: &'a [u8],
 }
@@ -91,7 +91,7 @@ fn draw<W: Sink>(printer: &mut Printer<'_, W>, picture: &Picture<'_>) -> Result<
     )
 }
 
-/// Writes at most so many bytes as they are shown.
+/// Writes at most `most` bytes as they are shown.
 fn shown<W: Sink>(printer: &mut Printer<'_, W>, bytes: &[u8], most: usize) -> Result<(), SinkFailed>
     ensures { Prints printer.old printer.new (shown_text most bytes.now) result }
 {

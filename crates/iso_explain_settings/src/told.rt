@@ -15,10 +15,10 @@ use iso_tap::memory::MemorySink;
 use std::alloc::{AllocError, Global};
 use toml::Value;
 
-/// So many bytes of a value are shown.
+/// How many bytes of a value are shown at most.
 const VALUE_BYTES: usize = 60;
 
-/// So many bytes of a key are shown.
+/// How many bytes of a key are shown at most.
 const KEY_BYTES: usize = 160;
 
 /// How one key may be spelled.

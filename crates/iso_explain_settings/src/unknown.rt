@@ -8,7 +8,7 @@ use iso_hints::key::is_unknown;
 use std::alloc::{AllocError, Global};
 use toml::{Table, Value};
 
-/// So many are kept.
+/// How many are kept at most.
 pub(crate) const KEPT: usize = 10;
 
 /// The first of the keys that are unknown, and how many there are more.

@@ -16,7 +16,7 @@ use iso_hints::key::{KEYS, nearest_key};
 use std::alloc::{AllocError, Global};
 use toml::Table;
 
-/// So many bytes of a key are shown.
+/// How many bytes of a key are shown at most.
 const KEY_BYTES: usize = 160;
 
 /// Adds the warnings of a table of settings.

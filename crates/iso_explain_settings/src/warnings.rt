@@ -21,7 +21,7 @@ use iso_tap::sink::{Sink, SinkFailed};
 use std::alloc::{AllocError, Global};
 use std::marker::Model;
 
-/// So many warnings are kept.
+/// How many warnings are kept at most.
 const KEPT: usize = 10;
 
 /// What a warning is of.
@@ -124,7 +124,7 @@ impl Warnings {
         Ok(())
     }
 
-    /// Counts so many warnings more.
+    /// Counts `more` warnings more.
     pub(crate) fn add_more(&mut self, more: u64)
         ensures { self.new ≡ with_more self.old more }
     {

@@ -12,11 +12,11 @@ abbrev pub is_met : (ℕ → Outcome) → (class : ℕ) → List ℕ → Bool
 is_met outcome class [] = false
 is_met outcome class (n ∷ ns) = n == class || (not (is_failure outcome n) && is_met outcome class ns)
 
--- whether a node stands in another one, with no failed class between them
+-- whether a node is a descendant of another one, with no failed class between them
 abbrev pub is_within : List Row → (ℕ → Outcome) → (m : ℕ) → ℕ → Bool
 is_within tree outcome m n = is_met outcome m (path tree (parent tree n))
 
--- whether a node is another one, or stands in that and it didn't fail, nor did a class between them
+-- whether a node is another one, or its descendant, and neither that nor a class between failed
 abbrev pub is_at : List Row → (ℕ → Outcome) → (m : ℕ) → ℕ → Bool
 is_at tree outcome m n = n == m || (not (is_failure outcome m) && is_within tree outcome m n)
 

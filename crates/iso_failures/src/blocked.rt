@@ -28,7 +28,7 @@ pub fn blocked_by(plan: &Plan, results: &Results<'_>, class: u32) -> u32
     }
 }
 
-/// How many blocked tests stand in a node, without those in a failed class in it.
+/// How many descendants of a node are blocked tests, without those in a failed class in it.
 #[cycle(blocking)]
 fn blocked_within(plan: &Plan, results: &Results<'_>, node: u32) -> u32
     requires plan { results.now.plan ≡ plan.now }

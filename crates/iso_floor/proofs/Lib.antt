@@ -3,7 +3,12 @@ pub mod AuditLemmas
 pub mod Begun
 pub mod FreeSeats
 pub mod FreeTrays
+pub mod HintLemmas
+pub mod KeyLemmas
+pub mod LooseLemmas
+pub mod NextLemmas
 pub mod NoNodes
 pub mod NodeTrays
 pub mod Outcomes
+pub mod SchedulerLemmas
 pub mod Sharing

@@ -8,7 +8,8 @@ use Rattle.std.proofs.Crossing.{crosses}
 use Rattle.std.proofs.option.Option.TheSendSync as option
 use Rattle.iso_book.proofs.Sharing.{book_sent}
 use Rattle.iso_book.proofs.receipt.Receipt.TheSendSync as receipt
-use Rattle.iso_floor.proofs.agenda.Agenda.TheSendSync as agenda
+use Rattle.iso_floor.proofs.hints.Hints.TheSendSync as hints
+use Rattle.iso_floor.proofs.scheduler.Scheduler.TheSendSync as scheduler
 use Rattle.iso_floor.proofs.work.Cause.TheSendSync as cause
 use Rattle.iso_floor.specs.contracts.desk.Desk as desk
 use Rattle.iso_floor.specs.contracts.desk.Desk.TheInside as desk_inside
@@ -23,7 +24,7 @@ use Rattle.iso_plan.proofs.Sharing.{plan_shared}
 use Rattle.iso_posts.proofs.Sharing.{seat_sent as posts_sent}
 use Rattle.iso_settings.proofs.world.World.TheSendSync as world
 
-ruleset parts = (plan_shared, world.the_sync, book_sent, posts_sent, tray_sent, receipt.the_send, agenda.the_send, cause.the_send, as_row_send, as_row_sync, crosses, sendable)
+ruleset parts = (plan_shared, world.the_sync, book_sent, posts_sent, tray_sent, receipt.the_send, scheduler.the_send, hints.the_send, cause.the_send, as_row_send, as_row_sync, crosses, sendable)
 
 module _ (a : NamedLft) (T : RattleType) (ground : Ghosts T.Denot) (sent : IsSend T) where
   pub seat_sent : IsSend (seat.the_row a T ground)
@@ -33,8 +34,8 @@ module _ (a : NamedLft) (T : RattleType) (ground : Ghosts T.Denot) (sent : IsSen
   work_end_sent = declared_send (work_end.the_type a T ground) (search (as_row_send, seat_sent), (search parts, tt))
 
   pub desk_sent : IsSend (desk.the_row a T ground)
-  desk_sent = search (declared_send (desk_inside.the_type a T ground) (search parts, (search (option.the_send, parts) depth 12, (search parts, (search parts, (search parts, (search parts, (search parts, (search parts, tt)))))))), sendable)
+  desk_sent = search (declared_send (desk_inside.the_type a T ground) (search parts, (search (option.the_send, parts) depth 12, (search parts, (search parts, (search parts, (search parts, tt)))))), sendable)
 
   pub floor_shared : IsSync (floor.the_row a T ground)
   floor_shared =
-      search (declared_sync (floor_inside.the_type a T ground) (search parts, (search parts, (search parts, (search (desk_sent, parts), (search parts, (search parts, (search parts, tt))))))), sendable)
+      search (declared_sync (floor_inside.the_type a T ground) (search parts, (search parts, (search parts, (search (desk_sent, parts), (search parts, (search parts depth 12, (search parts, tt))))))), sendable)

@@ -63,8 +63,8 @@ IsFull s = s.room ≤ length s.receipts
 abbrev pub has_changed : ℕ → BookView → Bool
 has_changed seen b = nat_lt seen (length b.history) || (b.stopped || is_complete b)
 
--- a wait for a change may end at a book, and answer this number of events: the history has so many,
--- and has changed since so many were seen
+-- a wait for a change may end at a book, and answer `count` events: the history has as many,
+-- and has changed since `seen` of them were seen
 pub record EndsWait (seen count : ℕ) (b : BookView) : Type 0 where
   pub changed : has_changed seen b ≡ true
   pub counted : length b.history ≡ count

@@ -15,7 +15,7 @@ pub record IsTrayOf (plan : Planned) (start : Start) (t : TrayView) : Type 0 whe
   pub plan_is : t.plan ≡ plan
   pub world_is : t.world ≡ start
 
--- a book is of a plan and starting values, and of so many workers
+-- a book is of a plan and starting values, and of `workers` workers
 pub record IsBookOf (plan : Planned) (start : Start) (workers : ℕ) (b : BookView) : Type 0 where
   pub plan_is : b.plan ≡ plan
   pub world_is : b.world ≡ start

@@ -4,6 +4,9 @@ pub mod Audits
 pub mod Closing
 pub mod Grounds
 pub mod Halts
+pub mod KeyMarks
+pub mod Nexts
+pub mod Schedulers
 pub mod Seats
 pub mod Turning
 pub mod Workers

@@ -33,7 +33,7 @@ pub record IsShutFree (n : ℕ) (u : TrayView) : Type 0 where
   pub free : IsFree before
   pub shut : IsShut n before u
 
--- the classes that a node stands in were opened well
+-- the classes around a node were opened well
 pub record IsEnclosed (plan : Planned) (start : Start) (n : ℕ) : Type 0 where
   pub tree : IsTree (tree_of plan)
   pub inner : 0 < n

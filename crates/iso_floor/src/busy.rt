@@ -1,12 +1,12 @@
 //! How many workers a plan can keep busy.
 ghost use Rattle.std.specs.Prelude.{◌≤◌, IfOk};
 
-use crate::agenda::{children_of, is_concurrent};
+use crate::nodes::{children_of, is_concurrent};
 use iso_model::access::Access;
 use iso_plan::plan::Plan;
 use std::alloc::{AllocError, Global};
 
-/// How many of so many workers a plan can keep busy at once, at most: at least one. It goes over
+/// How many of `workers` workers a plan can keep busy at once, at most: at least one. It goes over
 /// all nodes once.
 ///
 /// Whoever is busy does a CONCURRENT node that it entered, or what is on the same thread in one; or

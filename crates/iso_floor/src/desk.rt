@@ -3,12 +3,15 @@ ghost use Rattle.std.specs.Prelude.{◌≡◌, ℕ, IfOk, length, not, true};
 ghost use Rattle.iso_book.specs.Books.{new_book};
 ghost use Rattle.iso_floor.specs.Answering.{HasRun, has_changed};
 ghost use Rattle.iso_floor.specs.Grounds.{IsBookOf};
+ghost use Rattle.iso_floor.specs.Schedulers.{IsFor};
 
-use crate::agenda::{Agenda, Source};
 use crate::ground::Ground;
+use crate::hints::Hints;
 use crate::posting::post_children;
+use crate::scheduler::Scheduler;
 use iso_book::book::Book;
 use iso_lifecycle::kind::BodyKind;
+use iso_plan::lock::Lock;
 use iso_plan::plan::Plan;
 use iso_posts::owner::Owner;
 use iso_posts::posts::{PostSeat, Posts};
@@ -16,37 +19,25 @@ use iso_settings::world::World;
 use std::alloc::{AllocError, Global};
 use std::marker::{Model, PhantomData};
 
-/// Whom an event wakes of those who wait for something to try.
-#[derive(Clone, Copy)]
-pub(crate) enum Call {
-    Nobody,
-    Anyone,
-    Everyone,
-}
-
 /// Whom an event wakes.
 #[derive(Clone, Copy)]
 pub(crate) struct Wakes {
     /// Whether somebody waits for a change.
     pub(crate) watchers: bool,
-    pub(crate) workers: Call,
+    /// The worker that has something to wake for, if one is called.
+    pub(crate) worker: Option<u32>,
 }
 
 /// The book, the deques of those who have no seat yet, what is to be tried next, and how many wait
-/// for a change and for something to try.
+/// for a change.
 #[derive(Drop)]
 pub(crate) struct Desk<'a, G: Ground> {
     pub(crate) book: Book<'a>,
     /// By worker, what it has of the deques, until it has a seat.
     pub(crate) places: Vec<Option<PostSeat>>,
-    pub(crate) agenda: Agenda,
-    /// How often a class was opened up of which nodes were posted.
-    rounds: u64,
-    /// How many nodes were posted and not tried yet: each lies in a deque, or a worker has it in
-    /// hand.
-    untried: u32,
+    pub(crate) scheduler: Scheduler,
+    hints: Hints,
     watching: u32,
-    idle: u32,
     of: PhantomData<G>,
 }
 
@@ -54,6 +45,7 @@ impl<'a, G: Ground> Model for Desk<'a, G> {
     ghost use Rattle.std.specs.Prelude.{◌≡◌, length};
     ghost use Rattle.iso_book.specs.Books.{BookView, book_code};
     ghost use Rattle.iso_floor.specs.Grounds.{IsBookOf};
+    ghost use Rattle.iso_floor.specs.Schedulers.{IsFor};
 
     ghost Value = { BookView };
 
@@ -61,7 +53,11 @@ impl<'a, G: Ground> Model for Desk<'a, G> {
 
     ghost view = { λ d. d.book };
 
-    ghost invariant = { λ d. record { book : IsBookOf G.plan G.start G.workers d.book; seats : length d.places.items ≡ G.workers } };
+    ghost invariant = { λ d. record {
+      book : IsBookOf G.plan G.start G.workers d.book;
+      seats : length d.places.items ≡ G.workers;
+      scheduler : IsFor (length G.plan.rows) G.workers d.scheduler;
+    } };
 }
 
 impl<'a, G: Ground> Desk<'a, G> {
@@ -78,130 +74,143 @@ impl<'a, G: Ground> Desk<'a, G> {
         requires workers { workers ≡ G.workers }
     {
         let mut seats = Posts::new(alloc, workers as usize)?;
-        let untried = match seats.first_mut() {
-            Some(first) => post_children(plan, 0, &mut first.owner)?,
-            None => 0,
-        };
+        let mut scheduler = Scheduler::new(alloc, plan, workers)?;
+        post_root(&mut scheduler, plan, &mut seats)?;
         Ok(Desk {
             book: Book::new(alloc, plan, world, workers)?,
             places: places_of(alloc, seats, workers)?,
-            agenda: Agenda::new(alloc, plan, workers)?,
-            rounds: 0,
-            untried,
+            scheduler,
+            hints: Hints::new(alloc, plan)?,
             watching: 0,
-            idle: 0,
             of: PhantomData,
         })
     }
 
-    /// Whom the event that was booked wakes: nobody where nobody waits.
+    /// Whom the event that was booked wakes: those who wait for a change, where somebody does, and
+    /// one worker that waits and has something to wake for, which is called by it.
     pub(crate) fn wakes(&mut self) -> Wakes
         ensures { self.new ≡ self.old }
     {
+        let is_over = self.is_over();
         Wakes {
             watchers: self.watching > 0,
-            workers: self.call(),
-        }
-    }
-
-    // Whom it wakes of the workers: all where one of them got something for itself alone, or
-    // nothing more is to be done.
-    fn call(&mut self) -> Call
-        ensures { self.new ≡ self.old }
-    {
-        let handed = self.agenda.take_handed();
-        if self.idle == 0 {
-            Call::Nobody
-        } else if handed || self.is_over() {
-            Call::Everyone
-        } else if self.agenda.has_for_any() || self.untried > 0 {
-            Call::Anyone
-        } else {
-            Call::Nobody
+            worker: self.scheduler.call(is_over),
         }
     }
 
     // Whether nothing more is to be done.
     fn is_over(&self) -> bool {
-        self.book.is_stopped() || self.agenda.is_done()
+        self.book.is_stopped() || self.scheduler.is_done()
     }
 
-    /// Whether there is nothing for a worker to try who has seen that all deques were empty after
-    /// nodes had been posted so often, and the run isn't over.
-    ///
-    /// Where they weren't posted since, no node lies in a deque: one that was taken out is never
-    /// posted again. It was tried, or whoever has it in hand tries it. So each has a worker that
-    /// will try it, also where its deque's owner sleeps or has ended.
-    pub(crate) fn has_nothing_for(&self, worker: u32, seen: Option<u64>) -> bool {
-        !self.is_over() && seen == Some(self.rounds) && self.agenda.has_nothing_for(worker)
-    }
-
-    /// Whether the agenda has something for a worker to try.
-    pub(crate) fn calls_for(&self, worker: u32) -> bool {
-        !self.agenda.has_nothing_for(worker)
-    }
-
-    /// How often nodes were posted.
-    pub(crate) fn rounds(&self) -> u64 {
-        self.rounds
-    }
-
-    /// A node that lay in a deque is tried.
-    pub(crate) fn note_tried(&mut self)
+    /// A worker begins to wait with what it has seen: how often nodes had been posted before its
+    /// last look into the deques, if that found each of them empty.
+    pub(crate) fn begin_idle(&mut self, worker: u32, seen: Option<u64>)
         ensures { self.new ≡ self.old }
     {
-        self.untried = self.untried.saturating_sub(1);
+        self.scheduler.begin_wait(worker, seen);
     }
 
-    /// How many nodes a worker tries at most before it is asked again: more than are in the way at
-    /// once.
+    /// A worker waits no more.
+    pub(crate) fn end_idle(&mut self, worker: u32)
+        ensures { self.new ≡ self.old }
+    {
+        self.scheduler.end_wait(worker);
+    }
+
+    /// Whether a worker goes on to wait, since it has nothing to wake for.
+    ///
+    /// Where nodes weren't posted since it has seen all deques empty, none lies in a deque: one
+    /// that was taken out is never posted again. It was tried, or the worker that took it will try
+    /// it. So no node is left in the deque of a worker that sleeps or has ended.
+    pub(crate) fn stays(&mut self, worker: u32) -> bool
+        ensures { self.new ≡ self.old }
+    {
+        let is_over = self.is_over();
+        self.scheduler.stays(worker, is_over)
+    }
+
+    /// Whether something waits for a worker that needs no look into the deques.
+    pub(crate) fn calls_for(&self, worker: u32) -> bool {
+        self.scheduler.calls_for(worker)
+    }
+
+    /// How often a class was opened up of which nodes were posted.
+    pub(crate) fn rounds(&self) -> u64 {
+        self.scheduler.rounds()
+    }
+
+    /// How many nodes a worker tries at most before it is asked again: more than wait.
     pub(crate) fn tries(&self) -> u32 {
         self.book.plan().len().saturating_add(1)
     }
 
-    /// The next node for a worker to try.
-    pub(crate) fn next_for(&mut self, worker: u32) -> Option<(u32, Source)>
+    /// A lock of a node whose key is in its way, if there is one: it makes the book refuse it.
+    pub(crate) fn lock_in_the_way(&mut self, node: u32) -> Option<Lock>
         ensures { self.new ≡ self.old }
     {
-        self.agenda.next_for(self.book.plan(), worker)
+        let plan = self.book.plan();
+        if node >= plan.len() {
+            return None;
+        }
+        self.hints.lock_in_the_way(plan, self.book.held(), node)
     }
 
-    /// A node waits until another one is finished.
-    pub(crate) fn wait_behind(&mut self, way: u32, node: u32, source: Source)
+    /// A node waits for a key that is in its way, for a worker to attempt it later.
+    pub(crate) fn wait_for(&mut self, node: u32, lock: Lock, worker: u32) -> Result<(), AllocError>
         ensures { self.new ≡ self.old }
     {
-        self.agenda.wait_behind(self.book.plan(), way, node, source);
+        self.scheduler
+            .wait_for(self.book.plan(), node, lock, worker)
     }
 
     /// Opens a class up that its worker left open, and posts what may run beside others in it.
-    /// Answers whether it wasn't open yet.
     pub(crate) fn open_up(
         &mut self,
         class: u32,
         worker: u32,
         owner: &mut Owner,
-    ) -> Result<bool, AllocError>
+    ) -> Result<(), AllocError>
         ensures { self.new ≡ self.old }
     {
-        if !self.agenda.open_up(self.book.plan(), class, worker) {
-            return Ok(false);
-        }
-        let posted = post_children(self.book.plan(), class, owner)?;
-        if posted > 0 {
-            self.rounds = self.rounds.saturating_add(1);
-            self.untried = self.untried.saturating_add(posted);
-        }
-        Ok(true)
+        let plan = self.book.plan();
+        post_children(&mut self.scheduler, plan, class, owner)?;
+        self.scheduler.open(plan, class, worker)
     }
 
-    /// A body of this kind was left by a worker.
-    pub(crate) fn note_leave(&mut self, kind: BodyKind, node: u32, worker: u32)
+    /// A node was entered by a worker.
+    pub(crate) fn note_enter(&mut self, node: u32, worker: u32)
+        ensures { self.new ≡ self.old }
+    {
+        self.scheduler
+            .enter(self.book.plan(), self.book.held(), node, worker);
+    }
+
+    /// A class was shut by a worker.
+    pub(crate) fn note_shut(&mut self, class: u32, worker: u32)
+        ensures { self.new ≡ self.old }
+    {
+        self.scheduler.shut(class, worker);
+    }
+
+    /// A body of this kind was left by a worker. Out of memory is answered only after 2^63 nodes
+    /// were put in lines.
+    pub(crate) fn note_leave(
+        &mut self,
+        kind: BodyKind,
+        node: u32,
+        worker: u32,
+    ) -> Result<(), AllocError>
         ensures { self.new ≡ self.old }
     {
         match kind {
-            BodyKind::BeforeAll => self.agenda.opened(node, worker),
+            BodyKind::BeforeAll => {
+                self.scheduler.leave_open(node, worker);
+                Ok(())
+            }
             BodyKind::Test | BodyKind::AfterAll => {
-                self.agenda.finish(self.book.plan(), node, worker)
+                self.scheduler
+                    .finish(self.book.plan(), self.book.held(), node)
             }
         }
     }
@@ -218,20 +227,6 @@ impl<'a, G: Ground> Desk<'a, G> {
         ensures { self.new ≡ self.old }
     {
         self.watching = self.watching.saturating_sub(1);
-    }
-
-    /// One more worker waits for something to try.
-    pub(crate) fn begin_idle(&mut self)
-        ensures { self.new ≡ self.old }
-    {
-        self.idle = self.idle.saturating_add(1);
-    }
-
-    /// One worker waits no more.
-    pub(crate) fn end_idle(&mut self)
-        ensures { self.new ≡ self.old }
-    {
-        self.idle = self.idle.saturating_sub(1);
     }
 
     /// Stops the book.
@@ -271,6 +266,20 @@ impl<'a, G: Ground> Desk<'a, G> {
         let Desk { book, .. } = self;
         let _history = book.history();
         book
+    }
+}
+
+// Posts the children of the root that may run beside others in the first worker's deque.
+fn post_root(
+    scheduler: &mut Scheduler,
+    plan: &Plan,
+    seats: &mut Vec<PostSeat>,
+) -> Result<(), AllocError>
+    ensures { (nodes workers : ℕ) → IsFor nodes workers scheduler.old → IsFor nodes workers scheduler.new }
+{
+    match seats.first_mut() {
+        Some(first) => post_children(scheduler, plan, 0, &mut first.owner),
+        None => Ok(()),
     }
 }
 

@@ -10,7 +10,7 @@ ghost use Rattle.iso_floor.specs.Turning.{IsTurn};
 ghost use Rattle.iso_locks.specs.Trays.{is_lent};
 
 use crate::close::settle;
-use crate::desk::{Call, Desk, Wakes};
+use crate::desk::{Desk, Wakes};
 use crate::fault::{CloseFault, SeatFault};
 use crate::ground::Ground;
 use crate::seat::Seat;
@@ -37,8 +37,8 @@ pub struct Floor<'a, G: Ground> {
     desk: Mutex<Desk<'a, G>>,
     /// For those who wait for an event.
     changed: Condvar,
-    /// For workers who wait for something to try.
-    called: Condvar,
+    /// By worker, for the one that waits for something to try.
+    called: Vec<Condvar>,
     /// A place for each event that a history may have, for the comparison with the receipts.
     marks: Vec<bool>,
 }
@@ -79,7 +79,7 @@ impl<'a, G: Ground> Floor<'a, G> {
             workers,
             desk: Mutex::new(Desk::new(alloc, plan, world, workers)?),
             changed: Condvar::new(),
-            called: Condvar::new(),
+            called: condvars(alloc, workers)?,
             marks: vec![in alloc; false; events]?,
         })
     }
@@ -244,11 +244,12 @@ impl<'a, G: Ground> Floor<'a, G> {
     /// often. Answers how often they were posted.
     pub(crate) fn wait_turn<R: Wait>(&self, rt: &R, worker: u32, seen: Option<u64>) -> u64 {
         let mut desk = self.desk.lock(rt);
-        desk.begin_idle();
-        let mut desk = self
-            .called
-            .wait_while(rt, desk, |desk| desk.has_nothing_for(worker, seen));
-        desk.end_idle();
+        let Some(called) = self.called.get(worker as usize) else {
+            return desk.rounds();
+        };
+        desk.begin_idle(worker, seen);
+        let mut desk = called.wait_while(rt, desk, |desk| desk.stays(worker));
+        desk.end_idle(worker);
         desk.rounds()
     }
 
@@ -257,10 +258,19 @@ impl<'a, G: Ground> Floor<'a, G> {
         if wakes.watchers {
             self.changed.notify_all();
         }
-        match wakes.workers {
-            Call::Nobody => {}
-            Call::Anyone => self.called.notify_one(),
-            Call::Everyone => self.called.notify_all(),
+        if let Some(worker) = wakes.worker
+            && let Some(called) = self.called.get(worker as usize)
+        {
+            called.notify_one();
         }
     }
+}
+
+// A place to wait for each of `workers` workers.
+fn condvars(alloc: Global, workers: u32) -> Result<Vec<Condvar>, AllocError> {
+    let mut places = Vec::with_capacity(alloc, workers as usize)?;
+    for _ in 0..workers {
+        places.push(Condvar::new())?;
+    }
+    Ok(places)
 }

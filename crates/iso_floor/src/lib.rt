@@ -2,7 +2,6 @@
 //! workers were told with the history.
 #![tactic(auto)]
 
-mod agenda;
 pub mod audit;
 pub mod busy;
 pub mod close;
@@ -11,8 +10,12 @@ pub mod fault;
 pub mod floor;
 pub mod ground;
 mod halt;
-mod links;
+mod hints;
+mod keys;
+mod nodes;
+mod offers;
 mod posting;
+mod scheduler;
 pub mod seat;
 mod steal;
 mod turn;

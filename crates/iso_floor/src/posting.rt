@@ -1,20 +1,34 @@
 //! What goes into the deques: what may run beside others, once its class is open.
-use crate::agenda::{children_of, is_concurrent};
+ghost use Rattle.std.specs.Prelude.{ℕ};
+ghost use Rattle.iso_floor.specs.Schedulers.{IsFor};
+
+use crate::nodes::{children_of, is_concurrent};
+use crate::scheduler::Scheduler;
 use iso_plan::plan::Plan;
 use iso_posts::owner::Owner;
-use std::alloc::{AllocError, Global};
+use std::alloc::AllocError;
 
-/// Posts what may run beside others of what stands directly in a class, and answers how many nodes
-/// those are.
-pub(crate) fn post_children(plan: &Plan, class: u32, owner: &mut Owner) -> Result<u32, AllocError> {
-    let mut posted: u32 = 0;
-    for child in children_of(plan, class) {
+/// Posts the children of a class that may run beside others, in order.
+pub(crate) fn post_children(
+    scheduler: &mut Scheduler,
+    plan: &Plan,
+    class: u32,
+    owner: &mut Owner,
+) -> Result<(), AllocError>
+    ensures { (nodes workers : ℕ) → IsFor nodes workers scheduler.old → IsFor nodes workers scheduler.new }
+{
+    let mut posted = false;
+    'children: for child in children_of(plan, class) {
         if is_concurrent(plan, *child) {
             if owner.post(*child).is_err() {
                 return Err(AllocError);
             }
-            posted = posted.saturating_add(1);
+            scheduler.post(*child);
+            posted = true;
         }
     }
-    Ok(posted)
+    if posted && class > 0 {
+        scheduler.count_round();
+    }
+    Ok(())
 }

@@ -37,7 +37,7 @@ pub struct Seat<'a, G: Ground> {
     /// In the order of its Leaves, with room for every Leave of the plan.
     receipts: Vec<Receipt>,
     pub(crate) posts: PostSeat,
-    /// Whether the agenda had something for this worker after its last Leave.
+    /// Whether the scheduler had something for this worker after its last Leave.
     is_called: bool,
     of: PhantomData<G>,
 }
@@ -94,7 +94,7 @@ impl<'a, G: Ground> Seat<'a, G> {
     }
 
     /// Takes a node out of a deque, if it finds one: out of the worker's own, else out of another
-    /// worker's. It looks into none where the agenda had something for this worker after its last
+    /// worker's. It looks into none where the scheduler had something for this worker after its last
     /// Leave, since that comes first. It may wait for others who steal.
     pub(crate) fn look_into_deques<R: Wait>(&mut self, rt: &R) -> Look
         ensures { self.new ≡ self.old }
@@ -155,7 +155,11 @@ impl<'a, G: Ground> Seat<'a, G> {
         ensures same { OnErr result (self.new ≡ self.old) }
     {
         desk.keep_run();
-        desk.book.enter_own(self.worker, node, &mut self.tray)
+        let entered = desk.book.enter_own(self.worker, node, &mut self.tray);
+        if entered.is_ok() {
+            desk.note_enter(node, self.worker);
+        }
+        entered
     }
 
     // Shuts a class at a desk.
@@ -167,10 +171,15 @@ impl<'a, G: Ground> Seat<'a, G> {
         ensures same { OnErr result (self.new ≡ self.old) }
     {
         desk.keep_run();
-        desk.book.shut_own(self.worker, node, &mut self.tray)
+        let shut = desk.book.shut_own(self.worker, node, &mut self.tray);
+        if shut.is_ok() {
+            desk.note_shut(node, self.worker);
+        }
+        shut
     }
 
-    // Books at a desk what a body came to, where there is room for its receipt.
+    // Books at a desk what a body came to, where there is room for its receipt. After 2^63 nodes
+    // were put in lines it stops the run.
     pub(crate) fn leave_at(
         &mut self,
         desk: &mut Desk<'a, G>,
@@ -193,7 +202,9 @@ impl<'a, G: Ground> Seat<'a, G> {
         desk.keep_run();
         let receipt = desk.book.leave_own(self.worker, done, &mut self.tray)?;
         self.receipts.push_reserved(receipt);
-        desk.note_leave(kind, node, self.worker);
+        if desk.note_leave(kind, node, self.worker).is_err() {
+            desk.stop();
+        }
         self.is_called = desk.calls_for(self.worker);
         Ok(())
     }

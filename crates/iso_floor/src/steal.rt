@@ -1,4 +1,7 @@
 //! How a worker looks into the deques.
+ghost use Rattle.std.specs.Prelude.{◌≡◌, IfSome};
+ghost use Rattle.iso_floor.specs.declared.steal.Look.TheVariants.{Nothing};
+
 use iso_posts::thief::{Stolen, Thief};
 use std::sync::Wait;
 
@@ -8,7 +11,7 @@ pub(crate) enum Look {
     Found(u32),
     /// No node lay in any deque, each at its moment.
     Nothing,
-    /// It was left out, since the agenda had something for the worker.
+    /// It was left out, since the scheduler had something for the worker.
     Skipped,
 }
 
@@ -23,7 +26,9 @@ impl Look {
 
     /// How often nodes had been posted before the look, if it has shown that none of them lay in a
     /// deque any more.
-    pub(crate) fn seen(self, rounds: u64) -> Option<u64> {
+    pub(crate) fn seen(self, rounds: u64) -> Option<u64>
+        ensures { IfSome result (λ seen. (self ≡ Nothing) × (seen ≡ rounds)) }
+    {
         match self {
             Look::Nothing => Some(rounds),
             Look::Found(_) | Look::Skipped => None,

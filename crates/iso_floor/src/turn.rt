@@ -2,7 +2,6 @@
 ghost use Rattle.std.specs.Prelude.{◌≡◌, MatchOption};
 ghost use Rattle.iso_floor.specs.Turning.{IsTurn};
 
-use crate::agenda::Source;
 use crate::desk::Desk;
 use crate::ground::Ground;
 use crate::halt::Halt;
@@ -20,74 +19,96 @@ pub(crate) enum Turn {
     Shut(u32),
     /// Nothing, until another worker has booked an event.
     Wait,
-    /// Nothing more: every node that stands in the root is finished.
+    /// Nothing more: every child of the root is finished.
     Finished,
     /// It goes on no further.
     Halted(Halt),
 }
 
 impl<'a, G: Ground> Seat<'a, G> {
-    /// Tries a node that was found in a deque, if one was, and then what the agenda has for this
-    /// seat's worker, one node after another, until an event was taken or nothing is left to try.
+    /// Shuts or opens up the class that this seat's worker has just opened, attempts a node that
+    /// was found in a deque, if one was, and then what waits for this worker, one node after
+    /// another, until an event was taken or nothing is left to try.
     pub(crate) fn turn_at(&mut self, desk: &mut Desk<'a, G>, found: Option<u32>) -> Turn
         ensures { IsTurn result self.old self.new }
     {
         if desk.book.is_stopped() {
             return Turn::Halted(Halt::Stopped);
         }
-        if desk.agenda.is_done() {
+        if desk.scheduler.is_done() {
             return Turn::Finished;
+        }
+        if let Some(turn) = self.try_opened(desk) {
+            return turn;
         }
         if let Some(turn) = self.try_found(desk, found) {
             return turn;
         }
         'tries: for _ in 0..desk.tries() {
-            let Some((node, source)) = desk.next_for(self.worker()) else {
+            let Some(node) = desk.scheduler.next_for(self.worker()) else {
                 return Turn::Wait;
             };
-            if let Some(turn) = self.try_at(desk, node, source) {
+            if let Some(turn) = self.try_at(desk, node) {
                 return turn;
             }
         }
         Turn::Wait
     }
 
-    // Enters a node that was found in a deque, unless another one is in the way.
+    // Shuts the class that the worker has just opened, or opens it up where a child is left.
+    fn try_opened(&mut self, desk: &mut Desk<'a, G>) -> Option<Turn>
+        ensures { MatchOption result (self.new ≡ self.old) (λ turn. IsTurn turn self.old self.new) }
+    {
+        let class = desk.scheduler.take_opening(self.worker())?;
+        self.try_shut(desk, class)
+    }
+
+    // Attempts a node that was found in a deque, unless somebody else has entered it.
     fn try_found(&mut self, desk: &mut Desk<'a, G>, found: Option<u32>) -> Option<Turn>
         ensures { MatchOption result (self.new ≡ self.old) (λ turn. IsTurn turn self.old self.new) }
     {
         let node = found?;
-        desk.note_tried();
-        self.try_enter(desk, node, Source::First)
+        if !desk.scheduler.is_loose(node) {
+            return None;
+        }
+        self.attempt(desk, node)
     }
 
-    // Enters a node that waits, or shuts a class that its worker left open, unless another node is
-    // in the way. Then it goes back into the agenda.
-    fn try_at(&mut self, desk: &mut Desk<'a, G>, node: u32, source: Source) -> Option<Turn>
+    // Attempts a node that waited, or shuts a class whose children are over.
+    fn try_at(&mut self, desk: &mut Desk<'a, G>, node: u32) -> Option<Turn>
         ensures { MatchOption result (self.new ≡ self.old) (λ turn. IsTurn turn self.old self.new) }
     {
-        if desk.agenda.is_shared(node) {
+        if desk.scheduler.is_shared(node) {
             self.try_shut(desk, node)
         } else {
-            self.try_enter(desk, node, source)
+            self.attempt(desk, node)
         }
     }
 
-    fn try_enter(&mut self, desk: &mut Desk<'a, G>, node: u32, source: Source) -> Option<Turn>
+    // Enters a node, unless a key is in its way: then it waits for that key.
+    fn attempt(&mut self, desk: &mut Desk<'a, G>, node: u32) -> Option<Turn>
+        ensures { MatchOption result (self.new ≡ self.old) (λ turn. IsTurn turn self.old self.new) }
+    {
+        let Some(lock) = desk.lock_in_the_way(node) else {
+            return self.try_enter(desk, node);
+        };
+        match desk.wait_for(node, lock, self.worker()) {
+            Ok(()) => None,
+            Err(fault) => Some(Turn::Halted(Halt::from(fault))),
+        }
+    }
+
+    fn try_enter(&mut self, desk: &mut Desk<'a, G>, node: u32) -> Option<Turn>
         ensures { MatchOption result (self.new ≡ self.old) (λ turn. IsTurn turn self.old self.new) }
     {
         match self.enter_at(desk, node) {
             Ok(()) => {
                 if !is_done_whole(desk.book.plan(), node) {
-                    desk.agenda.share(node);
+                    desk.scheduler.share(node);
                 }
                 Some(Turn::Entered(node))
             }
-            Err(CoreFault::Refused(Refused::LockHeld(way))) => {
-                desk.wait_behind(way, node, source);
-                None
-            }
-            // Whoever entered it didn't ask the agenda.
+            // It was entered by a caller of `Floor::enter` beside the workers.
             Err(CoreFault::Refused(Refused::AlreadyEntered)) => None,
             Err(fault) => Some(Turn::Halted(Halt::from(fault))),
         }
@@ -101,8 +122,7 @@ impl<'a, G: Ground> Seat<'a, G> {
             Err(CoreFault::Refused(Refused::ChildrenLeft)) => {
                 let worker = self.worker();
                 match desk.open_up(class, worker, &mut self.posts.owner) {
-                    Ok(true) => None,
-                    Ok(false) => Some(Turn::Halted(Halt::Stopped)),
+                    Ok(()) => None,
                     Err(fault) => Some(Turn::Halted(Halt::from(fault))),
                 }
             }

@@ -31,9 +31,9 @@ use std::sync::Wait;
 
 /// A worker at its floor.
 ///
-/// A node that takes no key for READ_WRITE is opened and left open, for whoever has time for what
-/// stands in it. One that does is done whole, depth first, by the worker that entered it: all that
-/// stands in it looks at what it changes.
+/// A node that takes no key for READ_WRITE is opened and left open, so that any worker may take
+/// its children. One that does is done whole, depth first, by the worker that entered it: all its
+/// descendants look at what it changes.
 #[derive(Clone, Copy)]
 pub(crate) struct Worker<'w, 'a, G: Ground, R, T> {
     pub(crate) rt: &'w R,
@@ -113,7 +113,7 @@ impl<'w, 'a, G: Ground, R: Wait, T: Gate> Worker<'w, 'a, G, R, T> {
         self.leave(seat, last)
     }
 
-    /// Does the bodies of a node that was entered, and all that stands in it. Answers what the last
+    /// Does the bodies of a node that was entered, and all its descendants. Answers what the last
     /// of its bodies came to.
     #[cycle(depth)]
     fn bodies(&self, seat: &mut Seat<'a, G>, node: u32) -> Result<Done, Halt>
@@ -140,7 +140,7 @@ impl<'w, 'a, G: Ground, R: Wait, T: Gate> Worker<'w, 'a, G, R, T> {
         self.perform(seat, node, BodyKind::Test)
     }
 
-    /// Opens a class that was entered, does what stands in it, and closes it.
+    /// Opens a class that was entered, does its children, and closes it.
     #[cycle(depth)]
     fn class(&self, seat: &mut Seat<'a, G>, class: u32) -> Result<Done, Halt>
         requires entry { IsAtEntry G.plan G.start class seat.old.tray }
@@ -165,7 +165,7 @@ impl<'w, 'a, G: Ground, R: Wait, T: Gate> Worker<'w, 'a, G, R, T> {
         self.leave(seat, done)
     }
 
-    /// Does the `after_all` of a class when all that stands in it is done, and answers what it came
+    /// Does the `after_all` of a class when its descendants are done, and answers what it came
     /// to.
     fn close(&self, seat: &mut Seat<'a, G>, class: u32) -> Result<Done, Halt>
         requires enclosed { IsEnclosed G.plan G.start class }

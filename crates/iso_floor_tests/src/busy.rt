@@ -44,7 +44,7 @@ static ROWS: [(&str, u32); 10] = [
     ),
 ];
 
-/// How many of so many workers the suite of these classes keeps busy.
+/// How many of `workers` workers the suite of these classes keeps busy.
 fn busy_of<R: Abort>(rt: &R, alloc: Global, classes: &str, workers: u32) -> u32 {
     let script = format!(in alloc; "team shop\n{classes}\n").expect(rt, "memory");
     let suite = read_suite(rt, alloc, script.as_str());
@@ -59,7 +59,7 @@ fn as_many_workers_are_busy_as_nodes_can_be_under_way(rt: HostRuntime) {
     }
 }
 
-/// The script of a class of so many tests.
+/// The script of a class of `tests` tests.
 fn wide(rt: &impl Abort, alloc: Global, tests: u32) -> String {
     let mut script = String::from_str(alloc, "class C {\n").expect(rt, "memory");
     for test in 0..tests {

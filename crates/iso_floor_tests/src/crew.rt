@@ -47,7 +47,7 @@ pub(crate) struct Crew {
 }
 
 impl Crew {
-    /// So many workers, who all finish and hand in their seats.
+    /// `workers` workers, who all finish and hand in their seats.
     pub(crate) fn of(workers: u32) -> Crew {
         Crew {
             workers,

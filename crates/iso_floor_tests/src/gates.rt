@@ -1,5 +1,5 @@
-//! Gates at which bodies meet, are held, or rest. No call waits without end: each gives up after so
-//! many turns of a millisecond.
+//! Gates at which bodies meet, are held, or rest. No call waits without end: each gives up after
+//! a number of turns of a millisecond.
 use crate::crew::Beside;
 use iso_floor::floor::Floor;
 use iso_floor::ground::Ground;
@@ -141,7 +141,7 @@ impl<C: Clock> Gate for Holding<'_, C> {
     }
 }
 
-/// Opens a gate once the floor's history is longer than so many events.
+/// Opens a gate once the floor's history is longer than a number of events.
 #[derive(Drop)]
 pub(crate) struct Watcher<'h, 'r, C: Clock> {
     gate: &'h Holding<'r, C>,

@@ -96,7 +96,7 @@ pub(crate) fn expect_fault(rt: &impl Abort, closed: &Result<Told, CloseFault>, f
     }
 }
 
-/// A floor that was closed handed out a book with so many events.
+/// A floor that was closed handed out a book with `events` events.
 pub(crate) fn expect_events(rt: &impl Abort, closed: &Result<Told, CloseFault>, events: usize) {
     match closed {
         Ok(told) => check(rt, "the events", &told.events, &events),

@@ -29,7 +29,7 @@ fn expect_run<R: Abort + Threads + Wait + Sync, T: Gate + Sync>(
     expect_report(rt, &ran.closed, serial);
 }
 
-/// So many runs of a suite give the report of the serial run.
+/// `runs` runs of a suite give the report of the serial run.
 fn expect_runs<R: Abort + Threads + Wait + Sync, T: Gate + Sync>(
     rt: &R,
     alloc: Global,
@@ -44,7 +44,7 @@ fn expect_runs<R: Abort + Threads + Wait + Sync, T: Gate + Sync>(
     }
 }
 
-/// So many runs of the contended suite give the report of the serial run.
+/// `runs` runs of the contended suite give the report of the serial run.
 fn expect_contended<R: Abort + Threads + Wait + Sync, T: Gate + Sync>(
     rt: &R,
     alloc: Global,

@@ -87,7 +87,7 @@ fn expect_lengths<G: Ground, R: Abort + Wait>(rt: &R, floor: &Floor<'_, G>) {
     }
 }
 
-/// A wait for more events than so many tells of one.
+/// A wait for more than `seen` events tells of one.
 fn expect_length<G: Ground, R: Abort + Wait>(rt: &R, floor: &Floor<'_, G>, seen: u64) {
     assert_eq!(rt; floor.wait_change(rt, seen), 1, "after {seen}");
 }

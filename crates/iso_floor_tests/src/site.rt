@@ -64,7 +64,7 @@ fn play_there<G: Ground, R: Abort + Wait, P: Play>(
     play.play(rt, alloc, &site);
 }
 
-/// Plays on a plan and a world with so many workers.
+/// Plays on a plan and a world with `workers` workers.
 fn play_on<R: Abort + Wait, P: Play>(
     rt: &R,
     alloc: Global,
@@ -76,7 +76,7 @@ fn play_on<R: Abort + Wait, P: Play>(
     play_there::<Brand, R, P>(rt, alloc, plan, world, workers, play);
 }
 
-/// Plays on the suite of a script with so many workers.
+/// Plays on the suite of a script with `workers` workers.
 pub(crate) fn play_script<R: Abort + Wait, P: Play>(
     rt: &R,
     alloc: Global,

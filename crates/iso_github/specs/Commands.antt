@@ -19,7 +19,8 @@ in_message text = flat_map message_byte text
 abbrev pub in_property : List ℕ → List ℕ
 in_property text = flat_map property_byte text
 
--- the command that tells an error at a line of a file. A path has nothing to escape.
+-- the command that tells an error at a line of a file; a node's path, its title, has nothing to
+-- escape
 abbrev pub error_line : (file : List ℕ) → (line : ℕ) → (path message : List ℕ) → List ℕ
 error_line file line path message =
     joined

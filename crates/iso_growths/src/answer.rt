@@ -14,7 +14,7 @@ use std::alloc::{AllocError, AllocFailed};
 pub(crate) enum Answer {
     /// Memory ran out, and what stands is as it should be.
     OutOfMemory,
-    /// Something that no want of memory is a reason for.
+    /// Something that running out of memory is no reason for.
     Wrong(&'static str),
 }
 

@@ -56,7 +56,7 @@ fn over_worlds<H: Host>(calls: &Calls<'_, H>, plan: &Plan) -> Result<(), Answer>
     Ok(())
 }
 
-/// Makes a tray over a world of so many properties.
+/// Makes a tray over a world of `properties` properties.
 fn over_properties<H: Host>(
     calls: &Calls<'_, H>,
     name: &str,
@@ -80,7 +80,7 @@ fn over_world<H: Host>(
     Ok(())
 }
 
-/// The world of so many properties.
+/// The world of `properties` properties.
 fn world_of(alloc: Global, properties: u32) -> Result<World, Answer> {
     let mut text = String::new(alloc);
     for number in 0..properties {

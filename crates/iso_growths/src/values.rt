@@ -133,7 +133,7 @@ fn answers(held: &Held, want: Looks) -> bool {
         && held.look(Ask::File) == want.file
 }
 
-/// Changes a value, which answers as before where memory is wanting.
+/// Changes a value, which answers as before where memory ran out.
 fn apply<H: Host>(
     calls: &Calls<'_, H>,
     held: &mut Held,

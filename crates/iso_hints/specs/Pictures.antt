@@ -10,11 +10,11 @@ use Rattle.iso_tap.specs.declared.printer.Piece.{Piece}
 abbrev pub shown_byte : ℕ → ℕ
 shown_byte b = cond (b == 9) 32 (cond (is_in_range 32 126 b) b 63)
 
--- the place of a column in a line of so many bytes: from 0 on, at most at its end
+-- the place of a column in a line of `len` bytes: from 0 on, at most at its end
 abbrev pub place_of : ℕ → ℕ → ℕ
 place_of len column = min (column - 1) len
 
--- how many bytes of so many stand before those that are shown: these are 160, with the place among
+-- how many bytes of `len` stand before those that are shown: these are 160, with the place among
 -- them or right behind, and at most 80 before it where more stand behind
 abbrev pub first_shown : ℕ → ℕ → ℕ
 first_shown len place = min (place - 80) (len - 160)
@@ -27,7 +27,7 @@ cut is_cut = cond is_cut (codes "..") []
 abbrev pub shown_rest : Bool → List ℕ → List ℕ
 shown_rest is_cut rest = cut is_cut ++ map shown_byte (take 160 rest) ++ cut (nat_lt 160 (length rest))
 
--- how many carets stand at a place for so many bytes: as many as are shown from there on, at most,
+-- how many carets stand at a place for `width` bytes: as many as are shown from there on, at most,
 -- and at least one
 abbrev pub caret_count : ℕ → ℕ → ℕ → ℕ
 caret_count len place width = max 1 (min width (min len (first_shown len place + 160) - place))
@@ -36,7 +36,7 @@ caret_count len place width = max 1 (min width (min len (first_shown len place +
 abbrev pub caret_blanks : ℕ → ℕ → ℕ
 caret_blanks len place = length (cut (nat_lt 0 (first_shown len place))) + (place - first_shown len place)
 
--- a margin with blanks for so many digits
+-- a margin with blanks for `digits` digits
 abbrev pub margin : ℕ → List ℕ
 margin digits = codes " " ++ replicate digits 32 ++ codes " | "
 
@@ -60,7 +60,7 @@ picture_at number line place width label =
     ++ margin (length (decimal number))
     ++ caret_part (caret_blanks (length line) place) (caret_count (length line) place width) label
 
--- the picture of a line: the line with its number, and below it carets for so many bytes from a
+-- the picture of a line: the line with its number, and below it carets for `width` bytes from a
 -- column on, with a label
 abbrev pub picture : ℕ → List ℕ → ℕ → ℕ → List Piece → List ℕ
 picture number line column width label = picture_at number line (place_of (length line) column) width label

@@ -35,7 +35,7 @@ place_seen seen front rest =
 abbrev pub place_between : List ℕ → List ℕ → PlaceView
 place_between front rest = place_seen (scan_of front) front rest
 
--- the place behind so many bytes of a text
+-- the place behind `bytes` bytes of a text
 abbrev pub place_at : List ℕ → ℕ → PlaceView
 place_at text bytes = place_between (take bytes text) (drop bytes text)
 

@@ -1,7 +1,7 @@
 -- Positions in a text.
 use Rattle.std.specs.Prelude.{ℕ, zero, suc, ◌+◌, ◌-◌, List, [], ◌∷◌, ◌==◌, cond}
 
--- how many bytes so many first lines of a text have, with their line feeds
+-- how many bytes the first lines of a text have, this number of them, with their line feeds
 abbrev pub line_start : ℕ → List ℕ → ℕ
 line_start zero bytes = 0
 line_start (suc n) [] = 0

@@ -49,7 +49,7 @@ nothing_passed = record { passed = 0; start = 0; end = 0; inside = Code }
 abbrev pub scan_of : List ℕ → Seen
 scan_of bytes = fold step nothing_passed bytes
 
--- what is known behind so many bytes more of a token, which begins with the first of them where
+-- what is known behind `n` bytes more of a token, which begins with the first of them where
 -- none is begun
 abbrev pub past_token : Seen → ℕ → Seen
 past_token seen n =
@@ -60,7 +60,7 @@ past_token seen n =
       inside = seen.inside;
     }
 
--- what is known behind so many bytes more that are of no token
+-- what is known behind `n` bytes more that are of no token
 abbrev pub past_others : Seen → ℕ → Seen
 past_others seen n = record { passed = seen.passed + n; start = seen.start; end = seen.end; inside = seen.inside }
 
@@ -70,7 +70,7 @@ pub record GoesOn (inside : Inside) (of_token : Bool) (b : ℕ) : Type 0 where
   pub token : is_of_token inside b ≡ of_token
   pub ends : ends_here inside b ≡ false
 
--- so many first bytes go on so
+-- the first `n` bytes go on so
 pub record IsRun (inside : Inside) (of_token : Bool) (bytes : List ℕ) (n : ℕ) : Type 0 where
   pub within : n ≤ length bytes
   pub each : (k : ℕ) → k < n → GoesOn inside of_token (slice_index bytes k)

@@ -41,7 +41,7 @@ line_of key None origin = unset_line key
 abbrev pub setting_line : Setting → List ℕ
 setting_line setting = line_of setting.key.now setting.value setting.origin
 
--- the word for so many workers
+-- the word for `count` workers
 abbrev pub workers_word : ℕ → List ℕ
 workers_word count = cond (count == 1) (codes " worker: ") (codes " workers: ")
 

@@ -21,7 +21,7 @@ use crate::table::parentheses::parentheses;
 use crate::table::statements::statements;
 use crate::table::symbols::symbols;
 
-/// What mends a mistake in a script, of which a fault stands behind so many bytes: a token that
+/// What mends a mistake in a script, of which a fault stands behind `bytes` bytes: a token that
 /// doesn't fit, or is none.
 pub fn hint(text: &[u8], bytes: usize) -> Option<&'static str>
     ensures { option_map (λ told. told.now) result ≡ hint_at text.now bytes }
@@ -30,7 +30,7 @@ pub fn hint(text: &[u8], bytes: usize) -> Option<&'static str>
     hint_for(&place)
 }
 
-/// How the statement or head is written that stands before so many bytes.
+/// How the statement or head is written that stands before the place behind `bytes` bytes.
 pub fn form(text: &[u8], bytes: usize) -> Option<&'static str>
     ensures { option_map (λ told. told.now) result ≡ form_at text.now bytes }
 {

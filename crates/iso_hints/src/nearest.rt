@@ -52,7 +52,7 @@ fn words<'a>(alloc: Global, near: &[Near<'a>]) -> Result<Vec<&'a str>, AllocErro
     near.iter().map(|near| near.word).collect(alloc)
 }
 
-/// So many candidates that are nearest to a word, with their distances.
+/// The `count` candidates that are nearest to a word, or all of fewer, with their distances.
 fn ranked<'a>(
     alloc: Global,
     word: &str,
@@ -69,7 +69,7 @@ fn ranked<'a>(
     Ok(near)
 }
 
-/// Keeps a candidate among so many that are nearest, if it is near at all.
+/// Keeps a candidate among the `count` nearest, if it is near at all.
 fn keep<'a>(
     near: &mut Vec<Near<'a>>,
     candidate: &'a str,

@@ -6,13 +6,13 @@ ghost use Rattle.iso_tap.specs.Printers.{Prints};
 use iso_tap::printer::{Piece, Printer};
 use iso_tap::sink::{Sink, SinkFailed};
 
-/// So many bytes of a line are shown.
+/// How many bytes of a line are shown at most.
 const SHOWN: usize = 160;
 
-/// So many of these stand before the column, where the line has more on both sides.
+/// How many of these stand before the column, where the line has more on both sides.
 const SHOWN_BEFORE: usize = 80;
 
-/// Writes a line with its number, and below it carets for so many bytes from a column on, with a
+/// Writes a line with its number, and below it carets for `width` bytes from a column on, with a
 /// label.
 pub fn write_caret<W: Sink>(
     printer: &mut Printer<'_, W>,
@@ -161,7 +161,7 @@ fn cut(is_cut: bool) -> &'static [u8]
     if is_cut { b".." } else { b"" }
 }
 
-/// Writes a margin with blanks for so many digits.
+/// Writes a margin with blanks for `digits` digits.
 fn margin<W: Sink>(printer: &mut Printer<'_, W>, digits: u64) -> Result<(), SinkFailed>
     ensures { Prints printer.old printer.new (margin digits) result }
 {
@@ -196,7 +196,7 @@ fn label_text<W: Sink>(printer: &mut Printer<'_, W>, label: &[Piece<'_>]) -> Res
     printer.pieces(label)
 }
 
-/// Writes a byte so many times.
+/// Writes a byte `count` times.
 fn repeated<W: Sink>(printer: &mut Printer<'_, W>, byte: u8, count: u64) -> Result<(), SinkFailed>
     ensures { Prints printer.old printer.new (replicate count byte) result }
 {

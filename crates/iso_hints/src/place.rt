@@ -21,7 +21,7 @@ pub struct Place<'a> {
     pub rest: &'a [u8],
 }
 
-/// The place behind so many bytes of a text, or its end where it has fewer.
+/// The place behind `bytes` bytes of a text, or its end where it has fewer.
 pub fn place_at(text: &[u8], bytes: usize) -> Place<'_>
     ensures { IsPlace result (place_at text.now bytes) }
 {

@@ -12,8 +12,8 @@ pub fn bytes_before(text: &[u8], line: u32, column: u32) -> usize
     line_start(text, line.saturating_sub(1)) + column.saturating_sub(1) as usize
 }
 
-/// How many bytes stand in so many first lines of a text, with their line feeds: all of them where
-/// it has fewer lines.
+/// How many bytes stand in the first `lines` lines of a text, with their line feeds: all of them
+/// where it has fewer lines.
 pub fn line_start(text: &[u8], lines: u32) -> usize
     ensures start { result ≡ line_start lines text.now }
     ensures within { result ≤ length text.now }

@@ -118,7 +118,7 @@ fn comment_run(bytes: &[u8]) -> usize
     memchr(b'\n', bytes).unwrap_or(bytes.len())
 }
 
-/// What is known behind so many bytes of a token more.
+/// What is known behind `bytes` bytes of a token more.
 fn past_token(seen: Seen, bytes: usize) -> Seen
     requires { seen.passed + bytes < 2 ^ 64 }
     ensures { result ≡ past_token seen bytes }
@@ -138,7 +138,7 @@ fn past_token(seen: Seen, bytes: usize) -> Seen
     }
 }
 
-/// What is known behind so many bytes more that are of no token.
+/// What is known behind `bytes` bytes more that are of no token.
 fn past_others(seen: Seen, bytes: usize) -> Seen
     requires { seen.passed + bytes < 2 ^ 64 }
     ensures { result ≡ past_others seen bytes }

@@ -59,7 +59,7 @@ pub fn write_workers<W: Sink>(
     printer.bytes(b"\n")
 }
 
-/// The word for so many workers.
+/// The word for `count` workers.
 fn workers_word(count: u32) -> &'static [u8]
     ensures { result.now ≡ workers_word count }
 {

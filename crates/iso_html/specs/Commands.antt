@@ -36,7 +36,7 @@ command_text again tree n =
     ∷ codes " "
     ∷ [])
 
--- the one script in which the node stands
+-- the one script in which the node is written
 abbrev pub script_text : (file : List ℕ) → List ℕ
 script_text file = joined (escaped (file_word file) ∷ codes "</bdi></code></p>\n" ∷ [])
 

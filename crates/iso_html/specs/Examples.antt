@@ -20,7 +20,7 @@ of_input = record { again = record { settings = None; world = None; processors =
 abbrev pub had : (node begin end : ℕ) → Mark
 had node begin end = taken_mark (record { node = node; begin = begin; end = end }) Write
 
--- so many such nodes as one bar
+-- `count` such nodes as one bar
 abbrev pub several : (count first begin end : ℕ) → Group
 several count first begin end = record { count = count; first = first; look = Writing; critical = false; begin = begin; end = end }
 

@@ -39,7 +39,7 @@ added place b [] = []
 added zero b (g ∷ gs) = with_bar b g ∷ gs
 added (suc place) b (g ∷ gs) = g ∷ added place b gs
 
--- so many groups of no bar
+-- `n` groups of no bar
 abbrev pub blank : ℕ → List Group
 blank n = replicate n no_group
 

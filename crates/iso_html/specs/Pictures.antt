@@ -32,12 +32,12 @@ thin_groups pixels span marks = fold (with_thin span) (blank pixels) marks
 abbrev pub several_shapes : (row place : ℕ) → Group → List Shape
 several_shapes row place g = cond (g.count == 0) [] (Several row place g ∷ [])
 
--- those of so many pixels
+-- those of the first pixels, this number of them
 abbrev pub several_below : (row : ℕ) → List Group → ℕ → List Shape
 several_below row gs zero = []
 several_below row gs (suc place) = several_below row gs place ++ several_shapes row place (group_at gs place)
 
--- a row of so many pixels: the wide bars one by one, and the thin ones by their pixels
+-- a row of `pixels` pixels: the wide bars one by one, and the thin ones by their pixels
 abbrev pub row_shapes : (pixels span row : ℕ) → List Mark → List Shape
 row_shapes pixels span row marks = flat_map (wide_shapes span row) marks ++ several_below row (thin_groups pixels span marks) pixels
 

@@ -9,7 +9,7 @@ use Rattle.iso_tap.specs.Reports.{is_ok}
 use Rattle.iso_html.specs.Modes.{mode_text}
 use Rattle.iso_html.specs.Nodes.{message_text, name_text, place_text, printed_text, time_text}
 
--- a node up to what stands in it: what it came to, its title and time, its path and place, its mode
+-- a node up to its children: what it came to, its title and time, its path and place, its mode
 -- and locks, why it didn't pass, and what it printed
 abbrev pub opening_text : RunView → Settings → ℕ → List ℕ
 opening_text r settings n =
@@ -24,12 +24,12 @@ opening_text r settings n =
 abbrev pub list_text : (text : ℕ → List ℕ) → List ℕ → List ℕ
 list_text text ns = codes "<ul>\n" ++ flat_map text ns ++ codes "</ul>\n"
 
--- what stands in a class; nothing stands in a test
+-- the children of a class; a test has none
 abbrev pub inside_text : RunView → (text : ℕ → List ℕ) → ℕ → List ℕ
 inside_text r text n = cond (is_a_test r n) [] (list_text text (children r.tree n))
 
--- A node with what stands in it. The definition counts how deep it may still go, and nodes stand in
--- one another no deeper than there are nodes; the law `pages_go_down_the_tree` says it without.
+-- A node with its descendants. The definition counts how deep it may still go, and nodes are nested
+-- no deeper than there are nodes; the law `pages_go_down_the_tree` says it without.
 abbrev pub node_within : (depth : ℕ) → RunView → Settings → ℕ → List ℕ
 node_within zero r settings n = []
 node_within (suc depth) r settings n = opening_text r settings n ++ inside_text r (node_within depth r settings) n ++ codes "</details></li>\n"

@@ -101,8 +101,8 @@ pub fn skipped_tests_have_their_reason()
         ∷ []) }
 {}
 
-/// Behind the mode of a node stand its locks by key, and whether it reads or writes. What stands in
-/// a node that writes is on its thread.
+/// Behind the mode of a node stand its locks by key, and whether it reads or writes. Descendants of
+/// a node that writes are on its thread.
 pub fn locks_stand_behind_the_mode()
     ensures class { mode_text cart_and_desk concurrent_by_default 1
         ≡ text_of ("<p>concurrent, reads <code>iso:global</code>, writes <code>K</code></p>" ∷ []) }

@@ -77,7 +77,7 @@ impl Group {
     }
 }
 
-/// So many groups of no bar.
+/// `count` groups of no bar.
 pub(crate) fn blank(alloc: Global, count: u32) -> Result<Vec<Group>, AllocError>
     ensures { IfOk result (λ v. v.items ≡ blank count) }
 {

@@ -15,7 +15,7 @@ use iso_lifecycle::kind::BodyKind;
 use iso_times::times::{BodyTime, Times};
 use std::alloc::{AllocError, Global};
 
-/// The bodies that each of so many workers did, in the order of the nodes, of which these are
+/// The bodies that each of `workers` workers did, in the order of the nodes, of which these are
 /// critical.
 pub(crate) fn lanes(
     alloc: Global,

@@ -6,7 +6,7 @@ ghost use Rattle.iso_plan.specs.Paths.{column};
 use crate::shape::Mark;
 use std::alloc::{AllocError, Global};
 
-/// So many empty lists.
+/// `count` empty lists.
 pub(crate) fn empty(alloc: Global, count: u32) -> Result<Vec<Vec<Mark>>, AllocError>
     ensures { IfOk result (λ v. map (λ l. l.items) v.items ≡ column (λ n. []) count) }
 {

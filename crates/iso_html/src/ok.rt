@@ -12,7 +12,7 @@ use iso_lifecycle::view::{View, ViewVerdict};
 use iso_plan::laws;
 use iso_plan::plan::Plan;
 
-/// Whether all that stands in a node is ok.
+/// Whether all descendants of a node are ok.
 #[cycle(being_ok)]
 fn children_are_ok(plan: &Plan, results: &Results<'_>, node: u32) -> bool
     requires plan { results.now.plan ≡ plan.now }
@@ -29,7 +29,7 @@ fn children_are_ok(plan: &Plan, results: &Results<'_>, node: u32) -> bool
     true
 }
 
-/// Whether a node is ok, with all that stands in it.
+/// Whether a node is ok, with all its descendants.
 #[cycle(being_ok)]
 pub(crate) fn is_ok(plan: &Plan, results: &Results<'_>, node: u32) -> bool
     requires plan { results.now.plan ≡ plan.now }

@@ -16,8 +16,8 @@ use iso_junit::run::Run;
 use iso_times::times::Times;
 use std::alloc::{AllocError, Global};
 
-/// The picture of a run that took so long, on so many workers, so many pixels wide, whose critical
-/// bodies are these.
+/// The picture, `pixels` pixels wide, of a run on `workers` workers that took `span`, whose
+/// critical bodies are these.
 pub(crate) fn picture(
     alloc: Global,
     run: &Run<'_, '_>,
@@ -50,7 +50,7 @@ pub(crate) fn picture(
     Ok(shapes)
 }
 
-/// Adds the labels of so many workers.
+/// Adds the labels of `workers` workers.
 fn add_labels(shapes: &mut Vec<Shape>, workers: u32) -> Result<(), AllocError>
     ensures { OnOk result (shapes.new.items ≡ shapes.old.items ++ labels_below workers) }
 {
@@ -60,7 +60,7 @@ fn add_labels(shapes: &mut Vec<Shape>, workers: u32) -> Result<(), AllocError>
     Ok(())
 }
 
-/// Adds the lanes of so many workers.
+/// Adds the lanes of `workers` workers.
 fn add_lanes(
     alloc: Global,
     shapes: &mut Vec<Shape>,
@@ -77,7 +77,7 @@ fn add_lanes(
     Ok(())
 }
 
-/// Adds the rows of those of so many keys that somebody waited for.
+/// Adds the rows of those of `count` keys that somebody waited for.
 fn add_keys(
     alloc: Global,
     shapes: &mut Vec<Shape>,
@@ -192,7 +192,7 @@ fn add_thin(groups: &mut [Group], span: u64, mark: Mark)
     }
 }
 
-/// Adds the bars of so many pixels, those of a pixel as one.
+/// Adds the bars of `pixels` pixels, those of a pixel as one.
 fn add_all_several(
     shapes: &mut Vec<Shape>,
     row: u32,

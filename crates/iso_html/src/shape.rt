@@ -56,7 +56,7 @@ pub struct Group {
 pub enum Shape {
     /// The label of a worker.
     Label(u32),
-    /// The begin of the lanes of so many workers.
+    /// The begin of the lanes of this number of workers.
     Lanes(u32),
     /// The begin of the row of who had a key.
     Key(u32),

@@ -15,7 +15,7 @@ use iso_plan::laws;
 use iso_tap::printer::Printer;
 use iso_tap::sink::{Sink, SinkFailed};
 
-/// Writes the list of what stands in a node.
+/// Writes the list of a node's children.
 #[cycle(lists)]
 pub(crate) fn list<W: Sink>(
     printer: &mut Printer<'_, W>,
@@ -35,7 +35,7 @@ pub(crate) fn list<W: Sink>(
     printer.bytes(b"</ul>\n")
 }
 
-/// Writes a node with what stands in it.
+/// Writes a node with its descendants.
 #[cycle(lists)]
 fn tree_node<W: Sink>(
     printer: &mut Printer<'_, W>,
@@ -53,7 +53,7 @@ fn tree_node<W: Sink>(
     printer.bytes(b"</details></li>\n")
 }
 
-/// Writes the list of what stands in a class, and nothing for a test.
+/// Writes the list of a class's children, and nothing for a test.
 #[cycle(lists)]
 fn inside<W: Sink>(
     printer: &mut Printer<'_, W>,
@@ -72,7 +72,7 @@ fn inside<W: Sink>(
     list(printer, run, node)
 }
 
-/// Writes a node up to what stands in it.
+/// Writes a node up to its children.
 fn opening<W: Sink>(
     printer: &mut Printer<'_, W>,
     run: &Run<'_, '_>,

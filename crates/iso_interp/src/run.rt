@@ -38,7 +38,7 @@ fn restarted(names: Names) -> Names
 /// A piece of work, borrowed from the block.
 #[derive(Drop)]
 enum Pending<'a> {
-    /// The rest of a body, after which so many names are kept.
+    /// The rest of a body, after which this number of names is kept.
     Rest(usize, Block<'a>),
     /// The turns that are left of a `repeat`, with its row and its body.
     Turning(u32, u64, Block<'a>),
@@ -218,7 +218,7 @@ impl<'a> BlockRun<'a> {
         }
     }
 
-    /// Drops the names past the first so many.
+    /// Drops the names past the first `count`.
     #[inline(always)]
     fn keep_names(&mut self, count: usize)
         ensures names { local_of self.new ≡ with_names (take count (local_of self.old).env.names) (local_of self.old) }

@@ -33,7 +33,7 @@ is_in n [] = false
 is_in n (m ∷ ms) = cond (eqb m n) true (is_in n ms)
 
 module _ {H K V B F R : Type 0} (l : Language H K V B F R) (x : Suite H K V) where
-  -- whether a node stands in another, at any depth
+  -- whether a node is a descendant of another
   abbrev pub stands_in : ℕ → ℕ → Bool
   stands_in m n = is_in n (x.path (x.parent m))
 

@@ -63,7 +63,7 @@ barred = Enter 2 8 ∷ Step 2 ∷ Leave 2 ∷ []
 abbrev pub barred_to_its_end : List Event
 barred_to_its_end = barred ++ Shut 2 8 ∷ Step 2 ∷ Leave 2 ∷ []
 
--- all nodes to their end: class 8 and what stands in it come last
+-- all nodes to their end: class 8 and its descendants come last
 abbrev pub all_but_8 : List Event
 all_but_8 = closed_first ++ Leave 0 ∷ Shut 1 4 ∷ Step 1 ∷ Leave 1 ∷ []
 
@@ -116,8 +116,8 @@ last_opened_after h k = last_opened counting shop (state_of counting shop h) k
 abbrev pub is_written_after : List Event → ℕ → Bool
 is_written_after h k = is_being_written counting shop (state_of counting shop h) k
 
--- A suite for refusals alone: node 1 stands in the root, node 6 in node 3, and all others in node
--- 1. What conflicts is told by numbers: every node conflicts with each that has number 4 or more.
+-- A suite for refusals alone: node 1 is the root's child, node 6 node 3's, all others node 1's.
+-- What conflicts is told by numbers: every node conflicts with each that has number 4 or more.
 abbrev pub crowd : (ℕ → Bool) → Bool → Suite Head ℕ ℕ
 crowd same is_test = record {
   nodes = 8;

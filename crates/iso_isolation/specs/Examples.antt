@@ -5,7 +5,7 @@ use Rattle.iso_isolation.specs.Languages.{Content, Progress, Language}
 use Rattle.iso_isolation.specs.Suites.{Suite}
 
 -- A head is of a test or a class and names one key: whether it may be looked at, and whether it may
--- be changed. The node's first body has so many turns. A class is well, or its `before_all` fails.
+-- be changed. The node's first body has `turns` turns. A class is well, or its `before_all` fails.
 pub record Head : Type 0 where
   pub is_test : Bool
   pub key : ℕ
@@ -54,7 +54,7 @@ abbrev pub turns : ℕ → List Head → Counter → Content ℕ ℕ → Progres
 turns zero hs b m = record { body = b; content = m }
 turns (suc n) hs b m = let p = turn hs b m in turns n hs p.body p.content
 
--- so many turns at the key of the innermost head, after these were seen
+-- as many turns as `count` says at the key of the innermost head, after these were seen
 abbrev pub counter_of : List Head → (Head → ℕ) → List (Option ℕ) → Counter
 counter_of [] count seen = counter 0 0 seen true
 counter_of (h ∷ hs) count seen = counter (count h) h.key seen h.is_well
@@ -88,8 +88,8 @@ at d [] n = d
 at d (a ∷ rest) zero = a
 at d (a ∷ rest) (suc n) = at d rest n
 
--- a node of a suite: the number of the class that it stands in, its mode, the key that it takes, if
--- any, and whether for READ_WRITE
+-- a node of a suite: the number of its parent, its mode, the key that it takes, if any, and whether
+-- for READ_WRITE
 pub record Row : Type 0 where
   pub parent : ℕ
   pub head : Head
@@ -130,7 +130,7 @@ rows =
 abbrev pub row_at : ℕ → Row
 row_at n = at no_node rows n
 
--- a node, the class that it stands in and so on, at most so many
+-- a node, its parent and so on, at most this number of them
 abbrev pub up_from : ℕ → ℕ → List ℕ
 up_from most zero = []
 up_from zero (suc n) = []

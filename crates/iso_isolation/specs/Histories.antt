@@ -47,7 +47,7 @@ module _ {H K V B F R : Type 0} (l : Language H K V B F R) (x : Suite H K V) whe
     pub state : state_of (h ++ e ∷ []) ≡ after_all_of l x (state_of h) (with_steps l x (state_of h) e)
 
   -- Of the unfinished classes whose `before_all` was left and which may change a key, the
-  -- innermost. They stand in one another, so it has the highest number.
+  -- innermost. They are nested in one another, so it has the highest number.
   abbrev pub last_opened : State K V B F R → K → Option ℕ
   last_opened s k = highest_below x.nodes (λ c. is_some (frames_in (s.nodes.status c)) && may_write l x c k)
 

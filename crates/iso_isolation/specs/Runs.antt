@@ -18,7 +18,7 @@ module _ {H K V B F R : Type 0} (l : Language H K V B F R) (x : Suite H K V) (wo
   is_run s (e ∷ es) = is_accepted s e && is_run (after l x s e) es
 
 module _ {H K V B F R : Type 0} (l : Language H K V B F R) where
-  -- how many steps a body still needs to end, where they are no more than so many
+  -- how many steps a body still needs to end, where they are no more than this number
   abbrev pub steps_to_end : ℕ → List H → B → Content K V → ℕ
   steps_to_end zero hs b m = 0
   steps_to_end (suc most) hs b m = cond (l.ended b) 0 (let p = l.step hs b m in suc (steps_to_end most hs p.body p.content))

@@ -64,7 +64,8 @@ module _ {B F R : Type 0} where
   is_at_rest (Closing fs b) = false
   is_at_rest (Finished r) = false
 
-  -- entered and not finished: the node holds its locks
+  -- entered and not finished: the node holds its locks; the root is open from the start, and has
+  -- none
   abbrev pub is_held : Status B F R → Bool
   is_held Waiting = false
   is_held (Begun b) = true

@@ -3,13 +3,15 @@
 use Rattle.std.specs.Prelude.{◌≡◌, ℕ, ◌<◌, Bool, true, List, [], ◌∷◌, map, ◌⊎◌}
 use Rattle.iso_isolation.specs.Languages.{Content, Language}
 
--- Node 0 is the root, and the others have numbers up to `nodes`.
+-- Nodes have the numbers below `nodes`; node 0 is the root. H is what is written on a node (a
+-- head), K a key, V a value.
 pub record Suite (H K V : Type 0) : Type 0 where
   pub nodes : ℕ
-  -- the node that a node stands in; and its path: itself and the classes that it stands in,
+  -- the parent of a node; and its path: itself and its enclosing classes,
   -- innermost first, without the root
   pub parent : ℕ → ℕ
   pub path : ℕ → List ℕ
+  -- what is written on a node itself, without its members; the root's is on no chain
   pub head : ℕ → H
   -- its execution mode: SAME_THREAD, and not CONCURRENT
   pub is_same_thread : ℕ → Bool
@@ -33,7 +35,7 @@ pub record Shared {H K V : Type 0} (x : Suite H K V) (m n : ℕ) : Type 0 where
   pub right : x.takes n key ≡ true
   pub write : (x.takes_write m key ≡ true) ⊎ (x.takes_write n key ≡ true)
 
--- the class chain of a node: its head and those of the classes that it stands in, innermost first
+-- the class chain of a node: its head and those of its enclosing classes, innermost first
 abbrev pub chain : {H K V : Type 0} → Suite H K V → ℕ → List H
 chain x n = map x.head (x.path n)
 
@@ -53,7 +55,7 @@ module _ {H K V B F R : Type 0} (l : Language H K V B F R) (x : Suite H K V) whe
     pub takes : x.takes by k ≡ true
     pub write : may_write n k ≡ true → x.takes_write by k ≡ true
 
-  -- A tree, of which each node stands in one with a smaller number; locks that cover the rights;
+  -- A tree, in which each node's parent has a smaller number; locks that cover the rights;
   -- and nodes under one that takes a key for READ_WRITE are forced to SAME_THREAD.
   pub record SuiteLaws : Type 0 where
     pub root : x.path 0 ≡ []

@@ -36,8 +36,8 @@ pub fn document_counts_what_a_summary_counts()
         all.failures + all.errors ≡ summary.not_ok + summary.blocked + summary.classes_not_ok }
 {}
 
-/// Each testcase stands in the testsuite of one class, where each test stands in a class: whatever
-/// one counts of the testsuites' testcases, there are as many of all.
+/// Each testcase stands in the testsuite of one class, where each test is a member of a class:
+/// whatever one counts of the testsuites' testcases, there are as many of all.
 pub fn testsuites_sum_up_to_the_document()
     ensures { (r : RunView) → IsTree r.tree → ((n : ℕ) → is_a_test r n ≡ true → is_root (parent r.tree n) ≡ false)
         → (such : Verdict → Bool) → how_many r such (all_cases r) ≡ sum_by (λ class. how_many r such (cases r class)) (suites r) }

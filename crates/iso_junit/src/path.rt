@@ -11,7 +11,7 @@ use iso_plan::plan::Plan;
 use iso_tap::printer::Printer;
 use iso_tap::sink::{Sink, SinkFailed};
 
-/// Writes a node's path. It calls itself once for each class that the node stands in.
+/// Writes a node's path. It calls itself once for each enclosing class of the node.
 #[cycle(path)]
 pub fn path<W: Sink>(printer: &mut Printer<'_, W>, plan: &Plan, node: u32) -> Result<(), SinkFailed>
     requires above { 0 < node }

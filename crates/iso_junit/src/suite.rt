@@ -111,7 +111,7 @@ fn own_case<W: Sink>(
     case(printer, run, class, class)
 }
 
-/// Writes the testcase of what stands in a class, where it is a test.
+/// Writes the testcase of a child of a class, where it is a test.
 fn test_case<W: Sink>(
     printer: &mut Printer<'_, W>,
     run: &Run<'_, '_>,

@@ -29,6 +29,6 @@ settled_with (Some run) r = stage_at (stage_from (jobs_left r)) (pieces_of run) 
 abbrev pub settled_stage : BodyRun → Stage
 settled_stage run = settled_with run.block run.rest
 
--- what an ended body left, which printed so many bytes
+-- what an ended body left, which printed `printed` bytes
 abbrev pub end_account : BodyEnd → ℕ → Account
 end_account end printed = record { names = end.names; printed = printed; lines = end.output; endings = end.endings.items }

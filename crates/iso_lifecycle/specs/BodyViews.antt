@@ -29,7 +29,7 @@ pub record IsBeginning (o : Origin) (b : Beginning) : Type 0 where
   pub come : HasCome (kind_of_origin o) (subject_of_origin o) (stage_of b.run)
   pub left : HasLeft (kind_of_origin o) (subject_of_origin o) (stage_of b.run) b.frame
 
--- A body, and the resources at the keys of its rights, stand where so many steps of it alone have
+-- A body, and the resources at the keys of its rights, stand where `steps` steps of it alone have
 -- left them.
 pub record Stands (b : Body) (m : Resources) : Type 0 where
   pub steps : ℕ

@@ -13,12 +13,12 @@ use Rattle.iso_model.specs.declared.place.Lifecycle.TheVariants as Lifecycles
 use Rattle.iso_lifecycle.specs.declared.job.Job.{Job}
 use Rattle.iso_lifecycle.specs.declared.job.Job.TheVariants.{BeforeEach, Test, AfterEach}
 
--- the `after_each` of the innermost of so many classes
+-- the `after_each` of the innermost of this number of classes
 abbrev pub after_each_inside : ℕ → Option Job
 after_each_inside zero = None
 after_each_inside (suc d) = Some (AfterEach d)
 
--- the job after a job, in a chain of so many classes
+-- the job after a job, in a chain of `n` classes
 abbrev pub job_after : ℕ → Job → Option Job
 job_after n (BeforeEach d) = cond (nat_lt (d + 1) n) (Some (BeforeEach (d + 1))) (Some Test)
 job_after n Test = after_each_inside n
@@ -29,7 +29,7 @@ abbrev pub first_job : ℕ → Job
 first_job zero = Test
 first_job (suc n) = BeforeEach 0
 
--- a job's class is one of so many
+-- a job's class is one of `n`
 abbrev pub IsPlaced : ℕ → Option Job → Type 0
 IsPlaced n None = Unit {0}
 IsPlaced n (Some (BeforeEach d)) = d < n
@@ -48,7 +48,7 @@ job_words (BeforeEach d) = BlockNames.Class (d + 1) Lifecycles.BeforeEach
 job_words Test = BlockNames.Test
 job_words (AfterEach d) = BlockNames.Class (d + 1) Lifecycles.AfterEach
 
--- how many of so many classes a job's block sees the names of
+-- how many of `n` classes a job's block sees the names of
 abbrev pub classes_seen : ℕ → Job → ℕ
 classes_seen n (BeforeEach d) = d + 1
 classes_seen n Test = n

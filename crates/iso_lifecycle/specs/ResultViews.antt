@@ -59,7 +59,7 @@ abbrev pub is_some_barring : ResultsView → List ℕ → Bool
 is_some_barring v [] = false
 is_some_barring v (n ∷ ns) = is_barring v n || is_some_barring v ns
 
--- whether a node stands in a class whose `before_all` was put and didn't end well
+-- whether a node is a descendant of a class whose `before_all` was put and didn't end well
 abbrev pub is_barred : ResultsView → ℕ → Bool
 is_barred v n = is_some_barring v (path (tree_of v.plan) (parent (tree_of v.plan) n))
 

@@ -53,7 +53,7 @@ rights_of_subject s = node_rights (tree_of s.plan) s.node
 abbrev pub opening_of : Subject → Opening
 opening_of s = opening (classes_of s) (started s.start)
 
--- the class that it stands in, on the same start
+-- its parent class, on the same start
 abbrev pub enclosing : Subject → Subject
 enclosing s = record s { node = parent (tree_of s.plan) s.node }
 
@@ -132,11 +132,11 @@ begun BeforeAll s = begun_opening (classes_of s) (opening_of (enclosing s))
 begun Test s = begun_testing (chain_test (tree_of s.plan) s.node) (classes_of s) (opening_of s)
 begun AfterAll s = begun_closing (classes_of s) (opening_of s)
 
--- where a body stands after so many steps of it alone
+-- where a body stands after `n` steps of it alone
 abbrev pub reached : BodyKind → Subject → ℕ → Going
 reached kind s n = body_steps (rights_of_subject s) n (begun kind s)
 
--- the nodes whose frames a body begins with, outermost first: the classes that its node stands in,
+-- the nodes whose frames a body begins with, outermost first: its node's enclosing classes,
 -- and for an `after_all` its own
 abbrev pub framed : BodyKind → Subject → List ℕ
 framed BeforeAll s = reverse (path (tree_of s.plan) (parent (tree_of s.plan) s.node))

@@ -11,8 +11,8 @@ use Rattle.iso_lifecycle.specs.Subjects.{Subject, begun, enclosing, framed, is_k
 use Rattle.iso_lifecycle.specs.declared.kind.BodyKind.{BodyKind}
 
 -- A body of this kind can begin with these frames: the node has such a body, the frames are those
--- of the classes that it stands in, outermost first, and for an `after_all` its own, and the
--- classes that it stands in were opened well.
+-- of its enclosing classes, outermost first, and for an `after_all` its own, and the
+-- enclosing classes were opened well.
 pub record CanBegin (s : Subject) (kind : BodyKind) (given : List Subject) : Type 0 where
   pub inner : 0 < s.node
   pub within : s.node < length s.plan.rows

@@ -116,7 +116,7 @@ impl<'a> Origin<'a> {
         chains_grow_down(self.plan);
     }
 
-    /// What a body begins with whose run is at its beginning, with so many names of the enclosing
+    /// What a body begins with whose run is at its beginning, with `outer` names of the enclosing
     /// classes.
     fn with_frame(
         &self,

@@ -49,7 +49,7 @@ pub(crate) fn head(classes: &[Arc<ClassHead>], depth: usize) -> &ClassHead
     &classes[depth]
 }
 
-/// How many of so many names are of the outermost classes, so many of them.
+/// How many of `names` names are of the `outermost` outermost classes.
 pub(crate) fn names_of(classes: &[Arc<ClassHead>], outermost: usize, names: usize) -> usize
     requires { outermost ≤ length classes.now }
     ensures { result ≡ min (names_in (outside (heads_in classes.now) outermost)) names }
@@ -61,7 +61,7 @@ pub(crate) fn names_of(classes: &[Arc<ClassHead>], outermost: usize, names: usiz
     count
 }
 
-/// A number of names, and those of one class more, but at most so many.
+/// A number of names, and those of one class more, but at most `most`.
 fn more(class: &ClassHead, count: usize, most: usize) -> usize
     requires { count ≤ most }
     ensures { result ≡ min (count + length (class_head_of class.now).statics + length (class_head_of class.now).fields) most }
@@ -74,7 +74,7 @@ fn more(class: &ClassHead, count: usize, most: usize) -> usize
     )
 }
 
-/// A sum, but at most so many.
+/// A sum, but at most `most`.
 fn sum(count: usize, by: usize, most: usize) -> usize
     requires { count ≤ most }
     ensures sum { result ≡ min (count + by) most }
@@ -83,7 +83,7 @@ fn sum(count: usize, by: usize, most: usize) -> usize
     if by < most - count { count + by } else { most }
 }
 
-/// Takes the first so many names, and leaves the others.
+/// Takes the first `count` names, and leaves the others.
 pub(crate) fn part(
     alloc: Global,
     names: &mut Bindings,

@@ -42,7 +42,7 @@ pub struct Body<'a> {
 impl<'a> Body<'a> {
     ghost use Rattle.iso_lifecycle.specs.BodyViews.{Stands, kind_of_body, stage_of_body, subject_of};
 
-    /// A body at its beginning, with the frames of the classes that its node stands in, outermost
+    /// A body at its beginning, with the frames of the enclosing classes of its node, outermost
     /// first, and for an `after_all` its own.
     pub fn begin(
         alloc: Global,

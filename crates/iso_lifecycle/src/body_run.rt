@@ -281,7 +281,7 @@ fn endings_of_disabled(alloc: Global, reason: &Text) -> Result<Vec<Ending>, Allo
     Ok(endings)
 }
 
-/// Room for the endings of a test's blocks, in so many classes.
+/// Room for the endings of a test's blocks, in `classes` classes.
 fn room_for_endings(alloc: Global, classes: usize) -> Result<Vec<Ending>, AllocError>
     requires { classes < 2 ^ 32 }
     ensures { IfOk result (λ endings. endings.items ≡ []) }

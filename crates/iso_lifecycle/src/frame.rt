@@ -1,4 +1,4 @@
-//! What an opened class lends to what stands in it.
+//! What an opened class lends to its descendants.
 ghost use Rattle.std.specs.Prelude.{◌≡◌, IfOk};
 ghost use Rattle.std.specs.List.{All};
 ghost use Rattle.iso_lifecycle.specs.Subjects.{IsOfClass};

@@ -13,7 +13,7 @@ pub(crate) enum Job {
 }
 
 impl Job {
-    /// The first job, in a chain of so many classes.
+    /// The first job, in a chain of `classes` classes.
     pub(crate) fn first(classes: usize) -> Job
         ensures first { result ≡ first_job classes }
         ensures placed { IsPlaced classes (Some result) }
@@ -25,7 +25,7 @@ impl Job {
         }
     }
 
-    /// The job after this one, in a chain of so many classes: the `before_each` blocks go inwards,
+    /// The job after this one, in a chain of `classes` classes: `before_each` blocks go inwards,
     /// and the `after_each` blocks outwards.
     pub(crate) fn after(self, classes: usize) -> Option<Job>
         requires { IsPlaced classes (Some self) }
@@ -57,7 +57,7 @@ impl Job {
         }
     }
 
-    /// How many of so many classes its block sees the names of: its own class and those outside it.
+    /// Of how many of `classes` classes its block sees the names: its own and those outside it.
     pub(crate) fn classes_seen(self, classes: usize) -> usize
         requires { IsPlaced classes (Some self) }
         ensures seen { result ≡ classes_seen classes self }
@@ -71,7 +71,7 @@ impl Job {
     }
 }
 
-/// The `after_each` of the innermost of so many classes.
+/// The `after_each` of the innermost of `classes` classes.
 fn innermost(classes: usize) -> Option<Job>
     ensures next { result ≡ after_each_inside classes }
     ensures placed { IsPlaced classes result }

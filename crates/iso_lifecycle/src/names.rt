@@ -58,7 +58,7 @@ fn copied(alloc: Global, name: &Text, value: &Data, sort: Sort) -> Result<Bindin
     })
 }
 
-/// The names past the first so many, as they are once nothing may assign them.
+/// The names past the first `count`, as they are once nothing may assign them.
 pub(crate) fn frozen_past(
     alloc: Global,
     names: &Bindings,

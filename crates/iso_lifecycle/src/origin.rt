@@ -63,7 +63,7 @@ impl<'a> Origin<'a> {
         (head(classes, classes.len() - 1), classes.len() as u32)
     }
 
-    /// The frame that an ended `before_all` leaves, so many names of which are of the enclosing
+    /// The frame that an ended `before_all` leaves, `outer` names of which are of the enclosing
     /// classes. No other body leaves one.
     pub(crate) fn frame(
         &self,

@@ -10,8 +10,8 @@ ghost use Rattle.iso_model.specs.declared.place.Lifecycle.TheVariants as L;
 ghost use Rattle.iso_plan.specs.Planned.{Planned};
 ghost use Rattle.iso_plan.specs.RowView.{tree_of};
 
-/// What stands in a class at any depth is Blocked by the fail of its `before_all`, and Skipped by
-/// its false assumption.
+/// The descendants of a class, at any depth, are Blocked by the fail of its `before_all`, and
+/// Skipped by its false assumption.
 pub fn ill_openings_bar_what_stands_in_their_class()
     ensures test { (plan : Planned) → tree_of plan ≡ three_classes → result_in (all_opened plan) 2 ≡ Some (blocked "no db" (in_class 1 L.BeforeAll) []) }
     ensures class { (plan : Planned) → tree_of plan ≡ three_classes → result_in (all_opened plan) 3 ≡ Some (blocked "no db" (in_class 1 L.BeforeAll) []) }

@@ -46,7 +46,7 @@ impl<'a> Model for Results<'a> {
     ghost invariant = { λ r. AreKept r.plan.now r.start.value r.entries.items };
 }
 
-/// So many entries of which nothing was put.
+/// `count` entries of which nothing was put.
 fn empty(alloc: Global, count: usize) -> Result<Vec<Entry>, AllocError>
     ensures { IfOk result (λ v. v.items ≡ replicate count Empty) }
 {
@@ -84,7 +84,7 @@ impl<'a> Results<'a> {
     }
 
     /// The result of a node: of a test once its end was put, of a class once both its ends were
-    /// put, and of each node that stands in a class whose `before_all` was put and didn't end well.
+    /// put, and of each descendant of a class whose `before_all` was put and didn't end well.
     pub fn get(&self, node: u32) -> Option<View<'_>>
         requires { node < length self.now.plan.rows }
         ensures { option_map outcome_of_view result ≡ result_in self.now node }
@@ -99,7 +99,7 @@ impl<'a> Results<'a> {
         }
     }
 
-    /// What bars a node: the `before_all` of a class that it stands in, where that was put and
+    /// What bars a node: the `before_all` of an enclosing class, where that was put and
     /// didn't end well.
     fn barred_by(&self, node: u32) -> Option<&Opened>
         requires { node < length self.now.plan.rows }
@@ -158,7 +158,7 @@ impl<'a> Results<'a> {
         Some(&self.opened(node)?.frame)
     }
 
-    /// Shares the frames of a class and of those that it stands in into a list that has room for
+    /// Shares the frames of a class and of its enclosing classes into a list that has room for
     /// them, outermost first; of the root there are none. It takes the memory of `Frame::share`
     /// alone, and once out of memory the list is empty again.
     pub fn share_frames(&self, node: u32, frames: &mut Vec<Frame>) -> Result<(), AllocError>
@@ -178,7 +178,7 @@ impl<'a> Results<'a> {
         shared
     }
 
-    /// Shares the frames of a class and of those that it stands in, innermost first.
+    /// Shares the frames of a class and of its enclosing classes, innermost first.
     fn share_upwards(&self, node: u32, frames: &mut Vec<Frame>) -> Result<(), AllocError>
         requires node { node < length self.now.plan.rows }
         requires opened { AreOpened self.now (path (tree_of self.now.plan) node) }

@@ -59,7 +59,7 @@ impl<'a> ViewVerdict<'a> {
         }
     }
 
-    /// The verdict of what stands in a class whose `before_all` ended so: Blocked after a fail or
+    /// The verdict of a descendant of a class whose `before_all` ended so: Blocked after a fail or
     /// fault, Skipped after a false assumption.
     fn barred(ending: &'a Ending) -> ViewVerdict<'a>
         ensures { verdict_of_view result ≡ barred_verdict ending.now }
@@ -98,7 +98,7 @@ impl<'a> View<'a> {
         }
     }
 
-    /// The outcome of what stands in a class whose `before_all` ended so.
+    /// The outcome of a descendant of a class whose `before_all` ended so.
     pub(crate) fn barred(ending: &'a Ending) -> View<'a>
         ensures { outcome_of_view result ≡ record { verdict = barred_verdict ending.now; output = [] } }
     {

@@ -34,7 +34,7 @@ pub record CanHold (n : ℕ) (t : TrayView) : Type 0 where
   pub apart : is_lent t.lent n ≡ false
   pub beside : (m : ℕ) → is_lent t.lent m ≡ true → clash (tree_of t.plan) m n ≡ false
 
--- There is room for so many frames, and as much to gather them in, where none is but while they are
+-- There is room for `most` frames, and as much to gather them in, where none is but while they are
 -- gathered.
 pub record HasRoom (most room spare_room : ℕ) (spare : List Subject) : Type 0 where
   pub frames : most ≤ room

@@ -67,7 +67,7 @@ empty_tray plan world = record {
   frames = [];
 }
 
--- the frames of a class and of the classes that it stands in, outermost first
+-- the frames of a class and of its enclosing classes, outermost first
 abbrev pub frames_on : ResultsView → ℕ → List Subject
 frames_on v n = map (subject v.plan v.start) (reverse (path (tree_of v.plan) n))
 

@@ -8,7 +8,7 @@ use std::alloc::{AllocError, Global};
 use std::marker::Model;
 
 /// Of how many lent nodes each node of a plan is the locking node. Contracts see these numbers;
-/// beside them stand the nodes that have one, so that what stands in another one's way costs its
+/// beside them are the nodes that have one, so that what is in another one's way costs its
 /// own locks.
 #[derive(Drop)]
 pub(crate) struct Lockers<'a> {

@@ -61,7 +61,7 @@ impl Slots {
         }
     }
 
-    /// So many slots without values.
+    /// `count` slots without values.
     pub fn empty(alloc: Global, count: usize) -> Result<Slots, AllocError>
         ensures { IfOk result (λ s. s ≡ replicate count None) }
     {

@@ -165,8 +165,8 @@ impl<'a> Tray<'a> {
         &self.frames
     }
 
-    /// Hands it a frame, after those that it has: one for each class that a test or a block stands
-    /// in, so that it has no more than the longest class chain of its plan has classes. Takes no
+    /// Hands it a frame, after those that it has: one for each enclosing class of a test or block,
+    /// so that it has no more than the longest class chain of its plan has classes. Takes no
     /// memory.
     pub fn hand(&mut self, frame: Frame)
         requires { length self.old.frames < depth (tree_of self.old.plan) }
@@ -175,8 +175,8 @@ impl<'a> Tray<'a> {
         self.frames.push_reserved(frame);
     }
 
-    /// Hands it, in place of the frames that it has, those of a class and of the classes that it
-    /// stands in, outermost first; of the root none. It takes the memory of `Frame::share` alone,
+    /// Hands it, in place of the frames that it has, those of a class and of its enclosing classes,
+    /// outermost first; of the root none. It takes the memory of `Frame::share` alone,
     /// and after running out of memory it has the frames that it had.
     pub fn hand_path(&mut self, results: &Results<'_>, class: u32) -> Result<(), AllocError>
         requires plan { results.now.plan ≡ self.old.plan }

@@ -46,7 +46,7 @@ pub record Beside : Type 0 where
   pub lines : List (List ℕ)
   pub endings : List Ending
 
--- a point of a body between its steps: a block under way, which began with so many names, and the
+-- a point of a body between its steps: a block under way, which began with `names` names, and the
 -- jobs after it; or its end, at which nothing is left to do
 pub data Stage : Type 0 where
   during : (block : Point) → (names : ℕ) → (beside : Beside) → (jobs : List Job) → Stage
@@ -67,7 +67,7 @@ job_environment j a = environment (take j.seen a.names) a.printed j.words
 abbrev pub beside_job : Job → Account → Beside
 beside_job j a = record { unseen = drop j.seen a.names; lines = a.lines; endings = a.endings }
 
--- what a body has once its block, which began with so many names, ended so: the block's locals are
+-- what a body has once its block, which began with `n` names, ended so: the block's locals are
 -- dropped
 abbrev pub account_after : ℕ → Local → Beside → Account
 account_after n l b =
@@ -120,7 +120,7 @@ stage_step r (ended a) m = going (ended a) m
 abbrev pub body_step : Rights → Going → Going
 body_step r g = stage_step r g.stage g.resources
 
--- so many steps
+-- `n` steps
 abbrev pub body_steps : Rights → ℕ → Going → Going
 body_steps r zero g = g
 body_steps r (suc n) g = body_step r (body_steps r n g)

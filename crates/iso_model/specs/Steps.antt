@@ -12,7 +12,7 @@ use Rattle.iso_model.specs.declared.fault.FaultKind.TheVariants as K
 use Rattle.iso_model.specs.declared.outcome.Ending.{Ending}
 use Rattle.iso_model.specs.declared.outcome.Ending.TheVariants as E
 
--- a piece of work: the rest of a body, after which so many names are kept; or the turns that are
+-- a piece of work: the rest of a body, after which `names` names are kept; or the turns that are
 -- left of a `repeat`, with its row and its body
 pub data Piece : Type 0 where
   rest : (names : ℕ) → Acts → Piece
@@ -80,8 +80,8 @@ begin r row (repeat e a) s = counted row (count_value r s e) a s
 abbrev pub followed_by : Machine → List Piece → Machine
 followed_by m ps = machine_at (next_point (m.pieces ++ ps) m.state.here) m.state.resources
 
--- does the first piece, with so many steps left; with none the block ends, and with nothing to do
--- it stays as it is
+-- does the first piece, with this number of steps left; with none the block ends, and with nothing
+-- to do it stays as it is
 abbrev pub step_at : Rights → List Piece → ℕ → State → Machine
 step_at r (rest k (act row a acts) ∷ ps) zero s = machine [] (runs_out row s)
 step_at r (rest k (act row a acts) ∷ ps) (suc n) s = followed_by (begin r row a (locally (with_steps n) s)) (rest k acts ∷ ps)
@@ -95,7 +95,7 @@ step_at r ps n s = machine ps s
 abbrev pub step : Rights → Machine → Machine
 step r m = cond (is_live m.state) (step_at r m.pieces m.state.here.env.steps m.state) m
 
--- so many steps
+-- `n` steps
 abbrev pub steps : Rights → ℕ → Machine → Machine
 steps r zero m = m
 steps r (suc n) m = steps r n (step r m)

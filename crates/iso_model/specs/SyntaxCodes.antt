@@ -100,6 +100,8 @@ plain-inj (append_file t u) (append_file v w) p = two append_file (term-inj t v)
 plain-inj (delete_file t) (delete_file u) p = ap delete_file (term-inj t u (ap rest p))
 plain-inj x y p = let tags : tag (plain_tree x) ≡ tag (plain_tree y) = ap tag p in absurd cc
 
+-- the tree of a statement: the number of its form, then its parts; of statements one after another,
+-- each with its row
 abbrev mutual
   pub act_tree : Act → Gv
   act_tree (plain s) = gcons (gnum 0) (plain_tree s)

@@ -24,6 +24,6 @@ abbrev pub marks_for : Target → List Mark → List Mark
 marks_for target written = map for_itself (filter (λ m. is_target target m.target) written)
 
 -- the effective marks of a node: of those that are written on it the ones for itself, and of those
--- that are written on the class in which it stands the ones for its children
+-- that are written on its parent class the ones for that class's children
 abbrev pub effective : List Mark → List Mark → List Mark
 effective above written = marks_for Itself written ++ marks_for Children above

@@ -195,7 +195,7 @@ impl Bindings {
         Ok(())
     }
 
-    /// Adds names that are equal to these, or some of them where memory is wanting.
+    /// Adds names that are equal to these, or some of them where memory runs out.
     fn append_copies(&mut self, alloc: Global, more: &Bindings) -> Result<(), AllocError>
         ensures ok { OnOk result (self.new ≡ self.old ++ more.now) }
         ensures first { take (length self.old) self.new ≡ self.old }

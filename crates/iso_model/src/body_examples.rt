@@ -34,8 +34,8 @@ pub fn empty_blocks_take_no_step()
     ensures between { let g = test_after 1 prints_t (inner ∷ empty_head ∷ []) in to_begin g.stage ≡ Class 2 AfterEach ∷ Class 1 AfterEach ∷ [] }
 {}
 
-/// What isn't due is left out once its turn comes: after a `before_each` that failed the other and
-/// the test, and no `after_each`.
+/// What isn't due is left out once its turn comes: after a `before_each` that failed the other
+/// `before_each` and the test are, and each `after_each` is done.
 pub fn blocks_that_are_not_due_are_left_out()
     ensures failed { let g = test_after 1 prints_t (inner ∷ fails_before_each ∷ []) in
         ((so_far g.stage).lines ≡ []) × (to_begin g.stage ≡ Class 1 AfterEach ∷ []) }

@@ -39,7 +39,8 @@ pub fn ended_body_stays()
     ensures finish { (r : Rights) (a : Account) (m : Resources) → body_finish r (ended a) m ≡ body_at a m }
 {}
 
-/// A step of a body that hasn't ended brings its end nearer.
+/// A step of a body that hasn't ended brings its end nearer. A body is ready at its beginning and
+/// stays so, and begins no farther from its end than its jobs allow.
 pub fn step_brings_the_end_of_a_body_nearer()
     ensures nearer { (r : Rights) (g : Going) → IsReadyStage g.stage → is_ended g.stage ≡ false
         → body_distance (body_step r g).stage < body_distance g.stage }

@@ -39,7 +39,7 @@ impl<V: Copy + Drop> KeyMap<V> {
         }
     }
 
-    /// The value of one key.
+    /// A value for one key, and for no other.
     pub fn of_one(alloc: Global, key: Key, value: V) -> Result<KeyMap<V>, AllocError>
         ensures { IfOk result (λ m. m ≡ (key, value) ∷ []) }
     {

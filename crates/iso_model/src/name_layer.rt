@@ -10,7 +10,7 @@ use std::alloc::{AllocError, Global};
 use std::collections::BTreeMap;
 use std::marker::Model;
 
-/// The first so many of shared names, with the values that this owner has given them since.
+/// The first `len` of shared names, with the values that this owner has given them since.
 #[derive(Drop)]
 pub(crate) struct NameLayer {
     names: SharedNames,

@@ -12,7 +12,7 @@ use crate::text::Text;
 use std::alloc::{AllocError, Global};
 use std::marker::Model;
 
-/// So many visible names are few: they are looked up one after another.
+/// Up to this number of visible names are few: they are looked up one after another.
 pub const FEW_NAMES: usize = 32;
 
 /// What a visible name stands for.
@@ -194,7 +194,7 @@ impl Names {
         self.printed
     }
 
-    /// Counts a line of so many bytes and its end, and answers whether the output has room for it.
+    /// Counts a line of `bytes` bytes and its end, and answers whether the output has room for it.
     /// Where it hasn't, nothing is counted.
     pub fn count_line(&mut self, bytes: usize) -> bool
         ensures room { result ≡ nat_le (self.old.printed + bytes + 1) OUTPUT_BYTES }

@@ -87,7 +87,7 @@ impl Layer {
 /// The keys that a block may look at or change. Of a key that was declared anew the newest access
 /// counts.
 ///
-/// The innermost layer stands first. What stands in a class shares the layers of that class.
+/// The innermost layer stands first. The descendants of a class share the layers of that class.
 #[derive(Drop)]
 pub struct Rights {
     layers: Vec<Arc<Layer>>,
@@ -124,7 +124,7 @@ impl Rights {
         Ok(())
     }
 
-    /// The rights of what stands in a class with these rights and has marks of its own.
+    /// The rights of a child of a class with these rights, where these are the child's own marks.
     pub fn within(&self, alloc: Global, marks: &[Mark]) -> Result<Rights, AllocError>
         ensures { IfOk result (λ r. (k : List ℕ) → access_in r k ≡ strongest (rights_of marks.now k) (access_in self.now k)) }
     {

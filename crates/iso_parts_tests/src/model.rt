@@ -269,7 +269,7 @@ fn declare_again(alloc: Global, names: &mut Names, turn: i64) -> Result<(), Allo
     Ok(())
 }
 
-/// The names of so many turns.
+/// The names of `turns` turns.
 fn turned(alloc: Global, turns: i64) -> Result<Names, AllocError> {
     let mut names = Names::new(Bindings::new(alloc, Vec::new(alloc)), 0, BlockName::Test);
     for turn in 0..turns {

@@ -5,7 +5,7 @@ use iso_model::text::Text;
 use std::alloc::{AllocError, Global};
 use std::process::Abort;
 
-/// Adds these pieces, each so many times.
+/// Adds these pieces, each as many times as its number says.
 pub fn add(text: &mut String, pieces: &[(&str, usize)]) -> Result<(), AllocError> {
     for (piece, count) in pieces {
         for _ in 0..*count {
@@ -15,7 +15,7 @@ pub fn add(text: &mut String, pieces: &[(&str, usize)]) -> Result<(), AllocError
     Ok(())
 }
 
-/// These pieces, each so many times.
+/// These pieces, each as many times as its number says.
 pub fn made(alloc: Global, pieces: &[(&str, usize)]) -> Result<String, AllocError> {
     let mut text = String::new(alloc);
     add(&mut text, pieces)?;

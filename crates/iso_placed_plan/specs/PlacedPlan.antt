@@ -31,7 +31,7 @@ placed_line tree s sites names n = node_fields tree s n ++ place_field names (si
 abbrev pub placed_test_line : List Row → Settings → List Site → (names : List (List ℕ)) → ℕ → List ℕ
 placed_test_line tree s sites names n = cond (is_test (row_at tree n).kind) (placed_line tree s sites names n) []
 
--- the lines of so many nodes, of which the first has number n
+-- the lines of `count` nodes, of which the first has number n
 abbrev pub each_node : (line : ℕ → List ℕ) → (count n : ℕ) → List ℕ
 each_node line zero n = []
 each_node line (suc count) n = line n ++ each_node line count (suc n)

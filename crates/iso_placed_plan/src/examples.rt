@@ -6,7 +6,7 @@ ghost use Rattle.iso_plan.specs.Examples.{cart_and_desk, concurrent_by_default};
 ghost use Rattle.iso_summary.specs.Examples.{text_of};
 
 /// Each line has the place of the node's name as its last field, and names the script that the node
-/// stands in.
+/// is written in.
 pub fn lines_end_with_places()
     ensures { placed_plan_text two_scripts concurrent_by_default 2 two_sites (codes "shop.jtap" ∷ codes "bank.jtap" ∷ [])
         ≡ text_of

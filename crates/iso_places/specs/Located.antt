@@ -40,7 +40,7 @@ pub record HasStranger (nodes : List Row) (all : List Site) (plan : List Row) : 
   pub unknown : site_by_path nodes all (path_text plan node) ≡ None
 
 -- why the sites of a plan's nodes are not found: one is no node of these scripts that has a site,
--- or no plan is of these scripts, or memory is wanting
+-- or no plan is of these scripts, or memory ran out
 abbrev pub IsRefusal : List Script → List Site → List Row → LocateError → Type 0
 IsRefusal scripts all plan NoPlace = (scripts_fault scripts ≢ None) ⊎ HasStranger (tree scripts) all plan
 IsRefusal scripts all plan OutOfMemory = ⊤
@@ -54,7 +54,7 @@ from_plan_error P.OutOfMemory = OutOfMemory
 abbrev pub FindsBy : BTreeMap (Bor (List ℕ)) Site → List (List ℕ × Site) → Type 0
 FindsBy table entries = (path : List ℕ) → get_by (λ key. slice_cmp nat_cmp path key.now) table ≡ lookup (bytes_eq path) entries
 
--- one of these paths is that of no entry, or memory is wanting
+-- one of these paths is that of no entry, or memory ran out
 abbrev pub IsMissing : List (List ℕ × Site) → List (List ℕ) → LocateError → Type 0
 IsMissing entries paths NoPlace = Any (λ path. lookup (bytes_eq path) entries ≡ None) paths
 IsMissing entries paths OutOfMemory = ⊤

@@ -59,18 +59,18 @@ nodes_fault scripts only = option_or (not_selected (first_unknown (tree scripts)
 abbrev pub plan_fault : List Script → List (List ℕ) → Option PlanFault
 plan_fault scripts only = option_or (scripts_fault scripts) (option_or (nodes_fault scripts only) (keys_fault (plan_tree scripts only)))
 
--- a refusal: it is this fault, or memory is wanting
+-- a refusal: it is this fault, or memory ran out
 abbrev pub IsFaultOf : Option PlanFault → PlanError → Type 0
 IsFaultOf first (Fault fault) = first ≡ Some fault
 IsFaultOf first OutOfMemory = ⊤
 
--- a refusal while a tree grows to so many nodes: they are more than it may have, or memory is
--- wanting
+-- a refusal while a tree grows to `n` nodes: they are more than it may have, or memory
+-- ran out
 abbrev pub IsFull : (most n : ℕ) → PlanError → Type 0
 IsFull most n (Fault fault) = (fault ≡ TooManyNodes) × (most < n)
 IsFull most n OutOfMemory = ⊤
 
--- a refusal of so many keys, the global key among them: they are too many, or memory is wanting
+-- a refusal of `n` keys, the global key among them: they are too many, or memory ran out
 abbrev pub IsCrowded : ℕ → PlanError → Type 0
 IsCrowded n (Fault fault) = (fault ≡ TooManyKeys) × (KEYS + 1 < n)
 IsCrowded n OutOfMemory = ⊤

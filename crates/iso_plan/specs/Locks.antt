@@ -43,7 +43,7 @@ holds_isolated tree n = is_top tree n && list_any (isolates tree) (nodes_under t
 abbrev pub is_marked : List Row → ℕ → Bool
 is_marked tree n = not (length (effective_marks tree n) == 0)
 
--- whether a node would lock for all that stands in it: it is marked, or it is a top-level class
+-- whether a node would lock for all its descendants: it is marked, or it is a top-level class
 -- that holds an isolated one
 abbrev pub declares : List Row → ℕ → Bool
 declares tree n = holds_isolated tree n || is_marked tree n

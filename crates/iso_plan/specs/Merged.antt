@@ -14,13 +14,13 @@ is_same_key m n = bytes_eq m.key n.key && is_target m.target n.target
 abbrev pub as_one : Mark → Mark → Mark
 as_one m n = record m { access = stronger m.access n.access }
 
--- so many marks are kept of a node: one more than a node of a plan can have, which are two targets
+-- how many marks are kept of a node: one more than a node of a plan can have, which are two targets
 -- of each key, the global one with them (`laws::no_mark_is_left_out`)
 abbrev pub most_marks : ℕ
 most_marks = suc ((KEYS + 1) + (KEYS + 1))
 
--- a mark more, where so many are kept: one with the mark of its key and target, else after all
--- others
+-- a mark more, where at most this number is kept: one with the mark of its key and target, else
+-- after all others
 abbrev pub with_mark : ℕ → List Mark → Mark → List Mark
 with_mark zero ns m = ns
 with_mark (suc most) [] m = m ∷ []

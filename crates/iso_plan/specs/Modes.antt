@@ -22,7 +22,7 @@ default_mode tree s n = cond (is_top tree n) s.classes_default_mode s.default_mo
 abbrev pub chosen_mode : List Row → Settings → ℕ → Mode
 chosen_mode tree s n = unwrap_or (nearest_mode tree (path tree n)) (default_mode tree s n)
 
--- whether a class that a node stands in takes a key for READ_WRITE
+-- whether an enclosing class of a node takes a key for READ_WRITE
 abbrev pub is_forced : List Row → ℕ → Bool
 is_forced tree n = list_any (takes_write tree) (path tree (parent tree n))
 

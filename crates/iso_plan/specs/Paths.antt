@@ -10,23 +10,23 @@ use Rattle.iso_plan.specs.Tree.{Kind, root, class_node, test_node, Row, root_row
 abbrev pub row_at : List Row → ℕ → Row
 row_at tree n = slice_index_or tree n root_row
 
--- the number of the node that a node stands in
+-- the number of a node's parent
 abbrev pub parent : List Row → ℕ → ℕ
 parent tree n = (row_at tree n).parent
 
--- the number of the node that a node stands in, if it is not the root
+-- the number of a node's parent; the root has none
 abbrev pub parent_of : List Row → ℕ → Option ℕ
 parent_of tree zero = None
 parent_of tree (suc n) = Some (parent tree (suc n))
 
--- a node, the node that it stands in and so on, without the root, at most so many
+-- a node, its parent and so on, without the root, at most `most` of them
 abbrev pub up : ℕ → List Row → ℕ → List ℕ
 up most tree zero = []
 up zero tree (suc n) = []
 up (suc most) tree (suc n) = suc n ∷ up most tree (parent tree (suc n))
 
--- the path of a node: itself and the classes that it stands in, innermost first, without the root.
--- A class has a smaller number than what stands in it.
+-- the path of a node: itself and its enclosing classes, innermost first, without the root.
+-- A class has a smaller number than its descendants.
 unfoldable pub path : List Row → ℕ → List ℕ
 path tree n = up n tree n
 
@@ -35,11 +35,11 @@ abbrev pub is_on : List ℕ → ℕ → Bool
 is_on [] m = false
 is_on (n ∷ ns) m = n == m || is_on ns m
 
--- whether node n is node m or stands in it at any depth
+-- whether node n is node m or a descendant of it; the root is on no path, so of m = 0 it is false
 abbrev pub is_under : List Row → ℕ → ℕ → Bool
 is_under tree m n = is_on (path tree n) m
 
--- the numbers of the nodes at or under a node, in order
+-- the numbers of the nodes at or under a node, in order; none for the root
 abbrev pub nodes_under : List Row → ℕ → List ℕ
 nodes_under tree m = filter (is_under tree m) (range_with_len 0 (length tree))
 
@@ -53,7 +53,7 @@ abbrev pub is_root : ℕ → Bool
 is_root zero = true
 is_root (suc n) = false
 
--- whether a node is a top-level class: it stands in the root
+-- whether a node is a top-level class: its parent is the root
 abbrev pub is_top : List Row → ℕ → Bool
 is_top tree n = not (is_root n) && is_root (parent tree n)
 
@@ -78,19 +78,19 @@ children_below tree m (suc n) = cond (not (is_root n) && parent tree n == m) (ch
 abbrev pub children : List Row → ℕ → List ℕ
 children tree m = children_below tree m (length tree)
 
--- the first node stands in itself, and each other one in one with a smaller number
+-- the first node is its own parent, and each other one's parent has a smaller number
 pub record StandEarlier (rows : List Row) : Type 0 where
   pub first : parent rows 0 ≡ 0
   pub below : (n : ℕ) → 0 < n → parent rows n < n
 
--- there is a first node, which stands in itself, and each other one stands in one with a smaller
+-- there is a first node, which is its own parent, and each other one's parent has a smaller
 -- number
 pub record IsRooted (rows : List Row) : Type 0 where
   pub rooted : 0 < length rows
   pub first : parent rows 0 ≡ 0
   pub below : (n : ℕ) → 0 < n → parent rows n < n
 
--- there is a root, and each other node is a class or a test, stands in one with a smaller number,
+-- there is a root, and each other node is a class or a test, has a parent with a smaller number,
 -- which is no test, and has as the marks of its head those that are effective for it
 pub record IsTree (tree : List Row) : Type 0 where
   pub rooted : 0 < length tree

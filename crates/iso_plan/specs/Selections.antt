@@ -17,11 +17,11 @@ texts_of only = map (λ (text : Bor (List ℕ)). text.now) only
 abbrev pub is_named : List Row → List (List ℕ) → ℕ → Bool
 is_named tree only n = not (is_root n) && is_among only (path_text tree n)
 
--- whether they choose a node: they name it, or a class that it stands in
+-- whether they choose a node: they name it, or one of its enclosing classes
 abbrev pub is_chosen : List Row → List (List ℕ) → ℕ → Bool
 is_chosen tree only n = list_any (is_named tree only) (path tree n)
 
--- whether they keep a node: they choose it, or one that stands in it, or it is the root
+-- whether they keep a node: they choose it, or one of its descendants, or it is the root
 abbrev pub is_kept_by : List Row → List (List ℕ) → ℕ → Bool
 is_kept_by tree only n = is_root n || list_any (is_chosen tree only) (nodes_under tree n)
 

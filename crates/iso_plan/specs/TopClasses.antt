@@ -4,8 +4,8 @@ use Rattle.iso_plan.specs.Paths.{column, outermost, path}
 use Rattle.iso_plan.specs.PathTexts.{path_text}
 use Rattle.iso_plan.specs.Tree.{Row}
 
--- the top-level class that a node is or stands in: the outermost node of its path. The root's is
--- the root.
+-- the top-level class that a node is or is a descendant of: the outermost node of its path. The
+-- root's is the root.
 abbrev pub top_class : List Row → ℕ → ℕ
 top_class tree n = unwrap_or (outermost (λ m. true) (path tree n)) 0
 

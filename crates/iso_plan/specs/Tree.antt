@@ -14,7 +14,7 @@ pub data Kind : Type 0 where
   class_node : Bool → ClassHead → Kind
   test_node : TestHead → Kind
 
--- a node: the number of the node that it stands in, what it is, the marks that are written on it as
+-- a node: the number of its parent, what it is, the marks that are written on it as
 -- they count, its name and title, and the execution mode marked on it
 pub record Row : Type 0 where
   pub parent : ℕ

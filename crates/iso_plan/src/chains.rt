@@ -29,7 +29,7 @@ pub(crate) fn chains(alloc: Global, rows: &[Row]) -> Result<Vec<Vec<Arc<ClassHea
     Ok(chains)
 }
 
-/// The chain of a node, from that of the node that it stands in.
+/// The chain of a node, from that of its parent.
 fn chain(
     alloc: Global,
     above: &[Arc<ClassHead>],

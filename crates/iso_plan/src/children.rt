@@ -23,7 +23,7 @@ pub(crate) fn children(alloc: Global, rows: &[Row]) -> Result<Vec<Vec<u32>>, All
     Ok(children)
 }
 
-/// An empty list for each of so many nodes.
+/// An empty list for each of `count` nodes.
 fn no_children(alloc: Global, count: usize) -> Result<Vec<Vec<u32>>, AllocError>
     ensures { IfOk result (λ v. map (λ c. c.items) v.items ≡ column (λ n. []) count) }
 {

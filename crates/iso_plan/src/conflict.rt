@@ -9,7 +9,7 @@ use crate::lock::Lock;
 use crate::plan::Plan;
 use iso_model::access::Access;
 
-/// What knows which nodes of a plan are held: lent, or entered and not finished.
+/// What knows which nodes of a plan are held: lent, or entered and not finished, or the root.
 pub trait Holders {
     ghost use Rattle.std.specs.Prelude.{◌≡◌, ◌<◌, ℕ, Bool};
 

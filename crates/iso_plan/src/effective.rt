@@ -23,8 +23,8 @@ pub(crate) fn make_effective(alloc: Global, rows: &mut Vec<Row>) -> Result<(), A
     Ok(())
 }
 
-/// A node of this kind with its effective marks, where these are written on the class that it
-/// stands in and on itself.
+/// A node of this kind with its effective marks, where `above` is written on its parent and
+/// `written` on itself.
 fn effective_kind(
     alloc: Global,
     kind: &Kind,
@@ -53,7 +53,7 @@ fn effective_kind(
     }
 }
 
-/// The effective marks of a node, where these are written on the class that it stands in and on
+/// The effective marks of a node, where `above` is written on its parent and `written` on
 /// itself.
 fn effective(alloc: Global, above: &[Mark], written: &[Mark]) -> Result<Vec<Mark>, AllocError>
     ensures { IfOk result (λ v. v.items ≡ effective above.now written.now) }

@@ -131,7 +131,7 @@ pub fn held_nodes_are_counted_by_key()
     ensures readers { lowest_in_the_way two_classes (is_held first_and_second) 1 ≡ None }
 {}
 
-/// What stands in a node that takes a key for READ_WRITE is on the same thread, and that node
+/// The descendants of a node that takes a key for READ_WRITE are on the same thread, and that node
 /// itself need not be.
 #[tactic(auto, unfolding(crate::specs::Paths::path))]
 pub fn descendants_of_a_writer_are_forced()
@@ -171,13 +171,13 @@ pub fn paths_are_of_names()
     ensures empty { found two_classes [] ≡ None }
 {}
 
-/// What stands in a top-level class at any depth has it as its top-level class.
+/// The descendants of a top-level class, at any depth, have it as their top-level class.
 #[tactic(auto, unfolding(crate::specs::Paths::path))]
 pub fn top_level_classes_are_known_at_each_depth()
     ensures { all_top_classes cart_and_desk ≡ 0 ∷ 1 ∷ 1 ∷ 1 ∷ 4 ∷ 4 ∷ 4 ∷ 4 ∷ [] }
 {}
 
-/// A named node is kept with what stands in it and the classes that it stands in, numbered anew.
+/// A named node is kept with its descendants and its enclosing classes, numbered anew.
 /// Keys are gathered of what is kept.
 #[tactic(auto, unfolding(crate::specs::Paths::path))]
 pub fn named_nodes_are_kept()

@@ -1,4 +1,4 @@
-//! The held nodes of a plan, with how many of them read and write each key, so that what stands in
+//! The held nodes of a plan, with how many of them read and write each key, so that what is in
 //! a node's way costs its own locks.
 ghost use Rattle.std.specs.Prelude.{◌≡◌, ◌<◌, ◌+◌, ◌^◌, IfOk, is_some, length};
 ghost use Rattle.std.specs.List.{All};

@@ -28,8 +28,8 @@ use crate::plan::Plan;
 use iso_model::heads::Mark;
 use iso_model::script::Script;
 
-/// The nodes are a tree: node 0 is the root, and each other one is a class or a test that stands in
-/// the root or in a class with a smaller number. What the laws below say of plans is proved of all
+/// The nodes are a tree: node 0 is the root, and each other one is a class or a test, a child of
+/// the root or of a class with a smaller number. What the laws below say of plans is proved of all
 /// such trees.
 pub fn nodes_are_a_tree(plan: &Plan)
     ensures { IsTree (tree_of plan.now) }
@@ -37,7 +37,7 @@ pub fn nodes_are_a_tree(plan: &Plan)
     plan.hold_a_tree();
 }
 
-/// The nodes stand in preorder: what stands in a node follows it without a gap.
+/// The nodes stand in preorder: a node's descendants follow it without a gap.
 pub fn nodes_stand_in_preorder(plan: &Plan)
     ensures { IsPreorder (tree_of plan.now) }
 {
@@ -56,14 +56,14 @@ pub fn keys_are_the_first_of_each(plan: &Plan)
     ensures { keys (tree_of plan.now) ≡ firsts (global_key ∷ marked_keys (tree_of plan.now)) }
 {}
 
-/// A node stands in one with a smaller number, so that its parent comes before it.
+/// A node's parent has a smaller number, so that it comes before the node.
 pub fn parents_come_first(plan: &Plan)
     ensures { (n : ℕ) → 0 < n → parent (tree_of plan.now) n < n }
 {
     plan.hold_a_tree();
 }
 
-/// No node stands in a test.
+/// No node is a child of a test.
 pub fn tests_hold_nothing(plan: &Plan)
     ensures { (n : ℕ) → 0 < n → is_test (row_at (tree_of plan.now) (parent (tree_of plan.now) n)).kind ≡ false }
 {
@@ -93,8 +93,8 @@ pub fn chains_are_within_the_depth(plan: &Plan)
     plan.hold_a_tree();
 }
 
-/// The root has no rights, and what a class's chain lets do, the chain of each node that stands in
-/// it lets do.
+/// The root has no rights, and what a class's chain lets do, the chain of each of its children lets
+/// do.
 pub fn rights_grow_down(plan: &Plan)
     ensures root { (k : List ℕ) → is_readable (node_rights (tree_of plan.now) 0 k) ≡ false }
     ensures look { (n : ℕ) (k : List ℕ) → 0 < n → is_readable (node_rights (tree_of plan.now) (parent (tree_of plan.now) n) k) ≡ true
@@ -105,8 +105,8 @@ pub fn rights_grow_down(plan: &Plan)
     plan.hold_a_tree();
 }
 
-/// A key that a node may look at is taken by its locking node, the node or one that it stands in,
-/// and for READ_WRITE where the node may change it.
+/// A key that a node may look at is taken by its locking node, the node or an ancestor of it, and
+/// for READ_WRITE where the node may change it.
 pub fn rights_are_covered_by_locks(plan: &Plan)
     ensures { (n : ℕ) (k : List ℕ) → 0 < n → n < length (tree_of plan.now) → is_readable (node_rights (tree_of plan.now) n k) ≡ true
         → IsCovered (tree_of plan.now) n k }
@@ -114,7 +114,7 @@ pub fn rights_are_covered_by_locks(plan: &Plan)
     plan.hold_a_tree();
 }
 
-/// What stands in a node that takes a key for READ_WRITE is on the same thread.
+/// The descendants of a node that takes a key for READ_WRITE are on the same thread.
 pub fn descendants_of_writers_are_forced(plan: &Plan)
     ensures { (m n : ℕ) (k : List ℕ) → is_under (tree_of plan.now) m (parent (tree_of plan.now) n) ≡ true
         → is_writable (taken (tree_of plan.now) m k) ≡ true → mode (tree_of plan.now) plan.now.settings n ≡ SameThread }
@@ -128,15 +128,15 @@ pub fn locking_nodes_alone_take_keys(plan: &Plan)
         → (is_locking (tree_of plan.now) n || is_top (tree_of plan.now) n) ≡ true }
 {}
 
-/// Of two nodes that conflict, one stands in the other only where they are the same.
+/// Of two nodes that conflict, one is a descendant of the other only where they are the same.
 pub fn conflicting_nodes_stand_apart(plan: &Plan)
     ensures { (m n : ℕ) → conflict (tree_of plan.now) m n ≡ true → is_under (tree_of plan.now) m n ≡ true → m ≡ n }
 {
     plan.hold_a_tree();
 }
 
-/// Who is in the way of a node that is no top-level class has gathered the locks of all that stands
-/// in it: nothing is in the way of that.
+/// A node in the way of one that is no top-level class has gathered the locks of all its own
+/// descendants: nothing is in the way of these.
 pub fn holders_gather_what_stands_in_them(plan: &Plan)
     ensures { (m n d j : ℕ) → conflict (tree_of plan.now) m n ≡ true → is_top (tree_of plan.now) n ≡ false
         → is_under (tree_of plan.now) m d ≡ true → (m ≡ d → ⊥) → conflict (tree_of plan.now) j d ≡ false }

@@ -38,7 +38,7 @@ fn note_isolation(isolated: &mut Vec<bool>, top: Option<u32>, isolates: bool)
     }
 }
 
-/// The top-level class that each node stands in.
+/// The top-level class that each node is or is a descendant of.
 fn tops(alloc: Global, rows: &[Row]) -> Result<Vec<Option<u32>>, AllocError>
     requires tree { IsTree (nodes_in rows.now) }
     requires fits { length rows.now ≤ NODES }
@@ -64,7 +64,7 @@ pub(crate) fn locking_nodes(
     outermost(alloc, rows, &declaring)
 }
 
-/// For each node whether it would lock for all that stands in it.
+/// For each node whether it would lock for all its descendants.
 fn declaring(alloc: Global, rows: &[Row], isolated: &[bool]) -> Result<Vec<bool>, AllocError>
     requires { isolated.now ≡ column (holds_isolated (nodes_in rows.now)) (length rows.now) }
     ensures { IfOk result (λ v. v.items ≡ column (declares (nodes_in rows.now)) (length rows.now)) }

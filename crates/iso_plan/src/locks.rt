@@ -67,7 +67,7 @@ fn own_tables(
     Ok(tables)
 }
 
-/// Whether the node of a number, which stands in this one, is a top-level class.
+/// Whether the node of a number, which has this parent, is a top-level class.
 fn is_top(node: usize, parent: u32) -> bool
     ensures { result ≡ (not (is_root node) && is_root parent) }
 {
@@ -84,7 +84,7 @@ fn is_that(node: Option<u32>, number: u32) -> bool
     }
 }
 
-/// The table of a node before anything is gathered, of so many keys.
+/// The table of a node before anything is gathered, of `count` keys.
 fn own_table(
     alloc: Global,
     top: bool,

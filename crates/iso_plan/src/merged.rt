@@ -7,12 +7,12 @@ use iso_model::heads::Mark;
 use iso_model::limits::KEYS;
 use std::alloc::{AllocError, Global};
 
-/// So many marks are kept of a node: one more than a node of a plan can have, which are two targets
+/// How many marks are kept of a node: one more than a plan's node can have, which are two targets
 /// of each key, the global one with them.
 const MOST_MARKS: usize = 2 * (KEYS as usize + 1) + 1;
 
 /// The marks that are written on a node, each key once for each target, in the strongest access. Of
-/// more than a plan may have, so many are kept that the node has too many keys: so neither time nor
+/// more than a plan may have, enough are kept that the node has too many keys: so neither time nor
 /// memory grows as the marks times the nodes that they count for.
 pub(crate) fn merged(alloc: Global, written: &[Mark]) -> Result<Vec<Mark>, AllocError>
     ensures { IfOk result (λ v. v.items ≡ merged written.now) }
@@ -24,8 +24,8 @@ pub(crate) fn merged(alloc: Global, written: &[Mark]) -> Result<Vec<Mark>, Alloc
     Ok(marks)
 }
 
-/// Adds a mark. Where its key is there for its target, the stronger access counts; where so many
-/// are there, it is left out.
+/// Adds a mark. Where its key is there for its target, the stronger access counts; where
+/// `MOST_MARKS` are there, it is left out.
 fn add_mark(marks: &mut Vec<Mark>, mark: &Mark) -> Result<(), AllocError>
     ensures { OnOk result (marks.new.items ≡ with_mark most_marks marks.old.items mark.now) }
 {
@@ -43,7 +43,7 @@ fn add_mark(marks: &mut Vec<Mark>, mark: &Mark) -> Result<(), AllocError>
     Ok(())
 }
 
-/// Where a mark of this one's key and target stands, if one does among so many.
+/// Where a mark of this one's key and target stands, if one does among the first `MOST_MARKS`.
 fn place_of(marks: &[Mark], mark: &Mark) -> Option<usize>
     ensures within { IfSome result (λ i. i < length marks.now) }
     ensures place { IfSome result (λ i. with_mark most_marks marks.now mark.now

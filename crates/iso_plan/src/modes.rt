@@ -14,8 +14,8 @@ use iso_model::script::Mode;
 use iso_settings::settings::Settings;
 use std::alloc::{AllocError, Global};
 
-/// The mode of each node: its own mark, else the nearest enclosing class's, else the default; what
-/// stands in a node that takes a key for READ_WRITE is on the same thread.
+/// The mode of each node: its own mark, else the nearest enclosing class's, else the default; the
+/// descendants of a node that takes a key for READ_WRITE are on the same thread.
 pub(crate) fn modes(
     alloc: Global,
     rows: &[Row],
@@ -38,7 +38,7 @@ pub(crate) fn modes(
 }
 
 /// The mode of a node that is a top-level class or isn't, is forced onto its parent's thread or
-/// isn't, and is marked with a mode or stands in a class that is.
+/// isn't, and is marked with a mode or is a descendant of a class that is.
 fn mode_of(settings: Settings, top: bool, forced: bool, marked: Option<Mode>) -> Mode
     ensures { result ≡ cond (settings.parallel && not forced)
         (unwrap_or marked (cond top settings.classes_default_mode settings.default_mode)) SameThread }
@@ -68,7 +68,7 @@ fn nearest_modes(alloc: Global, rows: &[Row]) -> Result<Vec<Option<Mode>>, Alloc
     Ok(marked)
 }
 
-/// For each node whether it, or a class that it stands in, takes a key for READ_WRITE.
+/// For each node whether it, or one of its enclosing classes, takes a key for READ_WRITE.
 fn writing(alloc: Global, rows: &[Row], taken: &[Vec<Lock>]) -> Result<Vec<bool>, AllocError>
     requires tree { IsTree (nodes_in rows.now) }
     requires taken { map (λ l. l.items) taken.now ≡ column (locks (nodes_in rows.now)) (length rows.now) }

@@ -1,4 +1,4 @@
-//! What scripts have to keep by themselves: there are no more than so many, and the names of
+//! What scripts have to keep by themselves: there are no more than `SCRIPTS`, and the names of
 //! top-level classes differ.
 ghost use Rattle.std.specs.Prelude.{◌≡◌, ◌++◌, IfErr, IfOk, None, OnOk, map};
 ghost use Rattle.iso_model.specs.ScriptView.{class_of, script_of};

@@ -44,7 +44,7 @@ pub(crate) fn kept_rows(
     Ok(kept)
 }
 
-/// The nodes of scripts, with their effective marks. More than so many are `TooManyNodes`.
+/// The nodes of scripts, with their effective marks. More than `most` are `TooManyNodes`.
 pub(crate) fn all_rows(alloc: Global, scripts: &[Script], most: u32) -> Result<Vec<Row>, PlanError>
     requires { 0 < most }
     ensures tree { IfOk result (λ v. nodes_in v.items ≡ tree (map script_of scripts.now)) }

@@ -21,7 +21,7 @@ use std::alloc::{AllocError, Global};
 pub struct Overview {
     /// The path of each, as `jtap plan` prints it; the root's is empty.
     pub paths: Vec<Text>,
-    /// The number of the top-level class that each is or stands in; the root's is 0.
+    /// The number of the top-level class of each, which may be itself; the root's is 0.
     pub classes: Vec<u32>,
 }
 
@@ -56,7 +56,7 @@ fn overview_of(alloc: Global, rows: &[Row]) -> Result<Overview, AllocError>
     Ok(Overview { paths, classes })
 }
 
-/// The number of the top-level class that each node is or stands in.
+/// The number of the top-level class of each node.
 fn top_classes(alloc: Global, rows: &[Row]) -> Result<Vec<u32>, AllocError>
     requires tree { IsRooted (nodes_in rows.now) }
     requires fits { length rows.now < 2 ^ 32 }

@@ -24,8 +24,8 @@ pub(crate) fn path_texts(alloc: Global, rows: &[Row]) -> Result<Vec<Text>, Alloc
     Ok(paths)
 }
 
-/// The path of a node of this name that stands in the class with this number and path, or in the
-/// root.
+/// The path of a node of this name that is a child of the class with this number and path, or of
+/// the root.
 fn path_in(alloc: Global, class: usize, above: &Text, name: &Text) -> Result<Text, AllocError>
     ensures { IfOk result (λ t. t ≡ cond (class == 0) name.now (above.now ++ (codes "." ++ name.now))) }
 {
@@ -37,8 +37,8 @@ fn path_in(alloc: Global, class: usize, above: &Text, name: &Text) -> Result<Tex
     Ok(Text::new(format!(in alloc; "{above}.{name}")?))
 }
 
-/// Whether a text is the path of a node other than the root. It calls itself once for each class
-/// that the node stands in.
+/// Whether a text is the path of a node other than the root. It calls itself once for each
+/// enclosing class of the node.
 #[cycle(path)]
 pub(crate) fn is_path_of(rows: &[Row], node: usize, path: &[u8]) -> bool
     requires tree { IsTree (nodes_in rows.now) }

@@ -96,7 +96,7 @@ pub fn build(alloc: Global, scripts: &[Script], settings: &Settings) -> Result<P
 
 /// The plan of those nodes of scripts that these paths name, under settings: the paths are as `jtap
 /// plan` prints them, the names of the team, the enclosing classes and the node with dots between
-/// them. Kept are the named nodes, what stands in them, and the classes that they stand in, each
+/// them. Kept are the named nodes, their descendants, and their enclosing classes, each
 /// with all its own marks and blocks; nodes and keys are numbered anew. Without paths all nodes are
 /// kept.
 ///
@@ -159,7 +159,7 @@ impl Plan {
         self.rows.len() as u32
     }
 
-    /// The class that a node stands in, or the root; the root stands in nothing.
+    /// A node's parent, a class or the root; the root has none.
     pub fn parent(&self, node: u32) -> Option<u32>
         requires { node < length self.now.rows }
         ensures { result ≡ parent_of (tree_of self.now) node }
@@ -219,7 +219,7 @@ impl Plan {
         self.rows[node as usize].name.as_str()
     }
 
-    /// A node's class chain: the heads of the classes that it stands in, with its own. They are the
+    /// A node's class chain: the heads of its enclosing classes, with its own. They are the
     /// script's.
     pub fn chain(&self, node: u32) -> Chain<'_>
         requires { node < length self.now.rows }
@@ -249,7 +249,7 @@ impl Plan {
 
     /// The execution mode of a node (JUnit 5 User Guide, parallel execution): its own mark, else
     /// that of the nearest enclosing class that has one, else the default for top-level classes or
-    /// that for all other nodes. The root, all that stands in a node that takes a key for
+    /// that for all other nodes. The root, all descendants of a node that takes a key for
     /// READ_WRITE, and every node where parallel execution is off are on the same thread.
     pub fn mode(&self, node: u32) -> Mode
         requires { node < length self.now.rows }
@@ -269,7 +269,7 @@ impl Plan {
         &self.locks[node as usize]
     }
 
-    /// The locking node of a node's path, which takes the keys of all that stands in it: a
+    /// The locking node of a node's path, which takes the keys of all its descendants: a
     /// top-level class that is isolated or holds an isolated class, else the first node of the path
     /// from the root with a `read` or `write` mark. A path without one has none.
     pub fn locking_node(&self, node: u32) -> Option<u32>

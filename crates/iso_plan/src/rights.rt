@@ -9,7 +9,7 @@ use crate::row::Row;
 use iso_model::rights::Rights;
 use std::alloc::{AllocError, Global};
 
-/// The access rights that each node's chain gives: those of the class that it stands in, which it
+/// The access rights that each node's chain gives: those of the node's parent, which it
 /// shares, and its own.
 pub(crate) fn rights(alloc: Global, rows: &[Row]) -> Result<Vec<Rights>, AllocError>
     requires { IsTree (nodes_in rows.now) }

@@ -16,7 +16,7 @@ pub enum Kind {
     },
 }
 
-/// A node as it is written, with the number of the class that it stands in.
+/// A node as it is written, with the number of its parent.
 #[derive(Drop)]
 pub struct Row {
     /// The root has itself here, and so has each top-level class.

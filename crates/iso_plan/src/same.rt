@@ -25,8 +25,8 @@ fn same_kind(a: &Kind, b: &Kind) -> bool
     }
 }
 
-/// Whether two nodes stand in one class, under one name and title, with one mark of the execution
-/// mode.
+/// Whether two nodes are children of one class, under one name and title, with one mark of the
+/// execution mode.
 fn same_place(a: &Row, b: &Row) -> bool
     ensures { IsTrue result ↔ ((a.now.parent ≡ b.now.parent) × (a.now.mode ≡ b.now.mode)
         × (a.now.name ≡ b.now.name) × (a.now.title ≡ b.now.title)) }

@@ -15,8 +15,8 @@ use iso_model::text::Text;
 use std::alloc::{AllocError, Global};
 use std::collections::BTreeSet;
 
-/// The nodes that are kept where these paths name some, numbered anew: a named node, what stands in
-/// it, and the classes that it stands in. Where no path is given, all are. The first path that
+/// The nodes that are kept where these paths name some, numbered anew: a named node, its
+/// descendants, and its enclosing classes. Where no path is given, all are. The first path that
 /// names no node is `NotSelected`.
 pub(crate) fn selection(alloc: Global, rows: Vec<Row>, only: &[&str]) -> Result<Vec<Row>, PlanError>
     requires tree { IsRooted (nodes_in rows.items) }
@@ -90,7 +90,7 @@ fn set_of<'a>(alloc: Global, only: &[&'a str]) -> Result<BTreeSet<&'a str>, Allo
     Ok(set)
 }
 
-/// Whether each node is named, or stands in one that is.
+/// Whether each node is named, or a descendant of one that is.
 fn chosen(
     alloc: Global,
     rows: &[Row],
@@ -111,7 +111,7 @@ fn chosen(
     Ok(chosen)
 }
 
-/// Whether each node is chosen, or one that stands in it, or it is the root.
+/// Whether each node is chosen, or one of its descendants is, or it is the root.
 fn kept(alloc: Global, rows: &[Row], chosen: &[bool]) -> Result<Vec<bool>, AllocError>
     requires tree { IsRooted (nodes_in rows.now) }
     requires each { length chosen.now ≡ length rows.now }
@@ -128,7 +128,7 @@ fn kept(alloc: Global, rows: &[Row], chosen: &[bool]) -> Result<Vec<bool>, Alloc
     Ok(kept)
 }
 
-/// Marks a node and all that it stands in but the root.
+/// Marks a node and all its ancestors but the root.
 fn mark_path(kept: &mut Vec<bool>, rows: &[Row], node: usize)
     requires tree { IsRooted (nodes_in rows.now) }
     requires within { node < length rows.now }

@@ -13,7 +13,7 @@ use iso_model::text::Text;
 use std::alloc::{AllocError, Global};
 
 /// The nodes of scripts as they are written, in preorder, after the root: scripts as handed in,
-/// members as written. More than so many, at least the root, are `TooManyNodes`.
+/// members as written. More than `most`, at least the root, are `TooManyNodes`.
 pub(crate) fn written_tree(
     alloc: Global,
     scripts: &[Script],
@@ -94,7 +94,7 @@ fn add_top(
     add_members(alloc, rows, number, &class.members, most)
 }
 
-/// Adds the nodes of a class that stands in the class with this number.
+/// Adds the nodes of a class that is a child of the class with this number.
 #[cycle(growth)]
 fn add_class(
     alloc: Global,

@@ -36,7 +36,7 @@ pub record ThiefView : Type 0 where
   pub deque : DequeId
   pub stolen : List ℕ
 
--- the end of an owner who did nothing but to send so many thieves out
+-- the end of an owner who did nothing but to send `thieves` thieves out
 abbrev pub new_owner : DequeId → ℕ → OwnerView
 new_owner deque thieves = record { deque = deque; posted = []; taken = []; returned = []; thieves = thieves }
 
@@ -44,7 +44,7 @@ new_owner deque thieves = record { deque = deque; posted = []; taken = []; retur
 abbrev pub new_thief : DequeId → ThiefView
 new_thief deque = record { deque = deque; stolen = [] }
 
--- the account of an owner holds, with some list for each thief that is out, where so many nodes lie
+-- the account of an owner holds, with some list for each thief that is out, where `count` nodes lie
 -- in the deque
 abbrev pub AddsUp : OwnerView → ℕ → Type 0
 AddsUp owner count =

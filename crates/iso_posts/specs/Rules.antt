@@ -19,7 +19,7 @@ IsOfOwner v = v.role ≡ Owner
 abbrev pub IsOfThief : Hand → Type 0
 IsOfThief v = v.role ≡ Thief
 
--- an owner's end: of a deque that is first in, first out, with so many slots, to which no more
+-- an owner's end: of a deque that is first in, first out, with `slots` slots, to which no more
 -- nodes were pushed than its pass has posted
 pub record IsOwnersEnd (flavor slots pushed : ℕ) (v : Hand) : Type 0 where
   pub first_out : flavor ≡ 0

@@ -89,7 +89,7 @@ fn nodes_come_first_in_first_out(rt: HostRuntime) -> Result<(), Fail> {
 /// So many that two thieves are in each other's way, on one processor too.
 const MANY: u32 = 200_000;
 
-/// Whether an owner posts so many nodes.
+/// Whether an owner posts `MANY` nodes.
 fn posts_many(owner: &mut Owner) -> bool {
     for node in 0..MANY {
         if owner.post(node).is_err() {
@@ -147,8 +147,8 @@ fn thief_is_told_of_an_empty_deque_when_it_is_empty(rt: HostRuntime) -> Result<(
     Ok(())
 }
 
-/// Whether the thieves of the first of so many workers steal what each other worker posted, in the
-/// order of the workers.
+/// Whether the thieves of the first of `workers` workers steal what each other worker posted, in
+/// the order of the workers.
 fn first_finds_all(alloc: Global, workers: u32) -> Result<bool, Fail> {
     let mut seats = Posts::new(alloc, workers as usize)?;
     for worker in 0..workers {

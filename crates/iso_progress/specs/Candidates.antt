@@ -32,7 +32,7 @@ module _ {H K V B F R : Type 0} (l : Language H K V B F R) (x : Suite H K V) (wo
       not (is_root n) && is_waiting (s.nodes.status n) && is_open (s.nodes.status (x.parent n))
       && not (x.is_same_thread n && has_unfinished_sibling l x workers s n) && is_none (lock_held l x workers s n)
 
-  -- a class is shut by its owner, and a node is entered by the owner of the class that it stands in
+  -- a class is shut by its owner, and a node is entered by the owner of its parent
   abbrev pub shut_by_owner : ℕ → Event
   shut_by_owner n = Shut (s.owner n) n
 

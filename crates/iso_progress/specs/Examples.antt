@@ -48,7 +48,7 @@ rooted_rows = node_in 0 (class_head 0 false true) true (Some 1) true ∷ node_in
 abbrev pub row_of : List Row → ℕ → Row
 row_of rows n = at no_node rows n
 
--- a node, the class that it stands in and so on, at most so many
+-- a node, its parent and so on, at most `most` of them
 abbrev pub up_in : List Row → ℕ → ℕ → List ℕ
 up_in rows most zero = []
 up_in rows zero (suc n) = []
@@ -96,7 +96,7 @@ pub record ComesToAStand (rows : List Row) (es : List Event) : Type 0 where
   pub unfinished : is_complete_in rows es ≡ false
 
 -- the candidate after these events of the mall; and all that follow one another from a state, at
--- most so many
+-- most this number of them
 abbrev pub candidate_after : List Event → Option Event
 candidate_after es = candidate_in mall_rows es
 

@@ -30,7 +30,7 @@ pub fn candidate_keeps_locks_and_owners()
     ensures closing { candidate_after (failed ++ Shut 1 7 ∷ []) ≡ Some (Step 1) }
 {}
 
-/// Node 6 stands in node 3, and all others in node 1. Before a SAME_THREAD node its earlier
+/// Node 6 is a child of node 3, and all others of node 1. Before a SAME_THREAD node its earlier
 /// SAME_THREAD siblings are finished, a barred class is shut whatever waits in it, and none is left
 /// after a stop.
 pub fn candidate_keeps_the_order_of_siblings()
@@ -51,8 +51,8 @@ pub fn candidate_keeps_the_order_of_siblings()
 {}
 
 /// Each law of `ProgressLaws` is needed: a suite that keeps all but it deadlocks. Two classes
-/// cross, of which each holds what a test of the other waits for; a test stands in a test; and a
-/// root takes a key.
+/// cross, of which each holds what a test of the other waits for; a test is a child of a test; and
+/// a root takes a key.
 pub fn each_law_is_needed()
     ensures crossed { ComesToAStand crossed_rows both_opened }
     ensures crossed_root { RootIsFree (suite_in crossed_rows) }

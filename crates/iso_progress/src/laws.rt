@@ -49,7 +49,7 @@ pub fn stopped_run_has_no_candidate<H, K, V, B, F, R>()
 {}
 
 /// There are a language and a suite that keep all that is asked, with a class that is isolated, one
-/// that takes a key for what stands in it, and one that takes none.
+/// that takes a key for its descendants, and one that takes none.
 pub fn laws_can_be_kept()
     ensures bodies { BodyLaws counting }
     ensures suite { SuiteLaws counting mall }

@@ -51,7 +51,7 @@ pub record HasGoneOnBy (e : Event) (c d : CoreView) : Type 0 where
   pub taken : HasTaken d (history_in d)
   pub history : history_in d ≡ history_in c ++ event_of e ∷ []
 
--- so many steps of a worker's body are accepted, and then its Leave
+-- a number of steps of a worker's body is accepted, and then its Leave
 pub record IsLeaving (c : CoreView) (w : ℕ) : Type 0 where
   pub steps : ℕ
   pub run : is_run scripts (suite_in c) c.workers (state_in c) (replicate steps (E.Step w) ++ E.Leave w ∷ []) ≡ true

@@ -59,7 +59,7 @@ module _ (plan : Planned) (world : Start) (workers : ℕ) where
     pub at : IsBetween (parent (tree_of plan) n) h
     pub next : ComesNext (suite_at plan world) n (after_history h)
 
-  -- it has run the node: the history goes on by the node's, and it and all that stands in it is
+  -- it has run the node: the history goes on by the node's, and it and all its descendants are
   -- finished
   pub record HasRun (n : ℕ) (h g : List Event) : Type 0 where
     pub at : IsBetween (parent (tree_of plan) n) g
@@ -76,7 +76,7 @@ module _ (plan : Planned) (world : Start) (workers : ℕ) where
     pub here : phase_in (after_history h) c ≡ rest_of well
     pub inside : (m : ℕ) → (m ≡ c → ⊥) → On (suite_at plan world) c m → phase_in (after_history h) m ≡ left_in well
 
-  -- all that stands in the class is finished, and no other node has changed
+  -- all descendants of the class are finished, and no other node has changed
   pub record HasRunInside (c : ℕ) (h g : List Event) : Type 0 where
     pub at : IsBetween c g
     pub done : (m : ℕ) → m < length plan.rows → (m ≡ c → ⊥) → On (suite_at plan world) c m → phase_in (after_history g) m ≡ Finished
@@ -113,7 +113,7 @@ module _ (plan : Planned) (world : Start) (workers : ℕ) where
     pub others : (m : ℕ) → (m ≡ n → ⊥) → phase_in (after_history g) m ≡ phase_in (after_history h) m
     pub more : g ≡ (h ++ Shut 0 n ∷ []) ++ Leave 0 ∷ []
 
-  -- of the children of a class so many have run, or are left out since the class is barred; the
+  -- of the children of a class this number has run, or is left out since the class is barred; the
   -- others are as they were
   pub record HasRunSome (c : ℕ) (h : List Event) (i : ℕ) (g : List Event) : Type 0 where
     pub may : MayRunInside c h

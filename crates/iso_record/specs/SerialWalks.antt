@@ -29,19 +29,19 @@ module _ (x : Suite Head (List ℕ) Resource) where
     pub owned : (n : ℕ) → s.owner n ≡ 0
     pub held : (n : ℕ) → is_held (s.nodes.status n) ≡ true → On x n c
 
-  -- a node comes next in an open class: it and all that stands in it waits, and what is written
+  -- a node comes next in an open class: it and its descendants wait, and what is written
   -- before it in the class is finished
   pub record ComesNext (n : ℕ) (s : RunState) : Type 0 where
     pub opened : phase_in s (x.parent n) ≡ Open
     pub waits : (m : ℕ) → On x n m → phase_in s m ≡ Waiting
     pub earlier : (m : ℕ) → 0 < m → m < n → x.parent m ≡ x.parent n → phase_in s m ≡ Finished
 
-  -- a node and all that stands in it is finished, and no other node has changed
+  -- a node and its descendants are finished, and no other node has changed
   pub record IsDone (n : ℕ) (s t : RunState) : Type 0 where
     pub done : (m : ℕ) → m < x.nodes → On x n m → phase_in t m ≡ Finished
     pub others : (m : ℕ) → (On x n m → ⊥) → phase_in t m ≡ phase_in s m
 
-  -- a class is open, and all that stands in it waits; or it is barred, and that is finished; no
+  -- a class is open, and its descendants wait; or it is barred, and they are finished; no
   -- other node has changed
   pub record IsOpened (n : ℕ) (s t : RunState) : Type 0 where
     pub well : Bool

@@ -17,7 +17,7 @@ use iso_standing::event::Event;
 use std::alloc::{AllocError, Global};
 
 /// The events of a book's run: its history, with the steps of each body right before its Leave. A
-/// core takes them, so it does each step once more. Want of memory is the only error.
+/// core takes them, so it does each step once more. Out of memory is the only error.
 pub fn record(alloc: Global, book: &Book<'_>) -> Result<Vec<Event>, AllocError>
     ensures record { IfOk result (λ es. AreRecordOf book.now.plan book.now.world book.now.workers book.now.history es.items) }
     ensures complete { IfOk result (λ es. is_complete (core_after book.now.plan book.now.world book.now.workers es.items) ≡ Books.is_complete book.now) }

@@ -14,8 +14,8 @@ use iso_standing::event::Event;
 use std::alloc::{AllocError, Global};
 use std::marker::Model;
 
-/// A core, and the events that it has taken. Contracts see the core. After want of memory it is
-/// only dropped.
+/// A core, and the events that it has taken. Contracts see the core. After running out of
+/// memory it is only dropped.
 #[derive(Drop)]
 pub(crate) struct Recording<'a> {
     core: Core<'a>,
@@ -36,7 +36,7 @@ impl<'a> Model for Recording<'a> {
 }
 
 impl<'a> Recording<'a> {
-    /// Of a plan and a world on so many workers: no event yet.
+    /// Of a plan and a world on `workers` workers: no event yet.
     pub fn new(
         alloc: Global,
         plan: &'a Plan,
@@ -116,7 +116,8 @@ impl<'a> Recording<'a> {
         }
     }
 
-    /// Takes the next event of a history, before a Leave the steps of its body.
+    /// Takes the next event of a history, before a Leave the steps of its body. Where memory runs
+    /// out, steps that were made before stay taken.
     pub fn go_on_by(&mut self, event: Event) -> Result<(), AllocError>
         requires goes_on { GoesOnBy self.old event }
         requires taken { HasTaken self.old (history_in self.old) }

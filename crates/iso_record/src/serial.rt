@@ -15,9 +15,9 @@ use std::alloc::{AllocError, Global};
 /// The one worker.
 const WORKER: u32 = 0;
 
-/// The events of a run of a plan by worker 0 alone, of so many workers: each class and test in the
-/// order in which they are written, depth first. A core takes them, so it does each step. Want of
-/// memory is the only error.
+/// The events of a run of a plan by worker 0 alone, of `workers` workers: each class and test in
+/// the order in which they are written, depth first. A core takes them, so it does each step. Out
+/// of memory is the only error.
 pub fn record_serial(
     alloc: Global,
     plan: &Plan,
@@ -34,7 +34,7 @@ pub fn record_serial(
 }
 
 impl Recording<'_> {
-    /// Worker 0 runs a node that comes next in its class, and all that stands in it.
+    /// Worker 0 runs a node that comes next in its class, and all its descendants.
     #[cycle(depth)]
     fn node(&mut self, plan: &Plan, node: u32) -> Result<(), AllocError>
         requires of { plan.now ≡ self.old.plan }

@@ -55,8 +55,8 @@ pub record IsSideOf (inputs : Inputs) (suite : Suite) (side : SideView) : Type 0
 abbrev pub both : (was now : Suite) → Suites
 both was now = suites (planned was) was.start (planned now) now.start
 
--- what is told of a change, or the paths of changed and new nodes alone; so many files weren't in
--- the folder
+-- what is told of a change, or the paths of changed and new nodes alone, with the number of files
+-- that weren't in the folder
 abbrev pub change_text : (paths : Bool) → ChangeView → (folder : List ℕ) → (missing : ℕ) → List ℕ
 change_text paths c folder missing =
     cond paths (paths_text (affected_rows c))

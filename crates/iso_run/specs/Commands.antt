@@ -57,8 +57,8 @@ pub record AreOf (files : InputFiles) (input : Option (List ℕ)) (settings worl
   pub list_named : is_some listed ≡ is_some files.only_from
   pub list_piped : option_copied files.only_from ≡ Some (codes "-") → (files.scripts.items ≡ [] → ⊥) → IfSome input (λ bytes. listed ≡ Some bytes)
 
--- so many processors are counted with: one without a word, as many as it says, or those of the
--- machine, of which there may be so many
+-- the number of processors that are counted with: one without a word, as many as it says, or those
+-- of the machine, however many these are
 abbrev pub IsCountedAs : Option Processors → ℕ → Type 0
 IsCountedAs None n = n ≡ 1
 IsCountedAs (Some (Count asked)) n = n ≡ asked
@@ -123,8 +123,8 @@ IsPrintedFor printed files input old new ok = (sites : List Site) × ((inputs : 
 abbrev pub IsAcceptedFor : InputFiles → Option (List ℕ) → Type 0
 IsAcceptedFor files input = (inputs : Inputs) × AreFor files input inputs × OfSuite inputs (λ suite. ⊤)
 
--- What settings come to was written, whole: those that were read of a file of this name, where so
--- many processors are counted with.
+-- What settings come to was written, whole: those that were read of a file of this name, by the
+-- number of processors that are counted with.
 pub record IsListedFor (name : Option (Bor (List ℕ))) (asked : Option Processors) (old new : Account) : Type 0 where
   pub bytes : List ℕ
   pub named : name ≡ None → bytes ≡ []
@@ -136,8 +136,8 @@ pub record IsListedFor (name : Option (Bor (List ℕ))) (asked : Option Processo
   pub document : document bytes ≡ Some members
   pub wrote : Wrote old new (listing_text (leaves members) settings processors)
 
--- A state that was read of inputs: their suite, with the bytes of its scripts, and where its nodes
--- stand in them.
+-- A state that was read of inputs: their suite, with the bytes of its scripts, and the places of its
+-- nodes in these.
 pub record IsStateOf (inputs : Inputs) (state : State) : Type 0 where
   pub suite : IsRead inputs true state.suite
   pub texts : map (λ v. v.items) state.bytes.scripts.items ≡ texts inputs.scripts.now
@@ -260,8 +260,8 @@ abbrev pub tells_of_skipped : Summarized → Bool
 tells_of_skipped Failed = false
 tells_of_skipped All = true
 
--- the words of a command with these files that another one needs for the same results, where so
--- many processors were counted with
+-- the words of a command with these files that another one needs for the same results, by the
+-- number of processors that were counted with
 abbrev pub again_of : InputFiles → (processors : ℕ) → Again
 again_of files processors =
     record {
@@ -270,7 +270,7 @@ again_of files processors =
       processors = option_map (λ asked. processors) files.processors;
     }
 
--- the commands that a page tells, of a command with these files where so many processors were
--- counted with
+-- the commands that a page tells, of a command with these files, by the number of processors
+-- that were counted with
 abbrev pub page_commands : InputFiles → (processors : ℕ) → P.Commands
 page_commands files processors = record { again = again_of files processors; named = not (length files.scripts.items == 0) }

@@ -45,8 +45,8 @@ IsUnasked course = (course.schedule ≡ None) × (course.trace ≡ None) × (cou
 abbrev pub wants_times : Course → Bool
 wants_times course = is_some course.trace || is_some course.stats
 
--- Events are a whole run of a plan by so many workers: each is accepted after those before it, the
--- steps of each body stand right before its Leave, and every node is finished at the end.
+-- Events are a whole run of a plan by `workers` workers: each is accepted after those before it,
+-- the steps of each body stand right before its Leave, and every node is finished at the end.
 pub record AreWhole (plan : Planned) (start : Start) (workers : ℕ) (events : List Event) : Type 0 where
   pub accepted : AreAccepted plan start workers events
   pub in_full : events_of events ≡ full scripts (suite_at plan start) (first scripts (suite_at plan start)) (history_of (events_of events))
@@ -121,7 +121,7 @@ AreStarted Serial workers started = started ≡ 1
 AreStarted ByWorkers workers started = (1 ≤ started) × (started ≤ workers)
 AreStarted (BySchedule schedule) workers started = ⊤
 
--- a run of a plan by so many workers: all nodes have results
+-- a run of a plan by `workers` workers: all nodes have results
 pub record IsRunOf (way : Way) (plan : Planned) (start : Start) (workers : ℕ) (run : ObservedView) : Type 0 where
   pub plan_is : run.plan ≡ plan
   pub results_plan : run.results.plan ≡ plan

@@ -27,7 +27,7 @@ exit_status Refuses = 2
 exit_status GivesUp = 3
 exit_status BreaksOff = 3
 
--- how a fault of a run ends it: all others are of the input
+-- how a fault of a run ends it: all others are of the input, or `Unfinished`, which counts as one
 abbrev pub run_end : RunFault → End
 run_end Start = GivesUp
 run_end Lost = GivesUp

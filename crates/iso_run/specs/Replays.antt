@@ -63,7 +63,7 @@ Cause inputs way Lost = (way ≡ ByWorkers) × OfSuite inputs (λ suite. ⊤)
 Cause inputs way (Write written) = IsPlayed inputs way true
 Cause inputs way fault = NoSuite inputs fault
 
--- one of so many workers couldn't be started, memory ran out, a receipt is lost, or a node isn't
+-- one of `workers` workers couldn't be started, memory ran out, a receipt is lost, or a node isn't
 -- finished
 abbrev pub IsOfWorkers : (workers : ℕ) → RunFault → Type 0
 IsOfWorkers workers Start = 2 ≤ workers

@@ -23,7 +23,7 @@ IsWatch run false watch = watch ≡ None
 IsWatch run true None = ⊥
 IsWatch run true (Some w) = AreFigures run w.figures × (w.waits.items ≡ waits_of run) × (w.critical ≡ critical_of run)
 
--- What was watched is that of a run of a plan by so many workers: the times of its bodies, its
+-- What was watched is that of a run of a plan by `workers` workers: the times of its bodies, its
 -- figures, as far as it is said what they are, its waits and its critical bodies.
 pub record IsWatched (way : Way) (plan : Planned) (start : Start) (workers : ℕ) (w : WatchedView) : Type 0 where
   pub run : ObservedView

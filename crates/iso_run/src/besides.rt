@@ -47,8 +47,8 @@ impl<'b, 'a> Besides<'b, 'a> {
         }
     }
 
-    /// What is asked for with these files, where so many processors are counted with, and nothing
-    /// of the course of a run.
+    /// What is asked for with these files, by the number of processors that are counted with, and
+    /// nothing of the course of a run.
     pub fn new(
         alloc: Global,
         extras: Extras<'a>,
@@ -132,8 +132,8 @@ fn page_commands<'a>(files: &'a InputFiles<'a>, processors: u32) -> Commands<'a>
     }
 }
 
-/// The words of a command with these files that another one needs for the same results, where so
-/// many processors were counted with.
+/// The words of a command with these files that another one needs for the same results, by the
+/// number of processors that were counted with.
 fn again_of<'a>(files: &'a InputFiles<'a>, processors: u32) -> Again<'a>
     ensures { result ≡ again_of files.now processors }
 {

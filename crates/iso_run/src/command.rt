@@ -56,7 +56,7 @@ use std::thread::Threads;
 /// scripts, schedule, writes a report, a plan or a help page to `output`, and what is asked for
 /// besides, or a fault's line, to `errors`. Where no script is named, one is read from `input`.
 /// Answers the exit status: 0 where every top-level point is ok, or a plan or help was printed, 1
-/// where some top-level point is not ok, 2 for refused input, 3 for want of memory, failed reads
+/// where some top-level point is not ok, 2 for refused input, 3 for out of memory, failed reads
 /// and writes, and workers that couldn't be started or lost a receipt. A failed write to `errors`
 /// changes nothing. It may wait for the workers of a run. How far a run has come, where that is
 /// asked for, is shown on the terminal that standard error is, if it is one.

@@ -13,7 +13,7 @@ use std::sync::atomic::{AtomicU32, Ordering};
 pub(crate) struct Counts {
     /// The tests of the plan; none as long as there is no plan.
     all: AtomicU32,
-    /// The tests that are over: they ended, or stand in a class that wasn't opened.
+    /// The tests that are over: they ended, or are descendants of a class that wasn't opened.
     over: AtomicU32,
     /// The bodies that are under way, those of classes too.
     running: AtomicU32,
@@ -82,7 +82,7 @@ impl fmt::Display for Line {
 #[derive(Drop)]
 struct Counter<'g> {
     counts: &'g Counts,
-    /// How many tests stand in each class, by its number; in the root all of them.
+    /// How many tests are descendants of each class, by its number; of the root all are.
     tests: Vec<u32>,
 }
 
@@ -118,7 +118,7 @@ impl<'g> Counter<'g> {
         self.counts.running.fetch_sub(1, Ordering::SeqCst);
     }
 
-    /// How many tests stand in a class.
+    /// How many tests are descendants of a class.
     fn tests_of(&self, class: u32) -> u32 {
         match self.tests.get(class as usize) {
             Some(tests) => *tests,
@@ -127,10 +127,10 @@ impl<'g> Counter<'g> {
     }
 }
 
-/// How many tests stand in each class of a plan, and in its root.
+/// How many tests are descendants of each class of a plan, and of its root.
 fn tests_in(alloc: Global, plan: &Plan) -> Result<Vec<u32>, AllocError> {
     let mut tests = vec![in alloc; 0u32; plan.len() as usize]?;
-    // A class has a smaller number than what stands in it: what is handed up is whole by then.
+    // A class has a smaller number than its descendants: what is handed up is whole by then.
     for node in (0..plan.len()).rev() {
         let own = if plan.is_test(node) {
             1

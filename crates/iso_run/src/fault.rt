@@ -35,12 +35,14 @@ pub enum RunFault {
     Lost,
     /// Memory ran out. Nothing was written.
     Memory,
-    /// The sink failed, once it had taken so many bytes of the report.
+    /// The sink failed, once it had taken this number of bytes of the report.
     Write(u64),
 }
 
 impl RunFault {
-    /// The exit status of the program that meets this fault: 2 where its input is refused, else 3.
+    /// The exit status of the program that meets this fault: 3 where no worker could be started, a
+    /// receipt is lost, memory ran out or the sink failed; else 2, where its input is refused, and
+    /// with `Unfinished`.
     pub fn status(&self) -> u8
         ensures { result ≡ exit_status (run_end self.now) }
     {

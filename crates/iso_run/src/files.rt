@@ -281,7 +281,7 @@ fn read_file<'a, G: AllocGlobal + Files>(rt: &G, name: &'a str) -> Result<Vec<u8
     read_up_to(rt, name, FILE_BYTES)
 }
 
-/// Reads a file of at most so many bytes, and of a longer one one byte more.
+/// Reads a file of at most `most` bytes, and of a longer one one byte more.
 fn read_up_to<'a, G: AllocGlobal + Files>(
     rt: &G,
     name: &'a str,

@@ -62,7 +62,7 @@ pub struct Suite {
 /// Reads inputs as a suite: the settings, the world and the scripts in turn, and plans what is kept
 /// of the scripts. The first fault in this order is answered. Settings or a world that isn't UTF-8
 /// is `NotToml`. Where places are asked for, those of the classes and tests of each script are
-/// kept. Want of memory may be answered at each growth.
+/// kept. Out of memory may be answered at each growth.
 pub fn read_inputs(alloc: Global, inputs: Inputs<'_>, places: bool) -> Result<Suite, RunFault>
     requires { 1 ≤ inputs.processors }
     ensures { MatchResult result (IsRead inputs.entry places) (NoSuite inputs.entry) }
@@ -109,7 +109,7 @@ pub(crate) fn read_explained(
     }
 }
 
-/// Reads settings, on a machine of so many processors.
+/// Reads settings, on a machine of `processors` processors.
 pub(crate) fn settings_from(
     alloc: Global,
     bytes: &[u8],
@@ -171,8 +171,8 @@ fn read_scripts(
     Ok(read)
 }
 
-/// Reads a script, and adds the places of what stands in it, where they are kept. Of bytes that are
-/// none it is told what mends them, where that is asked for.
+/// Reads a script, and adds the places of its classes and tests, where they are kept. Of bytes that
+/// are none it is told what mends them, where that is asked for.
 fn read_one(
     alloc: Global,
     bytes: &[u8],
@@ -196,7 +196,7 @@ fn read_one(
     Ok(script)
 }
 
-/// Reads a script with the places of what stands in it. Of bytes that are none it is told what
+/// Reads a script with the places of its classes and tests. Of bytes that are none it is told what
 /// mends them, where that is asked for.
 pub(crate) fn placed(
     alloc: Global,

@@ -86,7 +86,8 @@ pub fn show_places<W: Sink>(
 
 /// Reads inputs as `show_plan` does, and writes their plan, or of it the lines of its tests alone,
 /// with the place of each node's name as a last field where places are asked for, and below the
-/// line of each node why its mode and its locks are so.
+/// line of each node why its mode and its locks are so. The names are those of the scripts, in
+/// their order; a script without one is standard input. Without places they aren't looked at.
 ///
 /// The first fault of the inputs is answered; with any but `Write` the sink is asked nothing.
 pub fn show_why<W: Sink>(
@@ -176,7 +177,7 @@ fn write_places<W: Sink>(
 }
 
 /// The sites of a suite's nodes where places are asked for, and else none. There is no fault but
-/// want of memory.
+/// out of memory.
 fn sites_asked(alloc: Global, suite: &Suite, places: bool) -> Result<Sites, RunFault>
     ensures found { places ≡ true → IfOk result (AreSites (tree (map script_of suite.now.scripts.items)) (all_sites (places_in suite.now.places.items)) (tree_of suite.now.plan)) }
     ensures none { places ≡ false → IfOk result (λ sites. sites ≡ []) }
@@ -190,7 +191,7 @@ fn sites_asked(alloc: Global, suite: &Suite, places: bool) -> Result<Sites, RunF
 }
 
 /// The sites of a suite's nodes. Each node of a suite that was read has one, so there is no fault
-/// but want of memory.
+/// but out of memory.
 pub(crate) fn sites_of(alloc: Global, suite: &Suite) -> Result<Sites, RunFault>
     ensures found { IfOk result (AreSites (tree (map script_of suite.now.scripts.items)) (all_sites (places_in suite.now.places.items)) (tree_of suite.now.plan)) }
     ensures fault { IfErr result (λ fault. fault ≡ Memory) }

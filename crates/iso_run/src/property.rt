@@ -41,7 +41,7 @@ fn property_names(alloc: Global, before: &[u8], after: &[u8]) -> Result<Vec<Text
     Ok(names)
 }
 
-/// The table of a world that was read before, so that there is no fault but want of memory.
+/// The table of a world that was read before, so that there is no fault but out of memory.
 fn table_in(alloc: Global, world: &[u8]) -> Result<Table, AllocError> {
     let Ok(text) = str::from_utf8(world) else {
         return Err(AllocError);

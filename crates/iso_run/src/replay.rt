@@ -23,7 +23,7 @@ use std::alloc::Global;
 /// The inputs are read as by `run_serial`, and the schedule after their plan: the first fault is
 /// answered. Then comes the first event that is refused, and `Unfinished` where a node but the root
 /// is left after the last event. Nothing is written before: with any fault but `Write` the sink is
-/// asked nothing. Want of memory may be answered at each growth.
+/// asked nothing. Out of memory may be answered at each growth.
 pub fn run_schedule<W: Sink>(
     alloc: Global,
     inputs: Inputs<'_>,

@@ -33,7 +33,7 @@ use std::rt::Clock;
 ///
 /// The settings are read first, then the world, the scripts in turn, and the plan of the scripts is
 /// made: the first fault is answered. Nothing is written before the suite has run; with any fault
-/// but `Write` the sink is asked nothing. Want of memory may be answered at each growth.
+/// but `Write` the sink is asked nothing. Out of memory may be answered at each growth.
 pub fn run_serial<C: Clock, W: Sink>(
     clock: &C,
     alloc: Global,

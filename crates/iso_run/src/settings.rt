@@ -58,8 +58,8 @@ pub(crate) fn show_settings<'a, G: AllocGlobal + Files + Threads, W: Sink, E: Si
     }
 }
 
-/// What settings come to that were read from these bytes, where so many processors are counted
-/// with.
+/// What settings come to that were read from these bytes, by the number of processors that are
+/// counted with.
 fn listing(
     alloc: Global,
     bytes: &[u8],

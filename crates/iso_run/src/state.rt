@@ -23,7 +23,7 @@ use iso_places::lines::LineTable;
 use iso_places::site::Sites;
 use std::alloc::{AllocError, Global};
 
-/// A suite with the bytes that it was read from, where its nodes stand in them, the nodes' paths,
+/// A suite with the bytes that it was read from, its nodes' places in these bytes and their paths,
 /// and the tables of its scripts' lines.
 #[derive(Drop)]
 pub(crate) struct State {

@@ -52,7 +52,7 @@ const WORKER_STACK: usize = 2 << 20;
 /// The inputs are read as by `run_serial`: the first fault is answered. Then comes the first of
 /// these that applies: `Start` where a thread could not be started, `Memory`, `Lost`, `Unfinished`.
 /// Nothing is written before all workers have ended: with any fault but `Write` the sink is asked
-/// nothing. Want of memory may be answered at each growth. It may wait, as workers do for one
+/// nothing. Out of memory may be answered at each growth. It may wait, as workers do for one
 /// another and at the gate.
 pub fn run_workers<R: Threads + Wait + Clock + Sync, G: Gate + Sync, W: Sink>(
     rt: &R,
@@ -225,7 +225,7 @@ fn seat_on<'a, L: Ground, R: Wait>(
     }
 }
 
-/// The seats on a floor of so many workers, without the first's.
+/// The seats on a floor of `workers` workers, without the first's.
 fn seats_on<'a, L: Ground, R: Wait>(
     rt: &R,
     alloc: Global,

@@ -73,7 +73,7 @@ fn schedule(
     Ok(events)
 }
 
-/// Such a schedule of a plan on so many workers.
+/// Such a schedule of a plan on `workers` workers.
 fn schedule_of(
     alloc: Global,
     plan: &Plan,

@@ -109,7 +109,7 @@ with_blocks =
       after_each = on 2 (fail "a");
     }
 
--- Tests and classes in a class. Nodes that stand in different classes have one name, and so have
+-- Tests and classes in a class. Members of different classes have one name, and so have
 -- fields of classes beside each other.
 abbrev pub members_text : List String
 members_text =

@@ -91,7 +91,7 @@ marks_of m = record { mode = m.mode; isolated = m.isolated; disabled = m.disable
 abbrev pub fits_test : Marks → Bool
 fits_test marks = not marks.isolated && not (list_any is_for_children marks.keys)
 
--- the mode, the isolation, the reason and the key that a mark writes
+-- the mode, the isolation, the reason, and the key with its access and target that a mark writes
 abbrev pub mode_in : Marking → Option ExecutionMode
 mode_in (runs m) = Some m
 mode_in _ = None

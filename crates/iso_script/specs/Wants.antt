@@ -1,4 +1,4 @@
--- What is wanted in a class, and before and after what stands in it.
+-- What is wanted in a class, and before and after its members.
 use Rattle.std.specs.Prelude.{ℕ, List, [], ◌∷◌, ◌≡◌, Bool, true, false, not, ◌&&◌, Option, Some, None, is_some, if◌then◌else◌}
 use Rattle.iso_model.specs.declared.heads.Mark.{Mark}
 use Rattle.iso_model.specs.declared.heads.Target.{Target}

@@ -56,14 +56,14 @@ fn is_at_test(parser: &Parser<'_>, marks: &Marks) -> bool
     marks.fits_test() && parser.is_at_word(Word::Test)
 }
 
-/// What is wanted where a member is, after so many.
+/// What is wanted where a member is, after `members` members.
 fn member_place(members: usize, first: Wanted) -> Wanted
     ensures { result ≡ (if nat_eq members 0 then first else V.Member) }
 {
     if members == 0 { first } else { Wanted::Member }
 }
 
-/// Goes past the word `class`, which has to be next, where so many classes may be opened. Answers
+/// Goes past the word `class`, which has to be next, where `left` classes may be opened. Answers
 /// how many more may be. Where none may be, the class is `TooDeep` at its word, and where the word
 /// is not next, this is wanted.
 fn open_class(parser: &mut Parser<'_>, left: u32, wanted: Wanted) -> Result<u32, ScriptError>
@@ -82,7 +82,7 @@ fn open_class(parser: &mut Parser<'_>, left: u32, wanted: Wanted) -> Result<u32,
     Ok(more)
 }
 
-/// A class of these marks, after its name, which stands at this position. So many more classes may
+/// A class of these marks, after its name, which stands at this position. `classes` more may
 /// be opened in it, and the scopes have the names of the statics and fields of the enclosing
 /// classes.
 #[cycle(class)]

@@ -26,7 +26,7 @@ pub fn heads_of_classes_are_read()
     ensures blocks { AreClasses blocks_text (a_class "C" with_blocks (empty_test "t" ∷ []) ∷ []) }
 {}
 
-/// Tests and classes stand in a class as they are written.
+/// Tests and classes are the members of a class as they are written.
 pub fn members_are_read()
     ensures { AreClasses members_text
         (a_class "C" empty_head

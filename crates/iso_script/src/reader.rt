@@ -21,7 +21,7 @@ use iso_script_statements::fault::{ScriptError, ScriptFaultKind};
 use iso_script_statements::parser::Parser;
 use std::alloc::Global;
 
-/// A script, and the places of its nodes in written order, a class before what stands in it.
+/// A script, and the places of its nodes in written order, a class before its descendants.
 #[derive(Drop)]
 pub struct PlacedScript {
     pub script: Script,

@@ -10,7 +10,7 @@ use Rattle.iso_script_lexer.specs.declared.token.TokenFault.TheVariants.{BadByte
 abbrev pub unless_full : (room : ℕ) → (ℕ → TokenFault) → TokenFault
 unless_full room rest = if nat_eq room 0 then TooLong else rest (room - 1)
 
--- The fault of a text after its opening quote, in which so many decoded bytes fit: that of the
+-- The fault of a text after its opening quote, in which `room` decoded bytes fit: that of the
 -- first byte that may not stand there. A text is open where its line ends before its closing quote.
 unfoldable pub text_fault : (escaped : Bool) → (room : ℕ) → List ℕ → TokenFault
 text_fault escaped room [] = OpenText

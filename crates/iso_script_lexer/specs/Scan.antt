@@ -37,11 +37,11 @@ after_gap comment line bs = gap_from comment line.0 line.1 bs
 abbrev pub one_more : Option ℕ → Option ℕ
 one_more n = option_map (λ k. k + 1) n
 
--- one byte more of a text in which so many more fit
+-- one byte more of a text in which `room` more fit
 abbrev pub counted : ℕ → (ℕ → Option ℕ) → Option ℕ
 counted room next = if nat_eq room 0 then None else one_more (next (room - 1))
 
--- how many bytes stand before the closing quote of a text, in which so many decoded bytes fit
+-- how many bytes stand before the closing quote of a text, in which `room` decoded bytes fit
 unfoldable pub quoted_length : (escaped : Bool) → (room : ℕ) → List ℕ → Option ℕ
 quoted_length escaped room [] = None
 quoted_length false room (b ∷ bs) =

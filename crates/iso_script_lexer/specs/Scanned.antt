@@ -24,7 +24,7 @@ abbrev pub seen : Position → Result (Token × Bor (List ℕ)) Misspelling → 
 seen at (Ok f) = shown at f.0 f.1.now
 seen at (Err e) = no_token at e.fault
 
--- what a scan of so many bytes has left, or the offset of its fault, lies within them
+-- what a scan of `n` bytes has left, or the offset of its fault, lies within them
 abbrev pub IsWithin : ℕ → Result (Token × Bor (List ℕ)) Misspelling → Type 0
 IsWithin n (Ok f) = length f.1.now ≤ n
 IsWithin n (Err e) = e.offset ≤ n

@@ -42,7 +42,7 @@ impl<'a> Cursor<'a> {
         }
     }
 
-    /// Further on in the line, where this is what is left.
+    /// Further on in the same line, where this is what is left of the script.
     pub fn further(self, rest: &'a [u8]) -> Cursor<'a>
         requires { length rest.now ≤ length self.rest.now }
         ensures line { line_of result ≡ line_of self.entry }

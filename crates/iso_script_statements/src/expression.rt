@@ -164,7 +164,7 @@ impl Parser<'_> {
         Ok(Data::Whole(whole))
     }
 
-    /// An operand, in which so many parentheses may be opened.
+    /// An operand, in which `parens` parentheses may be opened.
     #[cycle(expression)]
     fn operand(&mut self, parens: u32) -> Result<Expr, ScriptError>
         ensures { Parses term_of (IsOperand parens) result self.old.lexer self.new.lexer }
@@ -187,7 +187,7 @@ impl Parser<'_> {
         Ok(Expr::Literal(self.literal(Wanted::Operand)?))
     }
 
-    /// What follows the word `locale`: two parentheses, where so many may be opened.
+    /// What follows the word `locale`: two parentheses, where `parens` may be opened.
     fn locale(&mut self, parens: u32) -> Result<Expr, ScriptError>
         ensures { Parses term_of (IsLocale parens) result self.old.lexer self.new.lexer }
     {
@@ -197,7 +197,7 @@ impl Parser<'_> {
         Ok(Expr::Locale)
     }
 
-    /// An expression between parentheses, the outermost of so many that may be opened.
+    /// An expression between parentheses, the outermost of `parens` that may be opened.
     #[cycle(expression)]
     fn enclosed(&mut self, parens: u32) -> Result<Expr, ScriptError>
         ensures { Parses term_of (IsEnclosed parens) result self.old.lexer self.new.lexer }
@@ -234,7 +234,7 @@ impl Parser<'_> {
         Ok(operands)
     }
 
-    /// An expression, in which so many parentheses may be opened. What follows it is this symbol.
+    /// An expression, in which `parens` parentheses may be opened. What follows it is this symbol.
     #[cycle(expression)]
     pub(crate) fn expression(&mut self, parens: u32, follows: Symbol) -> Result<Expr, ScriptError>
         requires { infix_of follows ≡ None }

@@ -176,7 +176,7 @@ impl<'a> Parser<'a> {
         }
     }
 
-    /// Goes past an opening symbol, which has to be next, where so many may be opened. Answers how
+    /// Goes past an opening symbol, which has to be next, where `left` may be opened. Answers how
     /// many more may be. Where the symbol is not next, this is wanted, and where no more of them
     /// may be opened, this is their limit.
     pub fn open(

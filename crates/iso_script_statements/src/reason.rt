@@ -16,7 +16,7 @@ pub enum Reason<'a> {
     Beyond(Limit),
 }
 
-/// What there may be only so many of.
+/// What is limited in number.
 #[derive(Clone, Copy, Debug, PartialEq, Eq)]
 pub enum Limit {
     /// Classes in one another.

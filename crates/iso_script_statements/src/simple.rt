@@ -196,7 +196,8 @@ impl Parser<'_> {
         named(self.alloc, name, value)
     }
 
-    /// A display text or a reason.
+    /// A display text or a reason. Where no text is next, one is wanted; one that may be none is
+    /// `BadDisplay`, at its quote. With any fault it is still next.
     pub fn display(&mut self) -> Result<Text, ScriptError>
         ensures { Parses (λ (t : List ℕ). t) IsDisplay result self.old.lexer self.new.lexer }
     {

@@ -30,8 +30,9 @@ impl Parser<'_> {
         self.body(BODY_DEPTH, above, wanted)
     }
 
-    /// A body of a block whose opening brace has this many lines above its own, the outermost of so
-    /// many that may be opened. Where none is next, this is wanted.
+    /// A body of a block whose opening brace has this many lines above its own, the outermost of
+    /// `bodies` that may be opened; where none may be, it is `TooDeep`. Where none is next, this is
+    /// wanted.
     #[cycle(body)]
     pub fn body(
         &mut self,

@@ -12,7 +12,7 @@ use Rattle.iso_suites.specs.PlanSuites.{suite_of}
 use Rattle.iso_suites.specs.ScriptLanguage.{scripts}
 
 -- A node that these paths keep has the first outcome in some run of the whole plan and the second
--- in some of its part, each on so many workers as may be and in any order of events that the locks
+-- in some of its part, each on any number of workers and in any order of events that the locks
 -- allow. The resources start alike at the keys that the node may look at.
 pub record IsRunInBoth (whole part : Planned) (paths : List (List ℕ)) (n : ℕ) (first second : Outcome) : Type 0 where
   pub within : n < length (tree_of whole)

@@ -6,11 +6,11 @@ use Rattle.iso_plan.specs.TopClasses.{top_class}
 use Rattle.iso_plan.specs.Tree.{Row}
 use Rattle.iso_selection.specs.declared.shard.Shard.{Shard}
 
--- whether a node that passes is a top-level class or stands in it
+-- whether a node that passes is a top-level class or a descendant of it
 abbrev pub holds : List Row → (ℕ → Bool) → ℕ → Bool
 holds tree passes class = list_any (λ n. passes n && (top_class tree n == class)) (range_with_len 0 (length tree))
 
--- the shard of a top-level class, of so many, counted from 1: such classes go to the shards in
+-- the shard of a top-level class, of `count`, counted from 1: such classes go to the shards in
 -- turn, in the order in which they are written
 abbrev pub shard_of : List Row → (ℕ → Bool) → (count : ℕ) → (class : ℕ) → ℕ
 shard_of tree passes count class = number_among (holds tree passes) class % count + 1

@@ -18,8 +18,8 @@ use iso_settings::settings::Settings;
 use std::alloc::{AllocError, Global};
 
 /// The plan of what is kept of scripts, under settings: of what is asked for, and of its top-level
-/// classes those of the shard. Where nothing is asked for, all are kept; where nothing is left, the
-/// root alone.
+/// classes those of the shard. Where neither a path or a pattern nor a shard is asked for, all are
+/// kept; where nothing is left, the root alone.
 ///
 /// More than 64 scripts are `TooManyScripts`; two top-level classes of one team and name
 /// `DoubleClass`; a path or a pattern that names no node, whichever shard is asked for,

@@ -15,7 +15,7 @@ pub struct Shard {
 }
 
 impl Shard {
-    /// The shard with this number, counted from 1, of so many; none where there is no such number,
+    /// The shard with this number, counted from 1, of `count`; none where there is no such number,
     /// or they are more than 4,095.
     pub fn new(index: u32, count: u32) -> Option<Shard>
         ensures some { IsSome result ↔ ((1 ≤ index) × (index ≤ count) × (count ≤ 4095)) }

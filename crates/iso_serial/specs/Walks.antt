@@ -32,8 +32,8 @@ pub record IsLentAlong (plan : Planned) (world : Start) (p : ℕ) (v : VaultView
   pub home : AreAwayAlong plan p v.home
 
 -- The results while the nodes on the path of p are under way: their `before_all`s were put and not
--- their ends, the classes that p stands in were opened well, each other opened class has ended, and
--- what stands in an ended class has a result.
+-- their ends, the enclosing classes of p were opened well, each other opened class has ended, and
+-- the descendants of an ended class have results.
 pub record AreResultsAlong (plan : Planned) (world : Start) (p : ℕ) (v : ResultsView) : Type 0 where
   pub plan_is : v.plan ≡ plan
   pub start_is : v.start ≡ world
@@ -45,13 +45,13 @@ pub record AreResultsAlong (plan : Planned) (world : Start) (p : ℕ) (v : Resul
   pub others : (m : ℕ) → is_opened v m ≡ true → is_under (tree_of v.plan) m p ≡ false → is_ended v m ≡ true
   pub closed : (m : ℕ) → 0 < m → m < length v.plan.rows → is_ended v (parent (tree_of v.plan) m) ≡ true → has_result v m ≡ true
 
--- the classes that p stands in were opened well, and p itself is a class or the root
+-- the enclosing classes of p were opened well, and p itself is a class or the root
 pub record IsEntered (plan : Planned) (world : Start) (p : ℕ) : Type 0 where
   pub tree : IsTree (tree_of plan)
   pub within : p < length plan.rows
   pub well : (opening_of (subject plan world (parent (tree_of plan) p))).well ≡ true
 
--- between two nodes that stand directly in p: the nodes on p's path are lent, and all stands as p's
+-- between two children of p: the nodes on p's path are lent, and all stands as p's
 -- opening has left it
 pub record BetweenNodes (plan : Planned) (world : Start) (p : ℕ) (w : Walk) : Type 0 where
   pub entered : IsEntered plan world p
@@ -86,7 +86,7 @@ pub record GoesFurther (old new : Walk) : Type 0 where
   pub tray : GoesOn old.tray new.tray
   pub results : (m : ℕ) → has_result old.results m ≡ true → has_result new.results m ≡ true
 
--- the innermost class whose frame a body of n begins with: the one that n stands in, and for an
+-- the innermost class whose frame a body of n begins with: the parent of n, and for an
 -- `after_all` n itself
 abbrev pub innermost : List Row → BodyKind → ℕ → ℕ
 innermost tree BeforeAll n = parent tree n

@@ -124,7 +124,7 @@ impl<'g, 'a, G: Gate> Serial<'g, 'a, G> {
     }
 
     /// Runs a node that has no result, between two nodes of the root or of a class that was opened:
-    /// lends it, does its bodies and what stands in it, lets the values that it may change stand as
+    /// lends it, does its bodies, runs its children, lets the values that it may change stand as
     /// they stood, and takes it back. Then the vault is as it was, and what the tray holds stands
     /// as the opening of that class left it again, for the next node to begin on.
     #[cycle(depth)]
@@ -146,7 +146,7 @@ impl<'g, 'a, G: Gate> Serial<'g, 'a, G> {
         Ok(())
     }
 
-    /// Does the bodies of a node that was lent, and of all that stands in it.
+    /// Does the bodies of a node that was lent, and of all its descendants.
     #[cycle(depth)]
     fn bodies(&self, walk: &mut Walk<'a>, node: u32) -> Result<(), AllocError>
         requires { AtEntry self.now.plan.now self.now.world.now node walk.old }
@@ -170,7 +170,7 @@ impl<'g, 'a, G: Gate> Serial<'g, 'a, G> {
         self.perform(walk, node, BodyKind::Test)
     }
 
-    /// Runs a class that was lent: its `before_all`, what stands in it, and its `after_all`.
+    /// Runs a class that was lent: its `before_all`, its children, and its `after_all`.
     #[cycle(depth)]
     fn class(&self, walk: &mut Walk<'a>, node: u32) -> Result<(), AllocError>
         requires entry { AtEntry self.now.plan.now self.now.world.now node walk.old }
@@ -193,7 +193,7 @@ impl<'g, 'a, G: Gate> Serial<'g, 'a, G> {
         self.perform(walk, node, BodyKind::BeforeAll)
     }
 
-    /// Runs the `after_all` of a class when all that stands in it has results.
+    /// Runs the `after_all` of a class when all its descendants have results.
     fn close(&self, walk: &mut Walk<'a>, node: u32) -> Result<(), AllocError>
         requires positive { 0 < node }
         requires class { is_test (row_at (tree_of self.now.plan.now) node).kind ≡ false }
@@ -224,7 +224,7 @@ impl<'g, 'a, G: Gate> Serial<'g, 'a, G> {
         Ok(())
     }
 
-    /// The innermost class whose frame a body begins with; the root where its node stands in none.
+    /// The innermost class whose frame a body begins with; the root where its node is in no class.
     fn innermost(&self, node: u32, kind: BodyKind) -> u32
         requires positive { 0 < node }
         requires within { node < length self.now.plan.now.rows }

@@ -55,7 +55,7 @@ pub(crate) enum Strategy {
     Fixed,
 }
 
-/// Reads settings from a TOML document, on a machine of so many processors.
+/// Reads settings from a TOML document, on a machine of `processors` processors.
 pub fn read_settings(alloc: Global, text: &str, processors: u32) -> Result<Settings, SettingsError>
     requires { 1 ≤ processors }
     ensures exact { Gives (settings_in (parse_document text.now) processors) result }

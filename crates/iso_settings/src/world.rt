@@ -119,7 +119,7 @@ impl World {
 
     /// The value that a key starts with, as `copy` gives it, but shared: a value that the world
     /// names stands in memory once, however many look at it. A file that the world doesn't name and
-    /// a key without a value get an `Arc` of their own. Refused where memory is wanting, or where
+    /// a key without a value get an `Arc` of their own. Refused where memory runs out, or where
     /// `Arc` refuses a further owner.
     pub fn share(&self, alloc: Global, key: &Key) -> Result<Arc<Resource>, AllocError>
         ensures { IfOk result (λ value. arc_value value ≡ starting_value_in self.now key.now) }

@@ -11,7 +11,8 @@ use Rattle.iso_standing.specs.declared.phase.Phase.TheVariants.{Waiting}
 abbrev pub with_held : HeldView → ℕ → Bool → HeldView
 with_held h n held = record h { held = slice_set h.held n held }
 
--- the held nodes are those of the plan that were entered and aren't finished
+-- the held nodes are those of the plan that were entered and aren't finished, and the root, which
+-- is open from the start
 pub record KeepsHeld (p : Planned) (phases : List Phase) (h : HeldView) : Type 0 where
   pub plan : h.plan ≡ p
   pub each : length h.held ≡ length p.rows

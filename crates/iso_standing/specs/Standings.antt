@@ -150,7 +150,7 @@ first_in v start = first scripts (suite_in v start)
 abbrev pub is_complete_in : Standing → Resources → RunState → Bool
 is_complete_in v start s = is_complete (suite_in v start) s
 
--- whether a node stands in another, at any depth
+-- whether a node is a descendant of another
 abbrev pub is_inside : Standing → ℕ → ℕ → Bool
 is_inside v m n = is_in n (path (tree_of v.plan) (parent (tree_of v.plan) m))
 

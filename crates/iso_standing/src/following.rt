@@ -68,8 +68,8 @@ pub fn bodies_follow_events(plan: &Plan)
         → AreBodiesOf plan.now world (slice_set bodies w (Some b)) (E.after scripts (suite_at plan.now world) s (E.Shut w n)) }
 {}
 
-/// Where bodies begin in a state that a run leads to, and that they stand where so many steps of
-/// them alone have left them.
+/// Where bodies begin in a state that a run leads to, and that they stand where some number of
+/// steps of them alone has left them.
 pub fn bodies_stand_as_alone(plan: &Plan)
     ensures stands { (world : Start) (bodies : List (Option Under)) (s : RunState) (w n : ℕ) (b : Under) → IsReached plan.now world s → AreBodiesOf plan.now world bodies s
         → w < length bodies → s.busy w ≡ Some n → body_at bodies w ≡ Some b → Stands b s.nodes.flat }

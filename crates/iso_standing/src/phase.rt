@@ -16,12 +16,12 @@ pub enum Phase {
     Barred,
     /// A class whose `after_all` is under way.
     Closing,
-    /// Its last body was left, or it stands in a barred class.
+    /// Its last body was left, or it is a descendant of a barred class.
     Finished,
 }
 
 impl Phase {
-    /// Whether it wasn't entered, and doesn't stand in a barred class.
+    /// Whether it wasn't entered, and isn't a descendant of a barred class.
     pub fn is_waiting(self) -> bool
         ensures { result ≡ is_waiting (bare self) }
     {

@@ -4,12 +4,12 @@ ghost use Rattle.iso_standing.specs.RefusalTexts.{kind_name, node_in};
 
 use std::fmt;
 
-/// Why an event is refused. An event tests its kinds in a stated order, and the first that applies
-/// is answered:
+/// Why an event is refused: the first of its kinds that applies, tested in the order of this table:
 ///
 /// | Event | Order |
 /// |---|---|
-/// | Enter | Stopped, NoWorker, NoNode, WorkerBusy, ParentClosed, AlreadyEntered, NotOwner, EarlierSibling, LockHeld |
+/// | Enter | Stopped, NoWorker, NoNode, WorkerBusy, ParentClosed, AlreadyEntered, NotOwner, |
+/// | | EarlierSibling, LockHeld |
 /// | Step | Stopped, NoWorker, NoBody, BodyEnded |
 /// | Leave | Stopped, NoWorker, NoBody, BodyNotEnded |
 /// | Shut | Stopped, NoWorker, NoNode, WorkerBusy, NotClass, NotOpen, NotOwner, ChildrenLeft |
@@ -53,7 +53,7 @@ pub enum Refused {
     NotOpen,
     /// The body that was brought is of this node, or of a kind, that isn't the worker's.
     OtherBody(u32),
-    /// The values that were brought aren't those that the event is about.
+    /// The tray belongs to another run, or doesn't hold what the event is about.
     Stranger,
 }
 

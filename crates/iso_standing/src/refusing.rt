@@ -172,7 +172,7 @@ impl<'a> Standing<'a> {
         None
     }
 
-    /// Whether a node stands in one that isn't open.
+    /// Whether a node has a parent that isn't open.
     fn parent_closed(&self, node: u32) -> bool
         requires { node < nodes_in self.now }
         ensures { Refuses self.now (Why.parent_closed scripts) node result Why.ParentClosed }
@@ -189,7 +189,7 @@ impl<'a> Standing<'a> {
         node == 0 || !self.phase(node).is_waiting()
     }
 
-    /// Whether a node is SAME_THREAD and another worker owns the node that it stands in.
+    /// Whether a node is SAME_THREAD and another worker owns its parent.
     fn not_owner_of_parent(&self, worker: u32, node: u32) -> bool
         requires node { node < nodes_in self.now }
         requires inner { 0 < node }

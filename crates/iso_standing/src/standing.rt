@@ -83,8 +83,9 @@ impl<'a> Standing<'a> {
         })
     }
 
-    /// Takes an event that is accepted. `well` tells of a Leave whether the body has ended well,
-    /// where it is a `before_all`. Takes no memory.
+    /// Takes an event whose worker and node are there, or whose worker has a body; whether it is
+    /// accepted isn't looked at. `well` tells of a Leave whether the body has ended well, where it
+    /// is a `before_all`. Takes no memory.
     pub fn take(&mut self, event: Event, well: bool)
         requires { CanTake self.old event }
         ensures same { OfSame self.old self.new }
@@ -111,7 +112,7 @@ impl<'a> Standing<'a> {
     }
 
     /// Takes a Leave that is accepted. `well` tells whether the body has ended well, where it is a
-    /// `before_all`. Takes no memory. Where a class is barred it goes over the nodes that stand in
+    /// `before_all`. Takes no memory. Where a class is barred it goes over the descendants of
     /// it, once each.
     pub fn leave(&mut self, worker: u32, well: bool)
         requires { HasBody self.old worker }
@@ -207,7 +208,8 @@ impl<'a> Standing<'a> {
         self.held.excludes(node)
     }
 
-    /// The nodes that hold their locks: those that were entered and aren't finished.
+    /// The nodes that hold their locks: those that were entered and aren't finished, and the root,
+    /// which is open from the start and takes no key.
     pub fn held(&self) -> &HeldNodes<'a>
         ensures plan { result.now.plan ≡ self.now.plan }
         ensures held { (n : ℕ) → is_held_node result.now.held n ≡ is_held (bare (phase_at self.now n)) }
@@ -223,7 +225,7 @@ impl<'a> Standing<'a> {
         self.owners[node as usize]
     }
 
-    /// The node that a node stands in; the root's is the root.
+    /// A node's parent; the root's is the root.
     pub(crate) fn parent(&self, node: u32) -> u32
         requires { node < nodes_in self.now }
         ensures parent { 0 < node → result ≡ parent (tree_of self.now.plan) node }
@@ -315,8 +317,8 @@ impl<'a> Standing<'a> {
         self.passed[class as usize]
     }
 
-    /// Bars a class: what waits in it is finished. What stands in it follows it, so it ends at the
-    /// first node that stands elsewhere.
+    /// Bars a class: what waits in it is finished. Its descendants follow it, so it ends at the
+    /// first node that isn't one of them.
     fn bar(&mut self, class: u32)
         requires class { class < nodes_in self.old }
         requires inner { 0 < class }
@@ -334,7 +336,7 @@ impl<'a> Standing<'a> {
         }
     }
 
-    /// What becomes of a node that stands in a class that is barred.
+    /// What becomes of a descendant of a class that is barred.
     fn phase_inside(&self, node: u32) -> Phase
         requires { node < nodes_in self.now }
         ensures { result ≡ cond (is_waiting (bare (phase_at self.now node))) Finished (phase_at self.now node) }

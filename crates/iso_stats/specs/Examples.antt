@@ -15,7 +15,7 @@ waited_for_k = record { key = 1; time = 3100000000; node = 2; holder = 4; longes
 abbrev pub chain_of_k : Chain
 chain_of_k = record { link = Key 1; time = 4200000000; first = 4; second = Some 3; third = Some 2; more = true }
 
--- two nodes stand in the root, on its worker
+-- two children of the root, on its worker
 abbrev pub chain_of_root : Chain
 chain_of_root = record { link = Class 0; time = 61500; first = 1; second = Some 4; third = None; more = false }
 

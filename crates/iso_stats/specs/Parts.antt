@@ -15,7 +15,7 @@ abbrev pub joined : List (List ℕ) → List ℕ
 joined [] = []
 joined (t ∷ ts) = t ++ joined ts
 
--- so many of what has this word for one
+-- `n` of what has this word for one
 abbrev pub counted : ℕ → List ℕ → List ℕ
 counted n word = decimal n ++ word ++ cond (n == 1) [] (codes "s")
 

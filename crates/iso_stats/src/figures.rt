@@ -28,7 +28,7 @@ pub struct Waited {
     pub more: bool,
 }
 
-/// What makes a chain: nodes that take a key one after another, or that stand in a class and run on
+/// What makes a chain: nodes that take a key one after another, or children of a class that run on
 /// its worker. Class 0 is the root.
 #[derive(Clone, Copy)]
 pub enum Link {

@@ -18,7 +18,7 @@ use iso_waits::wait::NodeWait;
 use std::alloc::{AllocError, Global};
 
 /// The figures of a run of a plan, whose bodies had these times and whose nodes these waits, and
-/// which started so many of so many workers.
+/// which started `workers` of `of` workers.
 pub fn figures(
     alloc: Global,
     plan: &Plan,
@@ -62,7 +62,7 @@ fn chain_without(
     Ok(longest(plan, &times, &freed, key))
 }
 
-/// How fast so many workers are at best, where this is the longest chain.
+/// How fast `workers` workers are at best, where this is the longest chain.
 fn best(
     alloc: Global,
     plan: &Plan,

@@ -7,8 +7,8 @@ use iso_plan::lock::Lock;
 use iso_plan::plan::Plan;
 use std::alloc::{AllocError, Global};
 
-/// Which nodes run on the thread of their class for a key alone: they stand in one that takes it
-/// for READ_WRITE, and in none that takes another so.
+/// Which nodes run on the thread of their class for a key alone: they are descendants of one that
+/// takes it for READ_WRITE, and of none that takes another so.
 #[derive(Drop)]
 pub(crate) struct Freed {
     by_key: Vec<bool>,

@@ -7,7 +7,7 @@ use crate::figures::Link;
 pub(crate) enum Part<'a> {
     Plain(&'a str),
     Number(u64),
-    /// So many of what has this word for one.
+    /// This number of what has this word for one.
     Counted(u32, &'a str),
     Time(u64),
     Tenths(u64),

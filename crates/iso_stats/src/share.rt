@@ -2,8 +2,8 @@
 ghost use Rattle.std.specs.Prelude.{◌≡◌, min};
 ghost use Rattle.iso_stats.specs.Shares.{at_best, percent};
 
-/// Which part of a time so many workers spent in bodies, each of them an equal part of the bodies'
-/// time, in percent.
+/// Which part of a time `workers` workers spent in bodies, each of them an equal part of the
+/// bodies' time, in percent.
 pub(crate) fn percent(busy: u64, workers: u32, span: u64) -> u64
     ensures { result ≡ percent busy workers span }
 {
@@ -14,8 +14,8 @@ pub(crate) fn percent(busy: u64, workers: u32, span: u64) -> u64
     low(u128::from(each) * 100 / u128::from(span))
 }
 
-/// How many times as fast as one worker so many are at best, where one chain takes so long, in
-/// tenths.
+/// How many times as fast as one worker `workers` of them are at best, where one chain takes
+/// `chain`, in tenths.
 pub(crate) fn at_best(work: u64, workers: u32, chain: u64) -> u64
     ensures { result ≡ at_best work workers chain }
 {

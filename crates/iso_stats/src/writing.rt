@@ -59,7 +59,7 @@ fn counted<W: Sink>(printer: &mut Printer<'_, W>, number: u32, word: &str) -> Re
     ])
 }
 
-/// The end of a word for so many.
+/// The end of a word for `number` of what it names.
 fn plural(number: u32) -> &'static str
     ensures { result.now ≡ cond (number == 1) [] (codes "s") }
 {

@@ -33,7 +33,8 @@ impl Places {
         }
     }
 
-    /// What is in a name's place, or `None` where it has none.
+    /// What is in a name's place, or `None` where the name has no place; one that was cleared has
+    /// one.
     pub fn get(&self, name: &str) -> Option<&Option<Text>>
         ensures { option_copied result ≡ map.get self.now name.now }
     {

@@ -13,7 +13,7 @@ use Rattle.iso_plan.specs.RowView.{tree_of}
 use Rattle.iso_plan.specs.Selections.{is_kept, number_among}
 
 -- A node that these paths keep has the first outcome in some run of the whole plan and the second
--- in some of the selected one, each on so many workers as may be and in any order of events that
+-- in some of the selected one, each on any number of workers and in any order of events that
 -- the locks allow. The resources start alike at the keys that the node may look at.
 pub record IsRunInBoth (whole selected : Planned) (only : List (List ℕ)) (n : ℕ) (first second : Outcome) : Type 0 where
   pub within : n < length (tree_of whole)

@@ -127,7 +127,7 @@ pub fn scripts_keep_the_laws_of_bodies()
 {}
 
 /// The plan of all scripts keeps what the isolation theorem asks of suites: its locks cover the
-/// access rights, and what stands in a node that takes a key for READ_WRITE is forced to
+/// access rights, and the descendants of a node that takes a key for READ_WRITE are forced to
 /// SAME_THREAD.
 pub fn plans_keep_the_laws_of_suites()
     ensures { (l : Launch) → SuiteLaws scripts (launched l) }

@@ -46,7 +46,7 @@ can_be_told again at =
     && (not (given_has_unseen again.settings)
     && not (given_has_unseen again.world)))
 
--- the command that runs a node again, of the one script in which it stands
+-- the command that runs a node again, of the one script in which it is written
 abbrev pub command_line : AgainView → LocatedView → (path : List ℕ) → List ℕ
 command_line again at path =
     line

@@ -8,7 +8,7 @@ abbrev pub line : List (List ℕ) → List ℕ
 line [] = codes "\n"
 line (t ∷ ts) = t ++ line ts
 
--- so many things, with the word for one and the word for several
+-- `n` things, with the word for one and the word for several
 abbrev pub counted : ℕ → (one many : List ℕ) → List ℕ
 counted n one many = decimal n ++ cond (n == 1) one many
 

@@ -24,7 +24,7 @@ with_word word words = option_map (λ ws. word ∷ ws) words
 
 -- What a byte outside of quotes begins, which is no space and no line feed: quotes, what is behind
 -- a backslash, or a byte of a word where it means nothing to a shell. With any other byte a text is
--- no command of words.
+-- no command of words. The arguments are what the bytes behind it are in each of the three cases.
 abbrev pub read_unquoted : ℕ → (quotes backslash word : Option (List (List ℕ))) → Option (List (List ℕ))
 read_unquoted b quotes backslash word = cond (b == 39) quotes (cond (b == 92) backslash (cond (is_plain b) (with_byte b word) None))
 

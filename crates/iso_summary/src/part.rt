@@ -6,7 +6,7 @@ pub(crate) enum Part<'a> {
     Plain(&'a str),
     /// A number in decimal.
     Number(u32),
-    /// So many things, with the word for one and the word for several.
+    /// This number of things, with the word for one and the word for several.
     Counted(u32, &'a str, &'a str),
     /// How many classes failed, where any did.
     FailedClasses(u32),

@@ -6,7 +6,7 @@ ghost use Rattle.iso_tap.specs.Printers.{Prints};
 use iso_tap::printer::Printer;
 use iso_tap::sink::{Sink, SinkFailed};
 
-/// So many bytes of a line are shown.
+/// How many bytes of a line are shown at most.
 const SHOWN: usize = 160;
 
 /// Writes a line of a script: its first 160 bytes, each tab as a space and each other byte that

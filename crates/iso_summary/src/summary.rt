@@ -21,10 +21,11 @@ use iso_tap::printer::Printer;
 use iso_tap::sink::{Sink, SinkFailed};
 
 /// Writes the summary of results: an entry for each of these nodes, in their order, and a last line
-/// with the counts of all tests and classes. An entry of a node that failed has its path, its place
-/// and message, the line of the script, how many tests it blocks, and the command that runs it
-/// again; of a skipped one its path, its place and why; of a node that passed there is none. Each
-/// node has its place at the same index. All nodes but the root must have results. Takes no memory.
+/// with the counts of all tests and classes. An entry of a node that failed, by a fault or blocked
+/// too, has its path, its place and message, the line of the script, what mends it, how many tests
+/// it blocks where it blocks any, and the command that runs it again where that can be told; of a
+/// skipped one its path, its place and why; of a node that passed there is none. Each node has its
+/// place at the same index. All nodes but the root must have results. Takes no memory.
 ///
 /// The sink is asked again where it takes only some bytes, and no more once it has failed.
 pub fn write_summary<W: Sink>(

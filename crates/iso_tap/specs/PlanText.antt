@@ -48,7 +48,7 @@ node_fields tree s n =
 abbrev pub node_line : List Row → Settings → ℕ → List ℕ
 node_line tree s n = node_fields tree s n ++ codes "\n"
 
--- the lines of so many nodes, of which the first has number n
+-- the lines of `count` nodes, of which the first has number n
 abbrev pub node_lines : List Row → Settings → (count n : ℕ) → List ℕ
 node_lines tree s zero n = []
 node_lines tree s (suc count) n = node_line tree s n ++ node_lines tree s count (suc n)
@@ -57,7 +57,7 @@ node_lines tree s (suc count) n = node_line tree s n ++ node_lines tree s count 
 abbrev pub test_line : List Row → Settings → ℕ → List ℕ
 test_line tree s n = cond (is_test (row_at tree n).kind) (node_line tree s n) []
 
--- what so many nodes have of such lines, of which the first has number n
+-- what `count` nodes have of such lines, of which the first has number n
 abbrev pub test_lines : List Row → Settings → (count n : ℕ) → List ℕ
 test_lines tree s zero n = []
 test_lines tree s (suc count) n = test_line tree s n ++ test_lines tree s count (suc n)

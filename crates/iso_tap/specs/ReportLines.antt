@@ -13,7 +13,7 @@ line_at indent text = replicate indent 32 ++ text ++ codes "\n"
 abbrev pub version_line : List ℕ
 version_line = line_at 0 (codes "TAP version 14")
 
--- the plan of a level, which has so many points (TAP 14, plan)
+-- the plan of a level, which has `count` points (TAP 14, plan)
 abbrev pub plan_line : (indent count : ℕ) → List ℕ
 plan_line indent count = line_at indent (codes "1.." ++ decimal count)
 

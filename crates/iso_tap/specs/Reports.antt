@@ -8,7 +8,7 @@ use Rattle.iso_plan.specs.Tree.{Row}
 use Rattle.iso_tap.specs.ReportBlocks.{point}
 use Rattle.iso_tap.specs.ReportLines.{is_ok_verdict, plan_line, subtest_line, version_line}
 
--- the nodes at or under a node, in order
+-- the nodes at or under a node, in order; none for the root
 abbrev pub within : List Row → ℕ → List ℕ
 within tree n = filter (is_under tree n) (range_with_len 0 (length tree))
 
@@ -34,7 +34,7 @@ abbrev pub subtest : (indent : ℕ) → Row → (text : ℕ → ℕ → List ℕ
 subtest indent row text ns = cond (is_test row.kind) [] (subtest_line indent row.title ++ level (indent + 4) text ns)
 
 -- What is reported of a node: its subtest, in which its children are reported, and then its point.
--- The definition counts how deep it may still go, and nodes stand in one another no deeper than
+-- The definition counts how deep it may still go, and nodes are nested no deeper than
 -- there are nodes; the law `reports_go_down_the_tree` says it without.
 abbrev pub reported_within : (depth : ℕ) → List Row → (ℕ → Outcome) → (indent number n : ℕ) → List ℕ
 reported_within zero tree outcome indent number n = []

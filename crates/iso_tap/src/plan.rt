@@ -15,7 +15,7 @@ use iso_model::script::Mode;
 use iso_plan::laws;
 use iso_plan::plan::Plan;
 
-/// Writes a plan for so many workers: the line `workers W`, then for each node but the root, in
+/// Writes a plan for `workers` workers: the line `workers W`, then for each node but the root, in
 /// preorder, a line `N KIND MODE [LOCKS] PATH`. KIND is `class` or `test`, MODE `same_thread` or
 /// `concurrent`. LOCKS are `r:KEY` for READ and `w:KEY` for READ_WRITE, by key number, with commas
 /// between them. PATH is the names of the team, the enclosing classes and the node, with dots
@@ -145,7 +145,7 @@ impl<'a, W: Sink> Printer<'a, W> {
     }
 
     /// Writes a node's path: the names on it from the top-level class down, with dots between them.
-    /// It calls itself once for each class that the node stands in.
+    /// It calls itself once for each enclosing class of the node.
     #[cycle(path)]
     pub fn path(&mut self, plan: &Plan, node: u32) -> Result<(), SinkFailed>
         requires above { 0 < node }

@@ -69,7 +69,7 @@ impl<'a, W: Sink> Printer<'a, W> {
         Ok(())
     }
 
-    /// Writes so many spaces.
+    /// Writes `count` spaces.
     fn spaces(&mut self, count: u64) -> Result<(), SinkFailed>
         ensures { Prints self.old self.new (replicate count 32) result }
     {

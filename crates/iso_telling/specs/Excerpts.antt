@@ -19,7 +19,7 @@ numbered_line text k = record { number = k; text = source_line text k }
 abbrev pub line_count : (text : List ℕ) → ℕ
 line_count text = length (line_starts text) - cond (length (source_line text (length (line_starts text))) == 0) 1 0
 
--- how many lines are shown before a line and after it: two each, as far as the text has so many
+-- how many lines are shown before a line and after it: two each, as far as the text has these
 abbrev pub lines_before : ℕ → ℕ
 lines_before line = min (line - 1) 2
 

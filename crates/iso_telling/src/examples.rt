@@ -98,7 +98,7 @@ pub fn nodes_have_their_files_and_lines()
     ensures root { node_place two_names till_in_cart till_sites (failed_at (Row N.Test 1)) 0 ≡ nowhere }
 {}
 
-/// A page shows a line with two before and two after it, as far as there are so many.
+/// A page shows a line with two before and two after it, as far as there are these.
 pub fn lines_stand_around_the_one_that_is_told()
     ensures middle { around six_lines 4 ≡ numbered 2 "b" ∷ numbered 3 "c" ∷ numbered 4 "d" ∷ numbered 5 "e" ∷ numbered 6 "f" ∷ [] }
     ensures first { around six_lines 1 ≡ numbered 1 "a" ∷ numbered 2 "b" ∷ numbered 3 "c" ∷ [] }

@@ -20,7 +20,7 @@ use iso_plan::plan::Plan;
 use std::alloc::{AllocError, Global};
 
 /// The lines that are shown of each node's script, the root's too, by the node's number: none of a
-/// node that didn't fail. A line beyond the numbers of 32 bits, which no script has, counts as want
+/// node that didn't fail. A line beyond the numbers of 32 bits, which no script has, counts as out
 /// of memory.
 pub(crate) fn node_lines<'a>(
     alloc: Global,

@@ -12,7 +12,7 @@ use iso_summary::located::Located;
 use std::alloc::{AllocError, Global};
 
 /// Lines of scripts with these names and bytes, each with its file. A line beyond the numbers of 32
-/// bits, which no script has, counts as want of memory.
+/// bits, which no script has, counts as out of memory.
 pub(crate) fn all_located<'a>(
     alloc: Global,
     names: &'a [&'a str],

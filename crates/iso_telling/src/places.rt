@@ -15,7 +15,7 @@ use iso_plan::plan::Plan;
 use std::alloc::{AllocError, Global};
 
 /// Where each node of a plan stands, the root too, by its number. A line beyond the numbers of 32
-/// bits, which no script has, counts as want of memory.
+/// bits, which no script has, counts as out of memory.
 pub(crate) fn node_places<'a>(
     alloc: Global,
     names: &'a [&'a str],

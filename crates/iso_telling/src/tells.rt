@@ -124,7 +124,7 @@ impl Tells<'_> {
 
     /// Tells of results what is asked for. The times are those of the nodes by their numbers, in
     /// microseconds: what isn't there wasn't measured; nor was the rest, where nothing was watched.
-    /// Each text is added to what was told before. Want of memory is also answered where a node of
+    /// Each text is added to what was told before. Out of memory is also answered where a node of
     /// the plan has no place among those of the scripts.
     pub fn tell(
         &mut self,

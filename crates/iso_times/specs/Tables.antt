@@ -50,6 +50,6 @@ node_time bodies node =
     let closing = time_in bodies node AfterAll in
     cond (is_some opening || is_some closing) (Some (micros opening + micros closing)) None
 
--- the same of each of so many nodes
+-- the same of each of `nodes` nodes
 abbrev pub times_by_node : List (Option BodyTime) → (nodes : ℕ) → List (Option ℕ)
 times_by_node bodies nodes = map (node_time bodies) (range_with_len 0 nodes)

@@ -31,7 +31,7 @@ impl<'g, C, G> Model for TimesGate<'g, C, G> {
 }
 
 impl<'g, C: Clock, G: Gate> TimesGate<'g, C, G> {
-    /// A gate for a run of a plan of so many nodes.
+    /// A gate for a run of a plan of `nodes` nodes.
     pub fn new(
         alloc: Global,
         clock: &'g C,

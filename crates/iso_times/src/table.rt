@@ -28,7 +28,7 @@ impl Model for Table {
 }
 
 impl Table {
-    /// A table for so many nodes, none of whose bodies ran. It takes all memory that is wanted.
+    /// A table for `nodes` nodes, none of whose bodies ran. It takes all memory that is wanted.
     pub(crate) fn new(alloc: Global, nodes: u32) -> Result<Table, AllocError>
         ensures { IfOk result (λ t. t ≡ nodes) }
     {
@@ -79,7 +79,7 @@ pub(crate) fn slot_of(node: u32, kind: BodyKind) -> usize
     }
 }
 
-/// So many cells of bodies that didn't run.
+/// `count` cells of bodies that didn't run.
 fn blank_cells(alloc: Global, count: usize) -> Result<Vec<Cell>, AllocError>
     ensures { IfOk result (λ v. length v.items ≡ count) }
 {

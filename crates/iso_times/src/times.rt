@@ -82,7 +82,7 @@ impl Times {
         micros(self.kept(node, BodyKind::BeforeAll)) + micros(self.kept(node, BodyKind::AfterAll))
     }
 
-    /// How many microseconds the bodies of each of so many nodes took, by the nodes' numbers; none
+    /// How many microseconds the bodies of each of `nodes` nodes took, by the nodes' numbers; none
     /// of a node none of whose bodies has a time.
     pub fn by_node(&self, alloc: Global, nodes: u32) -> Result<Vec<Option<u64>>, AllocError>
         ensures { IfOk result (λ v. v.items ≡ times_by_node self.now nodes) }

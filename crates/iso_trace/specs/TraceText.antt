@@ -28,7 +28,7 @@ thread_event w =
     ∷ codes "\"}}"
     ∷ [])
 
--- the lanes of so many workers, of which the first has number w
+-- the lanes of `count` workers, of which the first has number w
 abbrev pub thread_events : (count w : ℕ) → List ℕ
 thread_events zero w = []
 thread_events (suc count) w = thread_event w ++ thread_events count (suc w)
@@ -78,7 +78,7 @@ node_events tree bodies results critical n =
     body_event tree results n (first_kind tree n) (is_among critical n BeforeAll) (body_time bodies n BeforeAll)
     ++ body_event tree results n (codes " after_all") (is_among critical n AfterAll) (body_time bodies n AfterAll)
 
--- the bodies of so many nodes, of which the first has number n
+-- the bodies of `count` nodes, of which the first has number n
 abbrev pub body_events : List Row → List (Option BodyTime) → ResultsView → List Body → (count n : ℕ) → List ℕ
 body_events tree bodies results critical zero n = []
 body_events tree bodies results critical (suc count) n =
@@ -124,8 +124,8 @@ section_text tree bodies results critical (Threads workers) = thread_events work
 section_text tree bodies results critical Bodies = body_events tree bodies results critical (length tree - 1) 1
 section_text tree bodies results critical (Waits waits) = wait_events tree 0 waits.now
 
--- the trace: the lanes of so many workers, the bodies in the order of the nodes, of which some are
--- critical, and the waits
+-- the trace: the lanes of `workers` workers, the bodies in the order of the nodes, of which
+-- some are critical, and the waits
 abbrev pub trace_text : List Row → List (Option BodyTime) → ResultsView → (workers : ℕ) → List NodeWait → (critical : List Body) → List ℕ
 trace_text tree bodies results workers waits critical =
     joined

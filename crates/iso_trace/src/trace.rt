@@ -56,7 +56,7 @@ pub fn write_trace<W: Sink>(
 #[derive(Clone, Copy)]
 enum Section<'a> {
     Plain(&'a str),
-    /// The lanes of so many workers.
+    /// The lanes of this number of workers.
     Threads(u32),
     Bodies,
     Waits(&'a [NodeWait]),
@@ -119,7 +119,7 @@ fn write_section<W: Sink>(
     }
 }
 
-/// Writes the lanes of so many workers.
+/// Writes the lanes of `workers` workers.
 fn threads<W: Sink>(printer: &mut Printer<'_, W>, workers: u32) -> Result<(), SinkFailed>
     ensures { Prints printer.old printer.new (thread_events workers 0) result }
 {

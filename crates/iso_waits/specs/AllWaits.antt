@@ -75,7 +75,7 @@ key_waits tree n ws = filter_map (λ l. wait_for tree n ws l.key) (locks tree n)
 abbrev pub node_waits : List Row → Settings → List (Option BodyTime) → ℕ → List NodeWait
 node_waits tree settings bodies n = key_waits tree n (waits tree settings bodies n)
 
--- the waits of so many nodes after the root
+-- the waits of the first nodes after the root, this number of them
 abbrev pub waits_of_first : List Row → Settings → List (Option BodyTime) → ℕ → List NodeWait
 waits_of_first tree settings bodies zero = []
 waits_of_first tree settings bodies (suc n) = waits_of_first tree settings bodies n ++ node_waits tree settings bodies (suc n)

@@ -12,7 +12,7 @@ pub record Covers (k : ℕ) (sum : NodeWait) (w : Wait) : Type 0 where
   pub end : w.end ≤ sum.end
   pub longest : took w ≤ sum.longest
 
--- single waits take so long together, and are so many, as long as a number of 64 bits can tell it
+-- single waits take `sum.time` together, and are `sum.count`, as long as 64 bits can tell it
 pub record AddUpTo (ws : List Wait) (sum : NodeWait) : Type 0 where
   pub time : sum_by took ws < 2 ^ 64 → sum.time ≡ sum_by took ws
   pub count : length ws < 2 ^ 64 → sum.count ≡ length ws

@@ -64,8 +64,8 @@ abbrev pub goes_on : ℕ → ℕ → Option ℕ → Waited → Waited
 goes_on from until None w = closed w
 goes_on from until (Some m) w = held from until m w.over w.last
 
--- what was waited for in so many nanoseconds from a moment on, where a function says who is in the
--- way at each
+-- what was waited for in this number of nanoseconds from a moment on, where a function says who is
+-- in the way at each
 abbrev pub waited : (ℕ → Option ℕ) → ℕ → ℕ → Waited
 waited holder from zero = nothing_told
 waited holder from (suc n) = goes_on (from + n) (from + n + 1) (holder (from + n)) (waited holder from n)

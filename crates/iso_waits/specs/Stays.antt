@@ -14,8 +14,9 @@ use Rattle.iso_waits.specs.declared.stay.Stay.{Stay}
 abbrev pub body_time : List (Option BodyTime) → ℕ → BodyKind → Option BodyTime
 body_time bodies n kind = option_map (since (first_begin bodies)) (time_in bodies n kind)
 
--- a node from the begin of its first body until the end of its last one, of which a test has none
--- but the first
+-- a node from the begin of its first body until the end of its last one, or of its first where that
+-- of its last isn't known; a test has none but the first; nothing where that of the first isn't
+-- known
 abbrev pub stay_of : ℕ → Option BodyTime → Option BodyTime → Option Stay
 stay_of n None last = None
 stay_of n (Some first) last = Some (record { node = n; begin = first.begin; end = (unwrap_or last first).end })

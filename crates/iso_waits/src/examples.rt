@@ -19,7 +19,7 @@ pub fn when_nodes_are_ready()
 {}
 
 /// The test a waits for b, which has the key, from when their class is open; not before b begins,
-/// and not once b has ended. Nobody waits for a class that they stand in, and b for nobody.
+/// and not once b has ended. Nobody waits for an enclosing class, and b for nobody.
 pub fn one_test_waits_for_another()
     ensures waits { waits writing_children concurrent_by_default b_before_a 2 ≡ wait 3 3 6 ∷ [] }
     ensures first { waits writing_children concurrent_by_default b_before_a 3 ≡ [] }

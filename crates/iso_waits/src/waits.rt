@@ -93,7 +93,9 @@ impl<'a> Waits<'a> {
         self.keys.key(self.plan, node, other)
     }
 
-    /// When a node was entered and hadn't finished.
+    /// When a node was entered and hadn't finished. None where its first body has no time: it
+    /// didn't run, or a clock failed. A class whose `after_all` has none, since a clock failed,
+    /// counts as finished when its `before_all` had ended.
     pub fn stay(&self, node: u32) -> Option<Stay>
         ensures { result ≡ stayed self.now.bodies node }
     {

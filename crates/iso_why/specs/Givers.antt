@@ -21,6 +21,6 @@ is_as Write (Some Write) = true
 abbrev pub gives : List Row → Lock → ℕ → Bool
 gives tree l m = cond (l.key == 0) (isolates tree m) (is_as l.access (declared tree m (slice_index_or (keys tree) l.key [])))
 
--- the nodes that gave a node a lock, as they are written: it and what stands in it
+-- the nodes that gave a node a lock, as they are written: it and its descendants
 abbrev pub givers : List Row → ℕ → Lock → List ℕ
 givers tree n l = filter (gives tree l) (nodes_under tree n)

@@ -15,8 +15,8 @@ use Rattle.iso_why.specs.declared.why.Cause.TheVariants.{Off, Forced, Marked, De
 abbrev pub writes_key : List Row → (node key : ℕ) → Bool
 writes_key tree m key = list_any (λ (l : Lock). l.key == key && is_write l) (locks tree m)
 
--- node n stands in node m, which takes this key for READ_WRITE: that alone puts it on its class's
--- thread
+-- node n is a descendant of node m, which takes this key for READ_WRITE: that alone puts it on its
+-- class's thread
 pub record IsForcing (tree : List Row) (s : Settings) (n m key : ℕ) : Type 0 where
   pub parallel : s.parallel ≡ true
   pub above : is_under tree m (parent tree n) ≡ true
@@ -29,13 +29,13 @@ pub record IsFree (tree : List Row) (s : Settings) (n : ℕ) : Type 0 where
   pub unforced : is_forced tree n ≡ false
   pub mode_is : mode tree s n ≡ chosen_mode tree s n
 
--- the node m that is marked with the node's mode is it or a class that it stands in
+-- the node m that is marked with the node's mode is it or one of its enclosing classes
 pub record IsMarking (tree : List Row) (s : Settings) (n m : ℕ) : Type 0 where
   pub free : IsFree tree s n
   pub above : is_under tree m n ≡ true
   pub mark : (row_at tree m).mode ≡ Some (mode tree s n)
 
--- neither the node nor a class that it stands in is marked with a mode
+-- neither the node nor any of its enclosing classes is marked with a mode
 pub record IsDefault (tree : List Row) (s : Settings) (n : ℕ) (top : Bool) : Type 0 where
   pub free : IsFree tree s n
   pub unmarked : nearest_mode tree (path tree n) ≡ None

@@ -35,7 +35,7 @@ abbrev pub forced_or : Option Cause → Cause → Cause
 forced_or None why = why
 forced_or (Some forced) why = forced
 
--- why a node has its mode: parallel execution is off; else a class that it stands in takes a key
+-- why a node has its mode: parallel execution is off; else an enclosing class takes a key
 -- for READ_WRITE; else it is marked, or the nearest such class that is; else by the default
 abbrev pub reason : List Row → Settings → ℕ → Cause
 reason tree s n =

@@ -42,7 +42,7 @@ pub fn tests_have_their_reasons()
         ∷ []) }
 {}
 
-/// A class that writes forces what stands in it, whatever is marked there, and not itself; then a
+/// A class that writes forces its descendants, whatever is marked there, and not itself; then a
 /// mark counts, the nearest; then the default.
 pub fn force_comes_before_marks()
     ensures off { reason cart_and_desk one_thread 2 ≡ Off }

@@ -28,7 +28,7 @@ pub(crate) fn next_giver(plan: &Plan, node: u32, lock: Lock, from: u32, end: u32
     None
 }
 
-/// Whether a node stands in another and gives it a lock.
+/// Whether a node is another or a descendant of it, and gives it a lock.
 fn is_giver(plan: &Plan, node: u32, lock: Lock, giver: u32) -> bool
     requires above { 0 < node }
     requires within { giver < length plan.now.rows }

@@ -194,7 +194,8 @@ fn givers<W: Sink>(
     Ok(())
 }
 
-/// A number past those of all nodes that stand in a node, and no greater than there are nodes.
+/// A number past a node's own and those of all its descendants, unless it is the root, and no
+/// greater than there are nodes.
 fn end_of(plan: &Plan, reach: &[u32], node: u32) -> u32
     requires reach { IsReach (tree_of plan.now) reach.now }
     requires within { node < length plan.now.rows }

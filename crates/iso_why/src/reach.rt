@@ -1,4 +1,4 @@
-//! Where a node stands, and how far what stands in it goes.
+//! Where a node stands, and how far its descendants go.
 ghost use Rattle.std.specs.Prelude.{◌≡◌, ◌<◌, ◌≤◌, ◌+◌, ◌^◌, ℕ, true, IfOk, length, slice_index_or};
 ghost use Rattle.iso_plan.specs.Paths.{is_under, parent};
 ghost use Rattle.iso_plan.specs.RowView.{tree_of};
@@ -8,8 +8,8 @@ use iso_plan::laws;
 use iso_plan::plan::Plan;
 use std::alloc::{AllocError, Global};
 
-/// For each node a number past those of all nodes that stand in it. Takes memory for one number a
-/// node, which may be refused.
+/// For each node but the root a number past its own and those of all its descendants. Takes memory
+/// for one number a node, which may be refused.
 pub fn reach(alloc: Global, plan: &Plan) -> Result<Vec<u32>, AllocError>
     ensures { IfOk result (λ v. IsReach (tree_of plan.now) v.items) }
 {
@@ -41,7 +41,7 @@ fn reach_to(ends: &mut Vec<u32>, plan: &Plan, last: u32)
     }
 }
 
-/// Whether a node is another, or stands in it.
+/// Whether a node is another, or a descendant of it.
 pub(crate) fn stands_in(plan: &Plan, node: u32, other: u32) -> bool
     requires above { 0 < other }
     requires within { node < length plan.now.rows }
@@ -56,7 +56,7 @@ pub(crate) fn stands_in(plan: &Plan, node: u32, other: u32) -> bool
     node == other
 }
 
-/// The class that a node stands in, or the root.
+/// A node's parent, a class or the root.
 pub(crate) fn class_of(plan: &Plan, node: u32) -> u32
     requires above { 0 < node }
     requires within { node < length plan.now.rows }

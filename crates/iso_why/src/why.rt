@@ -15,9 +15,9 @@ use iso_plan::plan::Plan;
 pub enum Cause {
     /// Parallel execution is off.
     Off,
-    /// A class that it stands in takes a key for READ_WRITE.
+    /// An enclosing class takes a key for READ_WRITE.
     Forced { class: u32, key: u32 },
-    /// It is marked with the mode, or else the nearest class that it stands in and that is marked
+    /// It is marked with the mode, or else the nearest enclosing class that is marked
     /// with one.
     Marked { node: u32 },
     /// Neither is, and it is a top-level class, or is none.
@@ -42,7 +42,7 @@ pub fn why(plan: &Plan, node: u32) -> Cause
     }
 }
 
-/// The nearest of a class and those that it stands in that takes a key for READ_WRITE, with the
+/// The nearest of a class and its enclosing classes that takes a key for READ_WRITE, with the
 /// first such key.
 fn forced_by(plan: &Plan, class: u32) -> Option<Cause>
     requires { class < length plan.now.rows }
@@ -85,7 +85,7 @@ fn chosen_by(plan: &Plan, node: u32, top: bool) -> Cause
     }
 }
 
-/// The nearest of a node and the classes that it stands in that is marked with a mode.
+/// The nearest of a node and its enclosing classes that is marked with a mode.
 fn marked_by(plan: &Plan, node: u32) -> Option<u32>
     requires { node < length plan.now.rows }
     ensures marked { result ≡ marked_by (tree_of plan.now) (path (tree_of plan.now) node) }

@@ -22,7 +22,7 @@ use std::alloc::AllocError;
 impl<'a> Book<'a> {
     /// Enters a node with any tray. It asks by value whether the tray is of this plan and these
     /// starting values, which takes time by what these say, and is then as `enter_own`: a tray of
-    /// others is a stranger's.
+    /// others is refused as a stranger's where no other kind applies.
     pub fn enter(&mut self, worker: u32, node: u32, tray: &mut Tray<'_>) -> Result<(), CoreFault>
         ensures event { MatchResult result (λ _. IsTaken (Event.Enter worker node) (MayEnterWith self.old node tray.old) self.old self.new)
             (λ fault. IsNotTaken fault (Event.Enter worker node) (MayEnterWith self.old node tray.old) self.old self.new tray.old tray.new) }

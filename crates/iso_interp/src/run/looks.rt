@@ -9,7 +9,7 @@ use iso_model::names::FEW_NAMES;
 use iso_model::tree::{Expr, Form, Stmt};
 use std::alloc::AllocError;
 
-/// So many look-ups of a block may go over many names.
+/// How many look-ups of a block may go over many names.
 pub(super) const LOOKS: u32 = 50;
 
 impl<'a> BlockRun<'a> {
@@ -31,7 +31,7 @@ impl<'a> BlockRun<'a> {
     }
 }
 
-/// What a statement leaves of so many look-ups. A literal counts as a name, so no more of an
+/// What a statement leaves of `looks` look-ups. A literal counts as a name, so no more of an
 /// expression is gone over than there are look-ups.
 fn left_after_form(form: &Form, looks: u32) -> u32 {
     match form {
@@ -52,7 +52,7 @@ fn left_after_form(form: &Form, looks: u32) -> u32 {
     }
 }
 
-/// What an expression leaves of so many look-ups.
+/// What an expression leaves of `looks` look-ups.
 #[cycle(looks)]
 fn left_after(expression: &Expr, looks: u32) -> u32 {
     if looks == 0 {
@@ -66,7 +66,7 @@ fn left_after(expression: &Expr, looks: u32) -> u32 {
     }
 }
 
-/// What expressions leave of so many look-ups.
+/// What expressions leave of `looks` look-ups.
 #[cycle(looks)]
 fn left_after_all(expressions: &[Expr], looks: u32) -> u32 {
     let mut left = looks;

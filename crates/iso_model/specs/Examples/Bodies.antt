@@ -1,4 +1,4 @@
--- Bodies of the example scripts after so many single steps, in a world that says nothing.
+-- Bodies of the example scripts after some single steps, in a world that says nothing.
 use Rattle.std.specs.Prelude.{ℕ, List, [], ◌∷◌, map}
 use Rattle.iso_model.specs.Bodies.{Account, Going, Stage, during, ended, account_after, body_steps, closing_stage, going, opening_stage, test_stage}
 use Rattle.iso_model.specs.Chains.{ClassHead, TestHead, class_rights, test_rights}

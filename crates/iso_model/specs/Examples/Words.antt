@@ -38,7 +38,7 @@ use Rattle.iso_model.specs.declared.tree.Operator.TheVariants.{Add, Subtract, Mu
 use Rattle.iso_model.specs.declared.tree.Comparison.TheVariants.{Equal, NotEqual, Less}
 use Rattle.iso_model.specs.declared.tree.Function.TheVariants as F
 
--- literals: `"t"`, a text of so many bytes, `n`, `-n`, and `true` or `false`
+-- literals: `"t"`, a text of `length` bytes, `n`, `-n`, and `true` or `false`
 abbrev pub quoted : String → Term
 quoted t = literal (Text (codes t))
 
@@ -202,7 +202,7 @@ abbrev pub values_of : List Term → List Given
 values_of = map (evaluated [] empty_world (rights_of []))
 
 -- a body as the block of a test, by itself: with the rights of these marks, where no name is
--- visible and so many bytes were printed before it
+-- visible and `printed` bytes were printed before it
 abbrev pub block_with : List Mark → ℕ → Acts → State
 block_with marks printed acts = block (rights_of marks) acts (environment [] printed Test) empty_world
 
@@ -239,7 +239,7 @@ endings_without_steps = map (λ a. (ran (rights_of []) 1 a without_steps).here.e
 abbrev pub ending_on_row_3 : Act → Ending
 ending_on_row_3 a = (block_with [] 0 (on_row 1 (S.repeat (number 1) (on_row 2 (choice (flag true) (on_row 3 (a ∷ [])) no_acts ∷ [])) ∷ []))).here.ending
 
--- a block after so many single steps
+-- a block after `n` single steps
 abbrev pub by_single_steps : ℕ → List Act → Machine
 by_single_steps n acts = steps (rights_of []) n (machine_at (first_point (body acts) (environment [] 0 Test)) empty_world)
 

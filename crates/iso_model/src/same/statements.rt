@@ -56,7 +56,8 @@ fn same_stmts(a: &[Stmt], b: &[Stmt]) -> bool
     true
 }
 
-/// Whether two blocks say the same. Takes no memory, and recurses down their nesting alone.
+/// Whether two blocks say the same, on the same rows. Takes no memory, and recurses down their
+/// nesting alone.
 pub fn same_block(a: &[Stmt], b: &[Stmt]) -> bool
     ensures { IsTrue result ↔ (block_of a.now ≡ block_of b.now) }
 {

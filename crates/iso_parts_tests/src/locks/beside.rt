@@ -63,8 +63,8 @@ fn lend_after_two(rt: &impl Abort, vault: &mut Vault<'_>, cart: &mut Tray<'_>, d
     lend(rt, vault, desk, 4);
 }
 
-/// The same with a vault and trays of a suite. It is lent, and want of memory ends the test here:
-/// what is dropped on each way out makes a proof dear.
+/// The same with a vault and trays of a suite. It is lent, and running out of memory ends the test
+/// here: what is dropped on each way out makes a proof expensive.
 fn check_isolated(rt: &impl Abort, alloc: Global, suite: &Suite) {
     let mut vault = Vault::new(alloc, &suite.plan, &suite.world).expect(rt, "memory");
     let mut cart = Tray::new(alloc, &suite.plan, &suite.world).expect(rt, "memory");

@@ -23,7 +23,7 @@ fn holds_nothing(rt: &impl Abort, alloc: Global, tray: &mut Tray<'_>) -> Result<
     Ok(())
 }
 
-/// A new tray of a suite, which is lent: what is dropped on each way out makes a proof dear.
+/// A new tray of a suite, which is lent: what is dropped on each way out makes a proof expensive.
 fn check_new(rt: &impl Abort, alloc: Global, suite: &Suite) -> Result<(), AllocError> {
     let mut tray = Tray::new(alloc, &suite.plan, &suite.world)?;
     holds_nothing(rt, alloc, &mut tray)

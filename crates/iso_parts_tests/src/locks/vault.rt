@@ -105,8 +105,8 @@ fn away(vault: &Vault<'_>, plan: &Plan) -> u32
     away
 }
 
-/// Lends a node to a tray where none is in the way, and takes it back: what came of that, where so
-/// many values were away before.
+/// Lends a node to a tray where none is in the way, and takes it back: what came of that, where
+/// `alone` values were away before.
 fn lend_second(
     rt: &impl Abort,
     plan: &Plan,

@@ -13,7 +13,7 @@ fn planned(alloc: Global, scripts: &[Script]) -> Result<u32, PlanError> {
     Ok(build(alloc, scripts, &concurrent())?.len())
 }
 
-/// The plan of these scripts has so many nodes.
+/// The plan of these scripts has `nodes` nodes.
 fn check_planned(rt: &impl Abort, alloc: Global, scripts: &[Script], nodes: u32) {
     assert_eq!(rt; planned(alloc, scripts), Ok(nodes));
 }
@@ -23,7 +23,7 @@ fn check_refused(rt: &impl Abort, alloc: Global, scripts: &[Script], fault: Plan
     assert_eq!(rt; planned(alloc, scripts), Err(PlanError::Fault(fault)));
 }
 
-/// A script of one class with so many tests. Each test has one of so many keys for itself, where
+/// A script of one class with `tests` tests. Each test has one of `keys` keys for itself, where
 /// there are some.
 fn large(alloc: Global, tests: u32, keys: u32) -> Result<String, AllocError> {
     let mut text = String::from_str(alloc, "team shop\nclass Large {\n")?;
@@ -44,7 +44,7 @@ fn one_large(alloc: Global, tests: u32, keys: u32) -> Result<Vec<Script>, Script
     read(alloc, &[text.as_str()])
 }
 
-/// So many scripts of one team, each with a class of its own.
+/// `count` scripts of one team, each with a class of its own.
 fn many(alloc: Global, count: u32) -> Result<Vec<Script>, ScriptError> {
     let mut scripts = Vec::new(alloc);
     for number in 0..count {

@@ -148,7 +148,7 @@ fn kept_nodes_are_found_by_their_paths(rt: HostRuntime) -> Result<(), Fail> {
 /// The tests of one script.
 const TESTS: u32 = 250;
 
-/// A script of one class with so many tests.
+/// A script of one class with `TESTS` tests.
 fn wide(alloc: Global, number: u32) -> Result<String, AllocError> {
     let mut text = format!(in alloc; "team shop\nclass C{number} {{\n")?;
     for test in 0..TESTS {

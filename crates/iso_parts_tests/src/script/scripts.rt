@@ -15,12 +15,12 @@ fn class<'a>(script: &'a Script, index: usize, name: &str) -> Option<&'a Class> 
         .filter(|class| class.name.as_str() == name)
 }
 
-/// Whether a test has this name and so many statements.
+/// Whether a test has this name and `statements` statements.
 fn is_named(test: &Test, name: &str, statements: usize) -> bool {
     test.name.as_str() == name && test.head.contents.body.len() == statements
 }
 
-/// A test by its place and its name, with so many statements.
+/// A test by its place and its name, with `statements` statements.
 fn test<'a>(class: &'a Class, index: usize, name: &str, statements: usize) -> Option<&'a Test> {
     match class.members.get(index)? {
         Member::Test(test) if is_named(test, name, statements) => Some(test),
@@ -147,8 +147,8 @@ fn prefixes_up_to_the_team_are_scripts_without_classes(rt: HostRuntime) -> Resul
     Ok(())
 }
 
-/// Where a growth is refused, as by `rt try --test --fail-alloc N`, there is no answer but want of
-/// memory.
+/// Where a growth is refused, as by `rt try --test --fail-alloc N`, there is no answer but that
+/// memory ran out.
 #[test]
 fn memory_makes_no_fault(rt: HostRuntime) {
     match read_script(rt.alloc(), SHOP.as_bytes()) {

@@ -210,7 +210,7 @@ fn tokens_have_their_places(rt: HostRuntime) -> Result<(), AllocError> {
     Ok(())
 }
 
-/// The first fault of a text of so many bytes and what follows them.
+/// The first fault of a text of `length` bytes and what follows them.
 fn fault_of_long(
     alloc: Global,
     length: usize,

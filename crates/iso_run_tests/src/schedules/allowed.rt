@@ -34,7 +34,7 @@ fn allowed_events(alloc: Global, core: &mut Core<'_>) -> Result<Vec<Event>, Allo
     Ok(events)
 }
 
-/// Those of a new core on so many workers.
+/// Those of a new core on `workers` workers.
 fn allowed_events_of<R: Abort>(
     rt: &R,
     alloc: Global,
@@ -54,7 +54,7 @@ static WHOLE: Row = Row {
     nodes: OF_TWO_FILES,
 };
 
-/// On two workers all nodes come to what they come to alone, in so many events; then none is
+/// On two workers all nodes come to what they come to alone, in this number of events; then none is
 /// allowed.
 #[derive(Clone, Copy)]
 struct EndsIn(usize);
@@ -103,7 +103,7 @@ fn plan_without_classes_allows_no_event(rt: HostRuntime) {
     check_script(&rt, rt.alloc(), "team shop\n", SERIAL, &Allows(""));
 }
 
-/// The events that are allowed on so many workers give this report.
+/// The events that are allowed on `workers` workers give this report.
 #[derive(Clone, Copy)]
 struct Give<'a> {
     workers: u32,
@@ -118,7 +118,7 @@ impl Check for Give<'_> {
     }
 }
 
-/// Asserts that what is allowed on so many workers leads to the serial run's report of a script.
+/// Asserts that what is allowed on `workers` workers leads to the serial run's report of a script.
 fn expect_serial_report<R: Abort + Clock>(rt: &R, alloc: Global, script: &str, workers: u32) {
     let scripts = [script.as_bytes()];
     let surroundings = Surroundings {

@@ -51,7 +51,7 @@ struct Draft {
 }
 
 impl Draft {
-    /// Whether what happens once in so many times happens.
+    /// Whether what happens once in `times` times happens.
     fn once_in(&mut self, times: u64) -> bool {
         times > 0 && (self.numbers.next() >> 32) % times == 0
     }

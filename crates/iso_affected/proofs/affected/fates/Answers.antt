@@ -9,4 +9,4 @@ pub nodes-init : goal.nodes-init
 nodes-init c =
     let s = suites c.args.old.now c.args.before.now c.args.new.now c.args.after.now in
     let all : c.push.new.self.items ≡ Same 0 ∷ [] = c.in_ok-push.ensures.items ∙ ap (λ (fs : List Fate). fs ++ Same 0 ∷ []) c.in_ok-fates.ensures.items in
-    (ap length all, λ n h. first-fate s c.push.new.self.items all (root-fate s c.nodes_are_a_tree.ensures c.nodes_are_a_tree-2.ensures) n h)
+    (ap length all, λ n h. first-fate s c.push.new.self.items all (root-fate s c.nodes_are_a_tree.ensures c.nodes_are_a_tree-2.ensures) n h, c.new-starts.ensures)

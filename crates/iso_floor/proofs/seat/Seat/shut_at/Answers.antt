@@ -11,7 +11,7 @@ returns-clause-taken g c =
     let n : ℕ = c.args.node in
     let run = subst HasRun (sym c.desk.view_is) c.keep_run.ensures.run in
     rw (← c.self.view_is) (taken g.G.Ground.plan g.G.Ground.start g.G.Ground.workers c.desk.inside.book c.desk.invariant.book run
-    (Shut i.worker n) (λ x. GoesOnWith x n i.tray) c.shut_own.new.self i.tray c.shut_own.new.tray c.shut_own.result c.shut_own.ensures.event)
+    (Shut i.worker n) (λ x. GoesOnWith x n i.tray) c.shut_own-shut.new.self i.tray c.shut_own-shut.new.tray c.shut_own-shut.result c.shut_own-shut.ensures.event)
 
 pub returns-clause-refused : goal.returns-clause-refused
 returns-clause-refused g c =
@@ -19,4 +19,4 @@ returns-clause-refused g c =
     let n : ℕ = c.args.node in
     let run = subst HasRun (sym c.desk.view_is) c.keep_run.ensures.run in
     rw (← c.self.view_is) (refused g.G.Ground.plan g.G.Ground.start g.G.Ground.workers c.desk.inside.book c.desk.invariant.book run
-    (Shut i.worker n) (λ x. GoesOnWith x n i.tray) c.shut_own.new.self i.tray c.shut_own.new.tray c.shut_own.result c.shut_own.ensures.event)
+    (Shut i.worker n) (λ x. GoesOnWith x n i.tray) c.shut_own-shut.new.self i.tray c.shut_own-shut.new.tray c.shut_own-shut.result c.shut_own-shut.ensures.event)

@@ -1,0 +1,17 @@
+use Rattle.std.proofs.Common.{◌≡◌, List, ap, length, refl, subst, sym, ◌∙◌}
+use Rattle.std.proofs.lemmas.List.{length-replicate}
+use Rattle.iso_desk.specs.Crews.{fresh}
+use Rattle.iso_desk.specs.Places.{TableView}
+use Rattle.iso_desk.specs.declared.crew.Member.{Member}
+use Rattle.iso_floor.specs.Schedulers.{loose_in}
+use Rattle.iso_floor.proofs.LooseLemmas.{none-loose}
+use Rattle.iso_floor.proofs.scheduler.Scheduler.closed.Goals as goal
+
+pub invariant_of-result : goal.invariant_of-result
+invariant_of-result c =
+    record {
+      crew =
+          ap (λ (ms : List Member). length ms) c.in_ok-new-2.ensures ∙ length-replicate c.args.workers fresh
+          ∙ sym (ap (λ (t : TableView). t.workers) c.in_ok-new.ensures);
+      loose_are = sym (ap (λ (t : TableView). loose_in t.places) c.in_ok-new.ensures ∙ none-loose c.len.result);
+    }

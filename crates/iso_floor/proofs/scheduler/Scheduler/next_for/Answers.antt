@@ -1,0 +1,20 @@
+use Rattle.std.proofs.Common.{◌≡◌, ap, refl, subst, sym, ◌∙◌}
+use Rattle.iso_desk.specs.Places.{IsFirst, TableView}
+use Rattle.iso_desk.specs.declared.place.Place.TheVariants.{Closed}
+use Rattle.iso_floor.specs.Schedulers.{loose_in}
+use Rattle.iso_floor.proofs.LooseLemmas.{left-line}
+use Rattle.iso_floor.proofs.SchedulerLemmas.{stands-within}
+use Rattle.iso_floor.proofs.scheduler.Scheduler.next_for.Goals as goal
+
+pub invariant_of-self : goal.invariant_of-self
+invariant_of-self c =
+    let places = c.self.inside.table.places in
+    let n = c.in_ok-node.node in
+    let l = c.in_ok-line.line in
+    let first : IsFirst places l n = c.in_ok-node.ensures in
+    record {
+      crew = c.self.invariant.crew ∙ sym (ap (λ (t : TableView). t.workers) c.leave.ensures);
+      loose_are =
+          left-line places n Closed l c.self.inside.loose (stands-within places l n first.0) first.0 refl c.self.invariant.loose_are
+          ∙ sym (ap (λ (t : TableView). loose_in t.places) c.leave.ensures);
+    }

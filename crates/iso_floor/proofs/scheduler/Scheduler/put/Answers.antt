@@ -1,0 +1,38 @@
+use Rattle.std.proofs.Common.{◌≡◌, ◌<◌, ◌^◌, ap, length, refl, subst, sym, ◌∙◌}
+use Rattle.iso_desk.specs.Places.{TableView}
+use Rattle.iso_desk.specs.declared.place.Place.{Place}
+use Rattle.iso_floor.specs.Schedulers.{IsFree, SchedulerView, is_loose, loose_in}
+use Rattle.iso_floor.proofs.LooseLemmas.{has-room, recount, was-counted}
+use Rattle.iso_floor.proofs.SchedulerLemmas.{put-kept}
+use Rattle.iso_floor.proofs.scheduler.Scheduler.put.Goals as goal
+
+pub recounted-self-inside-requires-clause-was : goal.recounted-self-inside-requires-clause-was
+recounted-self-inside-requires-clause-was c =
+    let places = c.self.inside.table.places in
+    let f : IsFree places c.args.node = subst (λ (s : SchedulerView). IsFree s.table.places c.args.node) (sym c.self.view_is) (c.is_free.ensures.free.0 c.if-is_free.true) in
+    was-counted places c.args.node c.self.inside.loose c.is_loose-was.result f.within c.self.invariant.loose_are (c.is_loose-was.ensures ∙ ap is_loose c.place.ensures)
+
+pub recounted-self-inside-requires-clause-room : goal.recounted-self-inside-requires-clause-room
+recounted-self-inside-requires-clause-room c =
+    let places = c.self.inside.table.places in
+    let f : IsFree places c.args.node = subst (λ (s : SchedulerView). IsFree s.table.places c.args.node) (sym c.self.view_is) (c.is_free.ensures.free.0 c.if-is_free.true) in
+    let few : length places < 2 ^ 64 = subst (λ (s : SchedulerView). length s.table.places < 2 ^ 64) (sym c.self.view_is) c.is_free.ensures.few in
+    has-room places c.args.node c.self.inside.loose c.args.place c.is_loose-was.result c.is_loose.result f.within few c.self.invariant.loose_are
+    (c.is_loose-was.ensures ∙ ap is_loose c.place.ensures) c.is_loose.ensures
+
+pub invariant_of-self : goal.invariant_of-self
+invariant_of-self c =
+    let places = c.self.inside.table.places in
+    let f : IsFree places c.args.node = subst (λ (s : SchedulerView). IsFree s.table.places c.args.node) (sym c.self.view_is) (c.is_free.ensures.free.0 c.if-is_free.true) in
+    record {
+      crew = c.self.invariant.crew ∙ sym (ap (λ (t : TableView). t.workers) c.put.ensures);
+      loose_are =
+          recount places c.args.node c.args.place c.self.inside.loose c.recounted-self-inside.result c.is_loose-was.result c.is_loose.result f.within c.self.invariant.loose_are
+          (c.is_loose-was.ensures ∙ ap is_loose c.place.ensures) c.is_loose.ensures c.recounted-self-inside.ensures
+          ∙ sym (ap (λ (t : TableView). loose_in t.places) c.put.ensures);
+    }
+
+pub returns-else-is_free-clause-step : goal.returns-else-is_free-clause-step
+returns-else-is_free-clause-step c =
+    ap (λ (t : TableView). record c.args.self.now { table = t })
+    (sym (put-kept c.args.self.now.table c.args.node c.args.place (λ f. let t = c.is_free.ensures.free.1 f in cc)))

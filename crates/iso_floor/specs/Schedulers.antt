@@ -1,0 +1,70 @@
+-- What contracts see of a scheduler, and what its steps do to the table.
+use Rattle.std.specs.Prelude.{◌≡◌, ◌<◌, ◌≤◌, ◌==◌, ℕ, List, Option, None, Some, Bool, true, false, cond, is_some, length, not}
+use Rattle.iso_desk.specs.Crews.{HasNothing}
+use Rattle.iso_desk.specs.Places.{TableView, line_in, moved, place_of}
+use Rattle.iso_desk.specs.declared.crew.Member.{Member}
+use Rattle.iso_desk.specs.declared.line.Line.{Line}
+use Rattle.iso_desk.specs.declared.line.Line.TheVariants.{Key}
+use Rattle.iso_desk.specs.declared.line.Party.{Party}
+use Rattle.iso_desk.specs.declared.line.Party.TheVariants.{Everyone, Worker}
+use Rattle.iso_desk.specs.declared.place.Place.{Place}
+use Rattle.iso_desk.specs.declared.place.Place.TheVariants.{Closed, Loose, InLine, With, Open, Over}
+use Rattle.iso_floor.specs.KeyMarks.{KeysView}
+use Rattle.iso_model.specs.declared.script.Mode.{Mode}
+use Rattle.iso_model.specs.declared.script.Mode.TheVariants.{Concurrent, SameThread}
+use Rattle.iso_plan.specs.HeldNodes.{count}
+use Rattle.iso_plan.specs.Locks.{is_write}
+use Rattle.iso_plan.specs.declared.lock.Lock.{Lock}
+
+-- the table, what is kept of each worker, which keys held nodes take, and how often nodes were
+-- posted
+pub record SchedulerView : Type 0 where
+  pub table : TableView
+  pub members : List Member
+  pub keys : KeysView
+  pub rounds : ℕ
+
+-- a scheduler is of `nodes` nodes and `workers` workers
+pub record IsFor (nodes workers : ℕ) (s : SchedulerView) : Type 0 where
+  pub nodes_are : length s.table.places ≡ nodes
+  pub workers_are : s.table.workers ≡ workers
+
+-- whether a place is a loose node's
+abbrev pub is_loose : Place → Bool
+is_loose Loose = true
+is_loose Closed = false
+is_loose (InLine s) = false
+is_loose (With w) = false
+is_loose Open = false
+is_loose Over = false
+
+-- how many nodes are loose
+abbrev pub loose_in : List Place → ℕ
+loose_in places = count (λ n. is_loose (place_of places n)) (length places)
+
+-- a node that stands in no line gets a place in none, and one that stands in a line keeps it
+abbrev pub put : ℕ → Place → TableView → TableView
+put n p t = cond (is_some (line_in (place_of t.places n))) t (moved n p t)
+
+-- the node that is taken next leaves its line, if there is one
+abbrev pub next_taken : Option ℕ → TableView → TableView
+next_taken None t = t
+next_taken (Some n) t = moved n Closed t
+
+-- for whom a node is that waits: a CONCURRENT one for everyone, another one for its class's owner
+abbrev pub party_for : Mode → ℕ → Party
+party_for Concurrent w = Everyone
+party_for SameThread w = Worker w
+
+-- the line in which a node of a mode waits for the key of a lock
+abbrev pub waiting_line : Mode → ℕ → Lock → Line
+waiting_line m w l = Key (record { party = party_for m w; key = l.key; writes = is_write l })
+
+-- a node of the table stands in no line, so that it can be put in one
+pub record IsFree (places : List Place) (n : ℕ) : Type 0 where
+  pub within : n < length places
+  pub free : line_in (place_of places n) ≡ None
+
+-- a worker that has seen this has nothing to wake for, where the run is over or isn't
+abbrev pub HasNothingIn : SchedulerView → Bool → ℕ → Option ℕ → Type 0
+HasNothingIn s is_over w seen = HasNothing s.table.places s.keys.held s.keys.written is_over (not (loose_in s.table.places == 0)) s.rounds w seen

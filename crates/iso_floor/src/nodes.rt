@@ -1,0 +1,40 @@
+//! The nodes of a plan, by any numbers.
+ghost use Rattle.std.specs.Prelude.{◌≡◌, ◌<◌, false, length, true};
+ghost use Rattle.iso_model.specs.declared.script.Mode.TheVariants.{Concurrent, SameThread};
+ghost use Rattle.iso_plan.specs.Modes.{mode};
+ghost use Rattle.iso_plan.specs.RowView.{tree_of};
+
+use iso_model::script::Mode;
+use iso_plan::plan::Plan;
+
+/// Whether a node may run beside what its class's owner does.
+pub(crate) fn is_concurrent(plan: &Plan, node: u32) -> bool
+    ensures yes { result ≡ true → mode (tree_of plan.now) plan.now.settings node ≡ Concurrent }
+    ensures no { node < length plan.now.rows → result ≡ false → mode (tree_of plan.now) plan.now.settings node ≡ SameThread }
+{
+    if node >= plan.len() {
+        return false;
+    }
+    match plan.mode(node) {
+        Mode::Concurrent => true,
+        Mode::SameThread => false,
+    }
+}
+
+/// The children of a class.
+pub(crate) fn children_of(plan: &Plan, class: u32) -> &[u32] {
+    if class < plan.len() {
+        plan.children(class)
+    } else {
+        &[]
+    }
+}
+
+/// The class of which a node is a child; the root's is the root.
+pub(crate) fn parent_of(plan: &Plan, node: u32) -> u32 {
+    if node < plan.len() {
+        plan.parent(node).unwrap_or(0)
+    } else {
+        0
+    }
+}

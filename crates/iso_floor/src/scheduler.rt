@@ -1,0 +1,564 @@
+//! What is to be tried, and by whom. Its rules, each of which is one step under the lock:
+//!
+//! 1. Each node has one place in the table, and the table alone says which. Worker 0 owns the root,
+//!    and of every other class that is opened up the worker that entered it is the owner.
+//! 2. A node that any worker may enter belongs to everyone, one that its class's owner alone may
+//!    enter to that worker.
+//! 3. At first the root is open: its CONCURRENT children lie in worker 0's deque, and its first
+//!    SAME_THREAD child stands in worker 0's own line.
+//! 4. A key is in a node's way where a held node takes it, one of the two for READ_WRITE. Which key
+//!    that is follows from the book's counts alone, and is stored nowhere.
+//! 5. A node is attempted: where no key is in its way, it is entered. Else it stands at the end of
+//!    a line of that key: it waits for the key, and behind no node.
+//! 6. A node that waits is on offer where its key isn't in its way any more. No call makes it so.
+//! 7. A turn answers first that the run was stopped, or is over. Then, until an event is taken: a
+//!    class that this worker has just opened is shut, or opened up where a child is left; the node
+//!    that was found in a deque is attempted; the first of this worker's own line is attempted or
+//!    shut; the first of a line on offer is attempted, of this worker's lines before everyone's,
+//!    at the lowest key. Of its two lines the one whose first came first.
+//! 8. A class is opened up: its CONCURRENT children go to the back of its owner's deque, in order,
+//!    and its first SAME_THREAD child stands in the owner's own line.
+//! 9. A node is over when its last body was left. In an open class the next SAME_THREAD child then
+//!    stands in the owner's own line, and so does the class itself after its last child.
+//! 10. A worker waits while the run goes on, nothing stands in its own line, nothing of its own or
+//!     of everyone's is on offer, and no node lies in a deque, as far as it has seen.
+//! 11. Every turn, Leave and stop ends with a call: one worker that waits, wasn't called, and has
+//!     something to wake for.
+ghost use Rattle.std.specs.Prelude.{◌≡◌, ◌<◌, ◌≤◌, ◌+◌, ◌^◌, ◌==◌, ℕ, IfOk, IfSome, IsTrue, MatchOption, None, OnErr, OnOk, cond, false, length, not, true};
+ghost use Rattle.std.specs.Bool.{Decides};
+ghost use Rattle.iso_desk.specs.Crews.{awaits, called, looking, member_of, waiting};
+ghost use Rattle.iso_desk.specs.Lines.{IsLineOf};
+ghost use Rattle.iso_desk.specs.Marking.{room};
+ghost use Rattle.iso_desk.specs.Places.{headed, line_in, lined_up, place_of};
+ghost use Rattle.iso_desk.specs.declared.place.Place.TheVariants.{Loose, Over, With};
+ghost use Rattle.iso_floor.specs.KeyMarks.{AreRenewed};
+ghost use Rattle.iso_floor.specs.Nexts.{HasNone, IsNextNode};
+ghost use Rattle.iso_floor.specs.Schedulers.{HasNothingIn, IsFor, IsFree, is_loose, loose_in, next_taken, put, waiting_line};
+ghost use Rattle.iso_plan.specs.KeyTable.{keys};
+ghost use Rattle.iso_plan.specs.Locks.{locks};
+ghost use Rattle.iso_plan.specs.Modes.{mode};
+ghost use Rattle.iso_plan.specs.RowView.{tree_of};
+
+use crate::keys::{HeldKeys, KEYS};
+use crate::nodes::{children_of, is_concurrent, parent_of};
+use crate::offers::line_for;
+use iso_desk::crew::Crew;
+use iso_desk::line::{KeyLine, Line, Party};
+use iso_desk::place::Place;
+use iso_desk::scene::{Scene, has_nothing_for};
+use iso_desk::table::Table;
+use iso_model::access::Access;
+use iso_plan::held_nodes::HeldNodes;
+use iso_plan::lock::Lock;
+use iso_plan::plan::Plan;
+use std::alloc::{AllocError, Global};
+use std::marker::Model;
+
+/// The worker that owns the root.
+const FIRST_WORKER: u32 = 0;
+
+/// What is kept of a class beside its place: its owner once it was opened up, how many of its
+/// children aren't over, and how many were looked at for the next that its owner alone may enter.
+#[derive(Clone, Copy)]
+struct Class {
+    owner: u32,
+    left: usize,
+    passed: usize,
+}
+
+/// Where each node stands, who waits, and which keys are held.
+#[derive(Drop)]
+pub(crate) struct Scheduler {
+    table: Table,
+    crew: Crew,
+    keys: HeldKeys,
+    /// By node.
+    classes: Vec<Class>,
+    /// By node, whether it is a class that was entered in a turn, to be left open.
+    shared: Vec<bool>,
+    /// By worker, the class that it has just opened.
+    opening: Vec<Option<u32>>,
+    /// How many nodes are `Loose`.
+    loose: usize,
+    /// How often a class was opened up of which nodes were posted.
+    rounds: u64,
+}
+
+impl Model for Scheduler {
+    ghost use Rattle.std.specs.Prelude.{◌≡◌, length};
+    ghost use Rattle.iso_floor.specs.Schedulers.{SchedulerView, loose_in};
+
+    ghost Value = { SchedulerView };
+
+    ghost view = { λ s. record { table = s.table; members = s.crew.members.items; keys = s.keys; rounds = s.rounds } };
+
+    ghost invariant = { λ s. record {
+      crew : length s.crew.members.items ≡ s.table.workers;
+      loose_are : s.loose ≡ loose_in s.table.places;
+    } };
+}
+
+impl Scheduler {
+    /// Of a plan, whose root is open: its first SAME_THREAD child is worker 0's. It takes all
+    /// memory that its calls need.
+    pub(crate) fn new(alloc: Global, plan: &Plan, workers: u32) -> Result<Scheduler, AllocError>
+        ensures { IfOk result (IsFor (length plan.now.rows) workers) }
+    {
+        let mut scheduler = Scheduler::closed(alloc, plan, workers)?;
+        scheduler.open(plan, 0, FIRST_WORKER)?;
+        Ok(scheduler)
+    }
+
+    /// Of a plan, whose nodes are all closed.
+    fn closed(alloc: Global, plan: &Plan, workers: u32) -> Result<Scheduler, AllocError>
+        ensures { IfOk result (IsFor (length plan.now.rows) workers) }
+    {
+        let nodes = plan.len() as usize;
+        Ok(Scheduler {
+            table: Table::new(alloc, plan.len(), workers)?,
+            crew: Crew::new(alloc, workers)?,
+            keys: HeldKeys::new(alloc)?,
+            classes: classes_of(alloc, plan)?,
+            shared: vec![in alloc; false; nodes]?,
+            opening: vec![in alloc; None; workers as usize]?,
+            loose: 0,
+            rounds: 0,
+        })
+    }
+
+    /// Whether every child of the root is over.
+    pub(crate) fn is_done(&self) -> bool {
+        self.left(0) == 0
+    }
+
+    /// How often a class was opened up of which nodes were posted.
+    pub(crate) fn rounds(&self) -> u64
+        ensures { result ≡ self.now.rounds }
+    {
+        self.rounds
+    }
+
+    /// Opens a class up for its owner: its next SAME_THREAD child is the owner's. Out of memory is
+    /// answered only after 2^63 nodes were put in lines.
+    pub(crate) fn open(&mut self, plan: &Plan, class: u32, owner: u32) -> Result<(), AllocError>
+        ensures rest { self.new ≡ record self.old { table = self.new.table } }
+        ensures sizes { (nodes workers : ℕ) → IsFor nodes workers self.old → IsFor nodes workers self.new }
+    {
+        self.own(class, owner);
+        self.put(class, Place::Open);
+        self.go_on_in(plan, class)
+    }
+
+    /// A node lies in a deque from now on.
+    pub(crate) fn post(&mut self, node: u32)
+        ensures step { self.new ≡ record self.old { table = put node Loose self.old.table } }
+        ensures sizes { (nodes workers : ℕ) → IsFor nodes workers self.old → IsFor nodes workers self.new }
+    {
+        self.put(node, Place::Loose);
+    }
+
+    /// Nodes of a class were posted.
+    pub(crate) fn count_round(&mut self)
+        ensures counted { self.old.rounds + 1 < 2 ^ 64 → self.new.rounds ≡ self.old.rounds + 1 }
+        ensures same { self.new ≡ record self.old { rounds = self.new.rounds } }
+        ensures sizes { (nodes workers : ℕ) → IsFor nodes workers self.old → IsFor nodes workers self.new }
+    {
+        self.rounds = self.rounds.saturating_add(1);
+    }
+
+    /// Whether a node lies in a deque, or is in the hand of who took it there.
+    pub(crate) fn is_loose(&self, node: u32) -> bool
+        ensures { result ≡ is_loose (place_of self.now.table.places node) }
+    {
+        is_loose(self.place(node))
+    }
+
+    /// The class that a worker has just opened, which is asked for once.
+    pub(crate) fn take_opening(&mut self, worker: u32) -> Option<u32>
+        ensures { self.new ≡ self.old }
+    {
+        self.opening.get_mut(worker as usize)?.take()
+    }
+
+    /// Whether a node is a class that was entered in a turn, to be left open.
+    pub(crate) fn is_shared(&self, node: u32) -> bool {
+        self.shared.get(node as usize).copied().unwrap_or(false)
+    }
+
+    /// A class was entered in a turn, to be left open.
+    pub(crate) fn share(&mut self, class: u32)
+        ensures { self.new ≡ self.old }
+    {
+        if let Some(shared) = self.shared.get_mut(class as usize) {
+            *shared = true;
+        }
+    }
+
+    /// The next node that waits for a worker, which leaves its line to be attempted or shut: the
+    /// first of the worker's own line, else of one on offer.
+    pub(crate) fn next_for(&mut self, worker: u32) -> Option<u32>
+        ensures node { worker < self.old.table.workers → MatchOption result (HasNone self.old.table.places self.old.keys worker) (IsNextNode self.old.table.places self.old.keys worker) }
+        ensures left { self.new ≡ record self.old { table = next_taken result self.old.table } }
+        ensures sizes { (nodes workers : ℕ) → IsFor nodes workers self.old → IsFor nodes workers self.new }
+    {
+        if worker >= self.table.workers() {
+            return None;
+        }
+        let line = line_for(&self.table, &self.keys, worker)?;
+        let node = self.table.first(line)?;
+        self.table.leave(node, line, Place::Closed);
+        Some(node)
+    }
+
+    /// A node that stands in no line waits for a key that is in its way. Out of memory is answered
+    /// only after 2^63 nodes were put in lines.
+    pub(crate) fn wait_for(
+        &mut self,
+        plan: &Plan,
+        node: u32,
+        lock: Lock,
+        worker: u32,
+    ) -> Result<(), AllocError>
+        ensures waits { OnOk result (IsFree self.old.table.places node → node < length plan.now.rows → lock.key < 256 → worker < self.old.table.workers → self.new.table ≡ lined_up node (waiting_line (mode (tree_of plan.now) plan.now.settings node) worker lock) self.old.table) }
+        ensures same { OnErr result (self.new ≡ self.old) }
+        ensures rest { self.new ≡ record self.old { table = self.new.table } }
+        ensures sizes { (nodes workers : ℕ) → IsFor nodes workers self.old → IsFor nodes workers self.new }
+    {
+        let party = if is_concurrent(plan, node) {
+            Party::Everyone
+        } else {
+            Party::Worker(worker)
+        };
+        let line = KeyLine {
+            party,
+            key: lock.key,
+            writes: lock.access == Access::Write,
+        };
+        if lock.key as usize >= KEYS || worker >= self.table.workers() || !self.is_free(node) {
+            return Ok(());
+        }
+        self.line_up(node, Line::Key(line))
+    }
+
+    /// A worker entered a node: its keys are held.
+    pub(crate) fn enter(&mut self, plan: &Plan, held: &HeldNodes<'_>, node: u32, worker: u32)
+        requires { plan.now ≡ held.now.plan }
+        ensures place { self.new ≡ record self.old { table = put node (With worker) self.old.table; keys = self.new.keys } }
+        ensures keys { node < length plan.now.rows → AreRenewed (tree_of plan.now) held.now.held (locks (tree_of plan.now) node) self.old.keys self.new.keys }
+        ensures sizes { (nodes workers : ℕ) → IsFor nodes workers self.old → IsFor nodes workers self.new }
+    {
+        self.put(node, Place::With(worker));
+        self.renew(plan, held, node);
+    }
+
+    /// A worker shut a class.
+    pub(crate) fn shut(&mut self, class: u32, worker: u32)
+        ensures step { self.new ≡ record self.old { table = put class (With worker) self.old.table } }
+        ensures sizes { (nodes workers : ℕ) → IsFor nodes workers self.old → IsFor nodes workers self.new }
+    {
+        self.put(class, Place::With(worker));
+    }
+
+    /// A worker left the `before_all` of a class: where it is to be left open, its worker shuts it
+    /// or opens it up next.
+    pub(crate) fn leave_open(&mut self, class: u32, worker: u32)
+        ensures { self.new ≡ self.old }
+    {
+        if self.is_shared(class)
+            && let Some(opening) = self.opening.get_mut(worker as usize)
+        {
+            *opening = Some(class);
+        }
+    }
+
+    /// A node's last body was left: it is over, and its keys are as the nodes hold them that are
+    /// held still. In a class that is open the next child is the owner's, and so is the class
+    /// after its last. Out of memory is answered only after 2^63 nodes were put in lines.
+    pub(crate) fn finish(
+        &mut self,
+        plan: &Plan,
+        held: &HeldNodes<'_>,
+        node: u32,
+    ) -> Result<(), AllocError>
+        requires { plan.now ≡ held.now.plan }
+        ensures keys { node < length plan.now.rows → AreRenewed (tree_of plan.now) held.now.held (locks (tree_of plan.now) node) self.old.keys self.new.keys }
+        ensures rest { self.new ≡ record self.old { table = self.new.table; keys = self.new.keys } }
+        ensures sizes { (nodes workers : ℕ) → IsFor nodes workers self.old → IsFor nodes workers self.new }
+    {
+        let class = parent_of(plan, node);
+        self.put(node, Place::Over);
+        self.renew(plan, held, node);
+        self.count_child(class);
+        if self.place(class) != Place::Open {
+            return Ok(());
+        }
+        if class > 0 && self.left(class) == 0 {
+            return self.give_to_owner(class, class);
+        }
+        if is_concurrent(plan, node) {
+            return Ok(());
+        }
+        self.go_on_in(plan, class)
+    }
+
+    /// Whether something waits for a worker that needs no look into the deques: a class that it has
+    /// just opened, or a node in its own line or on offer.
+    pub(crate) fn calls_for(&self, worker: u32) -> bool {
+        if worker >= self.table.workers() {
+            return false;
+        }
+        let opened = self.opening.get(worker as usize).copied().flatten();
+        opened.is_some() || line_for(&self.table, &self.keys, worker).is_some()
+    }
+
+    /// A worker begins to wait with what it has seen.
+    pub(crate) fn begin_wait(&mut self, worker: u32, seen: Option<u64>)
+        ensures waits { worker < self.old.table.workers → self.new.members ≡ waiting worker seen self.old.members }
+        ensures rest { self.new ≡ record self.old { members = self.new.members } }
+        ensures sizes { (nodes workers : ℕ) → IsFor nodes workers self.old → IsFor nodes workers self.new }
+    {
+        if worker < self.table.workers() {
+            self.crew.wait(worker, seen);
+        }
+    }
+
+    /// A worker waits no more.
+    pub(crate) fn end_wait(&mut self, worker: u32)
+        ensures looks { worker < self.old.table.workers → self.new.members ≡ looking worker self.old.members }
+        ensures rest { self.new ≡ record self.old { members = self.new.members } }
+        ensures sizes { (nodes workers : ℕ) → IsFor nodes workers self.old → IsFor nodes workers self.new }
+    {
+        if worker < self.table.workers() {
+            self.crew.wake(worker);
+        }
+    }
+
+    /// Whether a worker that waits goes on to wait, where the run is over or isn't: it has nothing
+    /// to wake for. Then it may be called again.
+    pub(crate) fn stays(&mut self, worker: u32, is_over: bool) -> bool
+        ensures nothing { worker < self.old.table.workers → Decides result (HasNothingIn self.old is_over worker (member_of self.old.members worker).seen) }
+        ensures waits { worker < self.old.table.workers → self.new.members ≡ cond result (waiting worker (member_of self.old.members worker).seen self.old.members) self.old.members }
+        ensures rest { self.new ≡ record self.old { members = self.new.members } }
+        ensures sizes { (nodes workers : ℕ) → IsFor nodes workers self.old → IsFor nodes workers self.new }
+    {
+        if worker >= self.table.workers() {
+            return false;
+        }
+        let seen = self.crew.member(worker).seen;
+        let stays = has_nothing_for(&self.scene(is_over), worker, seen);
+        if stays {
+            self.crew.wait(worker, seen);
+        }
+        stays
+    }
+
+    /// Calls a worker that waits, wasn't called, and has something to wake for, if there is one,
+    /// where the run is over or isn't.
+    pub(crate) fn call(&mut self, is_over: bool) -> Option<u32>
+        ensures whom { MatchOption result ((w : ℕ) → w < length self.old.members → awaits (member_of self.old.members w) ≡ true → HasNothingIn self.old is_over w (member_of self.old.members w).seen) (λ w. (awaits (member_of self.old.members w) ≡ true) × ¬ HasNothingIn self.old is_over w (member_of self.old.members w).seen) }
+        ensures marked { self.new ≡ record self.old { members = called result self.old.members } }
+        ensures sizes { (nodes workers : ℕ) → IsFor nodes workers self.old → IsFor nodes workers self.new }
+    {
+        let scene = Scene {
+            table: &self.table,
+            held: self.keys.held(),
+            written: self.keys.written(),
+            is_over,
+            is_loose: self.loose != 0,
+            rounds: self.rounds,
+        };
+        self.crew.call(&scene)
+    }
+
+    /// What is to be seen of it.
+    fn scene(&self, is_over: bool) -> Scene<'_>
+        ensures table { result.table.now ≡ self.now.table }
+        ensures held { result.held.now ≡ self.now.keys.held }
+        ensures written { result.written.now ≡ self.now.keys.written }
+        ensures held_room { 256 ≤ room result.held.now }
+        ensures written_room { 256 ≤ room result.written.now }
+        ensures over { result.is_over ≡ is_over }
+        ensures loose { result.is_loose ≡ not (loose_in self.now.table.places == 0) }
+        ensures rounds { result.rounds ≡ self.now.rounds }
+    {
+        Scene {
+            table: &self.table,
+            held: self.keys.held(),
+            written: self.keys.written(),
+            is_over,
+            is_loose: self.loose != 0,
+            rounds: self.rounds,
+        }
+    }
+
+    /// Where a node stands; one that isn't of the plan is closed.
+    fn place(&self, node: u32) -> Place
+        ensures { result ≡ place_of self.now.table.places node }
+    {
+        if (node as usize) < self.table.nodes() {
+            self.table.place(node)
+        } else {
+            Place::Closed
+        }
+    }
+
+    /// Whether a node is of the plan and stands in no line.
+    fn is_free(&self, node: u32) -> bool
+        ensures free { Decides result (IsFree self.now.table.places node) }
+        ensures few { length self.now.table.places < 2 ^ 64 }
+    {
+        (node as usize) < self.table.nodes() && !self.table.place(node).is_in_line()
+    }
+
+    /// Gives a node that stands in no line a place in none.
+    fn put(&mut self, node: u32, place: Place)
+        requires { line_in place ≡ None }
+        ensures step { self.new ≡ record self.old { table = put node place self.old.table } }
+        ensures sizes { (nodes workers : ℕ) → IsFor nodes workers self.old → IsFor nodes workers self.new }
+    {
+        if self.is_free(node) {
+            let was = is_loose(self.table.place(node));
+            self.loose = recounted(self.loose, was, is_loose(place));
+            self.table.put(node, place);
+        }
+    }
+
+    /// Puts a node that stands in no line at the end of one.
+    fn line_up(&mut self, node: u32, line: Line) -> Result<(), AllocError>
+        requires free { IsFree self.old.table.places node }
+        requires line { IsLineOf self.old.table.workers line }
+        ensures stands { OnOk result (self.new.table ≡ lined_up node line self.old.table) }
+        ensures same { OnErr result (self.new ≡ self.old) }
+        ensures rest { self.new ≡ record self.old { table = self.new.table } }
+        ensures sizes { (nodes workers : ℕ) → IsFor nodes workers self.old → IsFor nodes workers self.new }
+    {
+        let was = is_loose(self.table.place(node));
+        self.table.line_up(node, line)?;
+        self.loose = recounted(self.loose, was, false);
+        Ok(())
+    }
+
+    /// Puts a node that stands in no line at the front of one.
+    fn line_up_first(&mut self, node: u32, line: Line) -> Result<(), AllocError>
+        requires free { IsFree self.old.table.places node }
+        requires line { IsLineOf self.old.table.workers line }
+        ensures stands { OnOk result (self.new.table ≡ headed node line self.old.table) }
+        ensures same { OnErr result (self.new ≡ self.old) }
+        ensures rest { self.new ≡ record self.old { table = self.new.table } }
+        ensures sizes { (nodes workers : ℕ) → IsFor nodes workers self.old → IsFor nodes workers self.new }
+    {
+        let was = is_loose(self.table.place(node));
+        self.table.line_up_first(node, line)?;
+        self.loose = recounted(self.loose, was, false);
+        Ok(())
+    }
+
+    /// The keys of a node that was entered or is over are as the nodes hold them that are held.
+    fn renew(&mut self, plan: &Plan, held: &HeldNodes<'_>, node: u32)
+        requires { plan.now ≡ held.now.plan }
+        ensures keys { node < length plan.now.rows → AreRenewed (tree_of plan.now) held.now.held (locks (tree_of plan.now) node) self.old.keys self.new.keys }
+        ensures rest { self.new ≡ record self.old { keys = self.new.keys } }
+        ensures sizes { (nodes workers : ℕ) → IsFor nodes workers self.old → IsFor nodes workers self.new }
+    {
+        if node < plan.len() {
+            self.keys.renew(held, plan.locks(node));
+        }
+    }
+
+    /// A worker owns a class from now on.
+    fn own(&mut self, class: u32, owner: u32)
+        ensures { self.new ≡ self.old }
+    {
+        if let Some(kept) = self.classes.get_mut(class as usize) {
+            kept.owner = owner;
+        }
+    }
+
+    /// One child of a class more is over.
+    fn count_child(&mut self, class: u32)
+        ensures { self.new ≡ self.old }
+    {
+        if let Some(kept) = self.classes.get_mut(class as usize) {
+            kept.left = kept.left.saturating_sub(1);
+        }
+    }
+
+    /// How many children of a class aren't over.
+    fn left(&self, class: u32) -> usize {
+        match self.classes.get(class as usize) {
+            Some(kept) => kept.left,
+            None => 0,
+        }
+    }
+
+    /// The next child of a class that its owner alone may enter, if there is one, is the owner's.
+    fn go_on_in(&mut self, plan: &Plan, class: u32) -> Result<(), AllocError>
+        ensures rest { self.new ≡ record self.old { table = self.new.table } }
+        ensures sizes { (nodes workers : ℕ) → IsFor nodes workers self.old → IsFor nodes workers self.new }
+    {
+        match self.next_child(plan, class) {
+            Some(child) => self.give_to_owner(class, child),
+            None => Ok(()),
+        }
+    }
+
+    /// The next child of a class that its owner alone may enter, if there is one.
+    fn next_child(&mut self, plan: &Plan, class: u32) -> Option<u32>
+        ensures { self.new ≡ self.old }
+    {
+        let kept = self.classes.get_mut(class as usize)?;
+        let children = children_of(plan, class);
+        'children: for place in kept.passed..children.len() {
+            kept.passed = place + 1;
+            if !is_concurrent(plan, children[place]) {
+                return Some(children[place]);
+            }
+        }
+        None
+    }
+
+    /// A node that stands in no line is for a class's owner to attempt or to shut.
+    fn give_to_owner(&mut self, class: u32, node: u32) -> Result<(), AllocError>
+        ensures rest { self.new ≡ record self.old { table = self.new.table } }
+        ensures sizes { (nodes workers : ℕ) → IsFor nodes workers self.old → IsFor nodes workers self.new }
+    {
+        let Some(kept) = self.classes.get(class as usize) else {
+            return Ok(())
+        };
+        let owner = kept.owner;
+        if owner >= self.table.workers() || !self.is_free(node) {
+            return Ok(());
+        }
+        self.line_up_first(node, Line::Own(owner))
+    }
+}
+
+/// What is kept of each node at first.
+fn classes_of(alloc: Global, plan: &Plan) -> Result<Vec<Class>, AllocError> {
+    let mut classes = Vec::with_capacity(alloc, plan.len() as usize)?;
+    for node in 0..plan.len() {
+        classes.push(Class {
+            owner: FIRST_WORKER,
+            left: plan.children(node).len(),
+            passed: 0,
+        })?;
+    }
+    Ok(classes)
+}
+
+/// Whether a place is a loose node's.
+fn is_loose(place: Place) -> bool
+    ensures { result ≡ is_loose place }
+{
+    matches!(place, Place::Loose)
+}
+
+/// How many nodes are `Loose` after one of them got another place: whether it was, and whether it is.
+fn recounted(loose: usize, was: bool, is: bool) -> usize
+    requires was { cond was 1 0 ≤ loose }
+    requires room { loose + cond is 1 0 < 2 ^ 64 + cond was 1 0 }
+    ensures { result + cond was 1 0 ≡ loose + cond is 1 0 }
+{
+    let others = if was { loose - 1 } else { loose };
+    if is { others + 1 } else { others }
+}
