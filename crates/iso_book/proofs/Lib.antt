@@ -12,3 +12,4 @@ pub mod LeaveStates
 pub mod LeaveRuns
 pub mod LeaveBooks
 pub mod LastEvents
+pub mod HeldNodes

@@ -1,3 +1,4 @@
 pub mod Books
 pub mod Turns
 pub mod Leaves
+pub mod Holdings

@@ -2,6 +2,7 @@
 ghost use Rattle.std.specs.Prelude.{◌≡◌, ◌<◌, MatchOption, MatchResult, None, OnErr, OnOk, length};
 ghost use Rattle.std.specs.Option.{option_map};
 ghost use Rattle.iso_book.specs.Books.{refusal_in, with_event};
+ghost use Rattle.iso_book.specs.Holdings.{HoldAlike};
 ghost use Rattle.iso_book.specs.Turns.{BeginsIn, IsAllowed, IsEntered, IsNotTaken, IsRefusedBy, IsTaken, MayEnterWith, ReadsStart, handed};
 ghost use Rattle.iso_locks.specs.Vaults.{IsLentTo};
 ghost use Rattle.iso_plan.specs.Paths.{parent};
@@ -27,6 +28,7 @@ impl<'a> Book<'a> {
         ensures event { MatchResult result (λ _. IsTaken (Event.Enter worker node) (MayEnterWith self.old node tray.old) self.old self.new)
             (λ fault. IsNotTaken fault (Event.Enter worker node) (MayEnterWith self.old node tray.old) self.old self.new tray.old tray.new) }
         ensures tray { OnOk result (IsEntered node tray.old tray.new) }
+        ensures held { OnOk result (HoldAlike node self.old self.new) }
     {
         if !self.is_made_for(tray) {
             let refused = self
@@ -53,6 +55,7 @@ impl<'a> Book<'a> {
         ensures event { MatchResult result (λ _. IsTaken (Event.Enter worker node) (MayEnterWith self.old node tray.old) self.old self.new)
             (λ fault. IsNotTaken fault (Event.Enter worker node) (MayEnterWith self.old node tray.old) self.old self.new tray.old tray.new) }
         ensures tray { OnOk result (IsEntered node tray.old tray.new) }
+        ensures held { OnOk result (HoldAlike node self.old self.new) }
     {
         if let Some(refused) = self.refusal_of_enter(worker, node, tray) {
             return Err(CoreFault::Refused(refused));
@@ -112,6 +115,7 @@ impl<'a> Book<'a> {
         ensures book { self.new ≡ with_event self.old (Event.Enter worker node) }
         ensures lent { IsLentTo node tray.old tray.new }
         ensures reads { ReadsStart node tray.new }
+        ensures held { HoldAlike node self.old self.new }
     {
         nodes_are_a_tree(self.plan);
         results_follow_nodes(self.plan);

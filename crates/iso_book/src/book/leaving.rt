@@ -1,6 +1,7 @@
 //! Leaves.
 ghost use Rattle.std.specs.Prelude.{◌≡◌, ◌<◌, ℕ, MatchOption, MatchResult, None, OnOk, length, option_map, true};
 ghost use Rattle.iso_book.specs.Books.{with_event};
+ghost use Rattle.iso_book.specs.Holdings.{HoldAfter};
 ghost use Rattle.iso_book.specs.Leaves.{Began, IsLeft, IsNotLeft, MayBring, after_leave, booking_in, home_after, is_last, is_of_worker, is_under_way, leave_refusal_in};
 ghost use Rattle.iso_book.specs.Turns.{GoesOnWith, IsAllowed, IsRefusedBy, ReadsStart};
 ghost use Rattle.iso_lifecycle.specs.DoneViews.{DoneView};
@@ -50,6 +51,7 @@ impl<'a> Book<'a> {
             (λ refusal. IsNotLeft (refused_of refusal.0) refusal.1 worker done self.old self.new tray.old tray.new) }
         ensures tray { OnOk result (tray.new ≡ after_leave done.kind done.subject.node tray.old) }
         ensures reads { OnOk result ((n : ℕ) → is_lent tray.new.lent n ≡ true → ReadsStart n tray.new) }
+        ensures held { OnOk result (HoldAfter done.kind done.subject.node self.old self.new) }
     {
         if !self.is_made_for(tray) {
             let refused = self
@@ -81,6 +83,7 @@ impl<'a> Book<'a> {
             (λ refusal. IsNotLeft (refused_of refusal.0) refusal.1 worker done self.old self.new tray.old tray.new) }
         ensures tray { OnOk result (tray.new ≡ after_leave done.kind done.subject.node tray.old) }
         ensures reads { OnOk result ((n : ℕ) → is_lent tray.new.lent n ≡ true → ReadsStart n tray.new) }
+        ensures held { OnOk result (HoldAfter done.kind done.subject.node self.old self.new) }
     {
         if let Some(refused) = self.refusal_of_leave(worker, &done, tray) {
             return Err((refused, done));
@@ -163,6 +166,7 @@ impl<'a> Book<'a> {
         ensures receipt { result ≡ record { number = length self.old.history; worker = worker; node = done.subject.node } }
         ensures tray { tray.new ≡ after_leave done.kind done.subject.node tray.old }
         ensures reads { (n : ℕ) → is_lent tray.new.lent n ≡ true → ReadsStart n tray.new }
+        ensures held { HoldAfter done.kind done.subject.node self.old self.new }
     {
         nodes_are_a_tree(self.plan);
         histories_go_on_by_leaves(self.plan);

@@ -2,6 +2,7 @@
 ghost use Rattle.std.specs.Prelude.{◌≡◌, ◌<◌, MatchOption, MatchResult, None, OnErr, OnOk, length};
 ghost use Rattle.std.specs.Option.{option_map};
 ghost use Rattle.iso_book.specs.Books.{refusal_in, with_event};
+ghost use Rattle.iso_book.specs.Holdings.{HoldSame};
 ghost use Rattle.iso_book.specs.Turns.{GoesOnWith, IsAllowed, IsNotTaken, IsRefusedBy, IsShut, IsTaken, handed};
 ghost use Rattle.iso_lifecycle.specs.Subjects.{subject};
 ghost use Rattle.iso_lifecycle.specs.WholeBodies.{CanBegin};
@@ -24,6 +25,7 @@ impl<'a> Book<'a> {
         ensures event { MatchResult result (λ _. IsTaken (Event.Shut worker node) (GoesOnWith self.old node tray.old) self.old self.new)
             (λ fault. IsNotTaken fault (Event.Shut worker node) (GoesOnWith self.old node tray.old) self.old self.new tray.old tray.new) }
         ensures tray { OnOk result (IsShut node tray.old tray.new) }
+        ensures held { OnOk result (HoldSame self.old self.new) }
     {
         if !self.is_made_for(tray) {
             let refused = self.kind_of_shut(worker, node).unwrap_or(Refused::Stranger);
@@ -41,6 +43,7 @@ impl<'a> Book<'a> {
         ensures event { MatchResult result (λ _. IsTaken (Event.Shut worker node) (GoesOnWith self.old node tray.old) self.old self.new)
             (λ fault. IsNotTaken fault (Event.Shut worker node) (GoesOnWith self.old node tray.old) self.old self.new tray.old tray.new) }
         ensures tray { OnOk result (IsShut node tray.old tray.new) }
+        ensures held { OnOk result (HoldSame self.old self.new) }
     {
         if let Some(refused) = self.refusal_of_shut(worker, node, tray) {
             return Err(CoreFault::Refused(refused));
@@ -93,7 +96,8 @@ impl<'a> Book<'a> {
     /// Takes a Shut that nothing refuses. Takes no memory.
     fn take_shut(&mut self, worker: u32, node: u32)
         requires { refusal_in self.old (Event.Shut worker node) ≡ None }
-        ensures { self.new ≡ with_event self.old (Event.Shut worker node) }
+        ensures book { self.new ≡ with_event self.old (Event.Shut worker node) }
+        ensures held { HoldSame self.old self.new }
     {
         nodes_are_a_tree(self.plan);
         results_follow_nodes(self.plan);

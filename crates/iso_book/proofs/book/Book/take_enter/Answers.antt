@@ -1,13 +1,16 @@
-use Rattle.std.proofs.Common.{◌≡◌, None, ℕ, ap, sym, ◌∙◌, subst, arith}
+use Rattle.std.proofs.Common.{◌≡◌, None, refl, ℕ, ap, sym, ◌∙◌, subst, arith}
 use Rattle.std.specs.Vec.{vec_capacity}
 use Rattle.iso_book.proofs.Afters.{StandsAfter, book-as, has-room, view-next}
 use Rattle.iso_book.proofs.Enters.{can-lend, due, entered, history-entered, lends, state-entered, waiting}
+use Rattle.iso_book.proofs.HeldNodes.{hold-alike, lent-apart}
 use Rattle.iso_book.proofs.Homes.{unflat}
 use Rattle.iso_book.proofs.Runs.{book_of}
 use Rattle.iso_book.specs.Books.{BookView, IsBook, refusal_in, state_in, suite_in, with_event}
+use Rattle.iso_book.specs.Holdings.{HoldAlike}
 use Rattle.iso_book.specs.Turns.{MayEnterWith}
 use Rattle.iso_isolation.specs.Events as E
 use Rattle.iso_isolation.specs.Events.{after}
+use Rattle.iso_locks.specs.Trays.{is_lent}
 use Rattle.iso_locks.specs.Vaults.{VaultView, lending}
 use Rattle.iso_standing.specs.declared.event.Event.TheVariants as Code
 use Rattle.iso_suites.specs.ScriptLanguage.{scripts}
@@ -101,3 +104,11 @@ pub returns-clause-reads : goal.returns-clause-reads
 returns-clause-reads c =
     let t = c.lend_free.ensures.tray in
     λ k. c.lent_nodes_find_their_values.ensures.read (t.flat ∙ unflat c.args.tray.now c.args.node c.requires.own.own.around) c.args.node k t.holds
+
+pub returns-clause-held : goal.returns-clause-held
+returns-clause-held c =
+    let i = c.self.inside in
+    let seen = book_of i.plan.now i.world.now i.workers c.enter.new.self.stopped c.push_reserved.new.self.items in
+    subst (λ (v : BookView). HoldAlike c.args.node v seen) c.self.view_is
+    (hold-alike (b c) seen i.vault.lent c.lend_free.new.self.lent c.args.node
+    (λ m apart. ap (λ (v : VaultView). is_lent v.lent m) (vault-is c) ∙ lent-apart c.args.node i.vault m apart) refl c.self.invariant.lent (book-is c).lent)

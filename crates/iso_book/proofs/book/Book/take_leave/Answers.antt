@@ -1,5 +1,7 @@
 use Rattle.std.proofs.Common.{◌≡◌, ℕ, None, Bool, true, false, not, refl, ap, ap₂, sym, ◌∙◌, subst, arith}
 use Rattle.std.specs.Vec.{vec_capacity}
+use Rattle.iso_book.proofs.HeldNodes.{hold-after}
+use Rattle.iso_book.specs.Holdings.{HoldAfter}
 use Rattle.iso_book.proofs.LeaveBooks.{AtBook, at-book, can-put, can-take-back, ends-as, has-its-body, has-room, left-as, view-left}
 use Rattle.iso_book.proofs.Runs.{book_of}
 use Rattle.iso_book.specs.Books.{BookView, IsBook, with_event}
@@ -104,8 +106,12 @@ looks c =
     c.leave.ensures.state (started i.world.now) a.goes.before a.like
     (ends-as (old c) i.standing i.vault i.results (vec_capacity i.history) c.args.worker d a c.results_follow_leaves.ensures.well (not c.bars-well.result) (ap not barred))
 
-pub invariant_of-self : goal.invariant_of-self
-invariant_of-self c =
+vault-is : (c : After-new) → c.bring_home.new.vault ≡ home_after c.args.done.kind c.args.done.subject.node c.self.inside.vault
+vault-is c = c.bring_home.ensures.vault ∙ ap₂ (λ (k : BodyKind) (m : ℕ). home_after k m c.self.inside.vault) c.kind-kind.ensures c.node-node.ensures
+
+book-is : (c : After-new) → IsBook (book_of c.self.inside.plan.now c.self.inside.world.now c.self.inside.workers c.leave.new.self.stopped c.push_reserved.new.self.items) c.leave.new.self c.bring_home.new.vault c.put.new.self
+    (vec_capacity c.push_reserved.new.self)
+book-is c =
     let i = c.self.inside in
     let w = c.args.worker in
     let d = c.args.done in
@@ -113,11 +119,20 @@ invariant_of-self c =
     let all : IsBook next c.leave.new.self (home_after d.kind d.subject.node i.vault) (with_done d i.results) (vec_capacity i.history) =
     left-as (old c) i.standing i.vault i.results (vec_capacity i.history) w d (at c) c.results_follow_leaves.ensures.leave c.leave.new.self c.leave.ensures.same (looks c)
     c.push_reserved.new.self.items c.push_reserved.ensures.items in
-    let vault : c.bring_home.new.vault ≡ home_after d.kind d.subject.node i.vault =
-    c.bring_home.ensures.vault ∙ ap₂ (λ (k : BodyKind) (m : ℕ). home_after k m i.vault) c.kind-kind.ensures c.node-node.ensures in
     subst (λ (m : ℕ). IsBook next c.leave.new.self c.bring_home.new.vault c.put.new.self m) (sym c.push_reserved.ensures.capacity)
     (subst (λ (q : ResultsView). IsBook next c.leave.new.self c.bring_home.new.vault q (vec_capacity i.history)) (sym c.put.ensures)
-    (subst (λ (q : VaultView). IsBook next c.leave.new.self q (with_done d i.results) (vec_capacity i.history)) (sym vault) all))
+    (subst (λ (q : VaultView). IsBook next c.leave.new.self q (with_done d i.results) (vec_capacity i.history)) (sym (vault-is c)) all))
+
+pub invariant_of-self : goal.invariant_of-self
+invariant_of-self c = book-is c
+
+pub returns-clause-held : goal.returns-clause-held
+returns-clause-held c =
+    let i = c.self.inside in
+    let d = c.args.done in
+    let seen = book_of i.plan.now i.world.now i.workers c.leave.new.self.stopped c.push_reserved.new.self.items in
+    subst (λ (v : BookView). HoldAfter d.kind d.subject.node v seen) c.self.view_is
+    (hold-after d.kind d.subject.node i.vault (old c) seen c.bring_home.new.vault.lent (ap (λ (v : VaultView). v.lent) (vault-is c)) refl c.self.invariant.lent (book-is c).lent)
 
 pub returns-clause-book : goal.returns-clause-book
 returns-clause-book c =

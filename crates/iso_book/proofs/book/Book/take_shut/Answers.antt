@@ -1,4 +1,6 @@
-use Rattle.std.proofs.Common.{◌≡◌, None, ℕ, ap, sym, ◌∙◌, subst, arith}
+use Rattle.iso_book.proofs.HeldNodes.{hold-same}
+use Rattle.iso_book.specs.Holdings.{HoldSame}
+use Rattle.std.proofs.Common.{refl, ◌≡◌, None, ℕ, ap, sym, ◌∙◌, subst, arith}
 use Rattle.std.specs.Vec.{vec_capacity}
 use Rattle.iso_book.proofs.Afters.{StandsAfter, book-as, has-room, view-next}
 use Rattle.iso_book.proofs.Shuts.{due, history-shut, rests, shut, state-shut}
@@ -68,5 +70,12 @@ module _ (c : After-push_reserved) where
 pub invariant_of-self : goal.invariant_of-self
 invariant_of-self c = book-is c
 
-pub returns : goal.returns
-returns c = view-is c
+pub returns-clause-book : goal.returns-clause-book
+returns-clause-book c = view-is c
+
+pub returns-clause-held : goal.returns-clause-held
+returns-clause-held c =
+    let i = c.self.inside in
+    let seen = book_of i.plan.now i.world.now i.workers c.shut.new.self.stopped c.push_reserved.new.self.items in
+    subst (λ (v : BookView). HoldSame v seen) c.self.view_is
+    (hold-same (b c) seen i.vault.lent i.vault.lent (λ m. refl) refl c.self.invariant.lent (book-is c).lent)
