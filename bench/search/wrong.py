@@ -14,7 +14,7 @@ OPENED_TWICE = [
         "        post_children(&mut self.scheduler, plan, class, owner)?;\n        if WRONG {\n            post_children(&mut self.scheduler, plan, class, owner)?;\n        }\n        self.scheduler.open",
     )
 ]
-BROUGHT_ANYWHERE = [("iso_floor/src/turn.rt", "if !desk.scheduler.is_loose(node) {", "if !WRONG && !desk.scheduler.is_loose(node) {")]
+BROUGHT_ANYWHERE = [("iso_floor/src/turn.rt", "if !desk.is_loose(node) {", "if !WRONG && !desk.is_loose(node) {")]
 
 EDITS = {
     # a node is put into the line of another of its keys than the one in its way
@@ -65,8 +65,8 @@ EDITS = {
         ),
         (
             "iso_floor/src/turn.rt",
-            "            let Some(node) = desk.scheduler.next_for(self.worker()) else {\n                return Turn::Wait;\n",
-            "            let Some(node) = desk.scheduler.next_for(self.worker()) else {\n                if WRONG && let Some(turn) = self.try_opened(desk) {\n                    return turn;\n                }\n                return Turn::Wait;\n",
+            "            let Some(node) = desk.next_for(self.worker()) else {\n                return Turn::Wait;\n",
+            "            let Some(node) = desk.next_for(self.worker()) else {\n                if WRONG && let Some(turn) = self.try_opened(desk) {\n                    return turn;\n                }\n                return Turn::Wait;\n",
         ),
     ],
     # a worker waits as if it had looked into all deques just now

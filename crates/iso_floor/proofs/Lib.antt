@@ -1,6 +1,7 @@
 pub mod Answered
 pub mod AuditLemmas
 pub mod Begun
+pub mod DeskLemmas
 pub mod FreeSeats
 pub mod FreeTrays
 pub mod HintLemmas
@@ -10,5 +11,8 @@ pub mod NextLemmas
 pub mod NoNodes
 pub mod NodeTrays
 pub mod Outcomes
+pub mod RightLemmas
 pub mod SchedulerLemmas
 pub mod Sharing
+pub mod TakenLemmas
+pub mod WaitLemmas

@@ -1,5 +1,5 @@
 -- How many nodes are loose when one of them gets another place.
-use Rattle.std.proofs.Common.{◌≡◌, ◌≢◌, ℕ, zero, suc, ◌+◌, ◌<◌, ◌≤◌, ◌==◌, ◌^◌, List, Some, length, replicate, set, Bool, true, false, ◌&&◌, not, cond, ap, ap₂, sym, ◌∙◌, inl, inr, arith, refl, subst}
+use Rattle.std.proofs.Common.{◌≡◌, ◌≢◌, ℕ, zero, suc, ◌+◌, ◌<◌, ◌≤◌, ◌==◌, ◌^◌, List, Some, length, replicate, set, Bool, false, ◌&&◌, not, cond, ap, ap₂, sym, ◌∙◌, inl, inr, arith, refl, subst}
 use Rattle.std.proofs.lemmas.Bool.{cases_eq}
 use Rattle.std.proofs.lemmas.List.{get_or-set_same, get_or-set_other, length-set}
 use Rattle.iso_desk.specs.Places.{StandsIn, line_in, place_of}

@@ -1,11 +1,10 @@
 -- Which line is taken next, by what its two lines are at the lowest key on offer.
-use Rattle.std.proofs.Common.{◌≡◌, ◌<◌, ◌≤◌, ℕ, List, Option, None, Some, Bool, true, false, MatchOption, cond, ap, ap₂, sym, subst, ◌∙◌, arith, refl}
+use Rattle.std.proofs.Common.{◌≡◌, ◌≤◌, ℕ, List, Option, None, Some, Bool, true, false, ap, ap₂, sym, subst, ◌∙◌, arith, refl}
 use Rattle.std.specs.Bool.{Decides}
 use Rattle.iso_desk.specs.Marking.{has}
-use Rattle.iso_desk.specs.Offers.{IsLowestOffer, IsOnOffer, NothingOffered}
-use Rattle.iso_desk.specs.Places.{IsEmpty, IsFirst, StandsIn, place_of, since_in}
+use Rattle.iso_desk.specs.Offers.{IsLowestOffer, IsOnOffer}
+use Rattle.iso_desk.specs.Places.{StandsIn, place_of, since_in}
 use Rattle.iso_desk.specs.declared.line.KeyLine.{KeyLine}
-use Rattle.iso_desk.specs.declared.line.Line.{Line}
 use Rattle.iso_desk.specs.declared.line.Line.TheVariants.{Key}
 use Rattle.iso_desk.specs.declared.line.Party.{Party}
 use Rattle.iso_desk.specs.declared.place.Place.{Place}

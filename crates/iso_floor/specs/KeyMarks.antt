@@ -1,5 +1,5 @@
 -- Which keys the held nodes take, as marks.
-use Rattle.std.specs.Prelude.{◌≡◌, ◌<◌, ◌≤◌, ℕ, List, Bool, true, false, ◌==◌, ◌||◌, ◌&&◌, not, cond}
+use Rattle.std.specs.Prelude.{◌≡◌, ◌<◌, ◌≤◌, ℕ, List, Bool, true, ◌==◌, ◌||◌, ◌&&◌, not, cond}
 use Rattle.std.specs.List.{list_any}
 use Rattle.iso_desk.specs.Marking.{has, room}
 use Rattle.iso_desk.specs.declared.marks.Marks.{Marks}

@@ -2,6 +2,7 @@ pub mod Answering
 pub mod Auditing
 pub mod Audits
 pub mod Closing
+pub mod Desks
 pub mod Grounds
 pub mod Halts
 pub mod KeyMarks

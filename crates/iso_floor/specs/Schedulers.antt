@@ -1,8 +1,9 @@
 -- What contracts see of a scheduler, and what its steps do to the table.
-use Rattle.std.specs.Prelude.{◌≡◌, ◌<◌, ◌≤◌, ◌==◌, ℕ, List, Option, None, Some, Bool, true, false, cond, is_some, length, not}
+use Rattle.std.specs.Prelude.{◌≡◌, ◌<◌, ◌==◌, ℕ, List, Option, None, Some, Bool, true, false, cond, is_some, length, not}
 use Rattle.iso_desk.specs.Crews.{HasNothing}
-use Rattle.iso_desk.specs.Places.{TableView, line_in, moved, place_of}
+use Rattle.iso_desk.specs.Places.{StandsIn, TableView, line_in, moved, place_of}
 use Rattle.iso_desk.specs.declared.crew.Member.{Member}
+use Rattle.iso_desk.specs.declared.line.KeyLine.{KeyLine}
 use Rattle.iso_desk.specs.declared.line.Line.{Line}
 use Rattle.iso_desk.specs.declared.line.Line.TheVariants.{Key}
 use Rattle.iso_desk.specs.declared.line.Party.{Party}
@@ -10,10 +11,13 @@ use Rattle.iso_desk.specs.declared.line.Party.TheVariants.{Everyone, Worker}
 use Rattle.iso_desk.specs.declared.place.Place.{Place}
 use Rattle.iso_desk.specs.declared.place.Place.TheVariants.{Closed, Loose, InLine, With, Open, Over}
 use Rattle.iso_floor.specs.KeyMarks.{KeysView}
+use Rattle.iso_model.specs.declared.access.Access.{Access}
+use Rattle.iso_model.specs.declared.access.Access.TheVariants.{Read, Write}
 use Rattle.iso_model.specs.declared.script.Mode.{Mode}
 use Rattle.iso_model.specs.declared.script.Mode.TheVariants.{Concurrent, SameThread}
-use Rattle.iso_plan.specs.HeldNodes.{count}
-use Rattle.iso_plan.specs.Locks.{is_write}
+use Rattle.iso_plan.specs.HeldNodes.{count, takes_in}
+use Rattle.iso_plan.specs.Locks.{is_write, locks}
+use Rattle.iso_plan.specs.Tree.{Row}
 use Rattle.iso_plan.specs.declared.lock.Lock.{Lock}
 
 -- the table, what is kept of each worker, which keys held nodes take, and how often nodes were
@@ -68,3 +72,24 @@ pub record IsFree (places : List Place) (n : ℕ) : Type 0 where
 -- a worker that has seen this has nothing to wake for, where the run is over or isn't
 abbrev pub HasNothingIn : SchedulerView → Bool → ℕ → Option ℕ → Type 0
 HasNothingIn s is_over w seen = HasNothing s.table.places s.keys.held s.keys.written is_over (not (loose_in s.table.places == 0)) s.rounds w seen
+
+-- how those take a key who stand in a line of it
+abbrev pub access_in : KeyLine → Access
+access_in l = cond l.writes Write Read
+
+-- a node takes the key of a line as those do who stand there
+pub record Takes (tree : List Row) (n : ℕ) (l : KeyLine) : Type 0 where
+  pub known : l.key < 256
+  pub taken : takes_in (access_in l) l.key (locks tree n) ≡ true
+
+-- each node that stands in a line of a key takes that key so
+abbrev pub WaitRightly : List Row → List Place → Type 0
+WaitRightly tree places = (n : ℕ) (l : KeyLine) → StandsIn places (Key l) n → Takes tree n l
+
+-- a step leaves a scheduler for as many nodes and workers
+abbrev pub KeepsSizes : (old new : SchedulerView) → Type 0
+KeepsSizes old new = (nodes workers : ℕ) → IsFor nodes workers old → IsFor nodes workers new
+
+-- a step puts nobody in a line whose key it doesn't take so
+abbrev pub KeepsLines : (old new : SchedulerView) → Type 0
+KeepsLines old new = (tree : List Row) → WaitRightly tree old.table.places → WaitRightly tree new.table.places

@@ -1,21 +1,35 @@
 //! What lies under the lock of a floor.
-ghost use Rattle.std.specs.Prelude.{◌≡◌, ℕ, IfOk, length, not, true};
-ghost use Rattle.iso_book.specs.Books.{new_book};
+ghost use Rattle.std.specs.Prelude.{◌≡◌, ◌<◌, ℕ, IfOk, IfSome, MatchResult, None, OnOk, length, not, true};
+ghost use Rattle.iso_book.specs.Books.{BookView};
+ghost use Rattle.iso_book.specs.Leaves.{IsLeft, IsNotLeft, MayBring, after_leave};
+ghost use Rattle.iso_book.specs.Turns.{GoesOnWith, IsEntered, IsNotTaken, IsShut, IsTaken, MayEnterWith, ReadsStart};
+ghost use Rattle.iso_desk.specs.Crews.{awaits, member_of};
 ghost use Rattle.iso_floor.specs.Answering.{HasRun, has_changed};
-ghost use Rattle.iso_floor.specs.Grounds.{IsBookOf};
-ghost use Rattle.iso_floor.specs.Schedulers.{IsFor};
+ghost use Rattle.iso_floor.specs.Desks.{CanEnterNone};
+ghost use Rattle.iso_floor.specs.Grounds.{IsBookOf, IsTrayOf};
+ghost use Rattle.iso_floor.specs.Schedulers.{KeepsLines, KeepsSizes};
+ghost use Rattle.iso_locks.specs.Trays.{is_lent};
+ghost use Rattle.iso_plan.specs.HeldNodes.{takes_in};
+ghost use Rattle.iso_plan.specs.Locks.{locks};
+ghost use Rattle.iso_standing.specs.CodeEvents.{refused_of};
 
 use crate::ground::Ground;
 use crate::hints::Hints;
 use crate::posting::post_children;
 use crate::scheduler::Scheduler;
 use iso_book::book::Book;
-use iso_lifecycle::kind::BodyKind;
+use iso_book::receipt::Receipt;
+use iso_lifecycle::done::Done;
+use iso_locks::tray::Tray;
+use iso_plan::laws::nodes_are_a_tree;
 use iso_plan::lock::Lock;
 use iso_plan::plan::Plan;
 use iso_posts::owner::Owner;
 use iso_posts::posts::{PostSeat, Posts};
 use iso_settings::world::World;
+use iso_standing::core_fault::CoreFault;
+use iso_standing::event::Event;
+use iso_standing::refused::Refused;
 use std::alloc::{AllocError, Global};
 use std::marker::{Model, PhantomData};
 
@@ -32,10 +46,10 @@ pub(crate) struct Wakes {
 /// for a change.
 #[derive(Drop)]
 pub(crate) struct Desk<'a, G: Ground> {
-    pub(crate) book: Book<'a>,
+    book: Book<'a>,
     /// By worker, what it has of the deques, until it has a seat.
     pub(crate) places: Vec<Option<PostSeat>>,
-    pub(crate) scheduler: Scheduler,
+    scheduler: Scheduler,
     hints: Hints,
     watching: u32,
     of: PhantomData<G>,
@@ -43,20 +57,19 @@ pub(crate) struct Desk<'a, G: Ground> {
 
 impl<'a, G: Ground> Model for Desk<'a, G> {
     ghost use Rattle.std.specs.Prelude.{◌≡◌, length};
-    ghost use Rattle.iso_book.specs.Books.{BookView, book_code};
-    ghost use Rattle.iso_floor.specs.Grounds.{IsBookOf};
-    ghost use Rattle.iso_floor.specs.Schedulers.{IsFor};
+    ghost use Rattle.std.specs.Coded.{codes};
+    ghost use Rattle.iso_book.specs.Books.{book_code};
+    ghost use Rattle.iso_floor.specs.Desks.{DeskView, IsDesk};
 
-    ghost Value = { BookView };
+    ghost Value = { DeskView };
 
-    ghost coded = { book_code };
+    ghost coded = { Prim.hlevel (codes, book_code) };
 
-    ghost view = { λ d. d.book };
+    ghost view = { λ d. record { book = d.book; scheduler = d.scheduler } };
 
     ghost invariant = { λ d. record {
-      book : IsBookOf G.plan G.start G.workers d.book;
+      desk : IsDesk G.plan G.start G.workers d.book d.scheduler;
       seats : length d.places.items ≡ G.workers;
-      scheduler : IsFor (length G.plan.rows) G.workers d.scheduler;
     } };
 }
 
@@ -73,6 +86,7 @@ impl<'a, G: Ground> Desk<'a, G> {
         requires start { world.now ≡ G.start }
         requires workers { workers ≡ G.workers }
     {
+        nodes_are_a_tree(plan);
         let mut seats = Posts::new(alloc, workers as usize)?;
         let mut scheduler = Scheduler::new(alloc, plan, workers)?;
         post_root(&mut scheduler, plan, &mut seats)?;
@@ -87,15 +101,34 @@ impl<'a, G: Ground> Desk<'a, G> {
     }
 
     /// Whom the event that was booked wakes: those who wait for a change, where somebody does, and
-    /// one worker that waits and has something to wake for, which is called by it.
+    /// one worker that waits and has something to wake for, which is called by it. Where nobody is
+    /// called, no worker that waits and wasn't called could enter a node that waits for a key.
     pub(crate) fn wakes(&mut self) -> Wakes
-        ensures { self.new ≡ self.old }
+        ensures book { self.new.book ≡ self.old.book }
+        ensures nobody { result.worker ≡ None → (w : ℕ) → w < length self.old.scheduler.members → awaits (member_of self.old.scheduler.members w) ≡ true → CanEnterNone self.old w }
     {
         let is_over = self.is_over();
         Wakes {
             watchers: self.watching > 0,
             worker: self.scheduler.call(is_over),
         }
+    }
+
+    /// The plan that is run.
+    pub(crate) fn plan(&self) -> &'a Plan
+        ensures { result.now ≡ G.plan }
+    {
+        self.book.plan()
+    }
+
+    /// Whether the run was stopped.
+    pub(crate) fn is_stopped(&self) -> bool {
+        self.book.is_stopped()
+    }
+
+    /// Whether every child of the root is over.
+    pub(crate) fn is_done(&self) -> bool {
+        self.scheduler.is_done()
     }
 
     // Whether nothing more is to be done.
@@ -106,14 +139,14 @@ impl<'a, G: Ground> Desk<'a, G> {
     /// A worker begins to wait with what it has seen: how often nodes had been posted before its
     /// last look into the deques, if that found each of them empty.
     pub(crate) fn begin_idle(&mut self, worker: u32, seen: Option<u64>)
-        ensures { self.new ≡ self.old }
+        ensures { self.new.book ≡ self.old.book }
     {
         self.scheduler.begin_wait(worker, seen);
     }
 
     /// A worker waits no more.
     pub(crate) fn end_idle(&mut self, worker: u32)
-        ensures { self.new ≡ self.old }
+        ensures { self.new.book ≡ self.old.book }
     {
         self.scheduler.end_wait(worker);
     }
@@ -123,8 +156,11 @@ impl<'a, G: Ground> Desk<'a, G> {
     /// Where nodes weren't posted since it has seen all deques empty, none lies in a deque: one
     /// that was taken out is never posted again. It was tried, or the worker that took it will try
     /// it. So no node is left in the deque of a worker that sleeps or has ended.
+    ///
+    /// While it waits, it could enter no node that waits for a key.
     pub(crate) fn stays(&mut self, worker: u32) -> bool
-        ensures { self.new ≡ self.old }
+        ensures book { self.new.book ≡ self.old.book }
+        ensures nothing { worker < G.workers → result ≡ true → CanEnterNone self.old worker }
     {
         let is_over = self.is_over();
         self.scheduler.stays(worker, is_over)
@@ -133,6 +169,37 @@ impl<'a, G: Ground> Desk<'a, G> {
     /// Whether something waits for a worker that needs no look into the deques.
     pub(crate) fn calls_for(&self, worker: u32) -> bool {
         self.scheduler.calls_for(worker)
+    }
+
+    /// The class that a worker has just opened, which is asked for once.
+    pub(crate) fn take_opening(&mut self, worker: u32) -> Option<u32>
+        ensures { self.new ≡ self.old }
+    {
+        self.scheduler.take_opening(worker)
+    }
+
+    /// Whether a node lies in a deque, or is in the hand of who took it there.
+    pub(crate) fn is_loose(&self, node: u32) -> bool {
+        self.scheduler.is_loose(node)
+    }
+
+    /// The next node that waits for a worker, which leaves its line to be attempted or shut.
+    pub(crate) fn next_for(&mut self, worker: u32) -> Option<u32>
+        ensures { self.new.book ≡ self.old.book }
+    {
+        self.scheduler.next_for(worker)
+    }
+
+    /// Whether a node is a class that was entered in a turn, to be left open.
+    pub(crate) fn is_shared(&self, node: u32) -> bool {
+        self.scheduler.is_shared(node)
+    }
+
+    /// A class was entered in a turn, to be left open.
+    pub(crate) fn share(&mut self, class: u32)
+        ensures { self.new ≡ self.old }
+    {
+        self.scheduler.share(class);
     }
 
     /// How often a class was opened up of which nodes were posted.
@@ -147,7 +214,8 @@ impl<'a, G: Ground> Desk<'a, G> {
 
     /// A lock of a node whose key is in its way, if there is one: it makes the book refuse it.
     pub(crate) fn lock_in_the_way(&mut self, node: u32) -> Option<Lock>
-        ensures { self.new ≡ self.old }
+        ensures book { self.new ≡ self.old }
+        ensures own { IfSome result (λ l. takes_in l.access l.key (locks G.plan.rows node) ≡ true) }
     {
         let plan = self.book.plan();
         if node >= plan.len() {
@@ -156,9 +224,11 @@ impl<'a, G: Ground> Desk<'a, G> {
         self.hints.lock_in_the_way(plan, self.book.held(), node)
     }
 
-    /// A node waits for a key that is in its way, for a worker to attempt it later.
+    /// A node waits for the key of one of its locks that is in its way, for a worker to attempt it
+    /// later.
     pub(crate) fn wait_for(&mut self, node: u32, lock: Lock, worker: u32) -> Result<(), AllocError>
-        ensures { self.new ≡ self.old }
+        requires { takes_in lock.access lock.key (locks G.plan.rows node) ≡ true }
+        ensures { self.new.book ≡ self.old.book }
     {
         self.scheduler
             .wait_for(self.book.plan(), node, lock, worker)
@@ -171,48 +241,75 @@ impl<'a, G: Ground> Desk<'a, G> {
         worker: u32,
         owner: &mut Owner,
     ) -> Result<(), AllocError>
-        ensures { self.new ≡ self.old }
+        ensures { self.new.book ≡ self.old.book }
     {
         let plan = self.book.plan();
         post_children(&mut self.scheduler, plan, class, owner)?;
         self.scheduler.open(plan, class, worker)
     }
 
-    /// A node was entered by a worker.
-    pub(crate) fn note_enter(&mut self, node: u32, worker: u32)
-        ensures { self.new ≡ self.old }
+    /// A worker enters a node with a tray, as `Book::enter_own` has it.
+    pub(crate) fn enter(
+        &mut self,
+        worker: u32,
+        node: u32,
+        tray: &mut Tray<'_>,
+    ) -> Result<(), CoreFault>
+        requires { IsTrayOf G.plan G.start tray.old }
+        ensures event { MatchResult result (λ _. IsTaken (Event.Enter worker node) (MayEnterWith self.old.book node tray.old) self.old.book self.new.book)
+            (λ fault. IsNotTaken fault (Event.Enter worker node) (MayEnterWith self.old.book node tray.old) self.old.book self.new.book tray.old tray.new) }
+        ensures tray { OnOk result (IsEntered node tray.old tray.new) }
     {
+        nodes_are_a_tree(self.book.plan());
+        self.book.enter_own(worker, node, tray)?;
         self.scheduler
             .enter(self.book.plan(), self.book.held(), node, worker);
+        Ok(())
     }
 
-    /// A class was shut by a worker.
-    pub(crate) fn note_shut(&mut self, class: u32, worker: u32)
-        ensures { self.new ≡ self.old }
-    {
-        self.scheduler.shut(class, worker);
-    }
-
-    /// A body of this kind was left by a worker. Out of memory is answered only after 2^63 nodes
-    /// were put in lines.
-    pub(crate) fn note_leave(
+    /// A worker shuts a class with a tray, as `Book::shut_own` has it.
+    pub(crate) fn shut(
         &mut self,
-        kind: BodyKind,
-        node: u32,
         worker: u32,
-    ) -> Result<(), AllocError>
-        ensures { self.new ≡ self.old }
+        class: u32,
+        tray: &mut Tray<'_>,
+    ) -> Result<(), CoreFault>
+        requires { IsTrayOf G.plan G.start tray.old }
+        ensures event { MatchResult result (λ _. IsTaken (Event.Shut worker class) (GoesOnWith self.old.book class tray.old) self.old.book self.new.book)
+            (λ fault. IsNotTaken fault (Event.Shut worker class) (GoesOnWith self.old.book class tray.old) self.old.book self.new.book tray.old tray.new) }
+        ensures tray { OnOk result (IsShut class tray.old tray.new) }
     {
-        match kind {
-            BodyKind::BeforeAll => {
-                self.scheduler.leave_open(node, worker);
-                Ok(())
-            }
-            BodyKind::Test | BodyKind::AfterAll => {
-                self.scheduler
-                    .finish(self.book.plan(), self.book.held(), node)
-            }
+        nodes_are_a_tree(self.book.plan());
+        self.book.shut_own(worker, class, tray)?;
+        self.scheduler.shut(class, worker);
+        Ok(())
+    }
+
+    /// Books what a worker's body came to with a tray, as `Book::leave_own` has it. After 2^63 nodes
+    /// were put in lines it stops the run.
+    pub(crate) fn leave(
+        &mut self,
+        worker: u32,
+        done: Done,
+        tray: &mut Tray<'_>,
+    ) -> Result<Receipt, (Refused, Done)>
+        requires ground { IsTrayOf G.plan G.start tray.old }
+        requires brought { MayBring done tray.old }
+        ensures event { MatchResult result (λ receipt. (c : BookView) × IsLeft worker done receipt self.old.book c tray.old)
+            (λ refusal. IsNotLeft (refused_of refusal.0) refusal.1 worker done self.old.book self.new.book tray.old tray.new) }
+        ensures tray { OnOk result (tray.new ≡ after_leave done.kind done.subject.node tray.old) }
+        ensures reads { OnOk result ((n : ℕ) → is_lent tray.new.lent n ≡ true → ReadsStart n tray.new) }
+    {
+        nodes_are_a_tree(self.book.plan());
+        let (kind, node) = (done.kind(), done.node());
+        let receipt = self.book.leave_own(worker, done, tray)?;
+        let left = self
+            .scheduler
+            .leave(self.book.plan(), self.book.held(), kind, node, worker);
+        if left.is_err() {
+            self.book.stop();
         }
+        Ok(receipt)
     }
 
     /// One more waits for a change.
@@ -231,29 +328,29 @@ impl<'a, G: Ground> Desk<'a, G> {
 
     /// Stops the book.
     pub(crate) fn stop(&mut self)
-        ensures { self.new ≡ record self.old { stopped = true } }
+        ensures { self.new.book ≡ record self.old.book { stopped = true } }
     {
         self.book.stop();
     }
 
     /// How many events the history has.
     pub(crate) fn length(&self) -> u64
-        ensures { result ≡ length self.now.history }
+        ensures { result ≡ length self.now.book.history }
     {
         self.book.history().len() as u64
     }
 
     /// Whether the history is no longer than `seen`, and the run neither stopped nor complete.
     pub(crate) fn is_unchanged(&self, seen: u64) -> bool
-        ensures { result ≡ not (has_changed seen self.now) }
+        ensures { result ≡ not (has_changed seen self.now.book) }
     {
         self.length() <= seen && !self.book.is_stopped() && !self.book.complete()
     }
 
     /// The history of its book in full is a run, and the book is of the floor's ground.
     pub(crate) fn keep_run(&self)
-        ensures run { HasRun self.now }
-        ensures ground { IsBookOf G.plan G.start G.workers self.now }
+        ensures run { HasRun self.now.book }
+        ensures ground { IsBookOf G.plan G.start G.workers self.now.book }
     {
         let _history = self.book.history();
     }
@@ -275,7 +372,9 @@ fn post_root(
     plan: &Plan,
     seats: &mut Vec<PostSeat>,
 ) -> Result<(), AllocError>
-    ensures { (nodes workers : ℕ) → IsFor nodes workers scheduler.old → IsFor nodes workers scheduler.new }
+    ensures sizes { KeepsSizes scheduler.old scheduler.new }
+    ensures lines { KeepsLines scheduler.old scheduler.new }
+    ensures keys { scheduler.new.keys ≡ scheduler.old.keys }
 {
     match seats.first_mut() {
         Some(first) => post_children(scheduler, plan, 0, &mut first.owner),

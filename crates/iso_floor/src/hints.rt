@@ -3,8 +3,9 @@ ghost use Rattle.std.specs.Prelude.{◌≡◌, ◌<◌, IfSome, MatchOption, fal
 ghost use Rattle.std.specs.List.{All, list_any};
 ghost use Rattle.iso_floor.specs.KeyMarks.{is_excluded};
 ghost use Rattle.iso_plan.specs.Conflicts.{lowest_in_the_way};
-ghost use Rattle.iso_plan.specs.HeldNodes.{is_held};
+ghost use Rattle.iso_plan.specs.HeldNodes.{is_held, takes_in};
 ghost use Rattle.iso_plan.specs.KeyTable.{keys};
+ghost use Rattle.iso_plan.specs.Locks.{locks};
 ghost use Rattle.iso_plan.specs.RowView.{tree_of};
 
 use iso_model::access::Access;
@@ -73,6 +74,7 @@ impl Hints {
         requires plan { plan.now ≡ held.now.plan }
         requires node { node < length plan.now.rows }
         ensures key { IfSome result (λ l. l.key < length (keys (tree_of plan.now))) }
+        ensures own { IfSome result (λ l. takes_in l.access l.key (locks (tree_of plan.now) node) ≡ true) }
         ensures excluded { MatchOption result (is_some (lowest_in_the_way (tree_of plan.now) (is_held held.now.held) node) ≡ false) (λ l. is_excluded (tree_of plan.now) held.now.held l ≡ true) }
     {
         let locks = plan.locks(node);
@@ -134,6 +136,7 @@ fn place_of(locks: &[Lock], takers: &[Takers], nodes: u32) -> u32 {
 fn excluded_on(held: &HeldNodes<'_>, locks: &[Lock], key: u32) -> Option<Lock>
     requires { All (λ l. l.key < length (keys (tree_of held.now.plan))) locks.now }
     ensures key { IfSome result (λ l. l.key < length (keys (tree_of held.now.plan))) }
+    ensures own { IfSome result (λ l. takes_in l.access l.key locks.now ≡ true) }
     ensures excluded { IfSome result (λ l. is_excluded (tree_of held.now.plan) held.now.held l ≡ true) }
 {
     let at = locks.partition_point(|lock| lock.key < key);
@@ -149,6 +152,7 @@ fn excluded_on(held: &HeldNodes<'_>, locks: &[Lock], key: u32) -> Option<Lock>
 fn first_excluded(held: &HeldNodes<'_>, locks: &[Lock]) -> Option<Lock>
     requires { All (λ l. l.key < length (keys (tree_of held.now.plan))) locks.now }
     ensures key { IfSome result (λ l. l.key < length (keys (tree_of held.now.plan))) }
+    ensures own { IfSome result (λ l. takes_in l.access l.key locks.now ≡ true) }
     ensures excluded { MatchOption result (list_any (is_excluded (tree_of held.now.plan) held.now.held) locks.now ≡ false) (λ l. is_excluded (tree_of held.now.plan) held.now.held l ≡ true) }
 {
     'locks: for lock in locks {

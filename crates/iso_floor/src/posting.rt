@@ -1,6 +1,6 @@
 //! What goes into the deques: what may run beside others, once its class is open.
-ghost use Rattle.std.specs.Prelude.{ℕ};
-ghost use Rattle.iso_floor.specs.Schedulers.{IsFor};
+ghost use Rattle.std.specs.Prelude.{◌≡◌};
+ghost use Rattle.iso_floor.specs.Schedulers.{KeepsLines, KeepsSizes};
 
 use crate::nodes::{children_of, is_concurrent};
 use crate::scheduler::Scheduler;
@@ -15,7 +15,9 @@ pub(crate) fn post_children(
     class: u32,
     owner: &mut Owner,
 ) -> Result<(), AllocError>
-    ensures { (nodes workers : ℕ) → IsFor nodes workers scheduler.old → IsFor nodes workers scheduler.new }
+    ensures sizes { KeepsSizes scheduler.old scheduler.new }
+    ensures lines { KeepsLines scheduler.old scheduler.new }
+    ensures keys { scheduler.new.keys ≡ scheduler.old.keys }
 {
     let mut posted = false;
     'children: for child in children_of(plan, class) {

@@ -24,20 +24,23 @@
 //!     of everyone's is on offer, and no node lies in a deque, as far as it has seen.
 //! 11. Every turn, Leave and stop ends with a call: one worker that waits, wasn't called, and has
 //!     something to wake for.
-ghost use Rattle.std.specs.Prelude.{◌≡◌, ◌<◌, ◌≤◌, ◌+◌, ◌^◌, ◌==◌, ℕ, IfOk, IfSome, IsTrue, MatchOption, None, OnErr, OnOk, cond, false, length, not, true};
+ghost use Rattle.std.specs.Prelude.{◌≡◌, ◌≢◌, ◌<◌, ◌≤◌, ◌+◌, ◌^◌, ◌==◌, ℕ, List, IfOk, IfSome, IsTrue, MatchOption, None, OnErr, OnOk, cond, false, length, not, true};
 ghost use Rattle.std.specs.Bool.{Decides};
 ghost use Rattle.iso_desk.specs.Crews.{awaits, called, looking, member_of, waiting};
 ghost use Rattle.iso_desk.specs.Lines.{IsLineOf};
-ghost use Rattle.iso_desk.specs.Marking.{room};
+ghost use Rattle.iso_desk.specs.Marking.{has, room};
 ghost use Rattle.iso_desk.specs.Places.{headed, line_in, lined_up, place_of};
 ghost use Rattle.iso_desk.specs.declared.place.Place.TheVariants.{Loose, Over, With};
 ghost use Rattle.iso_floor.specs.KeyMarks.{AreRenewed};
 ghost use Rattle.iso_floor.specs.Nexts.{HasNone, IsNextNode};
-ghost use Rattle.iso_floor.specs.Schedulers.{HasNothingIn, IsFor, IsFree, is_loose, loose_in, next_taken, put, waiting_line};
+ghost use Rattle.iso_floor.specs.Schedulers.{HasNothingIn, IsFor, IsFree, KeepsLines, KeepsSizes, WaitRightly, is_loose, loose_in, next_taken, put, waiting_line};
+ghost use Rattle.iso_lifecycle.specs.declared.kind.BodyKind.TheVariants.{BeforeAll};
+ghost use Rattle.iso_plan.specs.HeldNodes.{takes_in};
 ghost use Rattle.iso_plan.specs.KeyTable.{keys};
 ghost use Rattle.iso_plan.specs.Locks.{locks};
 ghost use Rattle.iso_plan.specs.Modes.{mode};
 ghost use Rattle.iso_plan.specs.RowView.{tree_of};
+ghost use Rattle.iso_plan.specs.Tree.{Row};
 
 use crate::keys::{HeldKeys, KEYS};
 use crate::nodes::{children_of, is_concurrent, parent_of};
@@ -47,6 +50,7 @@ use iso_desk::line::{KeyLine, Line, Party};
 use iso_desk::place::Place;
 use iso_desk::scene::{Scene, has_nothing_for};
 use iso_desk::table::Table;
+use iso_lifecycle::kind::BodyKind;
 use iso_model::access::Access;
 use iso_plan::held_nodes::HeldNodes;
 use iso_plan::lock::Lock;
@@ -102,7 +106,10 @@ impl Scheduler {
     /// Of a plan, whose root is open: its first SAME_THREAD child is worker 0's. It takes all
     /// memory that its calls need.
     pub(crate) fn new(alloc: Global, plan: &Plan, workers: u32) -> Result<Scheduler, AllocError>
-        ensures { IfOk result (IsFor (length plan.now.rows) workers) }
+        ensures sizes { IfOk result (IsFor (length plan.now.rows) workers) }
+        ensures held { IfOk result (λ s. (k : ℕ) → has s.keys.held k ≡ false) }
+        ensures written { IfOk result (λ s. (k : ℕ) → has s.keys.written k ≡ false) }
+        ensures lines { IfOk result (λ s. (tree : List Row) → WaitRightly tree s.table.places) }
     {
         let mut scheduler = Scheduler::closed(alloc, plan, workers)?;
         scheduler.open(plan, 0, FIRST_WORKER)?;
@@ -111,7 +118,10 @@ impl Scheduler {
 
     /// Of a plan, whose nodes are all closed.
     fn closed(alloc: Global, plan: &Plan, workers: u32) -> Result<Scheduler, AllocError>
-        ensures { IfOk result (IsFor (length plan.now.rows) workers) }
+        ensures sizes { IfOk result (IsFor (length plan.now.rows) workers) }
+        ensures held { IfOk result (λ s. (k : ℕ) → has s.keys.held k ≡ false) }
+        ensures written { IfOk result (λ s. (k : ℕ) → has s.keys.written k ≡ false) }
+        ensures lines { IfOk result (λ s. (tree : List Row) → WaitRightly tree s.table.places) }
     {
         let nodes = plan.len() as usize;
         Ok(Scheduler {
@@ -142,7 +152,8 @@ impl Scheduler {
     /// answered only after 2^63 nodes were put in lines.
     pub(crate) fn open(&mut self, plan: &Plan, class: u32, owner: u32) -> Result<(), AllocError>
         ensures rest { self.new ≡ record self.old { table = self.new.table } }
-        ensures sizes { (nodes workers : ℕ) → IsFor nodes workers self.old → IsFor nodes workers self.new }
+        ensures sizes { KeepsSizes self.old self.new }
+        ensures lines { KeepsLines self.old self.new }
     {
         self.own(class, owner);
         self.put(class, Place::Open);
@@ -152,7 +163,8 @@ impl Scheduler {
     /// A node lies in a deque from now on.
     pub(crate) fn post(&mut self, node: u32)
         ensures step { self.new ≡ record self.old { table = put node Loose self.old.table } }
-        ensures sizes { (nodes workers : ℕ) → IsFor nodes workers self.old → IsFor nodes workers self.new }
+        ensures sizes { KeepsSizes self.old self.new }
+        ensures lines { KeepsLines self.old self.new }
     {
         self.put(node, Place::Loose);
     }
@@ -161,7 +173,7 @@ impl Scheduler {
     pub(crate) fn count_round(&mut self)
         ensures counted { self.old.rounds + 1 < 2 ^ 64 → self.new.rounds ≡ self.old.rounds + 1 }
         ensures same { self.new ≡ record self.old { rounds = self.new.rounds } }
-        ensures sizes { (nodes workers : ℕ) → IsFor nodes workers self.old → IsFor nodes workers self.new }
+        ensures sizes { KeepsSizes self.old self.new }
     {
         self.rounds = self.rounds.saturating_add(1);
     }
@@ -199,7 +211,8 @@ impl Scheduler {
     pub(crate) fn next_for(&mut self, worker: u32) -> Option<u32>
         ensures node { worker < self.old.table.workers → MatchOption result (HasNone self.old.table.places self.old.keys worker) (IsNextNode self.old.table.places self.old.keys worker) }
         ensures left { self.new ≡ record self.old { table = next_taken result self.old.table } }
-        ensures sizes { (nodes workers : ℕ) → IsFor nodes workers self.old → IsFor nodes workers self.new }
+        ensures sizes { KeepsSizes self.old self.new }
+        ensures lines { KeepsLines self.old self.new }
     {
         if worker >= self.table.workers() {
             return None;
@@ -222,7 +235,8 @@ impl Scheduler {
         ensures waits { OnOk result (IsFree self.old.table.places node → node < length plan.now.rows → lock.key < 256 → worker < self.old.table.workers → self.new.table ≡ lined_up node (waiting_line (mode (tree_of plan.now) plan.now.settings node) worker lock) self.old.table) }
         ensures same { OnErr result (self.new ≡ self.old) }
         ensures rest { self.new ≡ record self.old { table = self.new.table } }
-        ensures sizes { (nodes workers : ℕ) → IsFor nodes workers self.old → IsFor nodes workers self.new }
+        ensures sizes { KeepsSizes self.old self.new }
+        ensures lines { (tree : List Row) → takes_in lock.access lock.key (locks tree node) ≡ true → WaitRightly tree self.old.table.places → WaitRightly tree self.new.table.places }
     {
         let party = if is_concurrent(plan, node) {
             Party::Everyone
@@ -245,7 +259,9 @@ impl Scheduler {
         requires { plan.now ≡ held.now.plan }
         ensures place { self.new ≡ record self.old { table = put node (With worker) self.old.table; keys = self.new.keys } }
         ensures keys { node < length plan.now.rows → AreRenewed (tree_of plan.now) held.now.held (locks (tree_of plan.now) node) self.old.keys self.new.keys }
-        ensures sizes { (nodes workers : ℕ) → IsFor nodes workers self.old → IsFor nodes workers self.new }
+        ensures past { length plan.now.rows ≤ node → self.new.keys ≡ self.old.keys }
+        ensures sizes { KeepsSizes self.old self.new }
+        ensures lines { KeepsLines self.old self.new }
     {
         self.put(node, Place::With(worker));
         self.renew(plan, held, node);
@@ -254,14 +270,42 @@ impl Scheduler {
     /// A worker shut a class.
     pub(crate) fn shut(&mut self, class: u32, worker: u32)
         ensures step { self.new ≡ record self.old { table = put class (With worker) self.old.table } }
-        ensures sizes { (nodes workers : ℕ) → IsFor nodes workers self.old → IsFor nodes workers self.new }
+        ensures sizes { KeepsSizes self.old self.new }
+        ensures lines { KeepsLines self.old self.new }
     {
         self.put(class, Place::With(worker));
     }
 
+    /// A worker left a body of this kind: after a class's `before_all` the class is opened up or
+    /// shut, after the last body of a node the node is over. Out of memory is answered only after
+    /// 2^63 nodes were put in lines.
+    pub(crate) fn leave(
+        &mut self,
+        plan: &Plan,
+        held: &HeldNodes<'_>,
+        kind: BodyKind,
+        node: u32,
+        worker: u32,
+    ) -> Result<(), AllocError>
+        requires { plan.now ≡ held.now.plan }
+        ensures stays { kind ≡ BeforeAll → self.new ≡ self.old }
+        ensures keys { kind ≢ BeforeAll → node < length plan.now.rows → AreRenewed (tree_of plan.now) held.now.held (locks (tree_of plan.now) node) self.old.keys self.new.keys }
+        ensures past { length plan.now.rows ≤ node → self.new.keys ≡ self.old.keys }
+        ensures sizes { KeepsSizes self.old self.new }
+        ensures lines { KeepsLines self.old self.new }
+    {
+        match kind {
+            BodyKind::BeforeAll => {
+                self.leave_open(node, worker);
+                Ok(())
+            }
+            BodyKind::Test | BodyKind::AfterAll => self.finish(plan, held, node),
+        }
+    }
+
     /// A worker left the `before_all` of a class: where it is to be left open, its worker shuts it
     /// or opens it up next.
-    pub(crate) fn leave_open(&mut self, class: u32, worker: u32)
+    fn leave_open(&mut self, class: u32, worker: u32)
         ensures { self.new ≡ self.old }
     {
         if self.is_shared(class)
@@ -274,21 +318,40 @@ impl Scheduler {
     /// A node's last body was left: it is over, and its keys are as the nodes hold them that are
     /// held still. In a class that is open the next child is the owner's, and so is the class
     /// after its last. Out of memory is answered only after 2^63 nodes were put in lines.
-    pub(crate) fn finish(
-        &mut self,
-        plan: &Plan,
-        held: &HeldNodes<'_>,
-        node: u32,
-    ) -> Result<(), AllocError>
+    fn finish(&mut self, plan: &Plan, held: &HeldNodes<'_>, node: u32) -> Result<(), AllocError>
         requires { plan.now ≡ held.now.plan }
         ensures keys { node < length plan.now.rows → AreRenewed (tree_of plan.now) held.now.held (locks (tree_of plan.now) node) self.old.keys self.new.keys }
+        ensures past { length plan.now.rows ≤ node → self.new.keys ≡ self.old.keys }
         ensures rest { self.new ≡ record self.old { table = self.new.table; keys = self.new.keys } }
-        ensures sizes { (nodes workers : ℕ) → IsFor nodes workers self.old → IsFor nodes workers self.new }
+        ensures sizes { KeepsSizes self.old self.new }
+        ensures lines { KeepsLines self.old self.new }
     {
         let class = parent_of(plan, node);
+        self.end(plan, held, node, class);
+        self.go_on_after(plan, node, class)
+    }
+
+    /// A child of a class is over.
+    fn end(&mut self, plan: &Plan, held: &HeldNodes<'_>, node: u32, class: u32)
+        requires { plan.now ≡ held.now.plan }
+        ensures keys { node < length plan.now.rows → AreRenewed (tree_of plan.now) held.now.held (locks (tree_of plan.now) node) self.old.keys self.new.keys }
+        ensures past { length plan.now.rows ≤ node → self.new.keys ≡ self.old.keys }
+        ensures rest { self.new ≡ record self.old { table = self.new.table; keys = self.new.keys } }
+        ensures sizes { KeepsSizes self.old self.new }
+        ensures lines { KeepsLines self.old self.new }
+    {
         self.put(node, Place::Over);
         self.renew(plan, held, node);
         self.count_child(class);
+    }
+
+    /// What comes after a child of a class that is open: the next one that its owner alone may
+    /// enter, where the child was one, and the class itself after its last.
+    fn go_on_after(&mut self, plan: &Plan, node: u32, class: u32) -> Result<(), AllocError>
+        ensures rest { self.new ≡ record self.old { table = self.new.table } }
+        ensures sizes { KeepsSizes self.old self.new }
+        ensures lines { KeepsLines self.old self.new }
+    {
         if self.place(class) != Place::Open {
             return Ok(());
         }
@@ -315,7 +378,7 @@ impl Scheduler {
     pub(crate) fn begin_wait(&mut self, worker: u32, seen: Option<u64>)
         ensures waits { worker < self.old.table.workers → self.new.members ≡ waiting worker seen self.old.members }
         ensures rest { self.new ≡ record self.old { members = self.new.members } }
-        ensures sizes { (nodes workers : ℕ) → IsFor nodes workers self.old → IsFor nodes workers self.new }
+        ensures sizes { KeepsSizes self.old self.new }
     {
         if worker < self.table.workers() {
             self.crew.wait(worker, seen);
@@ -326,7 +389,7 @@ impl Scheduler {
     pub(crate) fn end_wait(&mut self, worker: u32)
         ensures looks { worker < self.old.table.workers → self.new.members ≡ looking worker self.old.members }
         ensures rest { self.new ≡ record self.old { members = self.new.members } }
-        ensures sizes { (nodes workers : ℕ) → IsFor nodes workers self.old → IsFor nodes workers self.new }
+        ensures sizes { KeepsSizes self.old self.new }
     {
         if worker < self.table.workers() {
             self.crew.wake(worker);
@@ -339,7 +402,7 @@ impl Scheduler {
         ensures nothing { worker < self.old.table.workers → Decides result (HasNothingIn self.old is_over worker (member_of self.old.members worker).seen) }
         ensures waits { worker < self.old.table.workers → self.new.members ≡ cond result (waiting worker (member_of self.old.members worker).seen self.old.members) self.old.members }
         ensures rest { self.new ≡ record self.old { members = self.new.members } }
-        ensures sizes { (nodes workers : ℕ) → IsFor nodes workers self.old → IsFor nodes workers self.new }
+        ensures sizes { KeepsSizes self.old self.new }
     {
         if worker >= self.table.workers() {
             return false;
@@ -357,7 +420,7 @@ impl Scheduler {
     pub(crate) fn call(&mut self, is_over: bool) -> Option<u32>
         ensures whom { MatchOption result ((w : ℕ) → w < length self.old.members → awaits (member_of self.old.members w) ≡ true → HasNothingIn self.old is_over w (member_of self.old.members w).seen) (λ w. (awaits (member_of self.old.members w) ≡ true) × ¬ HasNothingIn self.old is_over w (member_of self.old.members w).seen) }
         ensures marked { self.new ≡ record self.old { members = called result self.old.members } }
-        ensures sizes { (nodes workers : ℕ) → IsFor nodes workers self.old → IsFor nodes workers self.new }
+        ensures sizes { KeepsSizes self.old self.new }
     {
         let scene = Scene {
             table: &self.table,
@@ -414,7 +477,8 @@ impl Scheduler {
     fn put(&mut self, node: u32, place: Place)
         requires { line_in place ≡ None }
         ensures step { self.new ≡ record self.old { table = put node place self.old.table } }
-        ensures sizes { (nodes workers : ℕ) → IsFor nodes workers self.old → IsFor nodes workers self.new }
+        ensures sizes { KeepsSizes self.old self.new }
+        ensures lines { KeepsLines self.old self.new }
     {
         if self.is_free(node) {
             let was = is_loose(self.table.place(node));
@@ -430,7 +494,7 @@ impl Scheduler {
         ensures stands { OnOk result (self.new.table ≡ lined_up node line self.old.table) }
         ensures same { OnErr result (self.new ≡ self.old) }
         ensures rest { self.new ≡ record self.old { table = self.new.table } }
-        ensures sizes { (nodes workers : ℕ) → IsFor nodes workers self.old → IsFor nodes workers self.new }
+        ensures sizes { KeepsSizes self.old self.new }
     {
         let was = is_loose(self.table.place(node));
         self.table.line_up(node, line)?;
@@ -445,7 +509,7 @@ impl Scheduler {
         ensures stands { OnOk result (self.new.table ≡ headed node line self.old.table) }
         ensures same { OnErr result (self.new ≡ self.old) }
         ensures rest { self.new ≡ record self.old { table = self.new.table } }
-        ensures sizes { (nodes workers : ℕ) → IsFor nodes workers self.old → IsFor nodes workers self.new }
+        ensures sizes { KeepsSizes self.old self.new }
     {
         let was = is_loose(self.table.place(node));
         self.table.line_up_first(node, line)?;
@@ -457,8 +521,9 @@ impl Scheduler {
     fn renew(&mut self, plan: &Plan, held: &HeldNodes<'_>, node: u32)
         requires { plan.now ≡ held.now.plan }
         ensures keys { node < length plan.now.rows → AreRenewed (tree_of plan.now) held.now.held (locks (tree_of plan.now) node) self.old.keys self.new.keys }
+        ensures past { length plan.now.rows ≤ node → self.new.keys ≡ self.old.keys }
         ensures rest { self.new ≡ record self.old { keys = self.new.keys } }
-        ensures sizes { (nodes workers : ℕ) → IsFor nodes workers self.old → IsFor nodes workers self.new }
+        ensures sizes { KeepsSizes self.old self.new }
     {
         if node < plan.len() {
             self.keys.renew(held, plan.locks(node));
@@ -494,7 +559,8 @@ impl Scheduler {
     /// The next child of a class that its owner alone may enter, if there is one, is the owner's.
     fn go_on_in(&mut self, plan: &Plan, class: u32) -> Result<(), AllocError>
         ensures rest { self.new ≡ record self.old { table = self.new.table } }
-        ensures sizes { (nodes workers : ℕ) → IsFor nodes workers self.old → IsFor nodes workers self.new }
+        ensures sizes { KeepsSizes self.old self.new }
+        ensures lines { KeepsLines self.old self.new }
     {
         match self.next_child(plan, class) {
             Some(child) => self.give_to_owner(class, child),
@@ -520,7 +586,8 @@ impl Scheduler {
     /// A node that stands in no line is for a class's owner to attempt or to shut.
     fn give_to_owner(&mut self, class: u32, node: u32) -> Result<(), AllocError>
         ensures rest { self.new ≡ record self.old { table = self.new.table } }
-        ensures sizes { (nodes workers : ℕ) → IsFor nodes workers self.old → IsFor nodes workers self.new }
+        ensures sizes { KeepsSizes self.old self.new }
+        ensures lines { KeepsLines self.old self.new }
     {
         let Some(kept) = self.classes.get(class as usize) else {
             return Ok(())

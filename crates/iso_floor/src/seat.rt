@@ -155,11 +155,7 @@ impl<'a, G: Ground> Seat<'a, G> {
         ensures same { OnErr result (self.new ≡ self.old) }
     {
         desk.keep_run();
-        let entered = desk.book.enter_own(self.worker, node, &mut self.tray);
-        if entered.is_ok() {
-            desk.note_enter(node, self.worker);
-        }
-        entered
+        desk.enter(self.worker, node, &mut self.tray)
     }
 
     // Shuts a class at a desk.
@@ -171,15 +167,10 @@ impl<'a, G: Ground> Seat<'a, G> {
         ensures same { OnErr result (self.new ≡ self.old) }
     {
         desk.keep_run();
-        let shut = desk.book.shut_own(self.worker, node, &mut self.tray);
-        if shut.is_ok() {
-            desk.note_shut(node, self.worker);
-        }
-        shut
+        desk.shut(self.worker, node, &mut self.tray)
     }
 
-    // Books at a desk what a body came to, where there is room for its receipt. After 2^63 nodes
-    // were put in lines it stops the run.
+    // Books at a desk what a body came to, where there is room for its receipt.
     pub(crate) fn leave_at(
         &mut self,
         desk: &mut Desk<'a, G>,
@@ -198,13 +189,9 @@ impl<'a, G: Ground> Seat<'a, G> {
         if self.receipts.len() >= self.receipts.capacity() {
             return Err((Refused::Stranger, done));
         }
-        let (kind, node) = (done.kind(), done.node());
         desk.keep_run();
-        let receipt = desk.book.leave_own(self.worker, done, &mut self.tray)?;
+        let receipt = desk.leave(self.worker, done, &mut self.tray)?;
         self.receipts.push_reserved(receipt);
-        if desk.note_leave(kind, node, self.worker).is_err() {
-            desk.stop();
-        }
         self.is_called = desk.calls_for(self.worker);
         Ok(())
     }

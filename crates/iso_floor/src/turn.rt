@@ -32,10 +32,10 @@ impl<'a, G: Ground> Seat<'a, G> {
     pub(crate) fn turn_at(&mut self, desk: &mut Desk<'a, G>, found: Option<u32>) -> Turn
         ensures { IsTurn result self.old self.new }
     {
-        if desk.book.is_stopped() {
+        if desk.is_stopped() {
             return Turn::Halted(Halt::Stopped);
         }
-        if desk.scheduler.is_done() {
+        if desk.is_done() {
             return Turn::Finished;
         }
         if let Some(turn) = self.try_opened(desk) {
@@ -45,7 +45,7 @@ impl<'a, G: Ground> Seat<'a, G> {
             return turn;
         }
         'tries: for _ in 0..desk.tries() {
-            let Some(node) = desk.scheduler.next_for(self.worker()) else {
+            let Some(node) = desk.next_for(self.worker()) else {
                 return Turn::Wait;
             };
             if let Some(turn) = self.try_at(desk, node) {
@@ -59,7 +59,7 @@ impl<'a, G: Ground> Seat<'a, G> {
     fn try_opened(&mut self, desk: &mut Desk<'a, G>) -> Option<Turn>
         ensures { MatchOption result (self.new ≡ self.old) (λ turn. IsTurn turn self.old self.new) }
     {
-        let class = desk.scheduler.take_opening(self.worker())?;
+        let class = desk.take_opening(self.worker())?;
         self.try_shut(desk, class)
     }
 
@@ -68,7 +68,7 @@ impl<'a, G: Ground> Seat<'a, G> {
         ensures { MatchOption result (self.new ≡ self.old) (λ turn. IsTurn turn self.old self.new) }
     {
         let node = found?;
-        if !desk.scheduler.is_loose(node) {
+        if !desk.is_loose(node) {
             return None;
         }
         self.attempt(desk, node)
@@ -78,7 +78,7 @@ impl<'a, G: Ground> Seat<'a, G> {
     fn try_at(&mut self, desk: &mut Desk<'a, G>, node: u32) -> Option<Turn>
         ensures { MatchOption result (self.new ≡ self.old) (λ turn. IsTurn turn self.old self.new) }
     {
-        if desk.scheduler.is_shared(node) {
+        if desk.is_shared(node) {
             self.try_shut(desk, node)
         } else {
             self.attempt(desk, node)
@@ -103,8 +103,8 @@ impl<'a, G: Ground> Seat<'a, G> {
     {
         match self.enter_at(desk, node) {
             Ok(()) => {
-                if !is_done_whole(desk.book.plan(), node) {
-                    desk.scheduler.share(node);
+                if !is_done_whole(desk.plan(), node) {
+                    desk.share(node);
                 }
                 Some(Turn::Entered(node))
             }

@@ -1,4 +1,4 @@
-use Rattle.std.proofs.Common.{rules, ◌≡◌, ◌∙◌, ◌||◌, ◌==◌, ℕ, Bool, ap, ap₂, arith, not, refl, subst, sym}
+use Rattle.std.proofs.Common.{◌≡◌, ◌∙◌, ◌||◌, ◌==◌, ℕ, Bool, ap, ap₂, not, subst, sym}
 use Rattle.std.proofs.lemmas.List.{drop_more}
 use Rattle.iso_desk.specs.Marking.{has}
 use Rattle.iso_desk.specs.declared.marks.Marks.{Marks}

@@ -1,8 +1,8 @@
-use Rattle.std.proofs.Common.{◌≡◌, ℕ, ap, false, subst, sym, true, ◌∙◌}
+use Rattle.std.proofs.Common.{◌≡◌, ap, false, subst, sym, true, ◌∙◌}
 use Rattle.iso_desk.specs.Marking.{has}
 use Rattle.iso_desk.specs.Offers.{IsLowestOffer}
 use Rattle.iso_desk.specs.declared.marks.Marks.{Marks}
-use Rattle.iso_floor.proofs.NextLemmas.{next-held, next-reading, next-writing, not-written}
+use Rattle.iso_floor.proofs.NextLemmas.{next-held, next-reading, not-written}
 use Rattle.iso_floor.proofs.offers.offered.Goals as goal
 use Rattle.iso_floor.proofs.offers.offered.Goals.{else-has, then-has}
 

@@ -1,6 +1,10 @@
-use Rattle.std.proofs.Common.{ℕ}
-use Rattle.iso_floor.specs.Schedulers.{IsFor}
+use Rattle.std.proofs.Common.{◌≡◌}
+use Rattle.iso_floor.specs.Schedulers.{KeepsLines, KeepsSizes}
 use Rattle.iso_floor.proofs.posting.post_children.Given as goal
 
 abbrev pub invariant-children : goal.invariant-children
-invariant-children l = (nodes workers : ℕ) → IsFor nodes workers l.fn.scheduler → IsFor nodes workers l.scheduler
+invariant-children l = record {
+  sizes : KeepsSizes l.fn.scheduler l.scheduler;
+  lines : KeepsLines l.fn.scheduler l.scheduler;
+  keys : l.scheduler.keys ≡ l.fn.scheduler.keys;
+}

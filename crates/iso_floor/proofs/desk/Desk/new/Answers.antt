@@ -1,14 +1,22 @@
-use Rattle.std.proofs.Common.{rules, ◌≡◌, ap, length, subst, sym, ◌∙◌}
-use Rattle.iso_floor.specs.Schedulers.{IsFor, SchedulerView}
-use Rattle.iso_plan.specs.Planned.{Planned}
+use Rattle.std.proofs.Common.{rules, ap, length, subst, sym, ◌∙◌}
+use Rattle.iso_desk.specs.Marking.{has}
+use Rattle.iso_floor.specs.Desks.{IsDesk}
+use Rattle.iso_floor.specs.KeyMarks.{KeysView}
+use Rattle.iso_floor.specs.Schedulers.{SchedulerView}
+use Rattle.iso_floor.proofs.DeskLemmas.{desk-new}
 use Rattle.iso_floor.proofs.desk.Desk.new.Goals as goal
 
 pub invariant_of-result-2 : goal.invariant_of-result-2
 invariant_of-result-2 g c =
-    let made = c.post_root.ensures (length c.args.plan.now.rows) c.args.workers c.in_ok-scheduler.ensures in
+    let p = c.args.plan.now in
+    let new = c.in_ok-scheduler.ensures in
+    let posted = c.post_root.ensures in
+    let b = c.in_ok-new.field-0 in
     record {
-      book = search rules;
+      desk =
+          subst (λ (s : SchedulerView). IsDesk g.G.Ground.plan g.G.Ground.start g.G.Ground.workers b s) (sym c.scheduler.view_is)
+          (desk-new g.G.Ground.plan g.G.Ground.start g.G.Ground.workers p c.args.world.now c.args.workers b c.post_root.new.scheduler c.requires.plan c.requires.start c.requires.workers c.in_ok-new.ensures c.nodes_are_a_tree.ensures
+          (posted.sizes (length p.rows) c.args.workers new.sizes) (λ k. ap (λ (v : KeysView). has v.held k) posted.keys ∙ new.held k) (λ k. ap (λ (v : KeysView). has v.written k) posted.keys ∙ new.written k)
+          (posted.lines p.rows (new.lines p.rows)));
       seats = search rules;
-      scheduler = subst (λ (s : SchedulerView). IsFor (length g.G.Ground.plan.rows) g.G.Ground.workers s) (sym c.scheduler.view_is)
-          (record { nodes_are = made.nodes_are ∙ ap (λ (p : Planned). length p.rows) c.requires.plan; workers_are = made.workers_are ∙ c.requires.workers });
     }

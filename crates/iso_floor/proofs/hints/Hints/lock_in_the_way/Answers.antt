@@ -1,4 +1,4 @@
-use Rattle.std.proofs.Common.{rules, ◌≡◌, ◌<◌, List, None, Option, MatchOption, true, false, is_some, length, subst, sym, ◌∙◌}
+use Rattle.std.proofs.Common.{◌≡◌, ◌<◌, List, Option, MatchOption, true, false, is_some, length, subst, sym}
 use Rattle.std.proofs.lemmas.List.Elements.{recursion_from_All}
 use Rattle.std.specs.List.{All, AllByRecursion, list_any}
 use Rattle.iso_floor.specs.KeyMarks.{is_excluded}

@@ -1,4 +1,4 @@
-use Rattle.std.proofs.Common.{◌≡◌, List, ap, length, refl, subst, sym, ◌∙◌}
+use Rattle.std.proofs.Common.{List, ap, length, sym, ◌∙◌}
 use Rattle.std.proofs.lemmas.List.{length-replicate}
 use Rattle.iso_desk.specs.Crews.{fresh}
 use Rattle.iso_desk.specs.Places.{TableView}

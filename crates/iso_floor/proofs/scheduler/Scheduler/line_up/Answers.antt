@@ -1,4 +1,4 @@
-use Rattle.std.proofs.Common.{◌≡◌, ◌-◌, ap, false, refl, subst, sym, ◌∙◌}
+use Rattle.std.proofs.Common.{ap, false, refl, subst, sym, ◌∙◌}
 use Rattle.iso_desk.specs.Places.{TableView}
 use Rattle.iso_desk.specs.declared.place.Place.TheVariants.{InLine}
 use Rattle.iso_floor.specs.Schedulers.{IsFree, SchedulerView, is_loose, loose_in}

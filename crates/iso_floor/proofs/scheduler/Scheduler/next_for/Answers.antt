@@ -1,8 +1,9 @@
-use Rattle.std.proofs.Common.{◌≡◌, ap, refl, subst, sym, ◌∙◌}
+use Rattle.std.proofs.Common.{ap, refl, subst, sym, ◌∙◌}
 use Rattle.iso_desk.specs.Places.{IsFirst, TableView}
 use Rattle.iso_desk.specs.declared.place.Place.TheVariants.{Closed}
-use Rattle.iso_floor.specs.Schedulers.{loose_in}
+use Rattle.iso_floor.specs.Schedulers.{SchedulerView, WaitRightly, loose_in}
 use Rattle.iso_floor.proofs.LooseLemmas.{left-line}
+use Rattle.iso_floor.proofs.RightLemmas.{right-moved}
 use Rattle.iso_floor.proofs.SchedulerLemmas.{stands-within}
 use Rattle.iso_floor.proofs.scheduler.Scheduler.next_for.Goals as goal
 
@@ -18,3 +19,10 @@ invariant_of-self c =
           left-line places n Closed l c.self.inside.loose (stands-within places l n first.0) first.0 refl c.self.invariant.loose_are
           ∙ sym (ap (λ (t : TableView). loose_in t.places) c.leave.ensures);
     }
+
+pub returns-clause-lines : goal.returns-clause-lines
+returns-clause-lines c =
+    let n = c.in_ok-node.node in
+    λ tree right.
+    subst (λ (t : TableView). WaitRightly tree t.places) (sym c.leave.ensures)
+    (right-moved tree c.self.inside.table n Closed refl (subst (λ (s : SchedulerView). WaitRightly tree s.table.places) (sym c.self.view_is) right))

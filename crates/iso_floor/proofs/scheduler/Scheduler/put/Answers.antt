@@ -1,8 +1,8 @@
-use Rattle.std.proofs.Common.{◌≡◌, ◌<◌, ◌^◌, ap, length, refl, subst, sym, ◌∙◌}
+use Rattle.std.proofs.Common.{◌<◌, ◌^◌, ap, length, subst, sym, ◌∙◌}
 use Rattle.iso_desk.specs.Places.{TableView}
-use Rattle.iso_desk.specs.declared.place.Place.{Place}
-use Rattle.iso_floor.specs.Schedulers.{IsFree, SchedulerView, is_loose, loose_in}
+use Rattle.iso_floor.specs.Schedulers.{IsFree, SchedulerView, WaitRightly, is_loose, loose_in}
 use Rattle.iso_floor.proofs.LooseLemmas.{has-room, recount, was-counted}
+use Rattle.iso_floor.proofs.RightLemmas.{right-moved}
 use Rattle.iso_floor.proofs.SchedulerLemmas.{put-kept}
 use Rattle.iso_floor.proofs.scheduler.Scheduler.put.Goals as goal
 
@@ -36,3 +36,9 @@ pub returns-else-is_free-clause-step : goal.returns-else-is_free-clause-step
 returns-else-is_free-clause-step c =
     ap (λ (t : TableView). record c.args.self.now { table = t })
     (sym (put-kept c.args.self.now.table c.args.node c.args.place (λ f. let t = c.is_free.ensures.free.1 f in cc)))
+
+pub returns-then-is_free-clause-lines : goal.returns-then-is_free-clause-lines
+returns-then-is_free-clause-lines c =
+    λ tree right.
+    subst (λ (t : TableView). WaitRightly tree t.places) (sym c.put.ensures)
+    (right-moved tree c.self.inside.table c.args.node c.args.place c.requires (subst (λ (s : SchedulerView). WaitRightly tree s.table.places) (sym c.self.view_is) right))

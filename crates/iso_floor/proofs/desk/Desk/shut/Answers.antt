@@ -1,0 +1,17 @@
+use Rattle.std.proofs.Common.{ap}
+use Rattle.iso_floor.specs.Schedulers.{SchedulerView}
+use Rattle.iso_standing.specs.declared.event.Event.TheVariants.{Shut}
+use Rattle.iso_floor.proofs.DeskLemmas.{desk-shut}
+use Rattle.iso_floor.proofs.desk.Desk.shut.Goals as goal
+
+pub invariant_of-self-2 : goal.invariant_of-self-2
+invariant_of-self-2 g c =
+    let i = c.self.inside in
+    let shut = c.in_ok-shut_own.ensures in
+    let step = c.shut.ensures in
+    record {
+      desk =
+          desk-shut g.G.Ground.plan g.G.Ground.start g.G.Ground.workers i.book c.shut_own.new.self (Shut c.args.worker c.args.class) shut.event.book c.plan.result.now c.nodes_are_a_tree.ensures c.plan.ensures
+          i.scheduler c.shut.new.self shut.held (ap (λ (x : SchedulerView). x.keys) step.step) step.sizes step.lines c.self.invariant.desk;
+      seats = c.self.invariant.seats;
+    }
