@@ -351,8 +351,8 @@ def sign_for(point):
 
 
 def shown_line(text):
-    """A line of a script as it is shown: printable ASCII."""
-    return "".join(" " if byte == 9 else chr(byte) if 32 <= byte < 127 else "?" for byte in text)
+    """A line of a script as it is shown: its first 160 bytes, as printable ASCII, and two dots where it has more."""
+    return "".join(" " if byte == 9 else chr(byte) if 32 <= byte < 127 else "?" for byte in text[:160]) + (".." if len(text) > 160 else "")
 
 
 def excerpt(script, line):

@@ -6,7 +6,7 @@ use Rattle.std.specs.Fmt.{decimal}
 use Rattle.iso_html.specs.declared.quote.Line.{Line}
 use Rattle.iso_junit.specs.Escapes.{escaped}
 use Rattle.iso_junit.specs.Texts.{joined}
-use Rattle.iso_summary.specs.Sources.{shown_byte}
+use Rattle.iso_summary.specs.Sources.{cut_end, shown_bytes}
 
 -- a line of a script, with its number
 pub record LineView : Type 0 where
@@ -34,9 +34,9 @@ number_text marked n = joined (begin_text marked ∷ decimal n ∷ codes " | " �
 abbrev pub end_text : (marked : Bool) → List ℕ
 end_text marked = cond marked (codes "</mark>\n") (codes "\n")
 
--- what of it is shown: printable ASCII
+-- what of it is shown: its first 160 bytes, as printable ASCII, and two dots where it has more
 abbrev pub shown_text : List ℕ → List ℕ
-shown_text text = escaped (map shown_byte text)
+shown_text text = escaped (shown_bytes text) ++ cut_end text
 
 -- a line, where the one with this number ended a block
 abbrev pub line_text : (ended : ℕ) → LineView → List ℕ

@@ -1,12 +1,14 @@
 //! Lines of scripts, as the page shows them.
 ghost use Rattle.std.specs.Prelude.{◌≡◌, ◌<◌, ◌==◌, flat_map, length, map};
 ghost use Rattle.iso_html.specs.Quotes.{begin_text, end_text, line_of, line_text, number_text, quote_text, quoted, excerpt_of, shown_text};
+ghost use Rattle.iso_junit.specs.Escapes.{escaped};
 ghost use Rattle.iso_summary.specs.Sources.{shown_byte};
 ghost use Rattle.iso_tap.specs.Printers.{Prints};
 
 use iso_junit::escape::escaped;
 use iso_junit::part::Part;
 use iso_junit::writing::parts;
+use iso_summary::source::{cut_end, shown_byte, shown_part};
 use iso_tap::printer::Printer;
 use iso_tap::sink::{Sink, SinkFailed};
 
@@ -98,23 +100,20 @@ fn end(marked: bool) -> &'static [u8]
     if marked { b"</mark>\n" } else { b"\n" }
 }
 
-/// Writes the bytes of a line as they are shown.
+/// Writes what is shown of a line: its first 160 bytes, and two dots where it has more.
 fn shown<W: Sink>(printer: &mut Printer<'_, W>, text: &[u8]) -> Result<(), SinkFailed>
     ensures { Prints printer.old printer.new (shown_text text.now) result }
 {
-    for byte in text {
+    bytes_shown(printer, shown_part(text))?;
+    printer.bytes(cut_end(text))
+}
+
+/// Writes bytes as they are shown, however many there are.
+fn bytes_shown<W: Sink>(printer: &mut Printer<'_, W>, bytes: &[u8]) -> Result<(), SinkFailed>
+    ensures { Prints printer.old printer.new (escaped (map shown_byte bytes.now)) result }
+{
+    for byte in bytes {
         escaped(printer, &[shown_byte(*byte)])?;
     }
     Ok(())
-}
-
-/// A byte of a line as it is shown.
-fn shown_byte(byte: u8) -> u8
-    ensures { result ≡ shown_byte byte }
-{
-    match byte {
-        b'\t' => b' ',
-        b' '..=b'~' => byte,
-        _ => b'?',
-    }
 }

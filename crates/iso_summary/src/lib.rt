@@ -9,7 +9,7 @@ mod line;
 pub mod located;
 pub mod name;
 mod part;
-mod source;
+pub mod source;
 pub mod summary;
 pub mod unseen;
 mod word;

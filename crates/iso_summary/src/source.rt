@@ -19,6 +19,13 @@ pub(crate) fn source<W: Sink>(printer: &mut Printer<'_, W>, line: &[u8]) -> Resu
     printer.bytes(cut_end(line))
 }
 
+/// The bytes of a line that are shown: its first 160.
+pub fn shown_part(line: &[u8]) -> &[u8]
+    ensures { result.now ≡ take 160 line.now }
+{
+    &line[..line.len().min(SHOWN)]
+}
+
 /// Writes bytes as they are shown, however many there are.
 pub(crate) fn shown<W: Sink>(printer: &mut Printer<'_, W>, bytes: &[u8]) -> Result<(), SinkFailed>
     ensures { Prints printer.old printer.new (map shown_byte bytes.now) result }
@@ -41,8 +48,9 @@ fn shown_bytes(line: &[u8]) -> [u8; SHOWN]
     shown
 }
 
-/// A byte of a line as it is shown.
-fn shown_byte(byte: u8) -> u8
+/// A byte of a line as it is shown: a tab as a space, and each other one that isn't printable ASCII
+/// as `?`.
+pub fn shown_byte(byte: u8) -> u8
     ensures { result ≡ shown_byte byte }
 {
     match byte {
@@ -52,8 +60,9 @@ fn shown_byte(byte: u8) -> u8
     }
 }
 
-/// What stands in place of the bytes that aren't shown.
-fn cut_end(line: &[u8]) -> &'static [u8]
+/// What stands in place of the bytes of a line that aren't shown: two dots, or nothing where it has
+/// no more than 160.
+pub fn cut_end(line: &[u8]) -> &'static [u8]
     ensures { result.now ≡ cut_end line.now }
 {
     if line.len() > SHOWN { b".." } else { b"" }

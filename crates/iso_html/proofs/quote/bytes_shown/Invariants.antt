@@ -1,9 +1,8 @@
 use Rattle.std.proofs.Common.{drop, map}
-use Rattle.iso_html.specs.Quotes.{shown_text}
 use Rattle.iso_junit.specs.Escapes.{escaped}
 use Rattle.iso_summary.specs.Sources.{shown_byte}
 use Rattle.iso_tap.proofs.PrinterLemmas.{LeftToPrint}
-use Rattle.iso_html.proofs.quote.shown.Given as goal
+use Rattle.iso_html.proofs.quote.bytes_shown.Given as goal
 
 abbrev pub invariant-loop-byte : goal.invariant-loop-byte
-invariant-loop-byte g l = LeftToPrint l.fn.printer l.printer (shown_text l.text) (escaped (map shown_byte (drop l.byte-index l.text)))
+invariant-loop-byte g l = LeftToPrint l.fn.printer l.printer (escaped (map shown_byte l.bytes)) (escaped (map shown_byte (drop l.byte-index l.bytes)))
