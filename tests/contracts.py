@@ -5,6 +5,9 @@ TESTS = {"iso_parts_tests", "iso_book_tests", "iso_floor_tests", "iso_times_test
 CLAUSE = re.compile(r"(requires|ensures|ghost)\b")
 ITEM = re.compile(r"(?P<shown>pub )?(unsafe )?(?P<kind>impl|trait|fn|mod)\b")
 NAME = re.compile(r"(?:pub )?(?:unsafe )?(?:fn|trait|mod) (\w+)")
+SHOWN_TYPE = re.compile(r"^pub (?:struct|enum|trait) (\w+)", re.MULTILINE)
+# What stands in place of the clauses of a private module.
+PRIVATE = "private"
 # Texts, characters and comments, in which a brace opens nothing.
 UNCOUNTED = re.compile(r'"(?:\\.|[^"\\])*"|\'(?:\\.|[^\'\\])\'|//[^\n]*')
 # The type of an `impl`, behind its parameters and its trait.
@@ -96,7 +99,7 @@ def members(reader, front, owner, is_trait, is_foreign):
 
 
 def promises_of(path, front):
-    """What a module promises, each with its clauses, and the public modules in it."""
+    """What a module promises, each with its clauses, and the modules in it: public ones with None in their place, private ones with PRIVATE."""
     reader = Reader(path)
     while reader.at < len(reader.lines):
         line = reader.lines[reader.at]
@@ -104,8 +107,8 @@ def promises_of(path, front):
         if not item:
             reader.at += 1
         elif item["kind"] == "mod":
-            if item["shown"] and line.endswith(";"):
-                yield NAME.match(line)[1], None
+            if line.endswith(";"):
+                yield NAME.match(line)[1], None if item["shown"] else PRIVATE
             reader.skip() if not line.endswith(";") else reader.header()
         elif item["kind"] == "fn":
             signature, clauses = reader.function("")
@@ -125,11 +128,16 @@ def promises_of(path, front):
 
 
 def module(folder, name, path, front):
-    """What a module and the public modules in it promise."""
+    """What a module and the public modules in it promise, and what the private ones in it promise of its types."""
     for promise, clauses in promises_of(path, front):
-        if clauses is not None:
+        if clauses is not None and clauses is not PRIVATE:
             yield promise, clauses
-        else:
-            inner = folder / promise
-            file = inner.with_suffix(".rt") if inner.with_suffix(".rt").is_file() else inner / "mod.rt"
+            continue
+        inner = folder / promise
+        file = inner.with_suffix(".rt") if inner.with_suffix(".rt").is_file() else inner / "mod.rt"
+        if clauses is None:
             yield from module(inner, promise, file, f"{front}::{promise}")
+        else:
+            types = set(SHOWN_TYPE.findall(path.read_text(encoding="utf-8")))
+            yield from ((inside, told) for inside, told in promises_of(file, front)
+                        if told is not None and told is not PRIVATE and inside[len(front) + 2:].partition("::")[0] in types)
