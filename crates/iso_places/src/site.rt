@@ -16,7 +16,7 @@ pub struct Site {
 const _: () = prove!(size_of::<Site>() <= 32);
 
 /// The sites of a plan's nodes, which contracts see as those of all nodes but the root, in their
-/// order.
+/// order, or as none where places weren't asked for.
 #[derive(Drop)]
 pub struct Sites {
     list: Vec<Site>,
@@ -48,7 +48,8 @@ impl Sites {
         }
     }
 
-    /// The site of a node by its number; the root has none.
+    /// The site of a node by its number. The root has none, and where places weren't asked for no
+    /// node has one.
     pub fn site(&self, node: u32) -> Option<Site>
         ensures { result ≡ site_at self.now node }
     {

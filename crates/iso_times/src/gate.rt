@@ -61,7 +61,7 @@ impl<'g, C: Clock, G: Gate> TimesGate<'g, C, G> {
         }
     }
 
-    /// The times that were kept. It takes no memory.
+    /// The times that were kept: none of a gate that keeps no times. It takes no memory.
     pub fn into_times(self) -> Times
         ensures { length result ≡ 2 * self.entry }
     {
