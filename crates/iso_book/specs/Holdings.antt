@@ -9,12 +9,12 @@ use Rattle.iso_lifecycle.specs.declared.kind.BodyKind.TheVariants.{AfterAll, Bef
 abbrev pub HoldSame : BookView → BookView → Type 0
 HoldSame b c = (m : ℕ) → 0 < m → m < length b.plan.rows → is_held ((state_in c).nodes.status m) ≡ is_held ((state_in b).nodes.status m)
 
--- the same, but for one node
+-- the same of each node but the root and this one
 abbrev pub HoldAlike : ℕ → BookView → BookView → Type 0
 HoldAlike n b c = (m : ℕ) → 0 < m → m < length b.plan.rows → m ≢ n → is_held ((state_in c).nodes.status m) ≡ is_held ((state_in b).nodes.status m)
 
--- a node's body was left: a `before_all` changes nothing, and the last body of a node nothing but
--- this node
+-- a body of a node was left: after a `before_all` each node is held as before, after the last body
+-- of a node each but this one
 abbrev pub HoldAfter : BodyKind → ℕ → BookView → BookView → Type 0
 HoldAfter BeforeAll n b c = HoldSame b c
 HoldAfter Test n b c = HoldAlike n b c

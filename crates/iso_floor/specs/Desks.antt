@@ -32,16 +32,16 @@ pub record AreMarksOf (b : BookView) (v : KeysView) : Type 0 where
   pub held : (k : ℕ) → k < 256 → has v.held k ≡ (is_taken (tree_of b.plan) (held_nodes b) Write k || is_taken (tree_of b.plan) (held_nodes b) Read k)
 
 -- What every desk is: the book is of its ground, the scheduler is for its nodes and workers, the
--- marks are those of the keys that the book's nodes hold, and who stands in a line of a key takes
--- that key so.
+-- marks are those of the keys that the book's held nodes take, and each node in a line of a key
+-- takes that key with the line's access.
 pub record IsDesk (plan : Planned) (start : Start) (workers : ℕ) (b : BookView) (s : SchedulerView) : Type 0 where
   pub book : IsBookOf plan start workers b
   pub scheduler : IsFor (length plan.rows) workers s
   pub marks : AreMarksOf b s.keys
   pub lines : WaitRightly plan.rows s.table.places
 
--- Nothing of what waits can be entered by a worker: nobody stands in its own line, and the book
--- refuses it each node that stands in a line of a key, of its own or of everyone's.
+-- A worker could enter nothing that waits for it: nobody stands in its own line, and the book
+-- refuses it each node that stands in a line of a key, of the worker's own or of everyone's.
 pub record CanEnterNone (d : DeskView) (w : ℕ) : Type 0 where
   pub own : IsEmpty d.scheduler.table.places (Own w)
   pub alone : (n : ℕ) (l : KeyLine) → l.party ≡ Worker w → StandsIn d.scheduler.table.places (Key l) n → refusal_in d.book (Enter w n) ≢ None

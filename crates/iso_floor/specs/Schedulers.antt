@@ -73,16 +73,16 @@ pub record IsFree (places : List Place) (n : ℕ) : Type 0 where
 abbrev pub HasNothingIn : SchedulerView → Bool → ℕ → Option ℕ → Type 0
 HasNothingIn s is_over w seen = HasNothing s.table.places s.keys.held s.keys.written is_over (not (loose_in s.table.places == 0)) s.rounds w seen
 
--- how those take a key who stand in a line of it
+-- the access with which the nodes in a line take its key: READ_WRITE in a line of writers, else READ
 abbrev pub access_in : KeyLine → Access
 access_in l = cond l.writes Write Read
 
--- a node takes the key of a line as those do who stand there
+-- a node takes the key of a line with the line's access
 pub record Takes (tree : List Row) (n : ℕ) (l : KeyLine) : Type 0 where
   pub known : l.key < 256
   pub taken : takes_in (access_in l) l.key (locks tree n) ≡ true
 
--- each node that stands in a line of a key takes that key so
+-- each node that stands in a line of a key takes that key with the line's access
 abbrev pub WaitRightly : List Row → List Place → Type 0
 WaitRightly tree places = (n : ℕ) (l : KeyLine) → StandsIn places (Key l) n → Takes tree n l
 
@@ -90,6 +90,6 @@ WaitRightly tree places = (n : ℕ) (l : KeyLine) → StandsIn places (Key l) n 
 abbrev pub KeepsSizes : (old new : SchedulerView) → Type 0
 KeepsSizes old new = (nodes workers : ℕ) → IsFor nodes workers old → IsFor nodes workers new
 
--- a step puts nobody in a line whose key it doesn't take so
+-- a step puts no node in a line whose key it doesn't take with the line's access
 abbrev pub KeepsLines : (old new : SchedulerView) → Type 0
 KeepsLines old new = (tree : List Row) → WaitRightly tree old.table.places → WaitRightly tree new.table.places

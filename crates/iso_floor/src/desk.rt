@@ -102,7 +102,8 @@ impl<'a, G: Ground> Desk<'a, G> {
 
     /// Whom the event that was booked wakes: those who wait for a change, where somebody does, and
     /// one worker that waits and has something to wake for, which is called by it. Where nobody is
-    /// called, no worker that waits and wasn't called could enter a node that waits for a key.
+    /// called, no worker that waits and wasn't called could enter a node in its own lines or in
+    /// everyone's.
     pub(crate) fn wakes(&mut self) -> Wakes
         ensures book { self.new.book ≡ self.old.book }
         ensures nobody { result.worker ≡ None → (w : ℕ) → w < length self.old.scheduler.members → awaits (member_of self.old.scheduler.members w) ≡ true → CanEnterNone self.old w }
@@ -157,7 +158,7 @@ impl<'a, G: Ground> Desk<'a, G> {
     /// that was taken out is never posted again. It was tried, or the worker that took it will try
     /// it. So no node is left in the deque of a worker that sleeps or has ended.
     ///
-    /// While it waits, it could enter no node that waits for a key.
+    /// Where it answers true, the worker could enter no node now of its own lines or of everyone's.
     pub(crate) fn stays(&mut self, worker: u32) -> bool
         ensures book { self.new.book ≡ self.old.book }
         ensures nothing { worker < G.workers → result ≡ true → CanEnterNone self.old worker }
@@ -285,8 +286,8 @@ impl<'a, G: Ground> Desk<'a, G> {
         Ok(())
     }
 
-    /// Books what a worker's body came to with a tray, as `Book::leave_own` has it. After 2^63 nodes
-    /// were put in lines it stops the run.
+    /// Books what a worker's body came to with a tray, as `Book::leave_own` has it. It stops the run
+    /// once 2^63 nodes have been put in lines.
     pub(crate) fn leave(
         &mut self,
         worker: u32,

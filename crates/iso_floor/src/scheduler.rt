@@ -276,9 +276,9 @@ impl Scheduler {
         self.put(class, Place::With(worker));
     }
 
-    /// A worker left a body of this kind: after a class's `before_all` the class is opened up or
-    /// shut, after the last body of a node the node is over. Out of memory is answered only after
-    /// 2^63 nodes were put in lines.
+    /// A worker left a body of this kind: after the `before_all` of a class that is to be left open
+    /// its worker opens it up or shuts it next, after the last body of a node the node is over. Out
+    /// of memory is answered only after 2^63 nodes were put in lines.
     pub(crate) fn leave(
         &mut self,
         plan: &Plan,
