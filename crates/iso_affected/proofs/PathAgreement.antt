@@ -57,7 +57,8 @@ module _ (s : Suites) (t : IsTree (tree_of s.old)) (u : IsTree (tree_of s.new)) 
         all = λ agree k on. absurd (none-on k on);
       }
 
-  pub own-only : (n m : ℕ) → namesake (tree_of s.old) (tree_of s.new) n ≡ Some m → OwnAgree s.before s.after (head_of (row_at (tree_of s.old) m).kind) (head_of (row_at (tree_of s.new) n).kind) → AgreesItself s n
+  pub own-only : (n m : ℕ) → namesake (tree_of s.old) (tree_of s.new) n ≡ Some m
+      → OwnAgree s.before s.after (head_of (row_at (tree_of s.old) m).kind) (head_of (row_at (tree_of s.new) n).kind) → AgreesItself s n
   own-only n m e own j h =
       let whole : Some m ≡ Some j = sym e ∙ h in
       let same : m ≡ j = cc in

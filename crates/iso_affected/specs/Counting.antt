@@ -31,7 +31,12 @@ tests_of tree fates kind = length (those_below (is_test_of tree fates kind) (len
 -- how many tests of the new suite have which fate, and how many of the old suite are gone
 abbrev pub counts : (old new : List Row) → List Fate → (gone : List ℕ) → Counts
 counts old new fates gone =
-    record { same = tests_of new fates K.Same; changed = tests_of new fates K.Changed; new = tests_of new fates K.New; gone = count_by (is_test_at old) gone }
+    record {
+      same = tests_of new fates K.Same;
+      changed = tests_of new fates K.Changed;
+      new = tests_of new fates K.New;
+      gone = count_by (is_test_at old) gone;
+    }
 
 -- each count fits 32 bits
 pub record AreFew (c : Counts) : Type 0 where

@@ -15,7 +15,8 @@ abbrev pub asked : Resource → List ℕ → Option (List ℕ)
 asked value name = property_in (Some value) name
 
 -- at the name at this place two functions differ, and at no name before it
-pub record DiffersAt (f g : List ℕ → Option (List ℕ)) (names : List (List ℕ)) (place : ℕ) : Type 0 where
+pub record DiffersAt (f g : List ℕ → Option (List ℕ)) (names : List (List ℕ))
+    (place : ℕ) : Type 0 where
   pub within : place < length names
   pub apart : (d : List ℕ) → f (slice_index_or names place d) ≡ g (slice_index_or names place d) → ⊥
   pub before : All (λ name. f name ≡ g name) (take place names)

@@ -11,8 +11,10 @@ pub record StartsView : Type 0 where
 
 -- they are stored as a pair
 abbrev pub starts_code : Coded StartsView
-starts_code = code_by (Start × Start) (coded× start_code start_code) (λ v. (v.before, v.after)) (λ p. record { before = p.0; after = p.1 }) (λ _. refl)
+starts_code = code_by (Start × Start) (coded× start_code start_code) (λ v. (v.before, v.after))
+    (λ p. record { before = p.0; after = p.1 }) (λ _. refl)
 
 -- of each key that is kept it is kept whether its values are equal
 abbrev pub AreKept : Start → Start → List (List ℕ × Bool) → Type 0
-AreKept before after kept = (k : List ℕ) (alike : Bool) → value_in kept k ≡ Some alike → (alike ≡ true) ↔ (starting_value_in before k ≡ starting_value_in after k)
+AreKept before after kept = (k : List ℕ) (alike : Bool) → value_in kept k ≡ Some alike
+    → (alike ≡ true) ↔ (starting_value_in before k ≡ starting_value_in after k)

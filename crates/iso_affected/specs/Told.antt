@@ -14,12 +14,14 @@ use Rattle.iso_suites.specs.PlanSuites.{head_of}
 abbrev pub IsDifferenceOf : Suites → ℕ → Fate → Option Difference → Type 0
 IsDifferenceOf s n (Same m) o = o ≡ None
 IsDifferenceOf s n (Changed m) None = ⊥
-IsDifferenceOf s n (Changed m) (Some d) = IsDifference s.before s.after (head_of (row_at (tree_of s.old) m).kind) (head_of (row_at (tree_of s.new) n).kind) d
+IsDifferenceOf s n (Changed m) (Some d) = IsDifference s.before s.after
+    (head_of (row_at (tree_of s.old) m).kind) (head_of (row_at (tree_of s.new) n).kind) d
 IsDifferenceOf s n New o = o ≡ None
 
 -- that stands at each node's number
 abbrev pub AreDifferences : Suites → List Fate → List (Option Difference) → Type 0
-AreDifferences s fates told = (n : ℕ) → 0 < n → n < length s.new.rows → IsDifferenceOf s n (slice_index_or fates n New) (slice_index_or told n None)
+AreDifferences s fates told = (n : ℕ) → 0 < n → n < length s.new.rows
+    → IsDifferenceOf s n (slice_index_or fates n New) (slice_index_or told n None)
 
 -- whether something is told to differ
 abbrev pub tells_apart : Option Difference → Bool

@@ -36,7 +36,8 @@ pub fn fates(
     after: &World,
 ) -> Result<Vec<Fate>, AllocError>
     ensures count { IfOk result (λ fates. length fates.items ≡ length new.now.rows) }
-    ensures fates { IfOk result (λ fates. AreFates (suites old.now before.now new.now after.now) fates.items) }
+    ensures fates { IfOk result
+        (λ fates. AreFates (suites old.now before.now new.now after.now) fates.items) }
 {
     nodes_are_a_tree(old);
     nodes_are_a_tree(new);
@@ -65,9 +66,11 @@ fn fate_in(
 ) -> Result<Fate, AllocError>
     requires above { 0 < node }
     requires within { node < length new.now.rows }
-    requires class { IsFate (suites old.now starts.old.before new.now starts.old.after) (parent (tree_of new.now) node) above }
+    requires class { IsFate (suites old.now starts.old.before new.now starts.old.after)
+        (parent (tree_of new.now) node) above }
     requires names { FindChildren (tree_of old.now) names.now }
-    ensures fate { IfOk result (IsFate (suites old.now starts.old.before new.now starts.old.after) node) }
+    ensures fate { IfOk result
+        (IsFate (suites old.now starts.old.before new.now starts.old.after) node) }
     ensures same { starts.new ≡ starts.old }
 {
     nodes_are_a_tree(old);

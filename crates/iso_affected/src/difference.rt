@@ -104,7 +104,8 @@ pub fn what_differs(
     requires further { 0 < node }
     requires inside { node < length new.now.rows }
     ensures difference { IfOk result (IsDifference starts.old.before starts.old.after
-        (head_of (row_at (tree_of old.now) namesake).kind) (head_of (row_at (tree_of new.now) node).kind)) }
+        (head_of (row_at (tree_of old.now) namesake).kind)
+        (head_of (row_at (tree_of new.now) node).kind)) }
     ensures same { starts.new ≡ starts.old }
 {
     let was = own_head(old, namesake);
@@ -119,7 +120,8 @@ pub fn what_differs(
 
 /// Whether of two heads one is a test's and the other a class's.
 fn is_other_kind(was: OwnHead<'_>, now: OwnHead<'_>) -> bool
-    ensures { IsFalse result ↔ (is_of_test (lent_head was.entry) ≡ is_of_test (lent_head now.entry)) }
+    ensures { IsFalse result
+        ↔ (is_of_test (lent_head was.entry) ≡ is_of_test (lent_head now.entry)) }
 {
     was.is_test() != now.is_test()
 }
@@ -151,14 +153,16 @@ fn blocks_apart(was: OwnHead<'_>, now: OwnHead<'_>) -> Blocks
 
 /// Where a lifecycle block of two heads differs first.
 fn lifecycle_apart(was: OwnHead<'_>, now: OwnHead<'_>, kind: Lifecycle) -> Option<RowsApart>
-    ensures { AreRowsApart (statements (lifecycle_on kind (lent_head was.entry))) (statements (lifecycle_on kind (lent_head now.entry))) result }
+    ensures { AreRowsApart (statements (lifecycle_on kind (lent_head was.entry)))
+        (statements (lifecycle_on kind (lent_head now.entry))) result }
 {
     rows_apart(was.lifecycle(kind), now.lifecycle(kind))
 }
 
 /// Where the bodies of two heads differ first.
 fn body_apart(was: OwnHead<'_>, now: OwnHead<'_>) -> Option<RowsApart>
-    ensures { AreRowsApart (statements (body_on (lent_head was.entry))) (statements (body_on (lent_head now.entry))) result }
+    ensures { AreRowsApart (statements (body_on (lent_head was.entry)))
+        (statements (body_on (lent_head now.entry))) result }
 {
     rows_apart(was.body(), now.body())
 }

@@ -14,7 +14,8 @@ use std::collections::BTreeMap;
 
 /// The namesakes in the first plan of the nodes of the second, by their numbers.
 pub fn namesakes(alloc: Global, one: &Plan, other: &Plan) -> Result<Vec<Option<u32>>, AllocError>
-    ensures { IfOk result (λ v. v.items ≡ column (namesake (tree_of one.now) (tree_of other.now)) (length other.now.rows)) }
+    ensures { IfOk result (λ v. v.items ≡ column (namesake (tree_of one.now) (tree_of other.now))
+        (length other.now.rows)) }
 {
     nodes_are_a_tree(one);
     nodes_are_a_tree(other);
@@ -44,7 +45,8 @@ pub(crate) fn namesake_in(
     requires above { 0 < node }
     requires within { node < length other.now.rows }
     requires inside { class < length one.now.rows }
-    requires class { namesake (tree_of one.now) (tree_of other.now) (parent (tree_of other.now) node) ≡ Some class }
+    requires class { namesake (tree_of one.now) (tree_of other.now)
+        (parent (tree_of other.now) node) ≡ Some class }
     requires names { FindChildren (tree_of one.now) names.now }
     ensures namesake { result ≡ namesake (tree_of one.now) (tree_of other.now) node }
     ensures child { IfSome result (IsChild (tree_of one.now) class (length one.now.rows)) }

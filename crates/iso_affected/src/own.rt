@@ -118,7 +118,8 @@ fn lifecycle_of(class: &ClassHead, kind: Lifecycle) -> &[Stmt]
 /// The head of the innermost class of a chain.
 fn innermost(classes: &[Arc<ClassHead>]) -> OwnHead<'_>
     requires { 0 < length classes.now }
-    ensures { (c : C.ClassHead) (cs : List C.ClassHead) → innermost_first classes.now ≡ c ∷ cs → lent_head result ≡ of_class c }
+    ensures { (c : C.ClassHead) (cs : List C.ClassHead) → innermost_first classes.now ≡ c ∷ cs
+        → lent_head result ≡ of_class c }
 {
     match classes.last() {
         Some(class) => OwnHead::Class(class),
@@ -166,7 +167,8 @@ pub(crate) fn own_agree(
     requires further { 0 < other }
     requires inside { other < length new.now.rows }
     ensures agree { IfOk result (λ agree. IsTrue agree ↔ OwnAgree starts.old.before starts.old.after
-        (head_of (row_at (tree_of old.now) node).kind) (head_of (row_at (tree_of new.now) other).kind)) }
+        (head_of (row_at (tree_of old.now) node).kind)
+        (head_of (row_at (tree_of new.now) other).kind)) }
     ensures same { starts.new ≡ starts.old }
 {
     let was = own_head(old, node);

@@ -34,12 +34,14 @@ reasons_on c (n ∷ ns) = reasons_on c ns ++ own_rows c n
 -- the rows of a node of the new suite with a fate
 abbrev pub fate_rows : ChangeView → ℕ → Fate → List RowView
 fate_rows c n (F.Same m) = []
-fate_rows c n (F.Changed m) = node_row Changed (path_text c.new.tree n) ∷ reasons_on c (path c.new.tree n)
+fate_rows c n (F.Changed m) =
+    node_row Changed (path_text c.new.tree n) ∷ reasons_on c (path c.new.tree n)
 fate_rows c n F.New = node_row New (path_text c.new.tree n) ∷ []
 
 -- the rows of a node of the new suite, if it is told of
 abbrev pub node_rows : ChangeView → ℕ → List RowView
-node_rows c n = cond (is_listed (head_of (row_at c.new.tree n).kind)) (fate_rows c n (slice_index_or c.fates n F.New)) []
+node_rows c n = cond (is_listed (head_of (row_at c.new.tree n).kind))
+    (fate_rows c n (slice_index_or c.fates n F.New)) []
 
 -- the rows of the nodes below n, as they are written
 abbrev pub nodes_rows : ChangeView → ℕ → List RowView
@@ -48,7 +50,8 @@ nodes_rows c (suc n) = nodes_rows c n ++ node_rows c n
 
 -- the row of a node of the old suite that is gone, if it is told of
 abbrev pub gone_rows : ChangeView → ℕ → List RowView
-gone_rows c m = cond (is_listed (head_of (row_at c.old.tree m).kind)) (node_row Gone (path_text c.old.tree m) ∷ []) []
+gone_rows c m = cond (is_listed (head_of (row_at c.old.tree m).kind))
+    (node_row Gone (path_text c.old.tree m) ∷ []) []
 
 -- all rows: those of the new suite as they are written, and then what is gone of the old one
 abbrev pub affected_rows : ChangeView → List RowView

@@ -20,9 +20,11 @@ pub record IsListedAt (tree : List Row) (n : ℕ) (path : List ℕ) : Type 0 whe
 -- what a row says of a node is so: one with this path doesn't agree with its namesake, has none in
 -- the old suite, or has none in the new one
 abbrev pub SaysSo : Suites → RowView → Type 0
-SaysSo s (node_row Changed path) = (n : ℕ) × (m : ℕ) × IsListedAt (tree_of s.new) n path × IsFate s n (F.Changed m)
+SaysSo s (node_row Changed path) = (n : ℕ) × (m : ℕ) × IsListedAt (tree_of s.new) n path
+    × IsFate s n (F.Changed m)
 SaysSo s (node_row New path) = (n : ℕ) × IsListedAt (tree_of s.new) n path × IsFate s n F.New
-SaysSo s (node_row Gone path) = (m : ℕ) × IsListedAt (tree_of s.old) m path × (has_gone (tree_of s.old) (tree_of s.new) m ≡ true)
+SaysSo s (node_row Gone path) = (m : ℕ) × IsListedAt (tree_of s.old) m path
+    × (has_gone (tree_of s.old) (tree_of s.new) m ≡ true)
 SaysSo s (part_row part name of_class) = ⊤
 SaysSo s (block_row block of_class now before) = ⊤
 SaysSo s (start_row key of_class property) = ⊤

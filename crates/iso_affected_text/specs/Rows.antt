@@ -30,5 +30,7 @@ spot_of s = record { script = s.script; file = s.file.now; line = s.line; source
 abbrev pub row_of : Row → RowView
 row_of (R.Node became path) = node_row became path.now
 row_of (R.Part part name of_class) = part_row part (option_copied name) (option_copied of_class)
-row_of (R.Block block of_class now before) = block_row block (option_copied of_class) (option_map spot_of now) (option_map spot_of before)
-row_of (R.Start key of_class property) = start_row key.now (option_copied of_class) (option_copied property)
+row_of (R.Block block of_class now before) =
+    block_row block (option_copied of_class) (option_map spot_of now) (option_map spot_of before)
+row_of (R.Start key of_class property) =
+    start_row key.now (option_copied of_class) (option_copied property)

@@ -21,11 +21,17 @@ file_name names script = slice_index_or names script (codes "stdin")
 
 -- the bytes of a line
 abbrev pub source_at : (texts : List (List ℕ)) → ScriptLine → List ℕ
-source_at texts line = unwrap_or (option_map (λ text. source_line text line.line) (slice_get texts line.script)) []
+source_at texts line =
+    unwrap_or (option_map (λ text. source_line text line.line) (slice_get texts line.script)) []
 
 -- a line with its file and its bytes
 abbrev pub spot_at : (names : List (List ℕ)) → SideView → ScriptLine → SpotView
-spot_at names side line = record { script = line.script; file = file_name names line.script; line = line.line; source = source_at side.texts line }
+spot_at names side line = record {
+  script = line.script;
+  file = file_name names line.script;
+  line = line.line;
+  source = source_at side.texts line;
+}
 
 -- the words by which a place names a block of a node: a class's stands at the depth of the class
 abbrev pub block_name : List Row → ℕ → Block → BlockName
@@ -34,4 +40,5 @@ block_name tree n (B.Class kind) = N.Class (length (path tree n)) kind
 
 -- the line of a row of a block of a node, where it is there
 abbrev pub spot_in : (names : List (List ℕ)) → SideView → ℕ → Block → (row : ℕ) → Option SpotView
-spot_in names side n block row = option_map (spot_at names side) (end_line side.tree side.sites n (P.Row (block_name side.tree n block) row))
+spot_in names side n block row = option_map (spot_at names side)
+    (end_line side.tree side.sites n (P.Row (block_name side.tree n block) row))

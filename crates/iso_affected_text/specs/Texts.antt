@@ -36,24 +36,31 @@ block_word (B.Class kind) = lifecycle_word kind
 -- there before alone
 abbrev pub spots_text : (now before : Option SpotView) → List ℕ
 spots_text (Some now) (Some was) =
-    joined (codes ": " ∷ shown_name now.file ∷ codes ":" ∷ decimal now.line ∷ codes ": was " ∷ other_file (not (now.script == was.script)) was.file
+    joined (codes ": " ∷ shown_name now.file ∷ codes ":" ∷ decimal now.line ∷ codes ": was "
+    ∷ other_file (not (now.script == was.script)) was.file
     ∷ decimal was.line ∷ codes ": " ∷ source_text now.source ∷ codes "\n" ∷ [])
 spots_text (Some now) None =
-    joined (codes ": " ∷ shown_name now.file ∷ codes ":" ∷ decimal now.line ∷ codes ": new: " ∷ source_text now.source ∷ codes "\n" ∷ [])
+    joined (codes ": " ∷ shown_name now.file ∷ codes ":" ∷ decimal now.line ∷ codes ": new: "
+    ∷ source_text now.source ∷ codes "\n" ∷ [])
 spots_text None (Some was) =
-    joined (codes ": was " ∷ shown_name was.file ∷ codes ":" ∷ decimal was.line ∷ codes ": " ∷ source_text was.source ∷ codes "\n" ∷ [])
+    joined (codes ": was " ∷ shown_name was.file ∷ codes ":" ∷ decimal was.line ∷ codes ": "
+    ∷ source_text was.source ∷ codes "\n" ∷ [])
 spots_text None None = codes "\n"
 
 -- the line of a block
-abbrev pub block_line : Block → (of_class : Option (List ℕ)) → (now before : Option SpotView) → List ℕ
-block_line block of_class now before = joined (codes "  " ∷ block_word block ∷ optional (codes " of ") of_class ∷ []) ++ spots_text now before
+abbrev pub block_line : Block → (of_class : Option (List ℕ))
+    → (now before : Option SpotView) → List ℕ
+block_line block of_class now before = joined
+    (codes "  " ∷ block_word block ∷ optional (codes " of ") of_class ∷ []) ++ spots_text now before
 
 -- the line of a row
 abbrev pub row_text : RowView → List ℕ
 row_text (node_row became path) = joined (became_word became ∷ path ∷ codes "\n" ∷ [])
-row_text (part_row part name of_class) = joined (part_word part ∷ optional (codes " ") name ∷ optional (codes " of ") of_class ∷ codes "\n" ∷ [])
+row_text (part_row part name of_class) = joined (part_word part ∷ optional (codes " ") name
+    ∷ optional (codes " of ") of_class ∷ codes "\n" ∷ [])
 row_text (block_row block of_class now before) = block_line block of_class now before
-row_text (start_row key of_class property) = joined (codes "  start of " ∷ key ∷ optional (codes " of ") of_class ∷ optional (codes ": ") property ∷ codes "\n" ∷ [])
+row_text (start_row key of_class property) = joined (codes "  start of " ∷ key
+    ∷ optional (codes " of ") of_class ∷ optional (codes ": ") property ∷ codes "\n" ∷ [])
 
 abbrev pub rows_text : List RowView → List ℕ
 rows_text rows = flat_map row_text rows
@@ -84,8 +91,10 @@ abbrev pub tests_line : LastView → List ℕ
 tests_line last =
     let c = last.counts in
     let other = c.changed + c.new + c.gone in
-    joined (decimal other ∷ codes " of " ∷ decimal (other + c.same) ∷ codes " tests can have another result than in " ∷ shown_name last.folder ∷ codes ": "
-    ∷ decimal c.changed ∷ codes " changed, " ∷ decimal c.new ∷ codes " new, " ∷ decimal c.gone ∷ codes " gone; " ∷ decimal c.same
+    joined (decimal other ∷ codes " of " ∷ decimal (other + c.same)
+    ∷ codes " tests can have another result than in " ∷ shown_name last.folder ∷ codes ": "
+    ∷ decimal c.changed ∷ codes " changed, " ∷ decimal c.new ∷ codes " new, " ∷ decimal c.gone
+    ∷ codes " gone; " ∷ decimal c.same
     ∷ codes " have the same, by proof\n" ∷ [])
 
 -- how many files weren't there, if some weren't
@@ -93,7 +102,9 @@ abbrev pub missing_words : ℕ → List ℕ
 missing_words count = cond (count == 1) (codes " file isn't in ") (codes " files aren't in ")
 
 abbrev pub missing_line : LastView → List ℕ
-missing_line last = cond (last.missing == 0) [] (joined (decimal last.missing ∷ missing_words last.missing ∷ shown_name last.folder ∷ codes "\n" ∷ []))
+missing_line last =
+    cond (last.missing == 0) [] (joined (decimal last.missing ∷ missing_words last.missing
+    ∷ shown_name last.folder ∷ codes "\n" ∷ []))
 
 abbrev pub last_lines : LastView → List ℕ
 last_lines last = tests_line last ++ missing_line last

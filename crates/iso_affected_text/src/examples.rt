@@ -20,7 +20,8 @@ pub fn rows_are_lines()
 
 /// The paths to run again are those of changed and new nodes.
 pub fn paths_are_of_changed_and_new_nodes()
-    ensures { paths_text some_rows ≡ text_of ("shop.Cart.adds" ∷ "shop.Env.reads" ∷ "shop.Cart.removes" ∷ []) }
+    ensures { paths_text some_rows ≡ text_of
+        ("shop.Cart.adds" ∷ "shop.Env.reads" ∷ "shop.Cart.removes" ∷ []) }
 {}
 
 /// Where a block was in another file, that is named.

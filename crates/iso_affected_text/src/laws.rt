@@ -24,9 +24,12 @@ use iso_plan::laws::nodes_are_a_tree;
 /// Nothing is told for nothing: a node that is told to be changed doesn't agree with its namesake,
 /// one that is new has none in the old suite, and one that is gone none in the new one.
 pub fn rows_say_what_is_so(change: &Change<'_>)
-    ensures { (before after : Start) → AreFates (suites change.now.old.plan.now before change.now.new.plan.now after) change.now.fates.now
-        → change.now.gone.now ≡ gone (tree_of change.now.old.plan.now) (tree_of change.now.new.plan.now)
-        → All (SaysSo (suites change.now.old.plan.now before change.now.new.plan.now after)) (affected_rows (change_of change.now)) }
+    ensures { (before after : Start) → AreFates
+        (suites change.now.old.plan.now before change.now.new.plan.now after) change.now.fates.now
+        → change.now.gone.now ≡ gone (tree_of change.now.old.plan.now)
+        (tree_of change.now.new.plan.now)
+        → All (SaysSo (suites change.now.old.plan.now before change.now.new.plan.now after))
+        (affected_rows (change_of change.now)) }
 {
     nodes_are_a_tree(change.old.plan);
     nodes_are_a_tree(change.new.plan);
@@ -37,11 +40,15 @@ pub fn rows_say_what_is_so(change: &Change<'_>)
 /// old one.
 pub fn what_is_not_told_has_the_outcomes_that_it_had(change: &Change<'_>)
     ensures { (before after : Start) (n m : ℕ) (p q : Outcome)
-        → AreFates (suites change.now.old.plan.now before change.now.new.plan.now after) change.now.fates.now
-        → n < length change.now.new.plan.now.rows → is_listed (head_of (row_at (tree_of change.now.new.plan.now) n).kind) ≡ true
+        → AreFates (suites change.now.old.plan.now before change.now.new.plan.now after)
+        change.now.fates.now
+        → n < length change.now.new.plan.now.rows
+        → is_listed (head_of (row_at (tree_of change.now.new.plan.now) n).kind) ≡ true
         → namesake (tree_of change.now.old.plan.now) (tree_of change.now.new.plan.now) n ≡ Some m
-        → (Contains (affected_rows (change_of change.now)) (node_row Changed (path_text (tree_of change.now.new.plan.now) n)) → ⊥)
-        → MayComeTo change.now.old.plan.now before m p → MayComeTo change.now.new.plan.now after n q → p ≡ q }
+        → (Contains (affected_rows (change_of change.now))
+        (node_row Changed (path_text (tree_of change.now.new.plan.now) n)) → ⊥)
+        → MayComeTo change.now.old.plan.now before m p
+        → MayComeTo change.now.new.plan.now after n q → p ≡ q }
 {
     same_nodes_have_the_outcomes_that_they_had(change.old.plan, change.new.plan);
 }

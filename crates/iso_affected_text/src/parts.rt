@@ -32,7 +32,8 @@ pub(crate) fn add_difference<'a>(
     requires change { IsChange change.now }
     requires node { IsNode (tree_of change.now.new.plan.now) node }
     requires namesake { IsNode (tree_of change.now.old.plan.now) namesake }
-    ensures { OnOk result (map row_of rows.new.items ≡ map row_of rows.old.items ++ difference_rows (change_of change.now) node namesake difference) }
+    ensures { OnOk result (map row_of rows.new.items ≡ map row_of rows.old.items
+        ++ difference_rows (change_of change.now) node namesake difference) }
 {
     let was = own_head(change.old.plan, namesake);
     let now = own_head(change.new.plan, node);
@@ -63,7 +64,8 @@ fn add_declared<'a>(
     of: Option<&'a str>,
 ) -> Result<(), AllocError>
     ensures { OnOk result (map row_of rows.new.items
-        ≡ map row_of rows.old.items ++ declared_rows (lent_head was.entry) (lent_head now.entry) difference (option_copied of.entry)) }
+        ≡ map row_of rows.old.items ++ declared_rows (lent_head was.entry)
+        (lent_head now.entry) difference (option_copied of.entry)) }
 {
     let declared = difference.declared;
     add_part(rows, difference.kind, kind_part(now), of)?;
@@ -104,7 +106,8 @@ fn add_part<'a>(
     part: Part,
     of: Option<&'a str>,
 ) -> Result<(), AllocError>
-    ensures { OnOk result (map row_of rows.new.items ≡ map row_of rows.old.items ++ part_rows is_apart part (option_copied of.entry)) }
+    ensures { OnOk result (map row_of rows.new.items ≡ map row_of rows.old.items
+        ++ part_rows is_apart part (option_copied of.entry)) }
 {
     if !is_apart {
         return Ok(());
@@ -127,7 +130,8 @@ fn add_variable<'a>(
     of: Option<&'a str>,
 ) -> Result<(), AllocError>
     ensures { OnOk result (map row_of rows.new.items
-        ≡ map row_of rows.old.items ++ variable_rows place part was.now now.now (option_copied of.entry)) }
+        ≡ map row_of rows.old.items ++ variable_rows place part was.now now.now
+        (option_copied of.entry)) }
 {
     match place {
         Some(place) => {
@@ -165,7 +169,8 @@ fn add_blocks<'a>(
     requires node { IsNode (tree_of change.now.new.plan.now) node }
     requires namesake { IsNode (tree_of change.now.old.plan.now) namesake }
     ensures { OnOk result (map row_of rows.new.items
-        ≡ map row_of rows.old.items ++ blocks_rows (change_of change.now) node namesake blocks (option_copied of.entry)) }
+        ≡ map row_of rows.old.items ++ blocks_rows (change_of change.now) node namesake blocks
+        (option_copied of.entry)) }
 {
     let before_all = Block::Class(Lifecycle::BeforeAll);
     let before_each = Block::Class(Lifecycle::BeforeEach);
@@ -224,7 +229,8 @@ fn add_block<'a>(
     requires node { IsNode (tree_of change.now.new.plan.now) node }
     requires namesake { IsNode (tree_of change.now.old.plan.now) namesake }
     ensures { OnOk result (map row_of rows.new.items
-        ≡ map row_of rows.old.items ++ block_rows (change_of change.now) node namesake block apart (option_copied of.entry)) }
+        ≡ map row_of rows.old.items ++ block_rows (change_of change.now) node namesake block apart
+        (option_copied of.entry)) }
 {
     match apart {
         Some(apart) => {
@@ -251,7 +257,8 @@ fn add_start<'a>(
     of: Option<&'a str>,
 ) -> Result<(), AllocError>
     ensures { OnOk result (map row_of rows.new.items
-        ≡ map row_of rows.old.items ++ start_rows (option_copied property.entry) marks.now place (option_copied of.entry)) }
+        ≡ map row_of rows.old.items ++ start_rows (option_copied property.entry) marks.now place
+        (option_copied of.entry)) }
 {
     match place {
         Some(place) => {

@@ -47,7 +47,8 @@ fn add_nodes<'a>(rows: &mut Vec<Row<'a>>, change: &Change<'a>) -> Result<(), All
 fn add_node<'a>(rows: &mut Vec<Row<'a>>, change: &Change<'a>, node: u32) -> Result<(), AllocError>
     requires change { IsChange change.now }
     requires node { IsNode (tree_of change.now.new.plan.now) node }
-    ensures { OnOk result (map row_of rows.new.items ≡ map row_of rows.old.items ++ node_rows (change_of change.now) node) }
+    ensures { OnOk result (map row_of rows.new.items ≡ map row_of rows.old.items
+        ++ node_rows (change_of change.now) node) }
 {
     if !is_listed(change.new.plan, node) {
         return Ok(());
@@ -64,7 +65,8 @@ fn add_fate<'a>(
 ) -> Result<(), AllocError>
     requires change { IsChange change.now }
     requires within { node < length change.now.new.plan.now.rows }
-    ensures { OnOk result (map row_of rows.new.items ≡ map row_of rows.old.items ++ fate_rows (change_of change.now) node fate) }
+    ensures { OnOk result (map row_of rows.new.items ≡ map row_of rows.old.items
+        ++ fate_rows (change_of change.now) node fate) }
 {
     match fate {
         Fate::Same(_) => Ok(()),
@@ -86,7 +88,8 @@ fn add_row<'a>(
     requires change { IsChange change.now }
     requires within { node < length change.now.new.plan.now.rows }
     ensures { OnOk result (map row_of rows.new.items
-        ≡ map row_of rows.old.items ++ node_row became (path_text (tree_of change.now.new.plan.now) node) ∷ []) }
+        ≡ map row_of rows.old.items ++ node_row became
+        (path_text (tree_of change.now.new.plan.now) node) ∷ []) }
 {
     let path = path_at(&change.new, node);
     rows.push(Row::Node { became, path })?;
@@ -104,7 +107,8 @@ fn add_reasons<'a>(
     requires change { IsChange change.now }
     requires within { node < length change.now.new.plan.now.rows }
     ensures { OnOk result (map row_of rows.new.items
-        ≡ map row_of rows.old.items ++ reasons_on (change_of change.now) (path (tree_of change.now.new.plan.now) node)) }
+        ≡ map row_of rows.old.items ++ reasons_on (change_of change.now)
+        (path (tree_of change.now.new.plan.now) node)) }
 {
     parents_come_first(change.new.plan);
     paths_lead_up(change.new.plan);
@@ -121,7 +125,8 @@ fn add_reasons<'a>(
 fn add_own<'a>(rows: &mut Vec<Row<'a>>, change: &Change<'a>, node: u32) -> Result<(), AllocError>
     requires change { IsChange change.now }
     requires node { IsNode (tree_of change.now.new.plan.now) node }
-    ensures { OnOk result (map row_of rows.new.items ≡ map row_of rows.old.items ++ own_rows (change_of change.now) node) }
+    ensures { OnOk result (map row_of rows.new.items ≡ map row_of rows.old.items
+        ++ own_rows (change_of change.now) node) }
 {
     nodes_are_a_tree(change.new.plan);
     match change.fates[node as usize] {
@@ -143,7 +148,8 @@ fn add_told<'a>(
     requires change { IsChange change.now }
     requires node { IsNode (tree_of change.now.new.plan.now) node }
     requires namesake { IsNode (tree_of change.now.old.plan.now) namesake }
-    ensures { OnOk result (map row_of rows.new.items ≡ map row_of rows.old.items ++ told_rows (change_of change.now) node namesake told) }
+    ensures { OnOk result (map row_of rows.new.items ≡ map row_of rows.old.items
+        ++ told_rows (change_of change.now) node namesake told) }
 {
     match told {
         Some(difference) => add_difference(rows, change, node, namesake, difference),
@@ -155,7 +161,8 @@ fn add_told<'a>(
 fn add_gone<'a>(rows: &mut Vec<Row<'a>>, change: &Change<'a>) -> Result<(), AllocError>
     requires { IsChange change.now }
     ensures { OnOk result (map row_of rows.new.items
-        ≡ map row_of rows.old.items ++ flat_map (gone_rows (change_of change.now)) change.now.gone.now) }
+        ≡ map row_of rows.old.items ++ flat_map
+        (gone_rows (change_of change.now)) change.now.gone.now) }
 {
     'nodes: for node in change.gone {
         add_gone_node(rows, change, *node)?;
@@ -171,7 +178,8 @@ fn add_gone_node<'a>(
 ) -> Result<(), AllocError>
     requires change { IsChange change.now }
     requires node { IsNode (tree_of change.now.old.plan.now) node }
-    ensures { OnOk result (map row_of rows.new.items ≡ map row_of rows.old.items ++ gone_rows (change_of change.now) node) }
+    ensures { OnOk result (map row_of rows.new.items ≡ map row_of rows.old.items
+        ++ gone_rows (change_of change.now) node) }
 {
     if !is_listed(change.old.plan, node) {
         return Ok(());

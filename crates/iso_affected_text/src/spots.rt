@@ -28,7 +28,8 @@ pub(crate) fn spot<'a>(
 ) -> Option<Spot<'a>>
     requires side { IsSide side.now }
     requires within { node < length side.now.plan.now.rows }
-    ensures { option_map spot_of result ≡ option_and_then (spot_in (texts_of names.now) (side_of side.now) node block) row }
+    ensures { option_map spot_of result ≡ option_and_then
+        (spot_in (texts_of names.now) (side_of side.now) node block) row }
 {
     match row {
         Some(row) => spot_in(side, names, node, block, row),
@@ -46,7 +47,8 @@ fn spot_in<'a>(
 ) -> Option<Spot<'a>>
     requires side { IsSide side.now }
     requires within { node < length side.now.plan.now.rows }
-    ensures { option_map spot_of result ≡ spot_in (texts_of names.now) (side_of side.now) node block row }
+    ensures { option_map spot_of result ≡ spot_in (texts_of names.now)
+        (side_of side.now) node block row }
 {
     let at = Place::Row(block_name(side.plan, node, block), row);
     match line_of_end(side.plan, side.sites, node, at) {

@@ -32,7 +32,8 @@ pub fn write_affected<W: Sink>(
     sink: &mut W,
 ) -> Result<(), TapFault>
     requires { AreFew last.now.counts }
-    ensures { Writes (W.account sink.old) (W.account sink.new) (affected_text (map row_of rows.now) (last_of last.now)) result }
+    ensures { Writes (W.account sink.old) (W.account sink.new)
+        (affected_text (map row_of rows.now) (last_of last.now)) result }
 {
     let mut printer = Printer::new(sink);
     match affected(&mut printer, rows, last) {
@@ -47,7 +48,8 @@ pub fn write_affected<W: Sink>(
 ///
 /// The sink is asked again where it takes only some bytes, and no more once it has failed.
 pub fn write_paths<W: Sink>(rows: &[Row<'_>], sink: &mut W) -> Result<(), TapFault>
-    ensures { Writes (W.account sink.old) (W.account sink.new) (paths_text (map row_of rows.now)) result }
+    ensures { Writes (W.account sink.old) (W.account sink.new)
+        (paths_text (map row_of rows.now)) result }
 {
     let mut printer = Printer::new(sink);
     match paths(&mut printer, rows) {
@@ -65,7 +67,8 @@ fn affected<W: Sink>(
     last: &Last<'_>,
 ) -> Result<(), SinkFailed>
     requires { AreFew last.now.counts }
-    ensures { Prints printer.old printer.new (affected_text (map row_of rows.now) (last_of last.now)) result }
+    ensures { Prints printer.old printer.new
+        (affected_text (map row_of rows.now) (last_of last.now)) result }
 {
     all(printer, rows)?;
     last_lines(printer, last)
@@ -154,7 +157,8 @@ fn block_line<'a, W: Sink>(
     before: Option<Spot<'a>>,
 ) -> Result<(), SinkFailed>
     ensures { Prints printer.old printer.new
-        (block_line block (option_copied of.entry) (option_map spot_of now.entry) (option_map spot_of before.entry)) result }
+        (block_line block (option_copied of.entry) (option_map spot_of now.entry)
+        (option_map spot_of before.entry)) result }
 {
     let head = [
         Word::Plain("  "),
@@ -171,7 +175,8 @@ fn spots<'a, W: Sink>(
     now: Option<Spot<'a>>,
     before: Option<Spot<'a>>,
 ) -> Result<(), SinkFailed>
-    ensures { Prints printer.old printer.new (spots_text (option_map spot_of now.entry) (option_map spot_of before.entry)) result }
+    ensures { Prints printer.old printer.new
+        (spots_text (option_map spot_of now.entry) (option_map spot_of before.entry)) result }
 {
     match (now, before) {
         (Some(now), Some(was)) => words(

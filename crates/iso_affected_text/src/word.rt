@@ -61,7 +61,8 @@ fn optional<W: Sink>(
     before: &str,
     text: Option<&str>,
 ) -> Result<(), SinkFailed>
-    ensures { Prints printer.old printer.new (optional before.now (option_copied text.entry)) result }
+    ensures { Prints printer.old printer.new
+        (optional before.now (option_copied text.entry)) result }
 {
     match text {
         Some(text) => {

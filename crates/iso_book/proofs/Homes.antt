@@ -52,7 +52,8 @@ module _ (t : TrayView) (tree : IsTree (tree_of t.plan)) (node : ℕ) where
       }
 
   -- a class whose keys aren't there decides
-  pub stops : (at : ℕ) → IsOnWay t node at → 0 < at → (takes_write (tree_of t.plan) at && not (is_lent t.lent at)) ≡ true → holds_writers t (path (tree_of t.plan) (parent (tree_of t.plan) node)) ≡ false
+  pub stops : (at : ℕ) → IsOnWay t node at → 0 < at → (takes_write (tree_of t.plan) at && not (is_lent t.lent at)) ≡ true
+      → holds_writers t (path (tree_of t.plan) (parent (tree_of t.plan) node)) ≡ false
   stops at way pos fail =
       sym way.rest ∙ here at pos ∙ failed (takes_write (tree_of t.plan) at) (is_lent t.lent at) (holds_writers t (path (tree_of t.plan) (parent (tree_of t.plan) at))) fail
 

@@ -42,17 +42,26 @@ Parts = Planned × (Start × (ℕ × (List Event × Bool)))
 
 abbrev parts_code : Coded Parts
 parts_code =
-    coded× plan.the_row.coded (coded× start_code (coded× coded_ℕ (coded× (coded_list event.the_row.coded) coded_bool)))
+    coded× plan.the_row.coded
+    (coded× start_code (coded× coded_ℕ (coded× (coded_list event.the_row.coded) coded_bool)))
 
 abbrev from_parts : Parts → BookView
-from_parts p = record { plan = p.0; world = p.1.0; workers = p.1.1.0; history = p.1.1.1.0; stopped = p.1.1.1.1 }
+from_parts p = record {
+  plan = p.0;
+  world = p.1.0;
+  workers = p.1.1.0;
+  history = p.1.1.1.0;
+  stopped = p.1.1.1.1;
+}
 
 abbrev pub book_code : Coded BookView
-book_code = code_by Parts parts_code (λ v. (v.plan, (v.world, (v.workers, (v.history, v.stopped))))) from_parts (λ _. refl)
+book_code = code_by Parts parts_code (λ v. (v.plan, (v.world, (v.workers, (v.history, v.stopped)))))
+    from_parts (λ _. refl)
 
 -- a book of a plan and a world that has taken no event
 abbrev pub new_book : Planned → Start → ℕ → BookView
-new_book plan world workers = record { plan = plan; world = world; workers = workers; history = []; stopped = false }
+new_book plan world workers =
+    record { plan = plan; world = world; workers = workers; history = []; stopped = false }
 
 abbrev pub suite_in : BookView → Suite Head (List ℕ) Resource
 suite_in b = suite_at b.plan b.world
@@ -98,7 +107,8 @@ left_in b = left_below (state_in b) (length b.plan.rows)
 -- What every book is: its history in full is a run; where its nodes and workers stand, what it has
 -- lent and its results are those of the state that this run gives; no node has more than four
 -- events, and it has room for all that may still come.
-pub record IsBook (b : BookView) (standing : Standing) (vault : VaultView) (results : ResultsView) (slots : ℕ) : Type 0 where
+pub record IsBook (b : BookView) (standing : Standing) (vault : VaultView) (results : ResultsView)
+    (slots : ℕ) : Type 0 where
   pub history : IsHistory scripts (suite_in b) b.workers (events_of b.history)
   pub standing_plan : standing.plan ≡ b.plan
   pub workers : workers_in standing ≡ b.workers
@@ -107,7 +117,8 @@ pub record IsBook (b : BookView) (standing : Standing) (vault : VaultView) (resu
   pub vault_world : vault.world ≡ b.world
   pub lent_fits : length vault.lent ≡ length b.plan.rows
   pub root : is_lent vault.lent 0 ≡ false
-  pub lent : (n : ℕ) → 0 < n → n < length b.plan.rows → is_lent vault.lent n ≡ is_held ((state_in b).nodes.status n)
+  pub lent : (n : ℕ) → 0 < n → n < length b.plan.rows → is_lent vault.lent n
+      ≡ is_held ((state_in b).nodes.status n)
   pub results_plan : results.plan ≡ b.plan
   pub results_world : results.start ≡ b.world
   pub results_are : AreResultsOf results (state_in b).nodes

@@ -7,11 +7,13 @@ use Rattle.iso_lifecycle.specs.declared.kind.BodyKind.TheVariants.{AfterAll, Bef
 
 -- of two books of one plan each node but the root is held in both or in neither
 abbrev pub HoldSame : BookView → BookView → Type 0
-HoldSame b c = (m : ℕ) → 0 < m → m < length b.plan.rows → is_held ((state_in c).nodes.status m) ≡ is_held ((state_in b).nodes.status m)
+HoldSame b c = (m : ℕ) → 0 < m → m < length b.plan.rows → is_held ((state_in c).nodes.status m)
+    ≡ is_held ((state_in b).nodes.status m)
 
 -- the same of each node but the root and this one
 abbrev pub HoldAlike : ℕ → BookView → BookView → Type 0
-HoldAlike n b c = (m : ℕ) → 0 < m → m < length b.plan.rows → m ≢ n → is_held ((state_in c).nodes.status m) ≡ is_held ((state_in b).nodes.status m)
+HoldAlike n b c = (m : ℕ) → 0 < m → m < length b.plan.rows → m ≢ n
+    → is_held ((state_in c).nodes.status m) ≡ is_held ((state_in b).nodes.status m)
 
 -- a body of a node was left: after a `before_all` each node is held as before, after the last body
 -- of a node each but this one

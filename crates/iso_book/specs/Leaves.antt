@@ -34,7 +34,8 @@ pub record ReceiptView : Type 0 where
 
 abbrev pub receipt_code : Coded ReceiptView
 receipt_code =
-    code_by (ℕ × (ℕ × ℕ)) (coded× coded_ℕ (coded× coded_ℕ coded_ℕ)) (λ r. (r.number, (r.worker, r.node)))
+    code_by (ℕ × (ℕ × ℕ)) (coded× coded_ℕ (coded× coded_ℕ coded_ℕ))
+    (λ r. (r.number, (r.worker, r.node)))
     (λ p. record { number = p.0; worker = p.1.0; node = p.1.1 }) (λ _. refl)
 
 -- whether a body is the last of its node: a whole test, or an `after_all`
@@ -45,8 +46,10 @@ is_last AfterAll = true
 
 -- whether the body under way at a node, where one is, is of this kind
 abbrev pub is_under_way : BookView → ℕ → BodyKind → Bool
-is_under_way b n BeforeAll = not (is_closing ((state_in b).nodes.status n)) && not (is_test (row_at (tree_of b.plan) n).kind)
-is_under_way b n Test = not (is_closing ((state_in b).nodes.status n)) && is_test (row_at (tree_of b.plan) n).kind
+is_under_way b n BeforeAll =
+    not (is_closing ((state_in b).nodes.status n)) && not (is_test (row_at (tree_of b.plan) n).kind)
+is_under_way b n Test =
+    not (is_closing ((state_in b).nodes.status n)) && is_test (row_at (tree_of b.plan) n).kind
 is_under_way b n AfterAll = is_closing ((state_in b).nodes.status n)
 
 -- whether a body was that of a node which is under way there
@@ -64,7 +67,8 @@ booking_in b w = booking_refusal (suite_in b) b.workers (state_in b) w
 -- why a Leave is refused whatever tray comes with it, if it is: by the first of these kinds, or
 -- else since the body that is brought isn't the worker's
 abbrev pub leave_refusal_in : BookView → ℕ → DoneView → Option Why.Refused
-leave_refusal_in b w d = option_or (booking_in b w) (refuse (not (is_of_worker b w d)) (Why.OtherBody d.subject.node))
+leave_refusal_in b w d =
+    option_or (booking_in b w) (refuse (not (is_of_worker b w d)) (Why.OtherBody d.subject.node))
 
 -- What may be brought to a Leave: the body is of the tray's plan and starting values, and where it
 -- is the last of its node, each value that the node takes for READ_WRITE and that the tray has
@@ -73,7 +77,8 @@ pub record MayBring (d : DoneView) (t : TrayView) : Type 0 where
   pub plan : d.subject.plan ≡ t.plan
   pub start : d.subject.start ≡ t.world
   pub at_start : is_last d.kind ≡ true → (i : ℕ) → i < length (keys (tree_of t.plan))
-      → is_written (locks (tree_of t.plan) d.subject.node) i ≡ true → is_some (slot t.values i) ≡ true → StandsAtStart t i
+      → is_written (locks (tree_of t.plan) d.subject.node) i ≡ true → is_some (slot t.values i)
+      ≡ true → StandsAtStart t i
 
 -- the tray after the Leave of a body: the last one of a node gives the node back
 abbrev pub after_leave : BodyKind → ℕ → TrayView → TrayView
@@ -89,7 +94,8 @@ home_after AfterAll n v = regaining n v
 
 -- a Leave was taken: nothing refuses it, the tray is as asked, the book has this one event more,
 -- and the receipt tells of it
-pub record IsLeft (w : ℕ) (d : DoneView) (r : ReceiptView) (b c : BookView) (t : TrayView) : Type 0 where
+pub record IsLeft (w : ℕ) (d : DoneView) (r : ReceiptView) (b c : BookView)
+    (t : TrayView) : Type 0 where
   pub allowed : leave_refusal_in b w d ≡ None
   pub tray : GoesOnWith b d.subject.node t
   pub book : c ≡ with_event b (Code.Leave w)
@@ -97,7 +103,8 @@ pub record IsLeft (w : ℕ) (d : DoneView) (r : ReceiptView) (b c : BookView) (t
 
 -- a Leave was refused: neither the book nor the tray has changed, and what was brought is handed
 -- back
-pub record IsNotLeft (kind : Why.Refused) (back : DoneView) (w : ℕ) (d : DoneView) (b c : BookView) (t u : TrayView) : Type 0 where
+pub record IsNotLeft (kind : Why.Refused) (back : DoneView) (w : ℕ) (d : DoneView) (b c : BookView)
+    (t u : TrayView) : Type 0 where
   pub why : IsRefusedBy (leave_refusal_in b w d) (GoesOnWith b d.subject.node t) kind
   pub done : back ≡ d
   pub book : c ≡ b

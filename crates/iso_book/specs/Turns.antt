@@ -21,7 +21,8 @@ use Rattle.iso_standing.specs.declared.event.Event.{Event}
 -- whether each of these nodes that takes a key for READ_WRITE is lent to a tray
 abbrev pub holds_writers : TrayView → List ℕ → Bool
 holds_writers t [] = true
-holds_writers t (n ∷ ns) = (not (takes_write (tree_of t.plan) n) || is_lent t.lent n) && holds_writers t ns
+holds_writers t (n ∷ ns) = (not (takes_write (tree_of t.plan) n) || is_lent t.lent n)
+    && holds_writers t ns
 
 -- whether a tray has what is around a node: it is no flat map, and what the classes around the node
 -- take for READ_WRITE is lent to it
@@ -70,7 +71,8 @@ pub record IsTaken (e : Event) (asked : Type 0) (b c : BookView) : Type 0 where
   pub book : c ≡ with_event b e
 
 -- an event wasn't taken, and neither the book nor the tray has changed
-pub record IsNotTaken (fault : CoreFault) (e : Event) (asked : Type 0) (b c : BookView) (t u : TrayView) : Type 0 where
+pub record IsNotTaken (fault : CoreFault) (e : Event) (asked : Type 0) (b c : BookView)
+    (t u : TrayView) : Type 0 where
   pub why : IsFaultOf (refusal_in b e) asked fault
   pub book : c ≡ b
   pub tray : u ≡ t
@@ -85,12 +87,14 @@ handed t class = record t { frames = frames_of t class }
 
 -- each body with which a node is entered may begin with the frames of a tray
 abbrev pub BeginsIn : ℕ → TrayView → Type 0
-BeginsIn n t = (kind : BodyKind) → is_after_all kind ≡ false → is_kind_of kind (row_at (tree_of t.plan) n).kind ≡ true
+BeginsIn n t = (kind : BodyKind) → is_after_all kind ≡ false
+    → is_kind_of kind (row_at (tree_of t.plan) n).kind ≡ true
     → CanBegin (subject t.plan t.world n) kind t.frames
 
 -- a tray shows of each key that a node holds for READ the starting value
 abbrev pub ReadsStart : ℕ → TrayView → Type 0
-ReadsStart n t = (k : List ℕ) → holds_read (tree_of t.plan) k n ≡ true → content t k ≡ started t.world k
+ReadsStart n t = (k : List ℕ) → holds_read (tree_of t.plan) k n ≡ true
+    → content t k ≡ started t.world k
 
 -- A tray after the Enter of a node: it had what is around the node, the frames of the classes
 -- around the node were handed to it, and the node is lent to it; the node's body may begin, and

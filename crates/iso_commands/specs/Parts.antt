@@ -20,7 +20,8 @@ each_file names = flat_map (λ name. codes " " ++ file_word name) names
 -- the option of a shard, where one was given
 abbrev pub shard_option : Option Shard → List ℕ
 shard_option None = []
-shard_option (Some shard) = codes " --shard " ++ decimal shard.number ++ codes "/" ++ decimal shard.of
+shard_option (Some shard) =
+    codes " --shard " ++ decimal shard.number ++ codes "/" ++ decimal shard.of
 
 -- a part as text
 abbrev pub part_text : Part → List ℕ

@@ -81,16 +81,20 @@ is_stdin (Some name) = is_dash name
 
 -- whether some file of an option has a character that no reader sees
 abbrev pub has_unseen_option : RecordedView → Bool
-has_unseen_option run = has_unseen run.schedule || (given_has_unseen run.settings || (given_has_unseen run.world || given_has_unseen run.only_from))
+has_unseen_option run = has_unseen run.schedule
+    || (given_has_unseen run.settings
+    || (given_has_unseen run.world || given_has_unseen run.only_from))
 
 -- whether some path, pattern or script has one
 abbrev pub has_unseen_word : RecordedView → Bool
-has_unseen_word run = has_unseen_in run.only || (has_unseen_in run.patterns || has_unseen_in run.scripts)
+has_unseen_word run =
+    has_unseen_in run.only || (has_unseen_in run.patterns || has_unseen_in run.scripts)
 
 -- whether the command can be told: a script is named, nothing is read from standard input, and no
 -- word has a character that no reader sees
 abbrev pub can_be_told : RecordedView → Bool
-can_be_told run = not (length run.scripts == 0) && (not (is_stdin run.only_from) && (not (has_unseen_option run) && not (has_unseen_word run)))
+can_be_told run = not (length run.scripts == 0)
+    && (not (is_stdin run.only_from) && (not (has_unseen_option run) && not (has_unseen_word run)))
 
 -- the line of a run whose schedule, in a file of this name, is longer than what is replayed
 abbrev pub too_large_line : List ℕ → List ℕ

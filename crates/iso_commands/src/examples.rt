@@ -13,7 +13,8 @@ pub fn command_has_what_was_given()
 /// Each option is told once for each of its words, and words are quoted where a shell would read
 /// them otherwise.
 pub fn command_has_all_words()
-    ensures { replay_line named ≡ codes "replay: jtap replay --schedule ./-r --settings s.toml --world w.toml --processors 4 --only a.B --match 'a.*' --only-from 'f g' --shard 2/3 a.jtap b.jtap\n" }
+    ensures { replay_line named
+        ≡ codes "replay: jtap replay --schedule ./-r --settings s.toml --world w.toml --processors 4 --only a.B --match 'a.*' --only-from 'f g' --shard 2/3 a.jtap b.jtap\n" }
 {}
 
 /// It is told where a script is named, the list of paths isn't standard input, and each character

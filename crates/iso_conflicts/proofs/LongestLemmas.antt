@@ -7,7 +7,8 @@ use Rattle.iso_conflicts.specs.declared.longest.Chain.{Chain}
 use Rattle.iso_plan.specs.Tree.{Row}
 
 -- a chain more
-pub longest-step : (g : ℕ → Chain) (len n : ℕ) → n < len → (best new whole : Chain) → new ≡ longer best (g n) → fold longer best (map g (range_with_len n (len - n))) ≡ whole → fold longer new (map g (range_with_len (n + 1) (len - (n + 1)))) ≡ whole
+pub longest-step : (g : ℕ → Chain) (len n : ℕ) → n < len → (best new whole : Chain) → new ≡ longer best (g n)
+    → fold longer best (map g (range_with_len n (len - n))) ≡ whole → fold longer new (map g (range_with_len (n + 1) (len - (n + 1)))) ≡ whole
 longest-step g len n h best new whole e k =
     ap (λ b. fold longer b (map g (range_with_len (n + 1) (len - (n + 1))))) e
     ∙ sym (ap (λ ns. fold longer best (map g ns)) (range-next len n h)) ∙ k

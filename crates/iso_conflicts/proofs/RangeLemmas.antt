@@ -60,7 +60,8 @@ pub none-pass : (p : ℕ → Bool) (ns : List ℕ) → list_any p ns ≡ false �
 none-pass p [] h = refl
 none-pass p (n ∷ ns) h = none_test p n ns (p n) h (none-pass p ns)
 
-some_test : (p : ℕ → Bool) (n : ℕ) (ns : List ℕ) (t : Bool) → (t || list_any p ns) ≡ true → (list_any p ns ≡ true → (length (filter p ns) == 0) ≡ false) → (length (cond t (n ∷ filter p ns) (filter p ns)) == 0) ≡ false
+some_test : (p : ℕ → Bool) (n : ℕ) (ns : List ℕ) (t : Bool) → (t || list_any p ns) ≡ true
+    → (list_any p ns ≡ true → (length (filter p ns) == 0) ≡ false) → (length (cond t (n ∷ filter p ns) (filter p ns)) == 0) ≡ false
 some_test p n ns true h ih = eq_not (suc (length (filter p ns))) 0 (λ e. absurd (omega arith))
 some_test p n ns false h ih = ih h
 
@@ -86,14 +87,16 @@ raised : (most add own new now rest whole : ℕ) → add ≡ own → new ≡ max
 raised most add own new now rest whole e m f k = omega arith
 
 -- a step of a sum over those that pass
-pub sum-step : (p : ℕ → Bool) (f : ℕ → ℕ) (len n : ℕ) → n < len → (done add whole : ℕ) → add ≡ cond (p n) (f n) 0 → done + sum_by f (filter p (range_with_len n (len - n))) ≡ whole → (done + add) + sum_by f (filter p (range_with_len (n + 1) (len - (n + 1)))) ≡ whole
+pub sum-step : (p : ℕ → Bool) (f : ℕ → ℕ) (len n : ℕ) → n < len → (done add whole : ℕ) → add ≡ cond (p n) (f n) 0
+    → done + sum_by f (filter p (range_with_len n (len - n))) ≡ whole → (done + add) + sum_by f (filter p (range_with_len (n + 1) (len - (n + 1)))) ≡ whole
 sum-step p f len n h done add whole e k =
     let rest = range_with_len (n + 1) (len - (n + 1)) in
     let next : sum_by f (filter p (range_with_len n (len - n))) ≡ cond (p n) (f n) 0 + sum_by f (filter p rest) = ap (λ ns. sum_by f (filter p ns)) (range-next len n h) ∙ sum-next p f n rest in
     added done add (cond (p n) (f n) 0) (sum_by f (filter p (range_with_len n (len - n)))) (sum_by f (filter p rest)) whole e next k
 
 -- a step of the largest of those that pass
-pub largest-step : (p : ℕ → Bool) (f : ℕ → ℕ) (len n : ℕ) → n < len → (most add new whole : ℕ) → add ≡ cond (p n) (f n) 0 → new ≡ ord_max nat_cmp most add → max most (largest (map f (filter p (range_with_len n (len - n))))) ≡ whole → max new (largest (map f (filter p (range_with_len (n + 1) (len - (n + 1)))))) ≡ whole
+pub largest-step : (p : ℕ → Bool) (f : ℕ → ℕ) (len n : ℕ) → n < len → (most add new whole : ℕ) → add ≡ cond (p n) (f n) 0 → new ≡ ord_max nat_cmp most add
+    → max most (largest (map f (filter p (range_with_len n (len - n))))) ≡ whole → max new (largest (map f (filter p (range_with_len (n + 1) (len - (n + 1)))))) ≡ whole
 largest-step p f len n h most add new whole e m k =
     let rest = range_with_len (n + 1) (len - (n + 1)) in
     let next : largest (map f (filter p (range_with_len n (len - n)))) ≡ max (cond (p n) (f n) 0) (largest (map f (filter p rest))) = ap (λ ns. largest (map f (filter p ns))) (range-next len n h) ∙ largest-next p f n rest in
@@ -126,7 +129,8 @@ pub term-fits : (part rest whole len : ℕ) → part + rest ≡ whole → whole 
 term-fits part rest whole len e h = omega arith
 
 -- a step of a sum over those of a list that pass
-pub drop-step : (p : ℕ → Bool) (f : ℕ → ℕ) (xs : List ℕ) (i : ℕ) → i < length xs → (done add whole : ℕ) → add ≡ cond (p (get_or xs i 0)) (f (get_or xs i 0)) 0 → done + sum_by f (filter p (drop i xs)) ≡ whole → (done + add) + sum_by f (filter p (drop (i + 1) xs)) ≡ whole
+pub drop-step : (p : ℕ → Bool) (f : ℕ → ℕ) (xs : List ℕ) (i : ℕ) → i < length xs → (done add whole : ℕ) → add ≡ cond (p (get_or xs i 0)) (f (get_or xs i 0)) 0
+    → done + sum_by f (filter p (drop i xs)) ≡ whole → (done + add) + sum_by f (filter p (drop (i + 1) xs)) ≡ whole
 drop-step p f xs i h done add whole e k =
     let n = get_or xs i 0 in
     let rest = drop (i + 1) xs in

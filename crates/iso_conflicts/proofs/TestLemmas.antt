@@ -108,7 +108,8 @@ above_by tree b m n pos true e h =
 above_by tree b m n pos false e h = refl
 
 -- one test counted in a node of its path is left to be counted above
-pub climb : (tree : List Row) → IsBelow tree → (m n : ℕ) → 0 < n → (old new : ℕ) → new ≡ cond (n == m) (old + 1) old → new + cond (is_under tree m (parent tree n)) 1 0 ≡ old + cond (is_under tree m n) 1 0
+pub climb : (tree : List Row) → IsBelow tree → (m n : ℕ) → 0 < n → (old new : ℕ) → new ≡ cond (n == m) (old + 1) old
+    → new + cond (is_under tree m (parent tree n)) 1 0 ≡ old + cond (is_under tree m n) 1 0
 climb tree b m n pos old new h =
     up_by (n == m) (is_under tree m (parent tree n)) (above_by tree b m n pos (is_under tree m (parent tree n)) refl) old new h
     ∙ ap (λ (x : Bool). old + cond x 1 0) (sym (under-step tree b m n pos))
@@ -140,7 +141,8 @@ counted-start tree counts e =
       so_far = λ m. ap (λ xs. get_or xs m 0) e ∙ zero-at (length tree) m ∙ sym (none-yet tree m);
     }
 
-pub counted-more : (tree : List Row) (n : ℕ) (old new : List ℕ) → AreCounted tree n old → length new ≡ length tree → ((m : ℕ) → get_or new m 0 ≡ get_or old m 0 + adds tree m n) → AreCounted tree (n + 1) new
+pub counted-more : (tree : List Row) (n : ℕ) (old new : List ℕ) → AreCounted tree n old → length new ≡ length tree
+    → ((m : ℕ) → get_or new m 0 ≡ get_or old m 0 + adds tree m n) → AreCounted tree (n + 1) new
 counted-more tree n old new h l each =
     record { each = l; so_far = λ m. rw add-one (each m ∙ ap (λ x. x + adds tree m n) (h.so_far m)) }
 

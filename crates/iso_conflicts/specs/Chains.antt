@@ -24,7 +24,8 @@ tests_in tree n = count_by (λ m. is_test (row_at tree m).kind) (nodes_under tre
 -- takes it for READ
 abbrev pub key_chain : List Row → (key : ℕ) → ℕ
 key_chain tree key =
-    sum_by (tests_in tree) (takers tree Write key) + largest (map (tests_in tree) (takers tree Read key))
+    sum_by (tests_in tree) (takers tree Write key)
+    + largest (map (tests_in tree) (takers tree Read key))
 
 -- whether a mode is that of a node on its class's thread
 abbrev pub is_same_thread : Mode → Bool
@@ -34,7 +35,8 @@ is_same_thread Concurrent = false
 -- the chain of a class: the tests of its children on the same thread. That of the root is of
 -- top-level classes.
 abbrev pub class_chain : List Row → Settings → ℕ → ℕ
-class_chain tree s n = sum_by (tests_in tree) (filter (λ m. is_same_thread (mode tree s m)) (children tree n))
+class_chain tree s n =
+    sum_by (tests_in tree) (filter (λ m. is_same_thread (mode tree s m)) (children tree n))
 
 -- the longer of two chains, the first where they are equal
 abbrev pub longer : Chain → Chain → Chain
@@ -42,10 +44,12 @@ longer a b = cond (nat_lt a.tests b.tests) b a
 
 -- the chains of the root and all nodes, and of all keys
 abbrev pub class_chains : List Row → Settings → (count n : ℕ) → List Chain
-class_chains tree s count n = map (λ m. record { tests = class_chain tree s m; shared = Class m }) (range_with_len n count)
+class_chains tree s count n =
+    map (λ m. record { tests = class_chain tree s m; shared = Class m }) (range_with_len n count)
 
 abbrev pub key_chains : List Row → (count k : ℕ) → List Chain
-key_chains tree count k = map (λ j. record { tests = key_chain tree j; shared = Key j }) (range_with_len k count)
+key_chains tree count k =
+    map (λ j. record { tests = key_chain tree j; shared = Key j }) (range_with_len k count)
 
 -- no test, on the thread of the root
 abbrev pub no_chain : Chain
@@ -53,7 +57,8 @@ no_chain = record { tests = 0; shared = Class 0 }
 
 -- the longest of them; of several the first, a class before a key
 abbrev pub longest : List Row → Settings → Chain
-longest tree s = fold longer no_chain (class_chains tree s (length tree) 0 ++ key_chains tree (length (keys tree)) 0)
+longest tree s = fold longer no_chain (class_chains tree s (length tree) 0
+    ++ key_chains tree (length (keys tree)) 0)
 
 -- that it is of a node or a key that there is
 abbrev pub IsOf : List Row → Shared → Type 0

@@ -29,7 +29,8 @@ spaced_paths tree ns = flat_map (λ n. codes " " ++ path_text tree n) ns
 
 -- a line of the nodes that take a key, behind a word, where there are any
 abbrev pub takers_line : List Row → (word : List ℕ) → (takers : List ℕ) → List ℕ
-takers_line tree word ns = cond (length ns == 0) [] (codes "    " ++ word ++ codes ":" ++ spaced_paths tree ns ++ codes "\n")
+takers_line tree word ns = cond (length ns == 0) []
+    (codes "    " ++ word ++ codes ":" ++ spaced_paths tree ns ++ codes "\n")
 
 -- the word of the line of those that take a key so
 abbrev pub taking_word : Access → List ℕ
@@ -40,19 +41,22 @@ taking_word Write = codes "write"
 abbrev pub key_lines : List Row → (key : ℕ) → List ℕ
 key_lines tree key =
     key_text tree key ++ codes ": longest chain " ++ counted (key_chain tree key) ++ codes "\n"
-    ++ takers_line tree (taking_word Write) (takers tree Write key) ++ takers_line tree (taking_word Read) (takers tree Read key)
+    ++ takers_line tree (taking_word Write) (takers tree Write key)
+    ++ takers_line tree (taking_word Read) (takers tree Read key)
 
 -- what the tests of a chain share: a key, or the thread of a class, or worker 0, on which top-level
 -- classes are on the same thread
 abbrev pub shared_text : List Row → Shared → List ℕ
-shared_text tree (Class n) = cond (is_root n) (codes "top-level classes") (codes "class " ++ path_text tree n)
+shared_text tree (Class n) =
+    cond (is_root n) (codes "top-level classes") (codes "class " ++ path_text tree n)
 shared_text tree (Key key) = codes "key " ++ key_text tree key
 
 -- the longest chain of all
 abbrev pub last_line : List Row → Settings → List ℕ
 last_line tree s =
     let c = longest tree s in
-    codes "longest chain of all: " ++ counted c.tests ++ codes ", " ++ shared_text tree c.shared ++ codes "\n"
+    codes "longest chain of all: " ++ counted c.tests ++ codes ", "
+    ++ shared_text tree c.shared ++ codes "\n"
 
 -- the lines of keys
 abbrev pub keys_lines : List Row → (count key : ℕ) → List ℕ
@@ -61,4 +65,5 @@ keys_lines tree count key = flat_map (key_lines tree) (range_with_len key count)
 -- all of it: the number of workers, the keys by their numbers, and the longest chain
 abbrev pub conflicts_text : List Row → Settings → (workers : ℕ) → List ℕ
 conflicts_text tree s workers =
-    codes "workers " ++ decimal workers ++ codes "\n" ++ keys_lines tree (length (keys tree)) 0 ++ last_line tree s
+    codes "workers " ++ decimal workers ++ codes "\n" ++ keys_lines tree (length (keys tree)) 0
+    ++ last_line tree s

@@ -27,7 +27,8 @@ pub(crate) fn key_chain(plan: &Plan, tests: &[u32], key: u32) -> u64
 /// The tests of all nodes that take a key for READ_WRITE.
 fn written(plan: &Plan, tests: &[u32], key: u32) -> u64
     requires { tests.now ≡ column (tests_in (tree_of plan.now)) (length plan.now.rows) }
-    ensures written { result ≡ sum_by (tests_in (tree_of plan.now)) (takers (tree_of plan.now) Write key) }
+    ensures written { result ≡ sum_by (tests_in (tree_of plan.now))
+        (takers (tree_of plan.now) Write key) }
     ensures fits { result + length plan.now.rows < 2 ^ 64 }
 {
     let mut sum: u64 = 0;
@@ -40,7 +41,8 @@ fn written(plan: &Plan, tests: &[u32], key: u32) -> u64
 /// The tests of the largest node that takes a key for READ.
 fn most_read(plan: &Plan, tests: &[u32], key: u32) -> u32
     requires { tests.now ≡ column (tests_in (tree_of plan.now)) (length plan.now.rows) }
-    ensures largest { result ≡ largest (map (tests_in (tree_of plan.now)) (takers (tree_of plan.now) Read key)) }
+    ensures largest { result
+        ≡ largest (map (tests_in (tree_of plan.now)) (takers (tree_of plan.now) Read key)) }
     ensures fits { result ≤ length plan.now.rows }
 {
     let mut most = 0;
@@ -54,7 +56,8 @@ fn most_read(plan: &Plan, tests: &[u32], key: u32) -> u32
 fn taker_tests(plan: &Plan, tests: &[u32], access: Access, key: u32, node: u32) -> u32
     requires tests { tests.now ≡ column (tests_in (tree_of plan.now)) (length plan.now.rows) }
     requires node { node < length plan.now.rows }
-    ensures { result ≡ cond (takes (tree_of plan.now) access key node) (tests_in (tree_of plan.now) node) 0 }
+    ensures { result ≡ cond (takes (tree_of plan.now) access key node)
+        (tests_in (tree_of plan.now) node) 0 }
 {
     if takes(plan, access, key, node) {
         tests[node as usize]
@@ -82,7 +85,8 @@ pub(crate) fn class_chain(plan: &Plan, tests: &[u32], class: u32) -> u64
 fn child_tests(plan: &Plan, tests: &[u32], node: u32) -> u32
     requires tests { tests.now ≡ column (tests_in (tree_of plan.now)) (length plan.now.rows) }
     requires node { node < length plan.now.rows }
-    ensures { result ≡ cond (is_same_thread (mode (tree_of plan.now) plan.now.settings node)) (tests_in (tree_of plan.now) node) 0 }
+    ensures { result ≡ cond (is_same_thread (mode (tree_of plan.now) plan.now.settings node))
+        (tests_in (tree_of plan.now) node) 0 }
 {
     match plan.mode(node) {
         Mode::SameThread => tests[node as usize],

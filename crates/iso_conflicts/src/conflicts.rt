@@ -35,7 +35,8 @@ pub fn write_conflicts<W: Sink>(
     sink: &mut W,
 ) -> Result<(), TapFault>
     requires { tests.now ≡ column (tests_in (tree_of plan.now)) (length plan.now.rows) }
-    ensures { Writes (W.account sink.old) (W.account sink.new) (conflicts_text (tree_of plan.now) plan.now.settings workers) result }
+    ensures { Writes (W.account sink.old) (W.account sink.new)
+        (conflicts_text (tree_of plan.now) plan.now.settings workers) result }
 {
     let mut printer = Printer::new(sink);
     match conflicts(&mut printer, plan, workers, tests) {
@@ -54,7 +55,8 @@ fn conflicts<W: Sink>(
     tests: &[u32],
 ) -> Result<(), SinkFailed>
     requires { tests.now ≡ column (tests_in (tree_of plan.now)) (length plan.now.rows) }
-    ensures { Prints printer.old printer.new (conflicts_text (tree_of plan.now) plan.now.settings workers) result }
+    ensures { Prints printer.old printer.new
+        (conflicts_text (tree_of plan.now) plan.now.settings workers) result }
 {
     printer.pieces(&[
         Piece::Plain(b"workers "),
@@ -72,7 +74,8 @@ fn all_keys<W: Sink>(
     tests: &[u32],
 ) -> Result<(), SinkFailed>
     requires { tests.now ≡ column (tests_in (tree_of plan.now)) (length plan.now.rows) }
-    ensures { Prints printer.old printer.new (keys_lines (tree_of plan.now) (length (keys (tree_of plan.now))) 0) result }
+    ensures { Prints printer.old printer.new
+        (keys_lines (tree_of plan.now) (length (keys (tree_of plan.now))) 0) result }
 {
     'keys: for key in 0..plan.key_count() {
         key_lines(printer, plan, tests, key)?;
@@ -109,7 +112,8 @@ fn takers_line<W: Sink>(
     key: u32,
 ) -> Result<(), SinkFailed>
     ensures { Prints printer.old printer.new
-        (takers_line (tree_of plan.now) (taking_word access) (takers (tree_of plan.now) access key)) result }
+        (takers_line (tree_of plan.now) (taking_word access) (takers (tree_of plan.now) access key))
+        result }
 {
     if !is_taken(plan, access, key) {
         return Ok(());
@@ -130,7 +134,8 @@ fn taker_paths<W: Sink>(
     access: Access,
     key: u32,
 ) -> Result<(), SinkFailed>
-    ensures { Prints printer.old printer.new (spaced_paths (tree_of plan.now) (takers (tree_of plan.now) access key)) result }
+    ensures { Prints printer.old printer.new
+        (spaced_paths (tree_of plan.now) (takers (tree_of plan.now) access key)) result }
 {
     'nodes: for node in 1..plan.len() {
         taker_path(printer, plan, access, key, node)?;
@@ -149,7 +154,8 @@ fn taker_path<W: Sink>(
     requires above { 0 < node }
     requires within { node < length plan.now.rows }
     ensures { Prints printer.old printer.new
-        (cond (takes (tree_of plan.now) access key node) (codes " " ++ path_text (tree_of plan.now) node) []) result }
+        (cond (takes (tree_of plan.now) access key node)
+        (codes " " ++ path_text (tree_of plan.now) node) []) result }
 {
     if !takes(plan, access, key, node) {
         return Ok(());
@@ -165,7 +171,8 @@ fn last_line<W: Sink>(
     tests: &[u32],
 ) -> Result<(), SinkFailed>
     requires { tests.now ≡ column (tests_in (tree_of plan.now)) (length plan.now.rows) }
-    ensures { Prints printer.old printer.new (last_line (tree_of plan.now) plan.now.settings) result }
+    ensures { Prints printer.old printer.new
+        (last_line (tree_of plan.now) plan.now.settings) result }
 {
     let chain = longest(plan, tests);
     printer.bytes(b"longest chain of all: ")?;

@@ -43,7 +43,10 @@ pub fn children_on_one_thread_are_a_chain()
 
 /// The longest is a class's where a key's is no longer, and the first of several.
 pub fn first_of_the_longest_is_told()
-    ensures root { last_line cart_and_desk one_thread ≡ codes "longest chain of all: 4 tests, top-level classes\n" }
-    ensures class { last_line two_classes concurrent_classes ≡ codes "longest chain of all: 1 test, class shop.A\n" }
-    ensures key { last_line loose concurrent_by_default ≡ codes "longest chain of all: 2 tests, key iso:global\n" }
+    ensures root { last_line cart_and_desk one_thread
+        ≡ codes "longest chain of all: 4 tests, top-level classes\n" }
+    ensures class { last_line two_classes concurrent_classes
+        ≡ codes "longest chain of all: 1 test, class shop.A\n" }
+    ensures key { last_line loose concurrent_by_default
+        ≡ codes "longest chain of all: 2 tests, key iso:global\n" }
 {}

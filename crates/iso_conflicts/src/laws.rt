@@ -12,5 +12,6 @@ use iso_plan::plan::Plan;
 /// locks.
 pub fn listed_nodes_take_the_key(plan: &Plan)
     ensures { (a : Access) (key n : ℕ) → key < length (keys (tree_of plan.now))
-        → takes (tree_of plan.now) a key n ≡ is_as a (taken (tree_of plan.now) n (slice_index_or (keys (tree_of plan.now)) key [])) }
+        → takes (tree_of plan.now) a key n
+        ≡ is_as a (taken (tree_of plan.now) n (slice_index_or (keys (tree_of plan.now)) key [])) }
 {}

@@ -53,7 +53,8 @@ pub(crate) fn longest(plan: &Plan, tests: &[u32]) -> Chain
 /// The longest of the root and all classes.
 fn longest_class(plan: &Plan, tests: &[u32]) -> Chain
     requires { tests.now ≡ column (tests_in (tree_of plan.now)) (length plan.now.rows) }
-    ensures longest { result ≡ fold longer no_chain (class_chains (tree_of plan.now) plan.now.settings (length plan.now.rows) 0) }
+    ensures longest { result ≡ fold longer no_chain
+        (class_chains (tree_of plan.now) plan.now.settings (length plan.now.rows) 0) }
     ensures known { IsOf (tree_of plan.now) result.shared }
 {
     laws::nodes_are_a_tree(plan);
@@ -74,7 +75,8 @@ fn longest_class(plan: &Plan, tests: &[u32]) -> Chain
 fn longest_key(plan: &Plan, tests: &[u32], class: Chain) -> Chain
     requires tests { tests.now ≡ column (tests_in (tree_of plan.now)) (length plan.now.rows) }
     requires class { IsOf (tree_of plan.now) class.shared }
-    ensures longest { result ≡ fold longer class (key_chains (tree_of plan.now) (length (keys (tree_of plan.now))) 0) }
+    ensures longest { result ≡ fold longer class
+        (key_chains (tree_of plan.now) (length (keys (tree_of plan.now))) 0) }
     ensures known { IsOf (tree_of plan.now) result.shared }
 {
     let mut best = class;

@@ -22,7 +22,8 @@ pub(crate) fn takes(plan: &Plan, access: Access, key: u32, node: u32) -> bool
 
 /// Whether some node but the root takes a key with this access.
 pub(crate) fn is_taken(plan: &Plan, access: Access, key: u32) -> bool
-    ensures { result ≡ list_any (takes (tree_of plan.now) access key) (range_with_len 1 (length plan.now.rows - 1)) }
+    ensures { result ≡ list_any (takes (tree_of plan.now) access key)
+        (range_with_len 1 (length plan.now.rows - 1)) }
 {
     'nodes: for node in 1..plan.len() {
         if takes(plan, access, key, node) {

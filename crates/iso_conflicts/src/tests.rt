@@ -11,7 +11,8 @@ use std::alloc::{AllocError, Global};
 /// How many tests each node is or has in it, by its number; 0 for the root, which counts for none.
 /// Takes memory for one number a node, which may be refused.
 pub fn tests_in(alloc: Global, plan: &Plan) -> Result<Vec<u32>, AllocError>
-    ensures { IfOk result (λ v. v.items ≡ column (tests_in (tree_of plan.now)) (length plan.now.rows)) }
+    ensures { IfOk result (λ v. v.items ≡ column (tests_in (tree_of plan.now))
+        (length plan.now.rows)) }
 {
     laws::nodes_are_a_tree(plan);
     let mut counts = vec![in alloc; 0; plan.len() as usize]?;
@@ -26,8 +27,10 @@ fn count_node(counts: &mut Vec<u32>, plan: &Plan, node: u32)
     requires within { node < length plan.now.rows }
     requires each { length counts.old.items ≡ length plan.now.rows }
     requires fits { (m : ℕ) → slice_index_or counts.old.items m 0 < node }
-    ensures counted { (m : ℕ) → slice_index_or counts.new.items m 0 ≡ slice_index_or counts.old.items m 0
-        + cond (is_test (row_at (tree_of plan.now) node).kind) (cond (is_under (tree_of plan.now) m node) 1 0) 0 }
+    ensures counted { (m : ℕ) → slice_index_or counts.new.items m 0
+        ≡ slice_index_or counts.old.items m 0
+        + cond (is_test (row_at (tree_of plan.now) node).kind)
+        (cond (is_under (tree_of plan.now) m node) 1 0) 0 }
     ensures each { length counts.new.items ≡ length plan.now.rows }
 {
     if plan.is_test(node) {

@@ -18,7 +18,8 @@ class-by root w e = absurd cc
 class-by (class_node isolated head) w e = refl
 class-by (test_node head) w e = absurd cc
 
-pub class-fits : (plan : Planned) → IsTree (tree_of plan) → (n : ℕ) → 0 < n → n < length plan.rows → is_test (row_at (tree_of plan) n).kind ≡ false → is_kind_of K.BeforeAll (row_at (tree_of plan) n).kind ≡ true
+pub class-fits : (plan : Planned) → IsTree (tree_of plan) → (n : ℕ) → 0 < n → n < length plan.rows
+    → is_test (row_at (tree_of plan) n).kind ≡ false → is_kind_of K.BeforeAll (row_at (tree_of plan) n).kind ≡ true
 class-fits plan t n pos inside e =
     let count = nodes-are plan in
     class-by (row_at (tree_of plan) n).kind (t.full n pos (omega (arith, inside, count))) e
@@ -28,7 +29,8 @@ closing-by root w e = absurd cc
 closing-by (class_node isolated head) w e = refl
 closing-by (test_node head) w e = absurd cc
 
-pub closing-fits : (plan : Planned) → IsTree (tree_of plan) → (n : ℕ) → 0 < n → n < length plan.rows → is_test (row_at (tree_of plan) n).kind ≡ false → is_kind_of K.AfterAll (row_at (tree_of plan) n).kind ≡ true
+pub closing-fits : (plan : Planned) → IsTree (tree_of plan) → (n : ℕ) → 0 < n → n < length plan.rows
+    → is_test (row_at (tree_of plan) n).kind ≡ false → is_kind_of K.AfterAll (row_at (tree_of plan) n).kind ≡ true
 closing-fits plan t n pos inside e =
     let count = nodes-are plan in
     closing-by (row_at (tree_of plan) n).kind (t.full n pos (omega (arith, inside, count))) e

@@ -102,7 +102,8 @@ module _ (plan : Planned) (world : Start) where
     flat-opened held =
         still-flat v s (opening_left scripts x n b s) refl refl (λ m. unmoved is_held n _ s.status (open-held (ended_well scripts x n b s) (frames_left scripts x n b s) ∙ sym held) m) is
 
-    flat-opening : is_held (s.status n) ≡ true → (well : Bool) → IsFlatOf v (cond well (opening_left scripts x n b s) (barring scripts x n (frames_left scripts x n b s) (opening_left scripts x n b s)))
+    flat-opening : is_held (s.status n) ≡ true → (well : Bool)
+        → IsFlatOf v (cond well (opening_left scripts x n b s) (barring scripts x n (frames_left scripts x n b s) (opening_left scripts x n b s)))
     flat-opening held true = flat-opened held
     flat-opening held false =
         let o = opening_left scripts x n b s in

@@ -66,7 +66,8 @@ put-at : {A : Type 0} (n : ℕ) (a : A) (f : ℕ → A) (m : ℕ) → m ≡ n �
 put-at n a f m e = ap (λ (j : ℕ). put n a f j) e ∙ put_here n a f
 
 -- what a mark of a flat map keeps, its node may change, and it was there
-mark-writes : (t : TrayView) (n : ℕ) (m : SavepointView) (i : ℕ) (h : History) → WasMade t n m → slot m.values i ≡ Some h → is_writable (node_rights (tree_of t.plan) n (key_at (tree_of t.plan) i)) ≡ true
+mark-writes : (t : TrayView) (n : ℕ) (m : SavepointView) (i : ℕ) (h : History) → WasMade t n m
+    → slot m.values i ≡ Some h → is_writable (node_rights (tree_of t.plan) n (key_at (tree_of t.plan) i)) ≡ true
 mark-writes t n m i h made e =
     let tree = tree_of made.then.plan in
     let at : slot (marked made.then n).values i ≡ Some h = sym (ap (λ (x : SavepointView). slot x.values i) made.is) ∙ e in

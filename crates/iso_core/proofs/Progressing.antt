@@ -79,7 +79,8 @@ module _ (c : CoreView) (t : IsTree (tree_of c.plan)) (run : IsRun c) (off : c.s
       absurd (cc)
 
 -- where an event is allowed, the core isn't stopped, and a node is unfinished
-some_by : (c : CoreView) (t : IsTree (tree_of c.plan)) (run : IsRun c) → 0 < c.workers → (e : Event) → refusal_in c e ≡ None → c.stopped ≡ false → (b : Bool) → is_complete c ≡ b → true ≡ not (c.stopped || is_complete c)
+some_by : (c : CoreView) (t : IsTree (tree_of c.plan)) (run : IsRun c) → 0 < c.workers → (e : Event)
+    → refusal_in c e ≡ None → c.stopped ≡ false → (b : Bool) → is_complete c ≡ b → true ≡ not (c.stopped || is_complete c)
 some_by c t run manned e allowed off true over = absurd (refuses-where-complete c t run off manned over e allowed)
 some_by c t run manned e allowed off false over = rw (off, over) refl
 

@@ -51,11 +51,13 @@ module _ (i : Inside) (is : AreCore i) (seen : CoreView) (same : view_of i ≡ s
   enter-tells w n h = enter-told (view_of i) i.standing i.flat i.bodies.items i.results is w n (allowed (Code.Enter w n) h)
 
   -- the body that a Step or a Leave is about, which was looked for in the list
-  pub step-finds : (w : ℕ) → refusal_in seen (Code.Step w) ≡ None → AreInside i.plan.now → (o : Option Body) (b : Body) → o ≡ get_or i.bodies.items w o → o ≡ Some b → BodyFound (view_of i) i.bodies.items w b false
+  pub step-finds : (w : ℕ) → refusal_in seen (Code.Step w) ≡ None → AreInside i.plan.now → (o : Option Body) (b : Body)
+      → o ≡ get_or i.bodies.items w o → o ≡ Some b → BodyFound (view_of i) i.bodies.items w b false
   step-finds w h inside o b at found =
       step-found (view_of i) i.standing i.flat i.bodies.items i.results is w seen same h inside b (λ less. get_or_default i.bodies.items w None o less ∙ sym at ∙ found)
 
-  pub leave-finds : (w : ℕ) → refusal_in seen (Code.Leave w) ≡ None → AreInside i.plan.now → (o : Option Body) (b : Body) → o ≡ get_or i.bodies.items w o → o ≡ Some b → BodyFound (view_of i) i.bodies.items w b true
+  pub leave-finds : (w : ℕ) → refusal_in seen (Code.Leave w) ≡ None → AreInside i.plan.now → (o : Option Body) (b : Body)
+      → o ≡ get_or i.bodies.items w o → o ≡ Some b → BodyFound (view_of i) i.bodies.items w b true
   leave-finds w h inside o b at found =
       leave-found (view_of i) i.standing i.flat i.bodies.items i.results is w seen same h inside b (λ less. get_or_default i.bodies.items w None o less ∙ sym at ∙ found)
 

@@ -40,24 +40,31 @@ abbrev Parts : Type 0
 Parts = Planned × (Start × (ℕ × (List Event × Bool)))
 
 abbrev parts_code : Coded Parts
-parts_code = coded× plan.the_row.coded (coded× start_code (coded× coded_ℕ (coded× (coded_list event.the_row.coded) coded_bool)))
+parts_code =
+    coded× plan.the_row.coded
+    (coded× start_code (coded× coded_ℕ (coded× (coded_list event.the_row.coded) coded_bool)))
 
 abbrev from_parts : Parts → CoreView
-from_parts p = record { plan = p.0; world = p.1.0; workers = p.1.1.0; events = p.1.1.1.0; stopped = p.1.1.1.1 }
+from_parts p =
+    record { plan = p.0; world = p.1.0; workers = p.1.1.0; events = p.1.1.1.0; stopped = p.1.1.1.1 }
 
 abbrev pub core_code : Coded CoreView
-core_code = code_by Parts parts_code (λ v. (v.plan, (v.world, (v.workers, (v.events, v.stopped))))) from_parts (λ _. refl)
+core_code = code_by Parts parts_code (λ v. (v.plan, (v.world, (v.workers, (v.events, v.stopped)))))
+    from_parts (λ _. refl)
 
 -- a core of a plan and a world that has accepted no event
 abbrev pub new_core : Planned → Start → ℕ → CoreView
-new_core plan world workers = record { plan = plan; world = world; workers = workers; events = []; stopped = false }
+new_core plan world workers =
+    record { plan = plan; world = world; workers = workers; events = []; stopped = false }
 
 abbrev pub suite_in : CoreView → Suite Head (List ℕ) Resource
 suite_in c = suite_at c.plan c.world
 
 -- the state that it is in: the one after the events that it accepted
 abbrev pub state_in : CoreView → RunState
-state_in c = stopped_if c.stopped (after_all_of scripts (suite_in c) (first scripts (suite_in c)) (events_of c.events))
+state_in c =
+    stopped_if c.stopped (after_all_of scripts (suite_in c) (first scripts (suite_in c))
+    (events_of c.events))
 
 -- why it refuses an event, if it does
 abbrev pub refusal_in : CoreView → Event → Option Why.Refused
@@ -104,8 +111,10 @@ is_complete c = Runs.is_complete (suite_in c) (state_in c)
 -- What every core is: its events are a run of its suite; its workers have numbers of 32 bits; where
 -- its nodes and workers stand and its results are those of its state, and so are its flat map and
 -- its bodies, until it is stopped.
-pub record IsCore (c : CoreView) (standing : Standing) (flat : FlatView) (bodies : List (Option Body)) (results : ResultsView) : Type 0 where
-  pub run : is_run scripts (suite_in c) c.workers (first scripts (suite_in c)) (events_of c.events) ≡ true
+pub record IsCore (c : CoreView) (standing : Standing) (flat : FlatView)
+    (bodies : List (Option Body)) (results : ResultsView) : Type 0 where
+  pub run : is_run scripts (suite_in c) c.workers (first scripts (suite_in c))
+      (events_of c.events) ≡ true
   pub few : c.workers < 2 ^ 32
   pub standing_plan : standing.plan ≡ c.plan
   pub workers : workers_in standing ≡ c.workers

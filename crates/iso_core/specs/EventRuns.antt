@@ -25,7 +25,8 @@ AreAccepted plan world workers es =
     is_run scripts (suite_in c) workers (first scripts (suite_in c)) (events_of es) ≡ true
 
 -- all events were accepted, and the core has taken them
-pub record Ran (plan : Planned) (world : Start) (workers : ℕ) (es : List Event) (c : CoreView) : Type 0 where
+pub record Ran (plan : Planned) (world : Start) (workers : ℕ) (es : List Event)
+    (c : CoreView) : Type 0 where
   pub accepted : AreAccepted plan world workers es
   pub core : c ≡ core_after plan world workers es
 
@@ -34,21 +35,25 @@ event_at es i = slice_index_or es i (Step 0)
 
 -- the event after the first `i` is refused for this reason, and all those before it were
 -- accepted
-pub record RefusedAt (plan : Planned) (world : Start) (workers : ℕ) (es : List Event) (i : ℕ) (why : Option Refused) : Type 0 where
+pub record RefusedAt (plan : Planned) (world : Start) (workers : ℕ) (es : List Event) (i : ℕ)
+    (why : Option Refused) : Type 0 where
   pub within : i < length es
   pub earlier : AreAccepted plan world workers (take i es)
   pub refused : refusal_in (core_after plan world workers (take i es)) (event_at es i) ≡ why
 
 -- Memory ran out at the event after the first `i`: those were accepted, and nothing refuses
 -- it in the state after them. Where there are none, it may have run out for a new core.
-pub record WantedAt (plan : Planned) (world : Start) (workers : ℕ) (es : List Event) (i : ℕ) : Type 0 where
+pub record WantedAt (plan : Planned) (world : Start) (workers : ℕ) (es : List Event)
+    (i : ℕ) : Type 0 where
   pub within : (i ≡ 0 → ⊥) → i < length es
   pub earlier : AreAccepted plan world workers (take i es)
-  pub allowed : (i ≡ 0 → ⊥) → refusal_in (core_after plan world workers (take i es)) (event_at es i) ≡ None
+  pub allowed : (i ≡ 0 → ⊥) → refusal_in (core_after plan world workers (take i es))
+      (event_at es i) ≡ None
 
 -- where a list of events ended early: an event was refused, or memory was wanted for it
 abbrev pub EndedBy : CoreFault → Planned → Start → ℕ → List Event → ℕ → Type 0
-EndedBy (F.Refused why) plan world workers es i = RefusedAt plan world workers es i (Some (refused_of why))
+EndedBy (F.Refused why) plan world workers es i =
+    RefusedAt plan world workers es i (Some (refused_of why))
 EndedBy F.OutOfMemory plan world workers es i = WantedAt plan world workers es i
 
 abbrev pub StoppedAt : Planned → Start → ℕ → List Event → EventsFault → Type 0

@@ -23,7 +23,8 @@ pub record FlatView : Type 0 where
 
 abbrev pub flat_code : Coded FlatView
 flat_code =
-    code_by (TrayView × List (Option SavepointView)) (coded× tray_code (coded_list (coded_option savepoint_code))) (λ v. (v.tray, v.marks))
+    code_by (TrayView × List (Option SavepointView))
+    (coded× tray_code (coded_list (coded_option savepoint_code))) (λ v. (v.tray, v.marks))
     (λ p. record { tray = p.0; marks = p.1 }) (λ _. refl)
 
 abbrev pub mark_at : List (Option SavepointView) → ℕ → Option SavepointView
@@ -52,7 +53,8 @@ pub record WasMade (t : TrayView) (n : ℕ) (m : SavepointView) : Type 0 where
 
 -- of a mark made before another, each value that both keep is the earlier one
 abbrev pub ComesBefore : SavepointView → SavepointView → Type 0
-ComesBefore l m = (i : ℕ) (g h : History) → slot l.values i ≡ Some g → slot m.values i ≡ Some h → IsEarlier g h
+ComesBefore l m = (i : ℕ) (g h : History) → slot l.values i ≡ Some g → slot m.values i ≡ Some h
+    → IsEarlier g h
 
 -- what every flat map of a run is: it can go back to each mark, and of two nodes that saved a value
 -- of one key the lower did so first
@@ -62,7 +64,8 @@ pub record IsFlatMap (v : FlatView) : Type 0 where
   pub kinds : AreOfKinds v.tray
   pub made : (n : ℕ) (m : SavepointView) → mark_at v.marks n ≡ Some m → WasMade v.tray n m
   pub undoable : (n : ℕ) (m : SavepointView) → mark_at v.marks n ≡ Some m → CanUndo m v.tray
-  pub nested : (p n : ℕ) (l m : SavepointView) → p < n → mark_at v.marks p ≡ Some l → mark_at v.marks n ≡ Some m → ComesBefore l m
+  pub nested : (p n : ℕ) (l m : SavepointView) → p < n → mark_at v.marks p ≡ Some l
+      → mark_at v.marks n ≡ Some m → ComesBefore l m
 
 -- two nodes may change one key
 pub record BothWrite (tree : List Row) (m n : ℕ) : Type 0 where
@@ -72,7 +75,8 @@ pub record BothWrite (tree : List Row) (m n : ℕ) : Type 0 where
 
 -- each other entered node that may change a key which this one may change is lower
 abbrev pub IsInnermost : FlatView → ℕ → Type 0
-IsInnermost v n = (m : ℕ) → is_some (mark_at v.marks m) ≡ true → (m ≡ n → ⊥) → BothWrite (tree_of v.tray.plan) m n → m < n
+IsInnermost v n = (m : ℕ) → is_some (mark_at v.marks m) ≡ true → (m ≡ n → ⊥)
+    → BothWrite (tree_of v.tray.plan) m n → m < n
 
 -- of one plan and world
 pub record OfSameMap (v u : FlatView) : Type 0 where
@@ -87,7 +91,9 @@ pub record MapGoesOn (v u : FlatView) : Type 0 where
 -- the flat map of a state, with the values that its entered nodes saved
 pub record IsFlatOf (v : FlatView) (s : RunNodes) : Type 0 where
   pub now : (k : List ℕ) → flat v.tray k ≡ s.flat k
-  pub marked : (n : ℕ) → is_some (mark_at v.marks n) ≡ true → (0 < n) × (is_held (s.status n) ≡ true)
+  pub marked : (n : ℕ) → is_some (mark_at v.marks n) ≡ true → (0 < n)
+      × (is_held (s.status n) ≡ true)
   pub held : (n : ℕ) → 0 < n → is_held (s.status n) ≡ true → is_some (mark_at v.marks n) ≡ true
-  pub saved : (n : ℕ) (m : SavepointView) (k : List ℕ) → mark_at v.marks n ≡ Some m → is_writable (node_rights (tree_of v.tray.plan) n k) ≡ true
+  pub saved : (n : ℕ) (m : SavepointView) (k : List ℕ) → mark_at v.marks n ≡ Some m
+      → is_writable (node_rights (tree_of v.tray.plan) n k) ≡ true
       → s.saved n k ≡ kept_values (tree_of v.tray.plan) m k

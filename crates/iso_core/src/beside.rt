@@ -15,9 +15,12 @@ use iso_plan::plan::Plan;
 /// What is entered beside a node: where a node is entered, or its last body has ended, each other
 /// entered node that may change a key which this one may change stands above it.
 pub(crate) fn entered_nodes_are_apart(plan: &Plan)
-    ensures enter { (world : Start) (v : FlatView) (s : RunState) (w n : ℕ) → IsReached plan.now world s → v.tray.plan ≡ plan.now → IsFlatOf v s.nodes
-        → IsReached plan.now world (E.after scripts (suite_at plan.now world) s (E.Enter w n)) → is_waiting (s.nodes.status n) ≡ true → IsInnermost v n }
-    ensures leave { (world : Start) (v : FlatView) (s : RunState) (n : ℕ) (b : Stage) → IsReached plan.now world s → v.tray.plan ≡ plan.now → IsFlatOf v s.nodes
+    ensures enter { (world : Start) (v : FlatView) (s : RunState) (w n : ℕ)
+        → IsReached plan.now world s → v.tray.plan ≡ plan.now → IsFlatOf v s.nodes
+        → IsReached plan.now world (E.after scripts (suite_at plan.now world) s (E.Enter w n))
+        → is_waiting (s.nodes.status n) ≡ true → IsInnermost v n }
+    ensures leave { (world : Start) (v : FlatView) (s : RunState) (n : ℕ) (b : Stage)
+        → IsReached plan.now world s → v.tray.plan ≡ plan.now → IsFlatOf v s.nodes
         → body_in (s.nodes.status n) ≡ Some b → IsInnermost v n }
 {
     nodes_are_a_tree(plan);

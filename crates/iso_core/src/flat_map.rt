@@ -63,7 +63,8 @@ impl<'a> FlatMap<'a> {
     ) -> Result<FlatMap<'a>, AllocError>
         ensures plan { IfOk result (λ v. v.tray.plan ≡ plan.now) }
         ensures world { IfOk result (λ v. v.tray.world ≡ world.now) }
-        ensures state { IfOk result (λ v. IsFlatOf v (first scripts (suite_at plan.now world.now)).nodes) }
+        ensures state { IfOk result
+            (λ v. IsFlatOf v (first scripts (suite_at plan.now world.now)).nodes) }
     {
         let tray = Tray::flat(alloc, plan, world)?;
         let marks = no_marks(alloc, plan.len() as usize)?;
@@ -77,7 +78,8 @@ impl<'a> FlatMap<'a> {
         requires within { node < length self.old.tray.plan.rows }
         requires innermost { IsInnermost self.old node }
         ensures same { OfSameMap self.old self.new }
-        ensures state { OnOk result ((s : RunNodes) → IsFlatOf self.old s → IsFlatOf self.new (E.entering scripts (suite_at self.old.tray.plan self.old.tray.world) node s)) }
+        ensures state { OnOk result ((s : RunNodes) → IsFlatOf self.old s → IsFlatOf self.new
+            (E.entering scripts (suite_at self.old.tray.plan self.old.tray.world) node s)) }
         ensures unchanged { OnErr result (self.new ≡ self.old) }
     {
         nodes_are_a_tree(self.tray.plan());
@@ -90,14 +92,19 @@ impl<'a> FlatMap<'a> {
     /// of memory the map may be changed in part.
     pub(crate) fn step(&mut self, body: &mut Body<'_>) -> Result<(), AllocError>
         requires under_way { is_ended (stage_of_body body.old) ≡ false }
-        requires of_map { subject_of body.old ≡ subject self.old.tray.plan self.old.tray.world (subject_of body.old).node }
+        requires of_map { subject_of body.old
+            ≡ subject self.old.tray.plan self.old.tray.world (subject_of body.old).node }
         requires stands { Stands body.old (flat self.old.tray) }
         ensures same { OfSameMap self.old self.new }
         ensures subject { subject_of body.new ≡ subject_of body.old }
         ensures kind { kind_of_body body.new ≡ kind_of_body body.old }
-        ensures stage { OnOk result (stage_of_body body.new ≡ (body_step (rights_of_subject (subject_of body.old)) (going (stage_of_body body.old) (flat self.old.tray))).stage) }
+        ensures stage { OnOk result (stage_of_body body.new
+            ≡ (body_step (rights_of_subject (subject_of body.old))
+            (going (stage_of_body body.old) (flat self.old.tray))).stage) }
         ensures state { OnOk result ((s : RunNodes) → IsFlatOf self.old s
-            → IsFlatOf self.new (E.stepping scripts (suite_at self.old.tray.plan self.old.tray.world) (subject_of body.old).node s (stage_of_body body.old))) }
+            → IsFlatOf self.new
+            (E.stepping scripts (suite_at self.old.tray.plan self.old.tray.world)
+            (subject_of body.old).node s (stage_of_body body.old))) }
     {
         nodes_are_a_tree(self.tray.plan());
         body.step(self)
@@ -110,7 +117,8 @@ impl<'a> FlatMap<'a> {
         requires marked { is_some (mark_at self.old.marks node) ≡ true }
         requires innermost { IsInnermost self.old node }
         ensures same { OfSameMap self.old self.new }
-        ensures state { (s : RunNodes) (r : Outcome) → IsFlatOf self.old s → IsFlatOf self.new (E.finishing scripts (suite_at self.old.tray.plan self.old.tray.world) node r s) }
+        ensures state { (s : RunNodes) (r : Outcome) → IsFlatOf self.old s → IsFlatOf self.new
+            (E.finishing scripts (suite_at self.old.tray.plan self.old.tray.world) node r s) }
     {
         nodes_are_a_tree(self.tray.plan());
         if let Some(mark) = self.marks[node as usize].take() {
@@ -142,7 +150,10 @@ impl<'a> Touch for FlatMap<'a> {
 
     ghost still = { λ v. record { tray = onward-still v.tray; marks = refl } };
 
-    ghost further = { λ t u v a b. record { tray = onward-further t.tray u.tray v.tray a.tray b.tray; marks = b.marks ∙ a.marks } };
+    ghost further = { λ t u v a b. record {
+      tray = onward-further t.tray u.tray v.tray a.tray b.tray;
+      marks = b.marks ∙ a.marks;
+    } };
 
     ghost same_writes = { λ t u on. onward-writes t.tray u.tray on.tray };
 }

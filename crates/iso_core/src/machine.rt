@@ -68,9 +68,22 @@ impl<'a> Model for Core<'a> {
 
     ghost coded = { core_code };
 
-    ghost view = { λ c. record { plan = c.plan.now; world = c.world.now; workers = workers_in c.standing; events = c.events.items; stopped = c.standing.stopped } };
+    ghost view = { λ c. record {
+      plan = c.plan.now;
+      world = c.world.now;
+      workers = workers_in c.standing;
+      events = c.events.items;
+      stopped = c.standing.stopped;
+    } };
 
-    ghost invariant = { λ c. IsCore (record { plan = c.plan.now; world = c.world.now; workers = workers_in c.standing; events = c.events.items; stopped = c.standing.stopped })
+    ghost invariant = { λ c. IsCore (record {
+      plan = c.plan.now;
+      world = c.world.now;
+      workers = workers_in c.standing;
+      events = c.events.items;
+      stopped =
+          c.standing.stopped;
+    })
         c.standing c.flat c.bodies.items c.results };
 }
 
@@ -123,7 +136,8 @@ fn opened_frames(
     requires plan { results.now.plan ≡ plan.now }
     requires class { is_test (row_at (tree_of plan.now) class).kind ≡ false }
     requires opened { AreOpened results.now (path (tree_of plan.now) class) }
-    ensures { IfOk result (λ v. v.items ≡ map (subject plan.now results.now.start) (reverse (path (tree_of plan.now) class))) }
+    ensures { IfOk result (λ v. v.items ≡ map (subject plan.now results.now.start)
+        (reverse (path (tree_of plan.now) class))) }
 {
     nodes_are_a_tree(plan);
     let mut frames = Vec::with_capacity(alloc, class_count(plan, class))?;
@@ -139,8 +153,10 @@ fn leave_values(flat: &mut FlatMap<'_>, node: u32, kind: BodyKind)
     requires marked { is_some (mark_at flat.old.marks node) ≡ true }
     requires innermost { IsInnermost flat.old node }
     ensures same { OfSameMap flat.old flat.new }
-    ensures state { (s : RunNodes) (b : Stage) → IsFlatOf flat.old s → body_in (s.status node) ≡ Some b → is_after_all kind ≡ is_closing (s.status node)
-        → IsFlatOf flat.new (E.leaving scripts (suite_at flat.old.tray.plan flat.old.tray.world) node s (s.status node)) }
+    ensures state { (s : RunNodes) (b : Stage) → IsFlatOf flat.old s → body_in (s.status node)
+        ≡ Some b → is_after_all kind ≡ is_closing (s.status node)
+        → IsFlatOf flat.new (E.leaving scripts
+        (suite_at flat.old.tray.plan flat.old.tray.world) node s (s.status node)) }
 {
     match kind {
         BodyKind::BeforeAll => {}
@@ -190,7 +206,8 @@ fn enter_values(
     ensures events { events.new.items ≡ events.old.items }
     ensures room { OnOk result (vec_len events.new < vec_capacity events.new) }
     ensures same { OfSameMap flat.old flat.new }
-    ensures state { OnOk result ((s : RunNodes) → IsFlatOf flat.old s → IsFlatOf flat.new (E.entering scripts (suite_at flat.old.tray.plan flat.old.tray.world) node s)) }
+    ensures state { OnOk result ((s : RunNodes) → IsFlatOf flat.old s → IsFlatOf flat.new
+        (E.entering scripts (suite_at flat.old.tray.plan flat.old.tray.world) node s)) }
     ensures unchanged { OnErr result (flat.new ≡ flat.old) }
 {
     events.reserve(1)?;
@@ -199,7 +216,8 @@ fn enter_values(
 
 /// Whether the body of a worker has ended; no body has not.
 fn has_ended(bodies: &[Option<Body<'_>>], worker: u32) -> bool
-    ensures { result ≡ where_some (body_at bodies.now worker) false (λ b. is_ended (stage_of_body b)) }
+    ensures { result ≡ where_some (body_at bodies.now worker) false
+        (λ b. is_ended (stage_of_body b)) }
 {
     match bodies.get(worker as usize) {
         Some(Some(body)) => body.is_ended(),
@@ -234,7 +252,8 @@ impl<'a> Core<'a> {
     /// Takes an event where nothing refuses it. A refusal is of the first kind that applies.
     /// Running out of memory comes last.
     pub fn apply(&mut self, event: Event) -> Result<(), CoreFault>
-        ensures { MatchResult result (λ _. Accepted event self.old self.new) (λ fault. NotAccepted fault event self.old self.new) }
+        ensures { MatchResult result (λ _. Accepted event self.old self.new)
+            (λ fault. NotAccepted fault event self.old self.new) }
     {
         if let Some(refused) = self.refusal(event) {
             return Err(CoreFault::Refused(refused));
@@ -347,8 +366,10 @@ impl<'a> Core<'a> {
     fn first_body(&self, node: u32) -> Result<Body<'a>, AllocError>
         requires inner { 0 < node }
         requires within { node < length self.now.plan.rows }
-        requires open { is_open ((state_in self.now).nodes.status (parent (tree_of self.now.plan) node)) ≡ true }
-        ensures { IfOk result (λ b. IsUnderWay self.now.plan self.now.world node b (E.entering scripts (suite_in self.now) node (state_in self.now).nodes)) }
+        requires open { is_open
+            ((state_in self.now).nodes.status (parent (tree_of self.now.plan) node)) ≡ true }
+        ensures { IfOk result (λ b. IsUnderWay self.now.plan self.now.world node b
+            (E.entering scripts (suite_in self.now) node (state_in self.now).nodes)) }
     {
         nodes_are_a_tree(self.plan);
         bodies_stand_as_alone(self.plan);
@@ -365,7 +386,8 @@ impl<'a> Core<'a> {
         requires within { node < length self.now.plan.rows }
         requires class { is_test (row_at (tree_of self.now.plan) node).kind ≡ false }
         requires rests { is_at_rest ((state_in self.now).nodes.status node) ≡ true }
-        ensures { IfOk result (λ b. IsUnderWay self.now.plan self.now.world node b (E.shutting scripts (suite_in self.now) node (state_in self.now).nodes)) }
+        ensures { IfOk result (λ b. IsUnderWay self.now.plan self.now.world node b
+            (E.shutting scripts (suite_in self.now) node (state_in self.now).nodes)) }
     {
         nodes_are_a_tree(self.plan);
         bodies_stand_as_alone(self.plan);
@@ -379,7 +401,8 @@ impl<'a> Core<'a> {
     pub fn outcome(&self, node: u32) -> Option<View<'_>>
         requires { node < length self.now.plan.rows }
         ensures finished { option_map outcome_of_view result ≡ outcome_in self.now node }
-        ensures alone { IfSome result (λ v. outcome_of_view v ≡ outcome_alone (tree_of self.now.plan) (started self.now.world) node) }
+        ensures alone { IfSome result (λ v. outcome_of_view v
+            ≡ outcome_alone (tree_of self.now.plan) (started self.now.world) node) }
     {
         results_follow_leaves(self.plan);
         self.results.get(node)
@@ -390,7 +413,8 @@ impl<'a> Core<'a> {
     pub fn results(&self) -> &Results<'a>
         ensures plan { result.now.plan ≡ self.now.plan }
         ensures start { result.now.start ≡ self.now.world }
-        ensures outcomes { (n : ℕ) → n < length self.now.plan.rows → result_in result.now n ≡ outcome_in self.now n }
+        ensures outcomes { (n : ℕ) → n < length self.now.plan.rows → result_in result.now n
+            ≡ outcome_in self.now n }
         ensures complete { is_complete self.now ≡ true → AreComplete result.now }
         ensures isolated { IsIsolated self.now }
     {
@@ -431,7 +455,8 @@ impl<'a> Core<'a> {
     /// Its events are a run of its suite, as the type keeps.
     pub(crate) fn is_of_a_run(&self)
         ensures tree { IsTree (tree_of self.now.plan) }
-        ensures run { is_run scripts (suite_in self.now) self.now.workers (first scripts (suite_in self.now)) (events_of self.now.events) ≡ true }
+        ensures run { is_run scripts (suite_in self.now) self.now.workers
+            (first scripts (suite_in self.now)) (events_of self.now.events) ≡ true }
     {
         nodes_are_a_tree(self.plan);
     }

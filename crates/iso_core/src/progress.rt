@@ -13,7 +13,8 @@ impl Core<'_> {
     /// over the workers, and where none has a body over all nodes.
     pub fn allowed_event(&self) -> Option<Event>
         ensures allowed { IfSome result (λ e. refusal_in self.now e ≡ None) }
-        ensures some { 0 < self.now.workers → is_some result ≡ not (self.now.stopped || is_complete self.now) }
+        ensures some { 0 < self.now.workers → is_some result
+            ≡ not (self.now.stopped || is_complete self.now) }
     {
         self.is_of_a_run();
         if let Some(event) = self.going_on() {
@@ -47,7 +48,8 @@ impl Core<'_> {
     /// The event by which the lowest class that may be shut is shut by its owner.
     fn shutting(&self) -> Option<Event>
         ensures allowed { IfSome result (λ e. refusal_in self.now e ≡ None) }
-        ensures none { result ≡ None → (n : ℕ) → 0 < n → n < length self.now.plan.rows → Refuses self.now (shut_by_owner self.now n) }
+        ensures none { result ≡ None → (n : ℕ) → 0 < n → n < length self.now.plan.rows
+            → Refuses self.now (shut_by_owner self.now n) }
     {
         'nodes: for node in 1..self.plan().len() {
             let worker = self.owner(node);
@@ -63,7 +65,8 @@ impl Core<'_> {
     /// parent.
     fn entering(&self) -> Option<Event>
         ensures allowed { IfSome result (λ e. refusal_in self.now e ≡ None) }
-        ensures none { result ≡ None → (n : ℕ) → 0 < n → n < length self.now.plan.rows → Refuses self.now (entered_by_owner self.now n) }
+        ensures none { result ≡ None → (n : ℕ) → 0 < n → n < length self.now.plan.rows
+            → Refuses self.now (entered_by_owner self.now n) }
     {
         nodes_are_a_tree(self.plan());
         'nodes: for node in 1..self.plan().len() {

@@ -26,7 +26,8 @@ pub fn run_events<'a>(
     workers: u32,
     events: &[Event],
 ) -> Result<Core<'a>, EventsFault>
-    ensures { MatchResult result (Ran plan.now world.now workers events.now) (StoppedAt plan.now world.now workers events.now) }
+    ensures { MatchResult result (Ran plan.now world.now workers events.now)
+        (StoppedAt plan.now world.now workers events.now) }
 {
     let mut core = match Core::new(alloc, plan, world, workers) {
         Ok(core) => core,

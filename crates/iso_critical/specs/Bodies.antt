@@ -29,7 +29,12 @@ no_time = record { worker = 0; begin = 0; end = 0 }
 
 -- the body with a place
 abbrev pub body_at : List (Option BodyTime) → ℕ → Body
-body_at bodies i = record { place = i; node = i / 2; closes = i % 2 == 1; time = unwrap_or (time_at bodies i) no_time }
+body_at bodies i = record {
+  place = i;
+  node = i / 2;
+  closes = i % 2 == 1;
+  time = unwrap_or (time_at bodies i) no_time;
+}
 
 -- when it ended
 abbrev pub end_at : List (Option BodyTime) → ℕ → ℕ

@@ -16,7 +16,8 @@ use Rattle.iso_waits.specs.declared.wait.NodeWait.{NodeWait}
 -- the body before another: of those that had to end before it, the one that ended last. Before the
 -- end of the run it is the one that ended last of all.
 abbrev pub previous : Run → Option Body → Option Body
-previous run b = find (comes_before run.tree (option_map (needs run) b)) (latest_first run.bodies (length run.tree))
+previous run b = find (comes_before run.tree (option_map (needs run) b))
+    (latest_first run.bodies (length run.tree))
 
 -- a body and those before it, one after another, at most `most` of them
 abbrev pub back_from : Run → (most : ℕ) → Option Body → List Body

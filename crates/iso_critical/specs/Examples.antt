@@ -21,7 +21,8 @@ b_before_a holders =
     record {
       tree = writing_children;
       settings = concurrent_by_default;
-      bodies = None ∷ None ∷ by 0 100 102 ∷ by 1 110 111 ∷ by 0 107 109 ∷ None ∷ by 1 103 106 ∷ None ∷ [];
+      bodies = None ∷ None ∷ by 0 100 102 ∷ by 1 110 111 ∷ by 0 107 109 ∷ None
+          ∷ by 1 103 106 ∷ None ∷ [];
       holders = holders;
     }
 
@@ -31,7 +32,8 @@ a_then_b =
     record {
       tree = writing_children;
       settings = one_thread;
-      bodies = None ∷ None ∷ by 0 100 102 ∷ by 3 110 111 ∷ by 1 103 106 ∷ None ∷ by 2 107 109 ∷ None ∷ [];
+      bodies = None ∷ None ∷ by 0 100 102 ∷ by 3 110 111 ∷ by 1 103 106 ∷ None
+          ∷ by 2 107 109 ∷ None ∷ [];
       holders = [];
     }
 
@@ -42,7 +44,8 @@ two_workers worker end =
     record {
       tree = two_classes;
       settings = concurrent_by_default;
-      bodies = None ∷ None ∷ by 0 0 1 ∷ by 0 2 3 ∷ by 0 1 2 ∷ None ∷ by worker 4 5 ∷ by worker 6 end ∷ by worker 5 6 ∷ None ∷ [];
+      bodies = None ∷ None ∷ by 0 0 1 ∷ by 0 2 3 ∷ by 0 1 2 ∷ None ∷ by worker 4 5 ∷ by worker 6 end
+          ∷ by worker 5 6 ∷ None ∷ [];
       holders = [];
     }
 
@@ -63,11 +66,22 @@ unclosed =
     record {
       tree = isolated_deep;
       settings = concurrent_by_default;
-      bodies = None ∷ None ∷ by 0 0 1 ∷ by 0 9 10 ∷ by 1 1 2 ∷ None ∷ by 1 2 3 ∷ None ∷ by 1 4 5 ∷ None ∷ [];
+      bodies = None ∷ None ∷ by 0 0 1 ∷ by 0 9 10 ∷ by 1 1 2 ∷ None ∷ by 1 2 3 ∷ None
+          ∷ by 1 4 5 ∷ None ∷ [];
       holders = [];
     }
 
 -- a wait of a node until a moment, longest for node 1 and last for another
 abbrev pub wait_until : (node end last : ℕ) → NodeWait
 wait_until node end last =
-    record { node = node; key = 0; begin = 0; end = end; time = end; count = 2; longest = end; holder = 1; last = last }
+    record {
+      node = node;
+      key = 0;
+      begin = 0;
+      end = end;
+      time = end;
+      count = 2;
+      longest = end;
+      holder = 1;
+      last = last;
+    }

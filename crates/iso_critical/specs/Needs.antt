@@ -56,12 +56,14 @@ ended_by p b = nat_le p.end b.begin && nat_lt p.end b.end
 
 -- it opens the class, or is a body of the sibling or of the node that was waited for
 abbrev pub lets_in : Needs → Body → Bool
-lets_in needs p = is_node needs.class p.node && not p.closes || is_node needs.earlier p.node || is_node needs.holder p.node
+lets_in needs p = is_node needs.class p.node && not p.closes || is_node needs.earlier p.node
+    || is_node needs.holder p.node
 
 -- it is a body of the class that closes, or of a descendant of it; or else it had to end before the
 -- node was entered
 abbrev pub is_needed : List Row → Needs → Body → Bool
-is_needed tree needs p = cond needs.body.closes (is_under tree needs.body.node p.node) (lets_in needs p)
+is_needed tree needs p =
+    cond needs.body.closes (is_under tree needs.body.node p.node) (lets_in needs p)
 
 -- Whether a body had to end before another: it did, and is on its worker, or had to end before the
 -- class closed or the node was entered.

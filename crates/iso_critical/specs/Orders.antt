@@ -17,7 +17,12 @@ is_closing AfterAll = true
 -- a body of a node, if it has a time
 abbrev pub body_of : List (Option BodyTime) → ℕ → BodyKind → Option Body
 body_of bodies n kind =
-    option_map (λ t. record { place = slot_of n kind; node = n; closes = is_closing kind; time = t }) (time_at bodies (slot_of n kind))
+    option_map (λ t. record {
+      place = slot_of n kind;
+      node = n;
+      closes = is_closing kind;
+      time = t;
+    }) (time_at bodies (slot_of n kind))
 
 -- a place, if a body with it has run
 abbrev pub placed : List (Option BodyTime) → ℕ → List ℕ

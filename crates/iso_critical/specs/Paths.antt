@@ -7,4 +7,5 @@ use Rattle.iso_times.specs.declared.times.BodyTime.{BodyTime}
 
 -- a run of a plan, whose bodies had these times, and whose nodes waited last for these
 abbrev pub run_with : Planned → List (Option BodyTime) → (holders : List (Option ℕ)) → Run
-run_with plan bodies holders = record { tree = tree_of plan; settings = plan.settings; bodies = bodies; holders = holders }
+run_with plan bodies holders =
+    record { tree = tree_of plan; settings = plan.settings; bodies = bodies; holders = holders }

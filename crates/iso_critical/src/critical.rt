@@ -32,7 +32,8 @@ impl Model for CriticalBodies {
 
     ghost view = { λ c. c.bodies.items };
 
-    ghost invariant = { λ c. (i : ℕ) → slice_index_or c.marks.items i false ≡ list_any (λ b. b.place == i) c.bodies.items };
+    ghost invariant = { λ c. (i : ℕ) → slice_index_or c.marks.items i false
+        ≡ list_any (λ b. b.place == i) c.bodies.items };
 }
 
 impl CriticalBodies {

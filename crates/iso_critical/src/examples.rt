@@ -7,7 +7,8 @@ ghost use Rattle.iso_critical.specs.Needs.{last_holder};
 /// A class closes after the last body in it, which comes after the node that it waited for, and
 /// that one after the opening of the class. Who wasn't waited for isn't critical.
 pub fn nodes_wait_for_others()
-    ensures waited { critical_places (b_before_a (None ∷ None ∷ Some 3 ∷ None ∷ [])) ≡ 3 ∷ 4 ∷ 6 ∷ 2 ∷ [] }
+    ensures waited { critical_places (b_before_a (None ∷ None ∷ Some 3 ∷ None ∷ []))
+        ≡ 3 ∷ 4 ∷ 6 ∷ 2 ∷ [] }
     ensures alone { critical_places (b_before_a []) ≡ 3 ∷ 4 ∷ 2 ∷ [] }
 {}
 

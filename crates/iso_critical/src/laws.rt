@@ -7,12 +7,14 @@ ghost use Rattle.iso_critical.specs.declared.body.Body.{Body};
 /// The body before another had ended when that one began, and ended before it did.
 pub fn time_goes_back()
     ensures { (run : Run) (b : Body)
-        → IfSome (previous run (Some b)) (λ p. (p.time.end ≤ b.time.begin) × (p.time.end < b.time.end)) }
+        → IfSome (previous run (Some b)) (λ p. (p.time.end ≤ b.time.begin)
+        × (p.time.end < b.time.end)) }
 {}
 
 /// The way back ends where no body comes before: if more bodies were allowed for, it would be no
 /// longer.
 pub fn way_back_is_whole()
     ensures { (run : Run) (more : ℕ)
-        → back_from run (length (ran run.bodies (length run.tree)) + more) (previous run None) ≡ critical run }
+        → back_from run (length (ran run.bodies (length run.tree)) + more) (previous run None)
+        ≡ critical run }
 {}

@@ -23,7 +23,8 @@ pub(crate) fn path(
 ) -> Result<Vec<Body>, AllocError>
     requires plan { waits.now.plan ≡ plan.now }
     requires bodies { bodies.now ≡ latest_first waits.now.bodies (length (tree_of plan.now)) }
-    ensures { IfOk result (λ v. v.items ≡ critical (run_with plan.now waits.now.bodies holders.now)) }
+    ensures { IfOk result (λ v. v.items ≡ critical
+        (run_with plan.now waits.now.bodies holders.now)) }
 {
     let mut path = Vec::new(alloc);
     let mut next = None;

@@ -73,7 +73,8 @@ found filled held written p at b r x w h few er ex ew eh z below =
     )
 
 -- the marks of the lines when the ends of one are written
-pub filled_set : (ends : List (Option Ends)) (s s' : Marks) (i : ℕ) (e : Option Ends) (b : Bool) → AreFilled ends s → i < length ends → b ≡ is_some e → room s' ≡ room s → ((k : ℕ) → has s' k ≡ cond (k == i) b (has s k)) → AreFilled (set ends i e) s'
+pub filled_set : (ends : List (Option Ends)) (s s' : Marks) (i : ℕ) (e : Option Ends) (b : Bool) → AreFilled ends s
+    → i < length ends → b ≡ is_some e → room s' ≡ room s → ((k : ℕ) → has s' k ≡ cond (k == i) b (has s k)) → AreFilled (set ends i e) s'
 filled_set ends s s' i e b a h same r f =
     record {
       room = let x = length-set ends i e in let y = a.room in omega arith;
@@ -155,7 +156,8 @@ module _ (workers : ℕ) (places : List Place) (next : List ℕ) (ends : List (O
       subst (λ (q : Party). offers_key filled (party_number q) held written l.key ≡ true) e
       (by_use filled held written (party_number l.party) l.key l.writes (is_marked (Key l) o.waits.0 o.waits.1) o.free)
 
-  offered_line : (p : Party) (held written : Marks) (k : ℕ) → party_number p ≤ workers → k < 256 → offers_key filled (party_number p) held written k ≡ true → ((l : KeyLine) → l.party ≡ p → IsOnOffer places held written l → k ≤ l.key)
+  offered_line : (p : Party) (held written : Marks) (k : ℕ) → party_number p ≤ workers → k < 256
+      → offers_key filled (party_number p) held written k ≡ true → ((l : KeyLine) → l.party ≡ p → IsOnOffer places held written l → k ≤ l.key)
       → IsLowestOffer places held written p k
   offered_line p held written k pw kb h low =
       elim (or_cases (has filled (576 * party_number p + k) && not (has written k)) (has filled (576 * party_number p + 256 + k) && not (has held k)) h) [

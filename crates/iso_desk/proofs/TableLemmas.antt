@@ -81,10 +81,12 @@ last_by places at since next i k (Some e) h x = h e.last x.tail
 within : (workers : ℕ) (places : List Place) (next : List ℕ) (ends : List (Option Ends)) (clock i : ℕ) → AreLinked workers places next ends clock → (m : ℕ) → mark places m ≡ i + 1 → m < length next
 within workers places next ends clock i a m h = subst (λ (x : ℕ). m < x) (sym a.nodes) (in_table places m (λ z. let w : i + 1 ≡ 0 = sym h ∙ z in omega arith))
 
-pub last_below : (workers : ℕ) (places : List Place) (next : List ℕ) (ends : List (Option Ends)) (clock i : ℕ) → AreLinked workers places next ends clock → i < length ends → LastBelow (get_or ends i None) (length next)
+pub last_below : (workers : ℕ) (places : List Place) (next : List ℕ) (ends : List (Option Ends)) (clock i : ℕ)
+    → AreLinked workers places next ends clock → i < length ends → LastBelow (get_or ends i None) (length next)
 last_below workers places next ends clock i a h = last_by places (mark places) (since places) (λ k. get_or next k 0) (i + 1) (length next) (get_or ends i None) (within workers places next ends clock i a) (a.kept i h)
 
-pub first_below : (workers : ℕ) (places : List Place) (next : List ℕ) (ends : List (Option Ends)) (clock i : ℕ) → AreLinked workers places next ends clock → i < length ends → FirstBelow (get_or ends i None) (length next)
+pub first_below : (workers : ℕ) (places : List Place) (next : List ℕ) (ends : List (Option Ends)) (clock i : ℕ)
+    → AreLinked workers places next ends clock → i < length ends → FirstBelow (get_or ends i None) (length next)
 first_below workers places next ends clock i a h = first_by places (mark places) (since places) (λ k. get_or next k 0) (i + 1) (length next) (get_or ends i None) (within workers places next ends clock i a) (a.kept i h)
 
 pub stands_marked : (places : List Place) (l : Line) (n : ℕ) → StandsIn places l n → mark places n ≢ 0
@@ -104,7 +106,8 @@ module _ (places : List Place) (n : ℕ) (p : Place) where
   since_other : (m : ℕ) → m ≢ n → since (set places n p) m ≡ since places m
   since_other m o = ap since_in (get_or-set_other places n m p Closed o)
 
-  known_set : (workers : ℕ) → n < length places → MatchOption (line_in p) (Unit {0}) (λ l. IsLineOf workers l) → ((m : ℕ) → MatchOption (line_in (place_of places m)) (Unit {0}) (λ l. IsLineOf workers l))
+  known_set : (workers : ℕ) → n < length places → MatchOption (line_in p) (Unit {0}) (λ l. IsLineOf workers l)
+      → ((m : ℕ) → MatchOption (line_in (place_of places m)) (Unit {0}) (λ l. IsLineOf workers l))
       → (m : ℕ) → MatchOption (line_in (place_of (set places n p) m)) (Unit {0}) (λ l. IsLineOf workers l)
   known_set workers h here known m =
       elim (cases_eq m n) [
@@ -112,7 +115,8 @@ module _ (places : List Place) (n : ℕ) (p : Place) where
         | inr o ↦ subst (λ (q : Place). MatchOption (line_in q) (Unit {0}) (λ l. IsLineOf workers l)) (sym (get_or-set_other places n m p Closed o)) (known m)
       ]
 
-joined_kept : (at since at' since' : ℕ → ℕ) (next : List ℕ) (i n t : ℕ) (e : Option Ends) → at n ≢ i → at' n ≡ i → since' n ≡ t → ((m : ℕ) → m ≢ n → at' m ≡ at m) → ((m : ℕ) → m ≢ n → since' m ≡ since m)
+joined_kept : (at since at' since' : ℕ → ℕ) (next : List ℕ) (i n t : ℕ) (e : Option Ends) → at n ≢ i
+    → at' n ≡ i → since' n ≡ t → ((m : ℕ) → m ≢ n → at' m ≡ at m) → ((m : ℕ) → m ≢ n → since' m ≡ since m)
     → ((m : ℕ) → at m ≡ i → since m < t) → LastBelow e (length next) → IsKept at since (λ k. get_or next k 0) i e → IsKept at' since' (λ k. get_or (linked e n next) k 0) i (Some (longer e n))
 joined_kept at since at' since' next i n t None out here now ao so old low k =
     begun at at' since' (λ k. get_or next k 0) i n (record { none = k; here = here; at_other = ao })
@@ -149,7 +153,8 @@ not_zero : (a b : ℕ) → a ≡ b + 1 → a ≢ 0
 not_zero a b e z = omega arith
 
 -- a node is put at the end of a line
-pub lined_up_linked : (workers : ℕ) (places : List Place) (next : List ℕ) (ends : List (Option Ends)) (clock : ℕ) (l : Line) (n : ℕ) → AreLinked workers places next ends clock → IsLineOf workers l → n < length places → line_in (place_of places n) ≡ None
+pub lined_up_linked : (workers : ℕ) (places : List Place) (next : List ℕ) (ends : List (Option Ends)) (clock : ℕ) (l : Line) (n : ℕ)
+    → AreLinked workers places next ends clock → IsLineOf workers l → n < length places → line_in (place_of places n) ≡ None
     → AreLinked workers (set places n (InLine (record { line = l; since = clock }))) (linked (get_or ends (line_number l) None) n next)
     (set ends (line_number l) (Some (longer (get_or ends (line_number l) None) n))) (clock + 1)
 lined_up_linked workers places next ends clock l n a is here free =
@@ -257,7 +262,8 @@ leading_length None n next = refl
 leading_length (Some e) n next = length-set next n e.first
 
 -- a node is put at the front of a line
-pub led_linked : (workers : ℕ) (places : List Place) (next : List ℕ) (ends : List (Option Ends)) (clock t : ℕ) (l : Line) (n : ℕ) → AreLinked workers places next ends clock → IsLineOf workers l → n < length places
+pub led_linked : (workers : ℕ) (places : List Place) (next : List ℕ) (ends : List (Option Ends)) (clock t : ℕ) (l : Line) (n : ℕ)
+    → AreLinked workers places next ends clock → IsLineOf workers l → n < length places
     → line_in (place_of places n) ≡ None → t < clock → ((m : ℕ) → mark places m ≢ 0 → t < since places m)
     → AreLinked workers (set places n (InLine (record { line = l; since = t }))) (leading (get_or ends (line_number l) None) n next)
     (set ends (line_number l) (Some (wider (get_or ends (line_number l) None) n))) clock
@@ -355,12 +361,14 @@ young_set places n f p here own young m h =
           omega arith
     ]
 
-left_or_none : (at since at' since' : ℕ → ℕ) (next : List ℕ) (i n : ℕ) (e : Option Ends) → Leaves at since at' since' i n → IsKept at since (λ k. get_or next k 0) i e → IsKept at' since' (λ k. get_or next k 0) i (shorter e next)
+left_or_none : (at since at' since' : ℕ → ℕ) (next : List ℕ) (i n : ℕ) (e : Option Ends) → Leaves at since at' since' i n
+    → IsKept at since (λ k. get_or next k 0) i e → IsKept at' since' (λ k. get_or next k 0) i (shorter e next)
 left_or_none at since at' since' next i n None v k = absurd (k n v.here)
 left_or_none at since at' since' next i n (Some e) v k = left_kept at since (λ k. get_or next k 0) at' since' i n e v k
 
 -- the first of a line leaves it
-pub leaves_linked : (workers : ℕ) (places : List Place) (next : List ℕ) (ends : List (Option Ends)) (clock : ℕ) (l : Line) (n : ℕ) (p : Place) → AreLinked workers places next ends clock → IsLineOf workers l → IsFirst places l n → line_in p ≡ None
+pub leaves_linked : (workers : ℕ) (places : List Place) (next : List ℕ) (ends : List (Option Ends)) (clock : ℕ) (l : Line) (n : ℕ) (p : Place)
+    → AreLinked workers places next ends clock → IsLineOf workers l → IsFirst places l n → line_in p ≡ None
     → AreLinked workers (set places n p) next (set ends (line_number l) (shorter (get_or ends (line_number l) None) next)) clock
 leaves_linked workers places next ends clock l n p a is first gone =
     let i = line_number l in
@@ -428,7 +436,8 @@ ends_at workers places next ends clock l i x a is ei ex =
     get_or_read_under ends i (length ends) x None ex low refl ∙ ap (λ (k : ℕ). get_or ends k None) ei
 
 -- a node that stands in no line gets another place in none
-pub put_linked : (workers : ℕ) (places : List Place) (next : List ℕ) (ends : List (Option Ends)) (clock n : ℕ) (p : Place) → AreLinked workers places next ends clock → n < length places → line_in (place_of places n) ≡ None → line_in p ≡ None
+pub put_linked : (workers : ℕ) (places : List Place) (next : List ℕ) (ends : List (Option Ends)) (clock n : ℕ) (p : Place)
+    → AreLinked workers places next ends clock → n < length places → line_in (place_of places n) ≡ None → line_in p ≡ None
     → AreLinked workers (set places n p) next ends clock
 put_linked workers places next ends clock n p a here free gone =
     let was : mark places n ≡ 0 = free_mark places n free in
@@ -460,7 +469,8 @@ pub new_unmarked : (nodes n : ℕ) (places : List Place) → places ≡ replicat
 new_unmarked nodes n places e = ap (λ (ps : List Place). mark_of (line_in (place_of ps n))) e ∙ ap (λ (p : Place). mark_of (line_in p)) (everywhere nodes n Closed)
 
 -- a new table, in which all are closed
-pub new_linked : (workers nodes : ℕ) (places : List Place) (next : List ℕ) (ends : List (Option Ends)) → places ≡ replicate nodes Closed → next ≡ replicate nodes 0 → ends ≡ replicate (576 * (workers + 1)) None
+pub new_linked : (workers nodes : ℕ) (places : List Place) (next : List ℕ) (ends : List (Option Ends))
+    → places ≡ replicate nodes Closed → next ≡ replicate nodes 0 → ends ≡ replicate (576 * (workers + 1)) None
     → AreLinked workers places next ends (2 ^ 63)
 new_linked workers nodes places next ends ep en ee =
     let free : (n : ℕ) → place_of places n ≡ Closed = λ n. ap (λ (ps : List Place). place_of ps n) ep ∙ everywhere nodes n Closed in

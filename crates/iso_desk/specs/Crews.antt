@@ -10,7 +10,8 @@ use Rattle.iso_desk.specs.declared.place.Place.{Place}
 
 -- A worker has nothing to wake for: the run goes on, its own line is empty, and nothing of its own
 -- or of everyone's is on offer. Where a node is loose, it has looked since the last post.
-pub record HasNothing (places : List Place) (held written : Marks) (is_over is_loose : Bool) (rounds w : ℕ) (seen : Option ℕ) : Type 0 where
+pub record HasNothing (places : List Place) (held written : Marks) (is_over is_loose : Bool)
+    (rounds w : ℕ) (seen : Option ℕ) : Type 0 where
   pub goes_on : is_over ≡ false
   pub own : IsEmpty places (Own w)
   pub alone : NothingOffered places held written (Worker w)
@@ -48,11 +49,13 @@ called (Some w) ms = slice_set ms w (record (member_of ms w) { called = true })
 
 -- a worker of whom this is kept is to be called: it waits, wasn't called since, and has something
 -- to wake for
-pub record IsToCall (places : List Place) (held written : Marks) (is_over is_loose : Bool) (rounds w : ℕ) (m : Member) : Type 0 where
+pub record IsToCall (places : List Place) (held written : Marks) (is_over is_loose : Bool)
+    (rounds w : ℕ) (m : Member) : Type 0 where
   pub awaiting : awaits m ≡ true
   pub something : ¬ HasNothing places held written is_over is_loose rounds w m.seen
 
 -- each worker below a number that waits and wasn't called since has nothing to wake for
 abbrev pub HaveNothing : List Place → Marks → Marks → Bool → Bool → ℕ → List Member → ℕ → Type 0
 HaveNothing places held written is_over is_loose rounds ms n =
-    (v : ℕ) → v < n → awaits (member_of ms v) ≡ true → HasNothing places held written is_over is_loose rounds v (member_of ms v).seen
+    (v : ℕ) → v < n → awaits (member_of ms v) ≡ true
+    → HasNothing places held written is_over is_loose rounds v (member_of ms v).seen

@@ -30,20 +30,26 @@ pub record IsLinked (at since next : ℕ → ℕ) (i first last : ℕ) : Type 0 
   pub high : (n : ℕ) → at n ≡ i → since n ≤ since last
   pub stays : (n : ℕ) → at n ≡ i → n ≢ last → at (next n) ≡ i
   pub rises : (n : ℕ) → at n ≡ i → n ≢ last → since n < since (next n)
-  pub close : (n m : ℕ) → at n ≡ i → n ≢ last → at m ≡ i → since n < since m → since (next n) ≤ since m
+  pub close : (n m : ℕ) → at n ≡ i → n ≢ last → at m ≡ i → since n < since m
+      → since (next n) ≤ since m
 
 -- a line, with its ends if it has any
 abbrev pub IsKept : (ℕ → ℕ) → (ℕ → ℕ) → (ℕ → ℕ) → ℕ → Option Ends → Type 0
-IsKept at since next i ends = MatchOption ends ((n : ℕ) → at n ≢ i) (λ e. IsLinked at since next i e.first e.last)
+IsKept at since next i ends =
+    MatchOption ends ((n : ℕ) → at n ≢ i) (λ e. IsLinked at since next i e.first e.last)
 
 -- all lines of a table
-pub record AreLinked (workers : ℕ) (places : List Place) (next : List ℕ) (ends : List (Option Ends)) (clock : ℕ) : Type 0 where
+pub record AreLinked (workers : ℕ) (places : List Place) (next : List ℕ) (ends : List (Option Ends))
+    (clock : ℕ) : Type 0 where
   pub nodes : length next ≡ length places
   pub lines : length ends ≡ 576 * (workers + 1)
-  pub known : (n : ℕ) → MatchOption (line_in (place_of places n)) (Unit {0}) (λ l. IsLineOf workers l)
+  pub known : (n : ℕ) → MatchOption (line_in (place_of places n)) (Unit {0})
+      (λ l. IsLineOf workers l)
   pub old : (n : ℕ) → mark places n ≢ 0 → since places n < clock
-  pub apart : (n m : ℕ) → mark places n ≢ 0 → mark places m ≢ 0 → since places n ≡ since places m → n ≡ m
-  pub kept : (i : ℕ) → i < length ends → IsKept (mark places) (since places) (slice_index next) (i + 1) (slice_index_or ends i None)
+  pub apart : (n m : ℕ) → mark places n ≢ 0 → mark places m ≢ 0 → since places n
+      ≡ since places m → n ≡ m
+  pub kept : (i : ℕ) → i < length ends → IsKept (mark places) (since places) (slice_index next)
+      (i + 1) (slice_index_or ends i None)
 
 -- the lines in which somebody stands are marked
 pub record AreFilled (ends : List (Option Ends)) (filled : Marks) : Type 0 where
@@ -73,7 +79,8 @@ leading (Some e) n next = slice_set next n e.first
 -- the ends of a line that its first node leaves
 abbrev pub shorter : Option Ends → List ℕ → Option Ends
 shorter None next = None
-shorter (Some e) next = cond (e.first == e.last) None (Some (record { first = slice_index next e.first; last = e.last }))
+shorter (Some e) next = cond (e.first == e.last) None
+    (Some (record { first = slice_index next e.first; last = e.last }))
 
 -- the first node of a line, if it has any, is below a number
 abbrev pub FirstBelow : Option Ends → ℕ → Type 0
@@ -86,7 +93,8 @@ LastBelow None k = Unit {0}
 LastBelow (Some e) k = e.last < k
 
 -- a table's fields fit together
-pub record IsTable (workers : ℕ) (places : List Place) (next : List ℕ) (ends : List (Option Ends)) (filled : Marks) (clock front : ℕ) : Type 0 where
+pub record IsTable (workers : ℕ) (places : List Place) (next : List ℕ) (ends : List (Option Ends))
+    (filled : Marks) (clock front : ℕ) : Type 0 where
   pub order : front ≤ clock
   pub young : (n : ℕ) → mark places n ≢ 0 → front ≤ since places n
   pub linked : AreLinked workers places next ends clock

@@ -21,4 +21,5 @@ has s k = bit (word_of s (k / 64)) (k % 64)
 
 -- whether a bit is set in one of two words, and not in the one that masks it
 abbrev pub offers : ℕ → ℕ → ℕ → ℕ → ℕ → Bool
-offers reading written writing held t = (bit reading t && not (bit written t)) || (bit writing t && not (bit held t))
+offers reading written writing held t =
+    (bit reading t && not (bit written t)) || (bit writing t && not (bit held t))

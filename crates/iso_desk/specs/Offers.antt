@@ -20,10 +20,12 @@ pub record IsOnOffer (places : List Place) (held written : Marks) (l : KeyLine) 
 
 -- no line of a party is on offer
 abbrev pub NothingOffered : List Place → Marks → Marks → Party → Type 0
-NothingOffered places held written p = (l : KeyLine) → l.party ≡ p → ¬ IsOnOffer places held written l
+NothingOffered places held written p =
+    (l : KeyLine) → l.party ≡ p → ¬ IsOnOffer places held written l
 
 -- a line of a party is on offer at a key, and none at a lower one
-pub record IsLowestOffer (places : List Place) (held written : Marks) (p : Party) (k : ℕ) : Type 0 where
+pub record IsLowestOffer (places : List Place) (held written : Marks) (p : Party)
+    (k : ℕ) : Type 0 where
   pub line : KeyLine
   pub of_party : line.party ≡ p
   pub of_key : line.key ≡ k
@@ -32,4 +34,5 @@ pub record IsLowestOffer (places : List Place) (held written : Marks) (p : Party
 
 -- the same, by the lines' marks: those of the party by its number are read and written there
 abbrev pub offers_key : Marks → ℕ → Marks → Marks → ℕ → Bool
-offers_key filled p held written k = (has filled (576 * p + k) && not (has written k)) || (has filled (576 * p + 256 + k) && not (has held k))
+offers_key filled p held written k = (has filled (576 * p + k) && not (has written k))
+    || (has filled (576 * p + 256 + k) && not (has held k))

@@ -40,7 +40,8 @@ StandsIn places l n = line_in (place_of places n) ≡ Some l
 
 -- a node stands in a line, and none stands there before it
 abbrev pub IsFirst : List Place → Line → ℕ → Type 0
-IsFirst places l n = StandsIn places l n × ((m : ℕ) → StandsIn places l m → since_in (place_of places n) ≤ since_in (place_of places m))
+IsFirst places l n = StandsIn places l n
+    × ((m : ℕ) → StandsIn places l m → since_in (place_of places n) ≤ since_in (place_of places m))
 
 -- nobody stands in a line
 abbrev pub IsEmpty : List Place → Line → Type 0
@@ -48,7 +49,8 @@ IsEmpty places l = (n : ℕ) → ¬ StandsIn places l n
 
 -- the table of `nodes` nodes, all closed
 abbrev pub all_closed : ℕ → ℕ → TableView
-all_closed nodes workers = record { workers = workers; places = replicate nodes Closed; clock = 2 ^ 63; front = 2 ^ 63 }
+all_closed nodes workers =
+    record { workers = workers; places = replicate nodes Closed; clock = 2 ^ 63; front = 2 ^ 63 }
 
 -- a node moves
 abbrev pub moved : ℕ → Place → TableView → TableView
@@ -56,8 +58,16 @@ moved n p t = record t { places = slice_set t.places n p }
 
 -- a node is put at the end of a line
 abbrev pub lined_up : ℕ → Line → TableView → TableView
-lined_up n l t = record t { places = slice_set t.places n (InLine (record { line = l; since = t.clock })); clock = t.clock + 1 }
+lined_up n l t =
+    record t {
+      places = slice_set t.places n (InLine (record { line = l; since = t.clock }));
+      clock = t.clock + 1;
+    }
 
 -- a node is put at the front of a line
 abbrev pub headed : ℕ → Line → TableView → TableView
-headed n l t = record t { places = slice_set t.places n (InLine (record { line = l; since = t.front - 1 })); front = t.front - 1 }
+headed n l t =
+    record t {
+      places = slice_set t.places n (InLine (record { line = l; since = t.front - 1 }));
+      front = t.front - 1;
+    }

@@ -80,7 +80,15 @@ impl Crew {
         requires workers { length self.old.members.items ≡ scene.now.table.now.workers }
         requires held { 256 ≤ room scene.now.held.now }
         requires written { 256 ≤ room scene.now.written.now }
-        ensures whom { MatchOption result (HaveNothing scene.now.table.now.places scene.now.held.now scene.now.written.now scene.now.is_over scene.now.is_loose scene.now.rounds self.old.members.items (length self.old.members.items)) (λ w. (w < length self.old.members.items) × IsToCall scene.now.table.now.places scene.now.held.now scene.now.written.now scene.now.is_over scene.now.is_loose scene.now.rounds w (member_of self.old.members.items w) × HaveNothing scene.now.table.now.places scene.now.held.now scene.now.written.now scene.now.is_over scene.now.is_loose scene.now.rounds self.old.members.items w) }
+        ensures whom { MatchOption result
+            (HaveNothing scene.now.table.now.places scene.now.held.now scene.now.written.now
+            scene.now.is_over scene.now.is_loose scene.now.rounds self.old.members.items
+            (length self.old.members.items)) (λ w. (w < length self.old.members.items)
+            × IsToCall scene.now.table.now.places scene.now.held.now scene.now.written.now
+            scene.now.is_over scene.now.is_loose scene.now.rounds w
+            (member_of self.old.members.items w)
+            × HaveNothing scene.now.table.now.places scene.now.held.now scene.now.written.now
+            scene.now.is_over scene.now.is_loose scene.now.rounds self.old.members.items w) }
         ensures marked { self.new.members.items ≡ called result self.old.members.items }
     {
         let worker = next_to_call(&self.members, scene)?;
@@ -94,7 +102,14 @@ fn next_to_call(members: &[Member], scene: &Scene) -> Option<u32>
     requires workers { length members.now ≡ scene.now.table.now.workers }
     requires held { 256 ≤ room scene.now.held.now }
     requires written { 256 ≤ room scene.now.written.now }
-    ensures { MatchOption result (HaveNothing scene.now.table.now.places scene.now.held.now scene.now.written.now scene.now.is_over scene.now.is_loose scene.now.rounds members.now (length members.now)) (λ w. (w < length members.now) × IsToCall scene.now.table.now.places scene.now.held.now scene.now.written.now scene.now.is_over scene.now.is_loose scene.now.rounds w (member_of members.now w) × HaveNothing scene.now.table.now.places scene.now.held.now scene.now.written.now scene.now.is_over scene.now.is_loose scene.now.rounds members.now w) }
+    ensures { MatchOption result
+        (HaveNothing scene.now.table.now.places scene.now.held.now scene.now.written.now
+        scene.now.is_over scene.now.is_loose scene.now.rounds members.now (length members.now))
+        (λ w. (w < length members.now)
+        × IsToCall scene.now.table.now.places scene.now.held.now scene.now.written.now
+        scene.now.is_over scene.now.is_loose scene.now.rounds w (member_of members.now w)
+        × HaveNothing scene.now.table.now.places scene.now.held.now scene.now.written.now
+        scene.now.is_over scene.now.is_loose scene.now.rounds members.now w) }
 {
     'members: for worker in 0..scene.table.workers() {
         if is_to_call(scene, worker, members[worker as usize]) {
@@ -109,8 +124,11 @@ fn is_to_call(scene: &Scene, worker: u32, member: Member) -> bool
     requires worker { worker < scene.now.table.now.workers }
     requires held { 256 ≤ room scene.now.held.now }
     requires written { 256 ≤ room scene.now.written.now }
-    ensures yes { result ≡ true → IsToCall scene.now.table.now.places scene.now.held.now scene.now.written.now scene.now.is_over scene.now.is_loose scene.now.rounds worker member }
-    ensures no { result ≡ false → awaits member ≡ true → HasNothing scene.now.table.now.places scene.now.held.now scene.now.written.now scene.now.is_over scene.now.is_loose scene.now.rounds worker member.seen }
+    ensures yes { result ≡ true → IsToCall scene.now.table.now.places scene.now.held.now
+        scene.now.written.now scene.now.is_over scene.now.is_loose scene.now.rounds worker member }
+    ensures no { result ≡ false → awaits member ≡ true
+        → HasNothing scene.now.table.now.places scene.now.held.now scene.now.written.now
+        scene.now.is_over scene.now.is_loose scene.now.rounds worker member.seen }
 {
     if !member.waits || member.called {
         return false;

@@ -31,7 +31,9 @@ pub fn has_nothing_for(scene: &Scene, worker: u32, seen: Option<u64>) -> bool
     requires worker { worker < scene.now.table.now.workers }
     requires held { 256 ≤ room scene.now.held.now }
     requires written { 256 ≤ room scene.now.written.now }
-    ensures { Decides result (HasNothing scene.now.table.now.places scene.now.held.now scene.now.written.now scene.now.is_over scene.now.is_loose scene.now.rounds worker seen) }
+    ensures { Decides result (HasNothing scene.now.table.now.places scene.now.held.now
+        scene.now.written.now scene.now.is_over scene.now.is_loose scene.now.rounds
+        worker seen) }
 {
     let own = scene.table.is_empty(Line::Own(worker));
     let alone = scene

@@ -48,9 +48,15 @@ impl Model for Table {
 
     ghost Value = { TableView };
 
-    ghost view = { λ t. record { workers = t.workers; places = t.places.items; clock = t.clock; front = t.front } };
+    ghost view = { λ t. record {
+      workers = t.workers;
+      places = t.places.items;
+      clock = t.clock;
+      front = t.front;
+    } };
 
-    ghost invariant = { λ t. IsTable t.workers t.places.items t.next.items t.ends.items t.filled t.clock t.front };
+    ghost invariant = { λ t. IsTable t.workers t.places.items t.next.items t.ends.items t.filled
+        t.clock t.front };
 }
 
 impl Table {
@@ -99,7 +105,8 @@ impl Table {
     /// The first node of a line.
     pub fn first(&self, line: Line) -> Option<u32>
         requires { IsLineOf self.now.workers line }
-        ensures { MatchOption result (IsEmpty self.now.places line) (λ n. IsFirst self.now.places line n) }
+        ensures { MatchOption result (IsEmpty self.now.places line)
+            (λ n. IsFirst self.now.places line n) }
     {
         let ends = self.ends[line.number()]?;
         Some(ends.first)
@@ -113,7 +120,9 @@ impl Table {
         requires held { 256 ≤ room held.now }
         requires written { 256 ≤ room written.now }
         ensures key { IfSome result (λ k. k < 256) }
-        ensures offer { MatchOption result (NothingOffered self.now.places held.now written.now party) (λ k. IsLowestOffer self.now.places held.now written.now party k) }
+        ensures offer { MatchOption result
+            (NothingOffered self.now.places held.now written.now party)
+            (λ k. IsLowestOffer self.now.places held.now written.now party k) }
     {
         lowest_key(&self.filled, party.number(), held, written)
     }

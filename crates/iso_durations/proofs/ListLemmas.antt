@@ -94,7 +94,8 @@ module _ (micros : ℕ → ℕ) where
       → is_in ns n ≡ true → is_in (first_of most (slowest_first micros ns)) n ≡ false → Before m n
   left-out most ns m n d = by (most == 0)
     where
-      by : (b : Bool) → is_in (cond b (slowest_first micros ns) (take most (slowest_first micros ns))) m ≡ true → is_in ns n ≡ true → is_in (cond b (slowest_first micros ns) (take most (slowest_first micros ns))) n ≡ false → Before m n
+      by : (b : Bool) → is_in (cond b (slowest_first micros ns) (take most (slowest_first micros ns))) m ≡ true
+          → is_in ns n ≡ true → is_in (cond b (slowest_first micros ns) (take most (slowest_first micros ns))) n ≡ false → Before m n
       by true h i o = absurd (true≢false (sym (slowest-in micros ns n ∙ i) ∙ o))
       by false h i o = taken-before most (slowest_first micros ns) m n (slowest-ranked micros ns d) h (slowest-in micros ns n ∙ i) o
 

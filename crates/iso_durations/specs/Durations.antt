@@ -34,4 +34,5 @@ text_of tree entries all = head_line (length entries) all ++ flat_map (entry_lin
 -- the text of the slowest
 abbrev pub durations_text : List Row → (times : List (Option ℕ)) → (most : ℕ) → List ℕ
 durations_text tree times most =
-    text_of tree (map (entry (micros times)) (listed tree times most)) (tally tree times (measured tree times))
+    text_of tree (map (entry (micros times)) (listed tree times most))
+    (tally tree times (measured tree times))

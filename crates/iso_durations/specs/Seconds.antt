@@ -9,7 +9,8 @@ last_digit n = 48 + n % 10
 -- six digits of a number below a million
 abbrev pub six_digits : ℕ → List ℕ
 six_digits n =
-    last_digit (n / 100000) ∷ last_digit (n / 10000) ∷ last_digit (n / 1000) ∷ last_digit (n / 100) ∷ last_digit (n / 10) ∷ last_digit n ∷ []
+    last_digit (n / 100000) ∷ last_digit (n / 10000) ∷ last_digit (n / 1000) ∷ last_digit (n / 100)
+    ∷ last_digit (n / 10) ∷ last_digit n ∷ []
 
 -- microseconds as seconds with six decimals
 abbrev pub seconds : ℕ → List ℕ

@@ -25,5 +25,7 @@ tally tree times nodes =
 
 -- the same with one more, a test or a class, whose bodies took so long
 abbrev pub with_node : (is_test : Bool) → (micros : ℕ) → Tally → Tally
-with_node true micros t = record { tests = t.tests + 1; classes = t.classes; micros = min (t.micros + micros) greatest }
-with_node false micros t = record { tests = t.tests; classes = t.classes + 1; micros = min (t.micros + micros) greatest }
+with_node true micros t =
+    record { tests = t.tests + 1; classes = t.classes; micros = min (t.micros + micros) greatest }
+with_node false micros t =
+    record { tests = t.tests; classes = t.classes + 1; micros = min (t.micros + micros) greatest }

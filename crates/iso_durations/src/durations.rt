@@ -43,7 +43,8 @@ impl Durations {
     /// The nodes that were measured, as they are written. It takes no memory.
     fn measured(self, plan: &Plan, times: &[Option<u64>]) -> Vec<Timed>
         requires { length plan.now.rows ≤ self }
-        ensures { result.items ≡ map (entry (micros times.now)) (measured (tree_of plan.now) times.now) }
+        ensures { result.items ≡ map (entry (micros times.now))
+            (measured (tree_of plan.now) times.now) }
     {
         laws::nodes_are_a_tree(plan);
         let Durations { room, .. } = self;

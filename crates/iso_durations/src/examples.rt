@@ -87,5 +87,6 @@ pub fn text_tells_of_all()
 
 /// Where nothing was measured there is the first line alone.
 pub fn text_of_nothing_is_a_line()
-    ensures { durations_text cart_and_desk [] 10 ≡ lines ("slowest 0 of 0 tests and 0 classes; all bodies 0.000000 s" ∷ []) }
+    ensures { durations_text cart_and_desk [] 10
+        ≡ lines ("slowest 0 of 0 tests and 0 classes; all bodies 0.000000 s" ∷ []) }
 {}

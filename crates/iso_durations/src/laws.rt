@@ -23,20 +23,25 @@ pub fn order_is_the_only_one()
 
 /// Each node that is listed is a test or a class of the plan that was measured.
 pub fn listed_nodes_were_measured()
-    ensures measured { (tree : List Row) (times : List (Option ℕ)) (most : ℕ) → All (λ n. is_measured times n ≡ true) (listed tree times most) }
-    ensures within { (tree : List Row) (times : List (Option ℕ)) (most : ℕ) → All (λ n. n < length tree) (listed tree times most) }
+    ensures measured { (tree : List Row) (times : List (Option ℕ)) (most : ℕ)
+        → All (λ n. is_measured times n ≡ true) (listed tree times most) }
+    ensures within { (tree : List Row) (times : List (Option ℕ)) (most : ℕ)
+        → All (λ n. n < length tree) (listed tree times most) }
 {}
 
 /// As many are listed as are asked for, where that many were measured; where 0 is asked for, all.
 pub fn as_many_are_listed_as_are_asked_for()
     ensures some { (tree : List Row) (times : List (Option ℕ)) (most : ℕ) → 0 < most
         → length (listed tree times most) ≡ min most (length (measured tree times)) }
-    ensures all { (tree : List Row) (times : List (Option ℕ)) → length (listed tree times 0) ≡ length (measured tree times) }
+    ensures all { (tree : List Row) (times : List (Option ℕ)) → length (listed tree times 0)
+        ≡ length (measured tree times) }
 {}
 
 /// A node that was measured and is left out is no slower than one that is listed: it took less
 /// long, or as long and is written after it.
 pub fn nodes_left_out_are_no_slower()
-    ensures { (tree : List Row) (times : List (Option ℕ)) (most m n : ℕ) → is_in (listed tree times most) m ≡ true
-        → is_in (measured tree times) n ≡ true → is_in (listed tree times most) n ≡ false → is_before (micros times) m n ≡ true }
+    ensures { (tree : List Row) (times : List (Option ℕ)) (most m n : ℕ)
+        → is_in (listed tree times most) m ≡ true
+        → is_in (measured tree times) n ≡ true → is_in (listed tree times most) n ≡ false
+        → is_before (micros times) m n ≡ true }
 {}

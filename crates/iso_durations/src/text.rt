@@ -32,7 +32,8 @@ pub fn write_durations<W: Sink>(
     sink: &mut W,
 ) -> Result<(), TapFault>
     requires room { length plan.now.rows ≤ room }
-    ensures { Writes (W.account sink.old) (W.account sink.new) (durations_text (tree_of plan.now) times.now most) result }
+    ensures { Writes (W.account sink.old) (W.account sink.new)
+        (durations_text (tree_of plan.now) times.now most) result }
 {
     let slowest = room.slowest(plan, times);
     let mut printer = Printer::new(sink);
@@ -54,7 +55,8 @@ fn durations<W: Sink>(
 ) -> Result<(), SinkFailed>
     requires { slowest.now ≡ map (entry (micros times.now))
         (slowest_first (micros times.now) (measured (tree_of plan.now) times.now)) }
-    ensures { Prints printer.old printer.new (durations_text (tree_of plan.now) times.now most) result }
+    ensures { Prints printer.old printer.new
+        (durations_text (tree_of plan.now) times.now most) result }
 {
     text(printer, plan, first_of(slowest, most), count(plan, times))
 }

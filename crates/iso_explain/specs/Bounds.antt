@@ -26,14 +26,17 @@ limit_note limit = hint_line (codes "at most " ++ decimal (most limit) ++ limit_
 -- how big a number may be, how long a name and a text, and how a display text and a reason are
 -- written
 abbrev pub number_note : List ℕ
-number_note = hint_line (codes "at most " ++ decimal (2 ^ 63 - 1) ++ codes ", after the minus of a literal " ++ decimal (2 ^ 63))
+number_note = hint_line (codes "at most " ++ decimal (2 ^ 63 - 1)
+    ++ codes ", after the minus of a literal " ++ decimal (2 ^ 63))
 
 abbrev pub token_note : List ℕ
-token_note = hint_line (codes "at most " ++ decimal NAME_BYTES ++ codes " bytes stand in a name, and " ++ decimal TEXT_BYTES ++ codes " in a text")
+token_note = hint_line (codes "at most " ++ decimal NAME_BYTES
+    ++ codes " bytes stand in a name, and " ++ decimal TEXT_BYTES ++ codes " in a text")
 
 abbrev pub display_note : List ℕ
 display_note =
-    hint_line (codes "a display text and a reason have 1 to " ++ decimal DISPLAY_BYTES ++ codes " bytes, and no space at either end")
+    hint_line (codes "a display text and a reason have 1 to " ++ decimal DISPLAY_BYTES
+    ++ codes " bytes, and no space at either end")
 
 -- what is allowed where a fault of this kind is
 abbrev pub kind_note : ScriptFaultKind → List ℕ

@@ -27,19 +27,29 @@ at line column = record { line = line; column = column }
 
 -- this is wanted where a name is found, a symbol or a word, and where the script ends
 abbrev pub name_met : (wanted : Wanted) → String → takes wanted a_name ≡ false → Reason
-name_met wanted name other = R.Unmet (record { wanted = wanted; found = T.Name (record { ref_ptr = (0, 0); now = codes name }); otherwise = other })
+name_met wanted name other =
+    R.Unmet (record {
+      wanted = wanted;
+      found =
+          T.Name (record { ref_ptr = (0, 0); now = codes name });
+      otherwise = other;
+    })
 
-abbrev pub symbol_met : (wanted : Wanted) (symbol : Symbol) → takes wanted (a_symbol symbol) ≡ false → Reason
-symbol_met wanted symbol other = R.Unmet (record { wanted = wanted; found = T.Symbol symbol; otherwise = other })
+abbrev pub symbol_met : (wanted : Wanted) (symbol : Symbol) → takes wanted (a_symbol symbol)
+    ≡ false → Reason
+symbol_met wanted symbol other =
+    R.Unmet (record { wanted = wanted; found = T.Symbol symbol; otherwise = other })
 
 abbrev pub word_met : (wanted : Wanted) (word : Word) → takes wanted (a_word word) ≡ false → Reason
-word_met wanted word other = R.Unmet (record { wanted = wanted; found = T.Word word; otherwise = other })
+word_met wanted word other =
+    R.Unmet (record { wanted = wanted; found = T.Word word; otherwise = other })
 
 abbrev pub end_met : (wanted : Wanted) → takes wanted the_end ≡ false → Reason
 end_met wanted other = R.Unmet (record { wanted = wanted; found = T.End; otherwise = other })
 
 -- a fault with its reason, the width of what is found there, and the brace that is open there
-abbrev pub fault_in : ScriptFaultKind → Position → Reason → (width : ℕ) → (brace : Option Position) → Explained
+abbrev pub fault_in : ScriptFaultKind → Position → Reason → (width : ℕ)
+    → (brace : Option Position) → Explained
 fault_in kind place reason width brace =
     record {
       fault = record { kind = kind; line = place.line; column = place.column };
@@ -51,4 +61,5 @@ fault_in kind place reason width brace =
 
 -- the fault of what stands a second time, and where it stands first
 abbrev pub second_of : ScriptFaultKind → Position → (width : ℕ) → (first : Position) → Explained
-second_of kind place width first = record (fault_in kind place R.Kind width None) { first = Some first }
+second_of kind place width first =
+    record (fault_in kind place R.Kind width None) { first = Some first }

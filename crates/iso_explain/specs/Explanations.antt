@@ -17,7 +17,8 @@ one_piece text = Plain (record { ref_ptr = (0, 0); now = text }) ∷ []
 -- the line of the fault, with carets and a label
 abbrev pub picture_of : List ℕ → Explained → List ℕ
 picture_of bytes told =
-    picture told.fault.line (line_of bytes told.fault.line) told.fault.column told.width (one_piece (label_of told.fault.kind told.reason))
+    picture told.fault.line (line_of bytes told.fault.line) told.fault.column told.width
+    (one_piece (label_of told.fault.kind told.reason))
 
 -- the lines below it: what mends the fault, where something stands first, which brace is open, and
 -- what there may be at most

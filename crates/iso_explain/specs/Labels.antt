@@ -23,14 +23,16 @@ wanted_text W.Number = codes "expected a number"
 wanted_text W.Literal = codes "expected a number, a text, `true` or `false`"
 wanted_text W.Operand = codes "expected a value, a name, `(` or a function such as `len(..)`"
 wanted_text (W.Operator follows) = codes "expected an operator or " ++ quoted (marks follows)
-wanted_text (W.SameOperator operator follows) = codes "expected " ++ quoted (marks operator) ++ codes " or " ++ quoted (marks follows)
+wanted_text (W.SameOperator operator follows) =
+    codes "expected " ++ quoted (marks operator) ++ codes " or " ++ quoted (marks follows)
 wanted_text W.Statement = codes "expected a statement or `}`"
 wanted_text W.StatementOrElse = codes "expected `else`, a statement or `}`"
 wanted_text W.Display = codes "expected a display text or `{`"
 wanted_text W.Key = codes "expected a key, which is a text that isn't empty"
 wanted_text W.Target = codes "expected `children` or a key, which is a text that isn't empty"
 wanted_text W.TopClass = codes "expected a mark, `class` or the end of the script"
-wanted_text W.ClassPart = codes "expected `test`, `class`, a mark, a lifecycle block, `static` or `field`"
+wanted_text W.ClassPart =
+    codes "expected `test`, `class`, a mark, a lifecycle block, `static` or `field`"
 wanted_text W.BlockOrMember = codes "expected `test`, `class`, a mark or a lifecycle block"
 wanted_text W.Member = codes "expected `test`, `class`, a mark or `}`"
 wanted_text W.MarkedMember = codes "expected `test`, `class` or one more mark"
@@ -38,14 +40,17 @@ wanted_text W.MarkedClass = codes "expected `class` or one more mark"
 
 -- what is wrong where a fault of this kind is
 abbrev pub kind_text : ScriptFaultKind → List ℕ
-kind_text K.BadByte = codes "this byte may not stand here: texts and comments too have printable ASCII alone"
+kind_text K.BadByte =
+    codes "this byte may not stand here: texts and comments too have printable ASCII alone"
 kind_text K.BadToken = codes "no token is spelled so"
 kind_text K.NumberTooBig = codes "this number is too big"
 kind_text K.OpenText = codes "this text isn't closed on its line"
 kind_text K.Expected = codes "this doesn't fit here"
 kind_text K.DoubleBlock = codes "this class has such a block already"
-kind_text K.DoubleMember = codes "this is here already: a test or class of this name, or such a mark"
-kind_text K.NameTaken = codes "a static or field of this name stands in this class or in one around it already"
+kind_text K.DoubleMember =
+    codes "this is here already: a test or class of this name, or such a mark"
+kind_text K.NameTaken =
+    codes "a static or field of this name stands in this class or in one around it already"
 kind_text K.EmptyClass = codes "a class has a test or a class in it"
 kind_text K.TooDeep = codes "this is one too many"
 kind_text K.TooLong = codes "this is too long"
@@ -71,4 +76,5 @@ label_of kind (R.Beyond limit) = kind_text kind
 
 -- what a label of the code is
 abbrev pub written : Label → List ℕ
-written label = label.lead.now ++ label.first.now ++ label.between.now ++ label.second.now ++ label.end.now
+written label = label.lead.now ++ label.first.now ++ label.between.now ++ label.second.now
+    ++ label.end.now

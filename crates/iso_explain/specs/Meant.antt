@@ -35,7 +35,8 @@ part_words = Static ∷ Field ∷ block_words
 -- the words that begin a statement, and `else`
 abbrev pub statement_words : List Word
 statement_words =
-    Let ∷ Print ∷ Assert ∷ AssertEqual ∷ Assume ∷ Fail ∷ If ∷ Else ∷ Repeat ∷ SetProp ∷ ClearProp ∷ SetLocale ∷ WriteFile ∷ AppendFile ∷ DeleteFile ∷ []
+    Let ∷ Print ∷ Assert ∷ AssertEqual ∷ Assume ∷ Fail ∷ If ∷ Else ∷ Repeat ∷ SetProp ∷ ClearProp
+    ∷ SetLocale ∷ WriteFile ∷ AppendFile ∷ DeleteFile ∷ []
 
 -- the reserved words that a name may have been meant for where this is wanted: those that could
 -- stand there, where no name could
@@ -69,7 +70,8 @@ begun_for None = None
 -- statement, and else by what is found
 abbrev pub meant_at : PlaceView → Unmet → Option (List ℕ)
 meant_at place unmet =
-    cond (is_symbol Equals (symbol_wanted unmet.wanted)) (begun_for (name_of place.statement)) (meant_for unmet.wanted unmet.found)
+    cond (is_symbol Equals (symbol_wanted unmet.wanted)) (begun_for (name_of place.statement))
+    (meant_for unmet.wanted unmet.found)
 
 abbrev pub meant_of : List ℕ → ScriptFault → Reason → Option (List ℕ)
 meant_of bytes fault (R.Unmet unmet) = meant_at (place_at_fault bytes fault) unmet

@@ -24,7 +24,8 @@ is_unfit _ = false
 
 -- what these rules say of what is wanted and what is found
 abbrev pub told_of : List Rule → List ℕ → ScriptFault → Unmet → Option (List ℕ)
-told_of rules bytes fault unmet = cond (is_unfit fault.kind) (told_in rules (met_of (place_at_fault bytes fault) unmet)) None
+told_of rules bytes fault unmet =
+    cond (is_unfit fault.kind) (told_in rules (met_of (place_at_fault bytes fault) unmet)) None
 
 abbrev pub told_for : List Rule → List ℕ → ScriptFault → Reason → Option (List ℕ)
 told_for rules bytes fault (R.Unmet unmet) = told_of rules bytes fault unmet
@@ -44,7 +45,8 @@ tells_hint _ = false
 
 -- what the table of hints says of a fault
 abbrev pub table_hint : List ℕ → ScriptFault → Option (List ℕ)
-table_hint bytes fault = cond (tells_hint fault.kind) (hint_at bytes (offset_of bytes fault.line fault.column)) None
+table_hint bytes fault =
+    cond (tells_hint fault.kind) (hint_at bytes (offset_of bytes fault.line fault.column)) None
 
 -- a symbol stands between two parts of a statement or head
 abbrev pub is_joint : Symbol → Bool
@@ -66,7 +68,8 @@ has_form _ = false
 -- how what is begun is written, where that says more than what is wanted
 abbrev pub form_or_none : List ℕ → ScriptFault → Wanted → Option (List ℕ)
 form_or_none bytes fault wanted =
-    cond (is_unfit fault.kind && has_form wanted) (form_at bytes (offset_of bytes fault.line fault.column)) None
+    cond (is_unfit fault.kind && has_form wanted)
+    (form_at bytes (offset_of bytes fault.line fault.column)) None
 
 abbrev pub form_for : List ℕ → ScriptFault → Reason → Option (List ℕ)
 form_for bytes fault (R.Unmet unmet) = form_or_none bytes fault unmet.wanted

@@ -52,7 +52,8 @@ is_end _ = false
 
 -- a brace is closed where something else is wanted than a `;`
 abbrev pub closes_early : Wanted → Found → Bool
-closes_early wanted found = is_symbol CloseBrace (symbol_found found) && not (is_symbol Semicolon (symbol_wanted wanted))
+closes_early wanted found =
+    is_symbol CloseBrace (symbol_found found) && not (is_symbol Semicolon (symbol_wanted wanted))
 
 -- a brace is missing: one is closed too early, or what stands outside of bodies is found in one
 abbrev pub lacks_brace : Wanted → Found → Bool
@@ -65,4 +66,5 @@ tells_brace kind R.Kind = is_end kind
 tells_brace kind (R.Beyond limit) = is_end kind
 
 abbrev pub brace_note : Explained → List ℕ
-brace_note told = cond (tells_brace told.fault.kind told.reason) (note (option_map open_text told.brace)) []
+brace_note told =
+    cond (tells_brace told.fault.kind told.reason) (note (option_map open_text told.brace)) []

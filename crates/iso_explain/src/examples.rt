@@ -14,7 +14,8 @@ ghost use Rattle.iso_script_statements.specs.declared.wanted.Wanted.TheVariants 
 pub fn hint_of_the_table_is_told()
     ensures { explanation
         (lines_of ("team shop" ∷ "class Cart {" ∷ "    beforeEach { print \"x\"; }" ∷ []))
-        (fault_in K.Expected (at 3 5) (name_met V.ClassPart "beforeEach" refl) 10 (Some (at 2 12))) None
+        (fault_in K.Expected (at 3 5) (name_met V.ClassPart "beforeEach" refl) 10
+        (Some (at 2 12))) None
         ≡ lines_of
         (" 3 |     beforeEach { print \"x\"; }"
         ∷ "   |     ^^^^^^^^^^ expected `test`, `class`, a mark, a lifecycle block, `static` or `field`"
@@ -24,32 +25,39 @@ pub fn hint_of_the_table_is_told()
 
 /// Without a hint the word that was meant is told.
 pub fn word_that_was_meant_is_told()
-    ensures meant { meant_by (codes "team shop\nclas Cart {\n}\n") (fault_in K.Expected (at 2 1) (name_met V.TopClass "clas" refl) 4 None)
+    ensures meant { meant_by (codes "team shop\nclas Cart {\n}\n")
+        (fault_in K.Expected (at 2 1) (name_met V.TopClass "clas" refl) 4 None)
         ≡ Some (codes "class") }
     ensures told { explanation
         (lines_of ("team shop" ∷ "clas Cart {" ∷ "}" ∷ []))
-        (fault_in K.Expected (at 2 1) (name_met V.TopClass "clas" refl) 4 None) (Some (codes "class"))
+        (fault_in K.Expected (at 2 1) (name_met V.TopClass "clas" refl) 4 None)
+        (Some (codes "class"))
         ≡ lines_of
         (" 2 | clas Cart {"
         ∷ "   | ^^^^ expected a mark, `class` or the end of the script"
         ∷ " = did you mean `class`?"
         ∷ []) }
-    ensures far { meant_by (codes "team shop\nCart {\n}\n") (fault_in K.Expected (at 2 1) (name_met V.TopClass "Cart" refl) 4 None) ≡ None }
+    ensures far { meant_by (codes "team shop\nCart {\n}\n")
+        (fault_in K.Expected (at 2 1) (name_met V.TopClass "Cart" refl) 4 None) ≡ None }
 {}
 
 /// Where `=` is wanted a word may have been meant by the name that begins the statement. What
 /// begins with a word has its form, and else it is told which statements there are.
 pub fn statement_that_was_meant_is_told()
-    ensures meant { meant_by (lines_of (in_a_test ("asert x;" ∷ []))) (fault_in K.Expected (at 4 7) (name_met (V.Symbol S.Equals) "x" refl) 1 None)
+    ensures meant { meant_by (lines_of (in_a_test ("asert x;" ∷ [])))
+        (fault_in K.Expected (at 4 7) (name_met (V.Symbol S.Equals) "x" refl) 1 None)
         ≡ Some (codes "assert") }
     ensures below_a_comment { meant_by (lines_of (in_a_test ("// one; two" ∷ "setProp a, b;" ∷ [])))
-        (fault_in K.Expected (at 5 9) (name_met (V.Symbol S.Equals) "a" refl) 1 None) ≡ Some (codes "set_prop") }
-    ensures behind_let { meant_by (lines_of (in_a_test ("let x y;" ∷ []))) (fault_in K.Expected (at 4 7) (name_met (V.Symbol S.Equals) "y" refl) 1 None)
+        (fault_in K.Expected (at 5 9) (name_met (V.Symbol S.Equals) "a" refl) 1 None)
+        ≡ Some (codes "set_prop") }
+    ensures behind_let { meant_by (lines_of (in_a_test ("let x y;" ∷ [])))
+        (fault_in K.Expected (at 4 7) (name_met (V.Symbol S.Equals) "y" refl) 1 None)
         ≡ None }
     ensures form { explanation
         (lines_of (in_a_test ("let x y;" ∷ [])))
         (fault_in K.Expected (at 4 7) (name_met (V.Symbol S.Equals) "y" refl) 1 None) None
-        ≡ lines_of (" 4 | let x y;" ∷ "   |       ^ expected `=`" ∷ " = write `let NAME = ..;`" ∷ []) }
+        ≡ lines_of (" 4 | let x y;" ∷ "   |       ^ expected `=`"
+        ∷ " = write `let NAME = ..;`" ∷ []) }
     ensures all { explanation
         (lines_of (in_a_test ("nap x;" ∷ [])))
         (fault_in K.Expected (at 4 5) (name_met (V.Symbol S.Equals) "x" refl) 1 None) None
@@ -65,7 +73,8 @@ pub fn statement_that_was_meant_is_told()
 pub fn missing_semicolon_is_told()
     ensures before_a_brace { explanation
         (lines_of (in_a_test ("if a { print 1 }" ∷ [])))
-        (fault_in K.Expected (at 4 16) (symbol_met (V.Operator S.Semicolon) S.CloseBrace refl) 1 (Some (at 4 6))) None
+        (fault_in K.Expected (at 4 16) (symbol_met (V.Operator S.Semicolon) S.CloseBrace refl) 1
+        (Some (at 4 6))) None
         ≡ lines_of
         (" 4 | if a { print 1 }"
         ∷ "   |                ^ expected an operator or `;`"
@@ -74,11 +83,13 @@ pub fn missing_semicolon_is_told()
     ensures behind_a_comment { explanation
         (lines_of (in_a_test ("x = \"/a\" // { }" ∷ "" ∷ "y = 2;" ∷ [])))
         (fault_in K.Expected (at 6 1) (name_met (V.Operator S.Semicolon) "y" refl) 1 None) None
-        ≡ lines_of (" 6 | y = 2;" ∷ "   | ^ expected an operator or `;`" ∷ " = a `;` is missing before this" ∷ []) }
+        ≡ lines_of (" 6 | y = 2;" ∷ "   | ^ expected an operator or `;`"
+        ∷ " = a `;` is missing before this" ∷ []) }
     ensures in_the_line { explanation
         (lines_of (in_a_test ("x = 1 print 2;" ∷ [])))
         (fault_in K.Expected (at 4 7) (word_met (V.Operator S.Semicolon) W.Print refl) 5 None) None
-        ≡ lines_of (" 4 | x = 1 print 2;" ∷ "   |       ^^^^^ expected an operator or `;`" ∷ " = a `;` is missing before this" ∷ []) }
+        ≡ lines_of (" 4 | x = 1 print 2;" ∷ "   |       ^^^^^ expected an operator or `;`"
+        ∷ " = a `;` is missing before this" ∷ []) }
     ensures another_operand { explanation
         (lines_of (in_a_test ("x = 1 y;" ∷ [])))
         (fault_in K.Expected (at 4 7) (name_met (V.Operator S.Semicolon) "y" refl) 1 None) None
@@ -120,7 +131,8 @@ pub fn open_brace_is_told_at_the_end()
         ∷ "   | ^ expected `test`, `class`, a mark or `}`"
         ∷ " = the brace at 2:12 is open"
         ∷ []) }
-    ensures in_line { explanation (codes "team") (fault_in K.EndOfInput (at 1 5) (end_met V.Name refl) 0 None) None
+    ensures in_line { explanation (codes "team")
+        (fault_in K.EndOfInput (at 1 5) (end_met V.Name refl) 0 None) None
         ≡ lines_of (" 1 | team" ∷ "   |     ^ expected a name" ∷ []) }
 {}
 
@@ -128,7 +140,8 @@ pub fn open_brace_is_told_at_the_end()
 pub fn open_brace_is_told_where_one_is_closed()
     ensures { explanation
         (lines_of ("team shop" ∷ "class Cart {" ∷ "  test adds" ∷ "}" ∷ []))
-        (fault_in K.Expected (at 4 1) (symbol_met V.Display S.CloseBrace refl) 1 (Some (at 2 12))) None
+        (fault_in K.Expected (at 4 1) (symbol_met V.Display S.CloseBrace refl) 1
+        (Some (at 2 12))) None
         ≡ lines_of
         (" 4 | }"
         ∷ "   | ^ expected a display text or `{`"
@@ -139,10 +152,14 @@ pub fn open_brace_is_told_where_one_is_closed()
 
 /// Of a limit its number is told.
 pub fn limits_are_told()
-    ensures operands { explanation (codes "+") (fault_in K.TooDeep (at 1 1) (R.Beyond L.Operands) 1 None) None
-        ≡ lines_of (" 1 | +" ∷ "   | ^ this is one too many" ∷ " = at most 32 operands stand in one chain" ∷ []) }
-    ensures script { explanation [] (fault_in K.TooLong (at 1 1) (R.Beyond L.ScriptBytes) 0 None) None
-        ≡ lines_of (" 1 | " ∷ "   | ^ this is too long" ∷ " = at most 1048576 bytes stand in a script" ∷ []) }
+    ensures operands { explanation (codes "+")
+        (fault_in K.TooDeep (at 1 1) (R.Beyond L.Operands) 1 None) None
+        ≡ lines_of (" 1 | +" ∷ "   | ^ this is one too many"
+        ∷ " = at most 32 operands stand in one chain" ∷ []) }
+    ensures script { explanation []
+        (fault_in K.TooLong (at 1 1) (R.Beyond L.ScriptBytes) 0 None) None
+        ≡ lines_of (" 1 | " ∷ "   | ^ this is too long"
+        ∷ " = at most 1048576 bytes stand in a script" ∷ []) }
     ensures name { explanation (codes "a") (fault_in K.TooLong (at 1 1) R.Kind 0 None) None
         ≡ lines_of
         (" 1 | a"
@@ -168,14 +185,16 @@ pub fn control_bytes_are_not_shown()
     ensures { explanation
         (codes "team shop\r\n\tclass " ++ 27 ∷ codes "[0m\r\n")
         (fault_in K.BadByte (at 2 8) R.Kind 0 None) None
-        ≡ lines_of (" 2 |  class ?[0m" ∷ "   |        ^ this byte may not stand here: texts and comments too have printable ASCII alone" ∷ []) }
+        ≡ lines_of (" 2 |  class ?[0m"
+        ∷ "   |        ^ this byte may not stand here: texts and comments too have printable ASCII alone" ∷ []) }
 {}
 
 /// Of a long line the part round the fault is shown.
 pub fn long_lines_are_cut()
     ensures { explanation
         (codes "team s\nclass C { test t { x = 1 " ++ replicate 200 32 ++ codes "y; } }")
-        (fault_in K.Expected (at 2 226) (name_met (V.Operator S.Semicolon) "y" refl) 1 (Some (at 2 18))) None
+        (fault_in K.Expected (at 2 226) (name_met (V.Operator S.Semicolon) "y" refl) 1
+        (Some (at 2 18))) None
         ≡ codes " 2 | .." ++ replicate 154 32 ++ codes "y; } }\n   | " ++ replicate 156 32
         ++ codes "^ expected an operator or `;`\n" }
 {}

@@ -17,23 +17,28 @@ ghost use Rattle.iso_script_statements.specs.declared.wanted.Wanted.{Wanted};
 /// of a script reaches a terminal. A word that is handed in is taken to be so; those that are found
 /// are.
 pub fn explanations_are_safe_to_show()
-    ensures found { (bytes : List ℕ) (told : Explained) → HasPlaces told → IsSafe (explained_text bytes told) }
-    ensures given { (bytes : List ℕ) (told : Explained) (meant : Option (List ℕ)) → HasPlaces told → IfSome meant IsSafe
+    ensures found { (bytes : List ℕ) (told : Explained) → HasPlaces told
+        → IsSafe (explained_text bytes told) }
+    ensures given { (bytes : List ℕ) (told : Explained) (meant : Option (List ℕ)) → HasPlaces told
+        → IfSome meant IsSafe
         → IsSafe (explanation bytes told meant) }
 {}
 
 /// An explanation has six lines at most. A word that is handed in is taken to have no line feed;
 /// those that are found have none.
 pub fn explanations_have_few_lines()
-    ensures found { (bytes : List ℕ) (told : Explained) → HasPlaces told → line_feeds (explained_text bytes told) ≤ 6 }
-    ensures given { (bytes : List ℕ) (told : Explained) (meant : Option (List ℕ)) → HasPlaces told → IfSome meant IsInner
+    ensures found { (bytes : List ℕ) (told : Explained) → HasPlaces told
+        → line_feeds (explained_text bytes told) ≤ 6 }
+    ensures given { (bytes : List ℕ) (told : Explained) (meant : Option (List ℕ)) → HasPlaces told
+        → IfSome meant IsInner
         → line_feeds (explanation bytes told meant) ≤ 6 }
 {}
 
 /// Each word that is told to have been meant could stand there: where the name does, or where a
 /// statement begins, or `else`.
 pub fn words_that_were_meant_could_stand_there()
-    ensures found { (wanted : Wanted) → list_all (λ w. takes wanted (a_word w)) (words_of wanted) ≡ true }
+    ensures found { (wanted : Wanted) → list_all (λ w. takes wanted (a_word w))
+        (words_of wanted) ≡ true }
     ensures begun { list_all (λ w. takes StatementOrElse (a_word w)) statement_words ≡ true }
 {}
 

@@ -121,7 +121,8 @@ fn at_place(
     place: &Place<'_>,
     unmet: Unmet<'_>,
 ) -> Result<Option<&'static str>, AllocError>
-    ensures { IfOk result (λ word. option_map (λ w. w.now) word ≡ meant_at (view_of place.now) unmet.entry) }
+    ensures { IfOk result (λ word. option_map (λ w. w.now) word
+        ≡ meant_at (view_of place.now) unmet.entry) }
 {
     if is_symbol(Symbol::Equals, symbol_wanted(unmet.wanted)) {
         for_begun(alloc, name_at(place))
@@ -132,7 +133,8 @@ fn at_place(
 
 /// The word that was meant by a name that begins a statement, if there is one.
 fn for_begun(alloc: Global, name: Option<&str>) -> Result<Option<&'static str>, AllocError>
-    ensures { IfOk result (λ word. option_map (λ w. w.now) word ≡ begun_for (option_map (λ n. n.now) name.entry)) }
+    ensures { IfOk result (λ word. option_map (λ w. w.now) word
+        ≡ begun_for (option_map (λ n. n.now) name.entry)) }
 {
     match name {
         Some(name) => nearest_of(alloc, name, STATEMENTS),
@@ -156,7 +158,8 @@ fn for_found(
 
 /// The same, of a name.
 fn for_name(alloc: Global, wanted: Wanted, name: &str) -> Result<Option<&'static str>, AllocError>
-    ensures { IfOk result (λ word. option_map (λ w. w.now) word ≡ nearest_of name.now (map S.spelling (words_of wanted))) }
+    ensures { IfOk result (λ word. option_map (λ w. w.now) word
+        ≡ nearest_of name.now (map S.spelling (words_of wanted))) }
 {
     match wanted {
         Wanted::Word(word) => nearest_of(alloc, name, &[spelling(word)]),
@@ -179,7 +182,8 @@ fn nearest_of(
     name: &str,
     words: &[&'static str],
 ) -> Result<Option<&'static str>, AllocError>
-    ensures { IfOk result (λ word. option_map (λ w. w.now) word ≡ nearest_of name.now (map (λ w. w.now) words.now)) }
+    ensures { IfOk result (λ word. option_map (λ w. w.now) word
+        ≡ nearest_of name.now (map (λ w. w.now) words.now)) }
 {
     nearest(alloc, name, words)
 }

@@ -36,7 +36,8 @@ pub(crate) fn mending<W: Sink>(
     other: Option<&str>,
 ) -> Result<(), SinkFailed>
     ensures { Prints printer.old printer.new
-        (mending_note (option_map (λ h. h.now) hint.entry) (option_map (λ w. w.now) meant.entry) (option_map (λ t. t.now) other.entry)) result }
+        (mending_note (option_map (λ h. h.now) hint.entry) (option_map (λ w. w.now) meant.entry)
+        (option_map (λ t. t.now) other.entry)) result }
 {
     if let Some(hint) = hint {
         return write_hint(printer, hint);

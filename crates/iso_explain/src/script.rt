@@ -29,8 +29,10 @@ pub fn explain_script<W: Sink>(
     sink: &mut W,
 ) -> Result<(), ExplainError>
     // The explanation was written, or where the sink failed the beginning of it.
-    ensures told { OnOk result (Wrote (W.account sink.old) (W.account sink.new) (explained_text bytes.now explained.now)) }
-    ensures begun { IfErr result (IsBegun (explained_text bytes.now explained.now) (W.account sink.old) (W.account sink.new)) }
+    ensures told { OnOk result
+        (Wrote (W.account sink.old) (W.account sink.new) (explained_text bytes.now explained.now)) }
+    ensures begun { IfErr result (IsBegun (explained_text bytes.now explained.now)
+        (W.account sink.old) (W.account sink.new)) }
 {
     let spot = spot_of(bytes, explained.fault);
     let word = meant(alloc, &spot.place, explained)?;

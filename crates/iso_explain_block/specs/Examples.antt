@@ -43,7 +43,15 @@ test_of body = Some (record { marks = []; disabled = None; body = body })
 -- a fault of the test `adds` in that class, on a row of its body
 abbrev pub in_test : FaultKind → (message : String) → (row : ℕ) → Acts → BlockFaultView
 in_test kind message row body =
-    record { kind = kind; message = codes message; block = B.Test; row = row; heads = cart ∷ []; test = test_of body; name = codes "adds" }
+    record {
+      kind = kind;
+      message = codes message;
+      block = B.Test;
+      row = row;
+      heads = cart ∷ [];
+      test = test_of body;
+      name = codes "adds";
+    }
 
 -- a fault of the `before_all` of that class, whose statements these are, on row 1
 abbrev pub in_before_all : FaultKind → (message : String) → Acts → BlockFaultView

@@ -18,14 +18,17 @@ plain_lets before p names = names
 abbrev mutual
   pub lets : (row : ℕ) → Acts → List (List ℕ) → List (List ℕ)
   lets row no_acts names = names
-  lets row (act r a rest) names = lets row rest (cond (nat_lt row r) names (begun_lets row r (reaches row rest) a names))
+  lets row (act r a rest) names =
+      lets row rest (cond (nat_lt row r) names (begun_lets row r (reaches row rest) a names))
 
   -- the same of a statement that begins on the row or before it, and has ended there or not
   pub begun_lets : (row own : ℕ) → (ended : Bool) → Act → List (List ℕ) → List (List ℕ)
   begun_lets row own ended (plain p) names = plain_lets (ended || nat_lt own row) p names
-  begun_lets row own ended (choice t a b) names = cond ended names (cond (reaches row b) (lets row b names) (lets row a names))
+  begun_lets row own ended (choice t a b) names =
+      cond ended names (cond (reaches row b) (lets row b names) (lets row a names))
   begun_lets row own ended (repeat t a) names = cond ended names (lets row a names)
 
 -- the same of a statement with those after it
 abbrev pub act_lets : (row own : ℕ) → Act → (rest : Acts) → List (List ℕ) → List (List ℕ)
-act_lets row own a rest names = cond (nat_lt row own) names (begun_lets row own (reaches row rest) a names)
+act_lets row own a rest names =
+    cond (nat_lt row own) names (begun_lets row own (reaches row rest) a names)

@@ -8,4 +8,5 @@ has_line line lines = list_any (λ (other : List ℕ). bytes_eq other line) line
 
 -- these lines with one more, unless it stands there already, or four do
 unfoldable pub with_line : List ℕ → List (List ℕ) → List (List ℕ)
-with_line line lines = cond (nat_le 4 (length lines) || has_line line lines) lines (lines ++ line ∷ [])
+with_line line lines =
+    cond (nat_le 4 (length lines) || has_line line lines) lines (lines ++ line ∷ [])

@@ -28,8 +28,10 @@ where_text f = codes " before " ++ node_word f.test ++ codes " " ++ f.name ++ ar
 -- the mark to write, and where
 unfoldable pub mark_text : (word key : List ℕ) → BlockFaultView → List ℕ
 mark_text word key f =
-    cond (nat_lt KEY_BYTES (length key)) (codes "a key has at most 255 bytes, so no script can declare this one")
-    (cond (is_quotable key) (codes "add " ++ word ++ codes " \"" ++ key ++ codes "\"" ++ where_text f)
+    cond (nat_lt KEY_BYTES (length key))
+    (codes "a key has at most 255 bytes, so no script can declare this one")
+    (cond (is_quotable key) (codes "add " ++ word ++ codes " \"" ++ key ++ codes "\""
+    ++ where_text f)
     (codes "declare the key with " ++ word ++ where_text f))
 
 -- lines with that of a mark more
@@ -37,10 +39,12 @@ abbrev pub mark_lines : (word key : List ℕ) → BlockFaultView → List (List 
 mark_lines word key f lines = with_line (mark_text word key f) lines
 
 -- the same of the key that a message names, if it does
-abbrev pub marks_for : (read write : Option (List ℕ)) → BlockFaultView → List (List ℕ) → List (List ℕ)
+abbrev pub marks_for : (read write : Option (List ℕ)) → BlockFaultView → List (List ℕ)
+    → List (List ℕ)
 marks_for (Some key) write f lines = mark_lines (codes "read") key f lines
 marks_for None (Some key) f lines = mark_lines (codes "write") key f lines
 marks_for None None f lines = lines
 
 abbrev pub undeclared_lines : BlockFaultView → List (List ℕ) → List (List ℕ)
-undeclared_lines f lines = marks_for (after (codes "undeclared READ of ") f.message) (after (codes "undeclared READ_WRITE of ") f.message) f lines
+undeclared_lines f lines = marks_for (after (codes "undeclared READ of ") f.message)
+    (after (codes "undeclared READ_WRITE of ") f.message) f lines

@@ -38,7 +38,8 @@ abbrev mutual
 abbrev pub class_names : Thing → ClassHead → List (List ℕ) → List (List ℕ)
 class_names thing head names =
     body_names thing head.after_all
-    (body_names thing head.after_each (body_names thing head.before_each (body_names thing head.before_all names)))
+    (body_names thing head.after_each
+    (body_names thing head.before_each (body_names thing head.before_all names)))
 
 -- the same of the blocks of classes
 abbrev pub classes_names : Thing → List ClassHead → List (List ℕ) → List (List ℕ)
@@ -61,7 +62,8 @@ meant_of name names = cond (has_name name names) None (nearest_of name names)
 -- lines with that of the property or file more that was meant by one, if a block gives it
 abbrev pub meant_lines : Thing → Option (List ℕ) → BlockFaultView → List (List ℕ) → List (List ℕ)
 meant_lines thing None f lines = lines
-meant_lines thing (Some name) f lines = nearest_lines (meant_of name (chain_names thing f.heads f.test)) lines
+meant_lines thing (Some name) f lines =
+    nearest_lines (meant_of name (chain_names thing f.heads f.test)) lines
 
 -- lines with those of a property or a file that is missing more: which one was meant, and what
 -- gives one

@@ -23,17 +23,21 @@ abbrev pub pair_words : (left right : Kind) → List ℕ
 pair_words left right =
     cond (is_hidden left)
     (cond (is_hidden right) [] (codes ": right is " ++ kind_words right))
-    (codes ": left is " ++ kind_words left ++ cond (is_hidden right) [] (codes ", right " ++ kind_words right))
+    (codes ": left is " ++ kind_words left
+    ++ cond (is_hidden right) [] (codes ", right " ++ kind_words right))
 
 -- lines with that of an operation of one operand more, unless the operand is shown to be of the
 -- kind that it takes
-unfoldable pub single_lines : (rule : List ℕ) → (wanted : Kind) → Term → List (List ℕ) → List (List ℕ)
-single_lines rule wanted t lines = cond (is wanted (kind_of t)) lines (with_line (rule ++ single_words (kind_of t)) lines)
+unfoldable pub single_lines : (rule : List ℕ) → (wanted : Kind) → Term → List (List ℕ)
+    → List (List ℕ)
+single_lines rule wanted t lines =
+    cond (is wanted (kind_of t)) lines (with_line (rule ++ single_words (kind_of t)) lines)
 
 -- the same of two operands
 unfoldable pub pair_lines : (rule : List ℕ) → Taking → Term → Term → List (List ℕ) → List (List ℕ)
 pair_lines rule taking t u lines =
-    cond (fits taking (kind_of t) (kind_of u)) lines (with_line (rule ++ pair_words (kind_of t) (kind_of u)) lines)
+    cond (fits taking (kind_of t) (kind_of u)) lines
+    (with_line (rule ++ pair_words (kind_of t) (kind_of u)) lines)
 
 -- whether all operands are shown to be of a kind
 abbrev pub all_are : Kind → Terms → Bool
@@ -44,7 +48,8 @@ all_are wanted (term t ts) = is wanted (kind_of t) && all_are wanted ts
 -- this one
 abbrev pub right_kind : Kind → Kind → Terms → Kind
 right_kind wanted last no_terms = last
-right_kind wanted last (term t ts) = cond (is_other wanted (kind_of t)) (kind_of t) (right_kind wanted (kind_of t) ts)
+right_kind wanted last (term t ts) =
+    cond (is_other wanted (kind_of t)) (kind_of t) (right_kind wanted (kind_of t) ts)
 
 -- the same of a chain, whose first operand is its left one
 unfoldable pub chain_lines : Operator → Term → Terms → List (List ℕ) → List (List ℕ)

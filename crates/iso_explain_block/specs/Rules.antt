@@ -42,8 +42,10 @@ act_rule (choice t a b) = codes "if takes a truth value, as == and < give it"
 act_rule (repeat t a) = codes "repeat takes a whole number"
 act_rule (plain (assert_equal t u)) = codes "assert_equal compares two values of one kind"
 act_rule (plain (set_prop t u)) = codes "set_prop takes two texts; text(n) is the text of a number"
-act_rule (plain (write_file t u)) = codes "write_file takes two texts; text(n) is the text of a number"
-act_rule (plain (append_file t u)) = codes "append_file takes two texts; text(n) is the text of a number"
+act_rule (plain (write_file t u)) =
+    codes "write_file takes two texts; text(n) is the text of a number"
+act_rule (plain (append_file t u)) =
+    codes "append_file takes two texts; text(n) is the text of a number"
 act_rule (plain (clear_prop t)) = codes "clear_prop takes a text, the name of a property"
 act_rule (plain (set_locale t)) = codes "set_locale takes a text"
 act_rule (plain (delete_file t)) = codes "delete_file takes a text, the path of a file"

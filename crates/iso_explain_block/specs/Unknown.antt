@@ -18,7 +18,8 @@ with_seen_fields block heads names = cond (sees_fields block) (with_fields heads
 unfoldable pub visible_names : BlockFaultView → List (List ℕ)
 visible_names f =
     let heads = visible_classes f.block f.heads in
-    with_seen_fields f.block heads (with_statics heads (lets f.row (block_acts f.block f.heads f.test) []))
+    with_seen_fields f.block heads
+    (with_statics heads (lets f.row (block_acts f.block f.heads f.test) []))
 
 -- of these names the one that is nearest to a name, if one is near and they are 256 at most
 unfoldable pub nearest_of : List ℕ → List (List ℕ) → Option (List ℕ)
@@ -57,7 +58,8 @@ scope_rule block =
 abbrev pub name_lines : Option (List ℕ) → BlockFaultView → List (List ℕ) → List (List ℕ)
 name_lines None f lines = lines
 name_lines (Some name) f lines =
-    with_line (scope_rule f.block) (field_lines name f (nearest_lines (nearest_of name (visible_names f)) lines))
+    with_line (scope_rule f.block)
+    (field_lines name f (nearest_lines (nearest_of name (visible_names f)) lines))
 
 abbrev pub unknown_lines : BlockFaultView → List (List ℕ) → List (List ℕ)
 unknown_lines f lines = name_lines (after (codes "unknown name ") f.message) f lines

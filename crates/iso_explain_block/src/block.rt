@@ -13,7 +13,8 @@ use std::sync::Arc;
 
 /// The statements of a block, or none where there is no such block.
 pub(crate) fn statements<'a>(chain: Chain<'a>, block: BlockName) -> &'a [Stmt]
-    ensures { block_of result.now ≡ block_acts block (heads_of chain.entry.classes.now) (option_map (λ t. test_head_of t.now) chain.entry.test) }
+    ensures { block_of result.now ≡ block_acts block (heads_of chain.entry.classes.now)
+        (option_map (λ t. test_head_of t.now) chain.entry.test) }
 {
     match block {
         BlockName::Test => match chain.test {

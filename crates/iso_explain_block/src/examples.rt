@@ -7,11 +7,14 @@ ghost use Rattle.iso_model.specs.declared.fault.FaultKind.TheVariants as K;
 
 /// Of a value of another kind it is told what the operation takes, and the kinds that are shown.
 pub fn kinds_that_are_shown_are_told()
-    ensures both { hints (in_test K.WrongKind "wrong kind" 2 (act 2 (plain (assert_equal (number 6) (sum_of (words "a") (number 1)))) no_acts))
+    ensures both { hints (in_test K.WrongKind "wrong kind" 2
+        (act 2 (plain (assert_equal (number 6) (sum_of (words "a") (number 1)))) no_acts))
         ≡ lines_of ("+ adds two whole numbers; ++ joins two texts: left is a text, right a whole number" ∷ []) }
-    ensures one { hints (in_test K.WrongKind "wrong kind" 2 (act 2 (plain (print (sum_of (x "price") (number 1)))) no_acts))
+    ensures one { hints (in_test K.WrongKind "wrong kind" 2
+        (act 2 (plain (print (sum_of (x "price") (number 1)))) no_acts))
         ≡ lines_of ("+ adds two whole numbers; ++ joins two texts: right is a whole number" ∷ []) }
-    ensures none { hints (in_test K.WrongKind "wrong kind" 2 (act 2 (plain (assert_equal (x "a") (x "b"))) no_acts))
+    ensures none { hints (in_test K.WrongKind "wrong kind" 2
+        (act 2 (plain (assert_equal (x "a") (x "b"))) no_acts))
         ≡ lines_of ("assert_equal compares two values of one kind" ∷ []) }
 {}
 
@@ -20,7 +23,8 @@ pub fn kinds_that_are_shown_are_told()
 pub fn operations_of_the_row_are_told()
     ensures { hints (in_test K.WrongKind "wrong kind" 2
         (act 1 (plain (assert_equal (x "a") (x "b")))
-        (act 2 (choice (x "c") (act 2 (plain (print (sum_of (x "a") (sum_of (x "b") (x "b"))))) no_acts) no_acts) no_acts)))
+        (act 2 (choice (x "c") (act 2 (plain (print (sum_of (x "a") (sum_of (x "b") (x "b")))))
+        no_acts) no_acts) no_acts)))
         ≡ lines_of
         ("if takes a truth value, as == and < give it"
         ∷ "+ adds two whole numbers; ++ joins two texts"
@@ -32,10 +36,12 @@ pub fn operations_of_the_row_are_told()
 pub fn missing_marks_are_told()
     ensures in_test { hints (in_test K.Undeclared "undeclared READ of file:/a" 1 no_acts)
         ≡ lines_of ("add read \"file:/a\" before test adds, or before a class around it" ∷ []) }
-    ensures in_class { hints (in_before_all K.Undeclared "undeclared READ_WRITE of java.util.Locale.default" no_acts)
+    ensures in_class { hints
+        (in_before_all K.Undeclared "undeclared READ_WRITE of java.util.Locale.default" no_acts)
         ≡ lines_of ("add write \"java.util.Locale.default\" before class shop.Cart" ∷ []) }
     ensures quoted { hints (in_test K.Undeclared "undeclared READ of file:a\"" 1 no_acts)
-        ≡ lines_of ("declare the key with read before test adds, or before a class around it" ∷ []) }
+        ≡ lines_of ("declare the key with read before test adds, or before a class around it"
+        ∷ []) }
 {}
 
 /// Of a name that isn't visible the nearest one that is, and which are.
@@ -46,7 +52,8 @@ pub fn names_that_were_meant_are_told()
         ∷ "a block sees names let before, and statics and fields of its class and those around it"
         ∷ []) }
     ensures of_let { hints (in_test K.UnknownName "unknown name totl" 2
-        (act 1 (plain (let_name (codes "total") (number 1))) (act 2 (plain (print (x "totl"))) no_acts)))
+        (act 1 (plain (let_name (codes "total") (number 1)))
+        (act 2 (plain (print (x "totl"))) no_acts)))
         ≡ lines_of
         ("did you mean `total`?"
         ∷ "a block sees names let before, and statics and fields of its class and those around it"
@@ -70,7 +77,9 @@ pub fn what_is_missing_is_told()
         ∷ "has_prop tells whether a property is there"
         ∷ []) }
     ensures file { hints (in_before_all K.Missing "missing file /tmp/lst"
-        (act 1 (choice (x "made") (act 2 (plain (write_file (words "/tmp/list") (words ""))) no_acts) no_acts) no_acts))
+        (act 1 (choice (x "made")
+        (act 2 (plain (write_file (words "/tmp/list") (words ""))) no_acts) no_acts)
+        no_acts))
         ≡ lines_of
         ("did you mean `/tmp/list`?"
         ∷ "write_file makes a file, and [files] of a world from the start"
@@ -78,7 +87,8 @@ pub fn what_is_missing_is_told()
         ∷ "has_file tells whether a file is there"
         ∷ []) }
     ensures given_elsewhere { hints (in_test K.Missing "missing property mode" 1
-        (act 1 (plain (set_prop (words "mode") (words "fast"))) (act 2 (plain (set_prop (words "model") (words "T"))) no_acts)))
+        (act 1 (plain (set_prop (words "mode") (words "fast")))
+        (act 2 (plain (set_prop (words "model") (words "T"))) no_acts)))
         ≡ lines_of
         ("set_prop gives a property a value, and [properties] of a world from the start"
         ∷ "what a test changes is taken back after it; before_all makes it for each test of its class"

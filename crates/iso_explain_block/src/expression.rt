@@ -46,7 +46,8 @@ fn add_expressions(
     lines: &mut Vec<Text>,
     expressions: &[Expr],
 ) -> Result<(), AllocError>
-    ensures { OnOk result (lines.new.items ≡ terms_lines (terms_of_all expressions.now) lines.old.items) }
+    ensures { OnOk result (lines.new.items
+        ≡ terms_lines (terms_of_all expressions.now) lines.old.items) }
 {
     for expression in expressions {
         add_expression(alloc, lines, expression)?;
@@ -62,7 +63,8 @@ fn add_comparison(
     left: &Expr,
     right: &Expr,
 ) -> Result<(), AllocError>
-    ensures { OnOk result (lines.new.items ≡ comparison_lines comparison (term_of left.now) (term_of right.now) lines.old.items) }
+    ensures { OnOk result (lines.new.items
+        ≡ comparison_lines comparison (term_of left.now) (term_of right.now) lines.old.items) }
 {
     let taking = match comparison {
         Comparison::Equal | Comparison::NotEqual => Taking::Alike,
@@ -85,7 +87,8 @@ fn add_call(
     function: Function,
     operand: &Expr,
 ) -> Result<(), AllocError>
-    ensures { OnOk result (lines.new.items ≡ call_lines function (term_of operand.now) lines.old.items) }
+    ensures { OnOk result (lines.new.items
+        ≡ call_lines function (term_of operand.now) lines.old.items) }
 {
     if let Function::Text = function {
         return Ok(());

@@ -42,7 +42,8 @@ pub fn hints(alloc: Global, fault: &BlockFault<'_>) -> Result<Vec<Text>, AllocEr
 
 /// Adds the lines that mend a fault.
 fn add_hints(alloc: Global, lines: &mut Vec<Text>, fault: &BlockFault<'_>) -> Result<(), AllocError>
-    ensures { OnOk result (lines.new.items ≡ lines_of_kind fault.now.kind (block_fault_of fault.now) lines.old.items) }
+    ensures { OnOk result (lines.new.items
+        ≡ lines_of_kind fault.now.kind (block_fault_of fault.now) lines.old.items) }
 {
     match fault.kind {
         FaultKind::WrongKind => {

@@ -19,7 +19,8 @@ pub(crate) fn add_undeclared(
     lines: &mut Vec<Text>,
     fault: &BlockFault<'_>,
 ) -> Result<(), AllocError>
-    ensures { OnOk result (lines.new.items ≡ undeclared_lines (block_fault_of fault.now) lines.old.items) }
+    ensures { OnOk result (lines.new.items
+        ≡ undeclared_lines (block_fault_of fault.now) lines.old.items) }
 {
     match after("undeclared READ of ", fault.message) {
         Some(key) => add_mark(alloc, lines, fault, "read", key),
@@ -38,7 +39,8 @@ fn add_mark(
     word: &str,
     key: &str,
 ) -> Result<(), AllocError>
-    ensures { OnOk result (lines.new.items ≡ mark_lines word.now key.now (block_fault_of fault.now) lines.old.items) }
+    ensures { OnOk result (lines.new.items
+        ≡ mark_lines word.now key.now (block_fault_of fault.now) lines.old.items) }
 {
     add_line(lines, mark_text(alloc, fault, word, key)?)
 }
@@ -94,7 +96,8 @@ fn node_word(chain: Chain<'_>) -> &'static str
 
 /// That the mark may also stand before a class around it, if there is one.
 fn around(chain: Chain<'_>) -> &'static str
-    ensures { result.now ≡ around (heads_of chain.entry.classes.now) (option_map (λ t. test_head_of t.now) chain.entry.test) }
+    ensures { result.now ≡ around (heads_of chain.entry.classes.now)
+        (option_map (λ t. test_head_of t.now) chain.entry.test) }
 {
     match chain.test {
         Some(_) => ", or before a class around it",

@@ -20,7 +20,8 @@ pub(crate) fn add_missing(
     lines: &mut Vec<Text>,
     fault: &BlockFault<'_>,
 ) -> Result<(), AllocError>
-    ensures { OnOk result (lines.new.items ≡ missing_lines (block_fault_of fault.now) lines.old.items) }
+    ensures { OnOk result (lines.new.items
+        ≡ missing_lines (block_fault_of fault.now) lines.old.items) }
 {
     let property = after("missing property ", fault.message);
     add_meant(alloc, lines, Thing::Property, property, fault)?;
@@ -38,7 +39,8 @@ fn add_meant(
     fault: &BlockFault<'_>,
 ) -> Result<(), AllocError>
     ensures { OnOk result (lines.new.items
-        ≡ meant_lines thing (option_map (λ n. n.now) name.entry) (block_fault_of fault.now) lines.old.items) }
+        ≡ meant_lines thing (option_map (λ n. n.now) name.entry)
+        (block_fault_of fault.now) lines.old.items) }
 {
     let Some(name) = name else {
         return Ok(());
@@ -52,7 +54,8 @@ fn add_meant(
 
 /// Of these names the one that was meant by another. One of them is given, if not here.
 fn meant_of<'a>(alloc: Global, name: &str, names: &[&'a str]) -> Result<Option<&'a str>, AllocError>
-    ensures { IfOk result (λ found. option_map (λ n. n.now) found ≡ meant_of name.now (map (λ n. n.now) names.now)) }
+    ensures { IfOk result (λ found. option_map (λ n. n.now) found
+        ≡ meant_of name.now (map (λ n. n.now) names.now)) }
 {
     if has_name(names, name) {
         return Ok(None);

@@ -27,7 +27,8 @@ pub(crate) fn add_unknown(
     lines: &mut Vec<Text>,
     fault: &BlockFault<'_>,
 ) -> Result<(), AllocError>
-    ensures { OnOk result (lines.new.items ≡ unknown_lines (block_fault_of fault.now) lines.old.items) }
+    ensures { OnOk result (lines.new.items
+        ≡ unknown_lines (block_fault_of fault.now) lines.old.items) }
 {
     match after("unknown name ", fault.message) {
         Some(name) => {
@@ -46,7 +47,8 @@ fn add_nearest(
     fault: &BlockFault<'_>,
     name: &str,
 ) -> Result<(), AllocError>
-    ensures { OnOk result (lines.new.items ≡ nearest_lines (nearest_of name.now (visible_names (block_fault_of fault.now))) lines.old.items) }
+    ensures { OnOk result (lines.new.items ≡ nearest_lines
+        (nearest_of name.now (visible_names (block_fault_of fault.now))) lines.old.items) }
 {
     let names = visible_names(alloc, fault)?;
     match nearest_of(alloc, name, &names)? {
@@ -62,7 +64,8 @@ pub(crate) fn nearest_of<'a>(
     name: &str,
     names: &[&'a str],
 ) -> Result<Option<&'a str>, AllocError>
-    ensures { IfOk result (λ found. option_map (λ n. n.now) found ≡ nearest_of name.now (map (λ n. n.now) names.now)) }
+    ensures { IfOk result (λ found. option_map (λ n. n.now) found
+        ≡ nearest_of name.now (map (λ n. n.now) names.now)) }
 {
     if names.len() > MOST_NAMES {
         return Ok(None);
@@ -80,7 +83,8 @@ pub(crate) fn did_you_mean(alloc: Global, name: &str) -> Result<Text, AllocError
 /// The names that are visible at the statement: those of lets before it, then statics, then fields.
 #[tactic(auto, unfolding(crate::specs::Unknown::visible_names))]
 fn visible_names<'a>(alloc: Global, fault: &BlockFault<'a>) -> Result<Vec<&'a str>, AllocError>
-    ensures { IfOk result (λ v. map (λ n. n.now) v.items ≡ visible_names (block_fault_of fault.now)) }
+    ensures { IfOk result (λ v. map (λ n. n.now) v.items
+        ≡ visible_names (block_fault_of fault.now)) }
 {
     let classes = visible_classes(fault.chain.classes, fault.block);
     let mut names = Vec::new(alloc);
@@ -114,7 +118,8 @@ fn add_field(
     fault: &BlockFault<'_>,
     name: &str,
 ) -> Result<(), AllocError>
-    ensures { OnOk result (lines.new.items ≡ field_lines name.now (block_fault_of fault.now) lines.old.items) }
+    ensures { OnOk result (lines.new.items
+        ≡ field_lines name.now (block_fault_of fault.now) lines.old.items) }
 {
     if sees_fields(fault.block) {
         return Ok(());

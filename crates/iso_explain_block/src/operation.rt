@@ -43,7 +43,8 @@ pub(crate) fn add_single(
     wanted: Kind,
     operand: &Expr,
 ) -> Result<(), AllocError>
-    ensures { OnOk result (lines.new.items ≡ single_lines rule.now wanted (term_of operand.now) lines.old.items) }
+    ensures { OnOk result (lines.new.items
+        ≡ single_lines rule.now wanted (term_of operand.now) lines.old.items) }
 {
     let kind = kind_of(operand);
     if kind.is(wanted) {
@@ -62,7 +63,8 @@ pub(crate) fn add_pair(
     left: &Expr,
     right: &Expr,
 ) -> Result<(), AllocError>
-    ensures { OnOk result (lines.new.items ≡ pair_lines rule.now taking (term_of left.now) (term_of right.now) lines.old.items) }
+    ensures { OnOk result (lines.new.items
+        ≡ pair_lines rule.now taking (term_of left.now) (term_of right.now) lines.old.items) }
 {
     let left = kind_of(left);
     let right = kind_of(right);
@@ -81,7 +83,8 @@ pub(crate) fn add_chain(
     first: &Expr,
     rest: &[Expr],
 ) -> Result<(), AllocError>
-    ensures { OnOk result (lines.new.items ≡ chain_lines operator (term_of first.now) (terms_of_all rest.now) lines.old.items) }
+    ensures { OnOk result (lines.new.items
+        ≡ chain_lines operator (term_of first.now) (terms_of_all rest.now) lines.old.items) }
 {
     let wanted = chain_kind(operator);
     if is_first_and_all(wanted, first, rest) {

@@ -11,7 +11,8 @@ pub(crate) fn add_statics<'a>(
     names: &mut Vec<&'a str>,
     classes: &'a [Arc<ClassHead>],
 ) -> Result<(), AllocError>
-    ensures { OnOk result (map (λ n. n.now) names.new.items ≡ with_statics (heads_of classes.now) (map (λ n. n.now) names.old.items)) }
+    ensures { OnOk result (map (λ n. n.now) names.new.items
+        ≡ with_statics (heads_of classes.now) (map (λ n. n.now) names.old.items)) }
 {
     for class in classes {
         add_variables(names, &class.contents.statics)?;
@@ -24,7 +25,8 @@ pub(crate) fn add_fields<'a>(
     names: &mut Vec<&'a str>,
     classes: &'a [Arc<ClassHead>],
 ) -> Result<(), AllocError>
-    ensures { OnOk result (map (λ n. n.now) names.new.items ≡ with_fields (heads_of classes.now) (map (λ n. n.now) names.old.items)) }
+    ensures { OnOk result (map (λ n. n.now) names.new.items
+        ≡ with_fields (heads_of classes.now) (map (λ n. n.now) names.old.items)) }
 {
     for class in classes {
         add_variables(names, &class.contents.fields)?;
@@ -34,7 +36,8 @@ pub(crate) fn add_fields<'a>(
 
 /// Adds the names of statics or fields.
 fn add_variables<'a>(names: &mut Vec<&'a str>, variables: &'a [Variable]) -> Result<(), AllocError>
-    ensures { OnOk result (map (λ n. n.now) names.new.items ≡ with_variables variables.now (map (λ n. n.now) names.old.items)) }
+    ensures { OnOk result (map (λ n. n.now) names.new.items
+        ≡ with_variables variables.now (map (λ n. n.now) names.old.items)) }
 {
     for variable in variables {
         names.push(variable.name.as_str())?;

@@ -42,7 +42,8 @@ take-put zero xs x = refl
 take-put (suc n) [] x = refl
 take-put (suc n) (y ∷ ys) x = by (nat_lt y.count x.count) (take-put n ys x)
   where
-    by : (b : Bool) → take n (put_by_size (take n ys) x) ≡ take n (put_by_size ys x) → take (suc n) (cond b (x ∷ y ∷ take n ys) (y ∷ put_by_size (take n ys) x)) ≡ take (suc n) (cond b (x ∷ y ∷ ys) (y ∷ put_by_size ys x))
+    by : (b : Bool) → take n (put_by_size (take n ys) x) ≡ take n (put_by_size ys x)
+        → take (suc n) (cond b (x ∷ y ∷ take n ys) (y ∷ put_by_size (take n ys) x)) ≡ take (suc n) (cond b (x ∷ y ∷ ys) (y ∷ put_by_size ys x))
     by true more = ap (λ (zs : List Size). x ∷ zs) (take-front n y ys)
     by false more = ap (λ (zs : List Size). y ∷ zs) more
 

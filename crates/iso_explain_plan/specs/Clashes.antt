@@ -9,7 +9,8 @@ use Rattle.iso_explain_plan.specs.declared.clash.Clash.{Clash}
 -- how the first of these locks that excludes a lock is held
 abbrev pub held_for : Lock → List Lock → Option Access
 held_for lock [] = None
-held_for lock (other ∷ others) = option_or (cond (excludes lock other) (Some other.access) None) (held_for lock others)
+held_for lock (other ∷ others) =
+    option_or (cond (excludes lock other) (Some other.access) None) (held_for lock others)
 
 -- a lock with how another one that excludes it is held
 abbrev pub clash_of : Lock → Access → Clash

@@ -30,7 +30,9 @@ two_notes path first second = double_note path first second ++ rename_note
 
 -- that one file is named twice, and what mends that
 abbrev pub twice_note : (file : List ℕ) → List ℕ
-twice_note file = note (shown_name file ∷ codes " is named twice, so each of its classes stands twice: name it once" ∷ [])
+twice_note file =
+    note (shown_name file ∷ codes
+    " is named twice, so each of its classes stands twice: name it once" ∷ [])
 
 -- what is told of two classes of one path: of one file that it is named twice, since two classes of
 -- one script have two names

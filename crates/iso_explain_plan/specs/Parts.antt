@@ -25,7 +25,8 @@ place_text (Some at) = known_place at
 
 -- the path of a node, or its number where it has none
 abbrev pub node_text : List Row → ℕ → List ℕ
-node_text tree n = cond (nat_lt 0 n && nat_lt n (length tree)) (path_text tree n) (codes "node " ++ decimal n)
+node_text tree n =
+    cond (nat_lt 0 n && nat_lt n (length tree)) (path_text tree n) (codes "node " ++ decimal n)
 
 -- the text of a part
 abbrev pub part_text : Part → List ℕ

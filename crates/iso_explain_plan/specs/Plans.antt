@@ -18,7 +18,8 @@ use Rattle.iso_explain_plan.specs.declared.size.Size.{Size}
 -- how many scripts there are, and may be
 abbrev pub scripts_note : ℕ → List ℕ
 scripts_note count =
-    note (codes "there are " ∷ decimal count ∷ codes " scripts, and at most " ∷ decimal SCRIPTS ∷ codes " may be given" ∷ [])
+    note (codes "there are " ∷ decimal count ∷ codes " scripts, and at most " ∷ decimal SCRIPTS
+    ∷ codes " may be given" ∷ [])
 
 -- how a part of a suite is run
 abbrev pub part_note : List ℕ
@@ -27,7 +28,8 @@ part_note = note (codes "--only, --match and --shard keep a part of a suite" ∷
 -- how many classes and tests there are and may be, and which classes are the largest
 abbrev pub nodes_note : ℕ → List ℕ
 nodes_note count =
-    note (codes "the scripts have " ∷ decimal count ∷ codes " classes and tests, and a plan has at most " ∷ decimal (NODES - 1) ∷ [])
+    note (codes "the scripts have " ∷ decimal count
+    ∷ codes " classes and tests, and a plan has at most " ∷ decimal (NODES - 1) ∷ [])
 
 abbrev pub nodes_notes : ℕ → (largest : List Size) → List ℕ
 nodes_notes count largest = nodes_note count ++ sizes_notes largest ++ part_note
@@ -35,7 +37,8 @@ nodes_notes count largest = nodes_note count ++ sizes_notes largest ++ part_note
 -- how many different keys are declared and may be, and which classes declare most
 abbrev pub keys_note : ℕ → List ℕ
 keys_note count =
-    note (codes "the scripts declare " ∷ decimal count ∷ codes " different keys, and a plan has at most " ∷ decimal KEYS ∷ [])
+    note (codes "the scripts declare " ∷ decimal count
+    ∷ codes " different keys, and a plan has at most " ∷ decimal KEYS ∷ [])
 
 abbrev pub keys_notes : ℕ → (largest : List Size) → List ℕ
 keys_notes count largest = keys_note count ++ sizes_notes largest ++ part_note
@@ -43,7 +46,8 @@ keys_notes count largest = keys_note count ++ sizes_notes largest ++ part_note
 -- A text tells of all classes and tests of scripts, and of their three largest top-level classes.
 pub record TellsOfNodes (scripts : List Script) (text : List ℕ) : Type 0 where
   pub sizes : List Size
-  pub all : map size_of sizes ≡ all_sizes (all_paths (tree scripts)) (all_top_classes (tree scripts))
+  pub all : map size_of sizes ≡ all_sizes (all_paths (tree scripts))
+      (all_top_classes (tree scripts))
   pub told : text ≡ nodes_notes (length (tree scripts) - 1) (take 3 (by_size sizes))
 
 -- a text tells of `count` keys, and of three top-level classes at most that declare some
@@ -54,7 +58,8 @@ pub record TellsOfKeys (text : List ℕ) : Type 0 where
 
 -- a text tells what was meant by a word, where the scripts may stand together
 abbrev pub TellsOfWord : List ℕ → List Script → List ℕ → Type 0
-TellsOfWord word scripts text = scripts_fault scripts ≡ None → text ≡ unselected_notes word scripts (drop 1 (all_paths (tree scripts)))
+TellsOfWord word scripts text = scripts_fault scripts ≡ None
+    → text ≡ unselected_notes word scripts (drop 1 (all_paths (tree scripts)))
 
 -- what is told of a fault of scripts, and of a word that names nothing
 abbrev pub IsPlanText : PlanFault → List Script → (word : Option (List ℕ)) → List ℕ → Type 0

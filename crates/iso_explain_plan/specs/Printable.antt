@@ -11,7 +11,8 @@ IsPrintable text = list_all (is_in_range 32 126) text ≡ true
 -- a text is this number of lines of printable bytes, each with its line feed
 pub data AreLines : ℕ → List ℕ → Type 0 where
   no_line : AreLines 0 []
-  next_line : {n : ℕ} {t : List ℕ} (l : List ℕ) → IsPrintable l → AreLines n t → AreLines (n + 1) (l ++ 10 ∷ t)
+  next_line : {n : ℕ} {t : List ℕ} (l : List ℕ) → IsPrintable l → AreLines n t
+      → AreLines (n + 1) (l ++ 10 ∷ t)
 
 -- each of some texts is printable
 abbrev pub ArePrintable : List (List ℕ) → Type 0

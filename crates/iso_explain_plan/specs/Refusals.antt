@@ -43,19 +43,22 @@ no_class_note tree node = cond (node == 0) root_shut_note (not_class_note tree n
 -- which worker has to enter a node, or shut it
 abbrev pub enter_owner_note : List Row → ℕ → List ℕ
 enter_owner_note tree node =
-    cond (class_in tree node == 0) (not_first_note tree node) (not_owner_note tree node (class_in tree node))
+    cond (class_in tree node == 0) (not_first_note tree node)
+    (not_owner_note tree node (class_in tree node))
 
 abbrev pub is_shut : Event → Bool
 is_shut (Shut worker node) = true
 is_shut _ = false
 
 abbrev pub owner_note : List Row → Event → ℕ → List ℕ
-owner_note tree event node = cond (is_shut event) (not_shutter_note tree node) (enter_owner_note tree node)
+owner_note tree event node =
+    cond (is_shut event) (not_shutter_note tree node) (enter_owner_note tree node)
 
 -- which nodes have to be finished before a node
 abbrev pub sibling_note : List Row → ℕ → List ℕ
 sibling_note tree node =
-    cond (class_in tree node == 0) (earlier_top_note tree node) (earlier_note tree node (class_in tree node))
+    cond (class_in tree node == 0) (earlier_top_note tree node)
+    (earlier_note tree node (class_in tree node))
 
 -- how a key is taken, and a key by its number
 abbrev pub for_access : Access → List ℕ
@@ -69,8 +72,10 @@ key_text tree key = slice_index_or (keys tree) key []
 abbrev pub clash_note : List Row → (node holder : ℕ) → Clash → List ℕ
 clash_note tree node holder found =
     note
-    (node_text tree node ∷ codes " takes " ∷ shown (key_text tree found.key) ∷ for_access found.taken ∷ codes "; "
-    ∷ node_text tree holder ∷ codes " holds it" ∷ for_access found.held ∷ codes ", entered and not left" ∷ [])
+    (node_text tree node ∷ codes " takes " ∷ shown (key_text tree found.key)
+    ∷ for_access found.taken ∷ codes "; "
+    ∷ node_text tree holder ∷ codes " holds it" ∷ for_access found.held
+    ∷ codes ", entered and not left" ∷ [])
 
 abbrev pub clash_if : List Row → (node holder : ℕ) → Option Clash → List ℕ
 clash_if tree node holder None = []
@@ -85,7 +90,9 @@ held_note tree node holder =
 -- the node that holds it has to be finished
 abbrev pub left_first_note : List Row → ℕ → List ℕ
 left_first_note tree holder =
-    note (node_text tree holder ∷ codes " has to be finished first: a test by its leave, a class by the leave of its after_all" ∷ [])
+    note (node_text tree holder
+    ∷ codes " has to be finished first: a test by its leave, a class by the leave of its after_all"
+    ∷ [])
 
 abbrev pub locked_notes : List Row → (node holder : ℕ) → List ℕ
 locked_notes tree node holder = held_note tree node holder ++ left_first_note tree holder

@@ -12,7 +12,8 @@ use Rattle.iso_explain_plan.specs.Schedules.{line_text}
 
 -- the line of an event, and why it is refused
 abbrev pub why_text : ℕ → List ℕ → Event → Refused → List Row → List ℕ
-why_text number line event refused tree = line_text number line (codes "this event is refused") ++ why_notes tree event refused
+why_text number line event refused tree =
+    line_text number line (codes "this event is refused") ++ why_notes tree event refused
 
 -- the same of an event and a line that may not be there
 abbrev pub at_line_text : ℕ → List ℕ → Option Event → Refused → List Row → List ℕ
@@ -27,4 +28,5 @@ refused_text (Some line) event refused tree = at_line_text line.0 line.1 event r
 abbrev pub IsRefusedText : ℕ → Refused → List ℕ → List Row → List ℕ → Type 0
 IsRefusedText index refused schedule tree text =
     (events : List Event) → length schedule ≤ FILE_BYTES → AreRead schedule (Ok events)
-    → text ≡ refused_text (event_line index 1 (lines schedule)) (slice_get events index) refused tree
+    → text ≡ refused_text (event_line index 1 (lines schedule))
+    (slice_get events index) refused tree

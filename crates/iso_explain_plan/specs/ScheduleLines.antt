@@ -11,4 +11,5 @@ line_at n (l ∷ ls) = cond (nat_le n 1) l (line_at (n - 1) ls)
 abbrev pub event_line : (event n : ℕ) → List (List ℕ) → Option (ℕ × List ℕ)
 event_line e n [] = None
 event_line e n (l ∷ ls) =
-    cond (length l == 0) (event_line e (n + 1) ls) (cond (e == 0) (Some (n, l)) (event_line (e - 1) (n + 1) ls))
+    cond (length l == 0) (event_line e (n + 1) ls)
+    (cond (e == 0) (Some (n, l)) (event_line (e - 1) (n + 1) ls))

@@ -33,7 +33,8 @@ event_notes =
 -- a number has `digits` digits, and how many it may have
 abbrev pub number_note : ℕ → List ℕ
 number_note digits =
-    note (codes "it has " ∷ decimal digits ∷ codes " digits, and at most " ∷ decimal 9 ∷ codes " are read, zeros in front among them" ∷ [])
+    note (codes "it has " ∷ decimal digits ∷ codes " digits, and at most " ∷ decimal 9
+    ∷ codes " are read, zeros in front among them" ∷ [])
 
 -- how many bytes a schedule may have: of a longer one no more than one above them are met
 abbrev pub length_note : List ℕ
@@ -43,7 +44,8 @@ length_note = note (codes "at most " ∷ decimal FILE_BYTES ∷ codes " bytes st
 -- word has `longest`
 abbrev pub longest_from : (longest front : ℕ) → List ℕ → ℕ
 longest_from longest front [] = longest
-longest_from longest front (b ∷ bs) = longest_from (max longest (cond (b == 32) 0 (front + 1))) (cond (b == 32) 0 (front + 1)) bs
+longest_from longest front (b ∷ bs) =
+    longest_from (max longest (cond (b == 32) 0 (front + 1))) (cond (b == 32) 0 (front + 1)) bs
 
 -- how many bytes the longest word of a line has
 abbrev pub longest_word : List ℕ → ℕ
@@ -54,7 +56,8 @@ abbrev pub bad_line_text : ℕ → List ℕ → List ℕ
 bad_line_text number line = line_text number line (codes "this is no event") ++ event_notes
 
 abbrev pub big_number_text : ℕ → List ℕ → List ℕ
-big_number_text number line = line_text number line (codes "a number here is too long") ++ number_note (longest_word line)
+big_number_text number line =
+    line_text number line (codes "a number here is too long") ++ number_note (longest_word line)
 
 -- what mends bytes that are no schedule, by the kind of their fault and its line
 abbrev pub kind_text : ScheduleFaultKind → ℕ → List ℕ → List ℕ

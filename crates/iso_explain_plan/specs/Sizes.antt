@@ -38,7 +38,8 @@ all_sizes paths classes = map (sized paths classes) (those_below (is_own classes
 
 -- how many of them a class has
 abbrev pub size_note : Size → List ℕ
-size_note size = note (shown size.path.now ∷ codes " has " ∷ decimal size.count ∷ codes " of them" ∷ [])
+size_note size =
+    note (shown size.path.now ∷ codes " has " ∷ decimal size.count ∷ codes " of them" ∷ [])
 
 abbrev pub sizes_notes : List Size → List ℕ
 sizes_notes [] = []

@@ -20,7 +20,8 @@ left_words Finished = []
 
 -- what a schedule leaves
 abbrev pub left_note : List Row → Left → List ℕ
-left_note tree left = note (codes "the first that isn't is " ∷ node_text tree left.node ∷ left_words left.stage ∷ [])
+left_note tree left =
+    note (codes "the first that isn't is " ∷ node_text tree left.node ∷ left_words left.stage ∷ [])
 
 abbrev pub left_if : List Row → Option Left → List ℕ
 left_if tree None = []

@@ -12,7 +12,8 @@ use Rattle.iso_explain_plan.specs.Parts.{shown}
 
 -- the first class of a script, if it is this team's and has one
 abbrev pub class_if_team : List ℕ → Script → Option (List ℕ)
-class_if_team team script = cond (bytes_eq script.team team) (option_map class_name (slice_get script.classes 0)) None
+class_if_team team script =
+    cond (bytes_eq script.team team) (option_map class_name (slice_get script.classes 0)) None
 
 -- the first class of the first script of this team that has one
 abbrev pub first_of_team : List ℕ → List Script → Option (List ℕ)
@@ -29,7 +30,8 @@ named_so word paths = take 3 (filter (has_end (codes "." ++ word)) paths)
 
 -- neither the path nor the word is more than twice as long as the other
 abbrev pub has_near_length : List ℕ → List ℕ → Bool
-has_near_length word path = nat_le (length path) (2 * length word) && nat_le (length word) (2 * length path)
+has_near_length word path =
+    nat_le (length path) (2 * length word) && nat_le (length word) (2 * length path)
 
 -- how many paths are compared with a word: 4,096, and fewer where the word has more than 64 bytes
 abbrev pub most_candidates : List ℕ → ℕ
@@ -69,7 +71,8 @@ paths_or (p ∷ ps) otherwise = did_you_mean (p ∷ ps)
 -- of a word that is no path's end: what stars stand for, else which paths are near, else how a path
 -- is written
 abbrev pub other_notes : List ℕ → List (List ℕ) → List ℕ
-other_notes word paths = cond (has_star word) pattern_note (paths_or (near_paths word paths) path_note)
+other_notes word paths =
+    cond (has_star word) pattern_note (paths_or (near_paths word paths) path_note)
 
 -- of a word that is no team: which paths end so, else the same
 abbrev pub paths_notes : List ℕ → List (List ℕ) → List ℕ
@@ -82,4 +85,5 @@ team_or team None otherwise = otherwise
 
 -- what was meant by a word, of scripts with these paths of classes and tests
 abbrev pub unselected_notes : List ℕ → List Script → List (List ℕ) → List ℕ
-unselected_notes word scripts paths = team_or word (first_of_team word scripts) (paths_notes word paths)
+unselected_notes word scripts paths =
+    team_or word (first_of_team word scripts) (paths_notes word paths)

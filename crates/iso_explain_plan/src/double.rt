@@ -164,7 +164,8 @@ fn double_notes<W: Sink>(
     first: Site<'_>,
     second: Site<'_>,
 ) -> Result<(), SinkFailed>
-    ensures { Prints printer.old printer.new (double_notes path.now (site_of first.entry) (site_of second.entry)) result }
+    ensures { Prints printer.old printer.new
+        (double_notes path.now (site_of first.entry) (site_of second.entry)) result }
 {
     if first.file == second.file {
         twice_note(printer, first.file)
@@ -180,7 +181,8 @@ fn two_notes<W: Sink>(
     first: Site<'_>,
     second: Site<'_>,
 ) -> Result<(), SinkFailed>
-    ensures { Prints printer.old printer.new (two_notes path.now (site_of first.entry) (site_of second.entry)) result }
+    ensures { Prints printer.old printer.new
+        (two_notes path.now (site_of first.entry) (site_of second.entry)) result }
 {
     double_note(printer, path, first, second)?;
     rename_note(printer)
@@ -193,7 +195,8 @@ fn double_note<'a, W: Sink>(
     first: Site<'a>,
     second: Site<'a>,
 ) -> Result<(), SinkFailed>
-    ensures { Prints printer.old printer.new (double_note path.now (site_of first.entry) (site_of second.entry)) result }
+    ensures { Prints printer.old printer.new
+        (double_note path.now (site_of first.entry) (site_of second.entry)) result }
 {
     note(
         printer,

@@ -23,13 +23,16 @@ pub fn both_classes_are_told()
         ∷ " = two classes of one team have one name: rename one of them"
         ∷ []) }
     ensures twice { double_notes (codes "shop.Cart") (at "a.jtap" 3 7) (at "a.jtap" 3 7)
-        ≡ lines_of (" = a.jtap is named twice, so each of its classes stands twice: name it once" ∷ []) }
+        ≡ lines_of (" = a.jtap is named twice, so each of its classes stands twice: name it once"
+        ∷ []) }
 {}
 
 /// Of too many classes and tests, keys or scripts it is told how many there are, and of which
 /// classes most are.
 pub fn largest_classes_are_told()
-    ensures nodes { nodes_notes 5000 (take 3 (by_size (sized "shop.A" 7 ∷ sized "shop.B" 4000 ∷ sized "shop.C" 7 ∷ sized "shop.D" 986 ∷ [])))
+    ensures nodes { nodes_notes 5000
+        (take 3 (by_size (sized "shop.A" 7 ∷ sized "shop.B" 4000 ∷ sized "shop.C" 7
+        ∷ sized "shop.D" 986 ∷ [])))
         ≡ lines_of
         (" = the scripts have 5000 classes and tests, and a plan has at most 4095"
         ∷ " = shop.B has 4000 of them"
@@ -43,7 +46,8 @@ pub fn largest_classes_are_told()
         ∷ " = shop.A has 300 of them"
         ∷ " = --only, --match and --shard keep a part of a suite"
         ∷ []) }
-    ensures scripts { scripts_note 65 ≡ lines_of (" = there are 65 scripts, and at most 64 may be given" ∷ []) }
+    ensures scripts { scripts_note 65 ≡ lines_of
+        (" = there are 65 scripts, and at most 64 may be given" ∷ []) }
 {}
 
 /// Of a word that names nothing it is told what was meant: a team is no class, the last name alone
@@ -51,8 +55,10 @@ pub fn largest_classes_are_told()
 pub fn what_was_meant_is_told()
     ensures team { unselected_notes (codes "shop") shop_scripts some_paths
         ≡ lines_of (" = shop is a team: name a class, as shop.Cart, or all of it by --match 'shop.*'" ∷ []) }
-    ensures name { unselected_notes (codes "Cart") shop_scripts some_paths ≡ lines_of (" = did you mean shop.Cart?" ∷ []) }
-    ensures names { unselected_notes (codes "a") [] (codes "s.A.a" ∷ codes "s.B.a" ∷ codes "s.C.a" ∷ codes "s.D.a" ∷ [])
+    ensures name { unselected_notes (codes "Cart") shop_scripts some_paths
+        ≡ lines_of (" = did you mean shop.Cart?" ∷ []) }
+    ensures names { unselected_notes (codes "a") []
+        (codes "s.A.a" ∷ codes "s.B.a" ∷ codes "s.C.a" ∷ codes "s.D.a" ∷ [])
         ≡ lines_of (" = did you mean s.A.a, s.B.a or s.C.a?" ∷ []) }
     ensures near { unselected_notes (codes "shop.Dask") shop_scripts some_paths
         ≡ lines_of (" = did you mean shop.Desk or shop.Cart?" ∷ []) }

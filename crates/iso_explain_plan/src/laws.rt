@@ -9,7 +9,8 @@ ghost use Rattle.iso_model.specs.Scripts.{Script};
 /// What is told of a word that names nothing is a line of printable ASCII, whatever bytes the word
 /// and the paths have.
 pub fn what_was_meant_is_a_printable_line()
-    ensures { (word : List ℕ) (scripts : List Script) (paths : List (List ℕ)) → AreLines 1 (unselected_notes word scripts paths) }
+    ensures { (word : List ℕ) (scripts : List Script) (paths : List (List ℕ))
+        → AreLines 1 (unselected_notes word scripts paths) }
 {}
 
 /// What is told of too many nodes or keys is at most five lines of printable ASCII, whatever bytes

@@ -65,7 +65,8 @@ fn three<'a, W: Sink>(
     second: &'a str,
     third: &'a str,
 ) -> Result<(), SinkFailed>
-    ensures { Prints printer.old printer.new (did_you_mean (first.now ∷ second.now ∷ third.now ∷ [])) result }
+    ensures { Prints printer.old printer.new
+        (did_you_mean (first.now ∷ second.now ∷ third.now ∷ [])) result }
 {
     note(
         printer,

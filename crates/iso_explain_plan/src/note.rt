@@ -98,7 +98,8 @@ pub(crate) fn node_note<W: Sink>(
     plan: &Plan,
     parts: &[NodePart<'_>],
 ) -> Result<(), SinkFailed>
-    ensures { Prints printer.old printer.new (note (map (node_part_text (tree_of plan.now)) parts.now)) result }
+    ensures { Prints printer.old printer.new
+        (note (map (node_part_text (tree_of plan.now)) parts.now)) result }
 {
     printer.bytes(b" = ")?;
     node_line(printer, plan, parts)
@@ -110,7 +111,8 @@ fn node_line<W: Sink>(
     plan: &Plan,
     parts: &[NodePart<'_>],
 ) -> Result<(), SinkFailed>
-    ensures { Prints printer.old printer.new (line (map (node_part_text (tree_of plan.now)) parts.now)) result }
+    ensures { Prints printer.old printer.new
+        (line (map (node_part_text (tree_of plan.now)) parts.now)) result }
 {
     for part in parts {
         write_node_part(printer, plan, part)?;

@@ -42,7 +42,8 @@ pub fn explain_plan<W: Sink>(
     word: Option<&str>,
     printer: &mut Printer<'_, W>,
 ) -> Result<(), ExplainError>
-    ensures { OnOk result (IsPrinted (IsPlanText fault (map script_of scripts.now) (option_map (λ w. w.now) word.entry))
+    ensures { OnOk result (IsPrinted
+        (IsPlanText fault (map script_of scripts.now) (option_map (λ w. w.now) word.entry))
         printer.old printer.new) }
 {
     match fault {
@@ -56,7 +57,8 @@ pub fn explain_plan<W: Sink>(
 
 /// The nodes of scripts; none where they may not stand together.
 fn overview(alloc: Global, scripts: &[Script]) -> Result<Overview, AllocError>
-    ensures paths { IfOk result (λ o. scripts_fault (map script_of scripts.now) ≡ None → o.paths.items ≡ all_paths (tree (map script_of scripts.now))) }
+    ensures paths { IfOk result (λ o. scripts_fault (map script_of scripts.now) ≡ None
+        → o.paths.items ≡ all_paths (tree (map script_of scripts.now))) }
     ensures classes { IfOk result (λ o. scripts_fault (map script_of scripts.now) ≡ None
         → o.classes.items ≡ all_top_classes (tree (map script_of scripts.now))) }
     ensures each { IfOk result (λ o. length o.paths.items ≡ length o.classes.items) }
@@ -74,7 +76,8 @@ fn nodes<W: Sink>(
     scripts: &[Script],
     printer: &mut Printer<'_, W>,
 ) -> Result<(), ExplainError>
-    ensures { OnOk result (IsPrinted (IsPlanText TooManyNodes (map script_of scripts.now) None) printer.old printer.new) }
+    ensures { OnOk result (IsPrinted (IsPlanText TooManyNodes (map script_of scripts.now) None)
+        printer.old printer.new) }
 {
     let nodes = overview(alloc, scripts)?;
     let sizes = all_sizes(alloc, &nodes.paths, &nodes.classes)?;
@@ -106,7 +109,9 @@ fn not_selected<W: Sink>(
     word: Option<&str>,
     printer: &mut Printer<'_, W>,
 ) -> Result<(), ExplainError>
-    ensures { (index : ℕ) → OnOk result (IsPrinted (IsPlanText (NotSelected index) (map script_of scripts.now) (option_map (λ w. w.now) word.entry)) printer.old printer.new) }
+    ensures { (index : ℕ) → OnOk result
+        (IsPrinted (IsPlanText (NotSelected index) (map script_of scripts.now)
+        (option_map (λ w. w.now) word.entry)) printer.old printer.new) }
 {
     match word {
         Some(word) => meant_by(alloc, scripts, word, printer),
@@ -121,7 +126,8 @@ fn meant_by<W: Sink>(
     word: &str,
     printer: &mut Printer<'_, W>,
 ) -> Result<(), ExplainError>
-    ensures { OnOk result (IsPrinted (TellsOfWord word.now (map script_of scripts.now)) printer.old printer.new) }
+    ensures { OnOk result (IsPrinted (TellsOfWord word.now (map script_of scripts.now)) printer.old
+        printer.new) }
 {
     let nodes = overview(alloc, scripts)?;
     unselected(alloc, scripts, without_root(&nodes.paths), word, printer)
@@ -136,7 +142,8 @@ fn without_root(paths: &[Text]) -> &[Text]
 
 /// Writes how many scripts there are.
 fn too_many<W: Sink>(scripts: &[Script], printer: &mut Printer<'_, W>) -> Result<(), ExplainError>
-    ensures { OnOk result (IsPrinted (λ text. text ≡ scripts_note (length (map script_of scripts.now))) printer.old printer.new) }
+    ensures { OnOk result (IsPrinted (λ text. text
+        ≡ scripts_note (length (map script_of scripts.now))) printer.old printer.new) }
 {
     Ok(scripts_note(printer, scripts.len())?)
 }

@@ -219,7 +219,8 @@ fn clash_note<W: Sink>(
     holder: u32,
     found: Clash,
 ) -> Result<(), SinkFailed>
-    ensures { Prints printer.old printer.new (clash_note (tree_of plan.now) node holder found) result }
+    ensures { Prints printer.old printer.new
+        (clash_note (tree_of plan.now) node holder found) result }
 {
     node_note(
         printer,

@@ -33,7 +33,8 @@ pub fn explain_refused<W: Sink>(
     plan: &Plan,
     sink: &mut W,
 ) -> Result<(), ExplainError>
-    ensures { OnOk result (IsWritten (IsRefusedText index refused schedule.now (tree_of plan.now)) (W.account sink.old) (W.account sink.new)) }
+    ensures { OnOk result (IsWritten (IsRefusedText index refused schedule.now (tree_of plan.now))
+        (W.account sink.old) (W.account sink.new)) }
 {
     let events = match read_schedule(alloc, schedule) {
         Ok(events) => events,
@@ -65,7 +66,8 @@ fn tell<W: Sink>(
     sink: &mut W,
 ) -> Result<(), SinkFailed>
     ensures { OnOk result (Wrote (W.account sink.old) (W.account sink.new)
-        (refused_text (option_map (λ l. (l.number, l.text.now)) line.entry) event refused (tree_of plan.now))) }
+        (refused_text (option_map (λ l. (l.number, l.text.now)) line.entry) event refused
+        (tree_of plan.now))) }
 {
     let mut printer = Printer::new(sink);
     write(&mut printer, line, event, refused, plan)
@@ -80,7 +82,8 @@ fn write<W: Sink>(
     plan: &Plan,
 ) -> Result<(), SinkFailed>
     ensures { Prints printer.old printer.new
-        (refused_text (option_map (λ l. (l.number, l.text.now)) line.entry) event refused (tree_of plan.now)) result }
+        (refused_text (option_map (λ l. (l.number, l.text.now)) line.entry) event refused
+        (tree_of plan.now)) result }
 {
     match line {
         Some(line) => at_line(printer, line, event, refused, plan),
@@ -96,7 +99,9 @@ fn at_line<W: Sink>(
     refused: Refused,
     plan: &Plan,
 ) -> Result<(), SinkFailed>
-    ensures { Prints printer.old printer.new (at_line_text line.entry.number line.entry.text.now event refused (tree_of plan.now)) result }
+    ensures { Prints printer.old printer.new
+        (at_line_text line.entry.number line.entry.text.now event refused
+        (tree_of plan.now)) result }
 {
     match event {
         Some(event) => why(printer, line, event, refused, plan),
@@ -112,7 +117,8 @@ fn why<W: Sink>(
     refused: Refused,
     plan: &Plan,
 ) -> Result<(), SinkFailed>
-    ensures { Prints printer.old printer.new (why_text line.entry.number line.entry.text.now event refused (tree_of plan.now)) result }
+    ensures { Prints printer.old printer.new
+        (why_text line.entry.number line.entry.text.now event refused (tree_of plan.now)) result }
 {
     line_text(printer, line.number, line.text, "this event is refused")?;
     why_notes(printer, plan, event, refused)

@@ -26,8 +26,10 @@ pub fn explain_fault<W: Sink>(
     schedule: &[u8],
     sink: &mut W,
 ) -> Result<(), SinkFailed>
-    ensures wrote { OnOk result (Wrote (W.account sink.old) (W.account sink.new) (fault_text fault schedule.now)) }
-    ensures cut { OnErr result (CutOff (W.account sink.old) (W.account sink.new) (fault_text fault schedule.now)) }
+    ensures wrote { OnOk result
+        (Wrote (W.account sink.old) (W.account sink.new) (fault_text fault schedule.now)) }
+    ensures cut { OnErr result
+        (CutOff (W.account sink.old) (W.account sink.new) (fault_text fault schedule.now)) }
 {
     let mut printer = Printer::new(sink);
     write_fault(&mut printer, fault, schedule)

@@ -37,7 +37,8 @@ pub fn explain_unfinished<W: Sink>(
     plan: &Plan,
     sink: &mut W,
 ) -> Result<(), ExplainError>
-    ensures { OnOk result (IsWritten (IsUnfinishedText (tree_of plan.now)) (W.account sink.old) (W.account sink.new)) }
+    ensures { OnOk result (IsWritten (IsUnfinishedText (tree_of plan.now)) (W.account sink.old)
+        (W.account sink.new)) }
 {
     let events = match read_schedule(alloc, schedule) {
         Ok(events) => events,
@@ -50,7 +51,8 @@ pub fn explain_unfinished<W: Sink>(
 
 /// Writes what a schedule leaves.
 fn tell<W: Sink>(plan: &Plan, left: Option<Left>, sink: &mut W) -> Result<(), SinkFailed>
-    ensures { OnOk result (Wrote (W.account sink.old) (W.account sink.new) (unfinished_notes (tree_of plan.now) left)) }
+    ensures { OnOk result (Wrote (W.account sink.old) (W.account sink.new)
+        (unfinished_notes (tree_of plan.now) left)) }
 {
     let mut printer = Printer::new(sink);
     unfinished_notes(&mut printer, plan, left)

@@ -79,7 +79,8 @@ fn ending<'a>(alloc: Global, paths: &'a [Text], end: &str) -> Result<Vec<&'a str
 
 /// Adds a path, if it passes.
 fn add_if<'a>(paths: &mut Vec<&'a str>, path: &'a str, passes: bool) -> Result<(), AllocError>
-    ensures { OnOk result (map (λ p. p.now) paths.new.items ≡ map (λ p. p.now) paths.old.items ++ cond passes (path.now ∷ []) []) }
+    ensures { OnOk result (map (λ p. p.now) paths.new.items ≡ map (λ p. p.now) paths.old.items
+        ++ cond passes (path.now ∷ []) []) }
 {
     if passes {
         paths.push(path)?;
@@ -117,7 +118,8 @@ fn of_near_length<'a>(
     paths: &'a [Text],
     word: &str,
 ) -> Result<Vec<&'a str>, AllocError>
-    ensures { IfOk result (λ v. map (λ p. p.now) v.items ≡ filter (has_near_length word.now) paths.now) }
+    ensures { IfOk result (λ v. map (λ p. p.now) v.items
+        ≡ filter (has_near_length word.now) paths.now) }
 {
     let mut near = Vec::new(alloc);
     for text in paths {
@@ -184,7 +186,8 @@ fn paths_notes<W: Sink>(
     word: &str,
     printer: &mut Printer<'_, W>,
 ) -> Result<(), ExplainError>
-    ensures { OnOk result (Prints printer.old printer.new (paths_notes word.now paths.now) (Ok tt)) }
+    ensures { OnOk result (Prints printer.old printer.new
+        (paths_notes word.now paths.now) (Ok tt)) }
 {
     let named = named_so(alloc, paths, word)?;
     named_notes(alloc, paths, word, &named, printer)
@@ -210,7 +213,8 @@ fn named_notes<W: Sink>(
 
 /// Writes which paths were meant.
 fn named_told<W: Sink>(printer: &mut Printer<'_, W>, named: &[&str]) -> Result<(), ExplainError>
-    ensures { OnOk result (Prints printer.old printer.new (did_you_mean (map (λ p. p.now) named.now)) (Ok tt)) }
+    ensures { OnOk result (Prints printer.old printer.new
+        (did_you_mean (map (λ p. p.now) named.now)) (Ok tt)) }
 {
     Ok(did_you_mean(printer, named)?)
 }
@@ -222,7 +226,8 @@ fn other_notes<W: Sink>(
     word: &str,
     printer: &mut Printer<'_, W>,
 ) -> Result<(), ExplainError>
-    ensures { OnOk result (Prints printer.old printer.new (other_notes word.now paths.now) (Ok tt)) }
+    ensures { OnOk result (Prints printer.old printer.new
+        (other_notes word.now paths.now) (Ok tt)) }
 {
     if has_star(word) {
         star_told(printer)
@@ -245,7 +250,8 @@ fn near_notes<W: Sink>(
     word: &str,
     printer: &mut Printer<'_, W>,
 ) -> Result<(), ExplainError>
-    ensures { OnOk result (Prints printer.old printer.new (paths_or (near_paths word.now paths.now) path_note) (Ok tt)) }
+    ensures { OnOk result (Prints printer.old printer.new
+        (paths_or (near_paths word.now paths.now) path_note) (Ok tt)) }
 {
     let near = near_paths(alloc, paths, word)?;
     Ok(near_note(printer, &near)?)
@@ -253,7 +259,8 @@ fn near_notes<W: Sink>(
 
 /// Writes which paths were meant, or how a path is written.
 fn near_note<W: Sink>(printer: &mut Printer<'_, W>, near: &[&str]) -> Result<(), SinkFailed>
-    ensures { Prints printer.old printer.new (paths_or (map (λ p. p.now) near.now) path_note) result }
+    ensures { Prints printer.old printer.new
+        (paths_or (map (λ p. p.now) near.now) path_note) result }
 {
     if near.is_empty() {
         path_note(printer)

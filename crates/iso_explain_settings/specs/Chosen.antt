@@ -32,11 +32,13 @@ flag_of (string text) = Some (flag_text (is_word text "true"))
 flag_of _ = None
 
 abbrev pub mode_of : Data → Option (List ℕ)
-mode_of (string text) = Some (quoted (cond (is_word text "concurrent") (codes "concurrent") (codes "same_thread")))
+mode_of (string text) =
+    Some (quoted (cond (is_word text "concurrent") (codes "concurrent") (codes "same_thread")))
 mode_of _ = None
 
 abbrev pub strategy_of : Data → Option (List ℕ)
-strategy_of (string text) = Some (quoted (cond (is_word text "fixed") (codes "fixed") (codes "dynamic")))
+strategy_of (string text) =
+    Some (quoted (cond (is_word text "fixed") (codes "fixed") (codes "dynamic")))
 strategy_of _ = None
 
 abbrev pub lifecycle_of : Data → Option (List ℕ)
@@ -96,8 +98,10 @@ unused key is_parallel is_fixed =
     if bytes_eq key (codes "junit.jupiter.execution.parallel.enabled")
     || bytes_eq key (codes "junit.jupiter.testinstance.lifecycle.default") then None
     else if not is_parallel then Some (codes "parallel execution is off")
-    else if bytes_eq key (codes "junit.jupiter.execution.parallel.config.dynamic.factor") && is_fixed then Some (codes "strategy is fixed")
-    else if bytes_eq key (codes "junit.jupiter.execution.parallel.config.fixed.parallelism") && not is_fixed then Some (codes "strategy is dynamic")
+    else if bytes_eq key (codes "junit.jupiter.execution.parallel.config.dynamic.factor")
+    && is_fixed then Some (codes "strategy is fixed")
+    else if bytes_eq key (codes "junit.jupiter.execution.parallel.config.fixed.parallelism")
+    && not is_fixed then Some (codes "strategy is dynamic")
     else None
 
 -- the word of an execution mode
@@ -109,11 +113,16 @@ mode_word Concurrent = codes "concurrent"
 abbrev pub default_text : List ℕ → Mode → Option (List ℕ)
 default_text key default_mode =
     if bytes_eq key (codes "junit.jupiter.execution.parallel.enabled") then Some (codes "false")
-    else if bytes_eq key (codes "junit.jupiter.execution.parallel.mode.default") then Some (quoted (codes "same_thread"))
-    else if bytes_eq key (codes "junit.jupiter.execution.parallel.mode.classes.default") then Some (quoted (mode_word default_mode))
-    else if bytes_eq key (codes "junit.jupiter.execution.parallel.config.strategy") then Some (quoted (codes "dynamic"))
-    else if bytes_eq key (codes "junit.jupiter.execution.parallel.config.dynamic.factor") then Some (decimal 1)
-    else if bytes_eq key (codes "junit.jupiter.testinstance.lifecycle.default") then Some (quoted (codes "per_method"))
+    else if bytes_eq key (codes "junit.jupiter.execution.parallel.mode.default") then Some
+    (quoted (codes "same_thread"))
+    else if bytes_eq key (codes "junit.jupiter.execution.parallel.mode.classes.default") then Some
+    (quoted (mode_word default_mode))
+    else if bytes_eq key (codes "junit.jupiter.execution.parallel.config.strategy") then Some
+    (quoted (codes "dynamic"))
+    else if bytes_eq key (codes "junit.jupiter.execution.parallel.config.dynamic.factor") then
+    Some (decimal 1)
+    else if bytes_eq key (codes "junit.jupiter.testinstance.lifecycle.default") then Some
+    (quoted (codes "per_method"))
     else None
 
 -- where a value of the file is from, and why it isn't used

@@ -21,18 +21,22 @@ lines_of (line ∷ lines) = codes line ++ codes "\n" ++ lines_of lines
 
 -- what is told of a value of a setting, and of one of a world, which is written so
 abbrev pub setting_told : Kind → (key : String) → Data → (text : String) → List ℕ
-setting_told kind key value text = value_text kind (settings_wanted (jupiter key)) (jupiter key) value (codes text)
+setting_told kind key value text =
+    value_text kind (settings_wanted (jupiter key)) (jupiter key) value (codes text)
 
 abbrev pub world_told : Kind → (key : String) → Data → (text : String) → List ℕ
-world_told kind key value text = value_text kind (world_wanted (codes key)) (codes key) value (codes text)
+world_told kind key value text =
+    value_text kind (world_wanted (codes key)) (codes key) value (codes text)
 
 -- what is told of a document that the parser refuses between two places
 abbrev pub refused : String → (start end : ℕ) → (message : String) → List ℕ
-refused document start end message = refusal_text (codes "s.toml") (codes document) start end (codes message)
+refused document start end message =
+    refusal_text (codes "s.toml") (codes document) start end (codes message)
 
 -- what settings with these entries come to, and what they are warned of
 abbrev pub listed : List Entry → Settings → (processors : ℕ) → List ℕ
 listed entries settings processors = listing_text (leaves (members entries)) settings processors
 
 abbrev pub warned_of : List Entry → (is_parallel : Bool) → List ℕ
-warned_of entries is_parallel = warnings_text (warned ([], 0) (codes "s.toml") (leaves (members entries)) is_parallel)
+warned_of entries is_parallel =
+    warnings_text (warned ([], 0) (codes "s.toml") (leaves (members entries)) is_parallel)

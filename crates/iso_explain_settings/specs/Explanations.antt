@@ -23,7 +23,8 @@ missing_text = joined
 -- no fault of a document
 abbrev pub IsExplained : File → SettingsFault → Members → (old new : Account) → Type 0
 IsExplained file NotToml document old new = Unit {0}
-IsExplained file (WrongValue key) document old new = Adds old new (IsTold K.Wrong (wanted_at file key) key (values_at key (leaves document)))
+IsExplained file (WrongValue key) document old new =
+    Adds old new (IsTold K.Wrong (wanted_at file key) key (values_at key (leaves document)))
 IsExplained file (Unsupported key) document old new =
     Adds old new (IsTold K.Unsupported (wanted_at file key) key (values_at key (leaves document)))
 IsExplained file MissingParallelism document old new = Wrote old new missing_text

@@ -20,11 +20,13 @@ limit_text workers = cond (nat_lt 64 workers) (codes ", at most 64") (codes "")
 
 -- why there are `workers` workers, by each strategy
 abbrev pub fixed_text : (workers : ℕ) → List ℕ
-fixed_text workers = joined (codes "strategy is fixed, fixed.parallelism is " ∷ decimal workers ∷ [])
+fixed_text workers =
+    joined (codes "strategy is fixed, fixed.parallelism is " ∷ decimal workers ∷ [])
 
 abbrev pub dynamic_text : (processors factor : ℕ) → List ℕ
 dynamic_text processors factor = joined
-    (codes "strategy is dynamic, --processors is " ∷ decimal processors ∷ codes ", factor is " ∷ decimal factor
+    (codes "strategy is dynamic, --processors is " ∷ decimal processors ∷ codes ", factor is "
+    ∷ decimal factor
     ∷ limit_text (min (processors * factor) 4294967295) ∷ [])
 
 abbrev pub why_text : (is_parallel is_fixed : Bool) → (workers processors factor : ℕ) → List ℕ
@@ -42,7 +44,8 @@ abbrev pub workers_text : ℕ → (why : List ℕ) → List ℕ
 workers_text workers why = decimal workers ++ workers_word workers ++ (why ++ []) ++ codes "\n"
 
 abbrev pub workers_text_in : List Leaf → Settings → (processors : ℕ) → List ℕ
-workers_text_in leaves settings processors = workers_text settings.worker_count (why_text_in leaves settings processors)
+workers_text_in leaves settings processors =
+    workers_text settings.worker_count (why_text_in leaves settings processors)
 
 -- each key with its value, those that are unknown and how many there are more, and the workers
 abbrev pub table_listing : List Leaf → (unknown : Kept) → Settings → (processors : ℕ) → List ℕ
@@ -54,4 +57,5 @@ table_listing leaves unknown settings processors =
 
 -- what settings come to that are read from these leaves
 abbrev pub listing_text : List Leaf → Settings → (processors : ℕ) → List ℕ
-listing_text leaves settings processors = table_listing leaves (unknown_in leaves) settings processors
+listing_text leaves settings processors =
+    table_listing leaves (unknown_in leaves) settings processors

@@ -11,13 +11,15 @@ use Rattle.iso_explain_settings.specs.Told.{hint_note}
 
 -- the bytes begin as UTF-16 does
 abbrev pub is_utf16 : List ℕ → Bool
-is_utf16 bytes = starts_with nat_eq bytes (0xFF ∷ 0xFE ∷ []) || starts_with nat_eq bytes (0xFE ∷ 0xFF ∷ [])
+is_utf16 bytes =
+    starts_with nat_eq bytes (0xFF ∷ 0xFE ∷ []) || starts_with nat_eq bytes (0xFE ∷ 0xFF ∷ [])
 
 -- what is wrong with how bytes are written, behind the file's name
 abbrev pub encoding_fault : List ℕ → (message : List ℕ) → Option (List ℕ)
 encoding_fault bytes message =
     if is_utf16 bytes then Some (codes " is UTF-16: save it as UTF-8")
-    else if starts_with nat_eq bytes (0xEF ∷ 0xBB ∷ 0xBF ∷ []) then Some (codes " begins with a byte order mark: save it without one")
+    else if starts_with nat_eq bytes (0xEF ∷ 0xBB ∷ 0xBF ∷ []) then Some
+    (codes " begins with a byte order mark: save it without one")
     else if bytes_eq message (codes "invalid UTF-8") then Some (codes " is not UTF-8")
     else None
 
@@ -38,8 +40,10 @@ abbrev pub head_text : (name bytes : List ℕ) → (start end : ℕ) → (messag
 head_text name bytes start end message =
     let before = take start bytes in
     joined
-    (codes " --> " ∷ shown_name name ∷ codes ":" ∷ decimal (line_number before) ∷ codes ":" ∷ decimal (column before) ∷ codes "\n"
-    ∷ picture (line_number before) (line_at bytes start) (column before) (narrowed (end - start)) (one_piece (map shown_byte message))
+    (codes " --> " ∷ shown_name name ∷ codes ":" ∷ decimal (line_number before) ∷ codes ":"
+    ∷ decimal (column before) ∷ codes "\n"
+    ∷ picture (line_number before) (line_at bytes start) (column before) (narrowed (end - start))
+    (one_piece (map shown_byte message))
     ∷ [])
 
 -- what is wrong with the bytes as a whole, or else what mends the place
@@ -48,11 +52,13 @@ last_of name (Some fault) hint = joined (codes " = " ∷ shown_name name ∷ fau
 last_of name None hint = hint_note hint
 
 abbrev pub last_text : (name bytes : List ℕ) → (start : ℕ) → (message : List ℕ) → List ℕ
-last_text name bytes start message = last_of name (encoding_fault bytes message) (quotes_hint (drop start bytes) message)
+last_text name bytes start message =
+    last_of name (encoding_fault bytes message) (quotes_hint (drop start bytes) message)
 
 -- what is told of bytes of which the parser refuses those between two places
 abbrev pub refusal_text : (name bytes : List ℕ) → (start end : ℕ) → (message : List ℕ) → List ℕ
-refusal_text name bytes start end message = head_text name bytes start end message ++ last_text name bytes start message
+refusal_text name bytes start end message =
+    head_text name bytes start end message ++ last_text name bytes start message
 
 -- the text tells of a place in the bytes, and of a message of the parser
 abbrev pub IsRefusal : (name bytes told : List ℕ) → Type 0

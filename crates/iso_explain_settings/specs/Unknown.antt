@@ -11,7 +11,8 @@ Kept = List (List ℕ) × ℕ
 
 -- one more key
 unfoldable pub with_one : Kept → List ℕ → Kept
-with_one kept key = cond (nat_lt (length kept.0) 10) (kept.0 ++ key ∷ [], kept.1) (kept.0, min (kept.1 + 1) 18446744073709551615)
+with_one kept key = cond (nat_lt (length kept.0) 10) (kept.0 ++ key ∷ [], kept.1)
+    (kept.0, min (kept.1 + 1) 18446744073709551615)
 
 -- `more` more of them
 abbrev pub with_more : Kept → ℕ → Kept

@@ -51,12 +51,14 @@ flag_hint _ = None
 
 abbrev pub count_hint : Data → Option (List ℕ)
 count_hint (float x) = Some (codes "write the number without a point")
-count_hint (string s) = Some (codes "write the number without quotes, or as one to nine digits in them")
+count_hint (string s) =
+    Some (codes "write the number without quotes, or as one to nine digits in them")
 count_hint _ = None
 
 abbrev pub text_hint : (key : List ℕ) → Data → Option (List ℕ)
 text_hint key (string s) =
-    Some (cond (is_printable key) (codes "a byte of the text isn't printable ASCII") (codes "a byte of the key isn't printable ASCII"))
+    Some (cond (is_printable key) (codes "a byte of the text isn't printable ASCII")
+    (codes "a byte of the key isn't printable ASCII"))
 text_hint key (array ds) = Some (codes "write a text for each key")
 text_hint key _ = Some (codes "write it as a text, in double quotes")
 
@@ -65,7 +67,8 @@ abbrev pub wrong_hint : Wanted → (key : List ℕ) → Data → Option (List �
 wrong_hint W.Flag key value = flag_hint value
 wrong_hint W.Count key value = count_hint value
 wrong_hint W.Text key value = text_hint key value
-wrong_hint W.Table key value = Some (codes "write a header such as [files], and a line for each text below it")
+wrong_hint W.Table key value =
+    Some (codes "write a header such as [files], and a line for each text below it")
 wrong_hint _ key value = None
 
 -- what mends a value

@@ -22,7 +22,8 @@ settings_wanted key =
 
 -- the key stands in a table of a world
 abbrev pub is_in_table : List ℕ → Bool
-is_in_table key = starts_with nat_eq key (codes "files.") || starts_with nat_eq key (codes "properties.")
+is_in_table key =
+    starts_with nat_eq key (codes "files.") || starts_with nat_eq key (codes "properties.")
 
 -- what a key of a world takes: of its tables, of its locale, of a text in a table
 abbrev pub world_wanted : List ℕ → Wanted

@@ -14,14 +14,17 @@ line_in sink = unwrap_or sink.bytes []
 
 -- a warning of a file, and of a place in one
 abbrev pub warning_line : Place → (text : List ℕ) → List ℕ
-warning_line (File name) text = joined (codes "jtap: warning: " ∷ shown_name name.now ∷ codes ": " ∷ text ∷ codes "\n" ∷ [])
+warning_line (File name) text =
+    joined (codes "jtap: warning: " ∷ shown_name name.now ∷ codes ": " ∷ text ∷ codes "\n" ∷ [])
 warning_line (At name line column) text = joined
-    (codes "jtap: warning: " ∷ shown_name name.now ∷ codes ":" ∷ decimal line ∷ codes ":" ∷ decimal column
+    (codes "jtap: warning: " ∷ shown_name name.now ∷ codes ":" ∷ decimal line ∷ codes ":"
+    ∷ decimal column
     ∷ codes ": " ∷ text ∷ codes "\n" ∷ [])
 
 -- how many warnings there are more, if there are any
 abbrev pub more_warnings : ℕ → List ℕ
-more_warnings more = cond (more == 0) [] (joined (codes "jtap: warning: " ∷ decimal more ∷ codes " more\n" ∷ []))
+more_warnings more =
+    cond (more == 0) [] (joined (codes "jtap: warning: " ∷ decimal more ∷ codes " more\n" ∷ []))
 
 -- the warnings, and how many there are more
 abbrev pub warnings_text : Kept → List ℕ

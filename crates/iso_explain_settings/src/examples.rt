@@ -13,7 +13,8 @@ ghost use Rattle.toml.specs.Data.{float, string};
 /// Of a value it is told what it is, what its key takes, and what mends it: the word that was
 /// meant, or else a hint.
 pub fn values_are_told()
-    ensures near { setting_told K.Wrong "execution.parallel.mode.default" (text "concurent") "\"concurent\""
+    ensures near { setting_told K.Wrong "execution.parallel.mode.default"
+        (text "concurent") "\"concurent\""
         ≡ lines_of
         (" = found: \"concurent\", a text"
         ∷ " = junit.jupiter.execution.parallel.mode.default takes \"same_thread\" or \"concurrent\""
@@ -25,19 +26,22 @@ pub fn values_are_told()
         ∷ " = junit.jupiter.execution.parallel.enabled takes true or false"
         ∷ " = write true or false, without quotes"
         ∷ []) }
-    ensures point { (x : Float) → setting_told K.Wrong "execution.parallel.config.fixed.parallelism" (float x) "4.0"
+    ensures point { (x : Float) → setting_told K.Wrong "execution.parallel.config.fixed.parallelism"
+        (float x) "4.0"
         ≡ lines_of
         (" = found: 4.0, a float"
         ∷ " = junit.jupiter.execution.parallel.config.fixed.parallelism takes a whole number, 1 to 64"
         ∷ " = write the number without a point"
         ∷ []) }
-    ensures custom { setting_told K.Unsupported "execution.parallel.config.strategy" (text "custom") "\"custom\""
+    ensures custom { setting_told K.Unsupported "execution.parallel.config.strategy"
+        (text "custom") "\"custom\""
         ≡ lines_of
         (" = found: \"custom\", a text"
         ∷ " = junit.jupiter.execution.parallel.config.strategy takes \"dynamic\" or \"fixed\""
         ∷ " = a custom strategy is a Java class, and none is run here"
         ∷ []) }
-    ensures range { setting_told K.OutOfRange "execution.parallel.config.dynamic.factor" (number 65) "65"
+    ensures range { setting_told K.OutOfRange "execution.parallel.config.dynamic.factor"
+        (number 65) "65"
         ≡ lines_of
         (" = found: 65, a whole number"
         ∷ " = junit.jupiter.execution.parallel.config.dynamic.factor takes a whole number, 1 to 64"
@@ -114,13 +118,17 @@ pub fn refusals_are_told()
         ∷ " = texts stand in double quotes, true and false without"
         ∷ []) }
     ensures header { refused "[files" 6 6 "unclosed table, expected `]`"
-        ≡ lines_of (" --> s.toml:1:7" ∷ " 1 | [files" ∷ "   |       ^ unclosed table, expected `]`" ∷ []) }
-    ensures utf8 { refusal_text (27 ∷ codes "w") (codes "a = \"" ++ 0xE4 ∷ codes "\"") 5 5 (codes "invalid UTF-8")
+        ≡ lines_of (" --> s.toml:1:7" ∷ " 1 | [files"
+        ∷ "   |       ^ unclosed table, expected `]`" ∷ []) }
+    ensures utf8 { refusal_text (27 ∷ codes "w") (codes "a = \"" ++ 0xE4 ∷ codes "\"") 5 5
+        (codes "invalid UTF-8")
         ≡ lines_of
-        (" --> \\u001Bw:1:6" ∷ " 1 | a = \"?\"" ∷ "   |      ^ invalid UTF-8" ∷ " = \\u001Bw is not UTF-8" ∷ []) }
+        (" --> \\u001Bw:1:6" ∷ " 1 | a = \"?\"" ∷ "   |      ^ invalid UTF-8"
+        ∷ " = \\u001Bw is not UTF-8" ∷ []) }
     ensures utf16 { refusal_text (codes "w") (0xFF ∷ 0xFE ∷ 97 ∷ 0 ∷ []) 0 0 (codes "invalid UTF-8")
         ≡ lines_of
-        (" --> w:1:1" ∷ " 1 | ??a?" ∷ "   | ^ invalid UTF-8" ∷ " = w is UTF-16: save it as UTF-8" ∷ []) }
+        (" --> w:1:1" ∷ " 1 | ??a?" ∷ "   | ^ invalid UTF-8"
+        ∷ " = w is UTF-16: save it as UTF-8" ∷ []) }
 {}
 
 /// Each key has its value and says where this is from; then come keys that are unknown, and the
@@ -128,7 +136,12 @@ pub fn refusals_are_told()
 pub fn settings_are_listed()
     ensures { listed
         (enabled yes ∷ parallelism (text "4") ∷ default_mode (text "Concurrent") ∷ set "x" yes ∷ [])
-        (record { parallel = true; default_mode = Concurrent; classes_default_mode = Concurrent; worker_count = 1 }) 1
+        (record {
+          parallel = true;
+          default_mode = Concurrent;
+          classes_default_mode = Concurrent;
+          worker_count = 1;
+        }) 1
         ≡ lines_of
         ("junit.jupiter.execution.parallel.enabled = true (file)"
         ∷ "junit.jupiter.execution.parallel.mode.default = \"concurrent\" (file)"

@@ -39,7 +39,8 @@ pub fn list_settings(
     text: &mut MemorySink,
 ) -> Result<(), AllocError>
     ensures { (document : Members) → IsUtf8 bytes.now → parse_document bytes.now ≡ Some document
-        → OnOk result (Wrote text.old text.new (listing_text (leaves document) settings.now processors)) }
+        → OnOk result (Wrote text.old text.new
+        (listing_text (leaves document) settings.now processors)) }
 {
     match read_table(alloc, bytes)? {
         Some(table) => list_table(alloc, &table, settings, processors, text),
@@ -57,7 +58,8 @@ pub fn tell_workers(
     text: &mut MemorySink,
 ) -> Result<(), AllocError>
     ensures { (document : Members) → IsUtf8 bytes.now → parse_document bytes.now ≡ Some document
-        → OnOk result (Wrote text.old text.new (workers_text_in (leaves document) settings.now processors)) }
+        → OnOk result (Wrote text.old text.new
+        (workers_text_in (leaves document) settings.now processors)) }
 {
     match read_table(alloc, bytes)? {
         Some(table) => {
@@ -76,7 +78,8 @@ fn list_table(
     processors: u32,
     text: &mut MemorySink,
 ) -> Result<(), AllocError>
-    ensures { OnOk result (Wrote text.old text.new (listing_text (leaves (table_view table.now)) settings.now processors)) }
+    ensures { OnOk result (Wrote text.old text.new
+        (listing_text (leaves (table_view table.now)) settings.now processors)) }
 {
     let unknown = unknown_keys(alloc, table)?;
     list_keys(alloc, table, &unknown, settings, processors, text)
@@ -92,7 +95,8 @@ fn list_keys(
     text: &mut MemorySink,
 ) -> Result<(), AllocError>
     ensures { OnOk result (Wrote text.old text.new
-        (table_listing (leaves (table_view table.now)) (kept_of unknown.now) settings.now processors)) }
+        (table_listing (leaves (table_view table.now))
+        (kept_of unknown.now) settings.now processors)) }
 {
     let all = all_settings(alloc, table, KEYS, settings)?;
     let keys = with_meant(alloc, unknown.keys.as_slice())?;
@@ -117,7 +121,8 @@ fn write_all<'a>(
     text: &mut MemorySink,
 ) -> Result<(), AllocError>
     ensures { OnOk result (Wrote text.old text.new
-        (flat_map setting_line all.now ++ flat_map unknown_key_line unknown.now ++ more_line more ++ workers_text workers why.now)) }
+        (flat_map setting_line all.now ++ flat_map unknown_key_line unknown.now ++ more_line more
+        ++ workers_text workers why.now)) }
 {
     let mut printer = Printer::new(text);
     match write_settings(
@@ -152,7 +157,8 @@ fn all_settings(
     settings: &Settings,
 ) -> Result<Vec<Setting<'static>>, AllocError>
     ensures { IfOk result (λ all. flat_map setting_line all.items
-        ≡ flat_map (λ key. setting_text key (leaves (table_view table.now)) settings.now.parallel settings.now.default_mode) (map (λ k. k.now) keys.now)) }
+        ≡ flat_map (λ key. setting_text key (leaves (table_view table.now)) settings.now.parallel
+        settings.now.default_mode) (map (λ k. k.now) keys.now)) }
 {
     let mut all = Vec::new(alloc);
     for key in keys {
@@ -163,7 +169,8 @@ fn all_settings(
 
 /// Keys that are unknown, each with the one that was meant.
 fn with_meant<'a>(alloc: Global, keys: &'a [String]) -> Result<Vec<UnknownKey<'a>>, AllocError>
-    ensures { IfOk result (λ unknown. flat_map unknown_key_line unknown.items ≡ flat_map meant_line (map string_bytes keys.now)) }
+    ensures { IfOk result (λ unknown. flat_map unknown_key_line unknown.items
+        ≡ flat_map meant_line (map string_bytes keys.now)) }
 {
     let mut unknown = Vec::new(alloc);
     for key in keys {
@@ -189,7 +196,8 @@ fn why_of(
     settings: &Settings,
     processors: u32,
 ) -> Result<MemorySink, AllocError>
-    ensures { IfOk result (λ why. why.bytes ≡ Some (why_text_in (leaves (table_view table.now)) settings.now processors)) }
+    ensures { IfOk result (λ why. why.bytes
+        ≡ Some (why_text_in (leaves (table_view table.now)) settings.now processors)) }
 {
     let mut why = MemorySink::new(alloc);
     let factor = count_at(table, FACTOR).unwrap_or(1);
@@ -213,7 +221,8 @@ fn tell_why(
     factor: u32,
     text: &mut MemorySink,
 ) -> Result<(), AllocError>
-    ensures { OnOk result (Wrote text.old text.new (why_text is_parallel is_fixed workers processors factor)) }
+    ensures { OnOk result (Wrote text.old text.new
+        (why_text is_parallel is_fixed workers processors factor)) }
 {
     match (is_parallel, is_fixed) {
         (false, _) => tell(text, &[Part::Plain("parallel execution is off")]),

@@ -12,7 +12,8 @@ pub(crate) struct Note<'a> {
 
 /// What mends a value: the word that was meant, or else a hint.
 pub(crate) fn mending<'a>(meant: Option<&'a str>, hint: Option<&'a str>) -> Note<'a>
-    ensures { note_text result ≡ mending_note (option_map (λ w. w.now) meant.entry) (option_map (λ h. h.now) hint.entry) }
+    ensures { note_text result ≡ mending_note (option_map (λ w. w.now) meant.entry)
+        (option_map (λ h. h.now) hint.entry) }
 {
     match meant {
         Some(word) => Note {

@@ -57,7 +57,8 @@ fn tell_refusal<'a>(
     requires ordered { refusal.now.start ≤ refusal.now.end }
     requires within { refusal.now.end ≤ length bytes.now }
     ensures { OnOk result (Wrote text.old text.new
-        (refusal_text name.now bytes.now refusal.now.start refusal.now.end refusal.now.message.now)) }
+        (refusal_text name.now bytes.now refusal.now.start refusal.now.end
+        refusal.now.message.now)) }
 {
     tell_place(alloc, name, bytes, refusal, text)?;
     tell_last(name, bytes, refusal, text)
@@ -115,7 +116,8 @@ fn tell_last<'a>(
 ) -> Result<(), AllocError>
     requires ordered { refusal.now.start ≤ refusal.now.end }
     requires within { refusal.now.end ≤ length bytes.now }
-    ensures { OnOk result (Wrote text.old text.new (last_text name.now bytes.now refusal.now.start refusal.now.message.now)) }
+    ensures { OnOk result (Wrote text.old text.new
+        (last_text name.now bytes.now refusal.now.start refusal.now.message.now)) }
 {
     if let Some(fault) = encoding_fault(bytes, refusal.message) {
         return tell(

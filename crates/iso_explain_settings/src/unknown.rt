@@ -20,7 +20,8 @@ pub(crate) struct Unknown {
 
 /// The unknown keys of a table.
 pub(crate) fn unknown_keys(alloc: Global, table: &Table) -> Result<Unknown, AllocError>
-    ensures { IfOk result (λ unknown. kept_of unknown ≡ unknown_in (leaves (table_view table.now))) }
+    ensures { IfOk result (λ unknown. kept_of unknown
+        ≡ unknown_in (leaves (table_view table.now))) }
 {
     let mut unknown = Unknown {
         keys: Vec::new(alloc),
@@ -41,7 +42,8 @@ fn add_keys(
     unknown: &mut Unknown,
 ) -> Result<(), AllocError>
     ensures keys { OnOk result (kept_of unknown.new
-        ≡ with_keys (kept_of unknown.old) (leaves_behind (string_bytes path.old) (table_view table.now))) }
+        ≡ with_keys (kept_of unknown.old)
+        (leaves_behind (string_bytes path.old) (table_view table.now))) }
     ensures path { OnOk result (string_bytes path.new ≡ string_bytes path.old) }
 {
     let start = path.as_str().len();
@@ -61,7 +63,8 @@ fn add_value(
     value: &Value,
     unknown: &mut Unknown,
 ) -> Result<(), AllocError>
-    ensures keys { OnOk result (kept_of unknown.new ≡ with_keys (kept_of unknown.old) (leaves_at (string_bytes key.old) (view value.now))) }
+    ensures keys { OnOk result (kept_of unknown.new
+        ≡ with_keys (kept_of unknown.old) (leaves_at (string_bytes key.old) (view value.now))) }
     ensures key { OnOk result (string_bytes key.new ≡ string_bytes key.old) }
 {
     match value {

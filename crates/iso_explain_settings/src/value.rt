@@ -56,7 +56,8 @@ pub(crate) fn meant(
     key: &str,
     value: &Value,
 ) -> Result<Option<&'static str>, AllocError>
-    ensures { IfOk result (λ found. option_map (λ w. w.now) found ≡ near (subject wanted key.now (view value.now)) (words wanted)) }
+    ensures { IfOk result (λ found. option_map (λ w. w.now) found
+        ≡ near (subject wanted key.now (view value.now)) (words wanted)) }
 {
     match (wanted, value) {
         (Wanted::Nothing, _) => nearest_word(alloc, wanted, key),
@@ -71,7 +72,8 @@ pub(crate) fn meant_key(
     wanted: Wanted,
     key: &str,
 ) -> Result<Option<&'static str>, AllocError>
-    ensures { IfOk result (λ found. option_map (λ w. w.now) found ≡ near (subject wanted key.now (table no_members)) (words wanted)) }
+    ensures { IfOk result (λ found. option_map (λ w. w.now) found
+        ≡ near (subject wanted key.now (table no_members)) (words wanted)) }
 {
     match wanted {
         Wanted::Nothing => nearest_word(alloc, wanted, key),

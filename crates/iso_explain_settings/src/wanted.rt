@@ -132,7 +132,8 @@ pub(crate) fn nearest_word(
     wanted: Wanted,
     word: &str,
 ) -> Result<Option<&'static str>, AllocError>
-    ensures { IfOk result (λ found. option_map (λ w. w.now) found ≡ nearest_of word.now (words wanted)) }
+    ensures { IfOk result (λ found. option_map (λ w. w.now) found
+        ≡ nearest_of word.now (words wanted)) }
 {
     match wanted {
         Wanted::Flag => nearest_of(alloc, word, FLAGS),
@@ -151,7 +152,8 @@ fn nearest_of(
     word: &str,
     words: &[&'static str],
 ) -> Result<Option<&'static str>, AllocError>
-    ensures { IfOk result (λ found. option_map (λ w. w.now) found ≡ nearest_of word.now (map (λ w. w.now) words.now)) }
+    ensures { IfOk result (λ found. option_map (λ w. w.now) found
+        ≡ nearest_of word.now (map (λ w. w.now) words.now)) }
 {
     nearest(alloc, word, words)
 }

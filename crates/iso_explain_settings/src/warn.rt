@@ -27,7 +27,8 @@ pub(crate) fn warn_table(
     is_parallel: bool,
     warnings: &mut Warnings,
 ) -> Result<(), AllocError>
-    ensures { OnOk result (warnings.new ≡ warned warnings.old name.now (leaves (table_view table.now)) is_parallel) }
+    ensures { OnOk result (warnings.new ≡ warned warnings.old name.now
+        (leaves (table_view table.now)) is_parallel) }
 {
     let unknown = unknown_keys(alloc, table)?;
     warn_unused(name, table, KEYS, is_parallel, warnings)?;
@@ -44,7 +45,8 @@ fn warn_unused(
     is_parallel: bool,
     warnings: &mut Warnings,
 ) -> Result<(), AllocError>
-    ensures { OnOk result (warnings.new ≡ with_unused_keys warnings.old name.now (leaves (table_view table.now)) is_parallel (map (λ k. k.now) keys.now)) }
+    ensures { OnOk result (warnings.new ≡ with_unused_keys warnings.old name.now
+        (leaves (table_view table.now)) is_parallel (map (λ k. k.now) keys.now)) }
 {
     for key in keys {
         warn_key(name, table, key, is_parallel, warnings)?;
@@ -60,7 +62,8 @@ fn warn_key<'a>(
     is_parallel: bool,
     warnings: &mut Warnings,
 ) -> Result<(), AllocError>
-    ensures { OnOk result (warnings.new ≡ with_unused warnings.old name.now (leaves (table_view table.now)) is_parallel key.now) }
+    ensures { OnOk result (warnings.new ≡ with_unused warnings.old name.now
+        (leaves (table_view table.now)) is_parallel key.now) }
 {
     if told_at(table, key).is_none() {
         return Ok(());
@@ -86,7 +89,8 @@ fn warn_unknown(
     keys: &[String],
     warnings: &mut Warnings,
 ) -> Result<(), AllocError>
-    ensures { OnOk result (warnings.new ≡ with_unknown warnings.old name.now (map string_bytes keys.now)) }
+    ensures { OnOk result (warnings.new ≡ with_unknown warnings.old name.now
+        (map string_bytes keys.now)) }
 {
     for key in keys {
         warn_one(alloc, name, key.as_str(), warnings)?;
@@ -101,7 +105,8 @@ fn warn_one<'a>(
     key: &'a str,
     warnings: &mut Warnings,
 ) -> Result<(), AllocError>
-    ensures { OnOk result (warnings.new ≡ with_one warnings.old (unknown_warning name.now key.now)) }
+    ensures { OnOk result (warnings.new ≡ with_one warnings.old
+        (unknown_warning name.now key.now)) }
 {
     let meant = nearest_key(alloc, key)?;
     let note = line_end(meant);

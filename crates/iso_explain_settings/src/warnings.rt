@@ -67,7 +67,8 @@ impl Warnings {
     /// Adds a warning: its text, of which nothing is escaped, behind its place. After running out
     /// of memory they are of no use.
     pub fn add(&mut self, place: Place<'_>, text: &[Piece<'_>]) -> Result<(), AllocError>
-        ensures { OnOk result (self.new ≡ with_one self.old (warning_line place.entry (pieces_text text.now))) }
+        ensures { OnOk result
+            (self.new ≡ with_one self.old (warning_line place.entry (pieces_text text.now))) }
     {
         match place {
             Place::File(name) => self.add_in_file(name, text),
@@ -77,7 +78,8 @@ impl Warnings {
 
     /// Adds a warning of a file.
     fn add_in_file<'a>(&mut self, name: &'a str, text: &'a [Piece<'a>]) -> Result<(), AllocError>
-        ensures { OnOk result (self.new ≡ with_one self.old (warning_line (Place.File name.entry) (pieces_text text.now))) }
+        ensures { OnOk result (self.new ≡ with_one self.old
+            (warning_line (Place.File name.entry) (pieces_text text.now))) }
     {
         self.add_line(&[
             Part::Plain("jtap: warning: "),
@@ -96,7 +98,8 @@ impl Warnings {
         column: u32,
         text: &'a [Piece<'a>],
     ) -> Result<(), AllocError>
-        ensures { OnOk result (self.new ≡ with_one self.old (warning_line (Place.At name.entry line column) (pieces_text text.now))) }
+        ensures { OnOk result (self.new ≡ with_one self.old
+            (warning_line (Place.At name.entry line column) (pieces_text text.now))) }
     {
         self.add_line(&[
             Part::Plain("jtap: warning: "),
@@ -149,7 +152,8 @@ pub fn warn_settings(
     warnings: &mut Warnings,
 ) -> Result<(), AllocError>
     ensures { (document : Members) → IsUtf8 bytes.now → parse_document bytes.now ≡ Some document
-        → OnOk result (warnings.new ≡ warned warnings.old name.now (leaves document) settings.now.parallel) }
+        → OnOk result (warnings.new ≡ warned warnings.old name.now
+        (leaves document) settings.now.parallel) }
 {
     match read_table(alloc, bytes)? {
         Some(table) => warn_table(alloc, name, &table, settings.parallel, warnings),

@@ -25,7 +25,8 @@ pub fn explain_world(
 ) -> Result<(), AllocError>
     // Of a document it is told what stands at the fault's key, what the key takes, and what mends
     // it.
-    ensures found { (document : Members) → IsUtf8 bytes.now → parse_document bytes.now ≡ Some document
+    ensures found { (document : Members) → IsUtf8 bytes.now → parse_document bytes.now
+        ≡ Some document
         → OnOk result (IsExplained File.World fault.now document text.old text.new) }
     // Of bytes that are none it is told where the parser stops.
     ensures refused { fault.now ≡ NotToml → (IsUtf8 bytes.now → parse_document bytes.now ≡ None)

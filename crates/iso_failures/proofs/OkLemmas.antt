@@ -122,7 +122,8 @@ fine_class c cs m is h =
     let s = before_all c cs o in
     fine_by o s (after_all c cs (opened o s)) o.well is (ap (λ (x : Outcome). has_failed x.verdict) (class_from-restricted c cs m) ∙ h)
 
-fine_node : (k : Kind) (cs : List ClassHead) (m : Resources) → Fine (opening cs m) → has_failed (chain_alone (own_test k) (class_heads k ++ cs) m).verdict ≡ false → Fine (opening (class_heads k ++ cs) m)
+fine_node : (k : Kind) (cs : List ClassHead) (m : Resources) → Fine (opening cs m)
+    → has_failed (chain_alone (own_test k) (class_heads k ++ cs) m).verdict ≡ false → Fine (opening (class_heads k ++ cs) m)
 fine_node root cs m is h = is
 fine_node (class_node i c) cs m is h = fine_class c cs m is h
 fine_node (test_node t) cs m is h = is

@@ -10,7 +10,8 @@ use Rattle.iso_failures.specs.Nodes.{is_test_with, was_blocked}
 -- whether the way up meets a class before another one that failed
 abbrev pub is_met : (ℕ → Outcome) → (class : ℕ) → List ℕ → Bool
 is_met outcome class [] = false
-is_met outcome class (n ∷ ns) = n == class || (not (is_failure outcome n) && is_met outcome class ns)
+is_met outcome class (n ∷ ns) =
+    n == class || (not (is_failure outcome n) && is_met outcome class ns)
 
 -- whether a node is a descendant of another one, with no failed class between them
 abbrev pub is_within : List Row → (ℕ → Outcome) → (m : ℕ) → ℕ → Bool
@@ -22,7 +23,9 @@ is_at tree outcome m n = n == m || (not (is_failure outcome m) && is_within tree
 
 -- how many blocked tests stand so in a node, and how many at it
 abbrev pub blocked_within : List Row → (ℕ → Outcome) → (m : ℕ) → ℕ
-blocked_within tree outcome m = how_many (λ n. is_test_with tree outcome was_blocked n && is_within tree outcome m n) (length tree)
+blocked_within tree outcome m = how_many
+    (λ n. is_test_with tree outcome was_blocked n && is_within tree outcome m n) (length tree)
 
 abbrev pub blocked_at : List Row → (ℕ → Outcome) → (m : ℕ) → ℕ
-blocked_at tree outcome m = how_many (λ n. is_test_with tree outcome was_blocked n && is_at tree outcome m n) (length tree)
+blocked_at tree outcome m =
+    how_many (λ n. is_test_with tree outcome was_blocked n && is_at tree outcome m n) (length tree)

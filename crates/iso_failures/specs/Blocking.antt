@@ -16,7 +16,8 @@ nearest_failure tree outcome n = find (is_failure outcome) (path tree (parent tr
 -- whether a class blocks a node: the node is a test that is blocked, and the class is the nearest
 -- around it that failed itself
 abbrev pub is_blocked_by : List Row → (ℕ → Outcome) → (class : ℕ) → ℕ → Bool
-is_blocked_by tree outcome class n = is_test_with tree outcome was_blocked n && is_that (nearest_failure tree outcome n) class
+is_blocked_by tree outcome class n =
+    is_test_with tree outcome was_blocked n && is_that (nearest_failure tree outcome n) class
 
 -- how many tests a class blocks
 abbrev pub blocked_by : List Row → (ℕ → Outcome) → (class : ℕ) → ℕ

@@ -25,7 +25,13 @@ class_named name ms = a_class (codes name) None false [] ms
 
 -- test d "the last" { }
 abbrev titled : Member
-titled = test_member (record { name = codes "d"; display = Some (codes "the last"); mode = None; head = record { marks = []; disabled = None; body = no_acts } })
+titled =
+    test_member (record {
+      name = codes "d";
+      display = Some (codes "the last");
+      mode = None;
+      head = record { marks = []; disabled = None; body = no_acts };
+    })
 
 -- class Drawer { test c { } }
 abbrev drawer : Class
@@ -37,7 +43,9 @@ till = class_named "Till" (member (test_named "b") (member (class_member drawer)
 
 -- class Cart { after_all { .. } test a { } class Till { .. } test d "the last" { } }
 abbrev cart : Class
-cart = class_named "Cart" (member (test_named "a") (member (class_member till) (member titled no_members)))
+cart =
+    class_named "Cart" (member (test_named "a")
+    (member (class_member till) (member titled no_members)))
 
 -- class Desk { test e { } disabled "later" test f { } }
 abbrev desk : Class

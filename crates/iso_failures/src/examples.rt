@@ -62,7 +62,8 @@ pub fn nearest_failure_blocks()
 /// A line has the path of a node and not its title.
 #[tactic(auto, unfolding(iso_plan::specs::Paths::path))]
 pub fn paths_of_failures_are_lines()
-    ensures some { failed_text till_in_cart outcome_of ≡ codes "shop.Cart\nshop.Cart.Till\nshop.Cart.d\n" }
+    ensures some { failed_text till_in_cart outcome_of
+        ≡ codes "shop.Cart\nshop.Cart.Till\nshop.Cart.d\n" }
     ensures one { failed_text till_in_cart unopened_of ≡ codes "shop.Cart\n" }
 {}
 
@@ -70,15 +71,18 @@ pub fn paths_of_failures_are_lines()
 /// class in it, and the second was skipped.
 #[tactic(auto, unfolding(iso_plan::specs::Paths::path))]
 pub fn failures_of_a_run()
-    ensures failures { failures three_classes (outcome_alone three_classes (started empty_start)) ≡ 1 ∷ [] }
-    ensures blocked { blocked_by three_classes (outcome_alone three_classes (started empty_start)) 1 ≡ 2 }
-    ensures counts { counts three_classes (outcome_alone three_classes (started empty_start)) ≡ record {
-      tests = 4;
-      ok = 1;
-      skipped = 1;
-      not_ok = 0;
-      blocked = 2;
-      classes = 4;
-      classes_not_ok = 1;
-    } }
+    ensures failures { failures three_classes (outcome_alone three_classes (started empty_start))
+        ≡ 1 ∷ [] }
+    ensures blocked { blocked_by three_classes (outcome_alone three_classes (started empty_start)) 1
+        ≡ 2 }
+    ensures counts { counts three_classes (outcome_alone three_classes (started empty_start))
+        ≡ record {
+          tests = 4;
+          ok = 1;
+          skipped = 1;
+          not_ok = 0;
+          blocked = 2;
+          classes = 4;
+          classes_not_ok = 1;
+        } }
 {}

@@ -26,8 +26,10 @@ pub fn each_test_came_to_one_of_four()
 /// line of what failed.
 pub fn report_is_ok_where_nothing_failed(plan: &Plan, results: &Results<'_>)
     requires { results.now.plan ≡ plan.now }
-    ensures nodes { (all_ok (tree_of plan.now) (outcome_in results.now) ≡ true) ↔ (failures (tree_of plan.now) (outcome_in results.now) ≡ []) }
-    ensures lines { (all_ok (tree_of plan.now) (outcome_in results.now) ≡ true) ↔ (failed_text (tree_of plan.now) (outcome_in results.now) ≡ []) }
+    ensures nodes { (all_ok (tree_of plan.now) (outcome_in results.now) ≡ true)
+        ↔ (failures (tree_of plan.now) (outcome_in results.now) ≡ []) }
+    ensures lines { (all_ok (tree_of plan.now) (outcome_in results.now) ≡ true)
+        ↔ (failed_text (tree_of plan.now) (outcome_in results.now) ≡ []) }
 {
     nodes_are_a_tree(plan);
 }
@@ -36,7 +38,8 @@ pub fn report_is_ok_where_nothing_failed(plan: &Plan, results: &Results<'_>)
 /// of a run: each is blocked by just one.
 pub fn failures_block_what_is_blocked(plan: &Plan, results: &Results<'_>)
     requires { results.now.plan ≡ plan.now }
-    ensures { sum_by (blocked_by (tree_of plan.now) (outcome_in results.now)) (failures (tree_of plan.now) (outcome_in results.now))
+    ensures { sum_by (blocked_by (tree_of plan.now) (outcome_in results.now))
+        (failures (tree_of plan.now) (outcome_in results.now))
         ≡ (counts (tree_of plan.now) (outcome_in results.now)).blocked }
 {
     nodes_are_a_tree(plan);
@@ -44,8 +47,10 @@ pub fn failures_block_what_is_blocked(plan: &Plan, results: &Results<'_>)
 
 /// The paths of what failed, given as a selection, keep each node that failed.
 pub fn paths_of_failures_keep_them(plan: &Plan)
-    ensures { (outcome : ℕ → Outcome) (n : ℕ) → n < length (tree_of plan.now) → is_failure outcome n ≡ true
-        → is_kept (tree_of plan.now) (map (path_text (tree_of plan.now)) (failures (tree_of plan.now) outcome)) n ≡ true }
+    ensures { (outcome : ℕ → Outcome) (n : ℕ) → n < length (tree_of plan.now)
+        → is_failure outcome n ≡ true
+        → is_kept (tree_of plan.now)
+        (map (path_text (tree_of plan.now)) (failures (tree_of plan.now) outcome)) n ≡ true }
 {
     nodes_are_a_tree(plan);
 }

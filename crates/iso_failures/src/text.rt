@@ -25,7 +25,8 @@ pub fn write_failed<W: Sink>(
 ) -> Result<(), TapFault>
     requires plan { results.now.plan ≡ plan.now }
     requires complete { AreComplete results.now }
-    ensures { Writes (W.account sink.old) (W.account sink.new) (failed_text (tree_of plan.now) (outcome_in results.now)) result }
+    ensures { Writes (W.account sink.old) (W.account sink.new)
+        (failed_text (tree_of plan.now) (outcome_in results.now)) result }
 {
     let mut printer = Printer::new(sink);
     match lines(&mut printer, plan, results) {
@@ -44,7 +45,8 @@ fn lines<W: Sink>(
 ) -> Result<(), SinkFailed>
     requires plan { results.now.plan ≡ plan.now }
     requires complete { AreComplete results.now }
-    ensures { Prints printer.old printer.new (failed_text (tree_of plan.now) (outcome_in results.now)) result }
+    ensures { Prints printer.old printer.new
+        (failed_text (tree_of plan.now) (outcome_in results.now)) result }
 {
     laws::nodes_are_a_tree(plan);
     'nodes: for node in 1..plan.len() {
@@ -64,7 +66,9 @@ fn line<W: Sink>(
     requires complete { AreComplete results.now }
     requires above { 0 < node }
     requires within { node < length plan.now.rows }
-    ensures { Prints printer.old printer.new (cond (is_failure (outcome_in results.now) node) (path_line (tree_of plan.now) node) []) result }
+    ensures { Prints printer.old printer.new
+        (cond (is_failure (outcome_in results.now) node) (path_line (tree_of plan.now) node) [])
+        result }
 {
     if !is_failure(results, node) {
         return Ok(());

@@ -42,7 +42,8 @@ get_before [] p q e = cc
 get_before (x ∷ xs) zero q e = omega arith
 get_before (x ∷ xs) (suc p) q e = let h : p < length xs = get_before xs p q e in omega arith
 
-kept_by : (lists : List (List ReceiptView)) (xs : List ReceiptView) (r : ReceiptView) (s p : ℕ) (q : ReceiptView) → receipt_at (lists ++ xs ∷ []) s p ≡ Some q → receipt_at (lists ++ (xs ++ r ∷ []) ∷ []) s p ≡ Some q
+kept_by : (lists : List (List ReceiptView)) (xs : List ReceiptView) (r : ReceiptView) (s p : ℕ) (q : ReceiptView)
+    → receipt_at (lists ++ xs ∷ []) s p ≡ Some q → receipt_at (lists ++ (xs ++ r ∷ []) ∷ []) s p ≡ Some q
 kept_by [] xs r zero p q e = get_push xs r p q e
 kept_by [] xs r (suc s) p q e = e
 kept_by (l ∷ ls) xs r zero p q e = e
@@ -52,7 +53,8 @@ added_to : (lists : List (List ReceiptView)) (xs : List ReceiptView) (r : Receip
 added_to [] xs r = get_pushed xs r
 added_to (l ∷ ls) xs r = added_to ls xs r
 
-only_in : (lists : List (List ReceiptView)) (xs : List ReceiptView) (r : ReceiptView) (s p : ℕ) (q : ReceiptView) → receipt_at (lists ++ (xs ++ r ∷ []) ∷ []) s p ≡ Some q → (receipt_at (lists ++ xs ∷ []) s p ≡ Some q) ⊎ IsThis (length lists) (length xs) r s p q
+only_in : (lists : List (List ReceiptView)) (xs : List ReceiptView) (r : ReceiptView) (s p : ℕ) (q : ReceiptView)
+    → receipt_at (lists ++ (xs ++ r ∷ []) ∷ []) s p ≡ Some q → (receipt_at (lists ++ xs ∷ []) s p ≡ Some q) ⊎ IsThis (length lists) (length xs) r s p q
 only_in [] xs r zero p q e = elim (get_only xs r p q e) [ inl a ↦ inl a | inr b ↦ inr (record { seat_is = refl; place_is = b.0; receipt_is = b.1 }) ]
 only_in [] xs r (suc s) p q e = inl e
 only_in (l ∷ ls) xs r zero p q e = inl e
@@ -96,7 +98,8 @@ lower_astray : (h : List Event) (lists : List (List ReceiptView)) (n : ℕ) (low
 lower_astray h lists n None a b = a
 lower_astray h lists n (Some m) a b = elim (cases_lt m n) [ inl lt ↦ (let e : min n m ≡ m = omega arith in rw e b) | inr ge ↦ (let e : min n m ≡ n = omega arith in rw e a) ]
 
-astray_if : (h : List Event) (old new : List (List ReceiptView)) (seat place : ℕ) (r : ReceiptView) (lowest : Option ℕ) → HaveOneMore old new seat place r → IfSome lowest (IsAstray h old) → IfSome lowest (IsAstray h new)
+astray_if : (h : List Event) (old new : List (List ReceiptView)) (seat place : ℕ) (r : ReceiptView) (lowest : Option ℕ)
+    → HaveOneMore old new seat place r → IfSome lowest (IsAstray h old) → IfSome lowest (IsAstray h new)
 astray_if h old new seat place r None more a = tt
 astray_if h old new seat place r (Some m) more a = astray_kept h old new seat place r m more a
 
@@ -107,7 +110,8 @@ not_this r lowest q lt is =
     omega arith
 
 -- one receipt more is astray
-pub step_lost : (h : List Event) (old new : List (List ReceiptView)) (marks : List Bool) (lowest : Option ℕ) (seat place : ℕ) (r : ReceiptView) → HaveOneMore old new seat place r → IsAudited h old marks lowest → IsAstray h new r.number → IsAudited h new marks (Some (lower_of r.number lowest))
+pub step_lost : (h : List Event) (old new : List (List ReceiptView)) (marks : List Bool) (lowest : Option ℕ) (seat place : ℕ) (r : ReceiptView)
+    → HaveOneMore old new seat place r → IsAudited h old marks lowest → IsAstray h new r.number → IsAudited h new marks (Some (lower_of r.number lowest))
 step_lost h old new marks lowest seat place r more a lost = record {
   marked = λ n m. receipted_kept old new seat place r n more (a.marked n m);
   every = λ s p q e lt. elim (more.only s p q e) [
@@ -154,7 +158,9 @@ not_marked : (marks : List Bool) (r q : ReceiptView) → is_marked marks r.numbe
 not_marked marks r q fresh is m = let e : is_marked marks r.number ≡ true = subst (λ (x : ℕ). is_marked marks x ≡ true) is m in cc
 
 -- one receipt more is in order
-pub step_marked : (h : List Event) (old new : List (List ReceiptView)) (marks : List Bool) (lowest : Option ℕ) (seat place : ℕ) (r : ReceiptView) → HaveOneMore old new seat place r → IsAudited h old marks lowest → Stands h r → is_marked marks r.number ≡ false → r.number < length marks → ((p : ℕ) (q : ReceiptView) → receipt_at old seat p ≡ Some q → q.number < r.number) → IsAudited h new (set marks r.number true) lowest
+pub step_marked : (h : List Event) (old new : List (List ReceiptView)) (marks : List Bool) (lowest : Option ℕ) (seat place : ℕ) (r : ReceiptView)
+    → HaveOneMore old new seat place r → IsAudited h old marks lowest → Stands h r → is_marked marks r.number ≡ false → r.number < length marks
+    → ((p : ℕ) (q : ReceiptView) → receipt_at old seat p ≡ Some q → q.number < r.number) → IsAudited h new (set marks r.number true) lowest
 step_marked h old new marks lowest seat place r more a stands fresh lt high = record {
   marked = λ n m. elim (cases_eq n r.number) [
     | inl e ↦ record { seat = seat; place = place; receipt = r; there = more.added; number = sym e }
@@ -249,11 +255,14 @@ is_marked_or true = inl refl
 is_marked_or false = inr refl
 
 -- below every receipt of the list so far
-highs : (lists : List (List ReceiptView)) (xs : List ReceiptView) (highest : Option ℕ) (n : ℕ) → IsHighest xs highest → IsAbove n highest → (p : ℕ) (q : ReceiptView) → receipt_at (lists ++ xs ∷ []) (length lists) p ≡ Some q → q.number < n
+highs : (lists : List (List ReceiptView)) (xs : List ReceiptView) (highest : Option ℕ) (n : ℕ) → IsHighest xs highest
+    → IsAbove n highest → (p : ℕ) (q : ReceiptView) → receipt_at (lists ++ xs ∷ []) (length lists) p ≡ Some q → q.number < n
 highs lists xs highest n a above p q e = a.above n p q above (sym (last_list lists xs p) ∙ e)
 
 -- a list goes on by a receipt that is in order
-pub list_marked : (h : List Event) (marks_before : List Bool) (before : Option ℕ) (xs : List ReceiptView) (marks : List Bool) (lowest highest : Option ℕ) (r : ReceiptView) → GoesOnBy h marks_before before xs marks lowest → IsHighest xs highest → length h ≤ length marks → IsNext h r highest marks → GoesOnBy h marks_before before (xs ++ r ∷ []) (set marks r.number true) lowest
+pub list_marked : (h : List Event) (marks_before : List Bool) (before : Option ℕ) (xs : List ReceiptView) (marks : List Bool) (lowest highest : Option ℕ) (r : ReceiptView)
+    → GoesOnBy h marks_before before xs marks lowest → IsHighest xs highest → length h ≤ length marks
+    → IsNext h r highest marks → GoesOnBy h marks_before before (xs ++ r ∷ []) (set marks r.number true) lowest
 list_marked h marks_before before xs marks lowest highest r on high room next lists a =
     let within : r.number < length h = slice_get_within h r.number (Leave r.worker) next.0.0 in
     let inside : r.number < length marks = omega arith in
@@ -263,7 +272,8 @@ late : (h : List Event) (lists : List (List ReceiptView)) (xs : List ReceiptView
 late h lists xs r a =
     Late (length lists) a.place (length xs) a.receipt r (get_before xs a.place a.receipt a.there) (last_list lists (xs ++ r ∷ []) a.place ∙ get_push xs r a.place a.receipt a.there) (one_more lists xs r).added refl a.high
 
-twice : (h : List Event) (lists : List (List ReceiptView)) (xs : List ReceiptView) (highest : Option ℕ) (r : ReceiptView) → IsHighest xs highest → IsAbove r.number highest → IsReceipted (lists ++ xs ∷ []) r.number → IsAstray h (lists ++ (xs ++ r ∷ []) ∷ []) r.number
+twice : (h : List Event) (lists : List (List ReceiptView)) (xs : List ReceiptView) (highest : Option ℕ) (r : ReceiptView) → IsHighest xs highest
+    → IsAbove r.number highest → IsReceipted (lists ++ xs ∷ []) r.number → IsAstray h (lists ++ (xs ++ r ∷ []) ∷ []) r.number
 twice h lists xs highest r high above a =
     elim (cases_eq (length lists) a.seat) [
       | inl same ↦ absurd (
@@ -276,7 +286,8 @@ twice h lists xs highest r high above a =
     ]
 
 -- why a receipt that isn't in order is astray
-astray_by : (h : List Event) (lists : List (List ReceiptView)) (xs : List ReceiptView) (marks : List Bool) (lowest highest : Option ℕ) (r : ReceiptView) → IsAudited h (lists ++ xs ∷ []) marks lowest → IsHighest xs highest → (IsNext h r highest marks → ⊥) → IsAstray h (lists ++ (xs ++ r ∷ []) ∷ []) r.number
+astray_by : (h : List Event) (lists : List (List ReceiptView)) (xs : List ReceiptView) (marks : List Bool) (lowest highest : Option ℕ) (r : ReceiptView)
+    → IsAudited h (lists ++ xs ∷ []) marks lowest → IsHighest xs highest → (IsNext h r highest marks → ⊥) → IsAstray h (lists ++ (xs ++ r ∷ []) ∷ []) r.number
 astray_by h lists xs marks lowest highest r a high no_next =
     elim (is_above_or r.number highest) [
       | inr low ↦ late h lists xs r (high.one r.number low)
@@ -287,7 +298,8 @@ astray_by h lists xs marks lowest highest r a high no_next =
     ]
 
 -- a list goes on by a receipt that isn't
-pub list_refused : (h : List Event) (marks_before : List Bool) (before : Option ℕ) (xs : List ReceiptView) (marks : List Bool) (lowest highest : Option ℕ) (r : ReceiptView) → GoesOnBy h marks_before before xs marks lowest → IsHighest xs highest → (IsNext h r highest marks → ⊥) → GoesOnBy h marks_before before (xs ++ r ∷ []) marks (Some (lower_of r.number lowest))
+pub list_refused : (h : List Event) (marks_before : List Bool) (before : Option ℕ) (xs : List ReceiptView) (marks : List Bool) (lowest highest : Option ℕ) (r : ReceiptView)
+    → GoesOnBy h marks_before before xs marks lowest → IsHighest xs highest → (IsNext h r highest marks → ⊥) → GoesOnBy h marks_before before (xs ++ r ∷ []) marks (Some (lower_of r.number lowest))
 list_refused h marks_before before xs marks lowest highest r on high no_next lists a =
     step_lost h (lists ++ xs ∷ []) (lists ++ (xs ++ r ∷ []) ∷ []) marks lowest (length lists) (length xs) r (one_more lists xs r) (on lists a) (astray_by h lists xs marks lowest highest r (on lists a) high no_next)
 
@@ -328,7 +340,8 @@ list_first h marks lowest lists a = record {
 }
 
 -- what is in order below a number
-in_order : (h : List Event) (lists : List (List ReceiptView)) (marks : List Bool) (lowest : Option ℕ) (n : ℕ) → IsAudited h lists marks lowest → IsBefore n lowest → ((w : ℕ) → slice_get h n ≡ Some (Leave w) → is_marked marks n ≡ true) → IsInOrder h lists n
+in_order : (h : List Event) (lists : List (List ReceiptView)) (marks : List Bool) (lowest : Option ℕ) (n : ℕ) → IsAudited h lists marks lowest
+    → IsBefore n lowest → ((w : ℕ) → slice_get h n ≡ Some (Leave w) → is_marked marks n ≡ true) → IsInOrder h lists n
 in_order h lists marks lowest n a low every = record {
   stands = λ s p r e is. a.stands s p r e (subst (λ (x : ℕ). IsBefore x lowest) (sym is) low);
   above = λ s i p q r lt x y is. subst (λ (k : ℕ). q.number < k) is (a.above s i p q r lt x y (subst (λ (k : ℕ). IsBefore k lowest) (sym is) low));
@@ -337,7 +350,8 @@ in_order h lists marks lowest n a low every = record {
 }
 
 -- a Leave that isn't marked, below all that is astray, has no receipt
-missing : (h : List Event) (lists : List (List ReceiptView)) (marks : List Bool) (lowest : Option ℕ) (n : ℕ) → IsAudited h lists marks lowest → IsBefore n lowest → is_marked marks n ≡ false → IsReceipted lists n → ⊥
+missing : (h : List Event) (lists : List (List ReceiptView)) (marks : List Bool) (lowest : Option ℕ) (n : ℕ)
+    → IsAudited h lists marks lowest → IsBefore n lowest → is_marked marks n ≡ false → IsReceipted lists n → ⊥
 missing h lists marks lowest n a low fresh b =
     let m : is_marked marks b.receipt.number ≡ true = a.every b.seat b.place b.receipt b.there (subst (λ (k : ℕ). IsBefore k lowest) (sym b.number) low) in
     let e : is_marked marks n ≡ true = subst (λ (k : ℕ). is_marked marks k ≡ true) b.number m in
@@ -348,7 +362,8 @@ abbrev pub lowest_of : Option ℕ → Option ℕ → Option ℕ
 lowest_of None lowest = lowest
 lowest_of (Some n) lowest = Some (lower_of n lowest)
 
-pub lowest_is : (h : List Event) (lists : List (List ReceiptView)) (marks : List Bool) (lowest unmarked : Option ℕ) → IsAudited h lists marks lowest → IsFirstUnmarked h marks unmarked → IsLowest h lists (lowest_of unmarked lowest)
+pub lowest_is : (h : List Event) (lists : List (List ReceiptView)) (marks : List Bool) (lowest unmarked : Option ℕ)
+    → IsAudited h lists marks lowest → IsFirstUnmarked h marks unmarked → IsLowest h lists (lowest_of unmarked lowest)
 lowest_is h lists marks None None a every = λ n. in_order h lists marks None n a tt (every n)
 lowest_is h lists marks (Some m) None a every = (Astray a.astray, λ n lt. in_order h lists marks (Some m) n a lt (every n))
 lowest_is h lists marks None (Some u) a first = (Missing first.0.0 first.0.1 (missing h lists marks None u a tt first.1), λ n lt. in_order h lists marks None n a tt (λ w e. first.2 n w lt e))

@@ -34,7 +34,8 @@ first-by places l m (Some s) (Some t) is im p =
     let f = im.2 in
     omega (arith, p)
 
-others-by : (places : List Place) (l m : KeyLine) (a b : Option ℕ) → IsSince places l a → IsSince places m b → ¬ Precedes a b → (n : ℕ) → StandsIn places (Key l) n → (k : ℕ) × StandsIn places (Key m) k
+others-by : (places : List Place) (l m : KeyLine) (a b : Option ℕ) → IsSince places l a → IsSince places m b
+    → ¬ Precedes a b → (n : ℕ) → StandsIn places (Key l) n → (k : ℕ) × StandsIn places (Key m) k
 others-by places l m None b is im p = λ n sn. absurd (is n sn)
 others-by places l m (Some s) None is im p = absurd (p tt)
 others-by places l m (Some s) (Some t) is im p = λ n sn. (im.0, im.1.0)
@@ -59,7 +60,8 @@ stands-if places l a b r is d e = stands-by places l a b is (d.0 e)
 pub first-if : (places : List Place) (l m : KeyLine) (a b : Option ℕ) (r : Bool) → IsSince places l a → IsSince places m b → Decides r (Precedes a b) → r ≡ true → ComesFirst places l m
 first-if places l m a b r is im d e = first-by places l m a b is im (d.0 e)
 
-pub others-if : (places : List Place) (l m : KeyLine) (a b : Option ℕ) (r : Bool) → IsSince places l a → IsSince places m b → Decides r (Precedes a b) → r ≡ false → (n : ℕ) → StandsIn places (Key l) n → (k : ℕ) × StandsIn places (Key m) k
+pub others-if : (places : List Place) (l m : KeyLine) (a b : Option ℕ) (r : Bool) → IsSince places l a → IsSince places m b
+    → Decides r (Precedes a b) → r ≡ false → (n : ℕ) → StandsIn places (Key l) n → (k : ℕ) × StandsIn places (Key m) k
 others-if places l m a b r is im d e = others-by places l m a b is im (no-by r (Precedes a b) d e)
 
 pub later-if : (places : List Place) (l m : KeyLine) (a b : Option ℕ) (r : Bool) → IsSince places l a → IsSince places m b → Decides r (Precedes a b) → r ≡ false → ComesFirst places m l

@@ -114,7 +114,8 @@ module _ (plan : Planned) (start : Start) where
       let e = at.enclosed in
       record { tree = e.tree; within = e.within; tray = opened-stands plan start e.tree t u n (opened-by plan start n e.tree e.inner e.within class e.well) at.tray d }
 
-  pub closed : (n : ℕ) (t u : TrayView) → IsEnclosed plan start n → is_test (row_at tr n).kind ≡ false → StandsAsOpened plan start n n t → IsTrayAfter plan start AfterAll n t u → StandsApart plan start n u
+  pub closed : (n : ℕ) (t u : TrayView) → IsEnclosed plan start n → is_test (row_at tr n).kind ≡ false
+      → StandsAsOpened plan start n n t → IsTrayAfter plan start AfterAll n t u → StandsApart plan start n u
   closed n t u e class st d = closed-apart plan start e.tree t u n (opened-by plan start n e.tree e.inner e.within class e.well) st d
 
   -- the last body of a node is told by its kind
@@ -164,7 +165,8 @@ module _ (plan : Planned) (start : Start) where
     home-is m b h d is be last he =
         he ∙ gives-back d.kind d.subject.node b last.last ∙ ap₂ (λ (j : ℕ) (x : TrayView). giving_back j x) (ap (λ (x : Subject). x.node) last.subject_is) (back-is m b is be)
 
-    pub left : (m : SavepointView) (b h : TrayView) (d : DoneView) → m ≡ marked v n → b ≡ undone m w → IsLastOf plan start n d → h ≡ after_leave d.kind d.subject.node b → IsInside plan start (parent tr n) h
+    pub left : (m : SavepointView) (b h : TrayView) (d : DoneView) → m ≡ marked v n → b ≡ undone m w
+        → IsLastOf plan start n d → h ≡ after_leave d.kind d.subject.node b → IsInside plan start (parent tr n) h
     left m b h d is be last he =
         let below = e.tree.below n e.inner in
         let less = e.within in
@@ -174,6 +176,7 @@ module _ (plan : Planned) (start : Start) where
           tray = subst (λ (x : TrayView). StandsAsOpened plan start (parent tr n) (parent tr n) x) (sym (home-is m b h d is be last he)) (home-stands plan start e.tree v w n e.inner e.within at.tray on aw);
         }
 
-    pub left-further : (m : SavepointView) (b h : TrayView) (d : DoneView) → m ≡ marked v n → b ≡ undone m w → IsLastOf plan start n d → h ≡ after_leave d.kind d.subject.node b → FurtherFromEntry plan start n v h
+    pub left-further : (m : SavepointView) (b h : TrayView) (d : DoneView) → m ≡ marked v n → b ≡ undone m w
+        → IsLastOf plan start n d → h ≡ after_leave d.kind d.subject.node b → FurtherFromEntry plan start n v h
     left-further m b h d is be last he before st lent =
         subst (λ (x : TrayView). GoesOn before x) (sym (home-is m b h d is be last he)) (home-further plan start e.tree v w n e.inner e.within at.tray on aw before st lent)

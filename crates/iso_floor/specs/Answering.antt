@@ -22,7 +22,8 @@ HasRun b = IsHistory scripts (suite_in b) b.workers (events_of b.history)
 
 -- something is so of some book of a plan and starting values on some number of workers, whose
 -- history in full is a run
-pub record OfSomeBook (plan : Planned) (start : Start) (workers : ℕ) (is_so : BookView → Type 0) : Type 0 where
+pub record OfSomeBook (plan : Planned) (start : Start) (workers : ℕ)
+    (is_so : BookView → Type 0) : Type 0 where
   pub book : BookView
   pub ground : IsBookOf plan start workers book
   pub run : HasRun book
@@ -36,7 +37,8 @@ TakesEnter s n b = IsAllowed (refusal_in b (Enter s.worker n)) (MayEnterWith b n
 -- a book doesn't take it: by the first kind of refusal that applies, or for lack of memory where
 -- none does
 abbrev pub RefusesEnter : SeatView → ℕ → CoreFault → BookView → Type 0
-RefusesEnter s n fault b = IsFaultOf (refusal_in b (Enter s.worker n)) (MayEnterWith b n s.tray) fault
+RefusesEnter s n fault b =
+    IsFaultOf (refusal_in b (Enter s.worker n)) (MayEnterWith b n s.tray) fault
 
 -- the same of a Shut
 abbrev pub TakesShut : SeatView → ℕ → BookView → Type 0
@@ -50,7 +52,8 @@ abbrev pub TakesLeave : SeatView → DoneView → BookView → Type 0
 TakesLeave s d b = IsAllowed (leave_refusal_in b s.worker d) (GoesOnWith b d.subject.node s.tray)
 
 abbrev pub RefusesLeave : SeatView → DoneView → Refused → BookView → Type 0
-RefusesLeave s d kind b = IsRefusedBy (leave_refusal_in b s.worker d) (GoesOnWith b d.subject.node s.tray) (refused_of kind)
+RefusesLeave s d kind b = IsRefusedBy (leave_refusal_in b s.worker d)
+    (GoesOnWith b d.subject.node s.tray) (refused_of kind)
 
 -- whether a seat has room for a receipt more
 abbrev pub HasRoom : SeatView → Type 0

@@ -33,25 +33,32 @@ higher_of n (Some m) = max n m
 -- a receipt is of the history, above the highest of its list so far, and its number isn't marked
 -- yet
 abbrev pub IsNext : List Event → ReceiptView → Option ℕ → List Bool → Type 0
-IsNext h r highest marks = Stands h r × IsAbove r.number highest × (is_marked marks r.number ≡ false)
+IsNext h r highest marks = Stands h r × IsAbove r.number highest
+    × (is_marked marks r.number ≡ false)
 
 -- Below the lowest number that is lost so far, each receipt of these lists is in order and marked,
 -- and what is marked has a receipt.
-pub record IsAudited (h : List Event) (lists : List (List ReceiptView)) (marks : List Bool) (lowest : Option ℕ) : Type 0 where
+pub record IsAudited (h : List Event) (lists : List (List ReceiptView)) (marks : List Bool)
+    (lowest : Option ℕ) : Type 0 where
   pub marked : (n : ℕ) → is_marked marks n ≡ true → IsReceipted lists n
-  pub every : (seat place : ℕ) (r : ReceiptView) → receipt_at lists seat place ≡ Some r → IsBefore r.number lowest → is_marked marks r.number ≡ true
-  pub stands : (seat place : ℕ) (r : ReceiptView) → receipt_at lists seat place ≡ Some r → IsBefore r.number lowest → Stands h r
-  pub above : (seat earlier place : ℕ) (q r : ReceiptView) → earlier < place → receipt_at lists seat earlier ≡ Some q
+  pub every : (seat place : ℕ) (r : ReceiptView) → receipt_at lists seat place ≡ Some r
+      → IsBefore r.number lowest → is_marked marks r.number ≡ true
+  pub stands : (seat place : ℕ) (r : ReceiptView) → receipt_at lists seat place ≡ Some r
+      → IsBefore r.number lowest → Stands h r
+  pub above : (seat earlier place : ℕ) (q r : ReceiptView) → earlier < place
+      → receipt_at lists seat earlier ≡ Some q
       → receipt_at lists seat place ≡ Some r → IsBefore r.number lowest → q.number < r.number
   pub once : (seat other place there : ℕ) (r q : ReceiptView) → receipt_at lists seat place ≡ Some r
-      → receipt_at lists other there ≡ Some q → r.number ≡ q.number → IsBefore r.number lowest → seat ≡ other
+      → receipt_at lists other there ≡ Some q → r.number ≡ q.number → IsBefore r.number lowest
+      → seat ≡ other
   pub astray : IfSome lowest (IsAstray h lists)
 
 -- the comparison goes on by one list more
 abbrev pub GoesOnBy : List Event → (marks : List Bool) (lowest : Option ℕ) → List ReceiptView
     → (marks_after : List Bool) (lowest_after : Option ℕ) → Type 0
 GoesOnBy h marks lowest list marks_after lowest_after =
-    (lists : List (List ReceiptView)) → IsAudited h lists marks lowest → IsAudited h (lists ++ list ∷ []) marks_after lowest_after
+    (lists : List (List ReceiptView)) → IsAudited h lists marks lowest
+    → IsAudited h (lists ++ list ∷ []) marks_after lowest_after
 
 -- the number, if there is one, is the lowest of a Leave that isn't marked
 abbrev pub IsFirstUnmarked : List Event → List Bool → Option ℕ → Type 0

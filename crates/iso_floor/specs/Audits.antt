@@ -20,7 +20,8 @@ last_begun w (e ∷ es) = option_or (last_begun w es) (begun_by w e)
 -- the receipt is of this history: at its number stands a Leave of its worker, whose last Enter or
 -- Shut before was of its node
 abbrev pub Stands : List Event → ReceiptView → Type 0
-Stands h r = (slice_get h r.number ≡ Some (Leave r.worker)) × (last_begun r.worker (take r.number h) ≡ Some r.node)
+Stands h r = (slice_get h r.number ≡ Some (Leave r.worker))
+    × (last_begun r.worker (take r.number h) ≡ Some r.node)
 
 -- the receipt at a place of a seat's list
 abbrev pub receipt_at : List (List ReceiptView) → (seat place : ℕ) → Option ReceiptView
@@ -37,8 +38,10 @@ pub record IsReceipted (lists : List (List ReceiptView)) (n : ℕ) : Type 0 wher
 -- the receipts with this number are as they should be: of this history, above those before them in
 -- their list, and in one seat alone; and a Leave has one
 pub record IsInOrder (h : List Event) (lists : List (List ReceiptView)) (n : ℕ) : Type 0 where
-  pub stands : (seat place : ℕ) (r : ReceiptView) → receipt_at lists seat place ≡ Some r → r.number ≡ n → Stands h r
-  pub above : (seat earlier place : ℕ) (q r : ReceiptView) → earlier < place → receipt_at lists seat earlier ≡ Some q
+  pub stands : (seat place : ℕ) (r : ReceiptView) → receipt_at lists seat place ≡ Some r
+      → r.number ≡ n → Stands h r
+  pub above : (seat earlier place : ℕ) (q r : ReceiptView) → earlier < place
+      → receipt_at lists seat earlier ≡ Some q
       → receipt_at lists seat place ≡ Some r → r.number ≡ n → q.number < n
   pub once : (seat other place there : ℕ) (r q : ReceiptView) → receipt_at lists seat place ≡ Some r
       → receipt_at lists other there ≡ Some q → r.number ≡ n → q.number ≡ n → seat ≡ other
@@ -47,10 +50,13 @@ pub record IsInOrder (h : List Event) (lists : List (List ReceiptView)) (n : ℕ
 -- a receipt with this number is astray: it isn't of this history, or stands after one that isn't
 -- lower, or another seat has one too
 pub data IsAstray (h : List Event) (lists : List (List ReceiptView)) (n : ℕ) : Type 0 where
-  Foreign : (seat place : ℕ) (r : ReceiptView) → receipt_at lists seat place ≡ Some r → r.number ≡ n → (Stands h r → ⊥) → IsAstray h lists n
-  Late : (seat earlier place : ℕ) (q r : ReceiptView) → earlier < place → receipt_at lists seat earlier ≡ Some q
+  Foreign : (seat place : ℕ) (r : ReceiptView) → receipt_at lists seat place ≡ Some r → r.number ≡ n
+      → (Stands h r → ⊥) → IsAstray h lists n
+  Late : (seat earlier place : ℕ) (q r : ReceiptView) → earlier < place
+      → receipt_at lists seat earlier ≡ Some q
       → receipt_at lists seat place ≡ Some r → r.number ≡ n → n ≤ q.number → IsAstray h lists n
-  Twice : (seat other place there : ℕ) (r q : ReceiptView) → seat ≢ other → receipt_at lists seat place ≡ Some r
+  Twice : (seat other place there : ℕ) (r q : ReceiptView) → seat ≢ other
+      → receipt_at lists seat place ≡ Some r
       → receipt_at lists other there ≡ Some q → r.number ≡ n → q.number ≡ n → IsAstray h lists n
 
 -- a number is lost: a receipt with it is astray, or it is a Leave's of which no seat has the

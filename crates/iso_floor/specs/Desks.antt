@@ -28,13 +28,16 @@ held_nodes b = column (λ n. is_held ((state_in b).nodes.status n)) (length b.pl
 
 -- the marks are those of the keys that the held nodes of a book take
 pub record AreMarksOf (b : BookView) (v : KeysView) : Type 0 where
-  pub written : (k : ℕ) → k < 256 → has v.written k ≡ is_taken (tree_of b.plan) (held_nodes b) Write k
-  pub held : (k : ℕ) → k < 256 → has v.held k ≡ (is_taken (tree_of b.plan) (held_nodes b) Write k || is_taken (tree_of b.plan) (held_nodes b) Read k)
+  pub written : (k : ℕ) → k < 256 → has v.written k
+      ≡ is_taken (tree_of b.plan) (held_nodes b) Write k
+  pub held : (k : ℕ) → k < 256 → has v.held k ≡ (is_taken (tree_of b.plan) (held_nodes b) Write k
+      || is_taken (tree_of b.plan) (held_nodes b) Read k)
 
 -- What every desk is: the book is of its ground, the scheduler is for its nodes and workers, the
 -- marks are those of the keys that the book's held nodes take, and each node in a line of a key
 -- takes that key with the line's access.
-pub record IsDesk (plan : Planned) (start : Start) (workers : ℕ) (b : BookView) (s : SchedulerView) : Type 0 where
+pub record IsDesk (plan : Planned) (start : Start) (workers : ℕ) (b : BookView)
+    (s : SchedulerView) : Type 0 where
   pub book : IsBookOf plan start workers b
   pub scheduler : IsFor (length plan.rows) workers s
   pub marks : AreMarksOf b s.keys
@@ -44,5 +47,7 @@ pub record IsDesk (plan : Planned) (start : Start) (workers : ℕ) (b : BookView
 -- refuses it each node that stands in a line of a key, of the worker's own or of everyone's.
 pub record CanEnterNone (d : DeskView) (w : ℕ) : Type 0 where
   pub own : IsEmpty d.scheduler.table.places (Own w)
-  pub alone : (n : ℕ) (l : KeyLine) → l.party ≡ Worker w → StandsIn d.scheduler.table.places (Key l) n → refusal_in d.book (Enter w n) ≢ None
-  pub others : (n : ℕ) (l : KeyLine) → l.party ≡ Everyone → StandsIn d.scheduler.table.places (Key l) n → refusal_in d.book (Enter w n) ≢ None
+  pub alone : (n : ℕ) (l : KeyLine) → l.party ≡ Worker w
+      → StandsIn d.scheduler.table.places (Key l) n → refusal_in d.book (Enter w n) ≢ None
+  pub others : (n : ℕ) (l : KeyLine) → l.party ≡ Everyone
+      → StandsIn d.scheduler.table.places (Key l) n → refusal_in d.book (Enter w n) ≢ None

@@ -8,7 +8,16 @@ use Rattle.iso_settings.specs.Worlds.{Start}
 
 -- a plan without nodes
 abbrev pub no_plan : Planned
-no_plan = record { rows = []; settings = record { parallel = false; default_mode = SameThread; classes_default_mode = SameThread; worker_count = 1 } }
+no_plan =
+    record {
+      rows = [];
+      settings = record {
+        parallel = false;
+        default_mode = SameThread;
+        classes_default_mode = SameThread;
+        worker_count = 1;
+      };
+    }
 
 -- a tray is of a plan and starting values
 pub record IsTrayOf (plan : Planned) (start : Start) (t : TrayView) : Type 0 where

@@ -27,13 +27,17 @@ is_taken tree nodes a k = not (takers tree nodes a k == 0)
 
 -- whether a held node excludes a lock: it takes the key too, one of the two for READ_WRITE
 abbrev pub is_excluded : List Row → List Bool → Lock → Bool
-is_excluded tree nodes l = is_taken tree nodes Write l.key || (is_write l && is_taken tree nodes Read l.key)
+is_excluded tree nodes l =
+    is_taken tree nodes Write l.key || (is_write l && is_taken tree nodes Read l.key)
 
 -- a mark of a key that is made anew where one of some locks is on the key, and stays elsewhere
 abbrev pub renewed : List Lock → ℕ → Bool → Bool → Bool
 renewed locks k now before = cond (list_any (λ l. k == l.key) locks) now before
 
 -- the keys of some locks are marked as the held nodes take them, and all others as they were
-pub record AreRenewed (tree : List Row) (nodes : List Bool) (locks : List Lock) (old new : KeysView) : Type 0 where
-  pub written : (k : ℕ) → k < 256 → has new.written k ≡ renewed locks k (is_taken tree nodes Write k) (has old.written k)
-  pub held : (k : ℕ) → k < 256 → has new.held k ≡ renewed locks k (is_taken tree nodes Write k || is_taken tree nodes Read k) (has old.held k)
+pub record AreRenewed (tree : List Row) (nodes : List Bool) (locks : List Lock)
+    (old new : KeysView) : Type 0 where
+  pub written : (k : ℕ) → k < 256 → has new.written k
+      ≡ renewed locks k (is_taken tree nodes Write k) (has old.written k)
+  pub held : (k : ℕ) → k < 256 → has new.held k
+      ≡ renewed locks k (is_taken tree nodes Write k || is_taken tree nodes Read k) (has old.held k)

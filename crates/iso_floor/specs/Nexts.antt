@@ -19,22 +19,27 @@ pub record HasNone (places : List Place) (keys : KeysView) (w : ℕ) : Type 0 wh
 
 -- no node of one line came before one that is first in another
 abbrev pub ComesFirst : List Place → KeyLine → KeyLine → Type 0
-ComesFirst places l m = (i j : ℕ) → IsFirst places (Key l) i → StandsIn places (Key m) j → since_in (place_of places i) ≤ since_in (place_of places j)
+ComesFirst places l m = (i j : ℕ) → IsFirst places (Key l) i → StandsIn places (Key m) j
+    → since_in (place_of places i) ≤ since_in (place_of places j)
 
 -- the line of a party that is taken next: it is on offer at the lowest key, and of the lines that
 -- are on offer there its first came first
 pub record IsNextOf (places : List Place) (keys : KeysView) (p : Party) (l : KeyLine) : Type 0 where
   pub of_party : l.party ≡ p
   pub offered : IsOnOffer places keys.held keys.written l
-  pub lowest : (m : KeyLine) → m.party ≡ p → IsOnOffer places keys.held keys.written m → l.key ≤ m.key
-  pub earliest : (m : KeyLine) → m.party ≡ p → m.key ≡ l.key → IsOnOffer places keys.held keys.written m → ComesFirst places l m
+  pub lowest : (m : KeyLine) → m.party ≡ p → IsOnOffer places keys.held keys.written m
+      → l.key ≤ m.key
+  pub earliest : (m : KeyLine) → m.party ≡ p → m.key ≡ l.key
+      → IsOnOffer places keys.held keys.written m → ComesFirst places l m
 
 -- the line that a worker takes the next node from: its own; where nobody stands there, one that is
 -- on offer to it alone; where none is, one that is on offer to everyone
 abbrev pub IsNextLine : List Place → KeysView → ℕ → Line → Type 0
 IsNextLine places keys w (Own v) = (v ≡ w) × ((n : ℕ) × StandsIn places (Own v) n)
 IsNextLine places keys w (Key l) =
-    IsEmpty places (Own w) × ((v : ℕ) → l.party ≡ Worker v → v ≡ w) × (l.party ≡ Everyone → NothingOffered places keys.held keys.written (Worker w)) × IsNextOf places keys l.party l
+    IsEmpty places (Own w) × ((v : ℕ) → l.party ≡ Worker v → v ≡ w)
+    × (l.party ≡ Everyone → NothingOffered places keys.held keys.written (Worker w))
+    × IsNextOf places keys l.party l
 
 -- the node that a worker attempts or shuts next: the first of that line
 pub record IsNextNode (places : List Place) (keys : KeysView) (w n : ℕ) : Type 0 where

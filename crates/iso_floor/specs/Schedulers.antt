@@ -71,7 +71,8 @@ pub record IsFree (places : List Place) (n : ℕ) : Type 0 where
 
 -- a worker that has seen this has nothing to wake for, where the run is over or isn't
 abbrev pub HasNothingIn : SchedulerView → Bool → ℕ → Option ℕ → Type 0
-HasNothingIn s is_over w seen = HasNothing s.table.places s.keys.held s.keys.written is_over (not (loose_in s.table.places == 0)) s.rounds w seen
+HasNothingIn s is_over w seen = HasNothing s.table.places s.keys.held s.keys.written is_over
+    (not (loose_in s.table.places == 0)) s.rounds w seen
 
 -- the access with which the nodes in a line take its key: READ_WRITE in a line of writers, else READ
 abbrev pub access_in : KeyLine → Access
@@ -92,4 +93,5 @@ KeepsSizes old new = (nodes workers : ℕ) → IsFor nodes workers old → IsFor
 
 -- a step puts no node in a line whose key it doesn't take with the line's access
 abbrev pub KeepsLines : (old new : SchedulerView) → Type 0
-KeepsLines old new = (tree : List Row) → WaitRightly tree old.table.places → WaitRightly tree new.table.places
+KeepsLines old new = (tree : List Row) → WaitRightly tree old.table.places
+    → WaitRightly tree new.table.places

@@ -20,13 +20,20 @@ pub record SeatView : Type 0 where
 
 abbrev pub seat_code : Coded SeatView
 seat_code =
-    code_by (ℕ × (TrayView × (List ReceiptView × ℕ))) (coded× coded_ℕ (coded× tray_code (coded× (coded_list receipt_code) coded_ℕ)))
-    (λ s. (s.worker, (s.tray, (s.receipts, s.room)))) (λ p. record { worker = p.0; tray = p.1.0; receipts = p.1.1.0; room = p.1.1.1 }) (λ _. refl)
+    code_by (ℕ × (TrayView × (List ReceiptView × ℕ)))
+    (coded× coded_ℕ (coded× tray_code (coded× (coded_list receipt_code) coded_ℕ)))
+    (λ s. (s.worker, (s.tray, (s.receipts, s.room))))
+    (λ p. record { worker = p.0; tray = p.1.0; receipts = p.1.1.0; room = p.1.1.1 }) (λ _. refl)
 
 -- a seat to whose tray nothing is lent, and which has no receipt, and room for two Leaves of each
 -- node
 abbrev pub new_seat : Planned → Start → ℕ → SeatView
-new_seat plan start worker = record { worker = worker; tray = empty_tray plan start; receipts = []; room = 2 * length plan.rows }
+new_seat plan start worker = record {
+  worker = worker;
+  tray = empty_tray plan start;
+  receipts = [];
+  room = 2 * length plan.rows;
+}
 
 -- the receipts of seats, list by list
 abbrev pub lists_of : List SeatView → List (List ReceiptView)
@@ -38,7 +45,8 @@ pub record HasLeft (d : DoneView) (old new : SeatView) : Type 0 where
   pub number : ℕ
   pub worker : new.worker ≡ old.worker
   pub tray : new.tray ≡ after_leave d.kind d.subject.node old.tray
-  pub receipts : new.receipts ≡ old.receipts ++ record { number = number; worker = old.worker; node = d.subject.node } ∷ []
+  pub receipts : new.receipts ≡ old.receipts
+      ++ record { number = number; worker = old.worker; node = d.subject.node } ∷ []
   pub room : new.room ≡ old.room
 
 -- the resources that a seat holds, and whether it may change one: its tray's

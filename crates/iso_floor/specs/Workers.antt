@@ -44,7 +44,8 @@ pub record IsEnclosed (plan : Planned) (start : Start) (n : ℕ) : Type 0 where
 pub record IsAtEntry (plan : Planned) (start : Start) (n : ℕ) (t : TrayView) : Type 0 where
   pub enclosed : IsEnclosed plan start n
   pub lent : is_lent t.lent n ≡ true
-  pub begins : (kind : BodyKind) → is_after_all kind ≡ false → is_kind_of kind (row_at (tree_of plan) n).kind ≡ true → CanBegin (subject plan start n) kind t.frames
+  pub begins : (kind : BodyKind) → is_after_all kind ≡ false → is_kind_of kind
+      (row_at (tree_of plan) n).kind ≡ true → CanBegin (subject plan start n) kind t.frames
   pub tray : StandsAsOpened plan start n (parent (tree_of plan) n) t
 
 -- between two nodes that stand directly in a class: all stands as the class's opening has left it
@@ -55,7 +56,8 @@ pub record IsInside (plan : Planned) (start : Start) (p : ℕ) (t : TrayView) : 
 
 -- a body of a node can be done: its frames are there, and its keys stand as the openings before it
 -- have left them
-pub record CanPerform (plan : Planned) (start : Start) (kind : BodyKind) (n : ℕ) (t : TrayView) : Type 0 where
+pub record CanPerform (plan : Planned) (start : Start) (kind : BodyKind) (n : ℕ)
+    (t : TrayView) : Type 0 where
   pub begins : CanBegin (subject plan start n) kind t.frames
   pub ready : IsReadyFor (subject plan start n) kind (content t) (has_value t)
 
@@ -67,4 +69,5 @@ pub record IsLastOf (plan : Planned) (start : Start) (n : ℕ) (d : DoneView) : 
 -- values that a tray had before a node was lent to it were only changed further
 abbrev pub FurtherFromEntry : Planned → Start → ℕ → TrayView → TrayView → Type 0
 FurtherFromEntry plan start n entry end =
-    (before : TrayView) → StandsAsOpened plan start (parent (tree_of plan) n) (parent (tree_of plan) n) before → IsLentTo n before entry → GoesOn before end
+    (before : TrayView) → StandsAsOpened plan start (parent (tree_of plan) n)
+    (parent (tree_of plan) n) before → IsLentTo n before entry → GoesOn before end

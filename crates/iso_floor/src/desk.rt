@@ -106,7 +106,8 @@ impl<'a, G: Ground> Desk<'a, G> {
     /// everyone's.
     pub(crate) fn wakes(&mut self) -> Wakes
         ensures book { self.new.book ≡ self.old.book }
-        ensures nobody { result.worker ≡ None → (w : ℕ) → w < length self.old.scheduler.members → awaits (member_of self.old.scheduler.members w) ≡ true → CanEnterNone self.old w }
+        ensures nobody { result.worker ≡ None → (w : ℕ) → w < length self.old.scheduler.members
+            → awaits (member_of self.old.scheduler.members w) ≡ true → CanEnterNone self.old w }
     {
         let is_over = self.is_over();
         Wakes {
@@ -257,8 +258,12 @@ impl<'a, G: Ground> Desk<'a, G> {
         tray: &mut Tray<'_>,
     ) -> Result<(), CoreFault>
         requires { IsTrayOf G.plan G.start tray.old }
-        ensures event { MatchResult result (λ _. IsTaken (Event.Enter worker node) (MayEnterWith self.old.book node tray.old) self.old.book self.new.book)
-            (λ fault. IsNotTaken fault (Event.Enter worker node) (MayEnterWith self.old.book node tray.old) self.old.book self.new.book tray.old tray.new) }
+        ensures event { MatchResult result
+            (λ _. IsTaken (Event.Enter worker node)
+            (MayEnterWith self.old.book node tray.old) self.old.book self.new.book)
+            (λ fault. IsNotTaken fault (Event.Enter worker node)
+            (MayEnterWith self.old.book node tray.old) self.old.book self.new.book
+            tray.old tray.new) }
         ensures tray { OnOk result (IsEntered node tray.old tray.new) }
     {
         nodes_are_a_tree(self.book.plan());
@@ -276,8 +281,12 @@ impl<'a, G: Ground> Desk<'a, G> {
         tray: &mut Tray<'_>,
     ) -> Result<(), CoreFault>
         requires { IsTrayOf G.plan G.start tray.old }
-        ensures event { MatchResult result (λ _. IsTaken (Event.Shut worker class) (GoesOnWith self.old.book class tray.old) self.old.book self.new.book)
-            (λ fault. IsNotTaken fault (Event.Shut worker class) (GoesOnWith self.old.book class tray.old) self.old.book self.new.book tray.old tray.new) }
+        ensures event { MatchResult result
+            (λ _. IsTaken (Event.Shut worker class)
+            (GoesOnWith self.old.book class tray.old) self.old.book self.new.book)
+            (λ fault. IsNotTaken fault (Event.Shut worker class)
+            (GoesOnWith self.old.book class tray.old) self.old.book self.new.book
+            tray.old tray.new) }
         ensures tray { OnOk result (IsShut class tray.old tray.new) }
     {
         nodes_are_a_tree(self.book.plan());
@@ -296,10 +305,13 @@ impl<'a, G: Ground> Desk<'a, G> {
     ) -> Result<Receipt, (Refused, Done)>
         requires ground { IsTrayOf G.plan G.start tray.old }
         requires brought { MayBring done tray.old }
-        ensures event { MatchResult result (λ receipt. (c : BookView) × IsLeft worker done receipt self.old.book c tray.old)
-            (λ refusal. IsNotLeft (refused_of refusal.0) refusal.1 worker done self.old.book self.new.book tray.old tray.new) }
+        ensures event { MatchResult result
+            (λ receipt. (c : BookView) × IsLeft worker done receipt self.old.book c tray.old)
+            (λ refusal. IsNotLeft (refused_of refusal.0) refusal.1 worker done self.old.book
+            self.new.book tray.old tray.new) }
         ensures tray { OnOk result (tray.new ≡ after_leave done.kind done.subject.node tray.old) }
-        ensures reads { OnOk result ((n : ℕ) → is_lent tray.new.lent n ≡ true → ReadsStart n tray.new) }
+        ensures reads { OnOk result ((n : ℕ) → is_lent tray.new.lent n ≡ true
+            → ReadsStart n tray.new) }
     {
         nodes_are_a_tree(self.book.plan());
         let (kind, node) = (done.kind(), done.node());

@@ -74,8 +74,11 @@ impl Hints {
         requires plan { plan.now ≡ held.now.plan }
         requires node { node < length plan.now.rows }
         ensures key { IfSome result (λ l. l.key < length (keys (tree_of plan.now))) }
-        ensures own { IfSome result (λ l. takes_in l.access l.key (locks (tree_of plan.now) node) ≡ true) }
-        ensures excluded { MatchOption result (is_some (lowest_in_the_way (tree_of plan.now) (is_held held.now.held) node) ≡ false) (λ l. is_excluded (tree_of plan.now) held.now.held l ≡ true) }
+        ensures own { IfSome result
+            (λ l. takes_in l.access l.key (locks (tree_of plan.now) node) ≡ true) }
+        ensures excluded { MatchOption result
+            (is_some (lowest_in_the_way (tree_of plan.now) (is_held held.now.held) node) ≡ false)
+            (λ l. is_excluded (tree_of plan.now) held.now.held l ≡ true) }
     {
         let locks = plan.locks(node);
         let place = self.places.get(node as usize).copied().unwrap_or(0);
@@ -137,7 +140,8 @@ fn excluded_on(held: &HeldNodes<'_>, locks: &[Lock], key: u32) -> Option<Lock>
     requires { All (λ l. l.key < length (keys (tree_of held.now.plan))) locks.now }
     ensures key { IfSome result (λ l. l.key < length (keys (tree_of held.now.plan))) }
     ensures own { IfSome result (λ l. takes_in l.access l.key locks.now ≡ true) }
-    ensures excluded { IfSome result (λ l. is_excluded (tree_of held.now.plan) held.now.held l ≡ true) }
+    ensures excluded { IfSome result
+        (λ l. is_excluded (tree_of held.now.plan) held.now.held l ≡ true) }
 {
     let at = locks.partition_point(|lock| lock.key < key);
     let lock = *locks.get(at)?;
@@ -153,7 +157,9 @@ fn first_excluded(held: &HeldNodes<'_>, locks: &[Lock]) -> Option<Lock>
     requires { All (λ l. l.key < length (keys (tree_of held.now.plan))) locks.now }
     ensures key { IfSome result (λ l. l.key < length (keys (tree_of held.now.plan))) }
     ensures own { IfSome result (λ l. takes_in l.access l.key locks.now ≡ true) }
-    ensures excluded { MatchOption result (list_any (is_excluded (tree_of held.now.plan) held.now.held) locks.now ≡ false) (λ l. is_excluded (tree_of held.now.plan) held.now.held l ≡ true) }
+    ensures excluded { MatchOption result
+        (list_any (is_excluded (tree_of held.now.plan) held.now.held) locks.now ≡ false)
+        (λ l. is_excluded (tree_of held.now.plan) held.now.held l ≡ true) }
 {
     'locks: for lock in locks {
         if excludes(held, *lock) {

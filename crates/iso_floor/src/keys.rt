@@ -77,7 +77,9 @@ fn renew(held: &mut Marks, written: &mut Marks, nodes: &HeldNodes<'_>, locks: &[
     requires known { All (λ l. l.key < length (keys (tree_of nodes.now.plan))) locks.now }
     requires marks { AreMarks (record { held = held.old; written = written.old }) }
     ensures marks { AreMarks (record { held = held.new; written = written.new }) }
-    ensures keys { AreRenewed (tree_of nodes.now.plan) nodes.now.held locks.now (record { held = held.old; written = written.old }) (record { held = held.new; written = written.new }) }
+    ensures keys { AreRenewed (tree_of nodes.now.plan) nodes.now.held locks.now
+        (record { held = held.old; written = written.old })
+        (record { held = held.new; written = written.new }) }
 {
     'locks: for lock in locks {
         let key = lock.key as usize;

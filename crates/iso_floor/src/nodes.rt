@@ -10,7 +10,8 @@ use iso_plan::plan::Plan;
 /// Whether a node may run beside what its class's owner does.
 pub(crate) fn is_concurrent(plan: &Plan, node: u32) -> bool
     ensures yes { result ≡ true → mode (tree_of plan.now) plan.now.settings node ≡ Concurrent }
-    ensures no { node < length plan.now.rows → result ≡ false → mode (tree_of plan.now) plan.now.settings node ≡ SameThread }
+    ensures no { node < length plan.now.rows → result ≡ false
+        → mode (tree_of plan.now) plan.now.settings node ≡ SameThread }
 {
     if node >= plan.len() {
         return false;

@@ -17,7 +17,8 @@ use iso_desk::table::Table;
 pub(crate) fn line_for(table: &Table, keys: &HeldKeys, worker: u32) -> Option<Line>
     requires { worker < table.now.workers }
     ensures line { IfSome result (IsLineOf table.now.workers) }
-    ensures next { MatchOption result (HasNone table.now.places keys.now worker) (IsNextLine table.now.places keys.now worker) }
+    ensures next { MatchOption result (HasNone table.now.places keys.now worker)
+        (IsNextLine table.now.places keys.now worker) }
 {
     let own = Line::Own(worker);
     if table.first(own).is_some() {
@@ -34,7 +35,8 @@ pub(crate) fn line_for(table: &Table, keys: &HeldKeys, worker: u32) -> Option<Li
 fn offered(table: &Table, keys: &HeldKeys, party: Party) -> Option<KeyLine>
     requires { party_number party ≤ table.now.workers }
     ensures line { IfSome result (λ l. IsLineOf table.now.workers (Line.Key l)) }
-    ensures next { MatchOption result (NothingOffered table.now.places keys.now.held keys.now.written party) (IsNextOf table.now.places keys.now party) }
+    ensures next { MatchOption result (NothingOffered table.now.places keys.now.held
+        keys.now.written party) (IsNextOf table.now.places keys.now party) }
 {
     let key = table.on_offer(party, keys.held(), keys.written())?;
     let reading = KeyLine {
@@ -60,7 +62,8 @@ fn comes_first(table: &Table, line: KeyLine, other: KeyLine) -> bool
     requires other { IsLineOf table.now.workers (Line.Key other) }
     ensures stands { result ≡ true → (n : ℕ) × StandsIn table.now.places (Line.Key line) n }
     ensures yes { result ≡ true → ComesFirst table.now.places line other }
-    ensures others { result ≡ false → (n : ℕ) → StandsIn table.now.places (Line.Key line) n → (m : ℕ) × StandsIn table.now.places (Line.Key other) m }
+    ensures others { result ≡ false → (n : ℕ) → StandsIn table.now.places (Line.Key line) n
+        → (m : ℕ) × StandsIn table.now.places (Line.Key other) m }
     ensures no { result ≡ false → ComesFirst table.now.places other line }
 {
     precedes(since(table, line), since(table, other))

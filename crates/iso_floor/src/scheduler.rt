@@ -94,7 +94,12 @@ impl Model for Scheduler {
 
     ghost Value = { SchedulerView };
 
-    ghost view = { λ s. record { table = s.table; members = s.crew.members.items; keys = s.keys; rounds = s.rounds } };
+    ghost view = { λ s. record {
+      table = s.table;
+      members = s.crew.members.items;
+      keys = s.keys;
+      rounds = s.rounds;
+    } };
 
     ghost invariant = { λ s. record {
       crew : length s.crew.members.items ≡ s.table.workers;
@@ -209,7 +214,9 @@ impl Scheduler {
     /// The next node that waits for a worker, which leaves its line to be attempted or shut: the
     /// first of the worker's own line, else of one on offer.
     pub(crate) fn next_for(&mut self, worker: u32) -> Option<u32>
-        ensures node { worker < self.old.table.workers → MatchOption result (HasNone self.old.table.places self.old.keys worker) (IsNextNode self.old.table.places self.old.keys worker) }
+        ensures node { worker < self.old.table.workers
+            → MatchOption result (HasNone self.old.table.places self.old.keys worker)
+            (IsNextNode self.old.table.places self.old.keys worker) }
         ensures left { self.new ≡ record self.old { table = next_taken result self.old.table } }
         ensures sizes { KeepsSizes self.old self.new }
         ensures lines { KeepsLines self.old self.new }
@@ -232,11 +239,15 @@ impl Scheduler {
         lock: Lock,
         worker: u32,
     ) -> Result<(), AllocError>
-        ensures waits { OnOk result (IsFree self.old.table.places node → node < length plan.now.rows → lock.key < 256 → worker < self.old.table.workers → self.new.table ≡ lined_up node (waiting_line (mode (tree_of plan.now) plan.now.settings node) worker lock) self.old.table) }
+        ensures waits { OnOk result (IsFree self.old.table.places node → node < length plan.now.rows
+            → lock.key < 256 → worker < self.old.table.workers → self.new.table
+            ≡ lined_up node (waiting_line (mode (tree_of plan.now) plan.now.settings node) worker
+            lock) self.old.table) }
         ensures same { OnErr result (self.new ≡ self.old) }
         ensures rest { self.new ≡ record self.old { table = self.new.table } }
         ensures sizes { KeepsSizes self.old self.new }
-        ensures lines { (tree : List Row) → takes_in lock.access lock.key (locks tree node) ≡ true → WaitRightly tree self.old.table.places → WaitRightly tree self.new.table.places }
+        ensures lines { (tree : List Row) → takes_in lock.access lock.key (locks tree node) ≡ true
+            → WaitRightly tree self.old.table.places → WaitRightly tree self.new.table.places }
     {
         let party = if is_concurrent(plan, node) {
             Party::Everyone
@@ -257,8 +268,12 @@ impl Scheduler {
     /// A worker entered a node: its keys are held.
     pub(crate) fn enter(&mut self, plan: &Plan, held: &HeldNodes<'_>, node: u32, worker: u32)
         requires { plan.now ≡ held.now.plan }
-        ensures place { self.new ≡ record self.old { table = put node (With worker) self.old.table; keys = self.new.keys } }
-        ensures keys { node < length plan.now.rows → AreRenewed (tree_of plan.now) held.now.held (locks (tree_of plan.now) node) self.old.keys self.new.keys }
+        ensures place { self.new ≡ record self.old {
+          table = put node (With worker) self.old.table;
+          keys = self.new.keys;
+        } }
+        ensures keys { node < length plan.now.rows → AreRenewed (tree_of plan.now) held.now.held
+            (locks (tree_of plan.now) node) self.old.keys self.new.keys }
         ensures past { length plan.now.rows ≤ node → self.new.keys ≡ self.old.keys }
         ensures sizes { KeepsSizes self.old self.new }
         ensures lines { KeepsLines self.old self.new }
@@ -269,7 +284,8 @@ impl Scheduler {
 
     /// A worker shut a class.
     pub(crate) fn shut(&mut self, class: u32, worker: u32)
-        ensures step { self.new ≡ record self.old { table = put class (With worker) self.old.table } }
+        ensures step { self.new
+            ≡ record self.old { table = put class (With worker) self.old.table } }
         ensures sizes { KeepsSizes self.old self.new }
         ensures lines { KeepsLines self.old self.new }
     {
@@ -289,7 +305,9 @@ impl Scheduler {
     ) -> Result<(), AllocError>
         requires { plan.now ≡ held.now.plan }
         ensures stays { kind ≡ BeforeAll → self.new ≡ self.old }
-        ensures keys { kind ≢ BeforeAll → node < length plan.now.rows → AreRenewed (tree_of plan.now) held.now.held (locks (tree_of plan.now) node) self.old.keys self.new.keys }
+        ensures keys { kind ≢ BeforeAll → node < length plan.now.rows
+            → AreRenewed (tree_of plan.now) held.now.held
+            (locks (tree_of plan.now) node) self.old.keys self.new.keys }
         ensures past { length plan.now.rows ≤ node → self.new.keys ≡ self.old.keys }
         ensures sizes { KeepsSizes self.old self.new }
         ensures lines { KeepsLines self.old self.new }
@@ -320,7 +338,8 @@ impl Scheduler {
     /// after its last. Out of memory is answered only after 2^63 nodes were put in lines.
     fn finish(&mut self, plan: &Plan, held: &HeldNodes<'_>, node: u32) -> Result<(), AllocError>
         requires { plan.now ≡ held.now.plan }
-        ensures keys { node < length plan.now.rows → AreRenewed (tree_of plan.now) held.now.held (locks (tree_of plan.now) node) self.old.keys self.new.keys }
+        ensures keys { node < length plan.now.rows → AreRenewed (tree_of plan.now) held.now.held
+            (locks (tree_of plan.now) node) self.old.keys self.new.keys }
         ensures past { length plan.now.rows ≤ node → self.new.keys ≡ self.old.keys }
         ensures rest { self.new ≡ record self.old { table = self.new.table; keys = self.new.keys } }
         ensures sizes { KeepsSizes self.old self.new }
@@ -334,7 +353,8 @@ impl Scheduler {
     /// A child of a class is over.
     fn end(&mut self, plan: &Plan, held: &HeldNodes<'_>, node: u32, class: u32)
         requires { plan.now ≡ held.now.plan }
-        ensures keys { node < length plan.now.rows → AreRenewed (tree_of plan.now) held.now.held (locks (tree_of plan.now) node) self.old.keys self.new.keys }
+        ensures keys { node < length plan.now.rows → AreRenewed (tree_of plan.now) held.now.held
+            (locks (tree_of plan.now) node) self.old.keys self.new.keys }
         ensures past { length plan.now.rows ≤ node → self.new.keys ≡ self.old.keys }
         ensures rest { self.new ≡ record self.old { table = self.new.table; keys = self.new.keys } }
         ensures sizes { KeepsSizes self.old self.new }
@@ -376,7 +396,8 @@ impl Scheduler {
 
     /// A worker begins to wait with what it has seen.
     pub(crate) fn begin_wait(&mut self, worker: u32, seen: Option<u64>)
-        ensures waits { worker < self.old.table.workers → self.new.members ≡ waiting worker seen self.old.members }
+        ensures waits { worker < self.old.table.workers → self.new.members
+            ≡ waiting worker seen self.old.members }
         ensures rest { self.new ≡ record self.old { members = self.new.members } }
         ensures sizes { KeepsSizes self.old self.new }
     {
@@ -387,7 +408,8 @@ impl Scheduler {
 
     /// A worker waits no more.
     pub(crate) fn end_wait(&mut self, worker: u32)
-        ensures looks { worker < self.old.table.workers → self.new.members ≡ looking worker self.old.members }
+        ensures looks { worker < self.old.table.workers → self.new.members
+            ≡ looking worker self.old.members }
         ensures rest { self.new ≡ record self.old { members = self.new.members } }
         ensures sizes { KeepsSizes self.old self.new }
     {
@@ -399,8 +421,11 @@ impl Scheduler {
     /// Whether a worker that waits goes on to wait, where the run is over or isn't: it has nothing
     /// to wake for. Then it may be called again.
     pub(crate) fn stays(&mut self, worker: u32, is_over: bool) -> bool
-        ensures nothing { worker < self.old.table.workers → Decides result (HasNothingIn self.old is_over worker (member_of self.old.members worker).seen) }
-        ensures waits { worker < self.old.table.workers → self.new.members ≡ cond result (waiting worker (member_of self.old.members worker).seen self.old.members) self.old.members }
+        ensures nothing { worker < self.old.table.workers → Decides result
+            (HasNothingIn self.old is_over worker (member_of self.old.members worker).seen) }
+        ensures waits { worker < self.old.table.workers → self.new.members
+            ≡ cond result (waiting worker (member_of self.old.members worker).seen self.old.members)
+            self.old.members }
         ensures rest { self.new ≡ record self.old { members = self.new.members } }
         ensures sizes { KeepsSizes self.old self.new }
     {
@@ -418,7 +443,11 @@ impl Scheduler {
     /// Calls a worker that waits, wasn't called, and has something to wake for, if there is one,
     /// where the run is over or isn't.
     pub(crate) fn call(&mut self, is_over: bool) -> Option<u32>
-        ensures whom { MatchOption result ((w : ℕ) → w < length self.old.members → awaits (member_of self.old.members w) ≡ true → HasNothingIn self.old is_over w (member_of self.old.members w).seen) (λ w. (awaits (member_of self.old.members w) ≡ true) × ¬ HasNothingIn self.old is_over w (member_of self.old.members w).seen) }
+        ensures whom { MatchOption result ((w : ℕ) → w < length self.old.members
+            → awaits (member_of self.old.members w) ≡ true
+            → HasNothingIn self.old is_over w (member_of self.old.members w).seen)
+            (λ w. (awaits (member_of self.old.members w) ≡ true)
+            × ¬ HasNothingIn self.old is_over w (member_of self.old.members w).seen) }
         ensures marked { self.new ≡ record self.old { members = called result self.old.members } }
         ensures sizes { KeepsSizes self.old self.new }
     {
@@ -520,7 +549,8 @@ impl Scheduler {
     /// The keys of a node that was entered or is over are as the nodes hold them that are held.
     fn renew(&mut self, plan: &Plan, held: &HeldNodes<'_>, node: u32)
         requires { plan.now ≡ held.now.plan }
-        ensures keys { node < length plan.now.rows → AreRenewed (tree_of plan.now) held.now.held (locks (tree_of plan.now) node) self.old.keys self.new.keys }
+        ensures keys { node < length plan.now.rows → AreRenewed (tree_of plan.now) held.now.held
+            (locks (tree_of plan.now) node) self.old.keys self.new.keys }
         ensures past { length plan.now.rows ≤ node → self.new.keys ≡ self.old.keys }
         ensures rest { self.new ≡ record self.old { keys = self.new.keys } }
         ensures sizes { KeepsSizes self.old self.new }

@@ -27,7 +27,11 @@ impl<'a, G: Ground> Model for Site<'a, G> {
 
     ghost view = { λ s. s.workers };
 
-    ghost invariant = { λ s. record { plan_is : s.plan.now ≡ G.plan; world_is : s.world.now ≡ G.start; workers_are : s.workers ≡ G.workers } };
+    ghost invariant = { λ s. record {
+      plan_is : s.plan.now ≡ G.plan;
+      world_is : s.world.now ≡ G.start;
+      workers_are : s.workers ≡ G.workers;
+    } };
 }
 
 impl<'a, G: Ground> Site<'a, G> {

@@ -6,7 +6,8 @@ use Rattle.iso_junit.specs.Texts.{joined}
 
 -- a byte of a message: a percent sign and the ends of lines are escaped
 abbrev pub message_byte : ℕ → List ℕ
-message_byte b = cond (b == 37) (codes "%25") (cond (b == 13) (codes "%0D") (cond (b == 10) (codes "%0A") (b ∷ [])))
+message_byte b = cond (b == 37) (codes "%25")
+    (cond (b == 13) (codes "%0D") (cond (b == 10) (codes "%0A") (b ∷ [])))
 
 -- a byte of a property: so are the signs that end one
 abbrev pub property_byte : ℕ → List ℕ

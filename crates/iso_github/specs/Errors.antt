@@ -24,11 +24,13 @@ place_in places n = slice_index_or places n (record { file = []; line = 0; ended
 
 -- what is told of the node with a number
 abbrev pub node_error : List Row → (ℕ → Outcome) → List PlacedView → ℕ → List ℕ
-node_error tree outcome places n = error_of (path_text tree n) (place_in places n) (outcome n).verdict
+node_error tree outcome places n =
+    error_of (path_text tree n) (place_in places n) (outcome n).verdict
 
 -- what is told of the nodes from a number on
 abbrev pub errors_from : List Row → (ℕ → Outcome) → List PlacedView → ℕ → List ℕ
-errors_from tree outcome places n = flat_map (node_error tree outcome places) (range_with_len n (length tree - n))
+errors_from tree outcome places n =
+    flat_map (node_error tree outcome places) (range_with_len n (length tree - n))
 
 -- what is told of a run: of each node but the root, in the order in which they are written
 abbrev pub errors_text : List Row → (ℕ → Outcome) → List PlacedView → List ℕ

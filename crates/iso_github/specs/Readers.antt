@@ -36,7 +36,8 @@ read_from ends in_text [] = Some []
 read_from ends behind_percent [] = None
 read_from ends (behind_digit d) [] = None
 read_from ends in_text (b ∷ bs) =
-    cond (b == 37) (read_from ends behind_percent bs) (with_byte (cond (ends b) None (Some b)) (read_from ends in_text bs))
+    cond (b == 37) (read_from ends behind_percent bs)
+    (with_byte (cond (ends b) None (Some b)) (read_from ends in_text bs))
 read_from ends behind_percent (b ∷ bs) = read_from ends (behind_digit b) bs
 read_from ends (behind_digit d) (b ∷ bs) = with_byte (byte_of d b) (read_from ends in_text bs)
 

@@ -34,7 +34,8 @@ pub fn write_errors<W: Sink>(
     requires complete { AreComplete results.now }
     requires places { length places.now ≡ length plan.now.rows }
     ensures { Writes (W.account sink.old) (W.account sink.new)
-        (errors_text (tree_of plan.now) (outcome_in results.now) (map placed_of places.now)) result }
+        (errors_text (tree_of plan.now) (outcome_in results.now)
+        (map placed_of places.now)) result }
 {
     let mut printer = Printer::new(sink);
     match errors(&mut printer, plan, results, places) {
@@ -55,7 +56,8 @@ pub fn write_refusal<W: Sink>(
     kind: &str,
     sink: &mut W,
 ) -> Result<(), TapFault>
-    ensures { Writes (W.account sink.old) (W.account sink.new) (refusal_line file.now line column kind.now) result }
+    ensures { Writes (W.account sink.old) (W.account sink.new)
+        (refusal_line file.now line column kind.now) result }
 {
     let mut printer = Printer::new(sink);
     match refusal(&mut printer, file, line, column, kind) {
@@ -77,7 +79,8 @@ fn errors<W: Sink>(
     requires complete { AreComplete results.now }
     requires places { length places.now ≡ length plan.now.rows }
     ensures { Prints printer.old printer.new
-        (errors_text (tree_of plan.now) (outcome_in results.now) (map placed_of places.now)) result }
+        (errors_text (tree_of plan.now) (outcome_in results.now)
+        (map placed_of places.now)) result }
 {
     'nodes: for node in 1..plan.len() {
         let at = places[node as usize];
@@ -107,7 +110,8 @@ fn error<'x, W: Sink>(
     requires above { 0 < node }
     requires within { node < length plan.now.rows }
     ensures { Prints printer.old printer.new
-        (error_of (path_text (tree_of plan.now) node) (placed_of at.now) (verdict_of_view verdict.entry)) result }
+        (error_of (path_text (tree_of plan.now) node) (placed_of at.now)
+        (verdict_of_view verdict.entry)) result }
 {
     match verdict {
         ViewVerdict::Fail(note) | ViewVerdict::Fault(_, note) => {
@@ -128,7 +132,8 @@ fn failed<'x, W: Sink>(
     requires above { 0 < node }
     requires within { node < length plan.now.rows }
     ensures { Prints printer.old printer.new
-        (error_line (placed_of at.now).file (placed_of at.now).ended (path_text (tree_of plan.now) node) message.now) result }
+        (error_line (placed_of at.now).file (placed_of at.now).ended
+        (path_text (tree_of plan.now) node) message.now) result }
 {
     parts_with_path(
         printer,

@@ -10,8 +10,10 @@ ghost use Rattle.iso_github.specs.Readers.{message_of, property_of};
 /// else stands as it is.
 pub fn texts_are_escaped()
     ensures message { in_message (codes "50%: a,b\nc" ++ 13 ∷ []) ≡ codes "50%25: a,b%0Ac%0D" }
-    ensures property { in_property (codes "50%: a,b\nc" ++ 13 ∷ []) ≡ codes "50%25%3A a%2Cb%0Ac%0D" }
-    ensures as_they_are { in_property (codes "my \"cart\"/x;y.jtap" ++ 195 ∷ 164 ∷ []) ≡ codes "my \"cart\"/x;y.jtap" ++ 195 ∷ 164 ∷ [] }
+    ensures property { in_property (codes "50%: a,b\nc" ++ 13 ∷ [])
+        ≡ codes "50%25%3A a%2Cb%0Ac%0D" }
+    ensures as_they_are { in_property (codes "my \"cart\"/x;y.jtap" ++ 195 ∷ 164 ∷ [])
+        ≡ codes "my \"cart\"/x;y.jtap" ++ 195 ∷ 164 ∷ [] }
     ensures again { in_message (codes "%0A") ≡ codes "%250A" }
 {}
 
@@ -27,13 +29,15 @@ pub fn what_is_not_escaped_is_refused()
 
 /// The error of a failed test.
 pub fn failed_test_is_an_error()
-    ensures { error_line (codes "a,b/cart.jtap") 12 (codes "shop.Cart.adds") (codes "expected: <6> but was: <5>")
+    ensures { error_line (codes "a,b/cart.jtap") 12 (codes "shop.Cart.adds")
+        (codes "expected: <6> but was: <5>")
         ≡ codes "::error file=a%2Cb/cart.jtap,line=12,title=shop.Cart.adds::expected: <6> but was: <5>\n" }
 {}
 
 /// The error of a script that is refused.
 pub fn refused_script_is_an_error()
-    ensures { refusal_line (codes "cart.jtap") 3 7 (codes "BadToken") ≡ codes "::error file=cart.jtap,line=3,col=7,title=jtap::BadToken\n" }
+    ensures { refusal_line (codes "cart.jtap") 3 7 (codes "BadToken")
+        ≡ codes "::error file=cart.jtap,line=3,col=7,title=jtap::BadToken\n" }
 {}
 
 /// Tests and classes that failed by themselves are told in their order, and none that is blocked,

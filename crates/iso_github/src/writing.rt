@@ -36,7 +36,8 @@ pub(crate) fn parts_with_path<W: Sink>(
     requires above { 0 < node }
     requires within { node < length plan.now.rows }
     ensures { Prints printer.old printer.new
-        (joined (map part_text before.now ++ path_text (tree_of plan.now) node ∷ map part_text after.now)) result }
+        (joined (map part_text before.now ++ path_text (tree_of plan.now) node
+        ∷ map part_text after.now)) result }
 {
     for part in before {
         write_part(printer, part)?;

@@ -67,7 +67,8 @@ take-put word zero xs x = refl
 take-put word (suc n) [] x = refl
 take-put word (suc n) (y ∷ ys) x = by (nat_lt (distance word x) (distance word y)) (take-put word n ys x)
   where
-    by : (b : Bool) → take n (put_by_distance word (take n ys) x) ≡ take n (put_by_distance word ys x) → take (suc n) (cond b (x ∷ y ∷ take n ys) (y ∷ put_by_distance word (take n ys) x)) ≡ take (suc n) (cond b (x ∷ y ∷ ys) (y ∷ put_by_distance word ys x))
+    by : (b : Bool) → take n (put_by_distance word (take n ys) x) ≡ take n (put_by_distance word ys x)
+        → take (suc n) (cond b (x ∷ y ∷ take n ys) (y ∷ put_by_distance word (take n ys) x)) ≡ take (suc n) (cond b (x ∷ y ∷ ys) (y ∷ put_by_distance word ys x))
     by true more = ap (λ (zs : List (List ℕ)). x ∷ zs) (take-front n y ys)
     by false more = ap (λ (zs : List (List ℕ)). y ∷ zs) more
 

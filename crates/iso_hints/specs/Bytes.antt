@@ -16,4 +16,5 @@ ends_statement b = ((b == 59) || (b == 123)) || (b == 125)
 
 -- a byte of an operator, or of `=`
 abbrev pub is_operator_byte : ℕ → Bool
-is_operator_byte b = (((b == 43) || (b == 45)) || ((b == 42) || (b == 61))) || ((b == 60) || (b == 33))
+is_operator_byte b = (((b == 43) || (b == 45)) || ((b == 42) || (b == 61)))
+    || ((b == 60) || (b == 33))

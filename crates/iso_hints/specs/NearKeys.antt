@@ -24,13 +24,15 @@ is_dot b = b == 46
 
 -- a known key is a segment, a dot and this key: the segment is left out
 abbrev pub lacks_segment : List ℕ → List ℕ → Bool
-lacks_segment key known = nat_lt (position_or_len is_dot known) (length known) && bytes_eq (after_first is_dot known) key
+lacks_segment key known = nat_lt (position_or_len is_dot known) (length known)
+    && bytes_eq (after_first is_dot known) key
 
 -- how far a key is from a known one, if it is near enough: as many bytes as are left out, or by the
 -- distance of words
 abbrev pub rest_distance : List ℕ → List ℕ → Option ℕ
 rest_distance key known =
-    cond (lacks_segment key known) (Some (position_or_len is_dot known + 1)) (cond (is_near key known) (Some (distance key known)) None)
+    cond (lacks_segment key known) (Some (position_or_len is_dot known + 1))
+    (cond (is_near key known) (Some (distance key known)) None)
 
 -- the same by what both have behind the last dot up to which they are the same
 abbrev pub key_distance : List ℕ → List ℕ → Option ℕ
@@ -45,7 +47,8 @@ nearer (Some best) known (Some d) = cond (nat_le best.1 d) (Some best) (Some (kn
 -- of a key and these known ones the nearest, of equal ones the first
 abbrev pub nearest_from : List ℕ → Option (List ℕ × ℕ) → List (List ℕ) → Option (List ℕ × ℕ)
 nearest_from key best [] = best
-nearest_from key best (known ∷ more) = nearest_from key (nearer best known (key_distance key known)) more
+nearest_from key best (known ∷ more) =
+    nearest_from key (nearer best known (key_distance key known)) more
 
 -- a key and its distance, as the code has them
 abbrev pub measured : Near → List ℕ × ℕ

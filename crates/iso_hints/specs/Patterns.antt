@@ -16,7 +16,8 @@ is_any_next tokens bytes = list_any (λ token. is_next token bytes) tokens
 -- digits are next that go on as a word
 abbrev pub is_odd_numeral : List ℕ → Bool
 is_odd_numeral bytes =
-    nat_lt 0 (prefix_len is_ascii_digit bytes) && is_name_byte (slice_get bytes (prefix_len is_ascii_digit bytes))
+    nat_lt 0 (prefix_len is_ascii_digit bytes)
+    && is_name_byte (slice_get bytes (prefix_len is_ascii_digit bytes))
 
 -- an operand ends with this byte: a name, a number, a text or a parenthesis
 abbrev pub ends_operand : Option ℕ → Bool
@@ -31,7 +32,8 @@ last_byte bytes = slice_get bytes (length bytes - 1)
 -- than a literal
 abbrev pub is_second_operator : PlaceView → Bool
 is_second_operator place =
-    ((is_any_next (map (λ t. t.now) OPERATORS.now) place.rest && ends_operand (last_byte place.before))
+    ((is_any_next (map (λ t. t.now) OPERATORS.now) place.rest
+    && ends_operand (last_byte place.before))
     && list_any is_operator_byte place.statement)
     && not (is_any_next (map (λ t. t.now) LITERALS.now) place.statement)
 
@@ -43,7 +45,8 @@ is_behind_team head = is_next (codes "team") head && is_name (untrimmed (drop 4 
 abbrev pub lies : PlaceView → Pattern → List ℕ → Bool
 lies place Token word = is_last word place.before
 lies place Statement word = is_next word place.statement
-lies place Reserved word = is_last word place.before && is_any_next (map (λ t. t.now) RESERVED.now) place.rest
+lies place Reserved word =
+    is_last word place.before && is_any_next (map (λ t. t.now) RESERVED.now) place.rest
 lies place Numeral word = is_odd_numeral place.rest
 lies place Operator word = is_second_operator place
 lies place Team word = is_behind_team place.statement

@@ -25,7 +25,8 @@ cut is_cut = cond is_cut (codes "..") []
 
 -- the rest of a line as it is shown, with or without bytes that are left out before it
 abbrev pub shown_rest : Bool → List ℕ → List ℕ
-shown_rest is_cut rest = cut is_cut ++ map shown_byte (take 160 rest) ++ cut (nat_lt 160 (length rest))
+shown_rest is_cut rest =
+    cut is_cut ++ map shown_byte (take 160 rest) ++ cut (nat_lt 160 (length rest))
 
 -- how many carets stand at a place for `width` bytes: as many as are shown from there on, at most,
 -- and at least one
@@ -34,7 +35,8 @@ caret_count len place width = max 1 (min width (min len (first_shown len place +
 
 -- how many blanks stand before them
 abbrev pub caret_blanks : ℕ → ℕ → ℕ
-caret_blanks len place = length (cut (nat_lt 0 (first_shown len place))) + (place - first_shown len place)
+caret_blanks len place =
+    length (cut (nat_lt 0 (first_shown len place))) + (place - first_shown len place)
 
 -- a margin with blanks for `digits` digits
 abbrev pub margin : ℕ → List ℕ
@@ -50,7 +52,8 @@ source_part first line = codes " | " ++ shown_rest (nat_lt 0 first) (drop first 
 
 -- the line of carets behind the margin
 abbrev pub caret_part : ℕ → ℕ → List Piece → List ℕ
-caret_part blanks carets label = replicate blanks 32 ++ replicate carets 94 ++ label_text label ++ codes "\n"
+caret_part blanks carets label =
+    replicate blanks 32 ++ replicate carets 94 ++ label_text label ++ codes "\n"
 
 -- both lines, of a place
 abbrev pub picture_at : ℕ → List ℕ → ℕ → ℕ → List Piece → List ℕ
@@ -63,7 +66,8 @@ picture_at number line place width label =
 -- the picture of a line: the line with its number, and below it carets for `width` bytes from a
 -- column on, with a label
 abbrev pub picture : ℕ → List ℕ → ℕ → ℕ → List Piece → List ℕ
-picture number line column width label = picture_at number line (place_of (length line) column) width label
+picture number line column width label =
+    picture_at number line (place_of (length line) column) width label
 
 -- a hint below a picture
 abbrev pub hint_line : List ℕ → List ℕ

@@ -53,4 +53,9 @@ pub record IsPlace (place : Place) (view : PlaceView) : Type 0 where
 -- what the code's place is
 abbrev pub view_of : Place → PlaceView
 view_of place =
-    record { before = place.before.now; statement = place.statement.now; leads = place.leads; rest = place.rest.now }
+    record {
+      before = place.before.now;
+      statement = place.statement.now;
+      leads = place.leads;
+      rest = place.rest.now;
+    }

@@ -30,7 +30,8 @@ ends_here Comment b = false
 -- where the statement begins that is begun behind a byte of a token: behind what ends one, or at
 -- the byte where none was begun
 abbrev pub start_behind : Seen → ℕ → ℕ
-start_behind seen b = cond (ends_here seen.inside b) (seen.passed + 1) (cond (seen.start == seen.end) seen.passed seen.start)
+start_behind seen b = cond (ends_here seen.inside b) (seen.passed + 1)
+    (cond (seen.start == seen.end) seen.passed seen.start)
 
 -- what is known behind one byte more
 abbrev pub step : Seen → ℕ → Seen
@@ -62,7 +63,8 @@ past_token seen n =
 
 -- what is known behind `n` bytes more that are of no token
 abbrev pub past_others : Seen → ℕ → Seen
-past_others seen n = record { passed = seen.passed + n; start = seen.start; end = seen.end; inside = seen.inside }
+past_others seen n =
+    record { passed = seen.passed + n; start = seen.start; end = seen.end; inside = seen.inside }
 
 -- a byte that is of a token, or of none, ends no statement, and is followed by what it stands in
 pub record GoesOn (inside : Inside) (of_token : Bool) (b : ℕ) : Type 0 where

@@ -27,7 +27,8 @@ origin_text (Unused why) = codes " (file, not used: " ++ why.now ++ codes ")"
 
 -- a setting with a value
 abbrev pub set_line : List ℕ → Value → Origin → List ℕ
-set_line key value origin = key ++ codes " = " ++ value_text value ++ origin_text origin ++ codes "\n"
+set_line key value origin =
+    key ++ codes " = " ++ value_text value ++ origin_text origin ++ codes "\n"
 
 -- a setting without one
 abbrev pub unset_line : List ℕ → List ℕ

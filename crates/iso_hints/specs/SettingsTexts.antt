@@ -19,4 +19,5 @@ more_line more = cond (more == 0) [] (decimal more ++ codes " more unknown\n")
 -- and why, each on a line
 abbrev pub settings_text : List Setting → List UnknownKey → (more workers : ℕ) → List Piece → List ℕ
 settings_text settings unknown more workers why =
-    flat_map setting_line settings ++ flat_map unknown_key_line unknown ++ more_line more ++ workers_line workers why
+    flat_map setting_line settings ++ flat_map unknown_key_line unknown ++ more_line more
+    ++ workers_line workers why

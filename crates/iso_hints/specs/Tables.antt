@@ -18,8 +18,10 @@ use Rattle.iso_hints.specs.declared.table.calls.TheConstants as in_calls
 use Rattle.iso_hints.specs.declared.table.forms.TheConstants as in_forms
 
 -- the rows that the code lists
-abbrev pub rows_of : List (Pattern × record { now : List ℕ } × record { now : List ℕ } × record { now : List ℕ }) → List Row
-rows_of rows = map (λ row. record { pattern = row.0; word = row.1.now; at = row.2.now; hint = row.3.now }) rows
+abbrev pub rows_of : List (Pattern × record { now : List ℕ } × record { now : List ℕ }
+    × record { now : List ℕ }) → List Row
+rows_of rows =
+    map (λ row. record { pattern = row.0; word = row.1.now; at = row.2.now; hint = row.3.now }) rows
 
 abbrev pub beginnings : List Row
 beginnings = rows_of in_beginnings.ROWS.now

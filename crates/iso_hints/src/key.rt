@@ -55,7 +55,8 @@ pub fn write_unknown<W: Sink>(
     key: &str,
     meant: Option<&str>,
 ) -> Result<(), SinkFailed>
-    ensures { Prints printer.old printer.new (unknown_line key.now (option_map (λ k. k.now) meant.entry)) result }
+    ensures { Prints printer.old printer.new
+        (unknown_line key.now (option_map (λ k. k.now) meant.entry)) result }
 {
     printer.bytes(b"unknown ")?;
     shown(printer, key.as_bytes())?;
@@ -65,7 +66,8 @@ pub fn write_unknown<W: Sink>(
 
 /// Writes what was meant, where something is near.
 fn suggestion<W: Sink>(printer: &mut Printer<'_, W>, meant: Option<&str>) -> Result<(), SinkFailed>
-    ensures { Prints printer.old printer.new (suggestion (option_map (λ k. k.now) meant.entry)) result }
+    ensures { Prints printer.old printer.new
+        (suggestion (option_map (λ k. k.now) meant.entry)) result }
 {
     match meant {
         Some(key) => did_you_mean(printer, key),

@@ -12,7 +12,8 @@ pub(crate) fn nearest_known<'a>(
     key: &str,
     known: &[&'a str],
 ) -> Result<Option<Near<'a>>, AllocError>
-    ensures { IfOk result (λ near. option_map measured near ≡ nearest_from key.now None (map (λ k. k.now) known.now)) }
+    ensures { IfOk result (λ near. option_map measured near
+        ≡ nearest_from key.now None (map (λ k. k.now) known.now)) }
 {
     let mut best = None;
     for other in known {
@@ -24,7 +25,8 @@ pub(crate) fn nearest_known<'a>(
 
 /// Of a key and one more with its distance the nearer, of equal ones the first.
 fn nearer<'a>(best: Option<Near<'a>>, known: &'a str, distance: Option<usize>) -> Option<Near<'a>>
-    ensures { option_map measured result ≡ nearer (option_map measured best.entry) known.now distance }
+    ensures { option_map measured result
+        ≡ nearer (option_map measured best.entry) known.now distance }
 {
     match (best, distance) {
         (_, None) => best,
@@ -85,7 +87,8 @@ fn rest_distance(alloc: Global, key: &str, known: &str) -> Result<Option<usize>,
 
 /// How many bytes are left out, where a known key is a segment, a dot and this key.
 fn left_out(key: &str, known: &str) -> Option<usize>
-    ensures { result ≡ cond (lacks_segment key.now known.now) (Some (position_or_len is_dot known.now + 1)) None }
+    ensures { result ≡ cond (lacks_segment key.now known.now)
+        (Some (position_or_len is_dot known.now + 1)) None }
 {
     match known.split_once('.') {
         Some((segment, rest)) if rest == key => Some(segment.len() + 1),

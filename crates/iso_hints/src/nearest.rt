@@ -25,7 +25,8 @@ pub fn nearest<'a>(
     candidates: &[&'a str],
 ) -> Result<Option<&'a str>, AllocError>
     ensures { IfOk result (λ found.
-        option_map (λ c. c.now) found ≡ slice_get (near_words word.now (map (λ c. c.now) candidates.now)) 0) }
+        option_map (λ c. c.now) found ≡ slice_get
+        (near_words word.now (map (λ c. c.now) candidates.now)) 0) }
 {
     let near = ranked(alloc, word, candidates, 1)?;
     Ok(near.first().map(|near| near.word))
@@ -39,7 +40,8 @@ pub fn nearest_three<'a>(
     candidates: &[&'a str],
 ) -> Result<Vec<&'a str>, AllocError>
     ensures { IfOk result (λ found.
-        map (λ c. c.now) found.items ≡ take 3 (near_words word.now (map (λ c. c.now) candidates.now))) }
+        map (λ c. c.now) found.items ≡ take 3
+        (near_words word.now (map (λ c. c.now) candidates.now))) }
 {
     let near = ranked(alloc, word, candidates, 3)?;
     words(alloc, near.as_slice())
@@ -59,7 +61,8 @@ fn ranked<'a>(
     candidates: &[&'a str],
     count: usize,
 ) -> Result<Vec<Near<'a>>, AllocError>
-    ensures { IfOk result (λ near. IsRanked word.now (map (λ c. c.now) candidates.now) count near.items) }
+    ensures { IfOk result (λ near. IsRanked word.now
+        (map (λ c. c.now) candidates.now) count near.items) }
 {
     let mut near = Vec::new(alloc);
     for candidate in candidates {
@@ -109,7 +112,8 @@ pub(crate) fn distance_if_near(
     word: &str,
     candidate: &str,
 ) -> Result<Option<usize>, AllocError>
-    ensures { IfOk result (λ d. d ≡ cond (is_near word.now candidate.now) (Some (distance word.now candidate.now)) None) }
+    ensures { IfOk result (λ d. d ≡ cond (is_near word.now candidate.now)
+        (Some (distance word.now candidate.now)) None) }
 {
     if !may_be_near(word, candidate) || differ_in_length(word, candidate) {
         return Ok(None);

@@ -22,7 +22,8 @@ pub fn write_caret<W: Sink>(
     width: u32,
     label: &[Piece<'_>],
 ) -> Result<(), SinkFailed>
-    ensures { Prints printer.old printer.new (picture number line.now column width label.now) result }
+    ensures { Prints printer.old printer.new
+        (picture number line.now column width label.now) result }
 {
     write_at(printer, number, line, place_of(line, column), width, label)
 }
@@ -37,7 +38,8 @@ fn write_at<W: Sink>(
     label: &[Piece<'_>],
 ) -> Result<(), SinkFailed>
     requires { place ≤ length line.now }
-    ensures { Prints printer.old printer.new (picture_at number line.now place width label.now) result }
+    ensures { Prints printer.old printer.new
+        (picture_at number line.now place width label.now) result }
 {
     printer.bytes(b" ")?;
     let before = printer.written();

@@ -14,7 +14,8 @@ pub fn lines_are_shown_with_carets()
     ensures no_width { picture 4 (codes "a b") 1 0 [] ≡ text_of (" 4 | a b" ∷ "   | ^" ∷ []) }
     ensures no_column { picture 4 (codes "a b") 0 1 [] ≡ text_of (" 4 | a b" ∷ "   | ^" ∷ []) }
     ensures beyond { picture 4 (codes "a b") 99 1 [] ≡ text_of (" 4 | a b" ∷ "   |    ^" ∷ []) }
-    ensures bytes { picture 4 (9 ∷ 195 ∷ 164 ∷ 127 ∷ 126 ∷ []) 5 1 [] ≡ text_of (" 4 |  ???~" ∷ "   |     ^" ∷ []) }
+    ensures bytes { picture 4 (9 ∷ 195 ∷ 164 ∷ 127 ∷ 126 ∷ []) 5 1 []
+        ≡ text_of (" 4 |  ???~" ∷ "   |     ^" ∷ []) }
 {}
 
 /// Of a line above 160 bytes those round the column are shown.
@@ -24,15 +25,18 @@ pub fn long_lines_are_cut_round_the_column()
     ensures cut_at_the_end { picture 1 (replicate 161 97) 1 1 []
         ≡ codes " 1 | " ++ replicate 160 97 ++ codes "..\n   | ^\n" }
     ensures cut_at_the_start { picture 1 (replicate 161 97) 161 1 []
-        ≡ codes " 1 | .." ++ replicate 160 97 ++ codes "\n   | " ++ replicate 161 32 ++ codes "^\n" }
+        ≡ codes " 1 | .." ++ replicate 160 97 ++ codes "\n   | " ++ replicate 161 32
+        ++ codes "^\n" }
     ensures cut_on_both_sides { picture 1 (replicate 200 97 ++ 98 ∷ replicate 200 97) 201 9 []
         ≡ codes " 1 | .." ++ (replicate 80 97 ++ 98 ∷ replicate 79 97) ++ codes "..\n   | "
         ++ replicate 82 32 ++ replicate 9 94 ++ codes "\n" }
     ensures behind_the_end { picture 1 (replicate 200 97) 201 1 []
-        ≡ codes " 1 | .." ++ replicate 160 97 ++ codes "\n   | " ++ replicate 162 32 ++ codes "^\n" }
+        ≡ codes " 1 | .." ++ replicate 160 97 ++ codes "\n   | " ++ replicate 162 32
+        ++ codes "^\n" }
 {}
 
 /// A hint stands on a line of its own.
 pub fn hints_have_lines()
-    ensures { hint_line (codes "did you mean `before_each`?") ≡ codes " = did you mean `before_each`?\n" }
+    ensures { hint_line (codes "did you mean `before_each`?")
+        ≡ codes " = did you mean `before_each`?\n" }
 {}

@@ -10,7 +10,8 @@ use crate::token::is_next;
 
 /// The hint of the first of these rows that fits a place.
 pub(crate) fn hint_in(rows: &'static [Row], place: &Place<'_>) -> Option<&'static str>
-    ensures { option_map (λ told. told.now) result ≡ hint_in (map row_of rows.now) (view_of place.now) }
+    ensures { option_map (λ told. told.now) result
+        ≡ hint_in (map row_of rows.now) (view_of place.now) }
 {
     for row in rows {
         if fits(row, place) {

@@ -26,7 +26,8 @@ pub fn write_settings<W: Sink>(
     workers: u32,
     why: &[Piece<'_>],
 ) -> Result<(), SinkFailed>
-    ensures { Prints printer.old printer.new (settings_text settings.now unknown.now more workers why.now) result }
+    ensures { Prints printer.old printer.new
+        (settings_text settings.now unknown.now more workers why.now) result }
 {
     setting_lines(printer, settings)?;
     unknown_lines(printer, unknown)?;

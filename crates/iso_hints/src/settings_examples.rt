@@ -29,6 +29,7 @@ pub fn settings_are_told()
 /// All but one are workers.
 pub fn workers_are_counted()
     ensures none { settings_text [] [] 0 0 [] ≡ text_of ("0 workers: " ∷ []) }
-    ensures two { settings_text (in_file "enabled" (Flag false) ∷ []) [] 0 2 (labelled "factor is 2")
+    ensures two { settings_text (in_file "enabled" (Flag false) ∷ []) [] 0 2
+        (labelled "factor is 2")
         ≡ text_of ("enabled = false (file)" ∷ "2 workers: factor is 2" ∷ []) }
 {}

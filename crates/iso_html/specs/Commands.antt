@@ -21,7 +21,8 @@ commands_of c = record { again = again_of c.again; named = c.named }
 
 -- the script of a node, as the summary has it
 abbrev pub script_at : (named : Bool) → PlacedView → LocatedView
-script_at named at = record { file = at.file; named = named; line = at.ended; source = []; hints = [] }
+script_at named at =
+    record { file = at.file; named = named; line = at.ended; source = []; hints = [] }
 
 -- the command up to its script
 abbrev pub command_text : AgainView → List Row → ℕ → List ℕ
@@ -42,4 +43,5 @@ script_text file = joined (escaped (file_word file) ∷ codes "</bdi></code></p>
 
 -- the same, where it can be told
 abbrev pub again_text : CommandsView → List Row → ℕ → PlacedView → List ℕ
-again_text c tree n at = cond (can_be_told c.again (script_at c.named at)) (command_text c.again tree n ++ script_text at.file) []
+again_text c tree n at = cond (can_be_told c.again (script_at c.named at))
+    (command_text c.again tree n ++ script_text at.file) []

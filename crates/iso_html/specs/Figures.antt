@@ -11,7 +11,8 @@ use Rattle.iso_html.specs.Signs.{word_for}
 -- how fast the run is at best, if that is told
 abbrev pub best_text : Option Best → List ℕ
 best_text None = []
-best_text (Some b) = joined (codes "<li><b>" ∷ tenths b.tenths ∷ codes " times</b> at best</li>\n" ∷ [])
+best_text (Some b) =
+    joined (codes "<li><b>" ∷ tenths b.tenths ∷ codes " times</b> at best</li>\n" ∷ [])
 
 -- the workers, the time from the first begin until the last end, and which part of it they were
 -- busy

@@ -25,10 +25,24 @@ worse Writing b = Writing
 
 -- one bar, and one more; they are critical where one of them is
 abbrev pub alone : Bar → Group
-alone b = record { count = 1; first = b.node; look = b.look; critical = b.critical; begin = b.begin; end = b.end }
+alone b = record {
+  count = 1;
+  first = b.node;
+  look = b.look;
+  critical = b.critical;
+  begin = b.begin;
+  end = b.end;
+}
 
 abbrev pub one_more : Bar → Group → Group
-one_more b g = record { count = plus g.count 1; first = g.first; look = worse g.look b.look; critical = g.critical || b.critical; begin = min g.begin b.begin; end = max g.end b.end }
+one_more b g = record {
+  count = plus g.count 1;
+  first = g.first;
+  look = worse g.look b.look;
+  critical = g.critical || b.critical;
+  begin = min g.begin b.begin;
+  end = max g.end b.end;
+}
 
 abbrev pub with_bar : Bar → Group → Group
 with_bar b g = cond (g.count == 0) (alone b) (one_more b g)

@@ -33,15 +33,19 @@ size_text c =
 
 -- the title of the window, and the style
 abbrev pub title_text : (ok : Bool) → Counts → List ℕ
-title_text ok c = joined (codes "<title>" ∷ ok_word ok ∷ codes ": " ∷ []) ++ size_text c ++ codes "</title>\n<style>\n"
+title_text ok c = joined (codes "<title>" ∷ ok_word ok ∷ codes ": " ∷ []) ++ size_text c
+    ++ codes "</title>\n<style>\n"
 
 -- the heading
 abbrev pub heading_text : (ok : Bool) → Counts → List ℕ
-heading_text ok c = joined (codes "</style>\n</head>\n<body>\n<main>\n<h1>" ∷ ok_sign ok ∷ codes ": " ∷ []) ++ size_text c ++ codes "</h1>\n"
+heading_text ok c = joined (codes "</style>\n</head>\n<body>\n<main>\n<h1>" ∷ ok_sign ok
+    ∷ codes ": " ∷ []) ++ size_text c ++ codes "</h1>\n"
 
 -- how many classes failed by themselves
 abbrev pub classes_text : ℕ → List ℕ
-classes_text n = joined (decimal n ∷ word_for n (codes "</b> class not ok</li>\n") (codes "</b> classes not ok</li>\n") ∷ [])
+classes_text n =
+    joined (decimal n ∷ word_for n (codes "</b> class not ok</li>\n")
+    (codes "</b> classes not ok</li>\n") ∷ [])
 
 -- how many tests came to what
 abbrev pub tests_text : Counts → List ℕ
@@ -60,8 +64,10 @@ tests_text c =
 
 -- the counts of the summary, and the figures of what was measured
 abbrev pub figures_text : Counts → Option MeasuredView → List ℕ
-figures_text c measured = tests_text c ++ classes_text c.classes_not_ok ++ measured_figures measured ++ codes "</ul>\n"
+figures_text c measured = tests_text c ++ classes_text c.classes_not_ok ++ measured_figures measured
+    ++ codes "</ul>\n"
 
 -- the beginning of the page
 abbrev pub head_text : (ok : Bool) → Counts → Option MeasuredView → List ℕ
-head_text ok c measured = first_lines ++ title_text ok c ++ style_text ++ heading_text ok c ++ figures_text c measured
+head_text ok c measured =
+    first_lines ++ title_text ok c ++ style_text ++ heading_text ok c ++ figures_text c measured

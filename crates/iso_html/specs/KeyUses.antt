@@ -30,8 +30,20 @@ no_usage = record { readers = 0; writers = 0; held = 0; waits = 0; waited = 0 }
 
 -- one node more, which takes it so and was entered for a time
 abbrev pub with_taker : Access → (time : ℕ) → Usage → Usage
-with_taker Read time u = record { readers = plus u.readers 1; writers = u.writers; held = plus u.held time; waits = u.waits; waited = u.waited }
-with_taker Write time u = record { readers = u.readers; writers = plus u.writers 1; held = plus u.held time; waits = u.waits; waited = u.waited }
+with_taker Read time u = record {
+  readers = plus u.readers 1;
+  writers = u.writers;
+  held = plus u.held time;
+  waits = u.waits;
+  waited = u.waited;
+}
+with_taker Write time u = record {
+  readers = u.readers;
+  writers = plus u.writers 1;
+  held = plus u.held time;
+  waits = u.waits;
+  waited = u.waited;
+}
 
 -- the same of one of its locks, where it is on the key
 abbrev pub with_lock : (key time : ℕ) → Usage → Lock → Usage
@@ -41,11 +53,18 @@ with_lock key time u l = cond (l.key == key) (with_taker l.access time u) u
 -- stands twice among the locks of a node
 abbrev pub usage_below : List Row → List (Option BodyTime) → (key : ℕ) → ℕ → Usage
 usage_below tree bodies key zero = no_usage
-usage_below tree bodies key (suc n) = fold (with_lock key (stay_time (stayed bodies n))) (usage_below tree bodies key n) (locks tree n)
+usage_below tree bodies key (suc n) = fold (with_lock key (stay_time (stayed bodies n)))
+    (usage_below tree bodies key n) (locks tree n)
 
 -- one node more, which waited for a time
 abbrev pub with_wait : (time : ℕ) → Usage → Usage
-with_wait time u = record { readers = u.readers; writers = u.writers; held = u.held; waits = plus u.waits 1; waited = plus u.waited time }
+with_wait time u = record {
+  readers = u.readers;
+  writers = u.writers;
+  held = u.held;
+  waits = plus u.waits 1;
+  waited = plus u.waited time;
+}
 
 -- the same, where it waited for the key
 abbrev pub with_wait_for : (key : ℕ) → Usage → NodeWait → Usage
@@ -54,7 +73,8 @@ with_wait_for key u w = cond (w.key == key) (with_wait w.time u) u
 -- how a key was used: how many nodes take it for READ and for READ_WRITE, how long they were
 -- entered, added up, and how many nodes waited for it and how long, added up
 abbrev pub usage_of : List Row → List (Option BodyTime) → List NodeWait → (key : ℕ) → Usage
-usage_of tree bodies waits key = fold (with_wait_for key) (usage_below tree bodies key (length tree)) waits
+usage_of tree bodies waits key =
+    fold (with_wait_for key) (usage_below tree bodies key (length tree)) waits
 
 -- that of all keys, by their numbers
 abbrev pub usages : List Row → List (Option BodyTime) → List NodeWait → List Usage

@@ -5,4 +5,5 @@ use Rattle.iso_html.specs.declared.shape.Mark.{Mark}
 -- each of some lists has something more behind it, by its number
 pub record AreLonger (old new : List (List Mark)) (more : ℕ → List Mark) : Type 0 where
   pub size : length new ≡ length old
-  pub longer : (k : ℕ) → k < length old → slice_index_or new k [] ≡ slice_index_or old k [] ++ more k
+  pub longer : (k : ℕ) → k < length old → slice_index_or new k []
+      ≡ slice_index_or old k [] ++ more k

@@ -20,11 +20,13 @@ pub record MeasuredView : Type 0 where
   pub slowest : List Timed
 
 -- that of a run with these critical bodies; the picture is 1,000 pixels wide
-abbrev pub measured_of : RunView → List (Option BodyTime) → Figures → List NodeWait → (critical : List Body) → MeasuredView
+abbrev pub measured_of : RunView → List (Option BodyTime) → Figures → List NodeWait
+    → (critical : List Body) → MeasuredView
 measured_of r bodies figures waits critical =
     record {
       figures = figures;
       usages = usages r.tree bodies waits;
-      shapes = picture r bodies critical (usages r.tree bodies waits) 1000 figures.span figures.workers;
+      shapes =
+          picture r bodies critical (usages r.tree bodies waits) 1000 figures.span figures.workers;
       slowest = slowest r.tree r.times;
     }

@@ -13,7 +13,8 @@ use Rattle.iso_html.specs.Signs.{access_verb, mode_word}
 
 -- that a node takes a key, and how
 abbrev pub lock_text : List Row → Lock → List ℕ
-lock_text tree l = joined (access_verb l.access ∷ codes " <code>" ∷ escaped (key_text tree l.key) ∷ codes "</code>" ∷ [])
+lock_text tree l = joined (access_verb l.access ∷ codes " <code>" ∷ escaped (key_text tree l.key)
+    ∷ codes "</code>" ∷ [])
 
 -- a mode, and these locks in their order
 abbrev pub mode_line : List Row → Mode → List Lock → List ℕ

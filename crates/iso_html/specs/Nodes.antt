@@ -15,11 +15,13 @@ use Rattle.iso_html.specs.Signs.{sign, word_for}
 -- a time in seconds, where one was measured
 abbrev pub time_text : Option ℕ → List ℕ
 time_text None = []
-time_text (Some t) = joined (codes " <small>" ∷ decimal (t / 1000000) ∷ codes "." ∷ six_digits (t % 1000000) ∷ codes " s</small>" ∷ [])
+time_text (Some t) = joined (codes " <small>" ∷ decimal (t / 1000000) ∷ codes "."
+    ∷ six_digits (t % 1000000) ∷ codes " s</small>" ∷ [])
 
 -- the lines that a node printed, where it printed any
 abbrev pub printed_text : List (List ℕ) → List ℕ
-printed_text output = cond (length output == 0) [] (codes "<pre>\n" ++ lines_text output ++ codes "</pre>\n")
+printed_text output =
+    cond (length output == 0) [] (codes "<pre>\n" ++ lines_text output ++ codes "</pre>\n")
 
 -- why a node didn't pass
 abbrev pub reason_text : List ℕ → List ℕ
@@ -38,7 +40,8 @@ open_word ok = cond ok (codes "\"><details><summary>") (codes "\"><details open>
 
 -- the line of a node, without its time: what it came to, and its title
 abbrev pub name_text : (ok : Bool) → Verdict → (title : List ℕ) → (n : ℕ) → List ℕ
-name_text ok verdict title n = joined (codes "<li id=\"n" ∷ decimal n ∷ open_word ok ∷ sign ok verdict ∷ codes " " ∷ escaped title ∷ [])
+name_text ok verdict title n = joined (codes "<li id=\"n" ∷ decimal n ∷ open_word ok
+    ∷ sign ok verdict ∷ codes " " ∷ escaped title ∷ [])
 
 -- the path of a node, and where it stands
 abbrev pub place_text : (path : List ℕ) → PlacedView → List ℕ
@@ -75,11 +78,14 @@ wrong_head sign path message n at =
 
 -- how many tests a node blocks, where it blocks any
 abbrev pub blocks_text : ℕ → List ℕ
-blocks_text n = cond (n == 0) [] (joined (codes "<p>blocks " ∷ decimal n ∷ word_for n (codes " test</p>\n") (codes " tests</p>\n") ∷ []))
+blocks_text n =
+    cond (n == 0) [] (joined (codes "<p>blocks " ∷ decimal n
+    ∷ word_for n (codes " test</p>\n") (codes " tests</p>\n") ∷ []))
 
 -- What went wrong in a node: that, the lines of the script there, how many tests it blocks, what it
 -- printed, and the command that runs it again.
-abbrev pub entry_text : Verdict → (path message : List ℕ) → (n : ℕ) → PlacedView → (lines : List LineView) → (blocked : ℕ) → (output : List (List ℕ)) → (again : List ℕ) → List ℕ
+abbrev pub entry_text : Verdict → (path message : List ℕ) → (n : ℕ) → PlacedView
+    → (lines : List LineView) → (blocked : ℕ) → (output : List (List ℕ)) → (again : List ℕ) → List ℕ
 entry_text verdict path message n at lines blocked output again =
     wrong_head (sign false verdict) path message n at
     ++ quote_text at.ended lines
@@ -89,9 +95,12 @@ entry_text verdict path message n at lines blocked output again =
     ++ codes "</article>\n"
 
 -- the same by the verdict, and nothing where it is no fail and no fault
-abbrev pub wrong_text : Verdict → (path : List ℕ) → (n : ℕ) → PlacedView → (lines : List LineView) → (blocked : ℕ) → (output : List (List ℕ)) → (again : List ℕ) → List ℕ
+abbrev pub wrong_text : Verdict → (path : List ℕ) → (n : ℕ) → PlacedView → (lines : List LineView)
+    → (blocked : ℕ) → (output : List (List ℕ)) → (again : List ℕ) → List ℕ
 wrong_text Pass path n at lines blocked output again = []
-wrong_text (Fail note) path n at lines blocked output again = entry_text (Fail note) path note.message n at lines blocked output again
-wrong_text (Fault kind note) path n at lines blocked output again = entry_text (Fault kind note) path note.message n at lines blocked output again
+wrong_text (Fail note) path n at lines blocked output again =
+    entry_text (Fail note) path note.message n at lines blocked output again
+wrong_text (Fault kind note) path n at lines blocked output again =
+    entry_text (Fault kind note) path note.message n at lines blocked output again
 wrong_text (Skipped note) path n at lines blocked output again = []
 wrong_text (Blocked note) path n at lines blocked output again = []

@@ -24,7 +24,8 @@ abbrev pub tenths : ℕ → List ℕ
 tenths n = joined (decimal (n / 10) ∷ codes "." ∷ decimal (n % 10) ∷ [])
 
 abbrev pub hundredths : ℕ → List ℕ
-hundredths n = joined (decimal (n / 100) ∷ codes "." ∷ decimal (n / 10 % 10) ∷ decimal (n % 10) ∷ [])
+hundredths n =
+    joined (decimal (n / 100) ∷ codes "." ∷ decimal (n / 10 % 10) ∷ decimal (n % 10) ∷ [])
 
 -- whether a number is none of a test's or a class's
 abbrev pub is_none : List Row → ℕ → Bool
@@ -36,7 +37,8 @@ node_text tree n = cond (is_none tree n) (codes "top level") (escaped (path_text
 
 -- the same as a link to the node in the tree
 abbrev pub anchor : List Row → ℕ → List ℕ
-anchor tree n = joined (codes "<a href=\"#n" ∷ decimal n ∷ codes "\">" ∷ escaped (path_text tree n) ∷ codes "</a>" ∷ [])
+anchor tree n = joined (codes "<a href=\"#n" ∷ decimal n ∷ codes "\">" ∷ escaped (path_text tree n)
+    ∷ codes "</a>" ∷ [])
 
 abbrev pub link_text : List Row → ℕ → List ℕ
 link_text tree n = cond (is_none tree n) (codes "top level") (anchor tree n)
@@ -68,6 +70,7 @@ part_text tree (Anchor n) = link_text tree n
 part_text tree (Next n) = next_text tree n
 part_text tree (Chain link) = chain_name tree link
 part_text tree (Key k) = escaped (key_text tree k)
-part_text tree (FileOption option file) = escaped (file_option option.now (option_map (λ f. f.now) file))
+part_text tree (FileOption option file) =
+    escaped (file_option option.now (option_map (λ f. f.now) file))
 part_text tree (NumberOption option n) = number_option option.now n
 part_text tree (File name) = escaped (file_word name.now)

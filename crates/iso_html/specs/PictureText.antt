@@ -114,7 +114,8 @@ title_of r b (Taken access) = taken_title r.tree b access
 
 -- a bar of its own
 abbrev pub mark_text : RunView → (span row : ℕ) → Mark → List ℕ
-mark_text r span row m = rect_text m.bar.look m.bar.critical row (at span m.bar.begin) (width span m.bar.begin m.bar.end) ++ title_of r m.bar m.what
+mark_text r span row m = rect_text m.bar.look m.bar.critical row (at span m.bar.begin)
+    (width span m.bar.begin m.bar.end) ++ title_of r m.bar m.what
 
 -- what bars that are drawn as one are called: bodies, or nodes that had a key
 abbrev pub bodies_word : ℕ → List ℕ

@@ -40,8 +40,10 @@ shown_text text = escaped (shown_bytes text) ++ cut_end text
 
 -- a line, where the one with this number ended a block
 abbrev pub line_text : (ended : ℕ) → LineView → List ℕ
-line_text ended l = number_text (l.number == ended) l.number ++ shown_text l.text ++ end_text (l.number == ended)
+line_text ended l =
+    number_text (l.number == ended) l.number ++ shown_text l.text ++ end_text (l.number == ended)
 
 -- lines, and nothing where there are none
 abbrev pub quote_text : (ended : ℕ) → List LineView → List ℕ
-quote_text ended lines = cond (length lines == 0) [] (codes "<pre>\n" ++ flat_map (line_text ended) lines ++ codes "</pre>\n")
+quote_text ended lines = cond (length lines == 0) []
+    (codes "<pre>\n" ++ flat_map (line_text ended) lines ++ codes "</pre>\n")

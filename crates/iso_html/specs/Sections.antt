@@ -85,7 +85,8 @@ chain_text tree (Some c) = chain_line tree c
 
 -- the end of the table of locks
 abbrev pub locks_end : List ℕ
-locks_end = codes "</tbody>\n</table>\n</div>\n<p><small>The times of a key are added up over the nodes that take it, and over those that waited for it.</small></p>\n"
+locks_end =
+    codes "</tbody>\n</table>\n</div>\n<p><small>The times of a key are added up over the nodes that take it, and over those that waited for it.</small></p>\n"
 
 -- the table of the slowest
 abbrev pub slowest_heading : List ℕ
@@ -93,7 +94,8 @@ slowest_heading =
     codes "<h2>Slowest</h2>\n<div class=\"wide\">\n<table>\n<thead><tr><th scope=\"col\">path</th><th scope=\"col\" class=\"n\">time</th></tr></thead>\n<tbody>\n"
 
 abbrev pub slow_line : List Row → Timed → List ℕ
-slow_line tree t = joined (codes "<tr><td>" ∷ link_text tree t.node ∷ codes "</td><td class=\"n\">" ∷ seconds t.micros ∷ codes "</td></tr>\n" ∷ [])
+slow_line tree t = joined (codes "<tr><td>" ∷ link_text tree t.node ∷ codes "</td><td class=\"n\">"
+    ∷ seconds t.micros ∷ codes "</td></tr>\n" ∷ [])
 
 -- a section
 abbrev pub section_text : RunView → MeasuredView → Section → List ℕ

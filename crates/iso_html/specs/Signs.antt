@@ -13,7 +13,8 @@ word_for n one many = cond (n == 1) one many
 
 -- a check mark, or a cross
 abbrev pub ok_sign : Bool → List ℕ
-ok_sign ok = cond ok (codes "<span class=\"ok\">&#10003; ok</span>") (codes "<span class=\"bad\">&#10007; not ok</span>")
+ok_sign ok = cond ok (codes "<span class=\"ok\">&#10003; ok</span>")
+    (codes "<span class=\"bad\">&#10007; not ok</span>")
 
 -- the sign of a node with a verdict; one that passed is not ok where something in it isn't
 abbrev pub sign : (ok : Bool) → Verdict → List ℕ

@@ -32,7 +32,8 @@ inside_text r text n = cond (is_a_test r n) [] (list_text text (children r.tree 
 -- no deeper than there are nodes; the law `pages_go_down_the_tree` says it without.
 abbrev pub node_within : (depth : ℕ) → RunView → Settings → ℕ → List ℕ
 node_within zero r settings n = []
-node_within (suc depth) r settings n = opening_text r settings n ++ inside_text r (node_within depth r settings) n ++ codes "</details></li>\n"
+node_within (suc depth) r settings n = opening_text r settings n
+    ++ inside_text r (node_within depth r settings) n ++ codes "</details></li>\n"
 
 abbrev pub node_text : RunView → Settings → ℕ → List ℕ
 node_text r settings = node_within (length r.tree) r settings

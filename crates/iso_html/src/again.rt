@@ -33,7 +33,8 @@ pub(crate) fn again<W: Sink>(
     at: &Placed<'_>,
     commands: &Commands<'_>,
 ) -> Result<(), SinkFailed>
-    ensures { Prints printer.old printer.new (again_text (commands_of commands.now) (tree_of plan.now) node (placed_of at.now)) result }
+    ensures { Prints printer.old printer.new
+        (again_text (commands_of commands.now) (tree_of plan.now) node (placed_of at.now)) result }
 {
     if can_be_told(at, commands) {
         return told(printer, plan, node, at.file, &commands.again);
@@ -49,7 +50,8 @@ fn told<W: Sink>(
     file: &str,
     again: &Again<'_>,
 ) -> Result<(), SinkFailed>
-    ensures { Prints printer.old printer.new (command_text (again_of again.now) (tree_of plan.now) node ++ script_text file.now) result }
+    ensures { Prints printer.old printer.new
+        (command_text (again_of again.now) (tree_of plan.now) node ++ script_text file.now) result }
 {
     command(printer, plan, node, again)?;
     script(printer, plan, file)
@@ -62,7 +64,8 @@ fn command<W: Sink>(
     node: u32,
     again: &Again<'_>,
 ) -> Result<(), SinkFailed>
-    ensures { Prints printer.old printer.new (command_text (again_of again.now) (tree_of plan.now) node) result }
+    ensures { Prints printer.old printer.new
+        (command_text (again_of again.now) (tree_of plan.now) node) result }
 {
     write_parts(
         printer,
@@ -93,7 +96,8 @@ fn script<W: Sink>(printer: &mut Printer<'_, W>, plan: &Plan, file: &str) -> Res
 /// Whether the command can be told: the script is a file, and no word has a character that no
 /// reader sees.
 fn can_be_told(at: &Placed<'_>, commands: &Commands<'_>) -> bool
-    ensures { result ≡ can_be_told (again_of commands.now.again) (script_at commands.now.named (placed_of at.now)) }
+    ensures { result ≡ can_be_told (again_of commands.now.again)
+        (script_at commands.now.named (placed_of at.now)) }
 {
     commands.named
         && !has_unseen(at.file)

@@ -26,7 +26,8 @@ pub(crate) fn shapes<W: Sink>(
     shapes: &[Shape],
 ) -> Result<(), SinkFailed>
     requires complete { AreComplete run.now.results.now }
-    ensures { Prints printer.old printer.new (flat_map (shape_text (run_of run.now) span) shapes.now) result }
+    ensures { Prints printer.old printer.new
+        (flat_map (shape_text (run_of run.now) span) shapes.now) result }
 {
     for piece in shapes {
         shape(printer, run, span, piece)?;

@@ -106,7 +106,8 @@ pub fn skipped_tests_have_their_reason()
 pub fn locks_stand_behind_the_mode()
     ensures class { mode_text cart_and_desk concurrent_by_default 1
         ≡ text_of ("<p>concurrent, reads <code>iso:global</code>, writes <code>K</code></p>" ∷ []) }
-    ensures test { mode_text cart_and_desk concurrent_by_default 3 ≡ text_of ("<p>same thread</p>" ∷ []) }
+    ensures test { mode_text cart_and_desk concurrent_by_default 3
+        ≡ text_of ("<p>same thread</p>" ∷ []) }
 {}
 
 /// A run of no nodes is ok, and has an empty list; nothing went wrong in it.
@@ -131,7 +132,8 @@ pub fn line_that_ended_a_block_is_marked()
       number = 11;
       text = codes "\tassert 1 < x;" ++ 195 ∷ [];
     } ∷ [])
-        ≡ text_of ("<pre>" ∷ "  10 | test d {" ∷ "<mark>&gt; 11 |  assert 1 &lt; x;?</mark>" ∷ "</pre>" ∷ []) }
+        ≡ text_of ("<pre>" ∷ "  10 | test d {" ∷ "<mark>&gt; 11 |  assert 1 &lt; x;?</mark>"
+        ∷ "</pre>" ∷ []) }
     ensures none { quote_text 11 [] ≡ [] }
 {}
 
@@ -158,5 +160,6 @@ pub fn critical_bodies_are_marked()
 /// one bar for each pixel in which they begin.
 pub fn thin_bars_of_a_pixel_are_one()
     ensures { row_shapes 2 100000 5 (had 1 0 50 ∷ had 2 150 180 ∷ had 3 20 90 ∷ had 4 20 120 ∷ [])
-        ≡ One 5 (had 4 20 120) ∷ Several 5 0 (several 2 1 0 90) ∷ Several 5 1 (several 1 2 150 180) ∷ [] }
+        ≡ One 5 (had 4 20 120) ∷ Several 5 0 (several 2 1 0 90)
+        ∷ Several 5 1 (several 1 2 150 180) ∷ [] }
 {}

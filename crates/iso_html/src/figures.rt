@@ -19,7 +19,8 @@ pub(crate) fn figures<W: Sink>(
     plan: &Plan,
     measured: Option<&Measured<'_>>,
 ) -> Result<(), SinkFailed>
-    ensures { Prints printer.old printer.new (measured_figures (option_map (λ m. m.now) measured.entry)) result }
+    ensures { Prints printer.old printer.new
+        (measured_figures (option_map (λ m. m.now) measured.entry)) result }
 {
     match measured {
         Some(measured) => {

@@ -23,7 +23,8 @@ pub(crate) fn head<W: Sink>(
     counts: Counts,
     measured: Option<&Measured<'_>>,
 ) -> Result<(), SinkFailed>
-    ensures { Prints printer.old printer.new (head_text ok counts (option_map (λ m. m.now) measured.entry)) result }
+    ensures { Prints printer.old printer.new
+        (head_text ok counts (option_map (λ m. m.now) measured.entry)) result }
 {
     first_lines(printer)?;
     title(printer, ok, counts)?;
@@ -109,7 +110,8 @@ fn figures<W: Sink>(
     counts: Counts,
     measured: Option<&Measured<'_>>,
 ) -> Result<(), SinkFailed>
-    ensures { Prints printer.old printer.new (figures_text counts (option_map (λ m. m.now) measured.entry)) result }
+    ensures { Prints printer.old printer.new
+        (figures_text counts (option_map (λ m. m.now) measured.entry)) result }
 {
     tests(printer, counts)?;
     classes(printer, counts.classes_not_ok)?;

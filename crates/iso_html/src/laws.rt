@@ -14,8 +14,10 @@ ghost use Rattle.iso_settings.specs.declared.settings.Settings.{Settings};
 
 /// The text of a node has that of its children between its beginning and its end.
 pub fn pages_go_down_the_tree()
-    ensures { (r : RunView) → (settings : Settings) → IsTree r.tree → (n : ℕ) → 0 < n → n < length r.tree
-        → node_text r settings n ≡ opening_text r settings n ++ inside_text r (node_text r settings) n ++ codes "</details></li>\n" }
+    ensures { (r : RunView) → (settings : Settings) → IsTree r.tree → (n : ℕ) → 0 < n
+        → n < length r.tree
+        → node_text r settings n ≡ opening_text r settings n
+        ++ inside_text r (node_text r settings) n ++ codes "</details></li>\n" }
 {}
 
 /// No byte of a text begins or ends a tag or a quoted attribute where the text stands escaped,
@@ -28,5 +30,6 @@ pub fn texts_are_no_markup()
 /// in the key's row, and is counted once.
 pub fn nodes_take_a_key_once()
     ensures { (tree : List Row) (key n : ℕ) → key < length (keys tree)
-        → locks_on key (locks tree n) ≡ lock_of key (taken tree n (slice_index_or (keys tree) key [])) }
+        → locks_on key (locks tree n) ≡ lock_of key
+        (taken tree n (slice_index_or (keys tree) key [])) }
 {}

@@ -19,7 +19,8 @@ pub(crate) fn empty(alloc: Global, count: u32) -> Result<Vec<Vec<Mark>>, AllocEr
 
 /// Adds a bar to the list with a number, where there is one.
 pub(crate) fn put(lists: &mut Vec<Vec<Mark>>, number: u32, mark: Mark) -> Result<(), AllocError>
-    ensures { OnOk result (AreLonger (map (λ l. l.items) lists.old.items) (map (λ l. l.items) lists.new.items)
+    ensures { OnOk result (AreLonger (map (λ l. l.items) lists.old.items)
+        (map (λ l. l.items) lists.new.items)
         (λ k. cond (number == k) (mark ∷ []) [])) }
 {
     let place = number as usize;

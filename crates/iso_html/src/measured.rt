@@ -54,7 +54,8 @@ impl<'a> Measured<'a> {
         critical: &'a CriticalBodies,
     ) -> Result<Measured<'a>, AllocError>
         requires complete { AreComplete run.now.results.now }
-        ensures { IfOk result (λ m. m ≡ measured_of (run_of run.now) times.now figures.now waits.now critical.now) }
+        ensures { IfOk result
+            (λ m. m ≡ measured_of (run_of run.now) times.now figures.now waits.now critical.now) }
     {
         let usages = usages(alloc, run.plan, times, waits)?;
         let shapes = picture(

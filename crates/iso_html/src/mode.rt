@@ -19,7 +19,8 @@ pub(crate) fn mode<W: Sink>(
     node: u32,
 ) -> Result<(), SinkFailed>
     requires { node < length plan.now.rows }
-    ensures { Prints printer.old printer.new (mode_text (tree_of plan.now) plan.now.settings node) result }
+    ensures { Prints printer.old printer.new
+        (mode_text (tree_of plan.now) plan.now.settings node) result }
 {
     let word = mode_word(plan.mode(node));
     let locks = plan.locks(node);
@@ -35,7 +36,8 @@ fn all_locks<W: Sink>(
     plan: &Plan,
     locks: &[Lock],
 ) -> Result<(), SinkFailed>
-    ensures { Prints printer.old printer.new (flat_map (lock_text (tree_of plan.now)) locks.now) result }
+    ensures { Prints printer.old printer.new
+        (flat_map (lock_text (tree_of plan.now)) locks.now) result }
 {
     for lock in locks {
         write_lock(printer, plan, *lock)?;

@@ -29,7 +29,8 @@ pub(crate) fn name<W: Sink>(
     title: &str,
     node: u32,
 ) -> Result<(), SinkFailed>
-    ensures { Prints printer.old printer.new (name_text ok (verdict_of_view verdict.entry) title.now node) result }
+    ensures { Prints printer.old printer.new
+        (name_text ok (verdict_of_view verdict.entry) title.now node) result }
 {
     parts(
         printer,
@@ -83,7 +84,8 @@ pub(crate) fn stands<W: Sink>(
 ) -> Result<(), SinkFailed>
     requires above { 0 < node }
     requires within { node < length plan.now.rows }
-    ensures { Prints printer.old printer.new (place_text (path_text (tree_of plan.now) node) (placed_of at.now)) result }
+    ensures { Prints printer.old printer.new
+        (place_text (path_text (tree_of plan.now) node) (placed_of at.now)) result }
 {
     parts_with_path(
         printer,
@@ -135,7 +137,8 @@ pub(crate) fn printed<W: Sink>(
     printer: &mut Printer<'_, W>,
     view: View<'_>,
 ) -> Result<(), SinkFailed>
-    ensures { Prints printer.old printer.new (printed_text (outcome_of_view view.entry).output) result }
+    ensures { Prints printer.old printer.new
+        (printed_text (outcome_of_view view.entry).output) result }
 {
     if printed_nothing(view) {
         return Ok(());
@@ -168,7 +171,8 @@ pub(crate) fn wrong<W: Sink>(
     requires within { node < length plan.now.rows }
     ensures { let outcome = outcome_of_view view.entry in
         Prints printer.old printer.new
-        (wrong_text outcome.verdict (path_text (tree_of plan.now) node) node (placed_of at.now) (map line_of lines.now) blocked outcome.output
+        (wrong_text outcome.verdict (path_text (tree_of plan.now) node) node (placed_of at.now)
+        (map line_of lines.now) blocked outcome.output
         (again_text (commands_of commands.now) (tree_of plan.now) node (placed_of at.now))) result }
 {
     match view.verdict {
@@ -219,8 +223,10 @@ fn entry<'x, W: Sink>(
     requires above { 0 < node }
     requires within { node < length plan.now.rows }
     ensures { Prints printer.old printer.new
-        (entry_text (verdict_of_view verdict.entry) (path_text (tree_of plan.now) node) message.now node (placed_of at.now) (map line_of lines.now) blocked
-        (outcome_of_view view.entry).output (again_text (commands_of commands.now) (tree_of plan.now) node (placed_of at.now))) result }
+        (entry_text (verdict_of_view verdict.entry) (path_text (tree_of plan.now) node) message.now
+        node (placed_of at.now) (map line_of lines.now) blocked
+        (outcome_of_view view.entry).output
+        (again_text (commands_of commands.now) (tree_of plan.now) node (placed_of at.now))) result }
 {
     wrong_head(printer, sign(false, verdict), plan, node, at, message)?;
     quote(printer, at.ended, lines)?;
@@ -259,7 +265,8 @@ fn wrong_head<'x, W: Sink>(
     requires above { 0 < node }
     requires within { node < length plan.now.rows }
     ensures { Prints printer.old printer.new
-        (wrong_head sign.now (path_text (tree_of plan.now) node) message.now node (placed_of at.now)) result }
+        (wrong_head sign.now (path_text (tree_of plan.now) node) message.now node
+        (placed_of at.now)) result }
 {
     parts_with_path(
         printer,

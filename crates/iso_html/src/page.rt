@@ -60,7 +60,8 @@ pub fn write_html<W: Sink>(
       outcome = outcome_in results.now;
       places = map placed_of places.now;
       times = times.now;
-    }) plan.now.settings (map excerpt_of quotes.now) (commands_of commands.now) (option_map (λ m. m.now) measured.entry)) result }
+    }) plan.now.settings (map excerpt_of quotes.now) (commands_of commands.now)
+        (option_map (λ m. m.now) measured.entry)) result }
 {
     let run = Run {
         plan,
@@ -88,7 +89,8 @@ fn page<W: Sink>(
     requires complete { AreComplete run.now.results.now }
     requires quotes { length quotes.now ≡ length run.now.plan.now.rows }
     ensures { Prints printer.old printer.new
-        (page_text (run_of run.now) run.now.plan.now.settings (map excerpt_of quotes.now) (commands_of commands.now) (option_map (λ m. m.now) measured.entry)) result }
+        (page_text (run_of run.now) run.now.plan.now.settings (map excerpt_of quotes.now)
+        (commands_of commands.now) (option_map (λ m. m.now) measured.entry)) result }
 {
     let counts = count(run.plan, run.results);
     let ok = all_ok(run.plan, run.results);
@@ -109,7 +111,8 @@ fn body<W: Sink>(
     requires quotes { length quotes.now ≡ length run.now.plan.now.rows }
     requires totals { totals ≡ counts (tree_of run.now.plan.now) (outcome_in run.now.results.now) }
     ensures { Prints printer.old printer.new
-        (body_text (run_of run.now) run.now.plan.now.settings (map excerpt_of quotes.now) (commands_of commands.now) (option_map (λ m. m.now) measured.entry)) result }
+        (body_text (run_of run.now) run.now.plan.now.settings (map excerpt_of quotes.now)
+        (commands_of commands.now) (option_map (λ m. m.now) measured.entry)) result }
 {
     laws::nodes_are_a_tree(run.plan);
     wrong_heading(printer, totals)?;
@@ -147,7 +150,9 @@ fn wrongs<W: Sink>(
 ) -> Result<(), SinkFailed>
     requires complete { AreComplete run.now.results.now }
     requires quotes { length quotes.now ≡ length run.now.plan.now.rows }
-    ensures { Prints printer.old printer.new (wrongs_text (run_of run.now) (map excerpt_of quotes.now) (commands_of commands.now)) result }
+    ensures { Prints printer.old printer.new
+        (wrongs_text (run_of run.now) (map excerpt_of quotes.now)
+        (commands_of commands.now)) result }
 {
     laws::nodes_are_a_tree(run.plan);
     'nodes: for node in 1..run.plan.len() {
@@ -169,7 +174,9 @@ fn failure<W: Sink>(
     requires above { 0 < node }
     requires within { node < length run.now.plan.now.rows }
     ensures { Prints printer.old printer.new
-        (cond (is_failure (outcome_in run.now.results.now) node) (failure_text (run_of run.now) (map excerpt_of quotes.now) (commands_of commands.now) node) []) result }
+        (cond (is_failure (outcome_in run.now.results.now) node)
+        (failure_text (run_of run.now) (map excerpt_of quotes.now)
+        (commands_of commands.now) node) []) result }
 {
     let at = run.place(node);
     let blocked = blocked_by(run.plan, run.results, node);

@@ -29,7 +29,8 @@ pub(crate) fn picture(
     workers: u32,
 ) -> Result<Vec<Shape>, AllocError>
     requires complete { AreComplete run.now.results.now }
-    ensures { IfOk result (λ v. v.items ≡ picture (run_of run.now) times.now critical.now usages.now pixels span workers) }
+    ensures { IfOk result (λ v. v.items ≡ picture (run_of run.now) times.now critical.now usages.now
+        pixels span workers) }
 {
     let lanes = lanes(alloc, run, times, critical, workers)?;
     let takers = takers(alloc, run.plan, times)?;
@@ -69,7 +70,8 @@ fn add_lanes(
     span: u64,
     workers: u32,
 ) -> Result<(), AllocError>
-    ensures { OnOk result (shapes.new.items ≡ shapes.old.items ++ lanes_below (map (λ l. l.items) lanes.now) pixels span workers) }
+    ensures { OnOk result (shapes.new.items ≡ shapes.old.items
+        ++ lanes_below (map (λ l. l.items) lanes.now) pixels span workers) }
 {
     'workers: for worker in 0..workers {
         add_row(alloc, shapes, pixels, span, worker, list_at(lanes, worker))?;
@@ -87,7 +89,8 @@ fn add_keys(
     span: u64,
     count: u32,
 ) -> Result<(), AllocError>
-    ensures { OnOk result (shapes.new.items ≡ shapes.old.items ++ keys_below (map (λ l. l.items) takers.now) usages.now pixels span count) }
+    ensures { OnOk result (shapes.new.items ≡ shapes.old.items
+        ++ keys_below (map (λ l. l.items) takers.now) usages.now pixels span count) }
 {
     'keys: for key in 0..count {
         let usage = usage_at(usages, key);
@@ -114,7 +117,8 @@ fn add_key(
     usage: Usage,
     marks: &[Mark],
 ) -> Result<(), AllocError>
-    ensures { OnOk result (shapes.new.items ≡ shapes.old.items ++ key_shapes pixels span key usage marks.now) }
+    ensures { OnOk result (shapes.new.items ≡ shapes.old.items
+        ++ key_shapes pixels span key usage marks.now) }
 {
     if usage.waits == 0 {
         return Ok(());
@@ -134,7 +138,8 @@ fn add_row(
     row: u32,
     marks: &[Mark],
 ) -> Result<(), AllocError>
-    ensures { OnOk result (shapes.new.items ≡ shapes.old.items ++ row_shapes pixels span row marks.now) }
+    ensures { OnOk result (shapes.new.items ≡ shapes.old.items
+        ++ row_shapes pixels span row marks.now) }
 {
     let groups = thin_groups(alloc, pixels, span, marks)?;
     add_all_wide(shapes, span, row, marks)?;
@@ -148,7 +153,8 @@ fn add_all_wide(
     row: u32,
     marks: &[Mark],
 ) -> Result<(), AllocError>
-    ensures { OnOk result (shapes.new.items ≡ shapes.old.items ++ flat_map (wide_shapes span row) marks.now) }
+    ensures { OnOk result (shapes.new.items ≡ shapes.old.items
+        ++ flat_map (wide_shapes span row) marks.now) }
 {
     for mark in marks {
         add_wide(shapes, span, row, *mark)?;
@@ -199,7 +205,8 @@ fn add_all_several(
     groups: &[Group],
     pixels: u32,
 ) -> Result<(), AllocError>
-    ensures { OnOk result (shapes.new.items ≡ shapes.old.items ++ several_below row groups.now pixels) }
+    ensures { OnOk result (shapes.new.items ≡ shapes.old.items
+        ++ several_below row groups.now pixels) }
 {
     'pixels: for place in 0..pixels {
         add_several(shapes, row, place, group_at(groups, place))?;

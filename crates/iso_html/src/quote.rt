@@ -50,7 +50,8 @@ fn all<W: Sink>(
     ended: u32,
     lines: &[Line<'_>],
 ) -> Result<(), SinkFailed>
-    ensures { Prints printer.old printer.new (flat_map (line_text ended) (map line_of lines.now)) result }
+    ensures { Prints printer.old printer.new
+        (flat_map (line_text ended) (map line_of lines.now)) result }
 {
     for line in lines {
         one(printer, ended, line)?;

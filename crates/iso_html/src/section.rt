@@ -39,7 +39,8 @@ pub(crate) fn sections<W: Sink>(
     measured: Option<&Measured<'_>>,
 ) -> Result<(), SinkFailed>
     requires complete { AreComplete run.now.results.now }
-    ensures { Prints printer.old printer.new (sections_text (run_of run.now) (option_map (λ m. m.now) measured.entry)) result }
+    ensures { Prints printer.old printer.new
+        (sections_text (run_of run.now) (option_map (λ m. m.now) measured.entry)) result }
 {
     match measured {
         Some(measured) => measures(printer, run, measured),
@@ -89,7 +90,8 @@ fn all<W: Sink>(
     sections: &[Section<'_>],
 ) -> Result<(), SinkFailed>
     requires complete { AreComplete run.now.results.now }
-    ensures { Prints printer.old printer.new (joined (map (section_text (run_of run.now) measured.now) sections.now)) result }
+    ensures { Prints printer.old printer.new
+        (joined (map (section_text (run_of run.now) measured.now) sections.now)) result }
 {
     for section in sections {
         write_section(printer, run, measured, section)?;
@@ -105,7 +107,8 @@ fn write_section<W: Sink>(
     section: &Section<'_>,
 ) -> Result<(), SinkFailed>
     requires complete { AreComplete run.now.results.now }
-    ensures { Prints printer.old printer.new (section_text (run_of run.now) measured.now section.now) result }
+    ensures { Prints printer.old printer.new
+        (section_text (run_of run.now) measured.now section.now) result }
 {
     match *section {
         Section::Plain(text) => printer.bytes(text.as_bytes()),
@@ -141,7 +144,8 @@ fn keys<W: Sink>(
     measured: &Measured<'_>,
 ) -> Result<(), SinkFailed>
     ensures { Prints printer.old printer.new
-        (keys_text (run_of run.now) measured.now (length (keys (tree_of run.now.plan.now))) 0) result }
+        (keys_text (run_of run.now) measured.now (length (keys (tree_of run.now.plan.now))) 0)
+        result }
 {
     'keys: for key in 0..run.plan.key_count() {
         one_key(printer, run, measured, key)?;
@@ -242,7 +246,8 @@ fn slowest<W: Sink>(
     plan: &Plan,
     slowest: &[Timed],
 ) -> Result<(), SinkFailed>
-    ensures { Prints printer.old printer.new (flat_map (slow_line (tree_of plan.now)) slowest.now) result }
+    ensures { Prints printer.old printer.new
+        (flat_map (slow_line (tree_of plan.now)) slowest.now) result }
 {
     for timed in slowest {
         slow_line(printer, plan, *timed)?;

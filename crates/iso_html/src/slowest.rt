@@ -43,7 +43,8 @@ fn in_order(alloc: Global, plan: &Plan, times: &[Option<u64>]) -> Result<Vec<Tim
 
 /// All that were measured, as they are written.
 fn measured(alloc: Global, plan: &Plan, times: &[Option<u64>]) -> Result<Vec<Timed>, AllocError>
-    ensures { IfOk result (λ v. v.items ≡ map (entry (micros times.now)) (measured (tree_of plan.now) times.now)) }
+    ensures { IfOk result (λ v. v.items ≡ map (entry (micros times.now))
+        (measured (tree_of plan.now) times.now)) }
 {
     laws::nodes_are_a_tree(plan);
     let mut timed = Vec::new(alloc);

@@ -37,7 +37,8 @@ fn add_stay(
     locks: &[Lock],
     stay: Option<Stay>,
 ) -> Result<(), AllocError>
-    ensures { OnOk result (AreLonger (map (λ l. l.items) takers.old.items) (map (λ l. l.items) takers.new.items)
+    ensures { OnOk result (AreLonger (map (λ l. l.items) takers.old.items)
+        (map (λ l. l.items) takers.new.items)
         (λ key. stay_marks key locks.now stay)) }
 {
     match stay {
@@ -48,7 +49,8 @@ fn add_stay(
 
 /// Adds a node that took these locks.
 fn add_locks(takers: &mut Vec<Vec<Mark>>, locks: &[Lock], stay: Stay) -> Result<(), AllocError>
-    ensures { OnOk result (AreLonger (map (λ l. l.items) takers.old.items) (map (λ l. l.items) takers.new.items)
+    ensures { OnOk result (AreLonger (map (λ l. l.items) takers.old.items)
+        (map (λ l. l.items) takers.new.items)
         (λ key. flat_map (lock_marks key stay) locks.now)) }
 {
     'locks: for lock in locks {

@@ -88,7 +88,8 @@ pub(crate) fn usages(
 /// How each key was taken.
 fn taken(alloc: Global, plan: &Plan, times: &Times) -> Result<Vec<Usage>, AllocError>
     ensures { IfOk result (λ v. v.items
-        ≡ column (λ key. usage_below (tree_of plan.now) times.now key (length plan.now.rows)) (length (keys (tree_of plan.now)))) }
+        ≡ column (λ key. usage_below (tree_of plan.now) times.now key (length plan.now.rows))
+        (length (keys (tree_of plan.now)))) }
 {
     let mut usages = vec![in alloc; Usage::none(); plan.key_count() as usize]?;
     'nodes: for node in 0..plan.len() {
@@ -99,7 +100,8 @@ fn taken(alloc: Global, plan: &Plan, times: &Times) -> Result<Vec<Usage>, AllocE
 
 /// Adds a node that takes these locks and was entered for a time.
 fn add_locks(usages: &mut [Usage], locks: &[Lock], time: u64)
-    ensures { (k : ℕ) → k < length usages.old → usage_at usages.new k ≡ fold (with_lock k time) (usage_at usages.old k) locks.now }
+    ensures { (k : ℕ) → k < length usages.old → usage_at usages.new k
+        ≡ fold (with_lock k time) (usage_at usages.old k) locks.now }
 {
     'locks: for lock in locks {
         add_lock(usages, *lock, time);
@@ -108,7 +110,8 @@ fn add_locks(usages: &mut [Usage], locks: &[Lock], time: u64)
 
 /// Adds a lock of such a node to the usage of its key.
 fn add_lock(usages: &mut [Usage], lock: Lock, time: u64)
-    ensures { (k : ℕ) → k < length usages.old → usage_at usages.new k ≡ with_lock k time (usage_at usages.old k) lock }
+    ensures { (k : ℕ) → k < length usages.old → usage_at usages.new k
+        ≡ with_lock k time (usage_at usages.old k) lock }
 {
     let place = lock.key as usize;
     if place < usages.len() {
@@ -128,7 +131,8 @@ fn stay_time(times: &Times, node: u32) -> u64
 
 /// Adds waits to the usages of their keys.
 fn add_waits(usages: &mut [Usage], waits: &[NodeWait])
-    ensures { (k : ℕ) → k < length usages.old → usage_at usages.new k ≡ fold (with_wait_for k) (usage_at usages.old k) waits.now }
+    ensures { (k : ℕ) → k < length usages.old → usage_at usages.new k
+        ≡ fold (with_wait_for k) (usage_at usages.old k) waits.now }
 {
     for wait in waits {
         add_wait(usages, *wait);
@@ -137,7 +141,8 @@ fn add_waits(usages: &mut [Usage], waits: &[NodeWait])
 
 /// Adds a wait to the usage of its key.
 fn add_wait(usages: &mut [Usage], wait: NodeWait)
-    ensures { (k : ℕ) → k < length usages.old → usage_at usages.new k ≡ with_wait_for k (usage_at usages.old k) wait }
+    ensures { (k : ℕ) → k < length usages.old → usage_at usages.new k
+        ≡ with_wait_for k (usage_at usages.old k) wait }
 {
     let place = wait.key as usize;
     if place < usages.len() {

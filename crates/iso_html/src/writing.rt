@@ -26,7 +26,8 @@ pub(crate) fn write_parts<W: Sink>(
     plan: &Plan,
     parts: &[Part<'_>],
 ) -> Result<(), SinkFailed>
-    ensures { Prints printer.old printer.new (joined (map (part_text (tree_of plan.now)) parts.now)) result }
+    ensures { Prints printer.old printer.new
+        (joined (map (part_text (tree_of plan.now)) parts.now)) result }
 {
     for part in parts {
         write_part(printer, plan, part)?;
@@ -169,7 +170,8 @@ fn file_option<W: Sink>(
     option: &str,
     given: Option<&str>,
 ) -> Result<(), SinkFailed>
-    ensures { Prints printer.old printer.new (escaped (file_option option.now (option_map (λ f. f.now) given.entry))) result }
+    ensures { Prints printer.old printer.new
+        (escaped (file_option option.now (option_map (λ f. f.now) given.entry))) result }
 {
     match given {
         Some(name) => {

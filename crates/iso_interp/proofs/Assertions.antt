@@ -8,7 +8,8 @@ use Rattle.iso_model.specs.declared.fault.Fault.{Fault}
 use Rattle.iso_interp.specs.Runs.{said}
 use Rattle.iso_interp.specs.Values.{difference}
 
-expects_at : (row : ℕ) (x y : Data) (s : State) (e : Result Bool Fault) → upon row e s (λ holds. cond holds s (fails row (difference_message x y) s)) ≡ upon row (then e (λ holds. Ok (cond holds None (Some (difference_message x y))))) s (said row s)
+expects_at : (row : ℕ) (x y : Data) (s : State) (e : Result Bool Fault)
+    → upon row e s (λ holds. cond holds s (fails row (difference_message x y) s)) ≡ upon row (then e (λ holds. Ok (cond holds None (Some (difference_message x y))))) s (said row s)
 expects_at row x y s (Ok true) = refl
 expects_at row x y s (Ok false) = refl
 expects_at row x y s (Err fault) = refl

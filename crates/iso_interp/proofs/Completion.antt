@@ -35,14 +35,16 @@ goes-step r end p m goes q n e = record {
   comes = ap (λ (x : Machine). finished r x) e ∙ finish-step r (machine_at p m) ∙ goes.comes;
 }
 
-pub goes-less : (r : Rights) (end : State) (p : Point) (m : Resources) → Goes r end p m → is_done p.pieces ≡ false → (q : Point) (n : Resources) → machine_at q n ≡ step r (machine_at p m) → q.here.env.steps + some_left q.pieces < p.here.env.steps + some_left p.pieces
+pub goes-less : (r : Rights) (end : State) (p : Point) (m : Resources) → Goes r end p m → is_done p.pieces ≡ false → (q : Point) (n : Resources)
+    → machine_at q n ≡ step r (machine_at p m) → q.here.env.steps + some_left q.pieces < p.here.env.steps + some_left p.pieces
 goes-less r end p m goes some q n e =
     let less : distance (step r (machine_at p m)) < distance (machine_at p m) = step-distance r (machine_at p m) goes.ready some in
     let same : distance (machine_at q n) ≡ distance (step r (machine_at p m)) = ap distance e in
     omega arith
 
 -- with the locals dropped, the end is the block's
-pub goes-end : (r : Rights) (acts : Acts) (env : Environment) (first : Resources) (p : Point) (m : Resources) → Goes r (whole r acts env first) p m → p.pieces ≡ [] → kept (length env.names) (record { here = p.here; resources = m }) ≡ block r acts env first
+pub goes-end : (r : Rights) (acts : Acts) (env : Environment) (first : Resources) (p : Point) (m : Resources)
+    → Goes r (whole r acts env first) p m → p.pieces ≡ [] → kept (length env.names) (record { here = p.here; resources = m }) ≡ block r acts env first
 goes-end r acts env first p m goes ended =
     let comes : finished r (machine_at (point [] p.here) m) ≡ whole r acts env first = ap (λ (ps : List Piece). finished r (machine_at (point ps p.here) m)) (sym ended) ∙ goes.comes in
     ap (λ (s : State). kept (length env.names) s) comes ∙ block-finished r acts env first

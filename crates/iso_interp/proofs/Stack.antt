@@ -26,7 +26,8 @@ pub leave-turning : (row n : ℕ) (a : Acts) (ps : List Piece) (l : Local) → 0
 leave-turning row zero a ps l some = absurd (omega arith)
 leave-turning row (suc n) a ps l some = refl
 
-pub leave-top_rest : (top : Option Pending) (p : Pending) (k : ℕ) (acts : Acts) (below : List Pending) (l : Local) → top ≡ Some p → p ≡ Rest k acts → is_empty acts ≡ false → leave_done (pieces_in top below) l ≡ point (pieces_in top below) l
+pub leave-top_rest : (top : Option Pending) (p : Pending) (k : ℕ) (acts : Acts) (below : List Pending) (l : Local)
+    → top ≡ Some p → p ≡ Rest k acts → is_empty acts ≡ false → leave_done (pieces_in top below) l ≡ point (pieces_in top below) l
 leave-top_rest top p k acts below l is_some is_rest some = rw (is_some, is_rest) (leave-rest k acts (map piece_of (reverse below)) l some)
 
 -- a state, by its environment
@@ -34,7 +35,8 @@ abbrev pub in_env : List (List ℕ) → Ending → Resources → Environment →
 in_env lines ending m env = record { here = record { env = env; lines = lines; ending = ending }; resources = m }
 
 -- the step of a body does its first statement, in the environment that has a step less
-pub first-act : (r : Rights) (k row : ℕ) (a : Act) (acts : Acts) (ps : List Piece) (env new : Environment) (lines : List (List ℕ)) (ending : Ending) (m : Resources) → env ≡ record new { steps = new.steps + 1 }
+pub first-act : (r : Rights) (k row : ℕ) (a : Act) (acts : Acts) (ps : List Piece) (env new : Environment) (lines : List (List ℕ)) (ending : Ending) (m : Resources)
+    → env ≡ record new { steps = new.steps + 1 }
     → step_at r (rest k (act row a acts) ∷ ps) env.steps (in_env lines ending m env) ≡ followed_by (begin r row a (in_env lines ending m new)) (rest k acts ∷ ps)
 first-act r k row a acts ps env new lines ending m taken =
     ap (λ (e : Environment). step_at r (rest k (act row a acts) ∷ ps) e.steps (in_env lines ending m e)) taken

@@ -78,7 +78,8 @@ pub record SameWork (old new : BlockRun) : Type 0 where
 
 -- the block ended by a fault, a fail or a false assumption at a row
 abbrev pub faulted : ℕ → Fault → Local → Local
-faulted row fault l = with_ending (Endings.Fault (kind_of fault) (note (fault_message fault) row l)) l
+faulted row fault l =
+    with_ending (Endings.Fault (kind_of fault) (note (fault_message fault) row l)) l
 
 abbrev pub failed : ℕ → List ℕ → Local → Local
 failed row message l = with_ending (Endings.Fail (note message row l)) l
@@ -93,12 +94,15 @@ said row s (Some message) = fails row message s
 
 -- A statement without a body did what it means, its step being taken: from a run and its resources
 -- to the next.
-abbrev pub Performs : {E : Type 0} → (old new : BlockRun) → (before after : Resources) → ℕ → Plain → Result (Unit {0}) E → Type 0
+abbrev pub Performs : {E : Type 0} → (old new : BlockRun) → (before after : Resources) → ℕ → Plain
+    → Result (Unit {0}) E → Type 0
 Performs old new before after row statement result =
-    OnOk result (state_of new after ≡ performed (run_rights old) row statement (state_of old before))
+    OnOk result (state_of new after ≡ performed (run_rights old) row statement
+    (state_of old before))
 
 -- A statement did what it does in its step, and put its pieces before those that were left.
-abbrev pub Begins : {E : Type 0} → (old new : BlockRun) → (before after : Resources) → ℕ → Act → Result (Unit {0}) E → Type 0
+abbrev pub Begins : {E : Type 0} → (old new : BlockRun) → (before after : Resources) → ℕ → Act
+    → Result (Unit {0}) E → Type 0
 Begins old new before after row statement result =
     let m = begin (run_rights old) row statement (state_of old before) in
     OnOk result ((state_of new after ≡ m.state) × (pieces_of new ≡ m.pieces ++ pieces_of old))

@@ -59,7 +59,8 @@ impl<'a> Block<'a> {
 
     /// The first statement, and the block of those after it.
     pub fn split_first(&self) -> Option<(&'a Stmt, Block<'a>)>
-        ensures { MatchOption result (self.now ≡ no_acts) (λ p. self.now ≡ act (stmt_of p.0.now).0 (stmt_of p.0.now).1 p.1) }
+        ensures { MatchOption result (self.now ≡ no_acts)
+            (λ p. self.now ≡ act (stmt_of p.0.now).0 (stmt_of p.0.now).1 p.1) }
     {
         let (first, rest) = self.statements.split_first()?;
         Some((first, Block { statements: rest }))

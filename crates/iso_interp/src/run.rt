@@ -119,11 +119,13 @@ impl<'a> BlockRun<'a> {
     /// ended stays as it is.
     pub fn step<T: Touch>(&mut self, touch: &mut T) -> Result<Progress, AllocError>
         requires { HasKeys (run_rights self.old) (T.content touch.old) (T.writes touch.old) }
-        ensures step { OnOk result (machine_of self.new (T.content touch.new) ≡ step (run_rights self.old) (machine_of self.old (T.content touch.old))) }
+        ensures step { OnOk result (machine_of self.new (T.content touch.new)
+            ≡ step (run_rights self.old) (machine_of self.old (T.content touch.old))) }
         ensures progress { IfOk result (λ p. p ≡ progress_of (pieces_of self.new)) }
         ensures names { names_before self.new ≡ names_before self.old }
         ensures rights { run_rights self.new ≡ run_rights self.old }
-        ensures keys { OnOk result (HasKeys (run_rights self.new) (T.content touch.new) (T.writes touch.new)) }
+        ensures keys { OnOk result (HasKeys (run_rights self.new) (T.content touch.new)
+            (T.writes touch.new)) }
         ensures goes_on { T.goes_on touch.old touch.new }
     {
         if !self.is_live() {
@@ -143,7 +145,8 @@ impl<'a> BlockRun<'a> {
     /// What the block leaves, once it has ended. Takes no memory.
     pub fn finish(self) -> BlockEnd
         requires { is_done (pieces_of self) ≡ true }
-        ensures { end_local result ≡ with_names (take (names_before self.entry) (local_of self.entry).env.names) (local_of self.entry) }
+        ensures { end_local result ≡ with_names
+            (take (names_before self.entry) (local_of self.entry).env.names) (local_of self.entry) }
     {
         let BlockRun {
             names,
@@ -181,7 +184,8 @@ impl<'a> BlockRun<'a> {
     /// Leaves the pieces in which nothing is left to do, and all of them once the block has ended.
     #[inline(always)]
     fn reach_next_point(&mut self)
-        ensures settled { point_of_run self.new ≡ next_point (pieces_of self.old) (local_of self.old) }
+        ensures settled { point_of_run self.new
+            ≡ next_point (pieces_of self.old) (local_of self.old) }
         ensures block { SameBlock self.old self.new }
     {
         if self.is_live() {
@@ -221,7 +225,8 @@ impl<'a> BlockRun<'a> {
     /// Drops the names past the first `count`.
     #[inline(always)]
     fn keep_names(&mut self, count: usize)
-        ensures names { local_of self.new ≡ with_names (take count (local_of self.old).env.names) (local_of self.old) }
+        ensures names { local_of self.new
+            ≡ with_names (take count (local_of self.old).env.names) (local_of self.old) }
         ensures work { SameWork self.old self.new }
     {
         if count < self.names.len() {
@@ -232,7 +237,8 @@ impl<'a> BlockRun<'a> {
     /// Drops names. Few steps do, so this stays out of what each step does.
     #[inline(never)]
     fn drop_names(&mut self, count: usize)
-        ensures names { local_of self.new ≡ with_names (take count (local_of self.old).env.names) (local_of self.old) }
+        ensures names { local_of self.new
+            ≡ with_names (take count (local_of self.old).env.names) (local_of self.old) }
         ensures work { SameWork self.old self.new }
     {
         self.names.keep(count);
@@ -240,7 +246,8 @@ impl<'a> BlockRun<'a> {
 
     /// Puts a piece before the others.
     fn push(&mut self, piece: Pending<'a>) -> Result<(), AllocError>
-        ensures pieces { OnOk result (pieces_of self.new ≡ piece_of piece.entry ∷ pieces_of self.old) }
+        ensures pieces { OnOk result (pieces_of self.new ≡ piece_of piece.entry
+            ∷ pieces_of self.old) }
         ensures local { local_of self.new ≡ local_of self.old }
         ensures block { SameBlock self.old self.new }
     {
@@ -253,7 +260,9 @@ impl<'a> BlockRun<'a> {
     /// Does the first piece that is left, in a block that goes on.
     fn advance<T: Touch>(&mut self, touch: &mut T) -> Result<(), AllocError>
         requires { HasKeys (run_rights self.old) (T.content touch.old) (T.writes touch.old) }
-        ensures done { OnOk result (machine_of self.new (T.content touch.new) ≡ step_at (run_rights self.old) (pieces_of self.old) (local_of self.old).env.steps (state_of self.old (T.content touch.old))) }
+        ensures done { OnOk result (machine_of self.new (T.content touch.new)
+            ≡ step_at (run_rights self.old) (pieces_of self.old) (local_of self.old).env.steps
+            (state_of self.old (T.content touch.old))) }
         ensures block { SameBlock self.old self.new }
         ensures goes_on { T.goes_on touch.old touch.new }
     {
@@ -275,7 +284,9 @@ impl<'a> BlockRun<'a> {
 
     /// Ends the block, since no step is left.
     fn run_out(&mut self, row: u32) -> Result<(), AllocError>
-        ensures out { OnOk result (point_of_run self.new ≡ point [] (with_ending (Endings.Fault FaultKinds.OutOfSteps (note out_of_steps_message row (local_of self.old))) (local_of self.old))) }
+        ensures out { OnOk result (point_of_run self.new
+            ≡ point [] (with_ending (Endings.Fault FaultKinds.OutOfSteps
+            (note out_of_steps_message row (local_of self.old))) (local_of self.old))) }
         ensures block { SameBlock self.old self.new }
     {
         let message = Text::copied(self.alloc, "out of steps")?;
@@ -342,7 +353,8 @@ impl<'a> BlockRun<'a> {
         expression: &'s Expr,
     ) -> Result<Given<'s>, AllocError>
         requires { HasKeys (run_rights self.now) (T.content touch.now) (T.writes touch.now) }
-        ensures { IfOk result (λ g. given_of g ≡ value (run_rights self.now) (state_of self.now (T.content touch.now)) (term_of expression.now)) }
+        ensures { IfOk result (λ g. given_of g ≡ value (run_rights self.now)
+            (state_of self.now (T.content touch.now)) (term_of expression.now)) }
     {
         match evaluate(self.alloc, &self.names, self.rights, touch, expression) {
             Ok(value) => Ok(Ok(value)),
@@ -358,7 +370,8 @@ impl<'a> BlockRun<'a> {
         expression: &Expr,
     ) -> Result<Result<Text, Fault>, AllocError>
         requires { HasKeys (run_rights self.now) (T.content touch.now) (T.writes touch.now) }
-        ensures { IfOk result (λ g. g ≡ text_value (run_rights self.now) (state_of self.now (T.content touch.now)) (term_of expression.now)) }
+        ensures { IfOk result (λ g. g ≡ text_value (run_rights self.now)
+            (state_of self.now (T.content touch.now)) (term_of expression.now)) }
     {
         match self.own_value(touch, expression)? {
             Ok(value) => Ok(own_text(value)),
@@ -375,7 +388,8 @@ impl<'a> BlockRun<'a> {
         second: &Expr,
     ) -> Result<Result<(Text, Text), Fault>, AllocError>
         requires { HasKeys (run_rights self.now) (T.content touch.now) (T.writes touch.now) }
-        ensures { IfOk result (λ g. g ≡ text_values (run_rights self.now) (state_of self.now (T.content touch.now)) (term_of first.now) (term_of second.now)) }
+        ensures { IfOk result (λ g. g ≡ text_values (run_rights self.now)
+            (state_of self.now (T.content touch.now)) (term_of first.now) (term_of second.now)) }
     {
         let first = match self.own_value(touch, first)? {
             Ok(value) => value,
@@ -394,7 +408,8 @@ impl<'a> BlockRun<'a> {
         expression: &Expr,
     ) -> Result<Result<Data, Fault>, AllocError>
         requires { HasKeys (run_rights self.now) (T.content touch.now) (T.writes touch.now) }
-        ensures { IfOk result (λ g. g ≡ value (run_rights self.now) (state_of self.now (T.content touch.now)) (term_of expression.now)) }
+        ensures { IfOk result (λ g. g ≡ value (run_rights self.now)
+            (state_of self.now (T.content touch.now)) (term_of expression.now)) }
     {
         match self.value(touch, expression)? {
             Ok(value) => Ok(Ok(value.into_data(self.alloc)?)),
@@ -409,7 +424,8 @@ impl<'a> BlockRun<'a> {
         expression: &Expr,
     ) -> Result<Result<bool, Fault>, AllocError>
         requires { HasKeys (run_rights self.now) (T.content touch.now) (T.writes touch.now) }
-        ensures { IfOk result (λ g. g ≡ flag_value (run_rights self.now) (state_of self.now (T.content touch.now)) (term_of expression.now)) }
+        ensures { IfOk result (λ g. g ≡ flag_value (run_rights self.now)
+            (state_of self.now (T.content touch.now)) (term_of expression.now)) }
     {
         match self.value(touch, expression)? {
             Ok(value) => Ok(as_flag(value)),
@@ -424,7 +440,8 @@ impl<'a> BlockRun<'a> {
         expression: &Expr,
     ) -> Result<Result<u64, Fault>, AllocError>
         requires { HasKeys (run_rights self.now) (T.content touch.now) (T.writes touch.now) }
-        ensures { IfOk result (λ g. g ≡ count_value (run_rights self.now) (state_of self.now (T.content touch.now)) (term_of expression.now)) }
+        ensures { IfOk result (λ g. g ≡ count_value (run_rights self.now)
+            (state_of self.now (T.content touch.now)) (term_of expression.now)) }
     {
         match self.value(touch, expression)? {
             Ok(value) => Ok(as_count(value)),

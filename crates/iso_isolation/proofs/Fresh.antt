@@ -106,7 +106,8 @@ module _ {H K V B F R : Type 0} (l : Language H K V B F R) (x : Suite H K V) (pl
     parts : (s : State K V B F R) (f : Event) (fs : List Event) → is_run l x workers s (f ∷ fs) ≡ true → (is_accepted l x workers s f ≡ true) × (is_run l x workers (after l x s f) fs ≡ true)
     parts s f fs run = run_parts l x plan laws (is_accepted l x workers s f) (is_run l x workers (after l x s f) fs) run
 
-    step_keeps : (s : State K V B F R) (w n : ℕ) → Kept l x s.nodes → FreshBut l x n s.nodes → s.busy w ≡ Some n → is_accepted l x workers s (Step w) ≡ true → FreshBut l x n (after l x s (Step w)).nodes
+    step_keeps : (s : State K V B F R) (w n : ℕ) → Kept l x s.nodes → FreshBut l x n s.nodes
+        → s.busy w ≡ Some n → is_accepted l x workers s (Step w) ≡ true → FreshBut l x n (after l x s (Step w)).nodes
     step_keeps s w n kept fresh at ok =
         let h = step_told l x workers s w ok in
         let same_node : h.node ≡ n = let e = h.busy in cc in

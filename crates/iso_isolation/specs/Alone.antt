@@ -25,7 +25,11 @@ module _ {H K V B F R : Type 0} (l : Language H K V B F R) where
 
   -- the opening with one `before_all` more
   abbrev pub opened : Opening K V F → Progress B (Content K V) → Opening K V F
-  opened o p = record { frames = l.frame o.frames p.body ∷ o.frames; content = p.content; well = l.is_well (l.frame o.frames p.body) }
+  opened o p = record {
+    frames = l.frame o.frames p.body ∷ o.frames;
+    content = p.content;
+    well = l.is_well (l.frame o.frames p.body);
+  }
 
   -- the opening of a chain of classes: each `before_all`, outermost first, until one doesn't end
   -- well
@@ -35,7 +39,8 @@ module _ {H K V B F R : Type 0} (l : Language H K V B F R) where
 
   -- a test: its body on what the opening of its classes left, where all ended well
   abbrev pub test_alone : H → List H → Content K V → R
-  test_alone h hs m = let o = opening hs m in cond o.well (l.test_result (entered (h ∷ hs) o).body) (l.blocked o.frames)
+  test_alone h hs m = let o =
+      opening hs m in cond o.well (l.test_result (entered (h ∷ hs) o).body) (l.blocked o.frames)
 
   -- a class: its `after_all` on what its own opening left, where all around it ended well
   abbrev pub class_alone : H → List H → Content K V → R

@@ -50,7 +50,11 @@ module _ {H K V B F R : Type 0} (l : Language H K V B F R) (x : Suite H K V) whe
   abbrev pub stepping : ℕ → Nodes K V B F R → B → Nodes K V B F R
   stepping n s b =
       let p = l.step (chain x n) b s.flat in
-      record { flat = p.content; status = put n (with_body (s.status n) p.body) s.status; saved = s.saved }
+      record {
+        flat = p.content;
+        status = put n (with_body (s.status n) p.body) s.status;
+        saved = s.saved;
+      }
 
   -- Leave of a test or of an `after_all`: the keys that the node may change stand again as at its
   -- Enter
@@ -80,14 +84,16 @@ module _ {H K V B F R : Type 0} (l : Language H K V B F R) (x : Suite H K V) whe
   abbrev pub barring : ℕ → List F → Nodes K V B F R → Nodes K V B F R
   barring n fs s = record {
     flat = s.flat;
-    status = λ m. cond (stands_in m n && is_waiting (s.status m)) (Finished (l.blocked fs)) (s.status m);
+    status =
+        λ m. cond (stands_in m n && is_waiting (s.status m)) (Finished (l.blocked fs)) (s.status m);
     saved = s.saved;
   }
 
   abbrev pub leaving : ℕ → Nodes K V B F R → Status B F R → Nodes K V B F R
   leaving n s (Begun b) =
       cond (l.is_test (x.head n)) (finishing n (l.test_result b) s)
-      (cond (ended_well n b s) (opening_left n b s) (barring n (frames_left n b s) (opening_left n b s)))
+      (cond (ended_well n b s) (opening_left n b s)
+      (barring n (frames_left n b s) (opening_left n b s)))
   leaving n s (Closing fs b) = finishing n (l.class_result fs b) s
   leaving n s Waiting = s
   leaving n s (Open fs) = s
@@ -98,13 +104,23 @@ module _ {H K V B F R : Type 0} (l : Language H K V B F R) (x : Suite H K V) whe
   abbrev pub shutting : ℕ → Nodes K V B F R → Nodes K V B F R
   shutting n s =
       let fs = frames_of (s.status n) in
-      record { flat = s.flat; status = put n (Closing fs (l.begin_closing (chain x n) fs)) s.status; saved = s.saved }
+      record {
+        flat = s.flat;
+        status = put n (Closing fs (l.begin_closing (chain x n) fs)) s.status;
+        saved = s.saved;
+      }
 
   -- the state after an event
   abbrev pub after : State K V B F R → Event → State K V B F R
-  after s (Enter w n) = record { nodes = entering n s.nodes; owner = put n w s.owner; busy = put w (Some n) s.busy; stopped = s.stopped }
+  after s (Enter w n) = record {
+    nodes = entering n s.nodes;
+    owner = put n w s.owner;
+    busy = put w (Some n) s.busy;
+    stopped = s.stopped;
+  }
   after s (Step w) = record {
-    nodes = where_some (s.busy w) s.nodes (λ n. where_some (body_in (s.nodes.status n)) s.nodes (stepping n s.nodes));
+    nodes = where_some (s.busy w) s.nodes
+        (λ n. where_some (body_in (s.nodes.status n)) s.nodes (stepping n s.nodes));
     owner = s.owner;
     busy = s.busy;
     stopped = s.stopped;
@@ -115,7 +131,12 @@ module _ {H K V B F R : Type 0} (l : Language H K V B F R) (x : Suite H K V) whe
     busy = put w None s.busy;
     stopped = s.stopped;
   }
-  after s (Shut w n) = record { nodes = shutting n s.nodes; owner = s.owner; busy = put w (Some n) s.busy; stopped = s.stopped }
+  after s (Shut w n) = record {
+    nodes = shutting n s.nodes;
+    owner = s.owner;
+    busy = put w (Some n) s.busy;
+    stopped = s.stopped;
+  }
 
 -- a Step that runs out of memory: the run is stopped, and nothing else changes
 abbrev pub stop : {K V B F R : Type 0} → State K V B F R → State K V B F R

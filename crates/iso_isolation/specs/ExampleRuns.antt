@@ -78,18 +78,22 @@ abbrev pub history : List Event
 history = Enter 0 1 ∷ Enter 1 4 ∷ Leave 1 ∷ Leave 0 ∷ Enter 0 2 ∷ Enter 1 5 ∷ Leave 1 ∷ Leave 0 ∷ []
 
 abbrev pub in_full : List Event
-in_full = Enter 0 1 ∷ Enter 1 4 ∷ Step 1 ∷ Leave 1 ∷ Step 0 ∷ Leave 0 ∷ Enter 0 2 ∷ Enter 1 5 ∷ Step 1 ∷ Step 1 ∷ Leave 1 ∷ Step 0 ∷ Step 0 ∷ Leave 0 ∷ []
+in_full = Enter 0 1 ∷ Enter 1 4 ∷ Step 1 ∷ Leave 1 ∷ Step 0 ∷ Leave 0 ∷ Enter 0 2 ∷ Enter 1 5
+    ∷ Step 1 ∷ Step 1 ∷ Leave 1 ∷ Step 0 ∷ Step 0 ∷ Leave 0 ∷ []
 
 -- class 1 from its Enter to its last Leave as a history, and the same in full
 abbrev pub closed_history : List Event
-closed_history = Enter 0 1 ∷ Leave 0 ∷ Enter 0 2 ∷ Leave 0 ∷ Enter 0 3 ∷ Leave 0 ∷ Shut 0 1 ∷ Leave 0 ∷ []
+closed_history = Enter 0 1 ∷ Leave 0 ∷ Enter 0 2 ∷ Leave 0 ∷ Enter 0 3 ∷ Leave 0 ∷ Shut 0 1
+    ∷ Leave 0 ∷ []
 
 abbrev pub closed_in_full : List Event
-closed_in_full = Enter 0 1 ∷ Step 0 ∷ Leave 0 ∷ Enter 0 2 ∷ Step 0 ∷ Step 0 ∷ Leave 0 ∷ Enter 0 3 ∷ Step 0 ∷ Leave 0 ∷ Shut 0 1 ∷ Step 0 ∷ Leave 0 ∷ []
+closed_in_full = Enter 0 1 ∷ Step 0 ∷ Leave 0 ∷ Enter 0 2 ∷ Step 0 ∷ Step 0 ∷ Leave 0 ∷ Enter 0 3
+    ∷ Step 0 ∷ Leave 0 ∷ Shut 0 1 ∷ Step 0 ∷ Leave 0 ∷ []
 
 -- another run with the same Enters and Leaves: the steps stand elsewhere
 abbrev pub late_steps : List Event
-late_steps = Enter 0 1 ∷ Enter 1 4 ∷ Step 0 ∷ Step 1 ∷ Leave 1 ∷ Leave 0 ∷ Enter 0 2 ∷ Enter 1 5 ∷ Step 0 ∷ Step 1 ∷ Step 0 ∷ Step 1 ∷ Leave 1 ∷ Leave 0 ∷ []
+late_steps = Enter 0 1 ∷ Enter 1 4 ∷ Step 0 ∷ Step 1 ∷ Leave 1 ∷ Leave 0 ∷ Enter 0 2 ∷ Enter 1 5
+    ∷ Step 0 ∷ Step 1 ∷ Step 0 ∷ Step 1 ∷ Leave 1 ∷ Leave 0 ∷ []
 
 -- class 1, opened by worker 1
 abbrev pub opened_by_1 : List Event
@@ -158,7 +162,8 @@ finished = S.Finished None
 
 -- a state with these statuses from node 0 on, in which one worker owns all nodes. Workers 1 and 7
 -- have no body, and all others that of node 4.
-abbrev pub crowd_at : List CrowdStatus → ℕ → Bool → State ℕ ℕ Counter Counter (Option (List (Option ℕ)))
+abbrev pub crowd_at : List CrowdStatus → ℕ → Bool
+    → State ℕ ℕ Counter Counter (Option (List (Option ℕ)))
 crowd_at statuses owner stopped = record {
   nodes = record { flat = numbers; status = at waiting statuses; saved = λ n. numbers };
   owner = λ n. owner;
@@ -168,24 +173,29 @@ crowd_at statuses owner stopped = record {
 
 -- why an event is refused there, on two workers, where all nodes are SAME_THREAD and classes
 abbrev pub why : List CrowdStatus → ℕ → Event → Option Refused
-why statuses owner e = refusal counting (crowd (λ n. true) false) 2 (crowd_at statuses owner false) e
+why statuses owner e =
+    refusal counting (crowd (λ n. true) false) 2 (crowd_at statuses owner false) e
 
 -- the same where all nodes are tests
 abbrev pub why_test : List CrowdStatus → ℕ → Event → Option Refused
-why_test statuses owner e = refusal counting (crowd (λ n. true) true) 2 (crowd_at statuses owner false) e
+why_test statuses owner e =
+    refusal counting (crowd (λ n. true) true) 2 (crowd_at statuses owner false) e
 
 -- the same where these nodes are SAME_THREAD
 abbrev pub why_where : (ℕ → Bool) → List CrowdStatus → ℕ → Event → Option Refused
-why_where same statuses owner e = refusal counting (crowd same false) 2 (crowd_at statuses owner false) e
+why_where same statuses owner e =
+    refusal counting (crowd same false) 2 (crowd_at statuses owner false) e
 
 -- the same after a stop
 abbrev pub why_stopped : List CrowdStatus → ℕ → Event → Option Refused
-why_stopped statuses owner e = refusal counting (crowd (λ n. true) true) 2 (crowd_at statuses owner true) e
+why_stopped statuses owner e =
+    refusal counting (crowd (λ n. true) true) 2 (crowd_at statuses owner true) e
 
 -- why an event is refused in the first state, on two workers, where all nodes are SAME_THREAD and
 -- classes
 abbrev pub why_first : Event → Option Refused
-why_first e = refusal counting (crowd (λ n. true) false) 2 (first counting (crowd (λ n. true) false)) e
+why_first e =
+    refusal counting (crowd (λ n. true) false) 2 (first counting (crowd (λ n. true) false)) e
 
 -- A suite of one class and one test alone, whose chain is that of test 3 of the shop. Key 1 has no
 -- value.

@@ -17,7 +17,8 @@ pub record Head : Type 0 where
 -- whether some head of a chain declares a key so
 abbrev pub declared : (Head → Bool) → List Head → ℕ → Bool
 declared access [] k = false
-declared access (h ∷ hs) k = cond (access h) (cond (eqb k h.key) true (declared access hs k)) (declared access hs k)
+declared access (h ∷ hs) k =
+    cond (access h) (cond (eqb k h.key) true (declared access hs k)) (declared access hs k)
 
 abbrev pub looks_at : Head → Bool
 looks_at h = h.looks || h.changes
@@ -42,13 +43,17 @@ is_zero (suc n) = false
 
 -- a key that may be changed is counted up
 abbrev pub counted_up : List Head → ℕ → Content ℕ ℕ → Content ℕ ℕ
-counted_up hs key m k = cond (eqb k key && declared (λ h. h.changes) hs k) (option_map suc (m k)) (m k)
+counted_up hs key m k =
+    cond (eqb k key && declared (λ h. h.changes) hs k) (option_map suc (m k)) (m k)
 
 -- a turn: the body looks at its key, where it may, and counts it up, where it may
 abbrev pub turn : List Head → Counter → Content ℕ ℕ → Progress Counter (Content ℕ ℕ)
 turn hs (counter zero key seen w) m = record { body = counter zero key seen w; content = m }
 turn hs (counter (suc n) key seen w) m =
-    record { body = counter n key (seen ++ cond (declared looks_at hs key) (m key) None ∷ []) w; content = counted_up hs key m }
+    record {
+      body = counter n key (seen ++ cond (declared looks_at hs key) (m key) None ∷ []) w;
+      content = counted_up hs key m;
+    }
 
 abbrev pub turns : ℕ → List Head → Counter → Content ℕ ℕ → Progress Counter (Content ℕ ℕ)
 turns zero hs b m = record { body = b; content = m }
@@ -98,13 +103,28 @@ pub record Row : Type 0 where
   pub is_writer : Bool
 
 abbrev pub class_head : ℕ → Bool → Bool → Head
-class_head key changes is_well = record { is_test = false; key = key; looks = false; changes = changes; turns = 1; is_well = is_well }
+class_head key changes is_well = record {
+  is_test = false;
+  key = key;
+  looks = false;
+  changes = changes;
+  turns = 1;
+  is_well = is_well;
+}
 
 abbrev pub test_head : ℕ → Bool → Bool → ℕ → Head
-test_head key looks changes turns = record { is_test = true; key = key; looks = looks; changes = changes; turns = turns; is_well = true }
+test_head key looks changes turns = record {
+  is_test = true;
+  key = key;
+  looks = looks;
+  changes = changes;
+  turns = turns;
+  is_well = true;
+}
 
 abbrev pub node_in : ℕ → Head → Bool → Option ℕ → Bool → Row
-node_in parent head same lock writer = record { parent = parent; head = head; is_same_thread = same; lock = lock; is_writer = writer }
+node_in parent head same lock writer =
+    record { parent = parent; head = head; is_same_thread = same; lock = lock; is_writer = writer }
 
 abbrev pub no_node : Row
 no_node = node_in 0 (class_head 0 false true) true None false
@@ -157,6 +177,7 @@ shop = record {
   is_same_thread = λ n. (row_at n).is_same_thread;
   takes = λ n k. is_key (row_at n).lock k;
   takes_write = λ n k. (row_at n).is_writer && is_key (row_at n).lock k;
-  conflict = λ m n. equal_keys (row_at m).lock (row_at n).lock && ((row_at m).is_writer || (row_at n).is_writer);
+  conflict = λ m n. equal_keys (row_at m).lock (row_at n).lock
+      && ((row_at m).is_writer || (row_at n).is_writer);
   start = numbers;
 }

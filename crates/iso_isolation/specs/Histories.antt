@@ -14,8 +14,10 @@ pub record EndLaws {H K V B F R : Type 0} (l : Language H K V B F R) : Type 0 wh
   pub is_ready : B → Bool
   pub begins : (hs : List H) (fs : List F) → is_ready (l.begin hs fs) ≡ true
   pub begins_closing : (hs : List H) (fs : List F) → is_ready (l.begin_closing hs fs) ≡ true
-  pub steps : (hs : List H) (b : B) (m : Content K V) → is_ready b ≡ true → is_ready (l.step hs b m).body ≡ true
-  pub nearer : (hs : List H) (b : B) (m : Content K V) → is_ready b ≡ true → l.ended b ≡ false → l.distance (l.step hs b m).body < l.distance b
+  pub steps : (hs : List H) (b : B) (m : Content K V) → is_ready b ≡ true
+      → is_ready (l.step hs b m).body ≡ true
+  pub nearer : (hs : List H) (b : B) (m : Content K V) → is_ready b ≡ true → l.ended b ≡ false
+      → l.distance (l.step hs b m).body < l.distance b
 
 -- whether no event of a list is a Step
 abbrev pub has_no_step : List Event → Bool
@@ -44,17 +46,20 @@ module _ {H K V B F R : Type 0} (l : Language H K V B F R) (x : Suite H K V) whe
   -- it.
   pub record GoesOn (workers : ℕ) (h : List Event) (e : Event) : Type 0 where
     pub history : IsHistory workers (h ++ e ∷ [])
-    pub state : state_of (h ++ e ∷ []) ≡ after_all_of l x (state_of h) (with_steps l x (state_of h) e)
+    pub state : state_of (h ++ e ∷ []) ≡ after_all_of l x (state_of h)
+        (with_steps l x (state_of h) e)
 
   -- Of the unfinished classes whose `before_all` was left and which may change a key, the
   -- innermost. They are nested in one another, so it has the highest number.
   abbrev pub last_opened : State K V B F R → K → Option ℕ
-  last_opened s k = highest_below x.nodes (λ c. is_some (frames_in (s.nodes.status c)) && may_write l x c k)
+  last_opened s k =
+      highest_below x.nodes (λ c. is_some (frames_in (s.nodes.status c)) && may_write l x c k)
 
   -- where a key stands between bodies: as the opening of that class left it, or at its start where
   -- there is none
   abbrev pub standing_value : State K V B F R → Content K V
-  standing_value s k = where_some (last_opened s k) (x.start k) (λ c. (opening l (chain x c) x.start).content k)
+  standing_value s k =
+      where_some (last_opened s k) (x.start k) (λ c. (opening l (chain x c) x.start).content k)
 
   -- whether an unfinished node takes a key for READ_WRITE
   abbrev pub is_being_written : State K V B F R → K → Bool

@@ -54,19 +54,27 @@ module _ {H K V B F R : Type 0} (l : Language H K V B F R) where
   -- What may be changed may be looked at, and a chain has the rights of the classes around it.
   pub record RightsLaws : Type 0 where
     pub write_reads : (hs : List H) (k : K) → l.writes hs k ≡ true → l.reads hs k ≡ true
-    pub inner_reads : (h : H) (hs : List H) (k : K) → l.reads hs k ≡ true → l.reads (h ∷ hs) k ≡ true
-    pub inner_writes : (h : H) (hs : List H) (k : K) → l.writes hs k ≡ true → l.writes (h ∷ hs) k ≡ true
+    pub inner_reads : (h : H) (hs : List H) (k : K) → l.reads hs k ≡ true
+        → l.reads (h ∷ hs) k ≡ true
+    pub inner_writes : (h : H) (hs : List H) (k : K) → l.writes hs k ≡ true
+        → l.writes (h ∷ hs) k ≡ true
 
   -- A body changes what its chain may change alone, and depends on what it may look at alone, in a
   -- step and to its end. What doing all that is left comes to is the same before and after a step,
   -- and an ended body stays as it is.
   pub record BodyLaws : Type 0 where
     pub rights : RightsLaws
-    pub step_writes : (hs : List H) (b : B) (m : Content K V) (k : K) → l.writes hs k ≡ false → (l.step hs b m).content k ≡ m k
-    pub step_reads : (hs : List H) (b : B) (m n : Content K V) → Agree hs m n → Alike hs (l.step hs b m) (l.step hs b n)
-    pub step_ended : (hs : List H) (b : B) (m : Content K V) → l.ended b ≡ true → l.step hs b m ≡ record { body = b; content = m }
-    pub finish_writes : (hs : List H) (b : B) (m : Content K V) (k : K) → l.writes hs k ≡ false → (l.finish hs b m).content k ≡ m k
-    pub finish_reads : (hs : List H) (b : B) (m n : Content K V) → Agree hs m n → Alike hs (l.finish hs b m) (l.finish hs b n)
+    pub step_writes : (hs : List H) (b : B) (m : Content K V) (k : K) → l.writes hs k ≡ false
+        → (l.step hs b m).content k ≡ m k
+    pub step_reads : (hs : List H) (b : B) (m n : Content K V) → Agree hs m n
+        → Alike hs (l.step hs b m) (l.step hs b n)
+    pub step_ended : (hs : List H) (b : B) (m : Content K V) → l.ended b ≡ true
+        → l.step hs b m ≡ record { body = b; content = m }
+    pub finish_writes : (hs : List H) (b : B) (m : Content K V) (k : K) → l.writes hs k ≡ false
+        → (l.finish hs b m).content k ≡ m k
+    pub finish_reads : (hs : List H) (b : B) (m n : Content K V) → Agree hs m n
+        → Alike hs (l.finish hs b m) (l.finish hs b n)
     pub finish_step : (hs : List H) (b : B) (m : Content K V)
         → l.finish hs (l.step hs b m).body (l.step hs b m).content ≡ l.finish hs b m
-    pub finish_ended : (hs : List H) (b : B) (m : Content K V) → l.ended b ≡ true → l.finish hs b m ≡ record { body = b; content = m }
+    pub finish_ended : (hs : List H) (b : B) (m : Content K V) → l.ended b ≡ true → l.finish hs b m
+        ≡ record { body = b; content = m }

@@ -47,7 +47,8 @@ abbrev pub first_of : List (Option Refused) → Option Refused
 first_of [] = None
 first_of (kind ∷ kinds) = option_or kind (first_of kinds)
 
-module _ {H K V B F R : Type 0} (l : Language H K V B F R) (x : Suite H K V) (workers : ℕ) (s : State K V B F R) where
+module _ {H K V B F R : Type 0} (l : Language H K V B F R) (x : Suite H K V) (workers : ℕ)
+    (s : State K V B F R) where
   -- the body of a worker, if it has one
   abbrev pub body_of : ℕ → Option B
   body_of w = where_some (s.busy w) None (λ n. body_in (s.nodes.status n))
@@ -70,7 +71,8 @@ module _ {H K V B F R : Type 0} (l : Language H K V B F R) (x : Suite H K V) (wo
 
   -- n isn't the root and its parent isn't open
   abbrev pub parent_closed : ℕ → Option Refused
-  parent_closed n = refuse (not (is_root n) && not (is_open (s.nodes.status (x.parent n)))) ParentClosed
+  parent_closed n =
+      refuse (not (is_root n) && not (is_open (s.nodes.status (x.parent n)))) ParentClosed
 
   -- n is the root or was entered before
   abbrev pub already_entered : ℕ → Option Refused
@@ -78,12 +80,14 @@ module _ {H K V B F R : Type 0} (l : Language H K V B F R) (x : Suite H K V) (wo
 
   -- n is SAME_THREAD and w doesn't own its parent
   abbrev pub not_owner_of_parent : ℕ → ℕ → Option Refused
-  not_owner_of_parent w n = refuse (x.is_same_thread n && not (eqb (s.owner (x.parent n)) w)) NotOwner
+  not_owner_of_parent w n =
+      refuse (x.is_same_thread n && not (eqb (s.owner (x.parent n)) w)) NotOwner
 
   -- whether m is a SAME_THREAD sibling of n that isn't finished
   abbrev pub is_unfinished_sibling : ℕ → ℕ → Bool
   is_unfinished_sibling n m =
-      not (is_root m) && eqb (x.parent m) (x.parent n) && x.is_same_thread m && not (is_finished (s.nodes.status m))
+      not (is_root m) && eqb (x.parent m) (x.parent n) && x.is_same_thread m
+      && not (is_finished (s.nodes.status m))
 
   -- whether an earlier SAME_THREAD sibling of n isn't finished
   abbrev pub has_unfinished_sibling : ℕ → Bool
@@ -95,7 +99,8 @@ module _ {H K V B F R : Type 0} (l : Language H K V B F R) (x : Suite H K V) (wo
 
   -- m is the lowest entered, unfinished node that conflicts with n
   abbrev pub lock_held : ℕ → Option Refused
-  lock_held n = option_map LockHeld (lowest_below x.nodes (λ m. is_held (s.nodes.status m) && x.conflict m n))
+  lock_held n =
+      option_map LockHeld (lowest_below x.nodes (λ m. is_held (s.nodes.status m) && x.conflict m n))
 
   -- w has no body
   abbrev pub no_body : ℕ → Option Refused
@@ -123,7 +128,8 @@ module _ {H K V B F R : Type 0} (l : Language H K V B F R) (x : Suite H K V) (wo
 
   -- whether m is a child of n that isn't finished
   abbrev pub is_unfinished_child : ℕ → ℕ → Bool
-  is_unfinished_child n m = not (is_root m) && eqb (x.parent m) n && not (is_finished (s.nodes.status m))
+  is_unfinished_child n m =
+      not (is_root m) && eqb (x.parent m) n && not (is_finished (s.nodes.status m))
 
   -- whether a child of n isn't finished
   abbrev pub has_unfinished_child : ℕ → Bool
@@ -141,7 +147,8 @@ module _ {H K V B F R : Type 0} (l : Language H K V B F R) (x : Suite H K V) (wo
   kinds (Step w) = stopped ∷ no_worker w ∷ no_body w ∷ body_ended w ∷ []
   kinds (Leave w) = stopped ∷ no_worker w ∷ no_body w ∷ body_not_ended w ∷ []
   kinds (Shut w n) =
-      stopped ∷ no_worker w ∷ no_node n ∷ worker_busy w ∷ not_class n ∷ not_open n ∷ not_owner w n ∷ children_left n ∷ []
+      stopped ∷ no_worker w ∷ no_node n ∷ worker_busy w ∷ not_class n ∷ not_open n ∷ not_owner w n
+      ∷ children_left n ∷ []
 
   -- why an event is refused, if it is: the first of its kinds that applies
   abbrev pub refusal : Event → Option Refused

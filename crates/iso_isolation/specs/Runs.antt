@@ -21,7 +21,8 @@ module _ {H K V B F R : Type 0} (l : Language H K V B F R) where
   -- how many steps a body still needs to end, where they are no more than this number
   abbrev pub steps_to_end : ℕ → List H → B → Content K V → ℕ
   steps_to_end zero hs b m = 0
-  steps_to_end (suc most) hs b m = cond (l.ended b) 0 (let p = l.step hs b m in suc (steps_to_end most hs p.body p.content))
+  steps_to_end (suc most) hs b m =
+      cond (l.ended b) 0 (let p = l.step hs b m in suc (steps_to_end most hs p.body p.content))
 
   abbrev pub steps_left : List H → B → Content K V → ℕ
   steps_left hs b m = steps_to_end (l.distance b) hs b m
@@ -34,7 +35,9 @@ module _ {H K V B F R : Type 0} (l : Language H K V B F R) (x : Suite H K V) whe
 
   -- how many steps the body of a worker still needs
   abbrev pub steps_needed : State K V B F R → ℕ → ℕ
-  steps_needed s w = where_some (s.busy w) 0 (λ n. where_some (body_in (s.nodes.status n)) 0 (λ b. steps_left l (chain x n) b s.nodes.flat))
+  steps_needed s w =
+      where_some (s.busy w) 0 (λ n. where_some (body_in (s.nodes.status n)) 0
+      (λ b. steps_left l (chain x n) b s.nodes.flat))
 
   -- an event of a history with the steps that are still to be made before it: before a Leave, those
   -- that the body needs
@@ -63,4 +66,5 @@ result_of s n = result_in (s.nodes.status n)
 
 -- whether every node but the root is finished
 abbrev pub is_complete : {H K V B F R : Type 0} → Suite H K V → State K V B F R → Bool
-is_complete x s = not (any_below x.nodes (λ n. not (is_root n) && not (is_finished (s.nodes.status n))))
+is_complete x s =
+    not (any_below x.nodes (λ n. not (is_root n) && not (is_finished (s.nodes.status n))))

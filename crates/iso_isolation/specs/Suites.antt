@@ -64,4 +64,5 @@ module _ {H K V B F R : Type 0} (l : Language H K V B F R) (x : Suite H K V) whe
     pub write_takes : (n : ℕ) (k : K) → x.takes_write n k ≡ true → x.takes n k ≡ true
     pub conflicts : (m n : ℕ) → Shared x m n → x.conflict m n ≡ true
     pub covered : (n : ℕ) (k : K) → may_read n k ≡ true → Covered n k
-    pub forced : (m n : ℕ) (k : K) → x.takes_write m k ≡ true → On x m n → (m ≡ n → ⊥) → x.is_same_thread n ≡ true
+    pub forced : (m n : ℕ) (k : K) → x.takes_write m k ≡ true → On x m n → (m ≡ n → ⊥)
+        → x.is_same_thread n ≡ true

@@ -16,7 +16,8 @@ ghost use Rattle.iso_isolation.specs.Runs.{full, history_of};
 pub fn chains_run_alone()
     ensures class { by_itself 1 ≡ Some (Some 7 ∷ Some 8 ∷ []) }
     ensures test { by_itself 2 ≡ Some (Some 7 ∷ Some 8 ∷ Some 9 ∷ []) }
-    ensures nested { run_alone counting (test_head 2 false false 1 ∷ class_head 2 true true ∷ class_head 2 true true ∷ []) numbers
+    ensures nested { run_alone counting (test_head 2 false false 1 ∷ class_head 2 true true
+        ∷ class_head 2 true true ∷ []) numbers
         ≡ Some (Some 7 ∷ Some 8 ∷ Some 9 ∷ []) }
     ensures undeclared { by_itself 4 ≡ Some (None ∷ None ∷ []) }
     ensures writer { by_itself 5 ≡ Some (None ∷ Some 5 ∷ Some 6 ∷ []) }
@@ -73,8 +74,10 @@ pub fn run_is_whole_when_all_nodes_have_finished()
 /// What the locks and the order of siblings refuse: a reader beside a writer, the lowest holder
 /// named, and a forced test before its earlier sibling has finished.
 pub fn locks_and_siblings_are_waited_for()
-    ensures reader_beside_writer { refused_after (opened_both ++ Enter 1 5 ∷ []) (Enter 2 6) ≡ Some (Why.LockHeld 5) }
-    ensures writer_beside_readers { refused_after (opened_both ++ Enter 1 7 ∷ Enter 2 6 ∷ []) (Enter 0 5) ≡ Some (Why.LockHeld 6) }
+    ensures reader_beside_writer { refused_after (opened_both ++ Enter 1 5 ∷ []) (Enter 2 6)
+        ≡ Some (Why.LockHeld 5) }
+    ensures writer_beside_readers { refused_after (opened_both ++ Enter 1 7 ∷ Enter 2 6 ∷ [])
+        (Enter 0 5) ≡ Some (Why.LockHeld 6) }
     ensures readers { refused_after (opened_both ++ Enter 1 7 ∷ []) (Enter 2 6) ≡ None }
     ensures other_key { refused_after (opened_both ++ Enter 0 2 ∷ []) (Enter 1 5) ≡ None }
     ensures sibling { refused_after opened_both (Enter 0 3) ≡ Some Why.EarlierSibling }
@@ -117,84 +120,147 @@ pub fn owner_enters_same_thread_children()
 /// Of the kinds that apply to an Enter the first is answered. Node 3 is entered by worker 1, in a
 /// class that worker 0 owns.
 pub fn enter_is_refused_by_the_first_kind()
-    ensures stopped { why_stopped (barred_class ∷ barred_class ∷ waiting ∷ finished ∷ live ∷ live ∷ []) 0 (Enter 9 99) ≡ Some Why.Stopped }
-    ensures stopped_first { why_stopped (barred_class ∷ barred_class ∷ waiting ∷ finished ∷ live ∷ live ∷ []) 0 (Enter 0 3) ≡ Some Why.Stopped }
-    ensures no_worker { why (barred_class ∷ barred_class ∷ waiting ∷ finished ∷ live ∷ live ∷ []) 0 (Enter 9 99) ≡ Some Why.NoWorker }
-    ensures no_worker_first { why (barred_class ∷ barred_class ∷ waiting ∷ finished ∷ live ∷ live ∷ []) 0 (Enter 9 3) ≡ Some Why.NoWorker }
-    ensures no_node { why (barred_class ∷ barred_class ∷ waiting ∷ finished ∷ live ∷ live ∷ []) 0 (Enter 0 99) ≡ Some Why.NoNode }
-    ensures no_node_first { why (barred_class ∷ barred_class ∷ waiting ∷ finished ∷ live ∷ live ∷ []) 0 (Enter 1 99) ≡ Some Why.NoNode }
-    ensures worker_busy { why (barred_class ∷ barred_class ∷ waiting ∷ finished ∷ live ∷ live ∷ []) 0 (Enter 0 3) ≡ Some Why.WorkerBusy }
-    ensures parent_closed { why (barred_class ∷ barred_class ∷ waiting ∷ finished ∷ live ∷ live ∷ []) 0 (Enter 1 3) ≡ Some Why.ParentClosed }
-    ensures already_entered { why (opened ∷ opened ∷ waiting ∷ finished ∷ live ∷ live ∷ []) 0 (Enter 1 3) ≡ Some Why.AlreadyEntered }
-    ensures not_owner { why (opened ∷ opened ∷ waiting ∷ waiting ∷ live ∷ live ∷ []) 0 (Enter 1 3) ≡ Some Why.NotOwner }
-    ensures earlier_sibling { why (opened ∷ opened ∷ waiting ∷ waiting ∷ live ∷ live ∷ []) 1 (Enter 1 3) ≡ Some Why.EarlierSibling }
-    ensures lock_held { why (opened ∷ opened ∷ finished ∷ waiting ∷ live ∷ live ∷ []) 1 (Enter 1 3) ≡ Some (Why.LockHeld 4) }
-    ensures none { why (opened ∷ opened ∷ finished ∷ waiting ∷ finished ∷ finished ∷ []) 1 (Enter 1 3) ≡ None }
+    ensures stopped { why_stopped (barred_class ∷ barred_class ∷ waiting ∷ finished ∷ live ∷ live
+        ∷ []) 0 (Enter 9 99) ≡ Some Why.Stopped }
+    ensures stopped_first { why_stopped (barred_class ∷ barred_class ∷ waiting ∷ finished ∷ live
+        ∷ live ∷ []) 0 (Enter 0 3) ≡ Some Why.Stopped }
+    ensures no_worker { why (barred_class ∷ barred_class ∷ waiting ∷ finished ∷ live ∷ live ∷ []) 0
+        (Enter 9 99) ≡ Some Why.NoWorker }
+    ensures no_worker_first { why (barred_class ∷ barred_class ∷ waiting ∷ finished ∷ live ∷ live
+        ∷ []) 0 (Enter 9 3) ≡ Some Why.NoWorker }
+    ensures no_node { why (barred_class ∷ barred_class ∷ waiting ∷ finished ∷ live ∷ live ∷ []) 0
+        (Enter 0 99) ≡ Some Why.NoNode }
+    ensures no_node_first { why (barred_class ∷ barred_class ∷ waiting ∷ finished ∷ live ∷ live
+        ∷ []) 0 (Enter 1 99) ≡ Some Why.NoNode }
+    ensures worker_busy { why (barred_class ∷ barred_class ∷ waiting ∷ finished ∷ live ∷ live ∷ [])
+        0 (Enter 0 3) ≡ Some Why.WorkerBusy }
+    ensures parent_closed { why (barred_class ∷ barred_class ∷ waiting ∷ finished ∷ live ∷ live
+        ∷ []) 0 (Enter 1 3) ≡ Some Why.ParentClosed }
+    ensures already_entered { why (opened ∷ opened ∷ waiting ∷ finished ∷ live ∷ live ∷ []) 0
+        (Enter 1 3) ≡ Some Why.AlreadyEntered }
+    ensures not_owner { why (opened ∷ opened ∷ waiting ∷ waiting ∷ live ∷ live ∷ []) 0 (Enter 1 3)
+        ≡ Some Why.NotOwner }
+    ensures earlier_sibling { why (opened ∷ opened ∷ waiting ∷ waiting ∷ live ∷ live ∷ []) 1
+        (Enter 1 3) ≡ Some Why.EarlierSibling }
+    ensures lock_held { why (opened ∷ opened ∷ finished ∷ waiting ∷ live ∷ live ∷ []) 1 (Enter 1 3)
+        ≡ Some (Why.LockHeld 4) }
+    ensures none { why (opened ∷ opened ∷ finished ∷ waiting ∷ finished ∷ finished ∷ []) 1
+        (Enter 1 3) ≡ None }
 {}
 
 /// Of the kinds that apply to a Step or a Leave the first is answered.
 pub fn step_and_leave_are_refused_by_the_first_kind()
-    ensures stopped { why_stopped (opened ∷ opened ∷ waiting ∷ waiting ∷ over ∷ []) 0 (Step 7) ≡ Some Why.Stopped }
-    ensures stopped_first { why_stopped (opened ∷ opened ∷ waiting ∷ waiting ∷ over ∷ []) 0 (Step 0) ≡ Some Why.Stopped }
-    ensures no_worker { why (opened ∷ opened ∷ waiting ∷ waiting ∷ over ∷ []) 0 (Step 7) ≡ Some Why.NoWorker }
-    ensures no_worker_first { why (opened ∷ opened ∷ waiting ∷ waiting ∷ over ∷ []) 0 (Step 9) ≡ Some Why.NoWorker }
-    ensures no_body { why (opened ∷ opened ∷ waiting ∷ waiting ∷ over ∷ []) 0 (Step 1) ≡ Some Why.NoBody }
-    ensures body_ended { why (opened ∷ opened ∷ waiting ∷ waiting ∷ over ∷ []) 0 (Step 0) ≡ Some Why.BodyEnded }
+    ensures stopped { why_stopped (opened ∷ opened ∷ waiting ∷ waiting ∷ over ∷ []) 0 (Step 7)
+        ≡ Some Why.Stopped }
+    ensures stopped_first { why_stopped (opened ∷ opened ∷ waiting ∷ waiting ∷ over ∷ []) 0 (Step 0)
+        ≡ Some Why.Stopped }
+    ensures no_worker { why (opened ∷ opened ∷ waiting ∷ waiting ∷ over ∷ []) 0 (Step 7)
+        ≡ Some Why.NoWorker }
+    ensures no_worker_first { why (opened ∷ opened ∷ waiting ∷ waiting ∷ over ∷ []) 0 (Step 9)
+        ≡ Some Why.NoWorker }
+    ensures no_body { why (opened ∷ opened ∷ waiting ∷ waiting ∷ over ∷ []) 0 (Step 1)
+        ≡ Some Why.NoBody }
+    ensures body_ended { why (opened ∷ opened ∷ waiting ∷ waiting ∷ over ∷ []) 0 (Step 0)
+        ≡ Some Why.BodyEnded }
     ensures step { why (opened ∷ opened ∷ waiting ∷ waiting ∷ live ∷ []) 0 (Step 0) ≡ None }
-    ensures leave_stopped { why_stopped (opened ∷ opened ∷ waiting ∷ waiting ∷ live ∷ []) 0 (Leave 0) ≡ Some Why.Stopped }
-    ensures leave_no_worker { why (opened ∷ opened ∷ waiting ∷ waiting ∷ live ∷ []) 0 (Leave 7) ≡ Some Why.NoWorker }
-    ensures leave_no_worker_first { why (opened ∷ opened ∷ waiting ∷ waiting ∷ live ∷ []) 0 (Leave 9) ≡ Some Why.NoWorker }
-    ensures leave_no_body { why (opened ∷ opened ∷ waiting ∷ waiting ∷ live ∷ []) 0 (Leave 1) ≡ Some Why.NoBody }
-    ensures body_not_ended { why (opened ∷ opened ∷ waiting ∷ waiting ∷ live ∷ []) 0 (Leave 0) ≡ Some Why.BodyNotEnded }
-    ensures closing_ended { why (opened ∷ opened ∷ waiting ∷ waiting ∷ closing ∷ []) 0 (Step 0) ≡ Some Why.BodyEnded }
+    ensures leave_stopped { why_stopped (opened ∷ opened ∷ waiting ∷ waiting ∷ live ∷ []) 0
+        (Leave 0) ≡ Some Why.Stopped }
+    ensures leave_no_worker { why (opened ∷ opened ∷ waiting ∷ waiting ∷ live ∷ []) 0 (Leave 7)
+        ≡ Some Why.NoWorker }
+    ensures leave_no_worker_first { why (opened ∷ opened ∷ waiting ∷ waiting ∷ live ∷ []) 0
+        (Leave 9) ≡ Some Why.NoWorker }
+    ensures leave_no_body { why (opened ∷ opened ∷ waiting ∷ waiting ∷ live ∷ []) 0 (Leave 1)
+        ≡ Some Why.NoBody }
+    ensures body_not_ended { why (opened ∷ opened ∷ waiting ∷ waiting ∷ live ∷ []) 0 (Leave 0)
+        ≡ Some Why.BodyNotEnded }
+    ensures closing_ended { why (opened ∷ opened ∷ waiting ∷ waiting ∷ closing ∷ []) 0 (Step 0)
+        ≡ Some Why.BodyEnded }
     ensures leave { why (opened ∷ opened ∷ waiting ∷ waiting ∷ over ∷ []) 0 (Leave 0) ≡ None }
 {}
 
 /// Of the kinds that apply to a Shut the first is answered. Node 6 is a child of node 3.
 pub fn shut_is_refused_by_the_first_kind()
-    ensures stopped { why_stopped (opened ∷ opened ∷ waiting ∷ opened ∷ live ∷ live ∷ waiting ∷ []) 0 (Shut 9 99) ≡ Some Why.Stopped }
-    ensures stopped_first { why_stopped (opened ∷ opened ∷ waiting ∷ opened ∷ live ∷ live ∷ waiting ∷ []) 0 (Shut 0 3) ≡ Some Why.Stopped }
-    ensures no_worker { why_test (opened ∷ opened ∷ waiting ∷ opened ∷ live ∷ live ∷ waiting ∷ []) 0 (Shut 9 99) ≡ Some Why.NoWorker }
-    ensures no_worker_first { why_test (opened ∷ opened ∷ waiting ∷ opened ∷ live ∷ live ∷ waiting ∷ []) 0 (Shut 9 3) ≡ Some Why.NoWorker }
-    ensures no_node { why_test (opened ∷ opened ∷ waiting ∷ opened ∷ live ∷ live ∷ waiting ∷ []) 0 (Shut 0 99) ≡ Some Why.NoNode }
-    ensures no_node_first { why_test (opened ∷ opened ∷ waiting ∷ opened ∷ live ∷ live ∷ waiting ∷ []) 0 (Shut 1 99) ≡ Some Why.NoNode }
-    ensures worker_busy { why_test (opened ∷ opened ∷ waiting ∷ opened ∷ live ∷ live ∷ waiting ∷ []) 0 (Shut 0 3) ≡ Some Why.WorkerBusy }
-    ensures busy_before_open { why_test (opened ∷ opened ∷ waiting ∷ live ∷ live ∷ live ∷ waiting ∷ []) 0 (Shut 0 3) ≡ Some Why.WorkerBusy }
-    ensures not_class { why_test (opened ∷ opened ∷ waiting ∷ live ∷ live ∷ live ∷ waiting ∷ []) 0 (Shut 1 3) ≡ Some Why.NotClass }
-    ensures class_before_children { why_test (opened ∷ opened ∷ waiting ∷ opened ∷ live ∷ live ∷ waiting ∷ []) 0 (Shut 1 3) ≡ Some Why.NotClass }
-    ensures root { why (opened ∷ opened ∷ waiting ∷ waiting ∷ live ∷ []) 0 (Shut 1 0) ≡ Some Why.NotClass }
-    ensures not_open { why (opened ∷ opened ∷ waiting ∷ live ∷ live ∷ live ∷ waiting ∷ []) 0 (Shut 1 3) ≡ Some Why.NotOpen }
-    ensures finished { why (opened ∷ opened ∷ waiting ∷ finished ∷ live ∷ live ∷ finished ∷ []) 1 (Shut 1 3) ≡ Some Why.NotOpen }
-    ensures not_owner { why (opened ∷ opened ∷ waiting ∷ opened ∷ live ∷ live ∷ waiting ∷ []) 0 (Shut 1 3) ≡ Some Why.NotOwner }
-    ensures children_left { why (opened ∷ opened ∷ waiting ∷ opened ∷ live ∷ live ∷ waiting ∷ []) 1 (Shut 1 3) ≡ Some Why.ChildrenLeft }
-    ensures none { why (opened ∷ opened ∷ waiting ∷ opened ∷ live ∷ live ∷ finished ∷ []) 1 (Shut 1 3) ≡ None }
-    ensures barred { why (opened ∷ opened ∷ waiting ∷ barred_class ∷ live ∷ live ∷ waiting ∷ []) 1 (Shut 1 3) ≡ None }
+    ensures stopped { why_stopped (opened ∷ opened ∷ waiting ∷ opened ∷ live ∷ live ∷ waiting ∷ [])
+        0 (Shut 9 99) ≡ Some Why.Stopped }
+    ensures stopped_first { why_stopped (opened ∷ opened ∷ waiting ∷ opened ∷ live ∷ live ∷ waiting
+        ∷ []) 0 (Shut 0 3) ≡ Some Why.Stopped }
+    ensures no_worker { why_test (opened ∷ opened ∷ waiting ∷ opened ∷ live ∷ live ∷ waiting ∷ []) 0
+        (Shut 9 99) ≡ Some Why.NoWorker }
+    ensures no_worker_first { why_test (opened ∷ opened ∷ waiting ∷ opened ∷ live ∷ live ∷ waiting
+        ∷ []) 0 (Shut 9 3) ≡ Some Why.NoWorker }
+    ensures no_node { why_test (opened ∷ opened ∷ waiting ∷ opened ∷ live ∷ live ∷ waiting ∷ []) 0
+        (Shut 0 99) ≡ Some Why.NoNode }
+    ensures no_node_first { why_test (opened ∷ opened ∷ waiting ∷ opened ∷ live ∷ live ∷ waiting
+        ∷ []) 0 (Shut 1 99) ≡ Some Why.NoNode }
+    ensures worker_busy { why_test (opened ∷ opened ∷ waiting ∷ opened ∷ live ∷ live ∷ waiting ∷ [])
+        0 (Shut 0 3) ≡ Some Why.WorkerBusy }
+    ensures busy_before_open { why_test (opened ∷ opened ∷ waiting ∷ live ∷ live ∷ live ∷ waiting
+        ∷ []) 0 (Shut 0 3) ≡ Some Why.WorkerBusy }
+    ensures not_class { why_test (opened ∷ opened ∷ waiting ∷ live ∷ live ∷ live ∷ waiting ∷ []) 0
+        (Shut 1 3) ≡ Some Why.NotClass }
+    ensures class_before_children { why_test (opened ∷ opened ∷ waiting ∷ opened ∷ live ∷ live
+        ∷ waiting ∷ []) 0 (Shut 1 3) ≡ Some Why.NotClass }
+    ensures root { why (opened ∷ opened ∷ waiting ∷ waiting ∷ live ∷ []) 0 (Shut 1 0)
+        ≡ Some Why.NotClass }
+    ensures not_open { why (opened ∷ opened ∷ waiting ∷ live ∷ live ∷ live ∷ waiting ∷ []) 0
+        (Shut 1 3) ≡ Some Why.NotOpen }
+    ensures finished { why (opened ∷ opened ∷ waiting ∷ finished ∷ live ∷ live ∷ finished ∷ []) 1
+        (Shut 1 3) ≡ Some Why.NotOpen }
+    ensures not_owner { why (opened ∷ opened ∷ waiting ∷ opened ∷ live ∷ live ∷ waiting ∷ []) 0
+        (Shut 1 3) ≡ Some Why.NotOwner }
+    ensures children_left { why (opened ∷ opened ∷ waiting ∷ opened ∷ live ∷ live ∷ waiting ∷ []) 1
+        (Shut 1 3) ≡ Some Why.ChildrenLeft }
+    ensures none { why (opened ∷ opened ∷ waiting ∷ opened ∷ live ∷ live ∷ finished ∷ []) 1
+        (Shut 1 3) ≡ None }
+    ensures barred { why (opened ∷ opened ∷ waiting ∷ barred_class ∷ live ∷ live ∷ waiting ∷ []) 1
+        (Shut 1 3) ≡ None }
 {}
 
 /// Where each kind of refusal begins and ends.
 pub fn kinds_of_refusal_have_their_limits()
-    ensures last_worker { why (opened ∷ opened ∷ finished ∷ waiting ∷ []) 2 (Enter 2 3) ≡ Some Why.NoWorker }
-    ensures last_node { why (opened ∷ opened ∷ finished ∷ waiting ∷ []) 1 (Enter 1 8) ≡ Some Why.NoNode }
-    ensures root { why (barred_class ∷ opened ∷ finished ∷ waiting ∷ []) 1 (Enter 1 0) ≡ Some Why.AlreadyEntered }
+    ensures last_worker { why (opened ∷ opened ∷ finished ∷ waiting ∷ []) 2 (Enter 2 3)
+        ≡ Some Why.NoWorker }
+    ensures last_node { why (opened ∷ opened ∷ finished ∷ waiting ∷ []) 1 (Enter 1 8)
+        ≡ Some Why.NoNode }
+    ensures root { why (barred_class ∷ opened ∷ finished ∷ waiting ∷ []) 1 (Enter 1 0)
+        ≡ Some Why.AlreadyEntered }
     ensures later_sibling { why (opened ∷ opened ∷ waiting ∷ waiting ∷ []) 1 (Enter 1 2) ≡ None }
-    ensures no_sibling { why (opened ∷ opened ∷ finished ∷ finished ∷ finished ∷ finished ∷ waiting ∷ waiting ∷ []) 1 (Enter 1 7) ≡ None }
-    ensures concurrent { why_where (λ n. eqb n 2) (opened ∷ opened ∷ waiting ∷ waiting ∷ []) 0 (Enter 1 3) ≡ None }
-    ensures concurrent_sibling { why_where (λ n. eqb n 3) (opened ∷ opened ∷ waiting ∷ waiting ∷ []) 1 (Enter 1 3) ≡ None }
-    ensures sibling_under_way { why (opened ∷ opened ∷ live ∷ waiting ∷ []) 1 (Enter 1 3) ≡ Some Why.EarlierSibling }
-    ensures open_sibling { why (opened ∷ opened ∷ opened ∷ waiting ∷ []) 1 (Enter 1 3) ≡ Some Why.EarlierSibling }
-    ensures barred_sibling { why (opened ∷ opened ∷ barred_class ∷ waiting ∷ []) 1 (Enter 1 3) ≡ Some Why.EarlierSibling }
-    ensures closing_sibling { why (opened ∷ opened ∷ closing ∷ waiting ∷ []) 1 (Enter 1 3) ≡ Some Why.EarlierSibling }
-    ensures entered_twice { why (opened ∷ opened ∷ finished ∷ live ∷ []) 1 (Enter 1 3) ≡ Some Why.AlreadyEntered }
-    ensures open_twice { why (opened ∷ opened ∷ finished ∷ opened ∷ []) 1 (Enter 1 3) ≡ Some Why.AlreadyEntered }
-    ensures barred_twice { why (opened ∷ opened ∷ finished ∷ barred_class ∷ []) 1 (Enter 1 3) ≡ Some Why.AlreadyEntered }
-    ensures closing_twice { why (opened ∷ opened ∷ finished ∷ closing ∷ []) 1 (Enter 1 3) ≡ Some Why.AlreadyEntered }
-    ensures barred_child { why (opened ∷ opened ∷ barred_class ∷ []) 1 (Shut 1 1) ≡ Some Why.ChildrenLeft }
-    ensures closing_child { why (opened ∷ opened ∷ closing ∷ []) 1 (Shut 1 1) ≡ Some Why.ChildrenLeft }
-    ensures lowest_holder { why (opened ∷ opened ∷ finished ∷ waiting ∷ finished ∷ live ∷ waiting ∷ live ∷ []) 1 (Enter 1 3) ≡ Some (Why.LockHeld 5) }
-    ensures open_holder { why (opened ∷ opened ∷ finished ∷ waiting ∷ opened ∷ []) 1 (Enter 1 3) ≡ Some (Why.LockHeld 4) }
-    ensures barred_holder { why (opened ∷ opened ∷ finished ∷ waiting ∷ barred_class ∷ []) 1 (Enter 1 3) ≡ Some (Why.LockHeld 4) }
-    ensures closing_holder { why (opened ∷ opened ∷ finished ∷ waiting ∷ closing ∷ []) 1 (Enter 1 3) ≡ Some (Why.LockHeld 4) }
-    ensures closing_parent { why (opened ∷ closing ∷ finished ∷ waiting ∷ []) 1 (Enter 1 3) ≡ Some Why.ParentClosed }
+    ensures no_sibling { why (opened ∷ opened ∷ finished ∷ finished ∷ finished ∷ finished ∷ waiting
+        ∷ waiting ∷ []) 1 (Enter 1 7) ≡ None }
+    ensures concurrent { why_where (λ n. eqb n 2) (opened ∷ opened ∷ waiting ∷ waiting ∷ []) 0
+        (Enter 1 3) ≡ None }
+    ensures concurrent_sibling { why_where (λ n. eqb n 3)
+        (opened ∷ opened ∷ waiting ∷ waiting ∷ []) 1 (Enter 1 3) ≡ None }
+    ensures sibling_under_way { why (opened ∷ opened ∷ live ∷ waiting ∷ []) 1 (Enter 1 3)
+        ≡ Some Why.EarlierSibling }
+    ensures open_sibling { why (opened ∷ opened ∷ opened ∷ waiting ∷ []) 1 (Enter 1 3)
+        ≡ Some Why.EarlierSibling }
+    ensures barred_sibling { why (opened ∷ opened ∷ barred_class ∷ waiting ∷ []) 1 (Enter 1 3)
+        ≡ Some Why.EarlierSibling }
+    ensures closing_sibling { why (opened ∷ opened ∷ closing ∷ waiting ∷ []) 1 (Enter 1 3)
+        ≡ Some Why.EarlierSibling }
+    ensures entered_twice { why (opened ∷ opened ∷ finished ∷ live ∷ []) 1 (Enter 1 3)
+        ≡ Some Why.AlreadyEntered }
+    ensures open_twice { why (opened ∷ opened ∷ finished ∷ opened ∷ []) 1 (Enter 1 3)
+        ≡ Some Why.AlreadyEntered }
+    ensures barred_twice { why (opened ∷ opened ∷ finished ∷ barred_class ∷ []) 1 (Enter 1 3)
+        ≡ Some Why.AlreadyEntered }
+    ensures closing_twice { why (opened ∷ opened ∷ finished ∷ closing ∷ []) 1 (Enter 1 3)
+        ≡ Some Why.AlreadyEntered }
+    ensures barred_child { why (opened ∷ opened ∷ barred_class ∷ []) 1 (Shut 1 1)
+        ≡ Some Why.ChildrenLeft }
+    ensures closing_child { why (opened ∷ opened ∷ closing ∷ []) 1 (Shut 1 1)
+        ≡ Some Why.ChildrenLeft }
+    ensures lowest_holder { why (opened ∷ opened ∷ finished ∷ waiting ∷ finished ∷ live ∷ waiting
+        ∷ live ∷ []) 1 (Enter 1 3) ≡ Some (Why.LockHeld 5) }
+    ensures open_holder { why (opened ∷ opened ∷ finished ∷ waiting ∷ opened ∷ []) 1 (Enter 1 3)
+        ≡ Some (Why.LockHeld 4) }
+    ensures barred_holder { why (opened ∷ opened ∷ finished ∷ waiting ∷ barred_class ∷ []) 1
+        (Enter 1 3) ≡ Some (Why.LockHeld 4) }
+    ensures closing_holder { why (opened ∷ opened ∷ finished ∷ waiting ∷ closing ∷ []) 1 (Enter 1 3)
+        ≡ Some (Why.LockHeld 4) }
+    ensures closing_parent { why (opened ∷ closing ∷ finished ∷ waiting ∷ []) 1 (Enter 1 3)
+        ≡ Some Why.ParentClosed }
 {}
 
 /// What the laws ask of runs is met: a result that a run gives, two suites that agree on a chain

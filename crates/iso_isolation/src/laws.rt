@@ -16,20 +16,23 @@ ghost use Rattle.iso_isolation.specs.Suites.{Suite, SuiteLaws};
 /// of each finished test, and of each finished class, is that of its class chain run alone on the
 /// starting values of the keys of its rights.
 pub fn results_are_those_of_a_chain_run_alone<H, K, V, B, F, R>()
-    ensures { (l : Language H K V B F R) (x : Suite H K V) → BodyLaws l → SuiteLaws l x → Isolated l x }
+    ensures { (l : Language H K V B F R) (x : Suite H K V) → BodyLaws l → SuiteLaws l x
+        → Isolated l x }
 {}
 
 /// Two suites with equal class chains at two nodes, and with starting values that are equal at the
 /// keys of that chain's rights, give both nodes equal results, whatever else stands in the suites
 /// and in whatever order their events come.
 pub fn suites_that_agree_give_equal_results<H, K, V, B, F, R>()
-    ensures { (l : Language H K V B F R) (x y : Suite H K V) → BodyLaws l → SuiteLaws l x → SuiteLaws l y → Unaffected l x y }
+    ensures { (l : Language H K V B F R) (x y : Suite H K V) → BodyLaws l → SuiteLaws l x
+        → SuiteLaws l y → Unaffected l x y }
 {}
 
 /// A run that was stopped refuses every event, and keeps its results.
 pub fn stopped_run_refuses_every_event<H, K, V, B, F, R>()
     ensures results { (s : State K V B F R) (n : ℕ) → result_of (stop s) n ≡ result_of s n }
-    ensures refused { (l : Language H K V B F R) (x : Suite H K V) (workers : ℕ) (s : State K V B F R) (e : Event)
+    ensures refused { (l : Language H K V B F R) (x : Suite H K V) (workers : ℕ)
+        (s : State K V B F R) (e : Event)
         → refusal l x workers (stop s) e ≡ Some Why.Stopped }
 {}
 
@@ -37,12 +40,16 @@ pub fn stopped_run_refuses_every_event<H, K, V, B, F, R>()
 /// stands but the steps that its body still needs. Both give the state after the event and these
 /// steps.
 pub fn history_goes_on<H, K, V, B, F, R>()
-    ensures accepted { (l : Language H K V B F R) (x : Suite H K V) → BodyLaws l → EndLaws l → SuiteLaws l x
-        → (workers : ℕ) (h : List Event) (e : Event) → IsHistory l x workers h → has_no_step (e ∷ []) ≡ true
+    ensures accepted { (l : Language H K V B F R) (x : Suite H K V) → BodyLaws l → EndLaws l
+        → SuiteLaws l x
+        → (workers : ℕ) (h : List Event) (e : Event) → IsHistory l x workers h
+        → has_no_step (e ∷ []) ≡ true
         → is_accepted l x workers (state_of l x h) e ≡ true → GoesOn l x workers h e }
-    ensures leaves { (l : Language H K V B F R) (x : Suite H K V) → BodyLaws l → EndLaws l → SuiteLaws l x
+    ensures leaves { (l : Language H K V B F R) (x : Suite H K V) → BodyLaws l → EndLaws l
+        → SuiteLaws l x
         → (workers : ℕ) (h : List Event) (w : ℕ) → IsHistory l x workers h
-        → refusal l x workers (state_of l x h) (Leave w) ≡ Some Why.BodyNotEnded → GoesOn l x workers h (Leave w) }
+        → refusal l x workers (state_of l x h) (Leave w) ≡ Some Why.BodyNotEnded
+        → GoesOn l x workers h (Leave w) }
 {}
 
 /// A history in full is the history with Steps put in: without them it is the history again.
@@ -60,7 +67,8 @@ pub fn keys_stand_where_histories_tell<H, K, V, B, F, R>()
         → (state_of l x h).nodes.flat k ≡ standing_value l x (state_of l x h) k }
     ensures home { (l : Language H K V B F R) (x : Suite H K V) → BodyLaws l → SuiteLaws l x
         → (workers : ℕ) (h : List Event) (k : K) → IsHistory l x workers h
-        → is_being_written l x (state_of l x h) k ≡ false → (state_of l x h).nodes.flat k ≡ x.start k }
+        → is_being_written l x (state_of l x h) k ≡ false
+        → (state_of l x h).nodes.flat k ≡ x.start k }
 {}
 
 /// Two runs with the same Enters, Leaves and Shuts in the same order give every node the same
@@ -68,7 +76,8 @@ pub fn keys_stand_where_histories_tell<H, K, V, B, F, R>()
 pub fn steps_may_stand_anywhere<H, K, V, B, F, R>()
     ensures { (l : Language H K V B F R) (x : Suite H K V) → BodyLaws l → SuiteLaws l x
         → (workers : ℕ) (es fs : List Event) → SameHistory l x workers es fs
-        → (n : ℕ) → result_of (after_all_of l x (first l x) es) n ≡ result_of (after_all_of l x (first l x) fs) n }
+        → (n : ℕ) → result_of (after_all_of l x (first l x) es) n
+        ≡ result_of (after_all_of l x (first l x) fs) n }
 {}
 
 /// There are a language and a suite that keep all that the theorem asks, with locks, nested classes

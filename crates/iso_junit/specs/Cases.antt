@@ -15,11 +15,13 @@ failed_itself r n = has_failed (r.outcome n).verdict
 -- the testcases of a class: one of its own, where its own blocks failed, and one for each test that
 -- stands directly in it
 abbrev pub cases : RunView → ℕ → List ℕ
-cases r class = filter (failed_itself r) (class ∷ []) ++ filter (is_a_test r) (children r.tree class)
+cases r class =
+    filter (failed_itself r) (class ∷ []) ++ filter (is_a_test r) (children r.tree class)
 
 -- whether a class has a testsuite: it has a testcase, or its own blocks printed
 abbrev pub is_suite : RunView → ℕ → Bool
-is_suite r n = not (is_root n || is_a_test r n) && not (length (cases r n) == 0 && length (r.outcome n).output == 0)
+is_suite r n = not (is_root n || is_a_test r n)
+    && not (length (cases r n) == 0 && length (r.outcome n).output == 0)
 
 -- the classes that have one, in the order in which they are written
 abbrev pub suites : RunView → List ℕ

@@ -56,7 +56,8 @@ case_head name path at time =
 
 -- what a test printed; what a class printed stands in its testsuite
 abbrev pub case_output : RunView → ℕ → List ℕ
-case_output r n = cond (is_a_test r n) (output_text (codes "      ") (row_at r.tree n) (r.outcome n).output) []
+case_output r n =
+    cond (is_a_test r n) (output_text (codes "      ") (row_at r.tree n) (r.outcome n).output) []
 
 -- whether nothing stands in a testcase: a test passed, has no display text and printed nothing
 abbrev pub is_bare : RunView → ℕ → Bool
@@ -66,15 +67,18 @@ is_bare r n = has_passed (r.outcome n).verdict && is_silent (row_at r.tree n) (r
 abbrev pub case_rest : RunView → ℕ → List ℕ
 case_rest r n =
     cond (is_bare r n) (codes "/>\n")
-    (codes ">\n" ++ result_text (place r n) (r.outcome n).verdict ++ case_output r n ++ codes "    </testcase>\n")
+    (codes ">\n" ++ result_text (place r n) (r.outcome n).verdict ++ case_output r n
+    ++ codes "    </testcase>\n")
 
 -- a testcase of a class
 abbrev pub case_text : RunView → (class n : ℕ) → List ℕ
-case_text r class n = case_head (case_name r n) (path_text r.tree class) (place r n) (time r n) ++ case_rest r n
+case_text r class n = case_head (case_name r n) (path_text r.tree class) (place r n) (time r n)
+    ++ case_rest r n
 
 -- the beginning of the testsuite of the class with this path
 abbrev pub suite_head : (path : List ℕ) → Tally → List ℕ
-suite_head path t = joined (codes "  <testsuite name=\"" ∷ escaped path ∷ codes "\"" ∷ counts_text t ∷ codes ">\n" ∷ [])
+suite_head path t = joined (codes "  <testsuite name=\"" ∷ escaped path ∷ codes "\"" ∷ counts_text t
+    ∷ codes ">\n" ∷ [])
 
 -- the testsuite of a class: its testcases, and what its own blocks printed
 abbrev pub suite_text : RunView → ℕ → List ℕ
@@ -86,8 +90,11 @@ suite_text r class =
 
 -- the beginning of the document
 abbrev pub document_head : Tally → List ℕ
-document_head t = joined (codes "<?xml version=\"1.0\" encoding=\"UTF-8\"?>\n<testsuites name=\"jtap\"" ∷ counts_text t ∷ codes ">\n" ∷ [])
+document_head t =
+    joined (codes "<?xml version=\"1.0\" encoding=\"UTF-8\"?>\n<testsuites name=\"jtap\""
+    ∷ counts_text t ∷ codes ">\n" ∷ [])
 
 -- the document: its testsuites, and the counts of all testcases
 abbrev pub junit_text : RunView → List ℕ
-junit_text r = document_head (tally r (all_cases r)) ++ flat_map (suite_text r) (suites r) ++ codes "</testsuites>\n"
+junit_text r = document_head (tally r (all_cases r)) ++ flat_map (suite_text r) (suites r)
+    ++ codes "</testsuites>\n"

@@ -32,7 +32,8 @@ problem element type at message =
 
 -- that a testcase was skipped, and why
 abbrev pub skipped_text : List ℕ → List ℕ
-skipped_text reason = joined (codes "      <skipped message=\"" ∷ escaped reason ∷ codes "\"/>\n" ∷ [])
+skipped_text reason =
+    joined (codes "      <skipped message=\"" ∷ escaped reason ∷ codes "\"/>\n" ∷ [])
 
 -- what a testcase came to, and nothing where it passed
 abbrev pub result_text : PlacedView → Verdict → List ℕ
@@ -65,4 +66,5 @@ is_silent row output = is_called_by_name row && length output == 0
 abbrev pub output_text : (indent : List ℕ) → Row → (output : List (List ℕ)) → List ℕ
 output_text indent row output =
     cond (is_silent row output) []
-    (joined (indent ∷ codes "<system-out>" ∷ display_line row ∷ []) ++ lines_text output ++ codes "</system-out>\n")
+    (joined (indent ∷ codes "<system-out>" ∷ display_line row ∷ []) ++ lines_text output
+    ++ codes "</system-out>\n")

@@ -38,13 +38,20 @@ silent verdict = record { verdict = verdict; output = [] }
 abbrev outcomes : List Outcome
 outcomes =
     passed
-    ∷ record { verdict = Fail (says "still open"); output = codes "opened" ∷ codes "not closed" ∷ [] }
+    ∷ record {
+      verdict = Fail (says "still open");
+      output = codes "opened"
+          ∷ codes "not closed" ∷ [];
+    }
     ∷ passed
     ∷ silent (Fault Frozen (says "n is frozen"))
     ∷ silent (Blocked (says "n is frozen"))
     ∷ silent (Blocked (says "n is frozen"))
     ∷ silent (Blocked (says "n is frozen"))
-    ∷ record { verdict = Fail (says "expected: <6> but was: <5>"); output = codes "say \"hi\" & go" ∷ [] }
+    ∷ record {
+      verdict = Fail (says "expected: <6> but was: <5>");
+      output = codes "say \"hi\" & go" ∷ [];
+    }
     ∷ passed
     ∷ silent (Skipped (says "no #1"))
     ∷ silent (Skipped (says "later"))
@@ -70,7 +77,8 @@ places =
 
 -- the microseconds that their bodies took: blocked and disabled nodes have none, nor has Drawer
 abbrev times : List (Option ℕ)
-times = None ∷ Some 7 ∷ Some 2 ∷ Some 3 ∷ None ∷ None ∷ None ∷ Some 1500000 ∷ None ∷ Some 4 ∷ None ∷ []
+times = None ∷ Some 7 ∷ Some 2 ∷ Some 3 ∷ None ∷ None ∷ None ∷ Some 1500000 ∷ None
+    ∷ Some 4 ∷ None ∷ []
 
 abbrev pub cart_run : RunView
 cart_run = record { tree = till_in_cart; outcome = outcome_of; places = places; times = times }
@@ -94,7 +102,9 @@ class_named name ms = a_class (codes name) None false [] ms
 abbrev pub holders_to : List Outcome → RunView
 holders_to outcomes =
     record unmeasured {
-      tree = tree (shop (class_named "A" (member (class_member (class_named "B" no_members)) no_members) ∷ []) ∷ []);
+      tree =
+          tree (shop (class_named "A"
+          (member (class_member (class_named "B" no_members)) no_members) ∷ []) ∷ []);
       outcome = λ n. slice_index_or outcomes n passed;
     }
 

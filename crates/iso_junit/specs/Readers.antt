@@ -32,9 +32,11 @@ with_byte (Some b) text = option_map (λ bs. b ∷ bs) text
 abbrev pub read_from : Option (List ℕ) → List ℕ → Option (List ℕ)
 read_from None [] = Some []
 read_from (Some name) [] = None
-read_from None (b ∷ bs) = cond (b == 38) (read_from (Some []) bs) (with_byte (cond (is_special b) None (Some b)) (read_from None bs))
+read_from None (b ∷ bs) = cond (b == 38) (read_from (Some []) bs)
+    (with_byte (cond (is_special b) None (Some b)) (read_from None bs))
 read_from (Some name) (b ∷ bs) =
-    cond (b == 59) (with_byte (referred name) (read_from None bs)) (read_from (Some (name ++ b ∷ [])) bs)
+    cond (b == 59) (with_byte (referred name) (read_from None bs))
+    (read_from (Some (name ++ b ∷ [])) bs)
 
 -- the text that bytes are
 abbrev pub unescaped : List ℕ → Option (List ℕ)

@@ -25,7 +25,12 @@ pub record RunView : Type 0 where
   pub times : List (Option ℕ)
 
 abbrev pub run_of : Run → RunView
-run_of r = record { tree = tree_of r.plan.now; outcome = outcome_in r.results.now; places = map placed_of r.places.now; times = r.times.now }
+run_of r = record {
+  tree = tree_of r.plan.now;
+  outcome = outcome_in r.results.now;
+  places = map placed_of r.places.now;
+  times = r.times.now;
+}
 
 -- where the node with a number stands
 abbrev pub place : RunView → ℕ → PlacedView

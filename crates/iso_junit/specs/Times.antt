@@ -20,9 +20,11 @@ last_digit n = 48 + n % 10
 -- six digits of a number below a million
 abbrev pub six_digits : ℕ → List ℕ
 six_digits n =
-    last_digit (n / 100000) ∷ last_digit (n / 10000) ∷ last_digit (n / 1000) ∷ last_digit (n / 100) ∷ last_digit (n / 10) ∷ last_digit n ∷ []
+    last_digit (n / 100000) ∷ last_digit (n / 10000) ∷ last_digit (n / 1000) ∷ last_digit (n / 100)
+    ∷ last_digit (n / 10) ∷ last_digit n ∷ []
 
 -- the attribute of a time, in seconds, where one was measured
 abbrev pub time_attribute : Option ℕ → List ℕ
 time_attribute None = []
-time_attribute (Some t) = joined (codes " time=\"" ∷ decimal (t / 1000000) ∷ codes "." ∷ six_digits (t % 1000000) ∷ codes "\"" ∷ [])
+time_attribute (Some t) = joined (codes " time=\"" ∷ decimal (t / 1000000) ∷ codes "."
+    ∷ six_digits (t % 1000000) ∷ codes "\"" ∷ [])

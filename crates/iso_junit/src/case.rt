@@ -77,7 +77,8 @@ fn head<'x, W: Sink>(
 /// The name of a testcase.
 fn case_name(plan: &Plan, node: u32) -> &str
     requires { node < length plan.now.rows }
-    ensures { let row = row_at (tree_of plan.now) node in result.now ≡ cond (is_test row.kind) row.name (codes "class") }
+    ensures { let row = row_at (tree_of plan.now) node in result.now
+        ≡ cond (is_test row.kind) row.name (codes "class") }
 {
     if plan.is_test(node) {
         plan.name(node)
@@ -112,7 +113,8 @@ fn rest<W: Sink>(
 fn is_bare(plan: &Plan, node: u32, view: View<'_>) -> bool
     requires { node < length plan.now.rows }
     ensures { let outcome = outcome_of_view view.entry in
-        result ≡ (has_passed outcome.verdict && is_silent (row_at (tree_of plan.now) node) outcome.output) }
+        result ≡ (has_passed outcome.verdict
+        && is_silent (row_at (tree_of plan.now) node) outcome.output) }
 {
     matches!(view.verdict, ViewVerdict::Pass) && is_silent(plan, node, view)
 }
@@ -123,7 +125,8 @@ fn ended<'x, W: Sink>(
     at: &Placed<'x>,
     verdict: ViewVerdict<'x>,
 ) -> Result<(), SinkFailed>
-    ensures { Prints printer.old printer.new (result_text (placed_of at.now) (verdict_of_view verdict.entry)) result }
+    ensures { Prints printer.old printer.new
+        (result_text (placed_of at.now) (verdict_of_view verdict.entry)) result }
 {
     match verdict {
         ViewVerdict::Pass => Ok(()),
@@ -146,7 +149,8 @@ fn problem<'x, W: Sink>(
     at: &Placed<'x>,
     message: &'x str,
 ) -> Result<(), SinkFailed>
-    ensures { Prints printer.old printer.new (problem element.now kind.now (placed_of at.now) message.now) result }
+    ensures { Prints printer.old printer.new
+        (problem element.now kind.now (placed_of at.now) message.now) result }
 {
     parts(
         printer,
@@ -194,7 +198,8 @@ fn case_output<W: Sink>(
     requires { node < length plan.now.rows }
     ensures { Prints printer.old printer.new
         (cond (is_test (row_at (tree_of plan.now) node).kind)
-        (output_text (codes "      ") (row_at (tree_of plan.now) node) (outcome_of_view view.entry).output) []) result }
+        (output_text (codes "      ") (row_at (tree_of plan.now) node)
+        (outcome_of_view view.entry).output) []) result }
 {
     if plan.is_test(node) {
         return output(printer, "      ", plan, node, view);

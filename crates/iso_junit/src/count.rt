@@ -72,7 +72,8 @@ fn count_own(run: &Run<'_, '_>, class: u32) -> Tally
     requires complete { AreComplete run.now.results.now }
     requires above { 0 < class }
     requires within { class < length run.now.plan.now.rows }
-    ensures { result ≡ tally (run_of run.now) (filter (failed_itself (run_of run.now)) (class ∷ [])) }
+    ensures { result ≡ tally (run_of run.now)
+        (filter (failed_itself (run_of run.now)) (class ∷ [])) }
 {
     let mut counts = Tally::none();
     if failed_itself(run, class) {

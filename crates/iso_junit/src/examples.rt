@@ -13,9 +13,11 @@ ghost use Rattle.iso_summary.specs.Examples.{language_tag, turned_text};
 /// numbers, all else as it is.
 pub fn special_bytes_are_escaped()
     ensures named { escaped (codes "<a> & \"b\"") ≡ codes "&lt;a&gt; &amp; &quot;b&quot;" }
-    ensures numbered { escaped (codes "a\n\tb" ++ 13 ∷ 0 ∷ 127 ∷ []) ≡ codes "a&#10;&#9;b&#13;&#0;&#127;" }
+    ensures numbered { escaped (codes "a\n\tb" ++ 13 ∷ 0 ∷ 127 ∷ [])
+        ≡ codes "a&#10;&#9;b&#13;&#0;&#127;" }
     ensures again { escaped (codes "&lt;") ≡ codes "&amp;lt;" }
-    ensures as_they_are { escaped (codes "it's #1; \\ ~" ++ 195 ∷ 164 ∷ []) ≡ codes "it's #1; \\ ~" ++ 195 ∷ 164 ∷ [] }
+    ensures as_they_are { escaped (codes "it's #1; \\ ~" ++ 195 ∷ 164 ∷ []) ≡ codes "it's #1; \\ ~"
+        ++ 195 ∷ 164 ∷ [] }
 {}
 
 /// A reader refuses what isn't escaped, and references that there are none of.
@@ -36,7 +38,8 @@ pub fn names_of_files_have_allowed_characters()
     ensures turned { file_name (codes "a" ++ turned_text) ≡ codes "a\\u202E" }
     ensures language_tag { file_name language_tag ≡ codes "\\U000E0001" }
     ensures none { file_name (239 ∷ 191 ∷ 190 ∷ 239 ∷ 191 ∷ 191 ∷ []) ≡ codes "\\uFFFE\\uFFFF" }
-    ensures as_they_are { file_name (codes "a<b" ++ 239 ∷ 191 ∷ 189 ∷ []) ≡ codes "a<b" ++ 239 ∷ 191 ∷ 189 ∷ [] }
+    ensures as_they_are { file_name (codes "a<b" ++ 239 ∷ 191 ∷ 189 ∷ []) ≡ codes "a<b" ++ 239
+        ∷ 191 ∷ 189 ∷ [] }
 {}
 
 /// Times are told in seconds with six decimals, and are left out where nothing was measured.

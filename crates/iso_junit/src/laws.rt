@@ -28,9 +28,11 @@ pub fn names_of_files_are_allowed()
 /// were blocked, and these classes.
 pub fn document_counts_what_a_summary_counts()
     ensures tests { (r : RunView) → IsTree r.tree
-        → let all = tally r (all_cases r) in let summary = counts r.tree r.outcome in all.tests ≡ summary.tests + summary.classes_not_ok }
+        → let all = tally r (all_cases r) in let summary =
+        counts r.tree r.outcome in all.tests ≡ summary.tests + summary.classes_not_ok }
     ensures skipped { (r : RunView) → IsTree r.tree
-        → let all = tally r (all_cases r) in let summary = counts r.tree r.outcome in all.skipped ≡ summary.skipped }
+        → let all = tally r (all_cases r) in let summary =
+        counts r.tree r.outcome in all.skipped ≡ summary.skipped }
     ensures problems { (r : RunView) → IsTree r.tree
         → let all = tally r (all_cases r) in let summary = counts r.tree r.outcome in
         all.failures + all.errors ≡ summary.not_ok + summary.blocked + summary.classes_not_ok }
@@ -39,6 +41,8 @@ pub fn document_counts_what_a_summary_counts()
 /// Each testcase stands in the testsuite of one class, where each test is a member of a class:
 /// whatever one counts of the testsuites' testcases, there are as many of all.
 pub fn testsuites_sum_up_to_the_document()
-    ensures { (r : RunView) → IsTree r.tree → ((n : ℕ) → is_a_test r n ≡ true → is_root (parent r.tree n) ≡ false)
-        → (such : Verdict → Bool) → how_many r such (all_cases r) ≡ sum_by (λ class. how_many r such (cases r class)) (suites r) }
+    ensures { (r : RunView) → IsTree r.tree
+        → ((n : ℕ) → is_a_test r n ≡ true → is_root (parent r.tree n) ≡ false)
+        → (such : Verdict → Bool) → how_many r such (all_cases r)
+        ≡ sum_by (λ class. how_many r such (cases r class)) (suites r) }
 {}

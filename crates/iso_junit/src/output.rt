@@ -25,7 +25,8 @@ pub(crate) fn output<'x, W: Sink>(
 ) -> Result<(), SinkFailed>
     requires { node < length plan.now.rows }
     ensures { Prints printer.old printer.new
-        (output_text indent.now (row_at (tree_of plan.now) node) (outcome_of_view view.entry).output) result }
+        (output_text indent.now (row_at (tree_of plan.now) node)
+        (outcome_of_view view.entry).output) result }
 {
     if is_silent(plan, node, view) {
         return Ok(());
@@ -58,7 +59,8 @@ fn display_line(plan: &Plan, node: u32) -> Part<'_>
 /// Whether a node has neither a display text nor printed lines.
 pub(crate) fn is_silent(plan: &Plan, node: u32, view: View<'_>) -> bool
     requires { node < length plan.now.rows }
-    ensures { result ≡ is_silent (row_at (tree_of plan.now) node) (outcome_of_view view.entry).output }
+    ensures { result ≡ is_silent (row_at (tree_of plan.now) node)
+        (outcome_of_view view.entry).output }
 {
     is_called_by_name(plan, node) && printed_nothing(view)
 }

@@ -30,7 +30,8 @@ pub(crate) fn suite<W: Sink>(
     requires complete { AreComplete run.now.results.now }
     requires above { 0 < node }
     requires within { node < length run.now.plan.now.rows }
-    ensures { Prints printer.old printer.new (cond (is_suite (run_of run.now) node) (suite_text (run_of run.now) node) []) result }
+    ensures { Prints printer.old printer.new
+        (cond (is_suite (run_of run.now) node) (suite_text (run_of run.now) node) []) result }
 {
     let counts = count(run, node);
     if !is_suite(run, node, counts) {
@@ -62,7 +63,8 @@ fn head<W: Sink>(
 ) -> Result<(), SinkFailed>
     requires above { 0 < class }
     requires within { class < length plan.now.rows }
-    ensures { Prints printer.old printer.new (suite_head (path_text (tree_of plan.now) class) counts) result }
+    ensures { Prints printer.old printer.new
+        (suite_head (path_text (tree_of plan.now) class) counts) result }
 {
     parts_with_path(
         printer,
@@ -103,7 +105,8 @@ fn own_case<W: Sink>(
     requires above { 0 < class }
     requires within { class < length run.now.plan.now.rows }
     ensures { Prints printer.old printer.new
-        (cond (failed_itself (run_of run.now) class) (case_text (run_of run.now) class class) []) result }
+        (cond (failed_itself (run_of run.now) class) (case_text (run_of run.now) class class) [])
+        result }
 {
     if !failed_itself(run, class) {
         return Ok(());

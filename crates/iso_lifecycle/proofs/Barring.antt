@@ -60,7 +60,8 @@ first_note [] = refl
 first_note (f ∷ fs) = refl
 
 -- the outcome of a node in a class whose opening wasn't well
-pub outcome-barred : (tree : List Row) → IsTree tree → (m : Resources) (n : ℕ) → 0 < n → n < length tree → (opening (chain_classes tree (parent tree n)) m).well ≡ false → outcome_alone tree m n ≡ record { verdict = barred_verdict (first_frame (opening (chain_classes tree (parent tree n)) m).frames).ending; output = [] }
+pub outcome-barred : (tree : List Row) → IsTree tree → (m : Resources) (n : ℕ) → 0 < n → n < length tree → (opening (chain_classes tree (parent tree n)) m).well ≡ false
+    → outcome_alone tree m n ≡ record { verdict = barred_verdict (first_frame (opening (chain_classes tree (parent tree n)) m).frames).ending; output = [] }
 outcome-barred tree is m n pos within h =
     let cs = chain_classes tree (parent tree n) in
     let k = (row_at tree n).kind in
@@ -127,13 +128,15 @@ or_second true b h = absurd (cc)
 or_second false b h = refl
 
 -- the class found on the way up bars the node
-pub found-bars : (v : ResultsView) → IsTree (tree_of v.plan) → (n at m : ℕ) (o : Opened) → IsAbove v n at → HasParent (tree_of v.plan) at m → IsOpening (subject v.plan v.start m) o → is_barring v m ≡ true → is_barred v n ≡ true
+pub found-bars : (v : ResultsView) → IsTree (tree_of v.plan) → (n at m : ℕ) (o : Opened) → IsAbove v n at
+    → HasParent (tree_of v.plan) at m → IsOpening (subject v.plan v.start m) o → is_barring v m ≡ true → is_barred v n ≡ true
 found-bars v is n at m o a p is_o h =
     let pos : 0 < m = opened_inner (subject v.plan v.start m) o is_o m refl in
     a.barring ∙ barred_class_above v is at m p.parent_is pos ∙ or_first (is_barring v m) (is_barred v m) h
 
 -- and its ending gives the outcome
-pub found-outcome : (v : ResultsView) → IsTree (tree_of v.plan) → (n at m : ℕ) (o : Opened) → IsAbove v n at → HasParent (tree_of v.plan) at m → IsOpening (subject v.plan v.start m) o → is_barring v m ≡ true → n < length (tree_of v.plan) → outcome_in v n ≡ record { verdict = barred_verdict o.ending; output = [] }
+pub found-outcome : (v : ResultsView) → IsTree (tree_of v.plan) → (n at m : ℕ) (o : Opened) → IsAbove v n at → HasParent (tree_of v.plan) at m
+    → IsOpening (subject v.plan v.start m) o → is_barring v m ≡ true → n < length (tree_of v.plan) → outcome_in v n ≡ record { verdict = barred_verdict o.ending; output = [] }
 found-outcome v is n at m o a p is_o h within =
     let tree = tree_of v.plan in
     let pos : 0 < n = omega (arith, p.inner, a.below) in
@@ -149,7 +152,8 @@ passed_barring : (v : ResultsView) → IsTree (tree_of v.plan) → (at m : ℕ) 
 passed_barring v is at zero p h = barred_root v is at p ∙ sym (barred_root v is 0 (root_parent (tree_of v.plan) is))
 passed_barring v is at (suc m) p h = barred_class_above v is at (suc m) p (omega arith) ∙ or_second (is_barring v (suc m)) (is_barred v (suc m)) h
 
-passed_opening : (v : ResultsView) → IsTree (tree_of v.plan) → (m : ℕ) → (opening_of (subject v.plan v.start (parent (tree_of v.plan) m))).well ≡ false → opening_of (subject v.plan v.start m) ≡ opening_of (subject v.plan v.start (parent (tree_of v.plan) m))
+passed_opening : (v : ResultsView) → IsTree (tree_of v.plan) → (m : ℕ) → (opening_of (subject v.plan v.start (parent (tree_of v.plan) m))).well ≡ false
+    → opening_of (subject v.plan v.start m) ≡ opening_of (subject v.plan v.start (parent (tree_of v.plan) m))
 passed_opening v is zero h = ap (λ (i : ℕ). opening_of (subject v.plan v.start i)) (sym (root_parent (tree_of v.plan) is))
 passed_opening v is (suc m) h =
     let tree = tree_of v.plan in

@@ -117,7 +117,8 @@ frames-along p start n frames l are all well =
     turned p start ns frames are ∙ sym (along p start l n ns refl (classes_there p start ns frames are all) well)
 
 -- and those with a class's own, whatever that came to
-pub frames-with-own : (s : Subject) (frames : List Subject) → Leads (tree_of s.plan) → 0 < s.node → IsOfClass s → frames ≡ map (subject s.plan s.start) (reverse (path (tree_of s.plan) s.node)) → All IsOfClass frames
+pub frames-with-own : (s : Subject) (frames : List Subject) → Leads (tree_of s.plan) → 0 < s.node → IsOfClass s
+    → frames ≡ map (subject s.plan s.start) (reverse (path (tree_of s.plan) s.node)) → All IsOfClass frames
     → (opening_of (enclosing s)).well ≡ true → frames_of frames ≡ (opening_of s).frames
 frames-with-own s frames l pos class are all well =
     let p = s.plan in

@@ -25,7 +25,8 @@ ended_by false b x h = absurd (cc)
 closed_outcome : (s : Subject) (o : Openings.Opened) (c : Closings.Closed) → IsClosed s o c → combined o c ≡ outcome_of s
 closed_outcome s o c is = rw (is.opened.opening.ending_is, is.opened.opening.lines_are) (sym is.closing.outcome)
 
-pub closed-result : (v : ResultsView) (plan : Planned) (start : Start) (es : List Entry) (n : ℕ) (o : Openings.Opened) (c : Closings.Closed) (r : Outcome) → seen plan start es ≡ v → AreKept plan start es → entry_at es n ≡ Closed o c → r ≡ combined o c → Some r ≡ result_in v n
+pub closed-result : (v : ResultsView) (plan : Planned) (start : Start) (es : List Entry) (n : ℕ) (o : Openings.Opened) (c : Closings.Closed) (r : Outcome)
+    → seen plan start es ≡ v → AreKept plan start es → entry_at es n ≡ Closed o c → r ≡ combined o c → Some r ≡ result_in v n
 closed-result v plan start es n o c r v_is k here r_is =
     let s = subject plan start n in
     let x = outcome_of s in

@@ -33,7 +33,8 @@ kept_with s (W.Tested o) e d k = record { test = d.fits; outcome = d.end }
 kept_with s (W.Opened o) e d k = record { class = d.fits; opening = d.end }
 kept_with s (W.Closed c) e d k = kept_closed s c e d k
 
-kept_at : (plan : Planned) (start : Start) (es : List Entry) (n : ℕ) (x : Entry) → AreKept plan start es → n < length es → IsKept (subject plan start n) x → (m : ℕ) → (b : Bool) → (m == n) ≡ b → IsKept (subject plan start m) (entry_at (slice_set es n x) m)
+kept_at : (plan : Planned) (start : Start) (es : List Entry) (n : ℕ) (x : Entry) → AreKept plan start es → n < length es
+    → IsKept (subject plan start n) x → (m : ℕ) → (b : Bool) → (m == n) ≡ b → IsKept (subject plan start m) (entry_at (slice_set es n x) m)
 kept_at plan start es n x k within here m true e =
     let same : m ≡ n = grind (arith, nat_tests) in
     rw (same, get_or-set_same es n x Empty within) here
@@ -91,7 +92,8 @@ due_at : (f : Entry → Bool) (es : List Entry) (n : ℕ) → slice_index_or (ma
 due_at f es n = get_or-map f es n Empty
 
 -- what is put of a node is seen
-seen_with : (plan : Planned) (start : Start) (es : List Entry) (n : ℕ) (what : What) → AreKept plan start es → IsDone (subject plan start n) what → is_due (kind_of_what what) n (seen plan start es) ≡ true → seen plan start (slice_set es n (entry_with what (entry_at es n))) ≡ with_done_of (kind_of_what what) n (seen plan start es)
+seen_with : (plan : Planned) (start : Start) (es : List Entry) (n : ℕ) (what : What) → AreKept plan start es → IsDone (subject plan start n) what
+    → is_due (kind_of_what what) n (seen plan start es) ≡ true → seen plan start (slice_set es n (entry_with what (entry_at es n))) ≡ with_done_of (kind_of_what what) n (seen plan start es)
 seen_with plan start es n (W.Opened o) k d due =
     let x = Opened o in
     let here : not (has_opened (entry_at es n)) ≡ true = ap not (sym (due_at has_opened es n)) ∙ due in
@@ -154,5 +156,6 @@ flags_none f zero h = refl
 flags_none f (suc count) h = cc (flags_none f count h)
 
 -- nothing is seen of empty entries
-pub none-seen : (plan : Planned) (start : Start) (count : ℕ) → seen plan start (replicate count Empty) ≡ record { plan = plan; start = start; opened = replicate count false; ended = replicate count false }
+pub none-seen : (plan : Planned) (start : Start) (count : ℕ)
+    → seen plan start (replicate count Empty) ≡ record { plan = plan; start = start; opened = replicate count false; ended = replicate count false }
 none-seen plan start count = same_view plan start (map has_opened (replicate count Empty)) (map has_ended (replicate count Empty)) (replicate count false) (replicate count false) (flags_none has_opened count refl) (flags_none has_ended count refl)

@@ -51,7 +51,8 @@ pub rights-kept : (block : Option BlockRun) (run : BlockRun) (rest : Rest) → r
 rights-kept None run rest rights same = tt
 rights-kept (Some left) run rest rights same = λ k i. (ap run_rights same ∙ rights) i k
 
-pub rights-left : (block : Option BlockRun) (left run : BlockRun) (rest : Rest) → block ≡ Some left → run_rights run ≡ access_in rest.rights.now → IfSome block (λ (x : BlockRun). x ≡ run) → HaveRights (Some left) rest
+pub rights-left : (block : Option BlockRun) (left run : BlockRun) (rest : Rest) → block ≡ Some left
+    → run_rights run ≡ access_in rest.rights.now → IfSome block (λ (x : BlockRun). x ≡ run) → HaveRights (Some left) rest
 rights-left block left run rest is rights same = subst (λ (o : Option BlockRun). HaveRights o rest) is (rights-kept block run rest rights same)
 
 pub rights-before : (block : Option BlockRun) (rest after : Rest) → SameChain rest after → HaveRights block after → HaveRights block rest

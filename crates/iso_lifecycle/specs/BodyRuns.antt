@@ -24,11 +24,13 @@ account_in_run run = account_in run.rest
 -- the point of the body once a block that has nothing left to do is ended, and the next begun
 abbrev pub settled_with : Option BlockRun → Rest → Stage
 settled_with None r = ended (account_in r)
-settled_with (Some run) r = stage_at (stage_from (jobs_left r)) (pieces_of run) (local_of run) (names_before run) (beside_in r) (jobs_left r)
+settled_with (Some run) r = stage_at (stage_from (jobs_left r)) (pieces_of run) (local_of run)
+    (names_before run) (beside_in r) (jobs_left r)
 
 abbrev pub settled_stage : BodyRun → Stage
 settled_stage run = settled_with run.block run.rest
 
 -- what an ended body left, which printed `printed` bytes
 abbrev pub end_account : BodyEnd → ℕ → Account
-end_account end printed = record { names = end.names; printed = printed; lines = end.output; endings = end.endings.items }
+end_account end printed =
+    record { names = end.names; printed = printed; lines = end.output; endings = end.endings.items }

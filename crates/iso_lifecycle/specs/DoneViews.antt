@@ -11,4 +11,5 @@ pub record DoneView : Type 0 where
   pub kind : BodyKind
 
 abbrev pub done_code : Coded DoneView
-done_code = code_by (Subject × BodyKind) (coded× subject_code kind.the_row.coded) (λ d. (d.subject, d.kind)) (λ p. record { subject = p.0; kind = p.1 }) (λ _. refl)
+done_code = code_by (Subject × BodyKind) (coded× subject_code kind.the_row.coded)
+    (λ d. (d.subject, d.kind)) (λ p. record { subject = p.0; kind = p.1 }) (λ _. refl)

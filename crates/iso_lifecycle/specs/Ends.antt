@@ -63,7 +63,10 @@ ends_well AfterAll s = is_well (closing_ending (classes_of s) (opening_of s))
 -- `before_all` and this `after_all`
 pub record IsClosing (s : Subject) (c : Closings.Closed) : Type 0 where
   pub ending_is : c.ending ≡ closing_ending (classes_of s) (opening_of s)
-  pub outcome : outcome_of s ≡ record { verdict = verdict ((own_frame s).ending ∷ c.ending ∷ []); output = (own_frame s).lines ++ c.lines }
+  pub outcome : outcome_of s ≡ record {
+    verdict = verdict ((own_frame s).ending ∷ c.ending ∷ []);
+    output = (own_frame s).lines ++ c.lines;
+  }
 
 -- the body came to what the definitions say
 abbrev pub IsEnd : Subject → What → Type 0

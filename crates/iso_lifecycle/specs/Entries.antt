@@ -80,4 +80,5 @@ pub record AreKept (plan : Planned) (start : Start) (es : List Entry) : Type 0 w
 
 -- what contracts see of them
 abbrev pub seen : Planned → Start → List Entry → ResultsView
-seen plan start es = record { plan = plan; start = start; opened = map has_opened es; ended = map has_ended es }
+seen plan start es =
+    record { plan = plan; start = start; opened = map has_opened es; ended = map has_ended es }

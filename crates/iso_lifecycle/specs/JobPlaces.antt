@@ -74,6 +74,7 @@ job_at os body (AfterEach d) = after_each_job (head_at os d) (outside os d)
 -- the jobs from a place on
 abbrev pub jobs_from : List ClassHead → Acts → Option Job → List J.Job
 jobs_from os body None = []
-jobs_from os body (Some (BeforeEach d)) = drop d (before_each_jobs (reverse os)) ++ own_job body (reverse os) ∷ after_each_jobs (reverse os)
+jobs_from os body (Some (BeforeEach d)) = drop d (before_each_jobs (reverse os))
+    ++ own_job body (reverse os) ∷ after_each_jobs (reverse os)
 jobs_from os body (Some Test) = own_job body (reverse os) ∷ after_each_jobs (reverse os)
 jobs_from os body (Some (AfterEach d)) = after_each_jobs (outside os (suc d))

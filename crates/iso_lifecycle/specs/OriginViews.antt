@@ -12,4 +12,5 @@ kind_of_origin o = o.kind
 
 -- frames are those that the body begins with
 abbrev pub AreFrames : Origin → List Subject → Type 0
-AreFrames o frames = frames ≡ map (subject o.plan.now o.start.value) (framed o.kind (subject_of_origin o))
+AreFrames o frames =
+    frames ≡ map (subject o.plan.now o.start.value) (framed o.kind (subject_of_origin o))

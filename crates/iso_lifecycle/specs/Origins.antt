@@ -50,10 +50,14 @@ Parts = List Binding × (ℕ × (List (List ℕ) × List Ending))
 
 abbrev account_code : Coded Account
 account_code =
-    code_by Parts (coded× (coded_list binding.the_row.coded) (coded× coded_ℕ (coded× (coded_list (coded_list coded_ℕ)) (coded_list ending.the_row.coded))))
-    (λ a. (a.names, (a.printed, (a.lines, a.endings)))) (λ p. record { names = p.0; printed = p.1.0; lines = p.1.1.0; endings = p.1.1.1 }) (λ _. refl)
+    code_by Parts (coded× (coded_list binding.the_row.coded)
+    (coded× coded_ℕ (coded× (coded_list (coded_list coded_ℕ))
+    (coded_list ending.the_row.coded))))
+    (λ a. (a.names, (a.printed, (a.lines, a.endings))))
+    (λ p. record { names = p.0; printed = p.1.0; lines = p.1.1.0; endings = p.1.1.1 }) (λ _. refl)
 
-pub HasFrame-prop : (kind : BodyKind) (s : Subject) (frame : Option Subject) → IsProp (HasFrame kind s frame)
+pub HasFrame-prop : (kind : BodyKind) (s : Subject) (frame : Option Subject)
+    → IsProp (HasFrame kind s frame)
 HasFrame-prop BeforeAll s frame = Coded-set (coded_option subject_code) frame (Some s)
 HasFrame-prop Test s frame = Unit-prop
 HasFrame-prop AfterAll s frame = Unit-prop
@@ -62,9 +66,11 @@ pub HasCome-prop : (kind : BodyKind) (s : Subject) (stage : Stage) → IsProp (H
 HasCome-prop kind s (during p n b js) = Unit-prop
 HasCome-prop kind s (ended a) = Coded-set account_code a (account_of (done_whole kind s))
 
-pub HasLeft-prop : (kind : BodyKind) (s : Subject) (stage : Stage) (frame : Option Subject) → IsProp (HasLeft kind s stage frame)
+pub HasLeft-prop : (kind : BodyKind) (s : Subject) (stage : Stage) (frame : Option Subject)
+    → IsProp (HasLeft kind s stage frame)
 HasLeft-prop kind s (during p n b js) frame = Unit-prop
 HasLeft-prop kind s (ended a) frame = HasFrame-prop kind s frame
 
 pub HasRights-prop : (s : Subject) (r : Rights) → IsProp (HasRights s r)
-HasRights-prop s r = Π_prop (λ k. Coded-set (coded_option access.the_row.coded) (r k) (rights_of_subject s k))
+HasRights-prop s r =
+    Π_prop (λ k. Coded-set (coded_option access.the_row.coded) (r k) (rights_of_subject s k))

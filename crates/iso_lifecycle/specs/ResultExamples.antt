@@ -11,14 +11,24 @@ use Rattle.iso_lifecycle.specs.ResultViews.{ResultsView}
 use Prim.Native.String.{String}
 
 abbrev a_class : String → ClassHead → Members → Class
-a_class name head ms = class (record { name = codes name; display = None; mode = None; isolated = false; head = head }) ms
+a_class name head ms =
+    class (record {
+      name = codes name;
+      display = None;
+      mode = None;
+      isolated = false;
+      head = head;
+    }) ms
 
 -- class Out { before_all { print "open"; fail "no db"; } after_all { print "close"; fail "still no
 -- db"; } test t { } class In { before_all { print "in"; } test u { } } }
 abbrev out : Class
 out =
     a_class "Out" no_database
-    (member (a_test (codes "t") None []) (member (class_member (a_class "In" opens_inside (member (a_test (codes "u") None []) no_members))) no_members))
+    (member (a_test (codes "t") None [])
+    (member (class_member
+    (a_class "In" opens_inside (member (a_test (codes "u") None []) no_members)))
+    no_members))
 
 -- class Next { before_all { assume false, "no #1"; } test v { } }
 abbrev next : Class
@@ -43,4 +53,7 @@ all_opened plan = record {
 
 -- the `after_all` of Out, and test w, were put too
 abbrev pub two_ended : Planned → ResultsView
-two_ended plan = record (all_opened plan) { ended = false ∷ true ∷ false ∷ false ∷ false ∷ false ∷ false ∷ false ∷ true ∷ [] }
+two_ended plan = record (all_opened plan) {
+  ended = false ∷ true ∷ false ∷ false ∷ false ∷ false
+      ∷ false ∷ false ∷ true ∷ [];
+}

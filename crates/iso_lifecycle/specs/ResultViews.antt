@@ -39,11 +39,19 @@ abbrev with_parts : Parts → ResultsView
 with_parts p = record { plan = p.0; start = p.1.0; opened = p.1.1.0; ended = p.1.1.1 }
 
 abbrev pub results_code : Coded ResultsView
-results_code = code_by Parts (coded× plan.the_row.coded (coded× start_code (coded× (coded_list coded_bool) (coded_list coded_bool)))) parts with_parts (λ _. refl)
+results_code =
+    code_by Parts (coded× plan.the_row.coded
+    (coded× start_code (coded× (coded_list coded_bool) (coded_list coded_bool)))) parts
+    with_parts (λ _. refl)
 
 -- results in which nothing was put
 abbrev pub no_results : Planned → Start → ResultsView
-no_results plan start = record { plan = plan; start = start; opened = replicate (length plan.rows) false; ended = replicate (length plan.rows) false }
+no_results plan start = record {
+  plan = plan;
+  start = start;
+  opened = replicate (length plan.rows) false;
+  ended = replicate (length plan.rows) false;
+}
 
 abbrev pub is_opened : ResultsView → ℕ → Bool
 is_opened v n = slice_index_or v.opened n false
@@ -96,7 +104,8 @@ is_due AfterAll n v = is_opened v n && not (is_ended v n)
 -- all these classes' `before_all`s were put and ended well
 abbrev pub AreOpen : ResultsView → List ℕ → Type 0
 AreOpen v [] = Unit {0}
-AreOpen v (n ∷ ns) = ((is_opened v n ≡ true) × (is_well (own_frame (subject v.plan v.start n)).ending ≡ true)) × AreOpen v ns
+AreOpen v (n ∷ ns) = ((is_opened v n ≡ true)
+    × (is_well (own_frame (subject v.plan v.start n)).ending ≡ true)) × AreOpen v ns
 
 -- the `before_all`s of all these classes were put
 abbrev pub AreOpened : ResultsView → List ℕ → Type 0
@@ -123,4 +132,5 @@ verdict_of_view (W.Blocked note) = V.Blocked note.now
 
 -- the outcome that a view lends
 abbrev pub outcome_of_view : View → Outcome
-outcome_of_view v = record { verdict = verdict_of_view v.verdict; output = lines_in v.lines ++ lines_in v.more }
+outcome_of_view v =
+    record { verdict = verdict_of_view v.verdict; output = lines_in v.lines ++ lines_in v.more }

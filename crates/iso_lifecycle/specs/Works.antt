@@ -14,7 +14,8 @@ use Rattle.iso_lifecycle.specs.declared.work.Rest.{Rest}
 
 -- what the body has when no block is under way
 abbrev pub account_in : Rest → Account
-account_in r = record { names = r.names; printed = r.printed; lines = r.lines; endings = r.endings.items }
+account_in r =
+    record { names = r.names; printed = r.printed; lines = r.lines; endings = r.endings.items }
 
 -- what it has beside the block under way
 abbrev pub beside_in : Rest → Beside
@@ -47,7 +48,9 @@ HaveRights (Some run) r = (k : List ℕ) → run_rights run k ≡ access_in r.ri
 
 pub HaveRights-prop : (o : Option BlockRun) (r : Rest) → IsProp (HaveRights o r)
 HaveRights-prop None r = Unit-prop
-HaveRights-prop (Some run) r = Π_prop (λ k. Coded-set (coded_option the_row.coded) (run_rights run k) (access_in r.rights.now k))
+HaveRights-prop (Some run) r =
+    Π_prop (λ k. Coded-set (coded_option the_row.coded) (run_rights run k)
+    (access_in r.rights.now k))
 
 -- what no step changes
 pub record SameChain (r s : Rest) : Type 0 where

@@ -99,7 +99,8 @@ impl<'a> Origin<'a> {
     fn statics_before(&self, alloc: Global, frames: &[Frame]) -> Result<Bindings, AllocError>
         requires { AreFrames self.now frames.now }
         ensures { IfOk result (λ names. names
-            ≡ statics_of (opened_before (kind_of_origin self.now) (subject_of_origin self.now)).frames) }
+            ≡ statics_of (opened_before (kind_of_origin self.now)
+            (subject_of_origin self.now)).frames) }
     {
         self.frames_are_left_before(frames);
         statics_of(alloc, frames)
@@ -109,7 +110,8 @@ impl<'a> Origin<'a> {
     fn frames_are_left_before(&self, frames: &[Frame])
         requires { AreFrames self.now frames.now }
         ensures classes { All IsOfClass frames.now }
-        ensures left { frames_of frames.now ≡ (opened_before (kind_of_origin self.now) (subject_of_origin self.now)).frames }
+        ensures left { frames_of frames.now
+            ≡ (opened_before (kind_of_origin self.now) (subject_of_origin self.now)).frames }
     {
         are_of_classes(frames);
         paths_lead_up(self.plan);
@@ -124,9 +126,11 @@ impl<'a> Origin<'a> {
         run: BodyRun<'a>,
         outer: usize,
     ) -> Result<Beginning<'a>, AllocError>
-        requires outer { outer ≡ outer_names (kind_of_origin self.now) (subject_of_origin self.now) }
+        requires outer { outer ≡ outer_names (kind_of_origin self.now)
+            (subject_of_origin self.now) }
         requires rights { HasRights (subject_of_origin self.now) (rights_of run) }
-        requires begun { stage_of run ≡ (begun (kind_of_origin self.now) (subject_of_origin self.now)).stage }
+        requires begun { stage_of run
+            ≡ (begun (kind_of_origin self.now) (subject_of_origin self.now)).stage }
         ensures { IfOk result (IsBeginning self.now) }
     {
         match self.frame(alloc, &run, outer) {

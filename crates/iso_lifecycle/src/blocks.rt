@@ -33,7 +33,8 @@ pub(crate) fn statements<'a>(
 
 /// The statements of a class's `after_all`; none where the class is disabled.
 pub(crate) fn closing_statements(class: &ClassContents) -> &[Stmt]
-    ensures { block_of result.now ≡ acts_unless class.now.disabled (block_of class.now.after_all.items) }
+    ensures { block_of result.now ≡ acts_unless class.now.disabled
+        (block_of class.now.after_all.items) }
 {
     match class.disabled {
         Some(_) => &[],
@@ -64,7 +65,8 @@ pub(crate) fn names_of(classes: &[Arc<ClassHead>], outermost: usize, names: usiz
 /// A number of names, and those of one class more, but at most `most`.
 fn more(class: &ClassHead, count: usize, most: usize) -> usize
     requires { count ≤ most }
-    ensures { result ≡ min (count + length (class_head_of class.now).statics + length (class_head_of class.now).fields) most }
+    ensures { result ≡ min (count + length (class_head_of class.now).statics
+        + length (class_head_of class.now).fields) most }
 {
     let contents = &class.contents;
     sum(

@@ -55,7 +55,8 @@ impl<'a> Body<'a> {
         requires { CanBegin (subject plan.now start.value node) kind frames.now }
         ensures subject { IfOk result (λ b. subject_of b ≡ subject plan.now start.value node) }
         ensures kind { IfOk result (λ b. kind_of_body b ≡ kind) }
-        ensures begun { IfOk result (λ b. stage_of_body b ≡ (begun kind (subject plan.now start.value node)).stage) }
+        ensures begun { IfOk result (λ b. stage_of_body b
+            ≡ (begun kind (subject plan.now start.value node)).stage) }
     {
         let origin = Origin {
             plan,
@@ -78,13 +79,16 @@ impl<'a> Body<'a> {
     #[inline(always)]
     pub fn step<T: Touch>(&mut self, touch: &mut T) -> Result<(), AllocError>
         requires under_way { is_ended (stage_of_body self.old) ≡ false }
-        requires keys { HasKeys (rights_of_subject (subject_of self.old)) (T.content touch.old) (T.writes touch.old) }
+        requires keys { HasKeys (rights_of_subject (subject_of self.old)) (T.content touch.old)
+            (T.writes touch.old) }
         requires stands { Stands self.old (T.content touch.old) }
         ensures step { OnOk result (going (stage_of_body self.new) (T.content touch.new)
-            ≡ body_step (rights_of_subject (subject_of self.old)) (going (stage_of_body self.old) (T.content touch.old))) }
+            ≡ body_step (rights_of_subject (subject_of self.old))
+            (going (stage_of_body self.old) (T.content touch.old))) }
         ensures stands { OnOk result (Stands self.new (T.content touch.new)) }
         ensures stopped { OnErr result (is_ended (stage_of_body self.new) ≡ false) }
-        ensures keys { OnOk result (HasKeys (rights_of_subject (subject_of self.old)) (T.content touch.new) (T.writes touch.new)) }
+        ensures keys { OnOk result (HasKeys (rights_of_subject (subject_of self.old))
+            (T.content touch.new) (T.writes touch.new)) }
         ensures subject { subject_of self.new ≡ subject_of self.old }
         ensures kind { kind_of_body self.new ≡ kind_of_body self.old }
         ensures goes_on { T.goes_on touch.old touch.new }
@@ -114,12 +118,14 @@ impl<'a> Body<'a> {
         gate: &G,
         touch: &mut T,
     ) -> Result<Done, AllocError>
-        requires keys { HasKeys (rights_of_subject (subject_of self)) (T.content touch.old) (T.writes touch.old) }
+        requires keys { HasKeys (rights_of_subject (subject_of self)) (T.content touch.old)
+            (T.writes touch.old) }
         requires stands { Stands self (T.content touch.old) }
         ensures subject { IfOk result (λ d. d.subject ≡ subject_of self.entry) }
         ensures kind { IfOk result (λ d. d.kind ≡ kind_of_body self.entry) }
         ensures goes_on { T.goes_on touch.old touch.new }
-        ensures values { OnOk result (IsAfterBody (subject_of self.entry) (kind_of_body self.entry) (T.content touch.old) (T.content touch.new)) }
+        ensures values { OnOk result (IsAfterBody (subject_of self.entry) (kind_of_body self.entry)
+            (T.content touch.old) (T.content touch.new)) }
     {
         let mut body = self;
         gate.begins(worker, body.origin.node, body.origin.kind);
@@ -143,13 +149,15 @@ impl<'a> Body<'a> {
         gate: &G,
         touch: &mut T,
     ) -> Result<(), AllocError>
-        requires keys { HasKeys (rights_of_subject (subject_of self.old)) (T.content touch.old) (T.writes touch.old) }
+        requires keys { HasKeys (rights_of_subject (subject_of self.old)) (T.content touch.old)
+            (T.writes touch.old) }
         requires stands { Stands self.old (T.content touch.old) }
         ensures subject { subject_of self.new ≡ subject_of self.old }
         ensures kind { kind_of_body self.new ≡ kind_of_body self.old }
         ensures ended { OnOk result (is_ended (stage_of_body self.new) ≡ true) }
         ensures goes_on { T.goes_on touch.old touch.new }
-        ensures values { OnOk result (IsAfterBody (subject_of self.old) (kind_of_body self.old) (T.content touch.old) (T.content touch.new)) }
+        ensures values { OnOk result (IsAfterBody (subject_of self.old) (kind_of_body self.old)
+            (T.content touch.old) (T.content touch.new)) }
     {
         'steps: while !self.is_ended() {
             self.step(touch)?;

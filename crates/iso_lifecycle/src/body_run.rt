@@ -59,7 +59,9 @@ impl<'a> BodyRun<'a> {
         rights: &'a Rights,
     ) -> Result<BodyRun<'a>, AllocError>
         requires { length classes.now < 2 ^ 32 }
-        ensures stage { IfOk result (λ run. stage_of run ≡ stage_unless (test_head_of test.now).disabled names (test_jobs (test_head_of test.now) (innermost_first classes.now))) }
+        ensures stage { IfOk result (λ run. stage_of run
+            ≡ stage_unless (test_head_of test.now).disabled names
+            (test_jobs (test_head_of test.now) (innermost_first classes.now))) }
         ensures rights { IfOk result (λ run. rights_of run ≡ access_in rights.now) }
     {
         match &test.contents.disabled {
@@ -77,7 +79,8 @@ impl<'a> BodyRun<'a> {
         names: Bindings,
         rights: &'a Rights,
     ) -> Result<BodyRun<'a>, AllocError>
-        ensures stage { IfOk result (λ run. stage_of run ≡ stage_unless class.now.disabled names (job words (block_of class.now.before_all.items) (length names) false ∷ [])) }
+        ensures stage { IfOk result (λ run. stage_of run ≡ stage_unless class.now.disabled names
+            (job words (block_of class.now.before_all.items) (length names) false ∷ [])) }
         ensures rights { IfOk result (λ run. rights_of run ≡ access_in rights.now) }
     {
         match &class.disabled {
@@ -94,7 +97,8 @@ impl<'a> BodyRun<'a> {
         names: Bindings,
         rights: &'a Rights,
     ) -> Result<BodyRun<'a>, AllocError>
-        ensures stage { IfOk result (λ run. stage_of run ≡ ended (disabled_account reason.now names)) }
+        ensures stage { IfOk result (λ run. stage_of run
+            ≡ ended (disabled_account reason.now names)) }
         ensures rights { IfOk result (λ run. rights_of run ≡ access_in rights.now) }
     {
         let endings = match endings_of_disabled(alloc, reason) {
@@ -128,7 +132,9 @@ impl<'a> BodyRun<'a> {
         rights: &'a Rights,
     ) -> Result<BodyRun<'a>, AllocError>
         requires { length classes.now < 2 ^ 32 }
-        ensures stage { IfOk result (λ run. stage_of run ≡ stage_from (test_jobs (test_head_of test.now) (innermost_first classes.now)) (fresh_account names)) }
+        ensures stage { IfOk result (λ run. stage_of run
+            ≡ stage_from (test_jobs (test_head_of test.now) (innermost_first classes.now))
+            (fresh_account names)) }
         ensures rights { IfOk result (λ run. rights_of run ≡ access_in rights.now) }
     {
         let endings = match room_for_endings(alloc, classes.len()) {
@@ -166,7 +172,8 @@ impl<'a> BodyRun<'a> {
         names: Bindings,
         rights: &'a Rights,
     ) -> Result<BodyRun<'a>, AllocError>
-        ensures stage { IfOk result (λ run. stage_of run ≡ stage_from (job words (block_of block.now) (length names) false ∷ []) (fresh_account names)) }
+        ensures stage { IfOk result (λ run. stage_of run ≡ stage_from
+            (job words (block_of block.now) (length names) false ∷ []) (fresh_account names)) }
         ensures rights { IfOk result (λ run. rights_of run ≡ access_in rights.now) }
     {
         let run = BlockRun::new(alloc, block, Names::new(names, 0, words), rights);
@@ -197,10 +204,12 @@ impl<'a> BodyRun<'a> {
     #[inline(always)]
     pub(crate) fn step<T: Touch>(&mut self, touch: &mut T) -> Result<(), AllocError>
         requires { HasKeys (rights_of self.old) (T.content touch.old) (T.writes touch.old) }
-        ensures step { OnOk result (going (stage_of self.new) (T.content touch.new) ≡ body_step (rights_of self.old) (going (stage_of self.old) (T.content touch.old))) }
+        ensures step { OnOk result (going (stage_of self.new) (T.content touch.new)
+            ≡ body_step (rights_of self.old) (going (stage_of self.old) (T.content touch.old))) }
         ensures stopped { OnErr result (is_ended (stage_of self.new) ≡ false) }
         ensures rights { rights_of self.new ≡ rights_of self.old }
-        ensures keys { OnOk result (HasKeys (rights_of self.new) (T.content touch.new) (T.writes touch.new)) }
+        ensures keys { OnOk result (HasKeys (rights_of self.new) (T.content touch.new)
+            (T.writes touch.new)) }
         ensures goes_on { T.goes_on touch.old touch.new }
     {
         let Some(run) = &mut self.block else {
@@ -238,7 +247,8 @@ impl<'a> BodyRun<'a> {
     /// What the body leaves, once it has ended. Takes no memory.
     pub(crate) fn finish(self) -> BodyEnd
         requires { is_ended (stage_of self) ≡ true }
-        ensures { stage_of self.entry ≡ ended (end_account result (account_in_run self.entry).printed) }
+        ensures { stage_of self.entry ≡ ended
+            (end_account result (account_in_run self.entry).printed) }
     {
         let BodyRun { rest, .. } = self;
         let mut output = rest.lines;

@@ -58,7 +58,10 @@ impl Model for Done {
     ghost use Rattle.iso_lifecycle.specs.Ends.{IsDone, kind_of_what};
     ghost use Rattle.iso_lifecycle.specs.Subjects.{subject};
 
-    ghost view = { λ d. record { subject = subject d.plan.value d.start.value d.node; kind = kind_of_what d.what } };
+    ghost view = { λ d. record {
+      subject = subject d.plan.value d.start.value d.node;
+      kind = kind_of_what d.what;
+    } };
 
     ghost invariant = { λ d. IsDone (subject d.plan.value d.start.value d.node) d.what };
 }

@@ -32,7 +32,8 @@ impl Model for Statics {
 
     ghost view = { λ s. subject s.plan.value s.start.value.value s.node };
 
-    ghost invariant = { λ s. IsFrame (subject s.plan.value s.start.value.value s.node) s.names × (s.fields ≡ own_fields (subject s.plan.value s.start.value.value s.node)) };
+    ghost invariant = { λ s. IsFrame (subject s.plan.value s.start.value.value s.node) s.names
+        × (s.fields ≡ own_fields (subject s.plan.value s.start.value.value s.node)) };
 }
 
 /// The statics of a class whose `before_all` has ended, which nothing assigns from then on. All its

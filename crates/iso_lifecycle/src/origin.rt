@@ -71,9 +71,12 @@ impl<'a> Origin<'a> {
         run: &BodyRun<'_>,
         outer: usize,
     ) -> Result<Option<Frame>, AllocError>
-        requires outer { outer ≡ outer_names (kind_of_origin self.now) (subject_of_origin self.now) }
-        requires come { HasCome (kind_of_origin self.now) (subject_of_origin self.now) (stage_of run.now) }
-        ensures { IfOk result (λ frame. HasLeft (kind_of_origin self.now) (subject_of_origin self.now) (stage_of run.now) frame) }
+        requires outer { outer ≡ outer_names (kind_of_origin self.now)
+            (subject_of_origin self.now) }
+        requires come { HasCome (kind_of_origin self.now) (subject_of_origin self.now)
+            (stage_of run.now) }
+        ensures { IfOk result (λ frame. HasLeft (kind_of_origin self.now)
+            (subject_of_origin self.now) (stage_of run.now) frame) }
     {
         match self.kind {
             BodyKind::Test | BodyKind::AfterAll => Ok(None),
@@ -98,8 +101,10 @@ impl<'a> Origin<'a> {
     ) -> Result<SharedNames, AllocError>
         requires kind { kind_of_origin self.now ≡ BodyKind.BeforeAll }
         requires ended { is_ended (stage_of run.now) ≡ true }
-        requires outer { outer ≡ outer_names (kind_of_origin self.now) (subject_of_origin self.now) }
-        requires come { HasCome (kind_of_origin self.now) (subject_of_origin self.now) (stage_of run.now) }
+        requires outer { outer ≡ outer_names (kind_of_origin self.now)
+            (subject_of_origin self.now) }
+        requires come { HasCome (kind_of_origin self.now) (subject_of_origin self.now)
+            (stage_of run.now) }
         ensures { IfOk result (λ statics. IsFrame (subject_of_origin self.now) statics) }
     {
         chains_grow_down(self.plan);

@@ -13,21 +13,30 @@ ghost use Rattle.iso_plan.specs.RowView.{tree_of};
 /// The descendants of a class, at any depth, are Blocked by the fail of its `before_all`, and
 /// Skipped by its false assumption.
 pub fn ill_openings_bar_what_stands_in_their_class()
-    ensures test { (plan : Planned) → tree_of plan ≡ three_classes → result_in (all_opened plan) 2 ≡ Some (blocked "no db" (in_class 1 L.BeforeAll) []) }
-    ensures class { (plan : Planned) → tree_of plan ≡ three_classes → result_in (all_opened plan) 3 ≡ Some (blocked "no db" (in_class 1 L.BeforeAll) []) }
-    ensures deeper { (plan : Planned) → tree_of plan ≡ three_classes → result_in (all_opened plan) 4 ≡ Some (blocked "no db" (in_class 1 L.BeforeAll) []) }
-    ensures skipped { (plan : Planned) → tree_of plan ≡ three_classes → result_in (all_opened plan) 6 ≡ Some (skipped "no #1" (in_class 1 L.BeforeAll) []) }
+    ensures test { (plan : Planned) → tree_of plan ≡ three_classes → result_in (all_opened plan) 2
+        ≡ Some (blocked "no db" (in_class 1 L.BeforeAll) []) }
+    ensures class { (plan : Planned) → tree_of plan ≡ three_classes → result_in (all_opened plan) 3
+        ≡ Some (blocked "no db" (in_class 1 L.BeforeAll) []) }
+    ensures deeper { (plan : Planned) → tree_of plan ≡ three_classes → result_in (all_opened plan) 4
+        ≡ Some (blocked "no db" (in_class 1 L.BeforeAll) []) }
+    ensures skipped { (plan : Planned) → tree_of plan ≡ three_classes
+        → result_in (all_opened plan) 6 ≡ Some (skipped "no #1" (in_class 1 L.BeforeAll) []) }
 {}
 
 /// The class itself has its result once its `after_all` was put, with the lines of both blocks, and
 /// a test once its end was put.
 pub fn results_are_there_once_put()
-    ensures barring { (plan : Planned) → tree_of plan ≡ three_classes → result_in (all_opened plan) 1 ≡ None }
-    ensures open { (plan : Planned) → tree_of plan ≡ three_classes → result_in (all_opened plan) 7 ≡ None }
-    ensures waiting { (plan : Planned) → tree_of plan ≡ three_classes → result_in (all_opened plan) 8 ≡ None }
+    ensures barring { (plan : Planned) → tree_of plan ≡ three_classes
+        → result_in (all_opened plan) 1 ≡ None }
+    ensures open { (plan : Planned) → tree_of plan ≡ three_classes
+        → result_in (all_opened plan) 7 ≡ None }
+    ensures waiting { (plan : Planned) → tree_of plan ≡ three_classes
+        → result_in (all_opened plan) 8 ≡ None }
     ensures class { (plan : Planned) → tree_of plan ≡ three_classes
-        → result_in (two_ended plan) 1 ≡ Some (failed "no db" (in_class 1 L.BeforeAll) ("open" ∷ "close" ∷ [])) }
-    ensures test { (plan : Planned) → tree_of plan ≡ three_classes → result_in (two_ended plan) 8 ≡ Some (passed []) }
+        → result_in (two_ended plan) 1 ≡ Some
+        (failed "no db" (in_class 1 L.BeforeAll) ("open" ∷ "close" ∷ [])) }
+    ensures test { (plan : Planned) → tree_of plan ≡ three_classes → result_in (two_ended plan) 8
+        ≡ Some (passed []) }
 {}
 
 /// Each end is put once, and an `after_all` after its `before_all`.
@@ -42,7 +51,9 @@ pub fn ends_are_put_once_and_in_order()
 
 /// Nothing is put in a class that wasn't opened, or not well.
 pub fn ends_are_put_in_open_classes()
-    ensures open { (plan : Planned) → tree_of plan ≡ three_classes → AreOpen (all_opened plan) (7 ∷ []) }
-    ensures ill { (plan : Planned) → tree_of plan ≡ three_classes → AreOpen (all_opened plan) (5 ∷ []) → ⊥ }
+    ensures open { (plan : Planned) → tree_of plan ≡ three_classes
+        → AreOpen (all_opened plan) (7 ∷ []) }
+    ensures ill { (plan : Planned) → tree_of plan ≡ three_classes
+        → AreOpen (all_opened plan) (5 ∷ []) → ⊥ }
     ensures unopened { (plan : Planned) → AreOpen (all_opened plan) (3 ∷ 1 ∷ []) → ⊥ }
 {}

@@ -104,7 +104,8 @@ impl<'a> Results<'a> {
     fn barred_by(&self, node: u32) -> Option<&Opened>
         requires { node < length self.now.plan.rows }
         ensures barred { is_some result ≡ is_barred self.now node }
-        ensures outcome { IfSome result (λ o. outcome_in self.now node ≡ record { verdict = barred_verdict o.now.ending; output = [] }) }
+        ensures outcome { IfSome result (λ o. outcome_in self.now node
+            ≡ record { verdict = barred_verdict o.now.ending; output = [] }) }
     {
         nodes_are_a_tree(self.plan);
         let mut at = node;
@@ -129,7 +130,8 @@ impl<'a> Results<'a> {
     fn barring(&self, node: u32) -> Option<&Opened>
         requires { node < length self.now.plan.rows }
         ensures barring { is_some result ≡ is_barring self.now node }
-        ensures opening { IfSome result (λ o. IsOpening (subject self.now.plan self.now.start node) o.now) }
+        ensures opening { IfSome result
+            (λ o. IsOpening (subject self.now.plan self.now.start node) o.now) }
     {
         let opened = self.opened(node)?;
         match &opened.ending {
@@ -142,7 +144,8 @@ impl<'a> Results<'a> {
     fn opened(&self, node: u32) -> Option<&Opened>
         requires { node < length self.now.plan.rows }
         ensures put { is_some result ≡ is_opened self.now node }
-        ensures opening { IfSome result (λ o. IsOpening (subject self.now.plan self.now.start node) o.now) }
+        ensures opening { IfSome result
+            (λ o. IsOpening (subject self.now.plan self.now.start node) o.now) }
     {
         match &self.entries[node as usize] {
             Entry::Opened(opened) | Entry::Closed(opened, _) => Some(opened),
@@ -153,7 +156,8 @@ impl<'a> Results<'a> {
     /// The frame of a class whose `before_all` was put.
     pub fn frame(&self, node: u32) -> Option<&Frame>
         requires { node < length self.now.plan.rows }
-        ensures { option_copied result ≡ cond (is_opened self.now node) (Some (subject self.now.plan self.now.start node)) None }
+        ensures { option_copied result ≡ cond (is_opened self.now node)
+            (Some (subject self.now.plan self.now.start node)) None }
     {
         Some(&self.opened(node)?.frame)
     }
@@ -166,7 +170,8 @@ impl<'a> Results<'a> {
         requires opened { AreOpened self.now (path (tree_of self.now.plan) node) }
         requires empty { frames.old.items ≡ [] }
         requires room { length (path (tree_of self.now.plan) node) ≤ vec_capacity frames.old }
-        ensures frames { OnOk result (frames.new.items ≡ map (subject self.now.plan self.now.start) (reverse (path (tree_of self.now.plan) node))) }
+        ensures frames { OnOk result (frames.new.items ≡ map (subject self.now.plan self.now.start)
+            (reverse (path (tree_of self.now.plan) node))) }
         ensures none { OnErr result (frames.new.items ≡ []) }
         ensures capacity { vec_capacity frames.new ≡ vec_capacity frames.old }
     {
@@ -184,7 +189,8 @@ impl<'a> Results<'a> {
         requires opened { AreOpened self.now (path (tree_of self.now.plan) node) }
         requires empty { frames.old.items ≡ [] }
         requires room { length (path (tree_of self.now.plan) node) ≤ vec_capacity frames.old }
-        ensures frames { OnOk result (frames.new.items ≡ map (subject self.now.plan self.now.start) (path (tree_of self.now.plan) node)) }
+        ensures frames { OnOk result (frames.new.items
+            ≡ map (subject self.now.plan self.now.start) (path (tree_of self.now.plan) node)) }
         ensures capacity { vec_capacity frames.new ≡ vec_capacity frames.old }
     {
         nodes_are_a_tree(self.plan);

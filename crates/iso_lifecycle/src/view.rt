@@ -100,7 +100,8 @@ impl<'a> View<'a> {
 
     /// The outcome of a descendant of a class whose `before_all` ended so.
     pub(crate) fn barred(ending: &'a Ending) -> View<'a>
-        ensures { outcome_of_view result ≡ record { verdict = barred_verdict ending.now; output = [] } }
+        ensures { outcome_of_view result
+            ≡ record { verdict = barred_verdict ending.now; output = [] } }
     {
         View {
             verdict: ViewVerdict::barred(ending),

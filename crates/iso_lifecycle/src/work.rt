@@ -49,7 +49,8 @@ impl<'a> Rest<'a> {
     /// Ends a block, of which nothing is left to do.
     fn end_block(&mut self, run: BlockRun<'a>) -> Result<(), AllocError>
         requires { is_done (pieces_of run) ≡ true }
-        ensures account { OnOk result (account_in self.new ≡ account_after (names_before run.entry) (local_of run.entry) (beside_in self.old)) }
+        ensures account { OnOk result (account_in self.new
+            ≡ account_after (names_before run.entry) (local_of run.entry) (beside_in self.old)) }
         ensures chain { SameChain self.old self.new }
         ensures next { self.new.next ≡ self.old.next }
     {
@@ -70,7 +71,8 @@ impl<'a> Rest<'a> {
 
     /// Ends a block of which nothing is left to do, and answers any other.
     fn end_block_if_done(&mut self, run: BlockRun<'a>) -> Result<Option<BlockRun<'a>>, AllocError>
-        ensures stage { IfOk result (λ block. begun_with block self.new ≡ settled_with (Some run.entry) self.old) }
+        ensures stage { IfOk result (λ block. begun_with block self.new
+            ≡ settled_with (Some run.entry) self.old) }
         ensures same { IfOk result (λ block. IfSome block (λ left. left ≡ run.entry)) }
         ensures chain { SameChain self.old self.new }
         ensures next { self.new.next ≡ self.old.next }
@@ -85,8 +87,10 @@ impl<'a> Rest<'a> {
     /// The environment of a job's block, which takes the names that it sees.
     fn environment(&mut self, job: Job) -> Result<Names, AllocError>
         requires { IsPlaced (length self.old.classes.now) (Some job) }
-        ensures names { IfOk result (λ names. names ≡ job_environment (job_in self.old job) (account_in self.old)) }
-        ensures beside { OnOk result (beside_in self.new ≡ beside_job (job_in self.old job) (account_in self.old)) }
+        ensures names { IfOk result (λ names. names
+            ≡ job_environment (job_in self.old job) (account_in self.old)) }
+        ensures beside { OnOk result (beside_in self.new
+            ≡ beside_job (job_in self.old job) (account_in self.old)) }
         ensures chain { SameChain self.old self.new }
         ensures next { self.new.next ≡ self.old.next }
     {
@@ -99,10 +103,14 @@ impl<'a> Rest<'a> {
     /// Begins the block of a job.
     fn begin_block(&mut self, job: Job) -> Result<BlockRun<'a>, AllocError>
         requires { IsPlaced (length self.old.classes.now) (Some job) }
-        ensures point { IfOk result (λ run. point_of_run run ≡ first_point (job_in self.old job).acts (job_environment (job_in self.old job) (account_in self.old))) }
-        ensures names { IfOk result (λ run. names_before run ≡ length (job_environment (job_in self.old job) (account_in self.old)).names) }
+        ensures point { IfOk result (λ run. point_of_run run
+            ≡ first_point (job_in self.old job).acts
+            (job_environment (job_in self.old job) (account_in self.old))) }
+        ensures names { IfOk result (λ run. names_before run
+            ≡ length (job_environment (job_in self.old job) (account_in self.old)).names) }
         ensures rights { IfOk result (λ run. run_rights run ≡ access_in self.old.rights.now) }
-        ensures beside { OnOk result (beside_in self.new ≡ beside_job (job_in self.old job) (account_in self.old)) }
+        ensures beside { OnOk result (beside_in self.new
+            ≡ beside_job (job_in self.old job) (account_in self.old)) }
         ensures chain { SameChain self.old self.new }
         ensures next { self.new.next ≡ self.old.next }
     {
@@ -154,11 +162,15 @@ impl<'a> Rest<'a> {
     /// it did. Any other job is still the next.
     fn pass(&mut self, job: Job) -> Result<bool, AllocError>
         requires { self.old.next ≡ Some job }
-        ensures stage { OnOk result (stage_from (jobs_left self.new) (account_in self.new) ≡ stage_from (jobs_left self.old) (account_in self.old)) }
-        ensures jobs { IfOk result (λ passed. passed ≡ true → jobs_left self.old ≡ job_in self.old job ∷ jobs_left self.new) }
+        ensures stage { OnOk result (stage_from (jobs_left self.new) (account_in self.new)
+            ≡ stage_from (jobs_left self.old) (account_in self.old)) }
+        ensures jobs { IfOk result (λ passed. passed ≡ true → jobs_left self.old
+            ≡ job_in self.old job ∷ jobs_left self.new) }
         ensures next { IfOk result (λ passed. passed ≡ false → self.new.next ≡ Some job) }
-        ensures due { IfOk result (λ passed. passed ≡ false → is_due (job_in self.new job) (account_in self.new).endings ≡ true) }
-        ensures some { IfOk result (λ passed. passed ≡ false → is_empty (job_in self.new job).acts ≡ false) }
+        ensures due { IfOk result (λ passed. passed ≡ false
+            → is_due (job_in self.new job) (account_in self.new).endings ≡ true) }
+        ensures some { IfOk result (λ passed. passed ≡ false
+            → is_empty (job_in self.new job).acts ≡ false) }
         ensures chain { SameChain self.old self.new }
     {
         let next = job.after(self.classes.len());
@@ -179,7 +191,8 @@ impl<'a> Rest<'a> {
         requires next { self.old.next ≡ Some job }
         requires due { is_due (job_in self.old job) (account_in self.old).endings ≡ true }
         requires some { is_empty (job_in self.old job).acts ≡ false }
-        ensures begun { IfOk result (λ run. stage_with (Some run) self.new ≡ stage_from (jobs_left self.old) (account_in self.old)) }
+        ensures begun { IfOk result (λ run. stage_with (Some run) self.new
+            ≡ stage_from (jobs_left self.old) (account_in self.old)) }
         ensures rights { IfOk result (λ run. HaveRights (Some run) self.old) }
         ensures chain { SameChain self.old self.new }
     {
@@ -191,7 +204,8 @@ impl<'a> Rest<'a> {
     /// Begins the next block that has something to do, if there is one.
     #[tactic(auto, using(crate::proofs::WorkLemmas::shorter))]
     pub(crate) fn follow(&mut self) -> Result<Option<BlockRun<'a>>, AllocError>
-        ensures stage { IfOk result (λ run. stage_with run self.new ≡ stage_from (jobs_left self.old) (account_in self.old)) }
+        ensures stage { IfOk result (λ run. stage_with run self.new
+            ≡ stage_from (jobs_left self.old) (account_in self.old)) }
         ensures rights { IfOk result (λ run. HaveRights run self.old) }
         ensures chain { SameChain self.old self.new }
     {
@@ -209,7 +223,8 @@ impl<'a> Rest<'a> {
     /// if there is one.
     pub(crate) fn settle(&mut self, run: BlockRun<'a>) -> Result<Option<BlockRun<'a>>, AllocError>
         requires { run_rights run ≡ access_in self.old.rights.now }
-        ensures stage { IfOk result (λ block. stage_with block self.new ≡ settled_with (Some run.entry) self.old) }
+        ensures stage { IfOk result (λ block. stage_with block self.new
+            ≡ settled_with (Some run.entry) self.old) }
         ensures rights { IfOk result (λ block. HaveRights block self.old) }
         ensures chain { SameChain self.old self.new }
     {

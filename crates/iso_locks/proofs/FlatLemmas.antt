@@ -113,7 +113,8 @@ full_by tree values k (Some i) e at = all-there values (length (keys tree)) i e 
 pub full : (t : TrayView) → map is_some t.values ≡ replicate (length (keys (tree_of t.plan))) true → IsFlat t
 full t e k = full_by (tree_of t.plan) t.values k (number_of (tree_of t.plan) k) e refl
 
-starts_by : (t : TrayView) (k : List ℕ) (o : Option ℕ) → IsFlat t → ((i : ℕ) (h : History) → slot t.values i ≡ Some h → h.now ≡ starting_value_in t.world (key_at (tree_of t.plan) i)) → number_of (tree_of t.plan) k ≡ o → flat t k ≡ started t.world k
+starts_by : (t : TrayView) (k : List ℕ) (o : Option ℕ) → IsFlat t → ((i : ℕ) (h : History) → slot t.values i ≡ Some h → h.now ≡ starting_value_in t.world (key_at (tree_of t.plan) i))
+    → number_of (tree_of t.plan) k ≡ o → flat t k ≡ started t.world k
 starts_by t k None is starts e = flat-none t k e
 starts_by t k (Some i) is starts e =
     let h = some_of (slot t.values i) (there t k i is e) in

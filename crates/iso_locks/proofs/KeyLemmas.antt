@@ -143,6 +143,7 @@ any-has lent test (suc n) m h l t = elim (cases_eq m n) [
 ]
 
 -- a key that a lent node takes for READ is open for looking
-pub open-of : (tree : List Row) (lent : List Bool) (m : ℕ) (k : List ℕ) → m < length tree → is_lent lent m ≡ true → is_readable (taken tree m k) ≡ true → is_writable (taken tree m k) ≡ false → is_open tree lent k ≡ true
+pub open-of : (tree : List Row) (lent : List Bool) (m : ℕ) (k : List ℕ) → m < length tree → is_lent lent m ≡ true
+    → is_readable (taken tree m k) ≡ true → is_writable (taken tree m k) ≡ false → is_open tree lent k ≡ true
 open-of tree lent m k h l r w =
     any-has lent (holds_read tree k) (length tree) m h l (or-left (is_read (taken tree m k)) _ (read-only (taken tree m k) r w))

@@ -268,7 +268,8 @@ module _ (p : Planned) (lent : HeldView) (v : LockersView) (k : KeepsLent p lent
       ap is_some (lowest-never (is_in_the_way tree (is_lent lent.held) n) never (length tree))
 
   -- locking nodes that differ don't conflict where nodes that have them don't clash
-  locker-free : (b a m n : ℕ) → b ≢ a → locking_node (tree_of lent.plan) m ≡ Some b → locking_node (tree_of lent.plan) n ≡ Some a → clash (tree_of lent.plan) m n ≡ false → conflict (tree_of lent.plan) b a ≡ false
+  locker-free : (b a m n : ℕ) → b ≢ a → locking_node (tree_of lent.plan) m ≡ Some b
+      → locking_node (tree_of lent.plan) n ≡ Some a → clash (tree_of lent.plan) m n ≡ false → conflict (tree_of lent.plan) b a ≡ false
   locker-free b a m n other eb ea none =
       let tree = tree_of lent.plan in
       let both : (not (b == a) && conflict tree b a) ≡ false = sym (ap₂ (lockers_conflict tree) eb ea) ∙ no-lockers tree m n none in

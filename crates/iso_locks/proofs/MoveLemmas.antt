@@ -35,7 +35,8 @@ pub record Moving (there0 here0 : Slots) (ls : List Lock) (n : ℕ) (there here 
 pub moving-none : (there here : Slots) (ls : List Lock) → Moving there here ls 0 there here
 moving-none there here ls = record { there_fits = refl; here_fits = refl; there_is = λ i. refl; here_is = λ i. refl }
 
-pub moving-all : (there0 here0 : Slots) (ls : List Lock) (n : ℕ) (there here : Slots) → length ls ≤ n → Moving there0 here0 ls n there here → (there ≡ moved_away ls there0) × (here ≡ moved_here ls there0 here0)
+pub moving-all : (there0 here0 : Slots) (ls : List Lock) (n : ℕ) (there here : Slots) → length ls ≤ n
+    → Moving there0 here0 ls n there here → (there ≡ moved_away ls there0) × (here ≡ moved_here ls there0 here0)
 moving-all there0 here0 ls n there here all m =
     let whole : take n ls ≡ ls = take_all n ls all in (
       column-from (λ i. cond (is_written ls i) None (slot there0 i)) there (length there0) m.there_fits
@@ -44,7 +45,8 @@ moving-all there0 here0 ls n there here all m =
           (λ i d h. let within : i < length here = rw m.here_fits h in get_or_default here i d None within ∙ m.here_is i ∙ ap (λ (xs : List Lock). cond (is_written xs i) (option_or (slot there0 i) (slot here0 i)) (slot here0 i)) whole),
     )
 
-there_by : (e p b : Bool) (t0 now next : Option History) → now ≡ cond b None t0 → (p ≡ true → e ≡ true → next ≡ None) → (p ≡ true → e ≡ false → next ≡ now) → (p ≡ false → next ≡ now) → next ≡ cond (b || (e && p)) None t0
+there_by : (e p b : Bool) (t0 now next : Option History) → now ≡ cond b None t0 → (p ≡ true → e ≡ true → next ≡ None)
+    → (p ≡ true → e ≡ false → next ≡ now) → (p ≡ false → next ≡ now) → next ≡ cond (b || (e && p)) None t0
 there_by true true true t0 now next is hit miss idle = hit refl refl
 there_by true true false t0 now next is hit miss idle = hit refl refl
 there_by false true true t0 now next is hit miss idle = miss refl refl ∙ is
@@ -54,7 +56,8 @@ there_by true false false t0 now next is hit miss idle = idle refl ∙ is
 there_by false false true t0 now next is hit miss idle = idle refl ∙ is
 there_by false false false t0 now next is hit miss idle = idle refl ∙ is
 
-here_by : (e p b : Bool) (t0 h0 there now next : Option History) → there ≡ cond b None t0 → now ≡ cond b (option_or t0 h0) h0 → (p ≡ true → e ≡ true → next ≡ option_or there now) → (p ≡ true → e ≡ false → next ≡ now) → (p ≡ false → next ≡ now)
+here_by : (e p b : Bool) (t0 h0 there now next : Option History) → there ≡ cond b None t0 → now ≡ cond b (option_or t0 h0) h0
+    → (p ≡ true → e ≡ true → next ≡ option_or there now) → (p ≡ true → e ≡ false → next ≡ now) → (p ≡ false → next ≡ now)
     → next ≡ cond (b || (e && p)) (option_or t0 h0) h0
 here_by true true true t0 h0 there now next t is hit miss idle = hit refl refl ∙ ap₂ (λ (a b : Option History). option_or a b) t is
 here_by true true false t0 h0 there now next t is hit miss idle = hit refl refl ∙ ap₂ (λ (a b : Option History). option_or a b) t is

@@ -17,7 +17,8 @@ pub number-within : (keys : List (List ℕ)) (k : List ℕ) (n m : ℕ) → numb
 number-within keys k zero m e = absurd (cc)
 number-within keys k (suc n) m e = within_by (bytes_eq k (get_or keys n [])) (number_below keys k n) n m e (number-within keys k n m)
 
-spells_by : (keys : List (List ℕ)) (k : List ℕ) (b : Bool) (rest : Option ℕ) (n m : ℕ) → bytes_eq k (get_or keys n []) ≡ b → cond b (Some n) rest ≡ Some m → (rest ≡ Some m → get_or keys m [] ≡ k) → get_or keys m [] ≡ k
+spells_by : (keys : List (List ℕ)) (k : List ℕ) (b : Bool) (rest : Option ℕ) (n m : ℕ) → bytes_eq k (get_or keys n []) ≡ b
+    → cond b (Some n) rest ≡ Some m → (rest ≡ Some m → get_or keys m [] ≡ k) → get_or keys m [] ≡ k
 spells_by keys k true rest n m is e ih =
     let same : n ≡ m = cc in
     ap (λ j. get_or keys j []) (sym same) ∙ sym ((bytes_eq-Decides k (get_or keys n [])).0 is)

@@ -139,7 +139,8 @@ owned-none tree flat count values empty = record {
 }
 
 -- where the same values are there
-pub owned-still : (tree : List Row) (flat : Bool) (lent : List Bool) (values next : Slots) → ((i : ℕ) → is_some (slot next i) ≡ is_some (slot values i)) → AreOwned tree flat lent values → AreOwned tree flat lent next
+pub owned-still : (tree : List Row) (flat : Bool) (lent : List Bool) (values next : Slots)
+    → ((i : ℕ) → is_some (slot next i) ≡ is_some (slot values i)) → AreOwned tree flat lent values → AreOwned tree flat lent next
 owned-still tree flat lent values next same k = record {
   owned = λ f i s. k.owned f i (sym (same i) ∙ s);
   there = λ n i l w. same i ∙ k.there n i l w;
@@ -147,7 +148,8 @@ owned-still tree flat lent values next same k = record {
 }
 
 -- when a node is lent
-pub owned-more : (tree : List Row) (flat : Bool) (lent : List Bool) (home values : Slots) (n : ℕ) → n < length lent → length home ≡ length values → ((i : ℕ) → is_written (locks tree n) i ≡ true → is_some (slot home i) ≡ true)
+pub owned-more : (tree : List Row) (flat : Bool) (lent : List Bool) (home values : Slots) (n : ℕ) → n < length lent
+    → length home ≡ length values → ((i : ℕ) → is_written (locks tree n) i ≡ true → is_some (slot home i) ≡ true)
     → ((m : ℕ) → is_lent lent m ≡ true → clash tree m n ≡ false) → AreOwned tree flat lent values → AreOwned tree flat (set lent n true) (moved_here (locks tree n) home values)
 owned-more tree flat lent home values n within fits there beside k =
     let ls = locks tree n in
@@ -225,7 +227,8 @@ restored-some None p there = refl
 restored-some (Some h) p there = sym (there h refl)
 
 -- going back to marks leaves the same values there
-pub restored-there : (marks values : Slots) → length marks ≡ length values → ((i : ℕ) (h : History) → slot marks i ≡ Some h → HasLater values i h) → (i : ℕ) → is_some (slot (restored marks values) i) ≡ is_some (slot values i)
+pub restored-there : (marks values : Slots) → length marks ≡ length values → ((i : ℕ) (h : History) → slot marks i ≡ Some h → HasLater values i h)
+    → (i : ℕ) → is_some (slot (restored marks values) i) ≡ is_some (slot values i)
 restored-there marks values fits later i =
     ap is_some (column-slot (λ j. option_or (slot marks j) (slot values j)) (length values) i
     (λ past.

@@ -29,7 +29,8 @@ pub count-of : (tree : List Row) (world : Start) (starts : List Starting) → st
 count-of tree world starts e = ap length e ∙ length-map (keys tree) (start_at world)
 
 -- a starting value by its key's number
-started : (world : Start) (ks : List (List ℕ)) (starts : List Starting) (i : ℕ) (s : Starting) → starts ≡ map (start_at world) ks → i < length ks → s ≡ get_or starts i s → s ≡ start_at world (get_or ks i [])
+started : (world : Start) (ks : List (List ℕ)) (starts : List Starting) (i : ℕ) (s : Starting)
+    → starts ≡ map (start_at world) ks → i < length ks → s ≡ get_or starts i s → s ≡ start_at world (get_or ks i [])
 started world ks starts i s e h is = is ∙ ap (λ (xs : List Starting). get_or xs i s) e ∙ get_or-map (start_at world) ks i [] s h
 
 open_by : (shown : Bool) (start : Resource) (kind : Kind) → HasKind (seen None shown start) kind → seen None shown start ≡ Some start
@@ -45,7 +46,8 @@ look-value tree world lent values k i h ask e is =
     ap (λ (v : Option Resource). answered v ask) (sym now)
 
 -- what is looked at where the tray has no value
-pub look-start : (tree : List Row) (world : Start) (lent : List Bool) (values : Slots) (starts : List Starting) (k : List ℕ) (i : ℕ) (s : Starting) (ask : Ask) (kind : Kind) → starts ≡ map (start_at world) (keys tree)
+pub look-start : (tree : List Row) (world : Start) (lent : List Bool) (values : Slots) (starts : List Starting) (k : List ℕ) (i : ℕ) (s : Starting) (ask : Ask) (kind : Kind)
+    → starts ≡ map (start_at world) (keys tree)
     → number_of tree k ≡ Some i → slot values i ≡ None → s ≡ get_or starts i s → HasKind (resources tree world lent values k) kind → answered (Some s.value) ask ≡ answered (resources tree world lent values k) ask
 look-start tree world lent values starts k i s ask kind all e none is has =
     let all_keys = keys tree in
@@ -58,7 +60,8 @@ look-start tree world lent values starts k i s ask kind all e none is has =
     ap (λ (v : Option Resource). answered v ask) (ap (λ (x : Resource). Some x) value ∙ sym start)
 
 -- a key without a number has no value
-pub look-nothing : (tree : List Row) (world : Start) (lent : List Bool) (values : Slots) (k : List ℕ) (ask : Ask) (kind : Kind) → number_of tree k ≡ None → HasKind (resources tree world lent values k) kind → ⊥
+pub look-nothing : (tree : List Row) (world : Start) (lent : List Bool) (values : Slots) (k : List ℕ) (ask : Ask) (kind : Kind)
+    → number_of tree k ≡ None → HasKind (resources tree world lent values k) kind → ⊥
 look-nothing tree world lent values k ask kind e has =
     let none : resources tree world lent values k ≡ None = ap (seen_at tree world lent values k) e in
     let P : Option Resource → Type 0 = λ v. HasKind v kind in
@@ -80,7 +83,8 @@ both_none : (b : Bool) (change : Change) → cond b (option_map (changed change)
 both_none true change = refl
 both_none false change = refl
 
-changed_by : (b : Bool) (change : Change) (v : Option Resource) (w : Option Resource) → (b ≡ true → w ≡ option_map (changed change) v) → (b ≡ false → w ≡ v) → w ≡ cond b (option_map (changed change) v) v
+changed_by : (b : Bool) (change : Change) (v : Option Resource) (w : Option Resource)
+    → (b ≡ true → w ≡ option_map (changed change) v) → (b ≡ false → w ≡ v) → w ≡ cond b (option_map (changed change) v) v
 changed_by true change v w here there = here refl
 changed_by false change v w here there = there refl
 
@@ -134,5 +138,6 @@ has-slot values next i change (Some j) within new =
     ]
 
 -- after a change the same values are there
-pub has-still : (tree : List Row) (values next : Slots) (i : ℕ) (change : Change) → i < length values → next ≡ set values i (option_map (after change) (slot values i)) → (q : List ℕ) → has_at next (number_of tree q) ≡ has_at values (number_of tree q)
+pub has-still : (tree : List Row) (values next : Slots) (i : ℕ) (change : Change) → i < length values
+    → next ≡ set values i (option_map (after change) (slot values i)) → (q : List ℕ) → has_at next (number_of tree q) ≡ has_at values (number_of tree q)
 has-still tree values next i change within new q = has-slot values next i change (number_of tree q) within new

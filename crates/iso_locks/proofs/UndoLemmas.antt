@@ -64,7 +64,8 @@ pub undoing-without : (marks0 slots0 marks slots rest : Slots) → Undoing marks
 undoing-without marks0 slots0 marks slots rest u e =
     undoing-more marks0 slots0 marks slots rest slots None u e refl (λ i is. refl) refl
 
-pub undoing-with : (marks0 slots0 marks slots rest next : Slots) (h : History) → length marks0 ≡ length slots0 → Undoing marks0 slots0 marks slots → marks ≡ rest ++ Some h ∷ [] → next ≡ set slots (length rest) (Some h) → Undoing marks0 slots0 rest next
+pub undoing-with : (marks0 slots0 marks slots rest next : Slots) (h : History) → length marks0 ≡ length slots0
+    → Undoing marks0 slots0 marks slots → marks ≡ rest ++ Some h ∷ [] → next ≡ set slots (length rest) (Some h) → Undoing marks0 slots0 rest next
 undoing-with marks0 slots0 marks slots rest next h all u e is =
     let count : length marks ≡ length rest + 1 = ap length e ∙ length-append rest (Some h ∷ []) in
     let few = u.few in
@@ -74,7 +75,8 @@ undoing-with marks0 slots0 marks slots rest next h all u e is =
     (λ i other. ap (λ (ss : Slots). slot ss i) is ∙ get_or-set_other slots (length rest) i (Some h) None other)
     (ap (λ (ss : Slots). slot ss (length rest)) is ∙ get_or-set_same slots (length rest) (Some h) None within)
 
-pub later-still : (marks0 slots0 marks slots rest : Slots) (h : History) → Undoing marks0 slots0 marks slots → marks ≡ rest ++ Some h ∷ [] → ((i : ℕ) (g : History) → slot marks0 i ≡ Some g → HasLater slots0 i g) → HasLater slots (length rest) h
+pub later-still : (marks0 slots0 marks slots rest : Slots) (h : History) → Undoing marks0 slots0 marks slots
+    → marks ≡ rest ++ Some h ∷ [] → ((i : ℕ) (g : History) → slot marks0 i ≡ Some g → HasLater slots0 i g) → HasLater slots (length rest) h
 later-still marks0 slots0 marks slots rest h u e all =
     let later = all (length rest) h (popped-mark marks0 slots0 marks slots rest (Some h) u e) in
     record { now = later.now; there = popped-slot marks0 slots0 marks slots rest (Some h) u e ∙ later.there; later = later.later }

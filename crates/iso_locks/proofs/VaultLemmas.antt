@@ -23,7 +23,8 @@ use Rattle.iso_locks.proofs.KeyLemmas.{written-conflict, written-within}
 use Rattle.iso_locks.proofs.OwnerLemmas.{lent-other, lent-within, still-lent}
 
 -- in a vault that isn't busy, what a node takes for READ_WRITE is home
-pub home-for : (v : VaultView) (values : Slots) (n i : ℕ) → IsVault v.plan v.world v.lent values → busy v n ≡ None → is_written (locks (tree_of v.plan) n) i ≡ true → i < length values → (slot values i ≡ None → ⊥)
+pub home-for : (v : VaultView) (values : Slots) (n i : ℕ) → IsVault v.plan v.world v.lent values → busy v n ≡ None
+    → is_written (locks (tree_of v.plan) n) i ≡ true → i < length values → (slot values i ≡ None → ⊥)
 home-for v values n i kept free w within none =
     let tree = tree_of v.plan in
     let away = kept.away i within none in
@@ -40,7 +41,8 @@ some-of None some = absurd (some refl)
 some-of (Some h) some = refl
 
 -- so all that the node takes for READ_WRITE is home
-pub home-all : (v : VaultView) (values : Slots) (n : ℕ) → IsVault v.plan v.world v.lent values → busy v n ≡ None → (i : ℕ) → is_written (locks (tree_of v.plan) n) i ≡ true → is_some (slot values i) ≡ true
+pub home-all : (v : VaultView) (values : Slots) (n : ℕ) → IsVault v.plan v.world v.lent values
+    → busy v n ≡ None → (i : ℕ) → is_written (locks (tree_of v.plan) n) i ≡ true → is_some (slot values i) ≡ true
 home-all v values n kept free i w =
     let less = written-within (tree_of v.plan) n i w in
     let fits = kept.values_fit in
@@ -68,7 +70,8 @@ away_by true o e = inl refl
 away_by false o e = inr e
 
 -- a vault after a node was lent
-pub lent-vault : (plan : Planned) (world : Start) (given : List Bool) (values : Slots) (n : ℕ) → n < length plan.rows → IsVault plan world given values → IsVault plan world (set given n true) (moved_away (locks (tree_of plan) n) values)
+pub lent-vault : (plan : Planned) (world : Start) (given : List Bool) (values : Slots) (n : ℕ) → n < length plan.rows
+    → IsVault plan world given values → IsVault plan world (set given n true) (moved_away (locks (tree_of plan) n) values)
 lent-vault plan world given values n node kept =
     let ls = locks (tree_of plan) n in
     let fits = kept.lent_fits in
@@ -110,7 +113,8 @@ back_home true (Some h) o some = refl
 back_home true None o some = absurd (let no : false ≡ true = some refl in cc)
 
 -- what is home when a node was taken back
-pub home-back : (ls : List Lock) (there values : Slots) → ((i : ℕ) → i < length values → is_written ls i ≡ true → is_some (slot there i) ≡ true) → map is_some (moved_here ls there values) ≡ column (λ i. is_written ls i || is_home (map is_some values) i) (length (map is_some values))
+pub home-back : (ls : List Lock) (there values : Slots) → ((i : ℕ) → i < length values → is_written ls i ≡ true → is_some (slot there i) ≡ true)
+    → map is_some (moved_here ls there values) ≡ column (λ i. is_written ls i || is_home (map is_some values) i) (length (map is_some values))
 home-back ls there values some =
     let next = moved_here ls there values in
     let f : ℕ → Option History = λ i. cond (is_written ls i) (option_or (slot there i) (slot values i)) (slot values i) in
@@ -128,7 +132,8 @@ some_if None some = absurd (some refl)
 some_if (Some h) some = (h, refl)
 
 -- what a tray holds when a node was lent to it
-pub lent-to : (t : TrayView) (given home : List Bool) (values : Slots) (n : ℕ) → IsVault t.plan t.world given values → busy (record { plan = t.plan; world = t.world; lent = given; home = home }) n ≡ None
+pub lent-to : (t : TrayView) (given home : List Bool) (values : Slots) (n : ℕ) → IsVault t.plan t.world given values
+    → busy (record { plan = t.plan; world = t.world; lent = given; home = home }) n ≡ None
     → length t.values ≡ length (keys (tree_of t.plan)) → is_lent (set t.lent n true) n ≡ true
     → (t.flat ≡ false → (i : ℕ) → is_written (locks (tree_of t.plan) n) i ≡ true → slot t.values i ≡ None) → IsLentTo n t (receiving n values t)
 lent-to t given home values n kept free count holds fresh =
@@ -161,7 +166,8 @@ some_of_value : (o : Option History) (s : Resource) → option_map (λ (g : Hist
 some_of_value (Some g) s e = refl
 some_of_value None s e = absurd (cc)
 
-back_by : (b : Bool) (t o : Option History) (h : History) (s : Resource) → cond b (option_or t o) o ≡ Some h → (b ≡ true → option_map (λ (g : History). g.now) t ≡ Some s) → (b ≡ false → o ≡ Some h → h.now ≡ s) → h.now ≡ s
+back_by : (b : Bool) (t o : Option History) (h : History) (s : Resource) → cond b (option_or t o) o ≡ Some h
+    → (b ≡ true → option_map (λ (g : History). g.now) t ≡ Some s) → (b ≡ false → o ≡ Some h → h.now ≡ s) → h.now ≡ s
 back_by true (Some g) o h s e start old =
     let one : g ≡ h = cc in
     let value : Some g.now ≡ Some s = start refl in

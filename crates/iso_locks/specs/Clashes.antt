@@ -11,4 +11,5 @@ lockers_conflict tree (Some a) (Some b) = not (a == b) && conflict tree a b
 
 -- whether two nodes clash: they conflict, or their locking nodes do, where these differ
 abbrev pub clash : List Row → ℕ → ℕ → Bool
-clash tree m n = conflict tree m n || lockers_conflict tree (locking_node tree m) (locking_node tree n)
+clash tree m n =
+    conflict tree m n || lockers_conflict tree (locking_node tree m) (locking_node tree n)

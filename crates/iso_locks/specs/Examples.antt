@@ -16,11 +16,13 @@ file_b = codes "file:b"
 
 -- write "file:a" class A { test t { } }
 abbrev pub writer_of_a : Class
-writer_of_a = a_class (codes "A") None false (writes file_a ∷ []) (member (a_test (codes "t") None []) no_members)
+writer_of_a = a_class (codes "A") None false (writes file_a ∷ [])
+    (member (a_test (codes "t") None []) no_members)
 
 -- write "file:b" class B { test u { } }
 abbrev pub writer_of_b : Class
-writer_of_b = a_class (codes "B") None false (writes file_b ∷ []) (member (a_test (codes "u") None []) no_members)
+writer_of_b = a_class (codes "B") None false (writes file_b ∷ [])
+    (member (a_test (codes "u") None []) no_members)
 
 -- nodes 1 to 4: A, t, B, u; file:a is key 1 and file:b key 2
 abbrev pub two_writers : List Row
@@ -28,7 +30,10 @@ two_writers = tree (shop (writer_of_a ∷ writer_of_b ∷ []) ∷ [])
 
 -- read "file:a" class C { test v { } write "file:b" test w { } }
 abbrev pub reader_of_a : Class
-reader_of_a = a_class (codes "C") None false (reads file_a ∷ []) (member (a_test (codes "v") None []) (member (a_test (codes "w") None (writes file_b ∷ [])) no_members))
+reader_of_a =
+    a_class (codes "C") None false (reads file_a ∷ [])
+    (member (a_test (codes "v") None [])
+    (member (a_test (codes "w") None (writes file_b ∷ [])) no_members))
 
 -- nodes 1 to 3: C, v, w
 abbrev pub one_reader : List Row

@@ -11,7 +11,8 @@ use Rattle.iso_plan.specs.Tree.{Row}
 
 -- no two lent nodes clash
 abbrev pub AreApart : List Row → List Bool → Type 0
-AreApart tree lent = (m n : ℕ) → m ≢ n → is_lent lent m ≡ true → is_lent lent n ≡ true → clash tree m n ≡ false
+AreApart tree lent = (m n : ℕ) → m ≢ n → is_lent lent m ≡ true → is_lent lent n ≡ true
+    → clash tree m n ≡ false
 
 -- a node clashes with no lent one
 abbrev pub IsBeside : List Row → List Bool → ℕ → Type 0
@@ -19,7 +20,8 @@ IsBeside tree lent n = (m : ℕ) → is_lent lent m ≡ true → clash tree m n 
 
 -- how many lent nodes have a node as their locking node
 abbrev pub lent_under : List Row → List Bool → ℕ → ℕ
-lent_under tree lent a = count (λ m. is_lent lent m && is_that (locking_node tree m) a) (length tree)
+lent_under tree lent a =
+    count (λ m. is_lent lent m && is_that (locking_node tree m) a) (length tree)
 
 -- of each node it is counted how many lent nodes it is the locking node of
 pub record KeepsLent (plan : Planned) (lent : HeldView) (lockers : LockersView) : Type 0 where
@@ -27,4 +29,5 @@ pub record KeepsLent (plan : Planned) (lent : HeldView) (lockers : LockersView) 
   pub lockers_of : lockers.plan ≡ lent.plan
   pub each : length lent.held ≡ length lent.plan.rows
   pub table : length lockers.under ≡ length lent.plan.rows
-  pub counts : (a : ℕ) → a < length lent.plan.rows → under_it lockers.under a ≡ lent_under (tree_of lent.plan) lent.held a
+  pub counts : (a : ℕ) → a < length lent.plan.rows → under_it lockers.under a
+      ≡ lent_under (tree_of lent.plan) lent.held a

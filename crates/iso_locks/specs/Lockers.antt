@@ -14,7 +14,8 @@ pub record LockersView : Type 0 where
 
 abbrev pub lockers_code : Coded LockersView
 lockers_code =
-    code_by (Planned × List ℕ) (coded× plan.the_row.coded (coded_list coded_ℕ)) (λ v. (v.plan, v.under)) (λ p. record { plan = p.0; under = p.1 })
+    code_by (Planned × List ℕ) (coded× plan.the_row.coded (coded_list coded_ℕ))
+    (λ v. (v.plan, v.under)) (λ p. record { plan = p.0; under = p.1 })
     (λ _. refl)
 
 -- how many lent nodes a node is the locking node of
@@ -27,7 +28,8 @@ has_under under a = not (under_it under a == 0)
 
 -- whether a node is the locking node of no lent node, and conflicts with one that is
 abbrev pub is_kept_out : LockersView → ℕ → Bool
-is_kept_out v a = not (has_under v.under a) && is_some (lowest_in_the_way (tree_of v.plan) (has_under v.under) a)
+is_kept_out v a =
+    not (has_under v.under a) && is_some (lowest_in_the_way (tree_of v.plan) (has_under v.under) a)
 
 -- no node of a plan is lent
 abbrev pub no_lockers : Planned → LockersView

@@ -19,7 +19,8 @@ is_written (l ∷ ls) i = writes_key l i || is_written ls i
 -- is one
 abbrev pub moved_here : List Lock → Slots → Slots → Slots
 moved_here locks there here =
-    column (λ i. cond (is_written locks i) (option_or (slot there i) (slot here i)) (slot here i)) (length here)
+    column (λ i. cond (is_written locks i) (option_or (slot there i) (slot here i)) (slot here i))
+    (length here)
 
 -- the slots from which they move
 abbrev pub moved_away : List Lock → Slots → Slots
@@ -27,7 +28,8 @@ moved_away locks there = column (λ i. cond (is_written locks i) None (slot ther
 
 -- the same of one lock
 abbrev pub put_here : Lock → Slots → Slots → Slots
-put_here l there here = cond (is_write l) (slice_set here l.key (option_or (slot there l.key) (slot here l.key))) here
+put_here l there here =
+    cond (is_write l) (slice_set here l.key (option_or (slot there l.key) (slot here l.key))) here
 
 abbrev pub taken_away : Lock → Slots → Slots
 taken_away l there = cond (is_write l) (slice_set there l.key None) there

@@ -11,17 +11,23 @@ earlier-self h = record { newer = []; is = refl }
 earlier-further : (g h k : History) → IsEarlier g h → IsEarlier h k → IsEarlier g k
 earlier-further g h k a b = record {
   newer = b.newer ++ a.newer;
-  is = b.is ∙ ap (λ (vs : List Resource). b.newer ++ vs) a.is ∙ sym (append_assoc b.newer a.newer (values g));
+  is = b.is ∙ ap (λ (vs : List Resource). b.newer ++ vs) a.is
+      ∙ sym (append_assoc b.newer a.newer (values g));
 }
 
-pub later-further : (u v : Slots) (i : ℕ) (g : History) → HasLater u i g → ((h : History) → slot u i ≡ Some h → HasLater v i h)
+pub later-further : (u v : Slots) (i : ℕ) (g : History) → HasLater u i g
+    → ((h : History) → slot u i ≡ Some h → HasLater v i h)
     → HasLater v i g
 later-further u v i g a on =
     let b = on a.now a.there in
     record { now = b.now; there = b.there; later = earlier-further g a.now b.now a.later b.later }
 
 pub on-still : (t : TrayView) → GoesOn t t
-on-still t = record { fits = refl; only = λ i e. e; later = λ i h e. record { now = h; there = e; later = earlier-self h } }
+on-still t = record {
+  fits = refl;
+  only = λ i e. e;
+  later = λ i h e. record { now = h; there = e; later = earlier-self h };
+}
 
 pub on-further : (t u v : TrayView) → GoesOn t u → GoesOn u v → GoesOn t v
 on-further t u v a b = record {
@@ -31,7 +37,15 @@ on-further t u v a b = record {
 }
 
 pub onward-still : (t : TrayView) → IsOnward t t
-onward-still t = record { plan = refl; world = refl; flat = refl; lent = refl; there = refl; values = on-still t; frames = refl }
+onward-still t = record {
+  plan = refl;
+  world = refl;
+  flat = refl;
+  lent = refl;
+  there = refl;
+  values = on-still t;
+  frames = refl;
+}
 
 pub onward-further : (t u v : TrayView) → IsOnward t u → IsOnward u v → IsOnward t v
 onward-further t u v a b = record {

@@ -23,10 +23,13 @@ pub record IsOwned (tree : List Row) (given : List Bool) (i : ℕ) : Type 0 wher
 
 -- What a tray keeps of its values and the nodes that are lent to it: each value is owned, but in a
 -- flat map; what a node takes for READ_WRITE is there; and no two nodes clash.
-pub record AreOwned (tree : List Row) (flat : Bool) (lent : List Bool) (values : Slots) : Type 0 where
+pub record AreOwned (tree : List Row) (flat : Bool) (lent : List Bool)
+    (values : Slots) : Type 0 where
   pub owned : flat ≡ false → (i : ℕ) → is_some (slot values i) ≡ true → IsOwned tree lent i
-  pub there : (n i : ℕ) → is_lent lent n ≡ true → is_written (locks tree n) i ≡ true → is_some (slot values i) ≡ true
-  pub apart : (m n : ℕ) → m ≢ n → is_lent lent m ≡ true → is_lent lent n ≡ true → clash tree m n ≡ false
+  pub there : (n i : ℕ) → is_lent lent n ≡ true → is_written (locks tree n) i ≡ true
+      → is_some (slot values i) ≡ true
+  pub apart : (m n : ℕ) → m ≢ n → is_lent lent m ≡ true → is_lent lent n ≡ true
+      → clash tree m n ≡ false
 
 -- a node may be lent to a tray beside those that are: it isn't lent to it, and clashes with none of
 -- them
@@ -42,7 +45,8 @@ pub record HasRoom (most room spare_room : ℕ) (spare : List Subject) : Type 0 
   pub empty : spare ≡ []
 
 -- what holds of the lists that a tray keeps, with room for the frames of the deepest class chain
-pub record IsTray (plan : Planned) (world : Start) (flat : Bool) (lent : HeldView) (values : Slots) (starts : List Starting)
+pub record IsTray (plan : Planned) (world : Start) (flat : Bool) (lent : HeldView) (values : Slots)
+    (starts : List Starting)
     (room spare_room : ℕ) (spare : List Subject) : Type 0 where
   pub lent_of : lent.plan ≡ plan
   pub lent_fits : length lent.held ≡ length plan.rows

@@ -45,13 +45,22 @@ parts t = (t.plan, (t.world, (t.flat, (t.lent, (t.values, t.frames)))))
 
 abbrev with_parts : Parts → TrayView
 with_parts p =
-    record { plan = p.0; world = p.1.0; flat = p.1.1.0; lent = p.1.1.1.0; values = p.1.1.1.1.0; frames = p.1.1.1.1.1 }
+    record {
+      plan = p.0;
+      world = p.1.0;
+      flat = p.1.1.0;
+      lent = p.1.1.1.0;
+      values = p.1.1.1.1.0;
+      frames = p.1.1.1.1.1;
+    }
 
 abbrev held_code : Coded (Slots × List Subject)
 held_code = coded× (coded_list (coded_option history_code)) (coded_list subject_code)
 
 abbrev parts_code : Coded Parts
-parts_code = coded× plan.the_row.coded (coded× start_code (coded× coded_bool (coded× (coded_list coded_bool) held_code)))
+parts_code =
+    coded× plan.the_row.coded
+    (coded× start_code (coded× coded_bool (coded× (coded_list coded_bool) held_code)))
 
 abbrev pub tray_code : Coded TrayView
 tray_code = code_by Parts parts_code parts with_parts (λ _. refl)
@@ -120,7 +129,8 @@ seen None true start = Some start
 -- the value at a key with this number
 abbrev pub seen_at : List Row → Start → List Bool → Slots → List ℕ → Option ℕ → Option Resource
 seen_at tree world lent values k None = None
-seen_at tree world lent values k (Some i) = seen (slot values i) (is_open tree lent k) (starting_value_in world k)
+seen_at tree world lent values k (Some i) =
+    seen (slot values i) (is_open tree lent k) (starting_value_in world k)
 
 -- the resources of values that were moved in, where these nodes are lent
 abbrev pub resources : List Row → Start → List Bool → Slots → Resources
@@ -141,7 +151,8 @@ has_value t k = has_at t.values (number_of (tree_of t.plan) k)
 
 -- the value of the key with a number, where rights let it be changed and it is there
 abbrev pub kept_at : List (List ℕ × Access) → List (List ℕ) → Slots → ℕ → Option History
-kept_at rights keys values i = cond (is_writable (access_in rights (slice_index_or keys i []))) (slot values i) None
+kept_at rights keys values i =
+    cond (is_writable (access_in rights (slice_index_or keys i []))) (slot values i) None
 
 -- whether a node's rights let it change the value of the key with a number
 abbrev pub may_write : List Row → ℕ → ℕ → Bool
@@ -162,7 +173,8 @@ pub record SavepointView : Type 0 where
 
 abbrev pub savepoint_code : Coded SavepointView
 savepoint_code =
-    code_by (ℕ × Slots) (coded× coded_ℕ (coded_list (coded_option history_code))) (λ m. (m.node, m.values))
+    code_by (ℕ × Slots) (coded× coded_ℕ (coded_list (coded_option history_code)))
+    (λ m. (m.node, m.values))
     (λ p. record { node = p.0; values = p.1 }) (λ _. refl)
 
 -- what is kept of a tray for a node

@@ -37,7 +37,9 @@ abbrev with_parts : Parts → VaultView
 with_parts p = record { plan = p.0; world = p.1.0; lent = p.1.1.0; home = p.1.1.1 }
 
 abbrev parts_code : Coded Parts
-parts_code = coded× plan.the_row.coded (coded× start_code (coded× (coded_list coded_bool) (coded_list coded_bool)))
+parts_code =
+    coded× plan.the_row.coded
+    (coded× start_code (coded× (coded_list coded_bool) (coded_list coded_bool)))
 
 abbrev pub vault_code : Coded VaultView
 vault_code = code_by Parts parts_code parts with_parts (λ _. refl)
@@ -45,7 +47,12 @@ vault_code = code_by Parts parts_code parts with_parts (λ _. refl)
 -- a vault from which nothing is lent: every value is home
 abbrev pub whole_vault : Planned → Start → VaultView
 whole_vault plan world =
-    record { plan = plan; world = world; lent = replicate (length plan.rows) false; home = replicate (length (keys (tree_of plan))) true }
+    record {
+      plan = plan;
+      world = world;
+      lent = replicate (length plan.rows) false;
+      home = replicate (length (keys (tree_of plan))) true;
+    }
 
 -- whether a value is home
 abbrev pub is_home : List Bool → ℕ → Bool
@@ -64,17 +71,26 @@ pub record CanLend (n : ℕ) (v : VaultView) (t : TrayView) : Type 0 where
   pub world : t.world ≡ v.world
   pub free : is_lent v.lent n ≡ false
   pub apart : is_lent t.lent n ≡ false
-  pub beside : busy v n ≡ None → (m : ℕ) → is_lent t.lent m ≡ true → clash (tree_of t.plan) m n ≡ false
+  pub beside : busy v n ≡ None → (m : ℕ) → is_lent t.lent m ≡ true
+      → clash (tree_of t.plan) m n ≡ false
 
 -- the vault when a node was lent: what it takes for READ_WRITE is no longer home
 abbrev pub lending : ℕ → VaultView → VaultView
 lending n v =
-    record v { lent = slice_set v.lent n true; home = column (λ i. not (is_written (locks (tree_of v.plan) n) i) && is_home v.home i) (length v.home) }
+    record v {
+      lent = slice_set v.lent n true;
+      home = column
+          (λ i. not (is_written (locks (tree_of v.plan) n) i) && is_home v.home i) (length v.home);
+    }
 
 -- the vault when a node was taken back: what it takes for READ_WRITE is home
 abbrev pub regaining : ℕ → VaultView → VaultView
 regaining n v =
-    record v { lent = slice_set v.lent n false; home = column (λ i. is_written (locks (tree_of v.plan) n) i || is_home v.home i) (length v.home) }
+    record v {
+      lent = slice_set v.lent n false;
+      home =
+          column (λ i. is_written (locks (tree_of v.plan) n) i || is_home v.home i) (length v.home);
+    }
 
 -- the value in a slot as it is now
 abbrev pub value_in : Slots → ℕ → Option Resource
@@ -82,7 +98,8 @@ value_in slots i = option_map (λ (h : History). h.now) (slot slots i)
 
 -- a value stands in a tray where it starts
 abbrev pub StandsAtStart : TrayView → ℕ → Type 0
-StandsAtStart t i = value_in t.values i ≡ Some (starting_value_in t.world (key_at (tree_of t.plan) i))
+StandsAtStart t i =
+    value_in t.values i ≡ Some (starting_value_in t.world (key_at (tree_of t.plan) i))
 
 -- a node was lent to a tray: what it takes for READ_WRITE, which wasn't there, stands there at its
 -- start, and no other value moved
@@ -93,9 +110,12 @@ pub record IsLentTo (n : ℕ) (old new : TrayView) : Type 0 where
   pub lent : new.lent ≡ slice_set old.lent n true
   pub holds : is_lent new.lent n ≡ true
   pub fits : length new.values ≡ length old.values
-  pub fresh : old.flat ≡ false → (i : ℕ) → is_written (locks (tree_of old.plan) n) i ≡ true → slot old.values i ≡ None
-  pub written : (i : ℕ) → i < length (keys (tree_of old.plan)) → is_written (locks (tree_of old.plan) n) i ≡ true → StandsAtStart new i
-  pub others : (i : ℕ) → is_written (locks (tree_of old.plan) n) i ≡ false → slot new.values i ≡ slot old.values i
+  pub fresh : old.flat ≡ false → (i : ℕ) → is_written (locks (tree_of old.plan) n) i ≡ true
+      → slot old.values i ≡ None
+  pub written : (i : ℕ) → i < length (keys (tree_of old.plan))
+      → is_written (locks (tree_of old.plan) n) i ≡ true → StandsAtStart new i
+  pub others : (i : ℕ) → is_written (locks (tree_of old.plan) n) i ≡ false → slot new.values i
+      ≡ slot old.values i
   pub frames : new.frames ≡ old.frames
 
 -- a tray can give a node back that is lent to it: it is of the same plan and starting values, and
@@ -106,26 +126,36 @@ pub record CanTakeBack (n : ℕ) (v : VaultView) (t : TrayView) : Type 0 where
   pub world : t.world ≡ v.world
   pub lent : is_lent v.lent n ≡ true
   pub holds : is_lent t.lent n ≡ true
-  pub at_start : (i : ℕ) → i < length (keys (tree_of v.plan)) → is_written (locks (tree_of v.plan) n) i ≡ true → StandsAtStart t i
+  pub at_start : (i : ℕ) → i < length (keys (tree_of v.plan))
+      → is_written (locks (tree_of v.plan) n) i ≡ true → StandsAtStart t i
 
 -- the tray when a node was taken back from it: what the node takes for READ_WRITE is gone, all else
 -- stays
 abbrev pub giving_back : ℕ → TrayView → TrayView
-giving_back n t = record t { lent = slice_set t.lent n false; values = moved_away (locks (tree_of t.plan) n) t.values }
+giving_back n t = record t {
+  lent = slice_set t.lent n false;
+  values = moved_away (locks (tree_of t.plan) n) t.values;
+}
 
 -- the tray when a node was lent to it by a vault with these values
 abbrev pub receiving : ℕ → Slots → TrayView → TrayView
-receiving n home t = record t { lent = slice_set t.lent n true; values = moved_here (locks (tree_of t.plan) n) home t.values }
+receiving n home t = record t {
+  lent = slice_set t.lent n true;
+  values = moved_here (locks (tree_of t.plan) n) home t.values;
+}
 
 -- what holds of the lists that a vault keeps: each value that is home stands at its start, and each
 -- other one was lent to a node that takes it for READ_WRITE
-pub record IsVault (planned : Planned) (start : Start) (given : List Bool) (values : Slots) : Type 0 where
+pub record IsVault (planned : Planned) (start : Start) (given : List Bool)
+    (values : Slots) : Type 0 where
   pub lent_fits : length given ≡ length planned.rows
   pub values_fit : length values ≡ length (keys (tree_of planned))
-  pub at_start : (i : ℕ) (h : History) → slot values i ≡ Some h → h.now ≡ starting_value_in start (key_at (tree_of planned) i)
+  pub at_start : (i : ℕ) (h : History) → slot values i ≡ Some h
+      → h.now ≡ starting_value_in start (key_at (tree_of planned) i)
   pub away : (i : ℕ) → i < length values → slot values i ≡ None → IsOwned (tree_of planned) given i
 
 -- the same of all that it keeps: the nodes that it keeps as held are of its plan
-pub record KeepsVault (planned : Planned) (start : Start) (given : HeldView) (values : Slots) : Type 0 where
+pub record KeepsVault (planned : Planned) (start : Start) (given : HeldView)
+    (values : Slots) : Type 0 where
   pub lent_of : given.plan ≡ planned
   pub lists : IsVault planned start given.held values

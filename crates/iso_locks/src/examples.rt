@@ -29,13 +29,16 @@ pub fn mark_keeps_what_the_chain_may_write()
 pub fn moved_values_are_seen_as_they_stand()
     ensures number { number_of two_writers file_b ≡ Some 2 }
     ensures unknown { number_of two_writers (codes "file:c") ≡ None }
-    ensures moved { resources two_writers empty_start first_lent (a_alone written) file_a ≡ Some (File (Some (codes "m"))) }
+    ensures moved { resources two_writers empty_start first_lent (a_alone written) file_a
+        ≡ Some (File (Some (codes "m"))) }
     ensures other { resources two_writers empty_start first_lent (a_alone written) file_b ≡ None }
 {}
 
 /// A test that takes no key itself sees what its locking node holds for READ, as it starts.
 #[tactic(auto, unfolding(iso_plan::specs::Paths::path))]
 pub fn locking_nodes_open_keys_for_looking()
-    ensures read { resources one_reader empty_start second_lent (None ∷ None ∷ None ∷ []) file_a ≡ Some (starting_value_in empty_start file_a) }
-    ensures unread { resources one_reader empty_start second_lent (None ∷ None ∷ None ∷ []) file_b ≡ None }
+    ensures read { resources one_reader empty_start second_lent (None ∷ None ∷ None ∷ []) file_a
+        ≡ Some (starting_value_in empty_start file_a) }
+    ensures unread { resources one_reader empty_start second_lent
+        (None ∷ None ∷ None ∷ []) file_b ≡ None }
 {}

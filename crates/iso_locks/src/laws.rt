@@ -20,7 +20,8 @@ use iso_plan::laws::nodes_are_a_tree;
 /// then.
 pub fn further_changes_keep_marks()
     ensures own { (t u : TrayView) (n : ℕ) → GoesOn t u → CanUndo (marked t n) u }
-    ensures others { (t u : TrayView) (mark : SavepointView) → GoesOn t u → CanUndo mark t → CanUndo mark u }
+    ensures others { (t u : TrayView) (mark : SavepointView) → GoesOn t u → CanUndo mark t
+        → CanUndo mark u }
 {}
 
 /// A tray goes on by nothing, by changes of its values, and step by step.
@@ -32,30 +33,36 @@ pub fn trays_go_on_by_changes()
 
 /// A node may be taken back as it was lent.
 pub fn lent_nodes_may_be_taken_back()
-    ensures { (n : ℕ) (v : VaultView) (t u : TrayView) → IsLentTo n t u → n < length v.plan.rows → u.plan ≡ v.plan → u.world ≡ v.world
+    ensures { (n : ℕ) (v : VaultView) (t u : TrayView) → IsLentTo n t u → n < length v.plan.rows
+        → u.plan ≡ v.plan → u.world ≡ v.world
         → is_lent v.lent n ≡ true → CanTakeBack n v u }
 {}
 
 /// A node may still be taken back when another one was lent to its tray since, or taken back from
 /// it.
 pub fn other_nodes_may_still_be_taken_back()
-    ensures lent { (m n : ℕ) (v : VaultView) (t u : TrayView) → CanTakeBack m v t → IsLentTo n t u → CanTakeBack m (lending n v) u }
-    ensures home { (m n : ℕ) (v : VaultView) (t : TrayView) → m ≢ n → clash (tree_of t.plan) m n ≡ false → CanTakeBack m v t
+    ensures lent { (m n : ℕ) (v : VaultView) (t u : TrayView) → CanTakeBack m v t → IsLentTo n t u
+        → CanTakeBack m (lending n v) u }
+    ensures home { (m n : ℕ) (v : VaultView) (t : TrayView) → m ≢ n → clash (tree_of t.plan) m n
+        ≡ false → CanTakeBack m v t
         → CanTakeBack m (regaining n v) (giving_back n t) }
 {}
 
 /// A mark can still be gone back to when a node was lent to its tray since.
 pub fn lending_keeps_marks()
-    ensures { (n : ℕ) (t u : TrayView) (mark : SavepointView) → t.flat ≡ false → CanUndo mark t → IsLentTo n t u → CanUndo mark u }
+    ensures { (n : ℕ) (t u : TrayView) (mark : SavepointView) → t.flat ≡ false → CanUndo mark t
+        → IsLentTo n t u → CanUndo mark u }
 {}
 
 /// A node that is lent to a tray finds there each key that it or its locking node takes for READ as
 /// it starts, to look at, and the value of each key that it takes for READ_WRITE, to change. A flat
 /// map has values of its own.
 pub fn lent_nodes_find_their_values(tray: &Tray<'_>)
-    ensures read { tray.now.flat ≡ false → (n : ℕ) (k : List ℕ) → is_lent tray.now.lent n ≡ true → holds_read (tree_of tray.now.plan) k n ≡ true
+    ensures read { tray.now.flat ≡ false → (n : ℕ) (k : List ℕ) → is_lent tray.now.lent n ≡ true
+        → holds_read (tree_of tray.now.plan) k n ≡ true
         → content tray.now k ≡ started tray.now.world k }
-    ensures written { (n : ℕ) (k : List ℕ) → is_lent tray.now.lent n ≡ true → is_writable (taken (tree_of tray.now.plan) n k) ≡ true
+    ensures written { (n : ℕ) (k : List ℕ) → is_lent tray.now.lent n ≡ true
+        → is_writable (taken (tree_of tray.now.plan) n k) ≡ true
         → has_value tray.now k ≡ true }
 {
     nodes_are_a_tree(tray.plan());
@@ -65,7 +72,8 @@ pub fn lent_nodes_find_their_values(tray: &Tray<'_>)
 /// Each value that a tray has is one that a node which is lent to it takes for READ_WRITE. A flat
 /// map has values of its own.
 pub fn values_are_of_lent_nodes(tray: &Tray<'_>)
-    ensures { tray.now.flat ≡ false → (i : ℕ) → is_some (slot tray.now.values i) ≡ true → IsOwned (tree_of tray.now.plan) tray.now.lent i }
+    ensures { tray.now.flat ≡ false → (i : ℕ) → is_some (slot tray.now.values i) ≡ true
+        → IsOwned (tree_of tray.now.plan) tray.now.lent i }
 {
     tray.keep_owners();
 }

@@ -37,7 +37,8 @@ fn move_locked(lock: Lock, there: &mut Slots, here: &mut Slots)
 fn move_slot(number: usize, there: &mut Slots, here: &mut Slots)
     requires there { number < length there.old }
     requires here { number < length here.old }
-    ensures here { here.new ≡ slice_set here.old number (option_or (slot there.old number) (slot here.old number)) }
+    ensures here { here.new ≡ slice_set here.old number
+        (option_or (slot there.old number) (slot here.old number)) }
     ensures there { there.new ≡ slice_set there.old number None }
 {
     if let Some(held) = there.take(number) {

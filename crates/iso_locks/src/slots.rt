@@ -121,7 +121,8 @@ impl Slots {
     /// Changes the value in a slot. After running out of memory nothing is changed.
     pub fn apply(&mut self, number: usize, change: Change) -> Result<(), AllocError>
         requires { number < length self.old }
-        ensures ok { OnOk result (self.new ≡ slice_set self.old number (option_map (after change) (slot self.old number))) }
+        ensures ok { OnOk result (self.new
+            ≡ slice_set self.old number (option_map (after change) (slot self.old number))) }
         ensures err { OnErr result (self.new ≡ self.old) }
     {
         match &mut self.items[number] {
@@ -144,8 +145,10 @@ impl Slots {
     /// Lets each value that has a mark go back to it. Takes no memory.
     pub fn undo_all(&mut self, mut marks: Vec<Option<Savepoint>>)
         requires fits { length marks.items ≡ length self.old }
-        requires later { (i : ℕ) (h : History) → slot marks.items i ≡ Some h → HasLater self.old i h }
-        ensures { self.new ≡ column (λ i. option_or (slot marks.items i) (slot self.old i)) (length self.old) }
+        requires later { (i : ℕ) (h : History) → slot marks.items i ≡ Some h
+            → HasLater self.old i h }
+        ensures { self.new ≡ column (λ i. option_or (slot marks.items i) (slot self.old i))
+            (length self.old) }
     {
         'marks: while let Some(mark) = marks.pop() {
             if let Some(mark) = mark {

@@ -85,7 +85,8 @@ parts ls own i l e =
     ∙ ap (λ (bs : Bindings). in_layers (take i ls) ++ bs) (append_assoc l (in_layers (drop (suc i) ls)) own)
 
 -- a place in a layer, and one past all layers
-pub get-in_layer : (ls : Layers) (own : Bindings) (n i j : ℕ) (l : Bindings) → slice_get ls i ≡ Some l → j < length l → length (in_layers (take i ls)) + j ≡ n → slice_get (in_layers ls ++ own) n ≡ slice_get l j
+pub get-in_layer : (ls : Layers) (own : Bindings) (n i j : ℕ) (l : Bindings) → slice_get ls i ≡ Some l
+    → j < length l → length (in_layers (take i ls)) + j ≡ n → slice_get (in_layers ls ++ own) n ≡ slice_get l j
 get-in_layer ls own n i j l e h at =
     ap (λ (bs : Bindings). slice_get bs n) (parts ls own i l e)
     ∙ get-behind (in_layers (take i ls)) (l ++ (in_layers (drop (suc i) ls) ++ own)) n j (sym at)
@@ -120,7 +121,8 @@ revalued-in-layer ls own n i j l d e h at =
     ∙ ap (λ (bs : Bindings). front ++ bs) (append_assoc (revalued l j d) behind own ∙ sym (revalued-front l (behind ++ own) j d h))
     ∙ sym (ap (λ (bs : Bindings). revalued bs n d) (parts ls own i l e) ∙ revalued-behind front (l ++ (behind ++ own)) n j d (sym at))
 
-pub revalued-in-own : (ls : Layers) (own : Bindings) (n i j : ℕ) (d : Data) → length ls ≤ i → length (in_layers (take i ls)) + j ≡ n → in_layers ls ++ revalued own j d ≡ revalued (in_layers ls ++ own) n d
+pub revalued-in-own : (ls : Layers) (own : Bindings) (n i j : ℕ) (d : Data) → length ls ≤ i
+    → length (in_layers (take i ls)) + j ≡ n → in_layers ls ++ revalued own j d ≡ revalued (in_layers ls ++ own) n d
 revalued-in-own ls own n i j d past at =
     let all : length (in_layers (take i ls)) ≡ length (in_layers ls) = ap (λ (ks : Layers). length (in_layers ks)) (take_all i ls past) in
     sym (revalued-behind (in_layers ls) own n j d (omega (arith, all, at)))
@@ -142,7 +144,8 @@ take-in-layer ls own n i j l e h at =
     append-nil (in_layers (take (i + 1) (slice_set ls i (take j l)))) ∙ shortened ls i l (take j l) e
     ∙ sym (ap (take n) (parts ls own i l e) ∙ take-behind front (l ++ behind) n j (sym at) ∙ ap (λ (bs : Bindings). front ++ bs) (take-front l behind j (omega (arith, h))))
 
-pub length-taken : (ls : Layers) (n i j : ℕ) (l : Bindings) → slice_get ls i ≡ Some l → j < length l → length (in_layers (take i ls)) + j ≡ n → n ≡ length (in_layers (take (i + 1) (slice_set ls i (take j l))))
+pub length-taken : (ls : Layers) (n i j : ℕ) (l : Bindings) → slice_get ls i ≡ Some l → j < length l
+    → length (in_layers (take i ls)) + j ≡ n → n ≡ length (in_layers (take (i + 1) (slice_set ls i (take j l))))
 length-taken ls n i j l e h at =
     let all = ap (λ (bs : Bindings). length bs) (shortened ls i l (take j l) e) in
     let one = length-take-le j l (omega (arith, h)) in
@@ -170,7 +173,8 @@ place-in-layer ls own i l x e h =
     ap (λ (bs : Bindings). place_of (bs ++ own) x) (drop-layer ls i l e) ∙ ap (λ (bs : Bindings). place_of bs x) (append_assoc l (in_layers (drop (suc i) ls)) own)
     ∙ place_of-front l (in_layers (drop (suc i) ls) ++ own) x h
 
-pub place-past-layer : (ls : Layers) (own : Bindings) (i : ℕ) (l : Bindings) (x : List ℕ) → slice_get ls i ≡ Some l → length l ≤ place_of l x → place_of (in_layers (drop i ls) ++ own) x ≡ length l + place_of (in_layers (drop (i + 1) ls) ++ own) x
+pub place-past-layer : (ls : Layers) (own : Bindings) (i : ℕ) (l : Bindings) (x : List ℕ) → slice_get ls i ≡ Some l
+    → length l ≤ place_of l x → place_of (in_layers (drop i ls) ++ own) x ≡ length l + place_of (in_layers (drop (i + 1) ls) ++ own) x
 place-past-layer ls own i l x e h =
     rw add-one (
     ap (λ (bs : Bindings). place_of (bs ++ own) x) (drop-layer ls i l e) ∙ ap (λ (bs : Bindings). place_of bs x) (append_assoc l (in_layers (drop (suc i) ls)) own)

@@ -94,7 +94,8 @@ module _ (r : Rights) where
       }
 
   -- where a statement's step leaves the block
-  after_act : (k j row : ℕ) (a : Act) (acts : Acts) (ps : List Piece) (s : State) → is_live s ≡ true → let q = step_at r (rest j (act row a acts) ∷ ps) (suc k) s in (q.state.here.env.steps ≡ k) × GoesOn q
+  after_act : (k j row : ℕ) (a : Act) (acts : Acts) (ps : List Piece) (s : State) → is_live s ≡ true
+      → let q = step_at r (rest j (act row a acts) ∷ ps) (suc k) s in (q.state.here.env.steps ≡ k) × GoesOn q
   after_act k j row a acts ps s live =
       let t : State = locally (with_steps k) s in
       let m = begin r row a t in (
@@ -111,7 +112,8 @@ module _ (r : Rights) where
   abbrev From : ℕ → Type 0
   From k = (ps : List Piece) (s : State) → s.here.env.steps ≡ k → is_live s ≡ true → is_ready ps ≡ true → (t : ℕ) × Counted (machine ps s) t
 
-  count_on : (k : ℕ) → From k → (m : Machine) → is_live m.state ≡ true → is_ready m.pieces ≡ true → is_done m.pieces ≡ false → m.state.here.env.steps ≡ suc k → (step r m).state.here.env.steps ≡ k → GoesOn (step r m) → (t : ℕ) × Counted m t
+  count_on : (k : ℕ) → From k → (m : Machine) → is_live m.state ≡ true → is_ready m.pieces ≡ true → is_done m.pieces ≡ false
+      → m.state.here.env.steps ≡ suc k → (step r m).state.here.env.steps ≡ k → GoesOn (step r m) → (t : ℕ) × Counted m t
   count_on k from m live ready some first next (inl goes) =
       let c = from (step r m).pieces (step r m).state next goes (step-ready r m (record { first = ready; live = λ h. live })).first in
       (suc c.0, counted_more m c.0 live some (omega arith) c.1)

@@ -48,7 +48,8 @@ finish-leave r (rest k (act row a acts) ∷ ps) l m live = refl
 finish-leave r (turning row zero a ∷ ps) l m live = finish-leave r ps l m live
 finish-leave r (turning row (suc n) a ∷ ps) l m live = refl
 
-finish-next_at : (r : Rights) (ps : List Piece) (l : Local) (m : Resources) (b : Bool) → is_well l.ending ≡ b → finished r (machine_at (cond b (leave_done ps l) (point [] l)) m) ≡ finish r ps (record { here = l; resources = m })
+finish-next_at : (r : Rights) (ps : List Piece) (l : Local) (m : Resources) (b : Bool) → is_well l.ending ≡ b
+    → finished r (machine_at (cond b (leave_done ps l) (point [] l)) m) ≡ finish r ps (record { here = l; resources = m })
 finish-next_at r ps l m true live = finish-leave r ps l m live
 finish-next_at r ps l m false ended = sym (finish-ended r ps (record { here = l; resources = m }) ended)
 

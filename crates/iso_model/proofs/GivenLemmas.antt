@@ -82,7 +82,8 @@ given_from-same f g i [] same = refl
 given_from-same f g i (b ∷ bs) same = ap₂ (λ (o : Option Data) (cs : List Binding). with_given o b ∷ cs) (same i (omega arith)) (given_from-same f g (suc i) bs (λ q h. same q (omega arith)))
 
 -- one more value given
-pub given_from-set : (f g : Given) (i : ℕ) (bs : List Binding) (j k : ℕ) (d : Data) → k ≡ i + j → g k ≡ Some d → ((q : ℕ) → (q ≡ k → ⊥) → g q ≡ f q) → given_from g i bs ≡ revalued (given_from f i bs) j d
+pub given_from-set : (f g : Given) (i : ℕ) (bs : List Binding) (j k : ℕ) (d : Data) → k ≡ i + j
+    → g k ≡ Some d → ((q : ℕ) → (q ≡ k → ⊥) → g q ≡ f q) → given_from g i bs ≡ revalued (given_from f i bs) j d
 given_from-set f g i [] j k d e here there = refl
 given_from-set f g i (b ∷ bs) zero k d e here there =
     let same : i ≡ k = omega arith in
@@ -134,7 +135,8 @@ get-none-in-layer f n bs j h e = sym (slice_get-layer f n bs j h ∙ ap (option_
 pub get-kept-in-layer : (f : Given) (n : ℕ) (bs : List Binding) (j : ℕ) (b : Binding) → j < n → f j ≡ None → Some b ≡ slice_get bs j → Some b ≡ slice_get (given_from f 0 (take n bs)) j
 get-kept-in-layer f n bs j b h none e = sym (slice_get-layer f n bs j h ∙ ap₂ (λ (o : Option Data) (p : Option Binding). option_map (with_given o) p) none (sym e))
 
-pub get-given-in-layer : (f : Given) (n : ℕ) (bs : List Binding) (j : ℕ) (b : Binding) (d : Data) → j < n → f j ≡ Some d → Some b ≡ slice_get bs j → Some (with_value b d) ≡ slice_get (given_from f 0 (take n bs)) j
+pub get-given-in-layer : (f : Given) (n : ℕ) (bs : List Binding) (j : ℕ) (b : Binding) (d : Data) → j < n
+    → f j ≡ Some d → Some b ≡ slice_get bs j → Some (with_value b d) ≡ slice_get (given_from f 0 (take n bs)) j
 get-given-in-layer f n bs j b d h some e = sym (slice_get-layer f n bs j h ∙ ap₂ (λ (o : Option Data) (p : Option Binding). option_map (with_given o) p) some (sym e))
 
 apart : (k q : ℕ) → (q ≡ k → ⊥) → (k < q) ⊎ (q < k)
@@ -147,7 +149,8 @@ not-at : (k q : ℕ) → (q ≡ k → ⊥) → is_eq (nat_cmp k q) ≡ false
 not-at k q ne = elim (apart k q ne) [ inl h ↦ sym (ap is_eq (nat_cmp_is k q Less h)) | inr h ↦ sym (ap is_eq (nat_cmp_is k q Greater h)) ]
 
 -- a value given to the name at a place of a layer
-pub set-in-layer : (m g : BTreeMap ℕ Data) (n : ℕ) (bs : List Binding) (j : ℕ) (d : Data) → Updates nat_cmp m g j (Some d) → given_from (given_at g) 0 (take n bs) ≡ revalued (given_from (given_at m) 0 (take n bs)) j d
+pub set-in-layer : (m g : BTreeMap ℕ Data) (n : ℕ) (bs : List Binding) (j : ℕ) (d : Data) → Updates nat_cmp m g j (Some d)
+    → given_from (given_at g) 0 (take n bs) ≡ revalued (given_from (given_at m) 0 (take n bs)) j d
 set-in-layer m g n bs j d updates = given_from-set (given_at m) (given_at g) 0 (take n bs) j j d (omega arith) updates.1 (λ q ne. updates.2 q (not-at j q ne))
 
 pub set-past-layer : (f : Given) (n : ℕ) (bs : List Binding) (j : ℕ) (d : Data) → n ≤ j → n ≤ length bs → given_from f 0 (take n bs) ≡ revalued (given_from f 0 (take n bs)) j d

@@ -90,7 +90,8 @@ swap q k p a b c other =
     ]
 
 -- the value of each key after another value for one that stands there
-pub value-set : {V : Type 0} (es : Pairs V) (i : ℕ) (k : List ℕ) (v : V) (d : List ℕ × V) (q : List ℕ) → Rise es → i < length es → (slice_index_or es i d).0 ≡ k → value_in (slice_set es i (k, v)) q ≡ cond (bytes_eq q k) (Some v) (value_in es q)
+pub value-set : {V : Type 0} (es : Pairs V) (i : ℕ) (k : List ℕ) (v : V) (d : List ℕ × V) (q : List ℕ) → Rise es → i < length es
+    → (slice_index_or es i d).0 ≡ k → value_in (slice_set es i (k, v)) q ≡ cond (bytes_eq q k) (Some v) (value_in es q)
 value-set [] i k v d q r h same = absurd (omega arith)
 value-set (e ∷ es) zero k v d q r h same =
     elim (cases_Bool (bytes_eq q k)) [

@@ -40,7 +40,8 @@ lasting-rebound (c ∷ bs) x v b found free =
       | false ↦ λ later. ap (λ (ls : List Lasting). lasting c ∷ ls) (lasting-rebound bs x v b later free)
     ] found
 
-assigned_to-lasts : (bs : List Binding) (x : List ℕ) (v : Data) (names : List Binding) (b : Binding) (t : Bool) → is_frozen b.sort ≡ t → binding_of bs x ≡ Some b → assigned_to (Some b) bs x v ≡ Ok names → map lasting names ≡ map lasting bs
+assigned_to-lasts : (bs : List Binding) (x : List ℕ) (v : Data) (names : List Binding) (b : Binding) (t : Bool)
+    → is_frozen b.sort ≡ t → binding_of bs x ≡ Some b → assigned_to (Some b) bs x v ≡ Ok names → map lasting names ≡ map lasting bs
 assigned_to-lasts bs x v names b true frozen found e = let h = rw frozen at e in cc
 assigned_to-lasts bs x v names b false free found e =
     let h : rebound bs x v ≡ names = let g = rw free at e in cc in

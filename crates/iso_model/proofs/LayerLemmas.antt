@@ -28,7 +28,8 @@ access-both (e ∷ es) fs k =
     ]
 
 -- where a key is declared for a mark, all keys have what the mark gives them besides
-pub declared-next : (m : Mark) (es : Entries) (k : List ℕ) → strongest (Some m.access) (access_in es m.key) ≡ Some m.access → access_in ((m.key, m.access) ∷ es) k ≡ strongest (declared_by m k) (access_in es k)
+pub declared-next : (m : Mark) (es : Entries) (k : List ℕ) → strongest (Some m.access) (access_in es m.key) ≡ Some m.access
+    → access_in ((m.key, m.access) ∷ es) k ≡ strongest (declared_by m k) (access_in es k)
 declared-next m es k h =
     elim (cases_Bool (bytes_eq k m.key)) [
       | inl same ↦ let at : k ≡ m.key = (bytes_eq-Decides k m.key).0 same in rw same (sym (ap (λ q. strongest (Some m.access) (access_in es q)) at ∙ h))
@@ -73,7 +74,8 @@ pub layers-next : (ls : Layers) (i : ℕ) (l : Arc Layer Global) → i < length 
 layers-next ls i l h e = rw add-one (ap declared_in (drop-cons ls i l h ∙ ap (λ (d : Arc Layer Global). d ∷ drop (suc i) ls) (sym e)))
 
 -- a layer more behind others
-pub layers-more : (ls ms : Layers) (i : ℕ) (l m : Arc Layer Global) (front : Entries) → i < length ls → l ≡ slice_index_or ls i l → arc_value m ≡ arc_value l → declared_in ms ≡ front ++ declared_in (take i ls) → declared_in (ms ++ m ∷ []) ≡ front ++ declared_in (take (i + 1) ls)
+pub layers-more : (ls ms : Layers) (i : ℕ) (l m : Arc Layer Global) (front : Entries) → i < length ls → l ≡ slice_index_or ls i l
+    → arc_value m ≡ arc_value l → declared_in ms ≡ front ++ declared_in (take i ls) → declared_in (ms ++ m ∷ []) ≡ front ++ declared_in (take (i + 1) ls)
 layers-more ls ms i l m front h e same known =
     flat_map-append entries ms (m ∷ []) ∙ ap₂ (λ (xs ys : Entries). xs ++ ys) known (ap (λ (x : Layer). x.entries ++ []) same)
     ∙ append_assoc front (declared_in (take i ls)) ((arc_value l).entries ++ [])

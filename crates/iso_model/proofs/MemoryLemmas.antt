@@ -15,7 +15,8 @@ some_kind None kind e = absurd (true≢false (sym (ap is_some e)))
 some_kind (Some v) kind e = λ none. absurd (true≢false (ap is_some none))
 
 -- a key with a value stands in a slot
-slot_of-lt_at : (e : List ℕ × Resource) (es : Slots) (k : List ℕ) (b : Bool) → ((value_at es k ≡ None → ⊥) → slot_of es k < length es) → (cond b (Some e.1) (value_at es k) ≡ None → ⊥) → cond b 0 (suc (slot_of es k)) < suc (length es)
+slot_of-lt_at : (e : List ℕ × Resource) (es : Slots) (k : List ℕ) (b : Bool) → ((value_at es k ≡ None → ⊥) → slot_of es k < length es)
+    → (cond b (Some e.1) (value_at es k) ≡ None → ⊥) → cond b 0 (suc (slot_of es k)) < suc (length es)
 slot_of-lt_at e es k true ih some = omega arith
 slot_of-lt_at e es k false ih some = let h = ih some in omega arith
 
@@ -36,7 +37,8 @@ here : (c : Change) (v : Resource) (o : Option Resource) (b : Bool) → cond b (
 here c v o true = refl
 here c v o false = refl
 
-later : (c : Change) (v : Resource) (o : Option Resource) (a b : Bool) → (a ≡ true → b ≡ true → ⊥) → cond a (Some v) (cond b (option_map (changed c) o) o) ≡ cond b (option_map (changed c) (cond a (Some v) o)) (cond a (Some v) o)
+later : (c : Change) (v : Resource) (o : Option Resource) (a b : Bool) → (a ≡ true → b ≡ true → ⊥)
+    → cond a (Some v) (cond b (option_map (changed c) o) o) ≡ cond b (option_map (changed c) (cond a (Some v) o)) (cond a (Some v) o)
 later c v o true true apart = absurd (apart refl refl)
 later c v o true false apart = refl
 later c v o false true apart = refl

@@ -79,7 +79,8 @@ place-absent m bs x tells absent =
       | inr all ↦ sym all
     ]
 
-pub place-found : (m : Places) (bs : List Binding) (x : List ℕ) (i : ℕ) (d : Binding) → Tells m bs → get_by_text m x ≡ Some i → i < length bs → bytes_eq x (slice_index_or bs i d).name ≡ true → i ≡ place_of bs x
+pub place-found : (m : Places) (bs : List Binding) (x : List ℕ) (i : ℕ) (d : Binding) → Tells m bs
+    → get_by_text m x ≡ Some i → i < length bs → bytes_eq x (slice_index_or bs i d).name ≡ true → i ≡ place_of bs x
 place-found m bs x i d tells found within here =
     let there : Some i ≡ Some (place_of bs x) = sym found ∙ tells x (let first = place_of-first bs x i d within here in omega (arith, first, within)) in
     cc
@@ -94,7 +95,8 @@ place-dropped m bs x i tells found past =
       | inr all ↦ sym all
     ]
 
-pub place-other : (m : Places) (bs : List Binding) (x : List ℕ) (i : ℕ) (d : Binding) → Tells m bs → get_by_text m x ≡ Some i → bytes_eq x (slice_index_or bs i d).name ≡ false → length bs ≡ place_of bs x
+pub place-other : (m : Places) (bs : List Binding) (x : List ℕ) (i : ℕ) (d : Binding) → Tells m bs
+    → get_by_text m x ≡ Some i → bytes_eq x (slice_index_or bs i d).name ≡ false → length bs ≡ place_of bs x
 place-other m bs x i d tells found other =
     elim (split (place_of bs x) (length bs) (place_of-le bs x)) [
       | inl within ↦
@@ -176,6 +178,7 @@ pub made-take : (o : Option (Box Places Global)) (bs : List Binding) (n : ℕ) �
 made-take None bs n tells = tt
 made-take (Some m) bs n tells = tells-take (box_value m) bs n tells
 
-pub made-set : (o : Option (Box Places Global)) (bs : List Binding) (i : ℕ) (c : Binding) (v : Data) → i < length bs → c ≡ slice_index_or bs i c → TellsWhereMade o bs → TellsWhereMade o (slice_set bs i (with_value c v))
+pub made-set : (o : Option (Box Places Global)) (bs : List Binding) (i : ℕ) (c : Binding) (v : Data) → i < length bs
+    → c ≡ slice_index_or bs i c → TellsWhereMade o bs → TellsWhereMade o (slice_set bs i (with_value c v))
 made-set None bs i c v h e tells = tt
 made-set (Some m) bs i c v h e tells = tells-set (box_value m) bs i c v h e tells

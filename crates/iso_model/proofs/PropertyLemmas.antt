@@ -37,7 +37,8 @@ tested-both : (q k : List ℕ) → bytes_eq k q ≡ is_eq (slice_cmp nat_cmp q k
 tested-both q k = bytes_eq-sym k q ∙ sym (is_eq-slice_cmp q k)
 
 -- where entries were updated at a name, so was their map
-updated : (m n : Entries) (k : List ℕ) (w : Option (List ℕ)) → UpdatesBy string_cmp (λ j. slice_cmp nat_cmp k (string_bytes j)) m n w → (q : List ℕ) → get (map_of n.entries) q ≡ cond (is_eq (slice_cmp nat_cmp q k)) w (get (map_of m.entries) q)
+updated : (m n : Entries) (k : List ℕ) (w : Option (List ℕ)) → UpdatesBy string_cmp (λ j. slice_cmp nat_cmp k (string_bytes j)) m n w
+    → (q : List ℕ) → get (map_of n.entries) q ≡ cond (is_eq (slice_cmp nat_cmp q k)) w (get (map_of m.entries) q)
 updated m n k w updates q =
     get-map_of n.entries q
     ∙ btree_map_updates_text k m n w updates q
@@ -65,7 +66,8 @@ Covers m left all = (q : List ℕ) → or_else (get m q) (lookup (is_at q) left)
 pub Covers-none : (es : List (String Global × List ℕ)) → Covers empty es (map_of es)
 Covers-none es q = rw (get-empty (slice_cmp nat_cmp) q) (sym (get-map_of es q))
 
-pub Covers-more : (m : Map) (e : String Global × List ℕ) (left : List (String Global × List ℕ)) (all : Map) → Covers m (e ∷ left) all → get all (string_bytes e.0) ≡ Some e.1 → Covers (insert m (string_bytes e.0) e.1) left all
+pub Covers-more : (m : Map) (e : String Global × List ℕ) (left : List (String Global × List ℕ)) (all : Map)
+    → Covers m (e ∷ left) all → get all (string_bytes e.0) ≡ Some e.1 → Covers (insert m (string_bytes e.0) e.1) left all
 Covers-more m e left all covers there q =
     elim (cases_Bool (is_at q e.0)) [
       | inl same ↦

@@ -75,7 +75,8 @@ outer-well_at c cs o false e well = sym e ∙ well
 pub outer-well : (c : ClassHead) (cs : List ClassHead) (start : Resources) → (opening (c ∷ cs) start).well ≡ true → (opening cs start).well ≡ true
 outer-well c cs start well = outer-well_at c cs (opening cs start) (opening cs start).well refl well
 
-pub opening-opened : (c : ClassHead) (cs : List ClassHead) (start : Resources) → (opening cs start).well ≡ true → opening (c ∷ cs) start ≡ opened (opening cs start) (before_all c cs (opening cs start))
+pub opening-opened : (c : ClassHead) (cs : List ClassHead) (start : Resources) → (opening cs start).well ≡ true
+    → opening (c ∷ cs) start ≡ opened (opening cs start) (before_all c cs (opening cs start))
 opening-opened c cs start well = ap (λ (b : Bool). cond b (opened (opening cs start) (before_all c cs (opening cs start))) (opening cs start)) well
 
 -- a frame has as many statics as its class
@@ -94,7 +95,8 @@ own_statics-length c cs o =
     let rest = length-drop n names in
     length-map (drop n names) (λ (b : Binding). bound Frozen b.name b.value) ∙ omega (arith, all, rest)
 
-test_names-length_of : (c : ClassHead) (cs : List ClassHead) (f : Frame) (fs : List Frame) → length (test_names cs fs) ≡ names_in cs → length f.statics ≡ length c.statics → length (test_names (c ∷ cs) (f ∷ fs)) ≡ names_in (c ∷ cs)
+test_names-length_of : (c : ClassHead) (cs : List ClassHead) (f : Frame) (fs : List Frame) → length (test_names cs fs) ≡ names_in cs
+    → length f.statics ≡ length c.statics → length (test_names (c ∷ cs) (f ∷ fs)) ≡ names_in (c ∷ cs)
 test_names-length_of c cs f fs outer own =
     let fields = at_literals Field c.fields in
     length-append (test_names cs fs ++ f.statics) fields

@@ -131,10 +131,12 @@ other_cleared_in (Some (R.Locale l)) x q other = refl
 other_cleared_in (Some (R.File f)) x q other = refl
 other_cleared_in (Some R.Plain) x q other = refl
 
-pub look-other_set : (m : Resources) (k name : List ℕ) (other : Bor (List ℕ)) (text : List ℕ) → bytes_eq other.now name ≡ false → answered (changed_at m k (C.SetProp name text) k) (A.Prop other) ≡ answered (m k) (A.Prop other)
+pub look-other_set : (m : Resources) (k name : List ℕ) (other : Bor (List ℕ)) (text : List ℕ) → bytes_eq other.now name ≡ false
+    → answered (changed_at m k (C.SetProp name text) k) (A.Prop other) ≡ answered (m k) (A.Prop other)
 look-other_set m k name other text apart = ap (λ (o : Option Resource). property_in o other.now) (changed_at-same m k (C.SetProp name text)) ∙ other_set_in (m k) name text other.now apart
 
-pub look-other_cleared : (m : Resources) (k name : List ℕ) (other : Bor (List ℕ)) → bytes_eq other.now name ≡ false → answered (changed_at m k (C.ClearProp name) k) (A.Prop other) ≡ answered (m k) (A.Prop other)
+pub look-other_cleared : (m : Resources) (k name : List ℕ) (other : Bor (List ℕ)) → bytes_eq other.now name ≡ false
+    → answered (changed_at m k (C.ClearProp name) k) (A.Prop other) ≡ answered (m k) (A.Prop other)
 look-other_cleared m k name other apart = ap (λ (o : Option Resource). property_in o other.now) (changed_at-same m k (C.ClearProp name)) ∙ other_cleared_in (m k) name other.now apart
 
 pub ruleset other_properties = (look-other_set, look-other_cleared)

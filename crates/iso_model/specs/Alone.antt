@@ -27,16 +27,19 @@ test_outcome b = record { verdict = verdict b.endings; output = b.lines }
 -- disabled class's does nothing
 abbrev pub after_all : ClassHead → List ClassHead → Opening → State
 after_all c cs o =
-    block (class_rights (c ∷ cs)) (acts_unless c.disabled c.after_all) (environment (statics_of o.frames) 0 (words_of (c ∷ cs) AfterAll)) o.resources
+    block (class_rights (c ∷ cs)) (acts_unless c.disabled c.after_all)
+    (environment (statics_of o.frames) 0 (words_of (c ∷ cs) AfterAll)) o.resources
 
 -- the outcome of a class: `before_all` and then `after_all`, whatever the first did
 abbrev pub class_outcome : List Frame → State → Outcome
 class_outcome [] s = record { verdict = verdict (s.here.ending ∷ []); output = s.here.lines }
-class_outcome (f ∷ fs) s = record { verdict = verdict (f.ending ∷ s.here.ending ∷ []); output = f.lines ++ s.here.lines }
+class_outcome (f ∷ fs) s =
+    record { verdict = verdict (f.ending ∷ s.here.ending ∷ []); output = f.lines ++ s.here.lines }
 
 -- a test, and a class, on these starting values
 abbrev pub test_from : TestHead → List ClassHead → Resources → Outcome
-test_from t cs start = let o = opening cs start in cond o.well (test_outcome (test t cs o)) (barred o.frames)
+test_from t cs start = let o =
+    opening cs start in cond o.well (test_outcome (test t cs o)) (barred o.frames)
 
 abbrev pub class_from : ClassHead → List ClassHead → Resources → Outcome
 class_from c cs start =

@@ -14,4 +14,5 @@ begun env = record { env = record env { steps = BLOCK_STEPS }; lines = []; endin
 
 -- a whole block in its environment; an absent one is an empty one, and changes nothing
 abbrev pub block : Rights → Acts → Environment → Resources → State
-block r acts env m = kept (length env.names) (run r acts (record { here = begun env; resources = m }))
+block r acts env m =
+    kept (length env.names) (run r acts (record { here = begun env; resources = m }))

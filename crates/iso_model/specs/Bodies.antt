@@ -29,7 +29,13 @@ abbrev pub account_of : Body → Account
 account_of b = record { names = b.names; printed = b.printed; lines = b.lines; endings = b.endings }
 
 abbrev pub body_at : Account → Resources → Body
-body_at a m = record { names = a.names; resources = m; printed = a.printed; lines = a.lines; endings = a.endings }
+body_at a m = record {
+  names = a.names;
+  resources = m;
+  printed = a.printed;
+  lines = a.lines;
+  endings = a.endings;
+}
 
 -- a body that has done nothing yet, with these names
 abbrev pub fresh_account : List Binding → Account
@@ -37,7 +43,8 @@ fresh_account names = record { names = names; printed = 0; lines = []; endings =
 
 -- a body of a disabled node, with these names: it has ended where it begins
 abbrev pub disabled_account : List ℕ → List Binding → Account
-disabled_account reason names = record (fresh_account names) { endings = disabled_ending reason ∷ [] }
+disabled_account reason names =
+    record (fresh_account names) { endings = disabled_ending reason ∷ [] }
 
 -- what a body has beside its block under way: the names that the block doesn't see, and the lines
 -- and endings of the blocks before it
@@ -71,7 +78,12 @@ beside_job j a = record { unseen = drop j.seen a.names; lines = a.lines; endings
 -- dropped
 abbrev pub account_after : ℕ → Local → Beside → Account
 account_after n l b =
-    record { names = take n l.env.names ++ b.unseen; printed = l.env.printed; lines = b.lines ++ l.lines; endings = b.endings ++ l.ending ∷ [] }
+    record {
+      names = take n l.env.names ++ b.unseen;
+      printed = l.env.printed;
+      lines = b.lines ++ l.lines;
+      endings = b.endings ++ l.ending ∷ [];
+    }
 
 -- the block goes on while a piece of it is left; then the jobs after it follow
 abbrev pub stage_at : (Account → Stage) → List Piece → Local → ℕ → Beside → List Job → Stage
@@ -99,13 +111,15 @@ stage_unless (Some reason) names js = ended (disabled_account reason names)
 -- the bodies of `before_all`, of a test and of `after_all` at their beginning, on what these
 -- openings left
 abbrev pub opening_stage : ClassHead → List ClassHead → List Frame → Stage
-opening_stage c cs frames = stage_unless c.disabled (opening_names c frames) (before_all_jobs c cs frames)
+opening_stage c cs frames =
+    stage_unless c.disabled (opening_names c frames) (before_all_jobs c cs frames)
 
 abbrev pub test_stage : TestHead → List ClassHead → List Frame → Stage
 test_stage t cs frames = stage_unless t.disabled (test_names cs frames) (test_jobs t cs)
 
 abbrev pub closing_stage : ClassHead → List ClassHead → List Frame → Stage
-closing_stage c cs frames = stage_from (after_all_jobs c cs frames) (fresh_account (statics_of frames))
+closing_stage c cs frames =
+    stage_from (after_all_jobs c cs frames) (fresh_account (statics_of frames))
 
 -- where a body stands once its block stands at this machine
 abbrev pub going_at : Machine → ℕ → Beside → List Job → Going
@@ -165,4 +179,8 @@ first_ending (e ∷ es) = e
 
 -- what an ended `before_all` leaves, after openings that left these frames
 abbrev pub frame_left : List Frame → Body → Frame
-frame_left frames b = record { statics = frozen (drop (length (statics_of frames)) b.names); ending = first_ending b.endings; lines = b.lines }
+frame_left frames b = record {
+  statics = frozen (drop (length (statics_of frames)) b.names);
+  ending = first_ending b.endings;
+  lines = b.lines;
+}

@@ -19,7 +19,16 @@ pub record ClassHead : Type 0 where
 
 -- the head of a class in which nothing but members is written
 abbrev pub empty_head : ClassHead
-empty_head = record { statics = []; fields = []; marks = []; disabled = None; before_all = no_acts; after_all = no_acts; before_each = no_acts; after_each = no_acts }
+empty_head = record {
+  statics = [];
+  fields = [];
+  marks = [];
+  disabled = None;
+  before_all = no_acts;
+  after_all = no_acts;
+  before_each = no_acts;
+  after_each = no_acts;
+}
 
 -- what a test itself has, and why it is disabled, if it is
 pub record TestHead : Type 0 where

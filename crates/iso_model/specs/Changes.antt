@@ -13,7 +13,8 @@ use Rattle.iso_model.specs.declared.resource.Change.{Change}
 -- from some resources to others: none is changed, or one, at a key that the rights let change
 pub data OneChange (r : Rights) (m : Resources) : Resources → Type 0 where
   none : OneChange r m m
-  one : (k : List ℕ) (change : Change) → is_writable (r k) ≡ true → OneChange r m (changed_at m k change)
+  one : (k : List ℕ) (change : Change) → is_writable (r k) ≡ true
+      → OneChange r m (changed_at m k change)
 
 -- the kind of the value at a key, where there is one
 abbrev pub kind_at : Resources → List ℕ → Option Kind

@@ -17,7 +17,8 @@ disabled_ending reason = Assumed (record { message = reason; place = Disabled })
 
 -- a block that is left out since its node is disabled: it prints and changes nothing
 abbrev pub left_out : List ℕ → Environment → Resources → State
-left_out reason env m = record { here = with_ending (disabled_ending reason) (begun env); resources = m }
+left_out reason env m =
+    record { here = with_ending (disabled_ending reason) (begun env); resources = m }
 
 -- a block of a node, which is left out where the node is disabled
 abbrev pub block_unless : Option (List ℕ) → Rights → Acts → Environment → Resources → State

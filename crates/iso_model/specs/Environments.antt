@@ -14,4 +14,5 @@ pub record Environment : Type 0 where
 
 -- the environment of a block at its beginning
 abbrev pub environment : List Binding → ℕ → BlockName → Environment
-environment names printed block = record { names = names; steps = BLOCK_STEPS; printed = printed; block = block }
+environment names printed block =
+    record { names = names; steps = BLOCK_STEPS; printed = printed; block = block }

@@ -28,7 +28,8 @@ pub record Job : Type 0 where
   pub needs_well : Bool
 
 abbrev pub job : BlockName → Acts → ℕ → Bool → Job
-job words acts seen needs_well = record { words = words; acts = acts; seen = seen; needs_well = needs_well }
+job words acts seen needs_well =
+    record { words = words; acts = acts; seen = seen; needs_well = needs_well }
 
 -- whether a job is to be done after blocks that ended so
 abbrev pub is_due : Job → List Ending → Bool
@@ -58,7 +59,13 @@ with_jobs r (j ∷ js) b = with_jobs r js (with_due r j b)
 -- a body of one block, which came to this
 abbrev pub body_of_block : State → Body
 body_of_block s =
-    record { names = s.here.env.names; resources = s.resources; printed = s.here.env.printed; lines = s.here.lines; endings = s.here.ending ∷ [] }
+    record {
+      names = s.here.env.names;
+      resources = s.resources;
+      printed = s.here.env.printed;
+      lines = s.here.lines;
+      endings = s.here.ending ∷ [];
+    }
 
 -- the names that `before_all` of the innermost class begins with: the statics of the enclosing
 -- classes, and its own at their literals
@@ -68,10 +75,12 @@ opening_names c frames = statics_of frames ++ at_literals Static c.statics
 -- `before_all` of the innermost class, which sees all names of its body, and `after_all`, which
 -- sees all statics and has nothing to do where the class is disabled
 abbrev pub before_all_jobs : ClassHead → List ClassHead → List Frame → List Job
-before_all_jobs c cs frames = job (words_of (c ∷ cs) BeforeAll) c.before_all (length (opening_names c frames)) false ∷ []
+before_all_jobs c cs frames =
+    job (words_of (c ∷ cs) BeforeAll) c.before_all (length (opening_names c frames)) false ∷ []
 
 abbrev pub after_all_jobs : ClassHead → List ClassHead → List Frame → List Job
-after_all_jobs c cs frames = job (words_of (c ∷ cs) AfterAll) (acts_unless c.disabled c.after_all) (length (statics_of frames)) false ∷ []
+after_all_jobs c cs frames = job (words_of (c ∷ cs) AfterAll) (acts_unless c.disabled c.after_all)
+    (length (statics_of frames)) false ∷ []
 
 -- `before_each` and `after_each` of the innermost class of a chain, and a test's own block
 abbrev pub before_each_job : ClassHead → List ClassHead → Job

@@ -27,4 +27,5 @@ Rise (e ∷ es) = Follow e.0 es × Rise es
 abbrev pub IsPlace : {V : Type 0} → List (List ℕ × V) → List ℕ → Result ℕ ℕ → Type 0
 IsPlace es k r = MatchResult r
     (λ i. (i < length es) × HoldsAt (λ e. slice_cmp nat_cmp e.0 k ≡ Equal) es i)
-    (λ i. (i ≤ length es) × IsPartitionPoint (λ e. slice_cmp nat_cmp e.0 k ≡ Less) (λ e. slice_cmp nat_cmp e.0 k ≡ Greater) es i)
+    (λ i. (i ≤ length es) × IsPartitionPoint (λ e. slice_cmp nat_cmp e.0 k ≡ Less)
+    (λ e. slice_cmp nat_cmp e.0 k ≡ Greater) es i)

@@ -29,4 +29,5 @@ in_layers layers = flat_map (λ names. names) layers
 pub record IsAt (layers : List (List Binding)) (place layer inside : ℕ) : Type 0 where
   pub before : length (in_layers (take layer layers)) + inside ≡ place
   pub within : layer ≤ length layers
-  pub inside_is : (names : List Binding) → slice_get layers layer ≡ Some names → inside < length names
+  pub inside_is : (names : List Binding) → slice_get layers layer ≡ Some names
+      → inside < length names

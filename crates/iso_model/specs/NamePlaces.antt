@@ -13,7 +13,8 @@ Places = BTreeMap (String Global) ℕ
 -- at each visible name, the map has the place where it stands first; at any other it may have
 -- anything
 abbrev pub Tells : Places → List Binding → Type 0
-Tells places names = (x : List ℕ) → place_of names x < length names → get_by_text places x ≡ Some (place_of names x)
+Tells places names = (x : List ℕ) → place_of names x < length names → get_by_text places x
+    ≡ Some (place_of names x)
 
 -- the same, if there is a map
 abbrev pub TellsWhereMade : Option (Box Places Global) → List Binding → Type 0

@@ -56,7 +56,8 @@ abbrev pub assigned : List Binding → List ℕ → Data → Result (List Bindin
 assigned names x d = assigned_to (binding_of names x) names x d
 
 -- what the answer of an assignment says of the names that it leaves
-abbrev pub assignment : Result (Unit {0}) AssignFault → List ℕ → List Binding → Result (List Binding) Fault
+abbrev pub assignment : Result (Unit {0}) AssignFault → List ℕ → List Binding
+    → Result (List Binding) Fault
 assignment (Ok done) x names = Ok names
 assignment (Err A.UnknownName) x names = Err (F.UnknownName x)
 assignment (Err A.Frozen) x names = Err (F.Frozen x)

@@ -42,13 +42,19 @@ statics_of (f ∷ fs) = statics_of fs ++ f.statics
 -- their literals. A disabled class's is left out.
 abbrev pub before_all : ClassHead → List ClassHead → Opening → State
 before_all c cs o =
-    block_unless c.disabled (class_rights (c ∷ cs)) c.before_all (environment (statics_of o.frames ++ at_literals Static c.statics) 0 (words_of (c ∷ cs) BeforeAll)) o.resources
+    block_unless c.disabled (class_rights (c ∷ cs)) c.before_all
+    (environment (statics_of o.frames ++ at_literals Static c.statics) 0
+    (words_of (c ∷ cs) BeforeAll)) o.resources
 
 -- the opening with the innermost class's `before_all` ended
 abbrev pub opened : Opening → State → Opening
 opened o s =
     record {
-      frames = record { statics = frozen (drop (length (statics_of o.frames)) s.here.env.names); ending = s.here.ending; lines = s.here.lines } ∷ o.frames;
+      frames = record {
+        statics = frozen (drop (length (statics_of o.frames)) s.here.env.names);
+        ending = s.here.ending;
+        lines = s.here.lines;
+      } ∷ o.frames;
       resources = s.resources;
       well = is_well s.here.ending;
     }

@@ -41,7 +41,12 @@ test_head_of h = record (test_contents_of (arc_value h.contents)) { marks = h.ma
 
 -- what a test stands for
 abbrev pub test_of : Test → S.Test
-test_of t = record { name = t.name; display = t.display; mode = t.mode; head = test_head_of (arc_value t.head) }
+test_of t = record {
+  name = t.name;
+  display = t.display;
+  mode = t.mode;
+  head = test_head_of (arc_value t.head);
+}
 
 abbrev pub members_of : List Member → Members
 members_of [] = no_members
@@ -53,7 +58,13 @@ member_step (Member-F.Test t) = test_member (test_of t)
 
 abbrev pub class_step : Class-F Member Class → Class
 class_step c =
-    class (record { name = c.name; display = c.display; mode = c.mode; isolated = c.isolated; head = class_head_of (arc_value c.head) }) (members_of c.members.items)
+    class (record {
+      name = c.name;
+      display = c.display;
+      mode = c.mode;
+      isolated = c.isolated;
+      head = class_head_of (arc_value c.head);
+    }) (members_of c.members.items)
 
 -- what a member of a class stands for
 abbrev pub member_of : M.Member → Member

@@ -84,10 +84,12 @@ followed_by m ps = machine_at (next_point (m.pieces ++ ps) m.state.here) m.state
 -- to do it stays as it is
 abbrev pub step_at : Rights → List Piece → ℕ → State → Machine
 step_at r (rest k (act row a acts) ∷ ps) zero s = machine [] (runs_out row s)
-step_at r (rest k (act row a acts) ∷ ps) (suc n) s = followed_by (begin r row a (locally (with_steps n) s)) (rest k acts ∷ ps)
+step_at r (rest k (act row a acts) ∷ ps) (suc n) s =
+    followed_by (begin r row a (locally (with_steps n) s)) (rest k acts ∷ ps)
 step_at r (turning row (suc t) a ∷ ps) zero s = machine [] (runs_out row s)
 step_at r (turning row (suc t) a ∷ ps) (suc n) s =
-    followed_by (machine (rest (length s.here.env.names) a ∷ []) (locally (with_steps n) s)) (turning row t a ∷ ps)
+    followed_by (machine (rest (length s.here.env.names) a ∷ []) (locally (with_steps n) s))
+    (turning row t a ∷ ps)
 step_at r ps n s = machine ps s
 
 -- one step: it does the first piece that is left, where the block goes on; an ended block stays as

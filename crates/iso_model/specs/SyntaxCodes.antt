@@ -32,15 +32,18 @@ text_tree x = (coded_list coded_ℕ).code x
 pub text-inj : (x y : List ℕ) → text_tree x ≡ text_tree y → x ≡ y
 text-inj x y p = (coded_list coded_ℕ).inj x y p
 
-ap₃ : {A B C D : Type 0} (f : A → B → C → D) {a a' : A} {b b' : B} {c c' : C} → a ≡ a' → b ≡ b' → c ≡ c' → f a b c ≡ f a' b' c'
+ap₃ : {A B C D : Type 0} (f : A → B → C → D) {a a' : A} {b b' : B} {c c' : C} → a ≡ a' → b ≡ b'
+    → c ≡ c' → f a b c ≡ f a' b' c'
 ap₃ f p q r = λ i. f (p i) (q i) (r i)
 
 abbrev mutual
   pub term_tree : Term → Gv
   term_tree (literal d) = gcons (gnum 0) (datum.the_row.coded.code d)
   term_tree (name x) = gcons (gnum 1) (text_tree x)
-  term_tree (chain op t ts) = gcons (gnum 2) (gcons (operator.the_row.coded.code op) (gcons (term_tree t) (terms_tree ts)))
-  term_tree (compare c t u) = gcons (gnum 3) (gcons (comparison.the_row.coded.code c) (gcons (term_tree t) (term_tree u)))
+  term_tree (chain op t ts) =
+      gcons (gnum 2) (gcons (operator.the_row.coded.code op) (gcons (term_tree t) (terms_tree ts)))
+  term_tree (compare c t u) =
+      gcons (gnum 3) (gcons (comparison.the_row.coded.code c) (gcons (term_tree t) (term_tree u)))
   term_tree (call f t) = gcons (gnum 4) (gcons (function.the_row.coded.code f) (term_tree t))
   term_tree locale = gcons (gnum 5) gnil
 
@@ -53,16 +56,23 @@ mutual
   term-inj (literal d) (literal e) p = ap literal (datum.the_row.coded.inj d e (ap rest p))
   term-inj (name x) (name y) p = ap name (text-inj x y (ap rest p))
   term-inj (chain op t ts) (chain or u us) p =
-      ap₃ chain (operator.the_row.coded.inj op or (ap (λ g. first (rest g)) p)) (term-inj t u (ap (λ g. first (rest (rest g))) p)) (terms-inj ts us (ap (λ g. rest (rest (rest g))) p))
+      ap₃ chain (operator.the_row.coded.inj op or (ap (λ g. first (rest g)) p))
+      (term-inj t u (ap (λ g. first (rest (rest g))) p))
+      (terms-inj ts us (ap (λ g. rest (rest (rest g))) p))
   term-inj (compare c t u) (compare d v w) p =
-      ap₃ compare (comparison.the_row.coded.inj c d (ap (λ g. first (rest g)) p)) (term-inj t v (ap (λ g. first (rest (rest g))) p)) (term-inj u w (ap (λ g. rest (rest (rest g))) p))
-  term-inj (call f t) (call h u) p = ap₂ call (function.the_row.coded.inj f h (ap (λ g. first (rest g)) p)) (term-inj t u (ap (λ g. rest (rest g)) p))
+      ap₃ compare (comparison.the_row.coded.inj c d (ap (λ g. first (rest g)) p))
+      (term-inj t v (ap (λ g. first (rest (rest g))) p))
+      (term-inj u w (ap (λ g. rest (rest (rest g))) p))
+  term-inj (call f t) (call h u) p =
+      ap₂ call (function.the_row.coded.inj f h (ap (λ g. first (rest g)) p))
+      (term-inj t u (ap (λ g. rest (rest g)) p))
   term-inj locale locale p = refl
   term-inj x y p = let tags : tag (term_tree x) ≡ tag (term_tree y) = ap tag p in absurd cc
 
   pub terms-inj : (x y : Terms) → terms_tree x ≡ terms_tree y → x ≡ y
   terms-inj no_terms no_terms p = refl
-  terms-inj (term t ts) (term u us) p = ap₂ term (term-inj t u (ap first p)) (terms-inj ts us (ap rest p))
+  terms-inj (term t ts) (term u us) p =
+      ap₂ term (term-inj t u (ap first p)) (terms-inj ts us (ap rest p))
   terms-inj x y p = absurd cc
 
 abbrev pub plain_tree : Plain → Gv
@@ -81,7 +91,9 @@ plain_tree (append_file t u) = gcons (gnum 11) (gcons (term_tree t) (term_tree u
 plain_tree (delete_file t) = gcons (gnum 12) (term_tree t)
 
 -- what stands after the constructor's number: one part, or two
-two : {A B C : Type 0} (f : A → B → C) {a a' : A} {b b' : B} {g h : Gv} → (first (rest g) ≡ first (rest h) → a ≡ a') → (rest (rest g) ≡ rest (rest h) → b ≡ b') → g ≡ h → f a b ≡ f a' b'
+two : {A B C : Type 0} (f : A → B → C) {a a' : A} {b b' : B} {g h : Gv}
+    → (first (rest g) ≡ first (rest h) → a ≡ a') → (rest (rest g) ≡ rest (rest h) → b ≡ b') → g ≡ h
+    → f a b ≡ f a' b'
 two f p q e = ap₂ f (p (ap (λ g. first (rest g)) e)) (q (ap (λ g. rest (rest g)) e))
 
 pub plain-inj : (x y : Plain) → plain_tree x ≡ plain_tree y → x ≡ y
@@ -116,13 +128,17 @@ mutual
   pub act-inj : (x y : Act) → act_tree x ≡ act_tree y → x ≡ y
   act-inj (plain s) (plain r) p = ap plain (plain-inj s r (ap rest p))
   act-inj (choice t a b) (choice u c d) p =
-      ap₃ choice (term-inj t u (ap (λ g. first (rest g)) p)) (acts-inj a c (ap (λ g. first (rest (rest g))) p)) (acts-inj b d (ap (λ g. rest (rest (rest g))) p))
-  act-inj (repeat t a) (repeat u c) p = ap₂ repeat (term-inj t u (ap (λ g. first (rest g)) p)) (acts-inj a c (ap (λ g. rest (rest g)) p))
+      ap₃ choice (term-inj t u (ap (λ g. first (rest g)) p))
+      (acts-inj a c (ap (λ g. first (rest (rest g))) p))
+      (acts-inj b d (ap (λ g. rest (rest (rest g))) p))
+  act-inj (repeat t a) (repeat u c) p = ap₂ repeat (term-inj t u (ap (λ g. first (rest g)) p))
+      (acts-inj a c (ap (λ g. rest (rest g)) p))
   act-inj x y p = let tags : tag (act_tree x) ≡ tag (act_tree y) = ap tag p in absurd cc
 
   pub acts-inj : (x y : Acts) → acts_tree x ≡ acts_tree y → x ≡ y
   acts-inj no_acts no_acts p = refl
-  acts-inj (act n a us) (act m b ws) p = ap₃ act (ap (λ g. number (first g)) p) (act-inj a b (ap (λ g. first (rest g)) p)) (acts-inj us ws (ap (λ g. rest (rest g)) p))
+  acts-inj (act n a us) (act m b ws) p = ap₃ act (ap (λ g. number (first g)) p)
+      (act-inj a b (ap (λ g. first (rest g)) p)) (acts-inj us ws (ap (λ g. rest (rest g)) p))
   acts-inj x y p = absurd cc
 
 abbrev pub acts_code : Coded Acts

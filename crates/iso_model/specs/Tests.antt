@@ -67,16 +67,25 @@ where_well f b = cond (list_all is_well b.endings) (f b) b
 -- the `before_each` blocks, outermost first, until one doesn't end well
 abbrev pub before_each : Rights → List ClassHead → Body → Body
 before_each r [] b = b
-before_each r (c ∷ cs) b = where_well (block_of_test r (words_of (c ∷ cs) BeforeEach) (c ∷ cs) c.before_each) (before_each r cs b)
+before_each r (c ∷ cs) b =
+    where_well (block_of_test r (words_of (c ∷ cs) BeforeEach) (c ∷ cs) c.before_each)
+    (before_each r cs b)
 
 -- the `after_each` blocks, innermost first, each whatever the others did
 abbrev pub after_each : Rights → List ClassHead → Body → Body
 after_each r [] b = b
-after_each r (c ∷ cs) b = after_each r cs (block_of_test r (words_of (c ∷ cs) AfterEach) (c ∷ cs) c.after_each b)
+after_each r (c ∷ cs) b =
+    after_each r cs (block_of_test r (words_of (c ∷ cs) AfterEach) (c ∷ cs) c.after_each b)
 
 -- a test at its beginning, on what the opening of its chain left
 abbrev pub begun_test : List ClassHead → Opening → Body
-begun_test cs o = record { names = test_names cs o.frames; resources = o.resources; printed = 0; lines = []; endings = [] }
+begun_test cs o = record {
+  names = test_names cs o.frames;
+  resources = o.resources;
+  printed = 0;
+  lines = [];
+  endings = [];
+}
 
 -- all blocks of a test, which have the rights of the whole chain
 abbrev pub blocks_of_test : TestHead → List ClassHead → Body → Body

@@ -32,7 +32,10 @@ impl Model for Bindings {
 
     ghost view = { λ b. in_layers b.layers.items ++ b.own };
 
-    ghost invariant = { λ b. record { counted : b.outer ≡ length (in_layers b.layers.items); fits : b.outer + length b.own < 2 ^ 64 } };
+    ghost invariant = { λ b. record {
+      counted : b.outer ≡ length (in_layers b.layers.items);
+      fits : b.outer + length b.own < 2 ^ 64;
+    } };
 }
 
 impl Bindings {

@@ -8,7 +8,8 @@ use std::collections::BTreeSet;
 /// Adds a name to those seen, and answers whether it is new.
 pub fn claim<'a>(seen: &mut BTreeSet<&'a str>, name: &'a str) -> Result<bool, AllocError>
     ensures { (names : List (List ℕ)) → Knows seen.old names
-        → IfOk result (λ fresh. (fresh ≡ not (is_among names name.now)) × Knows seen.new (names ++ name.now ∷ [])) }
+        → IfOk result (λ fresh. (fresh ≡ not (is_among names name.now))
+        × Knows seen.new (names ++ name.now ∷ [])) }
 {
     Ok(seen.insert(name)?)
 }

@@ -77,7 +77,8 @@ impl<V: Copy + Drop> KeyMap<V> {
 
     /// Gives a key a value, in place of the one that it had.
     pub fn set(&mut self, key: Key, value: V) -> Result<(), AllocError>
-        ensures ok { OnOk result ((k : List ℕ) → value_in self.new k ≡ cond (bytes_eq k key) (Some value) (value_in self.old k)) }
+        ensures ok { OnOk result ((k : List ℕ) → value_in self.new k
+            ≡ cond (bytes_eq k key) (Some value) (value_in self.old k)) }
         ensures err { OnErr result (self.new ≡ self.old) }
     {
         match place_of(&self.entries, &key) {

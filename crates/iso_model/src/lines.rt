@@ -100,7 +100,8 @@ impl<'a> LineSlice<'a> {
 
     /// The bytes of the first line, which are a text, and the lines after it.
     pub fn split_first(self) -> Option<(&'a [u8], LineSlice<'a>)>
-        ensures { MatchOption result (lines_in self.entry ≡ []) (λ p. lines_in self.entry ≡ p.0.now ∷ lines_in p.1) }
+        ensures { MatchOption result (lines_in self.entry ≡ [])
+            (λ p. lines_in self.entry ≡ p.0.now ∷ lines_in p.1) }
     {
         let end = self.bytes.iter().position(|byte| *byte == LINE_END)?;
         let (line, rest) = (&self.bytes[..end], &self.bytes[end + 1..]);

@@ -28,7 +28,8 @@ impl Memory {
 
     /// A resource more, or another value for one that is there.
     pub fn hold(&mut self, key: Key, value: Resource) -> Result<(), AllocError>
-        ensures ok { OnOk result ((k : List ℕ) → held self.new k ≡ cond (bytes_eq k key) (Some value) (held self.old k)) }
+        ensures ok { OnOk result ((k : List ℕ) → held self.new k
+            ≡ cond (bytes_eq k key) (Some value) (held self.old k)) }
         ensures err { OnErr result (held self.new ≡ held self.old) }
     {
         self.slots.insert(0, (key, value))?;

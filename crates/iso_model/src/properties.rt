@@ -76,7 +76,8 @@ impl Properties {
     /// Whether the other map has each property of this one, with the same text.
     fn is_within(&self, other: &Properties) -> bool
         ensures { IsTrue result
-            ↔ ((name text : List ℕ) → map.get self.now name ≡ Some text → map.get other.now name ≡ Some text) }
+            ↔ ((name text : List ℕ) → map.get self.now name ≡ Some text → map.get other.now name
+            ≡ Some text) }
     {
         'entries: for (name, text) in self.entries.iter() {
             let Some(found) = other.get(name.as_str()) else {

@@ -126,7 +126,8 @@ impl Rights {
 
     /// The rights of a child of a class with these rights, where these are the child's own marks.
     pub fn within(&self, alloc: Global, marks: &[Mark]) -> Result<Rights, AllocError>
-        ensures { IfOk result (λ r. (k : List ℕ) → access_in r k ≡ strongest (rights_of marks.now k) (access_in self.now k)) }
+        ensures { IfOk result (λ r. (k : List ℕ)
+            → access_in r k ≡ strongest (rights_of marks.now k) (access_in self.now k)) }
     {
         let layer = Layer::of_marks(alloc, self, marks)?;
         let mut layers = Vec::with_capacity(alloc, self.layers.len() + 1)?;

@@ -22,13 +22,15 @@ pub trait Touch {
     /// The text that is asked for, or `None` where the property is absent or the file missing.
     fn look(&self, key: ResourceKey<'_>, ask: Ask<'_>) -> Option<&str>
         requires { HasKind (content self.now (spelling key)) (kind_of_ask ask) }
-        ensures { option_copied result ≡ answered (content self.now (spelling key.entry)) ask.entry };
+        ensures { option_copied result ≡ answered
+            (content self.now (spelling key.entry)) ask.entry };
 
     /// Changes the value of one key. Once out of memory nothing is changed.
     fn change(&mut self, key: ResourceKey<'_>, change: Change) -> Result<(), AllocError>
         requires kind { HasKind (content self.old (spelling key)) (kind_of_change change) }
         requires writes { writes self.old (spelling key) ≡ true }
-        ensures ok { OnOk result (content self.new ≡ changed_at (content self.old) (spelling key.entry) change) }
+        ensures ok { OnOk result (content self.new
+            ≡ changed_at (content self.old) (spelling key.entry) change) }
         ensures err { OnErr result (content self.new ≡ content self.old) }
         ensures goes_on { goes_on self.old self.new };
 

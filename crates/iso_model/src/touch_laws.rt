@@ -38,10 +38,13 @@ pub fn changed_value_is_looked_at()
 /// Setting or clearing one property leaves what is looked at in the others.
 #[tactic(auto, using(crate::proofs::TouchLemmas::other_properties))]
 pub fn change_leaves_the_other_properties()
-    ensures set { (m : Resources) (k : List ℕ) (name : List ℕ) (other : Bor (List ℕ)) (text : List ℕ)
+    ensures set { (m : Resources) (k : List ℕ) (name : List ℕ) (other : Bor (List ℕ))
+        (text : List ℕ)
         → bytes_eq other.now name ≡ false
-        → answered (changed_at m k (Changes.SetProp name text) k) (Asks.Prop other) ≡ answered (m k) (Asks.Prop other) }
+        → answered (changed_at m k (Changes.SetProp name text) k) (Asks.Prop other)
+        ≡ answered (m k) (Asks.Prop other) }
     ensures cleared { (m : Resources) (k : List ℕ) (name : List ℕ) (other : Bor (List ℕ))
         → bytes_eq other.now name ≡ false
-        → answered (changed_at m k (Changes.ClearProp name) k) (Asks.Prop other) ≡ answered (m k) (Asks.Prop other) }
+        → answered (changed_at m k (Changes.ClearProp name) k) (Asks.Prop other)
+        ≡ answered (m k) (Asks.Prop other) }
 {}

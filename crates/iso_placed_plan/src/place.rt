@@ -20,7 +20,8 @@ pub(crate) fn place_field<W: Sink>(
     names: &[&str],
     node: u32,
 ) -> Result<(), SinkFailed>
-    ensures { Prints printer.old printer.new (place_field (texts_of names.now) (site_at sites.now node)) result }
+    ensures { Prints printer.old printer.new
+        (place_field (texts_of names.now) (site_at sites.now node)) result }
 {
     match sites.site(node) {
         Some(site) => {

@@ -26,7 +26,8 @@ pub fn write_placed_plan<W: Sink>(
     sink: &mut W,
 ) -> Result<(), TapFault>
     ensures { Writes (W.account sink.old) (W.account sink.new)
-        (placed_plan_text (tree_of plan.now) plan.now.settings workers sites.now (texts_of names.now)) result }
+        (placed_plan_text (tree_of plan.now) plan.now.settings workers sites.now
+        (texts_of names.now)) result }
 {
     let mut printer = Printer::new(sink);
     match placed_plan(&mut printer, plan, workers, sites, names) {
@@ -47,7 +48,8 @@ pub fn write_placed_tests<W: Sink>(
     sink: &mut W,
 ) -> Result<(), TapFault>
     ensures { Writes (W.account sink.old) (W.account sink.new)
-        (placed_tests_text (tree_of plan.now) plan.now.settings sites.now (texts_of names.now)) result }
+        (placed_tests_text (tree_of plan.now) plan.now.settings sites.now
+        (texts_of names.now)) result }
 {
     let mut printer = Printer::new(sink);
     match tests(&mut printer, plan, sites, names) {
@@ -67,7 +69,8 @@ fn placed_plan<W: Sink>(
     names: &[&str],
 ) -> Result<(), SinkFailed>
     ensures { Prints printer.old printer.new
-        (placed_plan_text (tree_of plan.now) plan.now.settings workers sites.now (texts_of names.now)) result }
+        (placed_plan_text (tree_of plan.now) plan.now.settings workers sites.now
+        (texts_of names.now)) result }
 {
     printer.pieces(&[
         Piece::Plain(b"workers "),
@@ -102,7 +105,8 @@ fn tests<W: Sink>(
     names: &[&str],
 ) -> Result<(), SinkFailed>
     ensures { Prints printer.old printer.new
-        (placed_tests_text (tree_of plan.now) plan.now.settings sites.now (texts_of names.now)) result }
+        (placed_tests_text (tree_of plan.now) plan.now.settings sites.now
+        (texts_of names.now)) result }
 {
     'nodes: for node in 1..plan.len() {
         test(printer, plan, sites, names, node)?;
@@ -121,7 +125,8 @@ fn test<W: Sink>(
     requires above { 0 < node }
     requires within { node < length plan.now.rows }
     ensures { Prints printer.old printer.new
-        (placed_test_line (tree_of plan.now) plan.now.settings sites.now (texts_of names.now) node) result }
+        (placed_test_line (tree_of plan.now) plan.now.settings sites.now
+        (texts_of names.now) node) result }
 {
     if plan.is_test(node) {
         line(printer, plan, sites, names, node)?;
@@ -140,7 +145,8 @@ pub fn line<W: Sink>(
     requires above { 0 < node }
     requires within { node < length plan.now.rows }
     ensures { Prints printer.old printer.new
-        (placed_line (tree_of plan.now) plan.now.settings sites.now (texts_of names.now) node) result }
+        (placed_line (tree_of plan.now) plan.now.settings sites.now
+        (texts_of names.now) node) result }
 {
     printer.node_fields(plan, node)?;
     place_field(printer, sites, names, node)?;

@@ -16,14 +16,17 @@ test_count : {marks : Marks} {n : List ℕ} {at : Position} {t : Test} {places :
 test_count (a_test h k) = refl
 
 mutual
-  member_count : {d : ℕ} {taken : List (List ℕ)} {m : Member} {places : List NodePlace} {ps qs : List Piece} (parent n : ℕ) → IsMember d taken m places ps qs → length places ≡ length (member_rows parent n m)
+  member_count : {d : ℕ} {taken : List (List ℕ)} {m : Member} {places : List NodePlace} {ps qs : List Piece} (parent n : ℕ)
+      → IsMember d taken m places ps qs → length places ≡ length (member_rows parent n m)
   member_count parent n (as_test h fits t) = test_count t
   member_count parent n (as_class h c) = class_count parent n c
 
-  class_count : {d : ℕ} {taken : List (List ℕ)} {marks : Marks} {name : List ℕ} {at : Position} {c : Class} {places : List NodePlace} {ps qs : List Piece} (parent n : ℕ) → IsClass d taken marks name at c places ps qs → length places ≡ length (class_rows parent n c)
+  class_count : {d : ℕ} {taken : List (List ℕ)} {marks : Marks} {name : List ℕ} {at : Position} {c : Class} {places : List NodePlace} {ps qs : List Piece} (parent n : ℕ)
+      → IsClass d taken marks name at c places ps qs → length places ≡ length (class_rows parent n c)
   class_count parent n (a_class h v b (has_members ms some distinct)) = ap suc (members_count n (n + 1) ms)
 
-  members_count : {d : ℕ} {taken : List (List ℕ)} {ms : Members} {places : List NodePlace} {ps qs : List Piece} (parent n : ℕ) → IsMembers d taken ms places ps qs → length places ≡ length (members_rows parent n ms)
+  members_count : {d : ℕ} {taken : List (List ℕ)} {ms : Members} {places : List NodePlace} {ps qs : List Piece} (parent n : ℕ)
+      → IsMembers d taken ms places ps qs → length places ≡ length (members_rows parent n ms)
   members_count parent n closed = refl
   members_count parent n (and_then {m = m} {ms = ms} {own = own} {more = more} h hs) =
       let first = member_rows parent n m in

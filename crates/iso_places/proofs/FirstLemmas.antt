@@ -27,7 +27,8 @@ unlike a b apart = elim (bytes_eq b a) as (λ (t : Bool). bytes_eq b a ≡ t →
 
 module _ (test : List ℕ → Bool) where
   -- the first entry that passes is found
-  first_at : (es : List (List ℕ × Site)) (i : ℕ) (d : List ℕ × Site) → i < length es → test (get_or es i d).0 ≡ true → ((k : ℕ) → k < i → test (get_or es k d).0 ≡ false) → lookup test es ≡ Some (get_or es i d).1
+  first_at : (es : List (List ℕ × Site)) (i : ℕ) (d : List ℕ × Site) → i < length es → test (get_or es i d).0 ≡ true
+      → ((k : ℕ) → k < i → test (get_or es k d).0 ≡ false) → lookup test es ≡ Some (get_or es i d).1
   first_at [] i d h passes others = absurd (omega arith)
   first_at (e ∷ es) zero d h passes others = ap (λ (t : Bool). cond t (Some e.1) (lookup test es)) passes
   first_at (e ∷ es) (suc i) d h passes others =

@@ -80,7 +80,8 @@ pub rooted : (scripts : List Script) → 0 < length (tree scripts)
 rooted scripts = omega arith
 
 -- a path that is missing refuses the plan
-refuses : (scripts : List Script) (all : List Site) (plan : List Row) (e : LocateError) → 0 < length plan → IsMissing (zip (node_paths (tree scripts)) all) (node_paths plan) e → IsRefusal scripts all plan e
+refuses : (scripts : List Script) (all : List Site) (plan : List Row) (e : LocateError) → 0 < length plan
+    → IsMissing (zip (node_paths (tree scripts)) all) (node_paths plan) e → IsRefusal scripts all plan e
 refuses scripts all plan NoPlace some missing = inr (stranger (tree scripts) all plan some missing)
 refuses scripts all plan OutOfMemory some missing = tt
 

@@ -46,7 +46,9 @@ brace_line (B.Class lines) (Class depth kind) = line_at (lifecycle_line lines ki
 -- the line of a row of a block of the node that stands here: row 1 is on the line of the opening
 -- brace
 abbrev pub line_of_row : BlockName → ℕ → Site → Option ScriptLine
-line_of_row block row site = option_map (λ brace. record { script = site.script; line = brace + row - 1 }) (brace_line site.place.blocks block)
+line_of_row block row site =
+    option_map (λ brace. record { script = site.script; line = brace + row - 1 })
+    (brace_line site.place.blocks block)
 
 -- the line of a node's name
 abbrev pub line_of_name : Site → ScriptLine
@@ -55,5 +57,6 @@ line_of_name site = record { script = site.script; line = site.place.name.line }
 -- the line of what a report says of a node: that of the row of the block, or of the name of a
 -- disabled node
 abbrev pub end_line : List T.Row → List Site → ℕ → Place → Option ScriptLine
-end_line tree sites n (Row block row) = option_and_then (line_of_row block row) (option_and_then (site_at sites) (node_of_block tree n block))
+end_line tree sites n (Row block row) = option_and_then (line_of_row block row)
+    (option_and_then (site_at sites) (node_of_block tree n block))
 end_line tree sites n Disabled = option_map line_of_name (site_at sites n)

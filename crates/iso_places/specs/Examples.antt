@@ -11,7 +11,8 @@ use Rattle.iso_script.specs.declared.place.NodePlace.{NodePlace}
 -- nodes 1 to 4 of two scripts, one with class A { test t { } } of team shop, one with the same of
 -- team bank: A, t, A, t
 abbrev pub two_scripts : List Row
-two_scripts = tree (shop (plain (codes "A") ∷ []) ∷ record { team = codes "bank"; classes = plain (codes "A") ∷ [] } ∷ [])
+two_scripts = tree (shop (plain (codes "A") ∷ [])
+    ∷ record { team = codes "bank"; classes = plain (codes "A") ∷ [] } ∷ [])
 
 -- the places of the nodes of each script
 abbrev pub first_places : List NodePlace
@@ -32,7 +33,8 @@ twice_named = tree (shop (plain (codes "A") ∷ plain (codes "A") ∷ []) ∷ []
 abbrev pub desk_sites : List Site
 desk_sites =
     all_sites (
-    (class_at 2 7 0 0 0 0 ∷ test_at 3 8 3 ∷ test_at 5 8 5 ∷ class_at 10 7 12 0 15 0 ∷ test_at 20 8 20 ∷ class_at 25 16 26 0 0 0 ∷ test_at 30 8 32 ∷ []) ∷ [])
+    (class_at 2 7 0 0 0 0 ∷ test_at 3 8 3 ∷ test_at 5 8 5 ∷ class_at 10 7 12 0 15 0
+    ∷ test_at 20 8 20 ∷ class_at 25 16 26 0 0 0 ∷ test_at 30 8 32 ∷ []) ∷ [])
 
 -- a line of a script
 abbrev pub line_in : (script line : ℕ) → ScriptLine

@@ -4,7 +4,8 @@ use Rattle.std.specs.Prelude.{ℕ, ◌+◌, List, [], ◌∷◌, ◌==◌, cond}
 -- the places behind the line feeds of a text that begins at a place
 abbrev pub starts_from : (place : ℕ) → List ℕ → List ℕ
 starts_from place [] = []
-starts_from place (b ∷ bs) = cond (b == 10) ((place + 1) ∷ starts_from (place + 1) bs) (starts_from (place + 1) bs)
+starts_from place (b ∷ bs) =
+    cond (b == 10) ((place + 1) ∷ starts_from (place + 1) bs) (starts_from (place + 1) bs)
 
 -- where the lines of a text start: at its beginning, and behind each line feed
 abbrev pub line_starts : List ℕ → List ℕ

@@ -22,7 +22,8 @@ pub fn lines_count_from_one()
     ensures past { source_line (codes "a" ++ 10 ∷ codes "b") 3 ≡ [] }
     ensures zero { source_line (codes "a" ++ 10 ∷ codes "b") 0 ≡ [] }
     ensures carriage { source_line (codes "a" ++ 13 ∷ 10 ∷ codes "b") 1 ≡ codes "a" }
-    ensures within { source_line (codes "a" ++ 13 ∷ codes "b" ++ 10 ∷ []) 1 ≡ codes "a" ++ 13 ∷ codes "b" }
+    ensures within { source_line (codes "a" ++ 13 ∷ codes "b" ++ 10 ∷ []) 1
+        ≡ codes "a" ++ 13 ∷ codes "b" }
     ensures empty { source_line (10 ∷ 10 ∷ codes "c") 2 ≡ [] }
     ensures after { source_line (10 ∷ 10 ∷ codes "c") 3 ≡ codes "c" }
 {}
@@ -49,14 +50,18 @@ pub fn sites_stand_script_after_script()
 /// plan of some of them.
 #[tactic(auto, unfolding(iso_plan::specs::Paths::path))]
 pub fn nodes_are_found_by_their_paths()
-    ensures first { site_by_path two_scripts two_sites (codes "shop.A.t") ≡ Some (site_in 0 (test_at 3 8 3)) }
-    ensures second { site_by_path two_scripts two_sites (codes "bank.A.t") ≡ Some (site_in 1 (test_at 2 6 4)) }
+    ensures first { site_by_path two_scripts two_sites (codes "shop.A.t")
+        ≡ Some (site_in 0 (test_at 3 8 3)) }
+    ensures second { site_by_path two_scripts two_sites (codes "bank.A.t")
+        ≡ Some (site_in 1 (test_at 2 6 4)) }
     ensures unknown { site_by_path two_scripts two_sites (codes "bank.A.u") ≡ None }
     ensures root { site_by_path two_scripts two_sites [] ≡ None }
     ensures kept { let part = selection two_scripts (codes "bank.A" ∷ []) in
         site_by_path two_scripts two_sites (path_text part 2) ≡ Some (site_in 1 (test_at 2 6 4)) }
-    ensures short { site_by_path two_scripts (all_sites (first_places ∷ [])) (codes "bank.A") ≡ None }
-    ensures twice { site_by_path twice_named two_sites (codes "shop.A.t") ≡ Some (site_in 0 (test_at 3 8 3)) }
+    ensures short { site_by_path two_scripts (all_sites (first_places ∷ []))
+        (codes "bank.A") ≡ None }
+    ensures twice { site_by_path twice_named two_sites (codes "shop.A.t")
+        ≡ Some (site_in 0 (test_at 3 8 3)) }
 {}
 
 /// Row 1 is on the line of the opening brace, wherever the name stands.
@@ -74,11 +79,16 @@ pub fn rows_count_from_the_brace()
 /// A class block is that of the class of the node's path at this depth, of the kind that is told.
 #[tactic(auto, unfolding(iso_plan::specs::Paths::path))]
 pub fn class_blocks_are_found_by_depth()
-    ensures top { end_line cart_and_desk desk_sites 7 (Row (N.Class 1 BeforeAll) 2) ≡ Some (line_in 0 13) }
-    ensures inner { end_line cart_and_desk desk_sites 7 (Row (N.Class 2 BeforeAll) 2) ≡ Some (line_in 0 27) }
-    ensures kind { end_line cart_and_desk desk_sites 7 (Row (N.Class 1 BeforeEach) 2) ≡ Some (line_in 0 16) }
-    ensures itself { end_line cart_and_desk desk_sites 4 (Row (N.Class 1 BeforeAll) 1) ≡ Some (line_in 0 12) }
-    ensures outer { end_line cart_and_desk desk_sites 6 (Row (N.Class 1 BeforeAll) 1) ≡ Some (line_in 0 12) }
+    ensures top { end_line cart_and_desk desk_sites 7 (Row (N.Class 1 BeforeAll) 2)
+        ≡ Some (line_in 0 13) }
+    ensures inner { end_line cart_and_desk desk_sites 7 (Row (N.Class 2 BeforeAll) 2)
+        ≡ Some (line_in 0 27) }
+    ensures kind { end_line cart_and_desk desk_sites 7 (Row (N.Class 1 BeforeEach) 2)
+        ≡ Some (line_in 0 16) }
+    ensures itself { end_line cart_and_desk desk_sites 4 (Row (N.Class 1 BeforeAll) 1)
+        ≡ Some (line_in 0 12) }
+    ensures outer { end_line cart_and_desk desk_sites 6 (Row (N.Class 1 BeforeAll) 1)
+        ≡ Some (line_in 0 12) }
     ensures depth { node_at_depth cart_and_desk 7 2 ≡ Some 6 }
 {}
 

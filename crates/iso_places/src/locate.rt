@@ -30,8 +30,10 @@ pub fn locate(
     places: &[Vec<NodePlace>],
     plan: &Plan,
 ) -> Result<Sites, LocateError>
-    ensures found { IfOk result (AreSites (tree (map script_of scripts.now)) (all_sites (places_in places.now)) (tree_of plan.now)) }
-    ensures refused { IfErr result (IsRefusal (map script_of scripts.now) (all_sites (places_in places.now)) (tree_of plan.now)) }
+    ensures found { IfOk result (AreSites (tree (map script_of scripts.now))
+        (all_sites (places_in places.now)) (tree_of plan.now)) }
+    ensures refused { IfErr result (IsRefusal (map script_of scripts.now)
+        (all_sites (places_in places.now)) (tree_of plan.now)) }
 {
     nodes_are_a_tree(plan);
     let nodes = look_over(alloc, scripts)?;

@@ -65,8 +65,10 @@ pub(crate) fn sites_of(
     paths: &[Text],
 ) -> Result<Sites, LocateError>
     ensures found { (entries : List (List ℕ × Site)) → FindsBy table.now entries
-        → IfOk result (λ sites. map Some sites ≡ map (λ path. lookup (bytes_eq path) entries) paths.now) }
-    ensures missing { (entries : List (List ℕ × Site)) → FindsBy table.now entries → IfErr result (IsMissing entries paths.now) }
+        → IfOk result (λ sites. map Some sites
+        ≡ map (λ path. lookup (bytes_eq path) entries) paths.now) }
+    ensures missing { (entries : List (List ℕ × Site)) → FindsBy table.now entries
+        → IfErr result (IsMissing entries paths.now) }
 {
     let mut sites = Vec::with_capacity(alloc, paths.len())?;
     'paths: for path in paths {

@@ -31,7 +31,8 @@ at_push tree m l i here ih h =
           rw (get_or_push before l 0 i last) (record { positive = live_from l parts.0; within = omega arith; parent_is = eq_from (parent tree l) m parts.1 })
     ]
 
-child_by : (tree : List Row) (m l i : ℕ) → (t : Bool) → not (is_root l) && parent tree l == m ≡ t → ((j : ℕ) → j < length (children_below tree m l) → IsChild tree m l (get_or (children_below tree m l) j 0))
+child_by : (tree : List Row) (m l i : ℕ) → (t : Bool) → not (is_root l) && parent tree l == m ≡ t
+    → ((j : ℕ) → j < length (children_below tree m l) → IsChild tree m l (get_or (children_below tree m l) j 0))
     → i < length (cond t (children_below tree m l ++ l ∷ []) (children_below tree m l)) → IsChild tree m (suc l) (get_or (cond t (children_below tree m l ++ l ∷ []) (children_below tree m l)) i 0)
 child_by tree m l i true here ih h = at_push tree m l i here ih h
 child_by tree m l i false here ih h = further tree m l (get_or (children_below tree m l) i 0) (ih i h)

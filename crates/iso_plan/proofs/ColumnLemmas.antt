@@ -43,7 +43,9 @@ column-from f xs n l each =
 pub row-at : (rows : List Row) (n : ℕ) (d : Row) → n < length rows → row_at (map row_of rows) n ≡ row_of (get_or rows n d)
 row-at rows n d h = get_or-map row_of rows n d root_row h
 
-children_by : (tree : List T.Row) (xs : List (List ℕ)) (p n m : ℕ) (s : List ℕ) → p < length xs → 0 < n → parent tree n ≡ p → s ≡ get_or xs p [] ++ n ∷ [] → get_or xs m [] ≡ children_below tree m n → (t : Bool) → (p == m) ≡ t → get_or (set xs p s) m [] ≡ cond (not (is_root n) && parent tree n == m) (children_below tree m n ++ n ∷ []) (children_below tree m n)
+children_by : (tree : List T.Row) (xs : List (List ℕ)) (p n m : ℕ) (s : List ℕ) → p < length xs → 0 < n → parent tree n ≡ p → s ≡ get_or xs p [] ++ n ∷ []
+    → get_or xs m [] ≡ children_below tree m n → (t : Bool) → (p == m) ≡ t
+    → get_or (set xs p s) m [] ≡ cond (not (is_root n) && parent tree n == m) (children_below tree m n ++ n ∷ []) (children_below tree m n)
 children_by tree xs p n m s h pos at new old true e =
     let same : p ≡ m = eq_from p m e in
     let live : is_root n ≡ false = not-root n pos in
@@ -56,7 +58,8 @@ children_by tree xs p n m s h pos at new old false e =
     rw (live, at, e) (left ∙ old)
 
 -- a node more among the children of the one that it stands in
-pub children-next : (tree : List T.Row) (xs : List (List ℕ)) (p n m : ℕ) (s : List ℕ) → p < length xs → 0 < n → parent tree n ≡ p → s ≡ get_or xs p [] ++ n ∷ [] → get_or xs m [] ≡ children_below tree m n → get_or (set xs p s) m [] ≡ children_below tree m (n + 1)
+pub children-next : (tree : List T.Row) (xs : List (List ℕ)) (p n m : ℕ) (s : List ℕ) → p < length xs → 0 < n → parent tree n ≡ p
+    → s ≡ get_or xs p [] ++ n ∷ [] → get_or xs m [] ≡ children_below tree m n → get_or (set xs p s) m [] ≡ children_below tree m (n + 1)
 children-next tree xs p n m s h pos at new old = rw add-one (children_by tree xs p n m s h pos at new old (p == m) refl)
 
 -- the node that a row of a slice stands in

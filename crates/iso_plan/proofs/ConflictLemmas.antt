@@ -39,7 +39,8 @@ passed j i (None ∷ rest) b ms h = passed j (suc i) rest b ms (omega arith)
 passed j i (Some a ∷ rest) b ms h =
     ap₂ (λ (p q : Bool). p || q) (shares-past (record { key = i; access = a }) j b ms h) (passed j (suc i) rest b ms (omega arith))
 
-first : (j : ℕ) (a b : Option Access) (ls ms : List Lock) → ((x : Access) → shares (record { key = j; access = x }) ms ≡ false) → conflicts ls (lock_of j b ++ ms) ≡ conflicts ls ms → conflicts (lock_of j a ++ ls) (lock_of j b ++ ms) ≡ (exclude a b || conflicts ls ms)
+first : (j : ℕ) (a b : Option Access) (ls ms : List Lock) → ((x : Access) → shares (record { key = j; access = x }) ms ≡ false)
+    → conflicts ls (lock_of j b ++ ms) ≡ conflicts ls ms → conflicts (lock_of j a ++ ls) (lock_of j b ++ ms) ≡ (exclude a b || conflicts ls ms)
 first j None b ls ms above past = past
 first j (Some a) None ls ms above past = ap (λ (s : Bool). s || conflicts ls ms) (above a)
 first j (Some a) (Some b) ls ms above past =

@@ -16,7 +16,8 @@ record Common (tree : List Row) (m n : ℕ) : Type 0 where
   left : is_readable (taken tree m key) ≡ true
   right : is_readable (taken tree n key) ≡ true
 
-common_by : (tree : List Row) (m n : ℕ) (k : List ℕ) → (b : Bool) → exclude (taken tree m k) (taken tree n k) ≡ b → (rest : Bool) → (b || rest) ≡ true → (rest ≡ true → Common tree m n) → Common tree m n
+common_by : (tree : List Row) (m n : ℕ) (k : List ℕ) → (b : Bool) → exclude (taken tree m k) (taken tree n k) ≡ b
+    → (rest : Bool) → (b || rest) ≡ true → (rest ≡ true → Common tree m n) → Common tree m n
 common_by tree m n k true e rest h ih =
     let r = excluded (taken tree m k) (taken tree n k) e in
     record { key = k; left = r.0; right = r.1 }

@@ -363,7 +363,8 @@ takers-more tree held a k n h fits there =
     ∙ ap (λ (b : Bool). takers tree (set held n false) a k + cond (b && takes_in a k (locks tree n)) 1 0) there
 
 -- the counts when a node is held besides
-pub counted-more : (tree : List Row) (held : List Bool) (uses : List KeyUse) (n : ℕ) → n < length tree → RiseFrom 0 (locks tree n) → AllByRecursion (λ (l : Lock). l.key < length uses) (locks tree n) → is_held held n ≡ false
+pub counted-more : (tree : List Row) (held : List Bool) (uses : List KeyUse) (n : ℕ) → n < length tree
+    → RiseFrom 0 (locks tree n) → AllByRecursion (λ (l : Lock). l.key < length uses) (locks tree n) → is_held held n ≡ false
     → AreCounted tree held uses → AreCounted tree (set held n true) (added (locks tree n) uses)
 counted-more tree held uses n h rise known free c =
     record {
@@ -381,7 +382,8 @@ back : (x y b : ℕ) → x ≡ y + b → x - b ≡ y
 back x y b e = omega arith
 
 -- the counts when a node is held no longer
-pub counted-less : (tree : List Row) (held : List Bool) (uses : List KeyUse) (n : ℕ) → n < length tree → RiseFrom 0 (locks tree n) → AllByRecursion (λ (l : Lock). l.key < length uses) (locks tree n) → is_held held n ≡ true
+pub counted-less : (tree : List Row) (held : List Bool) (uses : List KeyUse) (n : ℕ) → n < length tree
+    → RiseFrom 0 (locks tree n) → AllByRecursion (λ (l : Lock). l.key < length uses) (locks tree n) → is_held held n ≡ true
     → AreCounted tree held uses → AreCounted tree (set held n false) (removed (locks tree n) uses)
 counted-less tree held uses n h rise known there c =
     record {
@@ -401,7 +403,8 @@ known-locks tree uses n e =
     subst (λ (k : ℕ). AllByRecursion (λ (l : Lock). l.key < k) (locks tree n)) (sym e) (recursion_from_All (λ (l : Lock). l.key < length (keys tree)) (locks tree n) (locks-known tree n))
 
 -- numbers of nodes have room
-pub room : (tree : List Row) (held : List Bool) (uses : List KeyUse) (ls : List Lock) → RiseFrom 0 ls → AllByRecursion (λ (l : Lock). l.key < length uses) ls → length tree < 2 ^ 63 → AreCounted tree held uses → CanAdd ls uses
+pub room : (tree : List Row) (held : List Bool) (uses : List KeyUse) (ls : List Lock) → RiseFrom 0 ls
+    → AllByRecursion (λ (l : Lock). l.key < length uses) ls → length tree < 2 ^ 63 → AreCounted tree held uses → CanAdd ls uses
 room tree held uses ls rise known few c =
     can-add ls uses 0 rise known (λ a k low w.
     let e = c.counts a k w in
@@ -410,7 +413,8 @@ room tree held uses ls rise known few c =
     omega arith)
 
 -- what a held node takes is counted
-pub there : (tree : List Row) (held : List Bool) (uses : List KeyUse) (n : ℕ) → n < length tree → RiseFrom 0 (locks tree n) → AllByRecursion (λ (l : Lock). l.key < length uses) (locks tree n) → is_held held n ≡ true → AreCounted tree held uses → CanRemove (locks tree n) uses
+pub there : (tree : List Row) (held : List Bool) (uses : List KeyUse) (n : ℕ) → n < length tree → RiseFrom 0 (locks tree n)
+    → AllByRecursion (λ (l : Lock). l.key < length uses) (locks tree n) → is_held held n ≡ true → AreCounted tree held uses → CanRemove (locks tree n) uses
 there tree held uses n h rise known own c =
     can-remove (locks tree n) uses 0 rise known (λ a k low w t.
     let e = c.counts a k w ∙ takers-more tree held a k n h c.nodes own ∙ ap (λ (b : Bool). takers tree (set held n false) a k + cond b 1 0) t in

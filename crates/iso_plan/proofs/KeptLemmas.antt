@@ -66,7 +66,8 @@ kept-first tree test xs n m e h =
     set-true xs 0 m h ∙ ap (λ (ys : List Bool). (0 == m) || get_or ys m false) e ∙ ap (λ (t : Bool). (0 == m) || t) (none-true n m)
     ∙ or_false (0 == m) ∙ first_by tree test m
 
-below_more : (tree : List Row) (test : ℕ → Bool) (m n : ℕ) → list_any test (filter (is_under tree m) (range_with_len 0 (n + 1))) ≡ (list_any test (filter (is_under tree m) (range_with_len 0 n)) || list_any test (filter (is_under tree m) (n ∷ [])))
+below_more : (tree : List Row) (test : ℕ → Bool) (m n : ℕ)
+    → list_any test (filter (is_under tree m) (range_with_len 0 (n + 1))) ≡ (list_any test (filter (is_under tree m) (range_with_len 0 n)) || list_any test (filter (is_under tree m) (n ∷ [])))
 below_more tree test m n =
     ap (λ (k : ℕ). list_any test (filter (is_under tree m) (range_with_len 0 k))) (add-one n)
     ∙ ap (λ (ns : List ℕ). list_any test (filter (is_under tree m) ns)) (numbers_more n)
@@ -114,7 +115,8 @@ path_next only i d h =
     let text : Bor (List ℕ) → List ℕ = λ b. b.now in
     drop_more (texts_of only) i [] (rw (length-map only text) h) ∙ ap (λ (t : List ℕ). t ∷ drop (i + 1) (texts_of only)) (get_or-map text only i d [] h)
 
-pub unknown-here : (paths : List (List ℕ)) (only : List (Bor (List ℕ))) (i : ℕ) (d : Bor (List ℕ)) → i < length only → is_among paths (get_or only i d).now ≡ false → position_from (is_unknown paths) i (drop i (texts_of only)) ≡ Some i
+pub unknown-here : (paths : List (List ℕ)) (only : List (Bor (List ℕ))) (i : ℕ) (d : Bor (List ℕ)) → i < length only
+    → is_among paths (get_or only i d).now ≡ false → position_from (is_unknown paths) i (drop i (texts_of only)) ≡ Some i
 unknown-here paths only i d h e =
     ap (position_from (is_unknown paths) i) (path_next only i d h)
     ∙ ap (λ (b : Bool). cond (not b) (Some i) (position_from (is_unknown paths) (i + 1) (drop (i + 1) (texts_of only)))) e

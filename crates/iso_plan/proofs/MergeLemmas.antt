@@ -88,7 +88,8 @@ pass-beside some others i j d e r h k no_later apart =
     ∙ ap (λ (ls : List Lock). conflicts ls (drop (j + 1) others)) (sym (drop_more some i d h)))
 
 -- where the first locks that are left exclude each other, there is a conflict
-pub found : (some others : List Lock) (i j : ℕ) (d e : Lock) → i < length some → j < length others → excludes (get_or some i d) (get_or others j e) ≡ true → conflicts (drop i some) (drop j others) ≡ true
+pub found : (some others : List Lock) (i j : ℕ) (d e : Lock) → i < length some → j < length others
+    → excludes (get_or some i d) (get_or others j e) ≡ true → conflicts (drop i some) (drop j others) ≡ true
 found some others i j d e h k both =
     ap₂ conflicts (drop_more some i d h) (drop_more others j e k) ∙ first-excludes (get_or some i d) (drop (i + 1) some) (get_or others j e) (drop (j + 1) others) both
 

@@ -91,7 +91,8 @@ outer_cases : (test : ℕ → Bool) (m n : ℕ) (o : Option ℕ) (above : Bool) 
 outer_cases test m n (Some j) above e h = h
 outer_cases test m n None above e h = h ∙ elim (test n) as (λ t. false ≡ is_that (cond t (Some n) None) m) [ true ↦ sym e | false ↦ refl ]
 
-under_by : (tree : List Row) → IsBelow tree → (test : ℕ → Bool) (m : ℕ) → outermost test (path tree m) ≡ Some m → (n : ℕ) → 0 < n → is_under tree m (parent tree n) ≡ is_that (outermost test (path tree (parent tree n))) m → (t : Bool) → (n == m) ≡ t → is_under tree m n ≡ is_that (outermost test (path tree n)) m
+under_by : (tree : List Row) → IsBelow tree → (test : ℕ → Bool) (m : ℕ) → outermost test (path tree m) ≡ Some m → (n : ℕ) → 0 < n
+    → is_under tree m (parent tree n) ≡ is_that (outermost test (path tree (parent tree n))) m → (t : Bool) → (n == m) ≡ t → is_under tree m n ≡ is_that (outermost test (path tree n)) m
 under_by tree b test m own n pos ih true e =
     let same : n ≡ m = eq_from n m e in
     let here : outermost test (path tree n) ≡ Some m = ap (λ j. outermost test (path tree j)) same ∙ own in
@@ -112,7 +113,8 @@ own_by_test : (tree : List Row) (test : ℕ → Bool) (m n : ℕ) (t : Bool) →
 own_by_test tree test m n true e whole = let same : n ≡ m = cc in ap (λ j. outermost test (path tree j)) (sym same) ∙ whole
 own_by_test tree test m n false e whole = let no : None ≡ Some m = e in absurd (cc)
 
-own_by_above : (tree : List Row) (test : ℕ → Bool) (m n : ℕ) (o : Option ℕ) → (o ≡ Some m → outermost test (path tree m) ≡ Some m) → option_or o (cond (test n) (Some n) None) ≡ Some m → outermost test (path tree n) ≡ Some m → outermost test (path tree m) ≡ Some m
+own_by_above : (tree : List Row) (test : ℕ → Bool) (m n : ℕ) (o : Option ℕ) → (o ≡ Some m → outermost test (path tree m) ≡ Some m)
+    → option_or o (cond (test n) (Some n) None) ≡ Some m → outermost test (path tree n) ≡ Some m → outermost test (path tree m) ≡ Some m
 own_by_above tree test m n (Some j) ih e whole = ih e
 own_by_above tree test m n None ih e whole = own_by_test tree test m n (test n) e whole
 

@@ -35,7 +35,8 @@ inside tree n p e h =
 pub path_text-root : (tree : List Row) → path_text tree 0 ≡ []
 path_text-root tree = ap (λ (q : List ℕ). names tree (reverse q)) (path-root tree)
 
-by_class : (tree : List Row) → IsBelow tree → (n : ℕ) → 0 < n → (t : Bool) → (parent tree n == 0) ≡ t → path_text tree n ≡ cond t (row_at tree n).name (path_text tree (parent tree n) ++ (codes "." ++ (row_at tree n).name))
+by_class : (tree : List Row) → IsBelow tree → (n : ℕ) → 0 < n → (t : Bool) → (parent tree n == 0) ≡ t
+    → path_text tree n ≡ cond t (row_at tree n).name (path_text tree (parent tree n) ++ (codes "." ++ (row_at tree n).name))
 by_class tree b n pos true e =
     let top : parent tree n ≡ 0 = grind (arith, nat_tests) in
     let own : path tree n ≡ n ∷ [] = path-step tree b n pos ∙ ap (λ (p : ℕ). n ∷ path tree p) top ∙ ap (λ (q : List ℕ). n ∷ q) (path-root tree) in

@@ -174,7 +174,8 @@ module _ (tree : List Row) (t : IsTree tree) (passes : ℕ → Bool) (closed : A
         rights = sym (ap₂ rights_with kind chain);
       }
 
-up_by : (tree : List Row) → IsBelow tree → (n : ℕ) → 0 < n → 0 < parent tree n → (m : ℕ) → 0 < m → (is_under tree n (parent tree m) ≡ true → is_under tree (parent tree n) (parent tree m) ≡ true) → (e : Bool) → (m == n) ≡ e → is_under tree n m ≡ true → is_under tree (parent tree n) m ≡ true
+up_by : (tree : List Row) → IsBelow tree → (n : ℕ) → 0 < n → 0 < parent tree n → (m : ℕ) → 0 < m
+    → (is_under tree n (parent tree m) ≡ true → is_under tree (parent tree n) (parent tree m) ≡ true) → (e : Bool) → (m == n) ≡ e → is_under tree n m ≡ true → is_under tree (parent tree n) m ≡ true
 up_by tree b n pos above m low ih true e h =
     let same : m ≡ n = eq_from m n e in
     let own : is_under tree (parent tree n) (parent tree m) ≡ true = ap (λ (k : ℕ). is_under tree (parent tree n) (parent tree k)) same ∙ under-self tree b (parent tree n) above in
@@ -190,7 +191,8 @@ under-up tree b n pos above =
     (λ h. let no : false ≡ true = rw (path-root tree) at h in absurd (cc))
     (λ m low ih h. up_by tree b n pos above m low ih (m == n) refl h)
 
-any_more : (test p q : ℕ → Bool) → ((k : ℕ) → p k ≡ true → q k ≡ true) → (k : ℕ) (ks : List ℕ) → (list_any test (filter p ks) ≡ true → list_any test (filter q ks) ≡ true) → (a b : Bool) → p k ≡ a → q k ≡ b
+any_more : (test p q : ℕ → Bool) → ((k : ℕ) → p k ≡ true → q k ≡ true) → (k : ℕ) (ks : List ℕ)
+    → (list_any test (filter p ks) ≡ true → list_any test (filter q ks) ≡ true) → (a b : Bool) → p k ≡ a → q k ≡ b
     → list_any test (cond a (k ∷ filter p ks) (filter p ks)) ≡ true → list_any test (cond b (k ∷ filter q ks) (filter q ks)) ≡ true
 any_more test p q more k ks ih true true pa qb h =
     elim (test k) as (λ t. (t || list_any test (filter p ks)) ≡ true → (t || list_any test (filter q ks)) ≡ true) [ true ↦ λ _. refl | false ↦ ih ] h
@@ -225,7 +227,8 @@ same_by : (tree : List Row) (m n : ℕ) → n ≡ m → IsSameNode tree m tree n
 same_by tree m n e = rw e (record { path = refl; classes = refl; test = refl; rights = refl })
 
 -- each kept node is the same there
-pub selection-same : (tree : List Row) → IsTree tree → (only : List (List ℕ)) (m : ℕ) → m < length tree → is_kept tree only m ≡ true → IsSameNode tree m (selection tree only) (number_among (is_kept tree only) m)
+pub selection-same : (tree : List Row) → IsTree tree → (only : List (List ℕ)) (m : ℕ) → m < length tree
+    → is_kept tree only m ≡ true → IsSameNode tree m (selection tree only) (number_among (is_kept tree only) m)
 selection-same tree t [] m h e = same_by tree m (number_among (is_kept tree []) m) (number-all (is_kept tree []) (λ n. refl) m)
 selection-same tree t (p ∷ ps) m h e = same-node tree t (is_kept_by tree (p ∷ ps)) (kept-closed tree t (p ∷ ps)) m h e
 

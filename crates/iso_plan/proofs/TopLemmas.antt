@@ -39,7 +39,8 @@ under_root : (tree : List Row) (n : ℕ) → 0 < n → parent tree n ≡ 0 → i
 under_root tree zero h e = absurd (omega arith)
 under_root tree (suc n) h e = ap is_root e
 
-top_by : (tree : List Row) → IsBelow tree → (n t : ℕ) → 0 < n → (o : Option ℕ) → o ≡ top tree (parent tree n) → (o ≡ Some t → is_top tree t ≡ true) → option_or o (Some n) ≡ Some t → is_top tree t ≡ true
+top_by : (tree : List Row) → IsBelow tree → (n t : ℕ) → 0 < n → (o : Option ℕ) → o ≡ top tree (parent tree n)
+    → (o ≡ Some t → is_top tree t ≡ true) → option_or o (Some n) ≡ Some t → is_top tree t ≡ true
 top_by tree b n t pos (Some j) e ih h = ih h
 top_by tree b n t pos None e ih h =
     let same : n ≡ t = let whole : Some n ≡ Some t = h in cc in
@@ -67,7 +68,8 @@ not_that tree b m n h true e =
     absurd (cc)
 not_that tree b m n h false e = refl
 
-next_by : (tree : List Row) → IsBelow tree → (m n : ℕ) → (t : Bool) → is_top tree m ≡ t → ((is_that (top tree n) m && isolates tree n) || (is_top tree m && isolates_below tree m n)) ≡ (is_top tree m && isolates_below tree m (suc n))
+next_by : (tree : List Row) → IsBelow tree → (m n : ℕ) → (t : Bool) → is_top tree m ≡ t
+    → ((is_that (top tree n) m && isolates tree n) || (is_top tree m && isolates_below tree m n)) ≡ (is_top tree m && isolates_below tree m (suc n))
 next_by tree b m n true h =
     let i = isolates tree n in
     let x = isolates_below tree m n in
@@ -78,5 +80,6 @@ next_by tree b m n false h =
     ap₂ (λ (u t : Bool). (u && i) || (t && x)) (not_that tree b m n h (is_that (top tree n) m) refl) h ∙ sym (ap (λ (t : Bool). t && ((is_under tree m n && i) || x)) h)
 
 -- a node that asks for isolation makes its top-level class hold one that does
-pub isolates-next : (tree : List Row) → IsBelow tree → (m n : ℕ) → ((is_that (top tree n) m && isolates tree n) || (is_top tree m && isolates_below tree m n)) ≡ (is_top tree m && isolates_below tree m (suc n))
+pub isolates-next : (tree : List Row) → IsBelow tree → (m n : ℕ)
+    → ((is_that (top tree n) m && isolates tree n) || (is_top tree m && isolates_below tree m n)) ≡ (is_top tree m && isolates_below tree m (suc n))
 isolates-next tree b m n = next_by tree b m n (is_top tree m) refl

@@ -24,7 +24,8 @@ less_or_last n l h e = grind (arith, nat_tests)
 same_from : (n l : ℕ) → (n == l) ≡ true → n ≡ l
 same_from n l e = grind (arith, nat_tests)
 
-fine_at : (rows : List Row) (r : Row) → Fine rows → r.parent < length rows → is_test (row_at rows r.parent).kind ≡ false → (n : ℕ) → 0 < n → n < length rows + 1 → (t : Bool) → (n == length rows) ≡ t → Placed (rows ++ r ∷ []) n
+fine_at : (rows : List Row) (r : Row) → Fine rows → r.parent < length rows → is_test (row_at rows r.parent).kind ≡ false
+    → (n : ℕ) → 0 < n → n < length rows + 1 → (t : Bool) → (n == length rows) ≡ t → Placed (rows ++ r ∷ []) n
 fine_at rows r fine low inside n pos h true e =
     let same : n ≡ length rows = same_from n (length rows) e in
     let here : row_at (rows ++ r ∷ []) n ≡ r = get_or_push rows r root_row n (sym same) in

@@ -22,14 +22,17 @@ use Rattle.iso_settings.specs.declared.settings.Settings.{Settings}
 
 -- the children, class chains and rights of all nodes
 pub record IsChained (rows : List Row) (c : Chained) : Type 0 where
-  pub children_are : map (λ (v : Vec ℕ Global). v.items) c.children.items ≡ column (children (nodes_in rows)) (length rows)
-  pub chains_are : map (λ (v : Vec (Arc ClassHead Global) Global). innermost_first v.items) c.chains.items ≡ column (chain_classes (nodes_in rows)) (length rows)
+  pub children_are : map (λ (v : Vec ℕ Global). v.items) c.children.items
+      ≡ column (children (nodes_in rows)) (length rows)
+  pub chains_are : map (λ (v : Vec (Arc ClassHead Global) Global). innermost_first v.items)
+      c.chains.items ≡ column (chain_classes (nodes_in rows)) (length rows)
   pub rights_are : map access_in c.rights.items ≡ column (node_rights (nodes_in rows)) (length rows)
 
 -- their locking nodes and locks
 pub record IsLocked (rows : List Row) (l : Locked) : Type 0 where
   pub locking_are : l.locking.items ≡ column (locking_node (nodes_in rows)) (length rows)
-  pub locks_are : map (λ (v : Vec Lock Global). v.items) l.locks.items ≡ column (locks (nodes_in rows)) (length rows)
+  pub locks_are : map (λ (v : Vec Lock Global). v.items) l.locks.items
+      ≡ column (locks (nodes_in rows)) (length rows)
 
 -- the keys, and the locks and modes of all nodes under settings
 pub record IsKeyed (rows : List Row) (settings : Settings) (k : Keyed) : Type 0 where

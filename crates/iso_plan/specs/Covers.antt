@@ -13,4 +13,5 @@ pub record IsCovered (tree : List Row) (n : ℕ) (key : List ℕ) : Type 0 where
   pub locks : locking_node tree n ≡ Some taker
   pub above : is_under tree taker n ≡ true
   pub reads : is_readable (taken tree taker key) ≡ true
-  pub writes : is_writable (node_rights tree n key) ≡ true → is_writable (taken tree taker key) ≡ true
+  pub writes : is_writable (node_rights tree n key) ≡ true
+      → is_writable (taken tree taker key) ≡ true

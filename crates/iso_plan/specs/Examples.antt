@@ -24,14 +24,36 @@ writes k = record { access = Write; target = Itself; key = k }
 
 -- a class's head with marks alone
 abbrev pub head_with : List Mark → ClassHead
-head_with marks = record { statics = []; fields = []; marks = marks; disabled = None; before_all = no_acts; after_all = no_acts; before_each = no_acts; after_each = no_acts }
+head_with marks = record {
+  statics = [];
+  fields = [];
+  marks = marks;
+  disabled = None;
+  before_all = no_acts;
+  after_all = no_acts;
+  before_each = no_acts;
+  after_each = no_acts;
+}
 
 -- an empty test
 abbrev pub a_test : List ℕ → Option Mode → List Mark → Member
-a_test name mode marks = test_member (record { name = name; display = None; mode = mode; head = record { marks = marks; disabled = None; body = no_acts } })
+a_test name mode marks =
+    test_member (record {
+      name = name;
+      display = None;
+      mode = mode;
+      head = record { marks = marks; disabled = None; body = no_acts };
+    })
 
 abbrev pub a_class : List ℕ → Option Mode → Bool → List Mark → Members → Class
-a_class name mode isolated marks ms = class (record { name = name; display = None; mode = mode; isolated = isolated; head = head_with marks }) ms
+a_class name mode isolated marks ms =
+    class (record {
+      name = name;
+      display = None;
+      mode = mode;
+      isolated = isolated;
+      head = head_with marks;
+    }) ms
 
 -- a script of team shop
 abbrev pub shop : List Class → Script
@@ -41,7 +63,8 @@ shop classes = record { team = codes "shop"; classes = classes }
 abbrev pub cart : Class
 cart =
     a_class (codes "Cart") (Some Concurrent) false (reads key_k ∷ [])
-    (member (a_test (codes "a") (Some Concurrent) []) (member (a_test (codes "b") None (writes key_k ∷ [])) no_members))
+    (member (a_test (codes "a") (Some Concurrent) [])
+    (member (a_test (codes "b") None (writes key_k ∷ [])) no_members))
 
 -- isolated class Till { test d { } }
 abbrev pub till : Class
@@ -49,7 +72,8 @@ till = a_class (codes "Till") None true [] (member (a_test (codes "d") None []) 
 
 -- class Desk { test c { } isolated class Till { test d { } } }
 abbrev pub desk : Class
-desk = a_class (codes "Desk") None false [] (member (a_test (codes "c") None []) (member (class_member till) no_members))
+desk = a_class (codes "Desk") None false []
+    (member (a_test (codes "c") None []) (member (class_member till) no_members))
 
 -- nodes 1 and 2 of isolated class Till { test d { } }: Till, d
 abbrev pub isolated_alone : List Row
@@ -60,7 +84,8 @@ isolated_alone = tree (shop (till ∷ []) ∷ [])
 abbrev pub isolated_deep : List Row
 isolated_deep =
     tree (shop (a_class (codes "Hall") None false []
-    (member (class_member (a_class (codes "Desk") None false [] (member (class_member till) no_members))) no_members) ∷ []) ∷ [])
+    (member (class_member (a_class (codes "Desk") None false []
+    (member (class_member till) no_members))) no_members) ∷ []) ∷ [])
 
 -- nodes 1 to 7: Cart, a, b, Desk, c, Till, d
 abbrev pub cart_and_desk : List Row
@@ -69,11 +94,21 @@ cart_and_desk = tree (shop (cart ∷ desk ∷ []) ∷ [])
 -- parallel execution with two workers; classes and tests are concurrent where nothing else is
 -- marked
 abbrev pub concurrent_by_default : Settings
-concurrent_by_default = record { parallel = true; default_mode = Concurrent; classes_default_mode = Concurrent; worker_count = 2 }
+concurrent_by_default = record {
+  parallel = true;
+  default_mode = Concurrent;
+  classes_default_mode = Concurrent;
+  worker_count = 2;
+}
 
 -- classes are concurrent, and all other nodes on the same thread, where nothing else is marked
 abbrev pub concurrent_classes : Settings
-concurrent_classes = record { parallel = true; default_mode = SameThread; classes_default_mode = Concurrent; worker_count = 2 }
+concurrent_classes = record {
+  parallel = true;
+  default_mode = SameThread;
+  classes_default_mode = Concurrent;
+  worker_count = 2;
+}
 
 -- no parallel execution
 abbrev pub one_thread : Settings
@@ -88,14 +123,16 @@ write_lock k = record { key = k; access = Write }
 
 -- same_thread class Inner { test i { } }
 abbrev pub inner : Class
-inner = a_class (codes "Inner") (Some SameThread) false [] (member (a_test (codes "i") None []) no_members)
+inner = a_class (codes "Inner") (Some SameThread) false []
+    (member (a_test (codes "i") None []) no_members)
 
 -- nodes 1 to 4 of class Loose { write "K" test w { } same_thread class Inner { test i { } } }:
 -- Loose, w, Inner, i
 abbrev pub loose : List Row
 loose =
     tree (shop (a_class (codes "Loose") None false []
-    (member (a_test (codes "w") None (writes key_k ∷ [])) (member (class_member inner) no_members)) ∷ []) ∷ [])
+    (member (a_test (codes "w") None (writes key_k ∷ [])) (member (class_member inner) no_members))
+    ∷ []) ∷ [])
 
 -- the key L
 abbrev pub key_l : List ℕ
@@ -112,18 +149,21 @@ in_class =
 abbrev pub nested : List Row
 nested =
     tree (shop (a_class (codes "Out") (Some Concurrent) false []
-    (member (class_member in_class) (member (a_test (codes "w") None (writes key_l ∷ [])) no_members)) ∷ []) ∷ [])
+    (member (class_member in_class)
+    (member (a_test (codes "w") None (writes key_l ∷ [])) no_members)) ∷ []) ∷ [])
 
 -- isolated class Iso { write "L" test w { } }
 abbrev pub iso : Class
-iso = a_class (codes "Iso") None true [] (member (a_test (codes "w") None (writes key_l ∷ [])) no_members)
+iso = a_class (codes "Iso") None true []
+    (member (a_test (codes "w") None (writes key_l ∷ [])) no_members)
 
 -- nodes 1 to 4 of class Top { read "K" test r { } isolated class Iso { write "L" test w { } } }:
 -- Top, r, Iso, w
 abbrev pub isolated_with_keys : List Row
 isolated_with_keys =
     tree (shop (a_class (codes "Top") None false []
-    (member (a_test (codes "r") None (reads key_k ∷ [])) (member (class_member iso) no_members)) ∷ []) ∷ [])
+    (member (a_test (codes "r") None (reads key_k ∷ [])) (member (class_member iso) no_members))
+    ∷ []) ∷ [])
 
 -- a class with one test, neither of them marked
 abbrev pub plain : List ℕ → Class
@@ -141,7 +181,8 @@ for_children m = record m { target = Children }
 abbrev pub writing_children : List Row
 writing_children =
     tree (shop (a_class (codes "C") None false (for_children (writes key_k) ∷ [])
-    (member (a_test (codes "a") None []) (member (a_test (codes "b") None []) no_members)) ∷ []) ∷ [])
+    (member (a_test (codes "a") None []) (member (a_test (codes "b") None []) no_members)) ∷ [])
+    ∷ [])
 
 -- nodes 1 to 4 of read children "K" class Out { class In { test t { } write "K" test u { } } }:
 -- Out, In, t, u
@@ -149,7 +190,8 @@ abbrev pub reading_children : List Row
 reading_children =
     tree (shop (a_class (codes "Out") None false (for_children (reads key_k) ∷ [])
     (member (class_member (a_class (codes "In") None false []
-    (member (a_test (codes "t") None []) (member (a_test (codes "u") None (writes key_k ∷ [])) no_members)))) no_members) ∷ []) ∷ [])
+    (member (a_test (codes "t") None [])
+    (member (a_test (codes "u") None (writes key_k ∷ [])) no_members)))) no_members) ∷ []) ∷ [])
 
 -- nodes 1 and 2 of write children "K" read "L" class C { test a { } }: C, a
 abbrev pub keys_of_children : List Row
@@ -160,8 +202,20 @@ keys_of_children =
 -- nodes 1 and 2 of class A "B" { test t "u" { } }: A, t
 abbrev pub titled : List Row
 titled =
-    tree (shop (class (record { name = codes "A"; display = Some (codes "B"); mode = None; isolated = false; head = head_with [] })
-    (member (test_member (record { name = codes "t"; display = Some (codes "u"); mode = None; head = record { marks = []; disabled = None; body = no_acts } })) no_members) ∷ []) ∷ [])
+    tree (shop (class (record {
+      name = codes "A";
+      display = Some (codes "B");
+      mode = None;
+      isolated = false;
+      head = head_with [];
+    })
+    (member (test_member (record {
+      name = codes "t";
+      display = Some (codes "u");
+      mode = None;
+      head = record { marks = []; disabled = None; body = no_acts };
+    })) no_members)
+    ∷ []) ∷ [])
 
 -- of four nodes those that are held: a class and the first test in it
 abbrev pub class_and_test : List Bool

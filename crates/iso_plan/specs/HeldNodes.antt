@@ -86,7 +86,8 @@ use_of uses key = slice_index_or uses key unused
 pub record AreCounted (tree : List Row) (held : List Bool) (uses : List KeyUse) : Type 0 where
   pub nodes : length held ≡ length tree
   pub table : length uses ≡ length (keys tree)
-  pub counts : (a : Access) (key : ℕ) → key < length uses → counted a (use_of uses key) ≡ takers tree held a key
+  pub counts : (a : Access) (key : ℕ) → key < length uses → counted a (use_of uses key)
+      ≡ takers tree held a key
 
 -- one node more that takes a key in an access
 abbrev pub one_more : Access → KeyUse → KeyUse
@@ -112,13 +113,15 @@ removed (l ∷ ls) uses = removed ls (slice_set uses l.key (one_less l.access (u
 abbrev pub CanAdd : List Lock → List KeyUse → Type 0
 CanAdd [] uses = Unit {0}
 CanAdd (l ∷ ls) uses =
-    (l.key < length uses) × ((counted l.access (use_of uses l.key) + 1 < 2 ^ 64) × CanAdd ls (slice_set uses l.key (one_more l.access (use_of uses l.key))))
+    (l.key < length uses) × ((counted l.access (use_of uses l.key) + 1 < 2 ^ 64)
+    × CanAdd ls (slice_set uses l.key (one_more l.access (use_of uses l.key))))
 
 -- each of some locks is counted
 abbrev pub CanRemove : List Lock → List KeyUse → Type 0
 CanRemove [] uses = Unit {0}
 CanRemove (l ∷ ls) uses =
-    (l.key < length uses) × ((0 < counted l.access (use_of uses l.key)) × CanRemove ls (slice_set uses l.key (one_less l.access (use_of uses l.key))))
+    (l.key < length uses) × ((0 < counted l.access (use_of uses l.key))
+    × CanRemove ls (slice_set uses l.key (one_less l.access (use_of uses l.key))))
 
 -- what is counted for a key excludes a lock on it: a node that writes it, or for READ_WRITE one
 -- that reads it

@@ -15,7 +15,10 @@ use Rattle.iso_plan.specs.Tree.{Row}
 use Rattle.iso_plan.specs.declared.lock.Lock.{Lock}
 use Rattle.iso_settings.specs.declared.settings.Settings.{Settings}
 
-pub record IsPlan (tree : List Row) (settings : Settings) (kids : List (List ℕ)) (heads : List (List ClassHead)) (rights : List Rights) (table : List (List ℕ)) (numbers : List (List ℕ × ℕ)) (lockers : List (Option ℕ)) (taken : List (List Lock)) (modes : List Mode) : Type 0 where
+pub record IsPlan (tree : List Row) (settings : Settings) (kids : List (List ℕ))
+    (heads : List (List ClassHead)) (rights : List Rights) (table : List (List ℕ))
+    (numbers : List (List ℕ × ℕ)) (lockers : List (Option ℕ)) (taken : List (List Lock))
+    (modes : List Mode) : Type 0 where
   pub is_tree : IsTree tree
   pub in_order : IsPreorder tree
   pub fits : length tree ≤ NODES

@@ -29,4 +29,5 @@ is_forced tree n = list_any (takes_write tree) (path tree (parent tree n))
 -- the execution mode of a node: all are on the same thread without parallel execution, and so are
 -- the root and what is forced
 abbrev pub mode : List Row → Settings → ℕ → Mode
-mode tree s n = cond (s.parallel && not (is_root n) && not (is_forced tree n)) (chosen_mode tree s n) SameThread
+mode tree s n =
+    cond (s.parallel && not (is_root n) && not (is_forced tree n)) (chosen_mode tree s n) SameThread

@@ -72,7 +72,8 @@ is_class_or_test (test_node head) = true
 -- the nodes with a number below n that stand directly in node m, in order
 abbrev pub children_below : List Row → ℕ → ℕ → List ℕ
 children_below tree m zero = []
-children_below tree m (suc n) = cond (not (is_root n) && parent tree n == m) (children_below tree m n ++ n ∷ []) (children_below tree m n)
+children_below tree m (suc n) = cond (not (is_root n) && parent tree n == m)
+    (children_below tree m n ++ n ∷ []) (children_below tree m n)
 
 -- the children of a node
 abbrev pub children : List Row → ℕ → List ℕ
@@ -98,7 +99,8 @@ pub record IsTree (tree : List Row) : Type 0 where
   pub below : (n : ℕ) → 0 < n → parent tree n < n
   pub inner : (n : ℕ) → 0 < n → is_test (row_at tree (parent tree n)).kind ≡ false
   pub full : (n : ℕ) → 0 < n → n < length tree → is_class_or_test (row_at tree n).kind ≡ true
-  pub marked : (n : ℕ) → 0 < n → n < length tree → kind_marks (row_at tree n).kind ≡ effective (row_at tree (parent tree n)).written (row_at tree n).written
+  pub marked : (n : ℕ) → 0 < n → n < length tree → kind_marks (row_at tree n).kind
+      ≡ effective (row_at tree (parent tree n)).written (row_at tree n).written
 
 -- what each of the first n nodes has
 abbrev pub column : {A : Type 0} → (ℕ → A) → ℕ → List A

@@ -18,7 +18,14 @@ kind_of (Test head) = test_node (test_head_of (arc_value head))
 
 -- what a row stands for
 abbrev pub row_of : Row → T.Row
-row_of r = record { parent = r.parent; kind = kind_of r.kind; written = r.written.items; name = r.name; title = r.title; mode = r.mode }
+row_of r = record {
+  parent = r.parent;
+  kind = kind_of r.kind;
+  written = r.written.items;
+  name = r.name;
+  title = r.title;
+  mode = r.mode;
+}
 
 -- the nodes that rows stand for
 abbrev pub nodes_in : List Row → List T.Row
@@ -30,4 +37,10 @@ tree_of p = p.rows
 
 -- what is written before a class's members
 abbrev pub title_of : ScriptClass → ClassTitle
-title_of c = record { name = c.name; display = c.display; mode = c.mode; isolated = c.isolated; head = class_head_of (arc_value c.head) }
+title_of c = record {
+  name = c.name;
+  display = c.display;
+  mode = c.mode;
+  isolated = c.isolated;
+  head = class_head_of (arc_value c.head);
+}

@@ -16,4 +16,5 @@ pub record IsSameNode (first : List Row) (m : ℕ) (second : List Row) (n : ℕ)
 -- each node of a tree that these paths keep is a node of this plan
 abbrev pub KeepsChains : List Row → List (List ℕ) → Planned → Type 0
 KeepsChains tree only plan =
-    (m : ℕ) → m < length tree → is_kept tree only m ≡ true → IsSameNode tree m plan.rows (number_among (is_kept tree only) m)
+    (m : ℕ) → m < length tree → is_kept tree only m ≡ true
+    → IsSameNode tree m plan.rows (number_among (is_kept tree only) m)

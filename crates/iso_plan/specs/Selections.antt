@@ -45,7 +45,8 @@ renumbered passes r = record r { parent = number_among passes r.parent }
 
 -- the nodes that pass, numbered anew
 abbrev pub those_of : (ℕ → Bool) → List Row → List Row
-those_of passes tree = map (λ n. renumbered passes (row_at tree n)) (those_below passes (length tree))
+those_of passes tree =
+    map (λ n. renumbered passes (row_at tree n)) (those_below passes (length tree))
 
 -- the tree of the kept nodes
 abbrev pub selection : List Row → List (List ℕ) → List Row

@@ -18,4 +18,5 @@ own_global tree n = cond (is_top tree n) (Some (cond (holds_isolated tree n) Wri
 -- the table of a node before anything is gathered: a node that takes no key has none
 abbrev pub own_table : List Row → ℕ → ℕ → List (Option Access)
 own_table tree count n =
-    with_first (own_global tree n) (replicate (cond (is_top tree n || is_locking tree n) count 0) None)
+    with_first (own_global tree n)
+    (replicate (cond (is_top tree n || is_locking tree n) count 0) None)

@@ -31,12 +31,26 @@ root_row = record { parent = 0; kind = root; written = []; name = []; title = []
 -- a test of the class with this number. Its title is its display text, else its name.
 abbrev pub test_row : ℕ → Test → Row
 test_row parent t =
-    record { parent = parent; kind = test_node t.head; written = merged t.head.marks; name = t.name; title = unwrap_or t.display t.name; mode = t.mode }
+    record {
+      parent = parent;
+      kind = test_node t.head;
+      written = merged t.head.marks;
+      name = t.name;
+      title = unwrap_or t.display t.name;
+      mode = t.mode;
+    }
 
 -- a class in the class with this number
 abbrev pub class_row : ℕ → ClassTitle → Row
 class_row parent c =
-    record { parent = parent; kind = class_node c.isolated c.head; written = merged c.head.marks; name = c.name; title = unwrap_or c.display c.name; mode = c.mode }
+    record {
+      parent = parent;
+      kind = class_node c.isolated c.head;
+      written = merged c.head.marks;
+      name = c.name;
+      title = unwrap_or c.display c.name;
+      mode = c.mode;
+    }
 
 -- a text with a team's name and a dot before it
 abbrev pub in_team : List ℕ → List ℕ → List ℕ
@@ -45,14 +59,23 @@ in_team team text = team ++ codes "." ++ text
 -- a top-level class, whose name and title begin with its team's
 abbrev pub top_row : List ℕ → ClassTitle → Row
 top_row team c =
-    record { parent = 0; kind = class_node c.isolated c.head; written = merged c.head.marks; name = in_team team c.name; title = in_team team (unwrap_or c.display c.name); mode = c.mode }
+    record {
+      parent = 0;
+      kind = class_node c.isolated c.head;
+      written = merged c.head.marks;
+      name = in_team team c.name;
+      title =
+          in_team team (unwrap_or c.display c.name);
+      mode = c.mode;
+    }
 
 -- the nodes of the members of the class with this number, where the first has number n; and of one
 -- member; and of a class
 abbrev mutual
   pub members_rows : ℕ → ℕ → Members → List Row
   members_rows parent n no_members = []
-  members_rows parent n (member m ms) = let first = member_rows parent n m in first ++ members_rows parent (n + length first) ms
+  members_rows parent n (member m ms) = let first =
+      member_rows parent n m in first ++ members_rows parent (n + length first) ms
 
   pub member_rows : ℕ → ℕ → Member → List Row
   member_rows parent n (class_member c) = class_rows parent n c
@@ -68,12 +91,14 @@ top_rows team n (class c ms) = top_row team c ∷ members_rows n (n + 1) ms
 -- the nodes of a team's classes, where the first has number n
 abbrev pub team_rows : List ℕ → ℕ → List Class → List Row
 team_rows team n [] = []
-team_rows team n (c ∷ cs) = let first = top_rows team n c in first ++ team_rows team (n + length first) cs
+team_rows team n (c ∷ cs) = let first =
+    top_rows team n c in first ++ team_rows team (n + length first) cs
 
 -- the nodes of scripts, where the first has number n
 abbrev pub script_rows : ℕ → List Script → List Row
 script_rows n [] = []
-script_rows n (s ∷ ss) = let first = team_rows s.team n s.classes in first ++ script_rows (n + length first) ss
+script_rows n (s ∷ ss) = let first =
+    team_rows s.team n s.classes in first ++ script_rows (n + length first) ss
 
 -- the nodes as they are written: the root, then the others in preorder
 abbrev pub written_tree : List Script → List Row
@@ -87,7 +112,11 @@ with_marks marks (test_node head) = test_node (record head { marks = marks })
 
 -- a node of these with its effective marks: heads in the tree have no others
 abbrev pub effective_row : List Row → Row → Row
-effective_row rows r = record r { kind = with_marks (effective (slice_index_or rows r.parent root_row).written r.written) r.kind }
+effective_row rows r =
+    record r {
+      kind =
+          with_marks (effective (slice_index_or rows r.parent root_row).written r.written) r.kind;
+    }
 
 -- the tree of scripts: their nodes, with their effective marks
 abbrev pub tree : List Script → List Row

@@ -35,7 +35,8 @@ fn chain(
     above: &[Arc<ClassHead>],
     kind: &Kind,
 ) -> Result<Vec<Arc<ClassHead>>, AllocError>
-    ensures { IfOk result (λ v. innermost_first v.items ≡ class_heads (kind_of kind.now) ++ innermost_first above.now) }
+    ensures { IfOk result (λ v. innermost_first v.items ≡ class_heads (kind_of kind.now)
+        ++ innermost_first above.now) }
 {
     let mut chain = shared(alloc, above)?;
     if let Kind::Class { head, .. } = kind {

@@ -13,7 +13,8 @@ use std::sync::Arc;
 /// Gives each node its effective marks, where the nodes have those that are written on them.
 pub(crate) fn make_effective(alloc: Global, rows: &mut Vec<Row>) -> Result<(), AllocError>
     requires { StandEarlier (nodes_in rows.old.items) }
-    ensures { OnOk result (nodes_in rows.new.items ≡ map (effective_row (nodes_in rows.old.items)) (nodes_in rows.old.items)) }
+    ensures { OnOk result (nodes_in rows.new.items
+        ≡ map (effective_row (nodes_in rows.old.items)) (nodes_in rows.old.items)) }
 {
     'nodes: for n in 0..rows.len() {
         let above = rows[n].parent as usize;
@@ -31,7 +32,8 @@ fn effective_kind(
     above: &[Mark],
     written: &[Mark],
 ) -> Result<Kind, AllocError>
-    ensures { IfOk result (λ k. kind_of k ≡ with_marks (effective above.now written.now) (kind_of kind.now)) }
+    ensures { IfOk result (λ k. kind_of k
+        ≡ with_marks (effective above.now written.now) (kind_of kind.now)) }
 {
     match kind {
         Kind::Root => Ok(Kind::Root),

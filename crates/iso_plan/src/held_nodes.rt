@@ -103,7 +103,8 @@ impl<'a> HeldNodes<'a> {
     /// nodes are held. Takes no memory.
     pub fn excludes(&self, node: u32) -> bool
         requires { node < length self.now.plan.rows }
-        ensures { result ≡ is_some (lowest_in_the_way (tree_of self.now.plan) (is_held self.now.held) node) }
+        ensures { result ≡ is_some
+            (lowest_in_the_way (tree_of self.now.plan) (is_held self.now.held) node) }
     {
         any_excluded(&self.uses, self.plan.locks(node))
     }

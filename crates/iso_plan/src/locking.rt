@@ -16,7 +16,8 @@ use std::alloc::{AllocError, Global};
 pub(crate) fn isolated(alloc: Global, rows: &[Row]) -> Result<Vec<bool>, AllocError>
     requires tree { IsTree (nodes_in rows.now) }
     requires fits { length rows.now ≤ NODES }
-    ensures { IfOk result (λ v. v.items ≡ column (holds_isolated (nodes_in rows.now)) (length rows.now)) }
+    ensures { IfOk result (λ v. v.items ≡ column (holds_isolated (nodes_in rows.now))
+        (length rows.now)) }
 {
     let tops = tops(alloc, rows)?;
     let mut isolated = vec![in alloc; false; rows.len()]?;
@@ -57,8 +58,10 @@ pub(crate) fn locking_nodes(
 ) -> Result<Vec<Option<u32>>, AllocError>
     requires tree { IsTree (nodes_in rows.now) }
     requires fits { length rows.now ≤ NODES }
-    requires isolated { isolated.now ≡ column (holds_isolated (nodes_in rows.now)) (length rows.now) }
-    ensures { IfOk result (λ v. v.items ≡ column (locking_node (nodes_in rows.now)) (length rows.now)) }
+    requires isolated { isolated.now ≡ column (holds_isolated (nodes_in rows.now))
+        (length rows.now) }
+    ensures { IfOk result (λ v. v.items ≡ column (locking_node (nodes_in rows.now))
+        (length rows.now)) }
 {
     let declaring = declaring(alloc, rows, isolated)?;
     outermost(alloc, rows, &declaring)
@@ -79,7 +82,8 @@ fn declaring(alloc: Global, rows: &[Row], isolated: &[bool]) -> Result<Vec<bool>
 impl Kind {
     /// Whether the node asks for isolation.
     pub(crate) fn isolates(&self) -> bool
-        ensures { result ≡ (is_isolated (kind_of self.now) || marks_global (kind_marks (kind_of self.now))) }
+        ensures { result ≡ (is_isolated (kind_of self.now)
+            || marks_global (kind_marks (kind_of self.now))) }
     {
         matches!(self, Kind::Class { isolated: true, .. }) || marks_global(self.marks())
     }

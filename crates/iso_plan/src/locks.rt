@@ -30,9 +30,11 @@ pub(crate) fn locks(
     requires fits { length rows.now ≤ NODES }
     requires keys { map (λ k. k.now) key_table.now.keys ≡ keys (nodes_in rows.now) }
     requires few { length (keys (nodes_in rows.now)) ≤ KEYS + 1 }
-    requires isolated { isolated.now ≡ column (holds_isolated (nodes_in rows.now)) (length rows.now) }
+    requires isolated { isolated.now ≡ column (holds_isolated (nodes_in rows.now))
+        (length rows.now) }
     requires locking { locking.now ≡ column (locking_node (nodes_in rows.now)) (length rows.now) }
-    ensures { IfOk result (λ v. map (λ l. l.items) v.items ≡ column (locks (nodes_in rows.now)) (length rows.now)) }
+    ensures { IfOk result (λ v. map (λ l. l.items) v.items
+        ≡ column (locks (nodes_in rows.now)) (length rows.now)) }
 {
     let mut tables = own_tables(alloc, rows, key_table.len(), isolated, locking)?;
     'nodes: for n in 0..rows.len() {
@@ -53,9 +55,11 @@ fn own_tables(
     locking: &[Option<u32>],
 ) -> Result<Vec<Vec<Option<Access>>>, AllocError>
     requires fits { length rows.now ≤ NODES }
-    requires isolated { isolated.now ≡ column (holds_isolated (nodes_in rows.now)) (length rows.now) }
+    requires isolated { isolated.now ≡ column (holds_isolated (nodes_in rows.now))
+        (length rows.now) }
     requires locking { locking.now ≡ column (locking_node (nodes_in rows.now)) (length rows.now) }
-    ensures { IfOk result (λ v. map (λ t. t.items) v.items ≡ column (own_table (nodes_in rows.now) count) (length rows.now)) }
+    ensures { IfOk result (λ v. map (λ t. t.items) v.items
+        ≡ column (own_table (nodes_in rows.now) count) (length rows.now)) }
 {
     let mut tables = Vec::with_capacity(alloc, rows.len())?;
     'nodes: for n in 0..rows.len() {
@@ -92,7 +96,8 @@ fn own_table(
     locking: bool,
     count: usize,
 ) -> Result<Vec<Option<Access>>, AllocError>
-    ensures { IfOk result (λ v. v.items ≡ with_first (cond top (Some (cond isolated Write Read)) None)
+    ensures { IfOk result (λ v. v.items ≡ with_first
+        (cond top (Some (cond isolated Write Read)) None)
         (replicate (cond (top || locking) count 0) None)) }
 {
     let size = if top || locking { count } else { 0 };
@@ -113,7 +118,8 @@ fn gather(table: &mut Vec<Option<Access>>, keys: &IndexSet<&str>, marks: &[Mark]
     requires distinct { IsDistinct bytes_eq (map (λ k. k.now) keys.now.keys) }
     requires fits { length table.old.items ≡ length keys.now.keys }
     ensures gathered { (i : ℕ) → i < length keys.now.keys → slice_index_or table.new.items i None
-        ≡ strongest (rights_of marks.now (slice_index_or (map (λ k. k.now) keys.now.keys) i [])) (slice_index_or table.old.items i None) }
+        ≡ strongest (rights_of marks.now (slice_index_or (map (λ k. k.now) keys.now.keys) i []))
+        (slice_index_or table.old.items i None) }
     ensures fits { length table.new.items ≡ length table.old.items }
 {
     'marks: for mark in marks {
@@ -126,7 +132,8 @@ fn add_mark(table: &mut Vec<Option<Access>>, keys: &IndexSet<&str>, mark: &Mark)
     requires distinct { IsDistinct bytes_eq (map (λ k. k.now) keys.now.keys) }
     requires fits { length table.old.items ≡ length keys.now.keys }
     ensures added { (i : ℕ) → i < length keys.now.keys → slice_index_or table.new.items i None
-        ≡ strongest (declared_by mark.now (slice_index_or (map (λ k. k.now) keys.now.keys) i [])) (slice_index_or table.old.items i None) }
+        ≡ strongest (declared_by mark.now (slice_index_or (map (λ k. k.now) keys.now.keys) i []))
+        (slice_index_or table.old.items i None) }
     ensures fits { length table.new.items ≡ length table.old.items }
 {
     if let Some(number) = number_of(keys, mark.key.as_str()) {
@@ -149,7 +156,8 @@ fn number_of(keys: &IndexSet<&str>, key: &str) -> Option<usize>
     requires { IsDistinct bytes_eq (map (λ k. k.now) keys.now.keys) }
     ensures within { IfSome result (λ i. i < length keys.now.keys) }
     ensures exact { (i : ℕ) → i < length keys.now.keys
-        → bytes_eq (slice_index_or (map (λ k. k.now) keys.now.keys) i []) key.now ≡ is_that result i }
+        → bytes_eq (slice_index_or (map (λ k. k.now) keys.now.keys) i []) key.now
+        ≡ is_that result i }
 {
     keys.get_index_of(key)
 }
@@ -159,8 +167,10 @@ fn listed_tables(
     alloc: Global,
     tables: &[Vec<Option<Access>>],
 ) -> Result<Vec<Vec<Lock>>, AllocError>
-    requires { (n : ℕ) → n < length tables.now → length (slice_index_or (map (λ t. t.items) tables.now) n []) ≤ KEYS + 1 }
-    ensures { IfOk result (λ v. map (λ l. l.items) v.items ≡ map (λ t. locks_from 0 t.items) tables.now) }
+    requires { (n : ℕ) → n < length tables.now
+        → length (slice_index_or (map (λ t. t.items) tables.now) n []) ≤ KEYS + 1 }
+    ensures { IfOk result (λ v. map (λ l. l.items) v.items
+        ≡ map (λ t. locks_from 0 t.items) tables.now) }
 {
     let mut locks = Vec::with_capacity(alloc, tables.len())?;
     'tables: for table in tables {

@@ -48,8 +48,10 @@ fn place_of(marks: &[Mark], mark: &Mark) -> Option<usize>
     ensures within { IfSome result (λ i. i < length marks.now) }
     ensures place { IfSome result (λ i. with_mark most_marks marks.now mark.now
         ≡ slice_set marks.now i (as_one (slice_index_or marks.now i mark.now) mark.now)) }
-    ensures last { result ≡ None → length marks.now < most_marks → with_mark most_marks marks.now mark.now ≡ marks.now ++ mark.now ∷ [] }
-    ensures full { result ≡ None → most_marks ≤ length marks.now → with_mark most_marks marks.now mark.now ≡ marks.now }
+    ensures last { result ≡ None → length marks.now < most_marks
+        → with_mark most_marks marks.now mark.now ≡ marks.now ++ mark.now ∷ [] }
+    ensures full { result ≡ None → most_marks ≤ length marks.now
+        → with_mark most_marks marks.now mark.now ≡ marks.now }
 {
     'marks: for place in 0..marks.len() {
         if place == MOST_MARKS {

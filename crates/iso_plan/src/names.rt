@@ -53,7 +53,8 @@ fn add_names(
     team: &Text,
     classes: &[Class],
 ) -> Result<(), AllocError>
-    ensures { OnOk result (names.new.items ≡ names.old.items ++ team_names team.now (map class_of classes.now)) }
+    ensures { OnOk result (names.new.items ≡ names.old.items
+        ++ team_names team.now (map class_of classes.now)) }
 {
     'classes: for class in classes {
         names.push(in_team(alloc, team, &class.name)?)?;

@@ -25,10 +25,13 @@ pub(crate) fn kept_rows(
     scripts: &[Script],
     only: &[&str],
 ) -> Result<Vec<Row>, PlanError>
-    ensures tree { IfOk result (λ v. nodes_in v.items ≡ plan_tree (map script_of scripts.now) (texts_of only.now)) }
+    ensures tree { IfOk result (λ v. nodes_in v.items
+        ≡ plan_tree (map script_of scripts.now) (texts_of only.now)) }
     ensures fits { IfOk result (λ v. length v.items ≤ NODES) }
-    ensures accepted { IfOk result (λ v. nodes_fault (map script_of scripts.now) (texts_of only.now) ≡ None) }
-    ensures refused { IfErr result (IsFaultOf (nodes_fault (map script_of scripts.now) (texts_of only.now))) }
+    ensures accepted { IfOk result
+        (λ v. nodes_fault (map script_of scripts.now) (texts_of only.now) ≡ None) }
+    ensures refused { IfErr result
+        (IsFaultOf (nodes_fault (map script_of scripts.now) (texts_of only.now))) }
 {
     if only.is_empty() {
         return all_rows(alloc, scripts, NODES);

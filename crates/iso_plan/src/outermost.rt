@@ -16,7 +16,8 @@ pub(crate) fn outermost(
     requires tree { IsTree (nodes_in rows.now) }
     requires fits { length rows.now ≤ NODES }
     requires each { length passes.now ≡ length rows.now }
-    ensures { (test : ℕ → Bool) → passes.now ≡ column test (length rows.now) → IfOk result (λ v. v.items
+    ensures { (test : ℕ → Bool) → passes.now ≡ column test (length rows.now)
+        → IfOk result (λ v. v.items
         ≡ column (λ n. outermost test (path (nodes_in rows.now) n)) (length rows.now)) }
 {
     let mut found: Vec<Option<u32>> = Vec::with_capacity(alloc, rows.len())?;

@@ -32,8 +32,10 @@ pub struct Overview {
 /// `DoubleClass`. They are tested in this order. Out of memory may be answered at each growth, and
 /// more nodes than have numbers of 32 bits count as it.
 pub fn look_over(alloc: Global, scripts: &[Script]) -> Result<Overview, PlanError>
-    ensures paths { IfOk result (λ o. o.paths.items ≡ all_paths (tree (map script_of scripts.now))) }
-    ensures classes { IfOk result (λ o. o.classes.items ≡ all_top_classes (tree (map script_of scripts.now))) }
+    ensures paths { IfOk result (λ o. o.paths.items
+        ≡ all_paths (tree (map script_of scripts.now))) }
+    ensures classes { IfOk result (λ o. o.classes.items
+        ≡ all_top_classes (tree (map script_of scripts.now))) }
     ensures accepted { IfOk result (λ o. scripts_fault (map script_of scripts.now) ≡ None) }
     ensures refused { IfErr result (IsFaultOf (scripts_fault (map script_of scripts.now))) }
 {
@@ -60,7 +62,8 @@ fn overview_of(alloc: Global, rows: &[Row]) -> Result<Overview, AllocError>
 fn top_classes(alloc: Global, rows: &[Row]) -> Result<Vec<u32>, AllocError>
     requires tree { IsRooted (nodes_in rows.now) }
     requires fits { length rows.now < 2 ^ 32 }
-    ensures { IfOk result (λ v. v.items ≡ column (top_class (nodes_in rows.now)) (length rows.now)) }
+    ensures { IfOk result (λ v. v.items ≡ column (top_class (nodes_in rows.now))
+        (length rows.now)) }
 {
     let mut classes = Vec::with_capacity(alloc, rows.len())?;
     classes.push(0)?;

@@ -12,7 +12,8 @@ use std::alloc::{AllocError, Global};
 /// The path of each node; the root's is empty.
 pub(crate) fn path_texts(alloc: Global, rows: &[Row]) -> Result<Vec<Text>, AllocError>
     requires { IsRooted (nodes_in rows.now) }
-    ensures { IfOk result (λ v. v.items ≡ column (path_text (nodes_in rows.now)) (length rows.now)) }
+    ensures { IfOk result (λ v. v.items ≡ column (path_text (nodes_in rows.now))
+        (length rows.now)) }
 {
     let mut paths = Vec::with_capacity(alloc, rows.len())?;
     paths.push(Text::new(String::new(alloc)))?;
@@ -27,7 +28,8 @@ pub(crate) fn path_texts(alloc: Global, rows: &[Row]) -> Result<Vec<Text>, Alloc
 /// The path of a node of this name that is a child of the class with this number and path, or of
 /// the root.
 fn path_in(alloc: Global, class: usize, above: &Text, name: &Text) -> Result<Text, AllocError>
-    ensures { IfOk result (λ t. t ≡ cond (class == 0) name.now (above.now ++ (codes "." ++ name.now))) }
+    ensures { IfOk result (λ t. t ≡ cond (class == 0) name.now
+        (above.now ++ (codes "." ++ name.now))) }
 {
     if class == 0 {
         return name.copy(alloc);

@@ -13,7 +13,8 @@ use std::alloc::{AllocError, Global};
 /// shares, and its own.
 pub(crate) fn rights(alloc: Global, rows: &[Row]) -> Result<Vec<Rights>, AllocError>
     requires { IsTree (nodes_in rows.now) }
-    ensures { IfOk result (λ v. map access_in v.items ≡ column (node_rights (nodes_in rows.now)) (length rows.now)) }
+    ensures { IfOk result (λ v. map access_in v.items
+        ≡ column (node_rights (nodes_in rows.now)) (length rows.now)) }
 {
     let mut rights: Vec<Rights> = Vec::with_capacity(alloc, rows.len())?;
     'nodes: for n in 0..rows.len() {

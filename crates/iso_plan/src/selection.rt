@@ -21,9 +21,12 @@ use std::collections::BTreeSet;
 pub(crate) fn selection(alloc: Global, rows: Vec<Row>, only: &[&str]) -> Result<Vec<Row>, PlanError>
     requires tree { IsRooted (nodes_in rows.items) }
     requires fits { length rows.items < 2 ^ 32 }
-    ensures kept { IfOk result (λ v. nodes_in v.items ≡ selection (nodes_in rows.items) (texts_of only.now)) }
-    ensures known { IfOk result (λ v. first_unknown (nodes_in rows.items) (texts_of only.now) ≡ None) }
-    ensures unknown { IfErr result (IsFaultOf (not_selected (first_unknown (nodes_in rows.items) (texts_of only.now)))) }
+    ensures kept { IfOk result (λ v. nodes_in v.items
+        ≡ selection (nodes_in rows.items) (texts_of only.now)) }
+    ensures known { IfOk result
+        (λ v. first_unknown (nodes_in rows.items) (texts_of only.now) ≡ None) }
+    ensures unknown { IfErr result
+        (IsFaultOf (not_selected (first_unknown (nodes_in rows.items) (texts_of only.now)))) }
 {
     if only.is_empty() {
         return Ok(rows);
@@ -36,9 +39,12 @@ pub(crate) fn selection(alloc: Global, rows: Vec<Row>, only: &[&str]) -> Result<
 /// is `NotSelected`.
 fn kept_by(alloc: Global, rows: &[Row], only: &[&str]) -> Result<Vec<bool>, PlanError>
     requires { IsRooted (nodes_in rows.now) }
-    ensures kept { IfOk result (λ v. v.items ≡ column (is_kept_by (nodes_in rows.now) (texts_of only.now)) (length rows.now)) }
-    ensures known { IfOk result (λ v. first_unknown (nodes_in rows.now) (texts_of only.now) ≡ None) }
-    ensures unknown { IfErr result (IsFaultOf (not_selected (first_unknown (nodes_in rows.now) (texts_of only.now)))) }
+    ensures kept { IfOk result (λ v. v.items
+        ≡ column (is_kept_by (nodes_in rows.now) (texts_of only.now)) (length rows.now)) }
+    ensures known { IfOk result
+        (λ v. first_unknown (nodes_in rows.now) (texts_of only.now) ≡ None) }
+    ensures unknown { IfErr result
+        (IsFaultOf (not_selected (first_unknown (nodes_in rows.now) (texts_of only.now)))) }
 {
     let paths = path_texts(alloc, rows)?;
     check_known(alloc, rows, &paths, only)?;
@@ -51,7 +57,8 @@ fn check_known(alloc: Global, rows: &[Row], paths: &[Text], only: &[&str]) -> Re
     requires tree { IsRooted (nodes_in rows.now) }
     requires paths { paths.now ≡ column (path_text (nodes_in rows.now)) (length rows.now) }
     ensures ok { OnOk result (first_unknown (nodes_in rows.now) (texts_of only.now) ≡ None) }
-    ensures err { IfErr result (IsFaultOf (not_selected (first_unknown (nodes_in rows.now) (texts_of only.now)))) }
+    ensures err { IfErr result
+        (IsFaultOf (not_selected (first_unknown (nodes_in rows.now) (texts_of only.now)))) }
 {
     let known = known_paths(alloc, rows, paths)?;
     'only: for index in 0..only.len() {
@@ -99,7 +106,8 @@ fn chosen(
 ) -> Result<Vec<bool>, AllocError>
     requires tree { IsRooted (nodes_in rows.now) }
     requires paths { paths.now ≡ column (path_text (nodes_in rows.now)) (length rows.now) }
-    ensures { IfOk result (λ v. v.items ≡ column (is_chosen (nodes_in rows.now) (texts_of only.now)) (length rows.now)) }
+    ensures { IfOk result (λ v. v.items ≡ column (is_chosen (nodes_in rows.now) (texts_of only.now))
+        (length rows.now)) }
 {
     let wanted = set_of(alloc, only)?;
     let mut chosen = Vec::with_capacity(alloc, rows.len())?;
@@ -115,8 +123,10 @@ fn chosen(
 fn kept(alloc: Global, rows: &[Row], chosen: &[bool]) -> Result<Vec<bool>, AllocError>
     requires tree { IsRooted (nodes_in rows.now) }
     requires each { length chosen.now ≡ length rows.now }
-    ensures { (only : List (List ℕ)) → chosen.now ≡ column (is_chosen (nodes_in rows.now) only) (length rows.now)
-        → IfOk result (λ v. v.items ≡ column (is_kept_by (nodes_in rows.now) only) (length rows.now)) }
+    ensures { (only : List (List ℕ)) → chosen.now
+        ≡ column (is_chosen (nodes_in rows.now) only) (length rows.now)
+        → IfOk result (λ v. v.items ≡ column (is_kept_by (nodes_in rows.now) only)
+        (length rows.now)) }
 {
     let mut kept = vec![in alloc; false; rows.len()]?;
     kept[0] = true;
@@ -149,7 +159,8 @@ fn those_of(alloc: Global, rows: Vec<Row>, kept: &[bool]) -> Result<Vec<Row>, Al
     requires tree { IsRooted (nodes_in rows.items) }
     requires each { length kept.now ≡ length rows.items }
     requires fits { length rows.items < 2 ^ 32 }
-    ensures { IfOk result (λ v. nodes_in v.items ≡ those_of (λ n. slice_index_or kept.now n false) (nodes_in rows.items)) }
+    ensures { IfOk result (λ v. nodes_in v.items
+        ≡ those_of (λ n. slice_index_or kept.now n false) (nodes_in rows.items)) }
 {
     let mut numbers = Vec::with_capacity(alloc, kept.len())?;
     let mut left = Vec::new(alloc);

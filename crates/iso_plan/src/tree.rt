@@ -48,7 +48,8 @@ fn root(alloc: Global) -> Row
 
 /// Adds a node.
 fn add(rows: &mut Vec<Row>, row: Row, most: u32) -> Result<(), PlanError>
-    ensures ok { OnOk result (nodes_in rows.new.items ≡ nodes_in rows.old.items ++ row_of row ∷ []) }
+    ensures ok { OnOk result (nodes_in rows.new.items ≡ nodes_in rows.old.items
+        ++ row_of row ∷ []) }
     ensures fits { OnOk result (vec_len rows.new ≤ most) }
     ensures full { IfErr result (IsFull most (vec_len rows.old + 1)) }
 {
@@ -66,7 +67,8 @@ fn add_team(alloc: Global, rows: &mut Vec<Row>, script: &Script, most: u32) -> R
         ++ team_rows script.now.team (vec_len rows.old) (map class_of script.now.classes.items)) }
     ensures fits { OnOk result (vec_len rows.new ≤ most) }
     ensures full { IfErr result (IsFull most (vec_len rows.old
-        + length (team_rows script.now.team (vec_len rows.old) (map class_of script.now.classes.items)))) }
+        + length (team_rows script.now.team (vec_len rows.old)
+        (map class_of script.now.classes.items)))) }
 {
     'classes: for class in &script.classes {
         add_top(alloc, rows, &script.team, class, most)?;
@@ -129,7 +131,8 @@ fn add_members(
         ++ members_rows parent (vec_len rows.old) (members_of (map member_of members.now))) }
     ensures fits { OnOk result (vec_len rows.new ≤ most) }
     ensures full { IfErr result (IsFull most (vec_len rows.old
-        + length (members_rows parent (vec_len rows.old) (members_of (map member_of members.now))))) }
+        + length (members_rows parent (vec_len rows.old)
+        (members_of (map member_of members.now))))) }
 {
     'members: for member in members {
         add_member(alloc, rows, parent, member, most)?;

@@ -16,7 +16,8 @@ times_in node (xs ∷ lists) = times node xs + times_in node lists
 -- each node was posted as often as its owner took it, its thieves stole it, a list for each, and it
 -- lies in the deque
 abbrev pub IsAccount : List ℕ → List ℕ → List (List ℕ) → List ℕ → Type 0
-IsAccount posted taken stolen lying = (node : ℕ) → times node posted ≡ times node taken + times_in node stolen + times node lying
+IsAccount posted taken stolen lying =
+    (node : ℕ) → times node posted ≡ times node taken + times_in node stolen + times node lying
 
 -- which deque it is
 abbrev pub DequeId : Type 0
@@ -38,7 +39,8 @@ pub record ThiefView : Type 0 where
 
 -- the end of an owner who did nothing but to send `thieves` thieves out
 abbrev pub new_owner : DequeId → ℕ → OwnerView
-new_owner deque thieves = record { deque = deque; posted = []; taken = []; returned = []; thieves = thieves }
+new_owner deque thieves =
+    record { deque = deque; posted = []; taken = []; returned = []; thieves = thieves }
 
 -- the end of a thief who did nothing
 abbrev pub new_thief : DequeId → ThiefView
@@ -48,7 +50,8 @@ new_thief deque = record { deque = deque; stolen = [] }
 -- in the deque
 abbrev pub AddsUp : OwnerView → ℕ → Type 0
 AddsUp owner count =
-    (stolen : List (List ℕ)) × (lying : List ℕ) × (length stolen ≡ owner.thieves) × (length lying ≡ count)
+    (stolen : List (List ℕ)) × (lying : List ℕ) × (length stolen ≡ owner.thieves)
+    × (length lying ≡ count)
     × IsAccount owner.posted owner.taken (owner.returned ∷ stolen) lying
 
 -- a node that was stolen joins the thief's list, and nothing else does

@@ -7,7 +7,13 @@ use Rattle.iso_posts.specs.declared.rule.Role.TheVariants.{Owner, Thief, Spent}
 
 -- what contracts see of a deque's pass that is its owner's, and of one that is a thief's
 abbrev pub owner_view : DequeId → Hand → OwnerView
-owner_view deque v = record { deque = deque; posted = v.posted; taken = v.taken; returned = v.returned; thieves = v.thieves }
+owner_view deque v = record {
+  deque = deque;
+  posted = v.posted;
+  taken = v.taken;
+  returned = v.returned;
+  thieves = v.thieves;
+}
 
 abbrev pub thief_view : DequeId → Hand → ThiefView
 thief_view deque v = record { deque = deque; stolen = v.taken }
@@ -77,19 +83,22 @@ abbrev pub times_posted : ℕ → Hand → ℕ
 times_posted node v = of_owner v.role (times node v.posted)
 
 abbrev pub times_gone : ℕ → Hand → ℕ
-times_gone node v = of_owner v.role (times node v.taken + times node v.returned) + of_thief v.role (times node v.taken)
+times_gone node v = of_owner v.role (times node v.taken + times node v.returned)
+    + of_thief v.role (times node v.taken)
 
 -- one pass is the owner's, and knows how many are thieves'; each node was posted as often as it was
 -- taken or stolen and lies in the deque
 pub record IsFair (items : List ℕ) (views : List Hand) : Type 0 where
   pub owner : total (λ v. of_owner v.role 1) views ≡ 1
   pub thieves : total (λ v. of_thief v.role 1) views ≡ total (λ v. of_owner v.role v.thieves) views
-  pub account : (node : ℕ) → total (times_posted node) views ≡ total (times_gone node) views + times node items
+  pub account : (node : ℕ) → total (times_posted node) views
+      ≡ total (times_gone node) views + times node items
 
 -- what a pass learns of the nodes that lie in the deque: of an owner's the account, with a list for
 -- each thief that is out
 abbrev pub Learned : Role → Hand → List ℕ → Type 0
-Learned Owner v items = (stolen : List (List ℕ)) × (length stolen ≡ v.thieves) × IsAccount v.posted v.taken (v.returned ∷ stolen) items
+Learned Owner v items = (stolen : List (List ℕ)) × (length stolen ≡ v.thieves)
+    × IsAccount v.posted v.taken (v.returned ∷ stolen) items
 Learned Thief v items = Unit {0}
 Learned Spent v items = Unit {0}
 

@@ -15,5 +15,7 @@ deques seats = map (λ (seat : PostSeat). seat.owner.deque) seats
 -- each worker has a thief of every other deque, in their order, who did nothing
 pub record ArePosts (workers : ℕ) (seats : List PostSeat) : Type 0 where
   pub number : length seats ≡ workers
-  pub owners : (w : ℕ) (seat : PostSeat) → slice_get seats w ≡ Some seat → seat.owner ≡ new_owner seat.owner.deque (workers - 1)
-  pub thieves : (w : ℕ) (seat : PostSeat) → slice_get seats w ≡ Some seat → seat.thieves.items ≡ map new_thief (without w (deques seats))
+  pub owners : (w : ℕ) (seat : PostSeat) → slice_get seats w ≡ Some seat
+      → seat.owner ≡ new_owner seat.owner.deque (workers - 1)
+  pub thieves : (w : ℕ) (seat : PostSeat) → slice_get seats w ≡ Some seat → seat.thieves.items
+      ≡ map new_thief (without w (deques seats))

@@ -25,7 +25,8 @@ impl Model for Thief {
 
     ghost view = { λ t. thief_view (stealer_deque t.stealer).0 (pass_view t.pass) };
 
-    ghost invariant = { λ t. IsPassOf (stealer_deque t.stealer) t.pass × IsOfThief (pass_view t.pass) };
+    ghost invariant = { λ t. IsPassOf (stealer_deque t.stealer) t.pass
+        × IsOfThief (pass_view t.pass) };
 }
 
 /// What an attempt to steal gives.

@@ -7,7 +7,8 @@ use Rattle.iso_isolation.specs.States.{State, is_waiting, is_open, is_at_rest}
 use Rattle.iso_isolation.specs.Events.{Event, Enter, Step, Leave, Shut, where_some}
 use Rattle.iso_isolation.specs.Refusals.{is_root, lowest_below, body_of, has_unfinished_sibling, has_unfinished_child, lock_held}
 
-module _ {H K V B F R : Type 0} (l : Language H K V B F R) (x : Suite H K V) (workers : ℕ) (s : State K V B F R) where
+module _ {H K V B F R : Type 0} (l : Language H K V B F R) (x : Suite H K V) (workers : ℕ)
+    (s : State K V B F R) where
   -- a worker has a body
   abbrev pub is_at_work : ℕ → Bool
   is_at_work w = is_some (body_of l x workers s w)
@@ -24,13 +25,15 @@ module _ {H K V B F R : Type 0} (l : Language H K V B F R) (x : Suite H K V) (wo
   abbrev pub may_be_shut : ℕ → Bool
   may_be_shut n =
       let status = s.nodes.status n in
-      not (is_root n) && is_at_rest status && not (is_open status && has_unfinished_child l x workers s n)
+      not (is_root n) && is_at_rest status
+      && not (is_open status && has_unfinished_child l x workers s n)
 
   -- a node waits in an open class, and neither an earlier sibling nor a lock is in its way
   abbrev pub may_be_entered : ℕ → Bool
   may_be_entered n =
       not (is_root n) && is_waiting (s.nodes.status n) && is_open (s.nodes.status (x.parent n))
-      && not (x.is_same_thread n && has_unfinished_sibling l x workers s n) && is_none (lock_held l x workers s n)
+      && not (x.is_same_thread n && has_unfinished_sibling l x workers s n)
+      && is_none (lock_held l x workers s n)
 
   -- a class is shut by its owner, and a node is entered by the owner of its parent
   abbrev pub shut_by_owner : ℕ → Event

@@ -39,11 +39,13 @@ crossed_rows =
 -- a test in a test
 abbrev pub nested_rows : List Row
 nested_rows =
-    no_node ∷ node_in 0 (test_head 0 false false 1) false None false ∷ node_in 1 (test_head 0 false false 1) false None false ∷ []
+    no_node ∷ node_in 0 (test_head 0 false false 1) false None false
+    ∷ node_in 1 (test_head 0 false false 1) false None false ∷ []
 
 -- a root that takes the key of a test
 abbrev pub rooted_rows : List Row
-rooted_rows = node_in 0 (class_head 0 false true) true (Some 1) true ∷ node_in 0 (test_head 0 false false 1) true (Some 1) true ∷ []
+rooted_rows = node_in 0 (class_head 0 false true) true (Some 1) true
+    ∷ node_in 0 (test_head 0 false false 1) true (Some 1) true ∷ []
 
 abbrev pub row_of : List Row → ℕ → Row
 row_of rows n = at no_node rows n
@@ -64,7 +66,8 @@ suite_in rows = record {
   takes = λ n k. is_key (row_of rows n).lock k;
   takes_write = λ n k. (row_of rows n).is_writer && is_key (row_of rows n).lock k;
   conflict = λ m n.
-      equal_keys (row_of rows m).lock (row_of rows n).lock && ((row_of rows m).is_writer || (row_of rows n).is_writer);
+      equal_keys (row_of rows m).lock (row_of rows n).lock
+      && ((row_of rows m).is_writer || (row_of rows n).is_writer);
   start = numbers;
 }
 
@@ -102,7 +105,8 @@ candidate_after es = candidate_in mall_rows es
 
 abbrev pub by_candidates : ℕ → Counted → List Event
 by_candidates zero s = []
-by_candidates (suc most) s = where_some (candidate counting mall 2 s) [] (λ e. e ∷ by_candidates most (after counting mall s e))
+by_candidates (suc most) s = where_some (candidate counting mall 2 s) []
+    (λ e. e ∷ by_candidates most (after counting mall s e))
 
 -- a body of one turn in a node, from its Enter to its Leave, and in the closing of a class
 abbrev pub whole_body : Event → ℕ → List Event
@@ -111,8 +115,10 @@ whole_body e w = e ∷ Step w ∷ Leave w ∷ []
 -- each node of the mall in turn, by worker 0
 abbrev pub one_by_one : List Event
 one_by_one =
-    whole_body (Enter 0 1) 0 ++ whole_body (Enter 0 2) 0 ++ whole_body (Enter 0 3) 0 ++ whole_body (Shut 0 2) 0
-    ++ whole_body (Enter 0 4) 0 ++ whole_body (Shut 0 1) 0 ++ whole_body (Enter 0 5) 0 ++ whole_body (Enter 0 6) 0
+    whole_body (Enter 0 1) 0 ++ whole_body (Enter 0 2) 0 ++ whole_body (Enter 0 3) 0
+    ++ whole_body (Shut 0 2) 0
+    ++ whole_body (Enter 0 4) 0 ++ whole_body (Shut 0 1) 0 ++ whole_body (Enter 0 5) 0
+    ++ whole_body (Enter 0 6) 0
     ++ whole_body (Shut 0 5) 0 ++ whole_body (Enter 0 7) 0 ++ whole_body (Shut 0 7) 0
 
 -- the isolated class is opened by worker 1; so are class 1 and in it class 2; so is the class whose
@@ -135,4 +141,5 @@ outer_done = whole_body (Enter 0 1) 0
 
 -- the candidate of a state of the crowd that worker 1 owns, where these nodes are SAME_THREAD
 abbrev pub candidate_at : (ℕ → Bool) → List CrowdStatus → Bool → Option Event
-candidate_at same statuses stopped = candidate counting (crowd same false) 2 (crowd_at statuses 1 stopped)
+candidate_at same statuses stopped =
+    candidate counting (crowd same false) 2 (crowd_at statuses 1 stopped)

@@ -27,21 +27,26 @@ module _ {H K V B F R : Type 0} (l : Language H K V B F R) (x : Suite H K V) whe
   -- In every state that a run reaches, an event is accepted while a node but the root is
   -- unfinished.
   abbrev pub NeverStuck : Type 0
-  NeverStuck = (workers : ℕ) (s : State K V B F R) → IsReached workers s → is_complete x s ≡ false → Accepts workers s
+  NeverStuck = (workers : ℕ) (s : State K V B F R) → IsReached workers s → is_complete x s ≡ false
+      → Accepts workers s
 
   -- What a search may rely on in a state: each event that it finds is accepted, those of nodes
   -- where no worker has a body; and where it finds none, all nodes but the root are finished.
   pub record SearchServes (workers : ℕ) (s : State K V B F R) : Type 0 where
-    pub body : (w : ℕ) → w < workers → is_at_work l x workers s w ≡ true → is_accepted l x workers s (going_on l x workers s w) ≡ true
+    pub body : (w : ℕ) → w < workers → is_at_work l x workers s w ≡ true
+        → is_accepted l x workers s (going_on l x workers s w) ≡ true
     pub shut : (n : ℕ) → n < x.nodes → NoneAtWork l x workers s → may_be_shut l x workers s n ≡ true
         → is_accepted l x workers s (shut_by_owner l x workers s n) ≡ true
-    pub enter : (n : ℕ) → n < x.nodes → NoneAtWork l x workers s → may_be_entered l x workers s n ≡ true
+    pub enter : (n : ℕ) → n < x.nodes → NoneAtWork l x workers s
+        → may_be_entered l x workers s n ≡ true
         → is_accepted l x workers s (entered_by_owner l x workers s n) ≡ true
-    pub none : NoneAtWork l x workers s → ((n : ℕ) → n < x.nodes → may_be_shut l x workers s n ≡ false)
+    pub none : NoneAtWork l x workers s
+        → ((n : ℕ) → n < x.nodes → may_be_shut l x workers s n ≡ false)
         → ((n : ℕ) → n < x.nodes → may_be_entered l x workers s n ≡ false) → is_complete x s ≡ true
 
   -- The candidate is accepted, and there is one exactly while a node but the root is unfinished.
   pub record CandidateServes (workers : ℕ) (s : State K V B F R) : Type 0 where
-    pub accepted : (e : Event) → candidate l x workers s ≡ Some e → is_accepted l x workers s e ≡ true
+    pub accepted : (e : Event) → candidate l x workers s ≡ Some e
+        → is_accepted l x workers s e ≡ true
     pub none : candidate l x workers s ≡ None → is_complete x s ≡ true
     pub complete : is_complete x s ≡ true → candidate l x workers s ≡ None

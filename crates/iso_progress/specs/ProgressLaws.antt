@@ -15,12 +15,14 @@ module _ {H K V : Type 0} (x : Suite H K V) where
   -- A node in the way of one that isn't a top-level class has gathered all locks of its own
   -- descendants: these wait for none.
   abbrev pub HoldersGather : Type 0
-  HoldersGather = (m n d : ℕ) → x.conflict m n ≡ true → (x.parent n ≡ 0 → ⊥) → On x m d → (m ≡ d → ⊥) → WaitsForNone d
+  HoldersGather = (m n d : ℕ) → x.conflict m n ≡ true → (x.parent n ≡ 0 → ⊥) → On x m d
+      → (m ≡ d → ⊥) → WaitsForNone d
 
 module _ {H K V B F R : Type 0} (l : Language H K V B F R) (x : Suite H K V) where
   -- no node is a child of a test
   abbrev pub TestsHoldNone : Type 0
-  TestsHoldNone = (n : ℕ) → (n ≡ 0 → ⊥) → (x.parent n ≡ 0 → ⊥) → l.is_test (x.head (x.parent n)) ≡ false
+  TestsHoldNone = (n : ℕ) → (n ≡ 0 → ⊥) → (x.parent n ≡ 0 → ⊥)
+      → l.is_test (x.head (x.parent n)) ≡ false
 
   pub record ProgressLaws : Type 0 where
     pub root : RootIsFree x

@@ -24,7 +24,8 @@ pub fn candidate_keeps_locks_and_owners()
     ensures ended { candidate_after (Enter 1 1 ∷ Step 1 ∷ []) ≡ Some (Leave 1) }
     ensures lower { candidate_after (Enter 1 1 ∷ Enter 0 7 ∷ []) ≡ Some (Step 0) }
     ensures isolated { candidate_after isolated_opened ≡ Some (Enter 1 6) }
-    ensures shut { candidate_after (isolated_opened ++ Enter 1 6 ∷ Step 1 ∷ Leave 1 ∷ []) ≡ Some (Shut 1 5) }
+    ensures shut { candidate_after (isolated_opened ++ Enter 1 6 ∷ Step 1 ∷ Leave 1 ∷ [])
+        ≡ Some (Shut 1 5) }
     ensures writer { candidate_after writer_opened ≡ Some (Enter 1 3) }
     ensures failed { candidate_after failed ≡ Some (Shut 1 7) }
     ensures closing { candidate_after (failed ++ Shut 1 7 ∷ []) ≡ Some (Step 1) }
@@ -35,19 +36,26 @@ pub fn candidate_keeps_locks_and_owners()
 /// after a stop.
 pub fn candidate_keeps_the_order_of_siblings()
     ensures same_thread { candidate_at (λ n. true)
-        (opened ∷ opened ∷ finished ∷ opened ∷ waiting ∷ finished ∷ waiting ∷ finished ∷ []) false ≡ Some (Enter 1 6) }
+        (opened ∷ opened ∷ finished ∷ opened ∷ waiting ∷ finished ∷ waiting ∷ finished ∷ []) false
+        ≡ Some (Enter 1 6) }
     ensures concurrent { candidate_at (λ n. not (eqb n 4))
-        (opened ∷ opened ∷ finished ∷ opened ∷ waiting ∷ finished ∷ waiting ∷ finished ∷ []) false ≡ Some (Enter 1 4) }
+        (opened ∷ opened ∷ finished ∷ opened ∷ waiting ∷ finished ∷ waiting ∷ finished ∷ []) false
+        ≡ Some (Enter 1 4) }
     ensures barred { candidate_at (λ n. true)
-        (opened ∷ opened ∷ finished ∷ barred_class ∷ waiting ∷ finished ∷ waiting ∷ finished ∷ []) false ≡ Some (Shut 1 3) }
+        (opened ∷ opened ∷ finished ∷ barred_class ∷ waiting ∷ finished ∷ waiting ∷ finished ∷ [])
+        false ≡ Some (Shut 1 3) }
     ensures childless { candidate_at (λ n. true)
-        (opened ∷ opened ∷ opened ∷ opened ∷ waiting ∷ finished ∷ waiting ∷ finished ∷ []) false ≡ Some (Shut 1 2) }
+        (opened ∷ opened ∷ opened ∷ opened ∷ waiting ∷ finished ∷ waiting ∷ finished ∷ []) false
+        ≡ Some (Shut 1 2) }
     ensures live { candidate_at (λ n. true)
-        (opened ∷ opened ∷ opened ∷ opened ∷ live ∷ finished ∷ waiting ∷ finished ∷ []) false ≡ Some (Step 0) }
+        (opened ∷ opened ∷ opened ∷ opened ∷ live ∷ finished ∷ waiting ∷ finished ∷ []) false
+        ≡ Some (Step 0) }
     ensures over { candidate_at (λ n. true)
-        (opened ∷ opened ∷ opened ∷ opened ∷ over ∷ finished ∷ waiting ∷ finished ∷ []) false ≡ Some (Leave 0) }
+        (opened ∷ opened ∷ opened ∷ opened ∷ over ∷ finished ∷ waiting ∷ finished ∷ []) false
+        ≡ Some (Leave 0) }
     ensures stopped { candidate_at (λ n. true)
-        (opened ∷ opened ∷ opened ∷ opened ∷ live ∷ finished ∷ waiting ∷ finished ∷ []) true ≡ None }
+        (opened ∷ opened ∷ opened ∷ opened ∷ live ∷ finished ∷ waiting ∷ finished ∷ []) true
+        ≡ None }
 {}
 
 /// Each law of `ProgressLaws` is needed: a suite that keeps all but it deadlocks. Two classes

@@ -14,21 +14,26 @@ ghost use Rattle.iso_progress.specs.ProgressLaws.{ProgressLaws};
 /// Never stuck: in every state that accepted events reach, on any number of workers but none, an
 /// event is accepted while a node but the root is unfinished.
 pub fn run_is_never_stuck<H, K, V, B, F, R>()
-    ensures { (l : Language H K V B F R) (x : Suite H K V) → BodyLaws l → SuiteLaws l x → ProgressLaws l x → NeverStuck l x }
+    ensures { (l : Language H K V B F R) (x : Suite H K V) → BodyLaws l → SuiteLaws l x
+        → ProgressLaws l x → NeverStuck l x }
 {}
 
 /// A search over workers, and then over nodes, finds such an event: each that it finds is accepted,
 /// and where it finds none all nodes but the root are finished.
 pub fn search_finds_an_accepted_event<H, K, V, B, F, R>()
-    ensures { (l : Language H K V B F R) (x : Suite H K V) → BodyLaws l → SuiteLaws l x → ProgressLaws l x
-        → (workers : ℕ) (s : State K V B F R) → IsReached l x workers s → SearchServes l x workers s }
+    ensures { (l : Language H K V B F R) (x : Suite H K V) → BodyLaws l → SuiteLaws l x
+        → ProgressLaws l x
+        → (workers : ℕ) (s : State K V B F R) → IsReached l x workers s
+        → SearchServes l x workers s }
 {}
 
 /// The candidate is such an event: it is accepted, and there is one exactly while a node but the
 /// root is unfinished.
 pub fn candidate_is_accepted<H, K, V, B, F, R>()
-    ensures { (l : Language H K V B F R) (x : Suite H K V) → BodyLaws l → SuiteLaws l x → ProgressLaws l x
-        → (workers : ℕ) (s : State K V B F R) → IsReached l x workers s → CandidateServes l x workers s }
+    ensures { (l : Language H K V B F R) (x : Suite H K V) → BodyLaws l → SuiteLaws l x
+        → ProgressLaws l x
+        → (workers : ℕ) (s : State K V B F R) → IsReached l x workers s
+        → CandidateServes l x workers s }
 {}
 
 /// In any state where there is no candidate, no event is accepted: the search leaves none out.
@@ -45,7 +50,8 @@ pub fn stuck_state_accepts_no_event<H, K, V, B, F, R>()
 
 /// A run that was stopped has no candidate.
 pub fn stopped_run_has_no_candidate<H, K, V, B, F, R>()
-    ensures { (l : Language H K V B F R) (x : Suite H K V) (workers : ℕ) (s : State K V B F R) → candidate l x workers (stop s) ≡ None }
+    ensures { (l : Language H K V B F R) (x : Suite H K V) (workers : ℕ) (s : State K V B F R)
+        → candidate l x workers (stop s) ≡ None }
 {}
 
 /// There are a language and a suite that keep all that is asked, with a class that is isolated, one

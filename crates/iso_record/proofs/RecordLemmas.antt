@@ -138,7 +138,8 @@ plain_next c h e t is plain =
 pub taken_history : (c : CoreView) (h : List E.Event) → HasTaken c h → IsHistory scripts (suite_in c) c.workers h → history_in c ≡ h
 taken_history c h t is = ap history_of t.events ∙ history_again scripts (suite_in c) c.workers h is
 
-pub gone_on : (c d : CoreView) (h : List E.Event) (e : Event) → history_in c ≡ h → HasTaken d (h ++ event_of e ∷ []) → IsHistory scripts (suite_in d) d.workers (h ++ event_of e ∷ []) → HasGoneOnBy e c d
+pub gone_on : (c d : CoreView) (h : List E.Event) (e : Event) → history_in c ≡ h → HasTaken d (h ++ event_of e ∷ [])
+    → IsHistory scripts (suite_in d) d.workers (h ++ event_of e ∷ []) → HasGoneOnBy e c d
 gone_on c d h e same t is =
     let history : history_in d ≡ h ++ event_of e ∷ [] = taken_history d (h ++ event_of e ∷ []) t is in
     record {

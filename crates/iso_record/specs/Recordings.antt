@@ -20,12 +20,15 @@ use Rattle.iso_suites.specs.SuiteStates.{suite_at}
 -- Events that record a history: they are the history in full, with the steps of each body right
 -- before its Leave, each is accepted after those before it, and after them as many nodes are
 -- finished as after the history.
-pub record AreRecordOf (plan : Planned) (world : Start) (workers : ℕ) (h es : List Event) : Type 0 where
-  pub in_full : events_of es ≡ full scripts (suite_at plan world) (first scripts (suite_at plan world)) (events_of h)
+pub record AreRecordOf (plan : Planned) (world : Start) (workers : ℕ)
+    (h es : List Event) : Type 0 where
+  pub in_full : events_of es ≡ full scripts (suite_at plan world)
+      (first scripts (suite_at plan world)) (events_of h)
   pub accepted : AreAccepted plan world workers es
   pub history : history_of (events_of es) ≡ events_of h
   pub complete : is_complete (core_after plan world workers es)
-      ≡ Runs.is_complete (suite_at plan world) (state_of scripts (suite_at plan world) (events_of h))
+      ≡ Runs.is_complete (suite_at plan world)
+      (state_of scripts (suite_at plan world) (events_of h))
 
 -- the Enters, Leaves and Shuts that a core has taken
 abbrev pub history_in : CoreView → List E.Event
@@ -54,7 +57,8 @@ pub record HasGoneOnBy (e : Event) (c d : CoreView) : Type 0 where
 -- a number of steps of a worker's body is accepted, and then its Leave
 pub record IsLeaving (c : CoreView) (w : ℕ) : Type 0 where
   pub steps : ℕ
-  pub run : is_run scripts (suite_in c) c.workers (state_in c) (replicate steps (E.Step w) ++ E.Leave w ∷ []) ≡ true
+  pub run : is_run scripts (suite_in c) c.workers (state_in c)
+      (replicate steps (E.Step w) ++ E.Leave w ∷ []) ≡ true
 
 -- an event wasn't taken: where that is told, it was refused, and nothing has changed
 abbrev pub RefusedIfTold : CoreFault → Event → CoreView → CoreView → Type 0

@@ -25,13 +25,17 @@ use Rattle.iso_suites.specs.SuiteStates.{RunState, suite_at}
 -- each has its history, or is left out, as in a class that is barred.
 mutual
   pub data IsNodeHistory (tree : List Row) : ℕ → List Event → Type 0 where
-    of_test : {n : ℕ} → is_test (row_at tree n).kind ≡ true → IsNodeHistory tree n (Enter 0 n ∷ Leave 0 ∷ [])
-    of_class : {n : ℕ} {h : List Event} → AreHistories tree (children tree n) h → IsNodeHistory tree n (Enter 0 n ∷ Leave 0 ∷ (h ++ Shut 0 n ∷ Leave 0 ∷ []))
+    of_test : {n : ℕ} → is_test (row_at tree n).kind ≡ true
+        → IsNodeHistory tree n (Enter 0 n ∷ Leave 0 ∷ [])
+    of_class : {n : ℕ} {h : List Event} → AreHistories tree (children tree n) h
+        → IsNodeHistory tree n (Enter 0 n ∷ Leave 0 ∷ (h ++ Shut 0 n ∷ Leave 0 ∷ []))
 
   pub data AreHistories (tree : List Row) : List ℕ → List Event → Type 0 where
     of_none : AreHistories tree [] []
-    of_next : {n : ℕ} {ns : List ℕ} {g h : List Event} → IsNodeHistory tree n g → AreHistories tree ns h → AreHistories tree (n ∷ ns) (g ++ h)
-    left_out : {n : ℕ} {ns : List ℕ} {h : List Event} → AreHistories tree ns h → AreHistories tree (n ∷ ns) h
+    of_next : {n : ℕ} {ns : List ℕ} {g h : List Event} → IsNodeHistory tree n g
+        → AreHistories tree ns h → AreHistories tree (n ∷ ns) (g ++ h)
+    left_out : {n : ℕ} {ns : List ℕ} {h : List Event} → AreHistories tree ns h
+        → AreHistories tree (n ∷ ns) h
 
 -- a whole history by worker 0: that of all top-level classes
 abbrev pub IsSerialHistory : List Row → List Event → Type 0
@@ -74,13 +78,16 @@ module _ (plan : Planned) (world : Start) (workers : ℕ) where
     pub at : IsBetween c h
     pub well : Bool
     pub here : phase_in (after_history h) c ≡ rest_of well
-    pub inside : (m : ℕ) → (m ≡ c → ⊥) → On (suite_at plan world) c m → phase_in (after_history h) m ≡ left_in well
+    pub inside : (m : ℕ) → (m ≡ c → ⊥) → On (suite_at plan world) c m → phase_in (after_history h) m
+        ≡ left_in well
 
   -- all descendants of the class are finished, and no other node has changed
   pub record HasRunInside (c : ℕ) (h g : List Event) : Type 0 where
     pub at : IsBetween c g
-    pub done : (m : ℕ) → m < length plan.rows → (m ≡ c → ⊥) → On (suite_at plan world) c m → phase_in (after_history g) m ≡ Finished
-    pub others : (m : ℕ) → ((m ≡ c → ⊥) → On (suite_at plan world) c m → ⊥) → phase_in (after_history g) m ≡ phase_in (after_history h) m
+    pub done : (m : ℕ) → m < length plan.rows → (m ≡ c → ⊥) → On (suite_at plan world) c m
+        → phase_in (after_history g) m ≡ Finished
+    pub others : (m : ℕ) → ((m ≡ c → ⊥) → On (suite_at plan world) c m → ⊥)
+        → phase_in (after_history g) m ≡ phase_in (after_history h) m
     pub events : List Event
     pub history : AreHistories (tree_of plan) (children (tree_of plan) c) events
     pub more : g ≡ h ++ events
@@ -104,7 +111,8 @@ module _ (plan : Planned) (world : Start) (workers : ℕ) where
     pub at : IsBetween n h
     pub well : Bool
     pub here : phase_in (after_history h) n ≡ rest_of well
-    pub children : (m : ℕ) → m < length plan.rows → 0 < m → parent (tree_of plan) m ≡ n → phase_in (after_history h) m ≡ Finished
+    pub children : (m : ℕ) → m < length plan.rows → 0 < m → parent (tree_of plan) m ≡ n
+        → phase_in (after_history h) m ≡ Finished
 
   -- it was shut and left, and no other node has changed
   pub record HasClosed (n : ℕ) (h g : List Event) : Type 0 where
@@ -118,19 +126,24 @@ module _ (plan : Planned) (world : Start) (workers : ℕ) where
   pub record HasRunSome (c : ℕ) (h : List Event) (i : ℕ) (g : List Event) : Type 0 where
     pub may : MayRunInside c h
     pub at : IsBetween c g
-    pub done : (j : ℕ) → j < i → (m : ℕ) → m < length plan.rows → On (suite_at plan world) (child c j) m → phase_in (after_history g) m ≡ Finished
-    pub left : (j : ℕ) → i ≤ j → j < length (children (tree_of plan) c) → (m : ℕ) → On (suite_at plan world) (child c j) m
+    pub done : (j : ℕ) → j < i → (m : ℕ) → m < length plan.rows
+        → On (suite_at plan world) (child c j) m → phase_in (after_history g) m ≡ Finished
+    pub left : (j : ℕ) → i ≤ j → j < length (children (tree_of plan) c) → (m : ℕ)
+        → On (suite_at plan world) (child c j) m
         → phase_in (after_history g) m ≡ left_in may.well
-    pub others : (m : ℕ) → ((m ≡ c → ⊥) → On (suite_at plan world) c m → ⊥) → phase_in (after_history g) m ≡ phase_in (after_history h) m
+    pub others : (m : ℕ) → ((m ≡ c → ⊥) → On (suite_at plan world) c m → ⊥)
+        → phase_in (after_history g) m ≡ phase_in (after_history h) m
     pub events : List Event
     pub history : AreHistories (tree_of plan) (take i (children (tree_of plan) c)) events
     pub more : g ≡ h ++ events
 
 -- Events of a whole run by worker 0: all are its own, they are a history by worker 0 in full, each
 -- is accepted after those before it, and all nodes are finished at the end.
-pub record AreSerialRecordOf (plan : Planned) (world : Start) (workers : ℕ) (es : List Code.Event) : Type 0 where
+pub record AreSerialRecordOf (plan : Planned) (world : Start) (workers : ℕ)
+    (es : List Code.Event) : Type 0 where
   pub alone : AllByRecursion (λ e. worker_of e ≡ 0) es
   pub serial : IsSerialHistory (tree_of plan) (history_of (events_of es))
-  pub in_full : events_of es ≡ full scripts (suite_at plan world) (first scripts (suite_at plan world)) (history_of (events_of es))
+  pub in_full : events_of es ≡ full scripts (suite_at plan world)
+      (first scripts (suite_at plan world)) (history_of (events_of es))
   pub accepted : AreAccepted plan world workers es
   pub complete : Cores.is_complete (core_after plan world workers es) ≡ true

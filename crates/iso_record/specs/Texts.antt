@@ -6,10 +6,12 @@ use Rattle.iso_standing.specs.declared.event.Event.TheVariants.{Enter, Step, Lea
 
 -- an event as a line with its line feed
 abbrev pub event_line : Event → List ℕ
-event_line (Enter worker node) = codes "enter " ++ decimal worker ++ codes " " ++ decimal node ++ codes "\n"
+event_line (Enter worker node) =
+    codes "enter " ++ decimal worker ++ codes " " ++ decimal node ++ codes "\n"
 event_line (Step worker) = codes "step " ++ decimal worker ++ codes "\n"
 event_line (Leave worker) = codes "leave " ++ decimal worker ++ codes "\n"
-event_line (Shut worker node) = codes "shut " ++ decimal worker ++ codes " " ++ decimal node ++ codes "\n"
+event_line (Shut worker node) =
+    codes "shut " ++ decimal worker ++ codes " " ++ decimal node ++ codes "\n"
 
 -- the lines of events, in their order
 abbrev pub schedule_text : List Event → List ℕ

@@ -13,7 +13,8 @@ ghost use Rattle.iso_standing.specs.declared.event.Event.{Event};
 /// What is written of events is read as these events, where no number has more than nine digits and
 /// the text no more bytes than a schedule may have. With more it is TooLong.
 pub fn written_events_are_read_back()
-    ensures read { (es : List Event) → AllByRecursion IsShort es → length (schedule_text es) ≤ FILE_BYTES
+    ensures read { (es : List Event) → AllByRecursion IsShort es
+        → length (schedule_text es) ≤ FILE_BYTES
         → AreRead (schedule_text es) (Ok es) }
     ensures too_long { (es : List Event) → FILE_BYTES < length (schedule_text es)
         → AreRead (schedule_text es) (Err (record { kind = TooLong; line = 1 })) }
@@ -22,6 +23,7 @@ pub fn written_events_are_read_back()
 /// The events that a core accepts have numbers of at most nine digits, where there are no more
 /// workers and nodes.
 pub fn accepted_events_are_short()
-    ensures { (plan : Planned) (world : Start) (workers : ℕ) (es : List Event) → AreAccepted plan world workers es
+    ensures { (plan : Planned) (world : Start) (workers : ℕ) (es : List Event)
+        → AreAccepted plan world workers es
         → workers ≤ 10 ^ 9 → length plan.rows ≤ 10 ^ 9 → AllByRecursion IsShort es }
 {}

@@ -19,8 +19,11 @@ use std::alloc::{AllocError, Global};
 /// The events of a book's run: its history, with the steps of each body right before its Leave. A
 /// core takes them, so it does each step once more. Out of memory is the only error.
 pub fn record(alloc: Global, book: &Book<'_>) -> Result<Vec<Event>, AllocError>
-    ensures record { IfOk result (λ es. AreRecordOf book.now.plan book.now.world book.now.workers book.now.history es.items) }
-    ensures complete { IfOk result (λ es. is_complete (core_after book.now.plan book.now.world book.now.workers es.items) ≡ Books.is_complete book.now) }
+    ensures record { IfOk result (λ es. AreRecordOf book.now.plan book.now.world book.now.workers
+        book.now.history es.items) }
+    ensures complete { IfOk result
+        (λ es. is_complete (core_after book.now.plan book.now.world book.now.workers es.items)
+        ≡ Books.is_complete book.now) }
 {
     in_full(
         alloc,
@@ -58,7 +61,8 @@ fn go_on_at(
     requires within { index < length history.now }
     requires goes_on { GoesOnBy recording.old (event_at history.now index) }
     requires taken { HasTaken recording.old (history_in recording.old) }
-    ensures gone_on { OnOk result (HasGoneOnBy (event_at history.now index) recording.old recording.new) }
+    ensures gone_on { OnOk result
+        (HasGoneOnBy (event_at history.now index) recording.old recording.new) }
     ensures same { OfSameSuite recording.old recording.new }
 {
     recording.go_on_by(history[index])

@@ -89,8 +89,10 @@ impl<'a> Recording<'a> {
     /// left.
     fn leave_or_step(&mut self, worker: u32) -> Result<bool, AllocError>
         requires { IsLeaving self.old worker }
-        ensures left { IfOk result (λ left. left ≡ true → Accepted (Code.Leave worker) self.old self.new) }
-        ensures stepped { IfOk result (λ left. left ≡ false → Accepted (Code.Step worker) self.old self.new) }
+        ensures left { IfOk result (λ left. left ≡ true
+            → Accepted (Code.Leave worker) self.old self.new) }
+        ensures stepped { IfOk result (λ left. left ≡ false
+            → Accepted (Code.Step worker) self.old self.new) }
         ensures same { OfSameSuite self.old self.new }
     {
         match self.take(Event::Leave { worker }) {
@@ -147,7 +149,9 @@ impl<'a> Recording<'a> {
     pub fn is_finished(&self, node: u32) -> bool
         requires within { node < length self.now.plan.rows }
         requires taken { HasTaken self.now (history_in self.now) }
-        ensures { result ≡ is_finished ((after_history self.now.plan self.now.world self.now.workers (history_in self.now)).nodes.status node) }
+        ensures { result ≡ is_finished
+            ((after_history self.now.plan self.now.world self.now.workers
+            (history_in self.now)).nodes.status node) }
     {
         self.core.outcome(node).is_some()
     }

@@ -39,10 +39,12 @@ impl Recording<'_> {
     fn node(&mut self, plan: &Plan, node: u32) -> Result<(), AllocError>
         requires of { plan.now ≡ self.old.plan }
         requires taken { HasTaken self.old (history_in self.old) }
-        requires may { MayRun self.old.plan self.old.world self.old.workers node (history_in self.old) }
+        requires may { MayRun self.old.plan self.old.world self.old.workers node
+            (history_in self.old) }
         ensures same { OfSameSuite self.old self.new }
         ensures taken { OnOk result (HasTaken self.new (history_in self.new)) }
-        ensures run { OnOk result (HasRun self.old.plan self.old.world self.old.workers node (history_in self.old) (history_in self.new)) }
+        ensures run { OnOk result (HasRun self.old.plan self.old.world self.old.workers node
+            (history_in self.old) (history_in self.new)) }
     {
         nodes_are_a_tree(plan);
         self.first_body(plan, node)?;
@@ -59,10 +61,12 @@ impl Recording<'_> {
     pub(crate) fn children(&mut self, plan: &Plan, class: u32) -> Result<(), AllocError>
         requires of { plan.now ≡ self.old.plan }
         requires taken { HasTaken self.old (history_in self.old) }
-        requires may { MayRunInside self.old.plan self.old.world self.old.workers class (history_in self.old) }
+        requires may { MayRunInside self.old.plan self.old.world self.old.workers class
+            (history_in self.old) }
         ensures same { OfSameSuite self.old self.new }
         ensures taken { OnOk result (HasTaken self.new (history_in self.new)) }
-        ensures run { OnOk result (HasRunInside self.old.plan self.old.world self.old.workers class (history_in self.old) (history_in self.new)) }
+        ensures run { OnOk result (HasRunInside self.old.plan self.old.world self.old.workers class
+            (history_in self.old) (history_in self.new)) }
     {
         nodes_are_a_tree(plan);
         children_have_their_parent(plan);
@@ -78,13 +82,16 @@ impl Recording<'_> {
     fn first_body(&mut self, plan: &Plan, node: u32) -> Result<(), AllocError>
         requires of { plan.now ≡ self.old.plan }
         requires taken { HasTaken self.old (history_in self.old) }
-        requires may { MayRun self.old.plan self.old.world self.old.workers node (history_in self.old) }
+        requires may { MayRun self.old.plan self.old.world self.old.workers node
+            (history_in self.old) }
         ensures same { OfSameSuite self.old self.new }
         ensures taken { OnOk result (HasTaken self.new (history_in self.new)) }
         ensures test { is_test (row_at (tree_of plan.now) node).kind ≡ true
-            → OnOk result (HasRunTest self.old.plan self.old.world self.old.workers node (history_in self.old) (history_in self.new)) }
+            → OnOk result (HasRunTest self.old.plan self.old.world self.old.workers node
+            (history_in self.old) (history_in self.new)) }
         ensures class { is_test (row_at (tree_of plan.now) node).kind ≡ false
-            → OnOk result (HasOpened self.old.plan self.old.world self.old.workers node (history_in self.old) (history_in self.new)) }
+            → OnOk result (HasOpened self.old.plan self.old.world self.old.workers node
+            (history_in self.old) (history_in self.new)) }
     {
         nodes_are_a_tree(plan);
         self.go_on_by(Event::Enter {
@@ -98,10 +105,12 @@ impl Recording<'_> {
     fn last_body(&mut self, plan: &Plan, node: u32) -> Result<(), AllocError>
         requires of { plan.now ≡ self.old.plan }
         requires taken { HasTaken self.old (history_in self.old) }
-        requires may { MayClose self.old.plan self.old.world self.old.workers node (history_in self.old) }
+        requires may { MayClose self.old.plan self.old.world self.old.workers node
+            (history_in self.old) }
         ensures same { OfSameSuite self.old self.new }
         ensures taken { OnOk result (HasTaken self.new (history_in self.new)) }
-        ensures closed { OnOk result (HasClosed self.old.plan self.old.world self.old.workers node (history_in self.old) (history_in self.new)) }
+        ensures closed { OnOk result (HasClosed self.old.plan self.old.world self.old.workers node
+            (history_in self.old) (history_in self.new)) }
     {
         nodes_are_a_tree(plan);
         self.go_on_by(Event::Shut {

@@ -17,7 +17,8 @@ use Rattle.iso_run.specs.declared.inputs.Inputs.{Inputs}
 use Rattle.iso_run.specs.declared.state.State.{State}
 use Rattle.iso_tap.specs.Sinks.{Account}
 
-side-of : (inputs : Inputs) (state : State) (side : SideView) → IsStateOf inputs state → side.tree ≡ tree_of state.suite.plan → side.texts ≡ map (λ v. v.items) state.bytes.scripts.items → side.sites ≡ state.sites
+side-of : (inputs : Inputs) (state : State) (side : SideView) → IsStateOf inputs state → side.tree ≡ tree_of state.suite.plan
+    → side.texts ≡ map (λ v. v.items) state.bytes.scripts.items → side.sites ≡ state.sites
     → IsSideOf inputs (suite_of inputs state.suite) side
 side-of inputs state side is tree texts_are sites = record {
   is_suite = is.suite.is_suite;

@@ -105,7 +105,8 @@ module _ (inputs : Inputs) (keeps : Bool) (suite : ReadSuite) (is : IsRead input
             (s, is.is_suite, (events, subst (λ (t : List ℕ). AreRead t (Ok events)) (sym same) read, (all.accepted, all.complete)));
       }
 
-  scheduled : (way : Way) (old new : Option Account) → IsScheduled (AreEvents way suite.plan suite.world suite.settings.worker_count) old new → IsScheduled (AreRecord inputs (suite_of inputs suite) way) old new
+  scheduled : (way : Way) (old new : Option Account) → IsScheduled (AreEvents way suite.plan suite.world suite.settings.worker_count) old new
+      → IsScheduled (AreRecord inputs (suite_of inputs suite) way) old new
   scheduled way None new h = h
   scheduled way (Some old) None h = absurd h
   scheduled way (Some old) (Some new) h = (h.0, record-of way h.0 h.1, h.2)

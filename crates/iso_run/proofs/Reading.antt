@@ -6,7 +6,8 @@ use Rattle.iso_model.specs.declared.limits.TheConstants.{FILE_BYTES}
 use Rattle.iso_run.specs.Commands.{IsOneRead}
 use Rattle.iso_run.specs.declared.command_fault.CommandFault.{CommandFault}
 
-pub read_up_to : (known : Option (List ℕ)) (limit : ℕ) (before after : List ℕ) → before ≡ [] → IfSome (option_map (take limit) known) (λ xs. after ≡ before ++ xs) → IfSome known (λ bytes. after ≡ take limit bytes)
+pub read_up_to : (known : Option (List ℕ)) (limit : ℕ) (before after : List ℕ) → before ≡ []
+    → IfSome (option_map (take limit) known) (λ xs. after ≡ before ++ xs) → IfSome known (λ bytes. after ≡ take limit bytes)
 read_up_to None limit before after none h = tt
 read_up_to (Some bytes) limit before after none h = h ∙ ap (λ (xs : List ℕ). xs ++ take limit bytes) none
 

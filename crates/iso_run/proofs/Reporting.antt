@@ -23,7 +23,8 @@ use Rattle.iso_run.specs.declared.report.Summary.{Summary}
 use Rattle.iso_run.specs.declared.way.Way.{Way}
 
 -- what tells why a product wasn't written whole, where the sink failed
-pub cut-off : {A : Type 0} (ok_of : A → Bool) (product : Suite → Product) (inputs : Inputs) (way : Way) (suite : Suite) → IsSuite inputs suite → IsPlayed inputs way true → (old new : Account) (fault : RunFault)
+pub cut-off : {A : Type 0} (ok_of : A → Bool) (product : Suite → Product) (inputs : Inputs) (way : Way) (suite : Suite)
+    → IsSuite inputs suite → IsPlayed inputs way true → (old new : Account) (fault : RunFault)
     → IsCutOff (product suite).text old new fault → Writes ok_of product inputs way old new (Err fault)
 cut-off ok_of product inputs way suite is played old new fault cut =
     let whole : IsCutOff (product suite).text old new (Write cut.written) = record { written = cut.written; is = refl; took = cut.took; within = cut.within; failed = cut.failed } in
@@ -40,10 +41,12 @@ module _ (inputs : Inputs) (old new : Account) (suite : Suite) (plan : Planned) 
       ap₂ (λ (p : Planned) (s : Start). all_ok (tree_of plan) (outcome_alone (tree_of p) (started s))) of on
       ∙ ap (λ (p : Planned). all_ok (tree_of p) (outcome_alone (tree_of p) (started suite.start))) made
 
-  cut : (way : Way) → IsPlayed inputs way true → (fault : RunFault) → IsCutOff (report (tree_of plan) (outcome_in v)) old new fault → Writes (λ (s : Summary). s.all_ok) suite_report inputs way old new (Err fault)
+  cut : (way : Way) → IsPlayed inputs way true → (fault : RunFault) → IsCutOff (report (tree_of plan) (outcome_in v)) old new fault
+      → Writes (λ (s : Summary). s.all_ok) suite_report inputs way old new (Err fault)
   cut way played fault h = cut-off (λ (s : Summary). s.all_ok) suite_report inputs way suite is played old new fault (subst (λ (text : List ℕ). IsCutOff text old new fault) report-is h)
 
-  unreported : (way : Way) → IsPlayed inputs way true → (fault : RunFault) → IsUnwritten (report (tree_of plan) (outcome_in v)) old new fault → Writes (λ (s : Summary). s.all_ok) suite_report inputs way old new (Err fault)
+  unreported : (way : Way) → IsPlayed inputs way true → (fault : RunFault) → IsUnwritten (report (tree_of plan) (outcome_in v)) old new fault
+      → Writes (λ (s : Summary). s.all_ok) suite_report inputs way old new (Err fault)
   unreported way played (F.Settings fault) h = cut way played (F.Settings fault) h
   unreported way played (F.World fault) h = cut way played (F.World fault) h
   unreported way played (F.Script index fault) h = cut way played (F.Script index fault) h
@@ -81,7 +84,8 @@ module _ (inputs : Inputs) (old new : Account) (suite : Suite) (plan : Planned) 
   told w times watched before after same placed (Err e) h = tt
 
   -- the same of a run that was watched, with times that may be any
-  pub told-run : {A F : Type 0} (way : Way) (w : WrittenView) (times : List (Option ℕ)) (watched : Option WatchedView) (before after : Tells) → WasWatchedOf inputs way (is_some before.html) watched → w.texts ≡ texts inputs.scripts.now
+  pub told-run : {A F : Type 0} (way : Way) (w : WrittenView) (times : List (Option ℕ)) (watched : Option WatchedView) (before after : Tells)
+      → WasWatchedOf inputs way (is_some before.html) watched → w.texts ≡ texts inputs.scripts.now
       → (wants_places before ≡ true → ArePlaced w.texts w.scripts w.places)
       → (result : Result A F) → OnOk result (HasTold w (tree_of plan) plan.settings (outcome_in v) times watched before after)
       → OnOk result (TellsRun inputs way before after)

@@ -15,7 +15,8 @@ read_more [] (r ∷ ss) t s earlier last = absurd earlier
 read_more (u ∷ ts) [] t s earlier last = absurd earlier
 read_more (u ∷ ts) (r ∷ ss) t s earlier last = (earlier.0, read_more ts ss t s earlier.1 last)
 
-pub placed_more : (ts : List (List ℕ)) (ss : List Script) (ps : List (List NodePlace)) (t : List ℕ) (s : Script) (p : List NodePlace) → ArePlaced ts ss ps → ReadsPlaced t s p → ArePlaced (ts ++ t ∷ []) (ss ++ s ∷ []) (ps ++ p ∷ [])
+pub placed_more : (ts : List (List ℕ)) (ss : List Script) (ps : List (List NodePlace)) (t : List ℕ) (s : Script) (p : List NodePlace)
+    → ArePlaced ts ss ps → ReadsPlaced t s p → ArePlaced (ts ++ t ∷ []) (ss ++ s ∷ []) (ps ++ p ∷ [])
 placed_more [] [] [] t s p earlier last = (last, tt)
 placed_more [] [] (q ∷ ps) t s p earlier last = absurd earlier
 placed_more [] (r ∷ ss) [] t s p earlier last = absurd earlier

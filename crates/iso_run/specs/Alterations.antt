@@ -33,7 +33,8 @@ pub record AreBelow (folder : List ℕ) (files older : InputFiles) : Type 0 wher
 
 -- These are the fates of the new nodes, what differs of those that are changed, and the old nodes
 -- that are gone.
-pub record IsAlteration (s : Suites) (made : List Fate) (apart : List (Option Difference)) (lost : List ℕ) : Type 0 where
+pub record IsAlteration (s : Suites) (made : List Fate) (apart : List (Option Difference))
+    (lost : List ℕ) : Type 0 where
   pub each : length made ≡ length s.new.rows
   pub fates : AreFates s made
   pub told_each : length apart ≡ length s.new.rows
@@ -60,7 +61,11 @@ both was now = suites (planned was) was.start (planned now) now.start
 abbrev pub change_text : (paths : Bool) → ChangeView → (folder : List ℕ) → (missing : ℕ) → List ℕ
 change_text paths c folder missing =
     cond paths (paths_text (affected_rows c))
-    (affected_text (affected_rows c) (record { counts = counts c.old.tree c.new.tree c.fates c.gone; folder = folder; missing = missing }))
+    (affected_text (affected_rows c) (record {
+      counts = counts c.old.tree c.new.tree c.fates c.gone;
+      folder = folder;
+      missing = missing;
+    }))
 
 -- The change is that of one suite to another: its fates, its differences and what is gone are those
 -- of their nodes. A property that is told starts with another value.

@@ -18,12 +18,14 @@ text_in (Some text) = unwrap_or text.bytes []
 -- is longer than what is replayed
 abbrev pub replayed : (schedule : List ℕ) → RecordedView → List ℕ
 replayed schedule run =
-    cond (nat_lt FILE_BYTES (length schedule)) (too_large_line run.schedule) (cond (can_be_told run) (replay_line run) [])
+    cond (nat_lt FILE_BYTES (length schedule)) (too_large_line run.schedule)
+    (cond (can_be_told run) (replay_line run) [])
 
 -- the same, where a run of these files is recorded
 abbrev pub replay_text : InputFiles → (processors : ℕ) → Besides → List ℕ
 replay_text files processors besides =
-    unwrap_or (option_map (λ (name : Bor (List ℕ)). replayed (text_in besides.course.schedule) (recorded files processors name.now)) besides.schedule) []
+    unwrap_or (option_map (λ (name : Bor (List ℕ)). replayed (text_in besides.course.schedule)
+    (recorded files processors name.now)) besides.schedule) []
 
 -- what stands on standard error after a report of these files, in this order
 abbrev pub parts_of : InputFiles → (processors : ℕ) → Besides → List (List ℕ)
@@ -58,11 +60,13 @@ IsQuiet tells = (tells.summary ≡ None) × (tells.durations ≡ None) × (tells
 
 -- the files that are to be written besides, where they are named
 abbrev pub files_of : Besides → List (Option (Bor (List ℕ)))
-files_of besides = besides.failed ∷ besides.junit ∷ besides.html ∷ besides.schedule ∷ besides.trace ∷ []
+files_of besides =
+    besides.failed ∷ besides.junit ∷ besides.html ∷ besides.schedule ∷ besides.trace ∷ []
 
 -- no file is to be written
 abbrev pub NamesNone : Besides → Type 0
-NamesNone besides = (besides.failed ≡ None) × (besides.junit ≡ None) × (besides.html ≡ None) × (besides.schedule ≡ None) × (besides.trace ≡ None)
+NamesNone besides = (besides.failed ≡ None) × (besides.junit ≡ None) × (besides.html ≡ None)
+    × (besides.schedule ≡ None) × (besides.trace ≡ None)
 
 -- nothing is to be told on standard error, nothing of the course of a run, and no file is to be
 -- written

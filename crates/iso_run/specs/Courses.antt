@@ -47,28 +47,33 @@ wants_times course = is_some course.trace || is_some course.stats
 
 -- Events are a whole run of a plan by `workers` workers: each is accepted after those before it,
 -- the steps of each body stand right before its Leave, and every node is finished at the end.
-pub record AreWhole (plan : Planned) (start : Start) (workers : ℕ) (events : List Event) : Type 0 where
+pub record AreWhole (plan : Planned) (start : Start) (workers : ℕ)
+    (events : List Event) : Type 0 where
   pub accepted : AreAccepted plan start workers events
-  pub in_full : events_of events ≡ full scripts (suite_at plan start) (first scripts (suite_at plan start)) (history_of (events_of events))
+  pub in_full : events_of events ≡ full scripts (suite_at plan start)
+      (first scripts (suite_at plan start)) (history_of (events_of events))
   pub complete : is_complete (core_after plan start workers events) ≡ true
 
 -- in a run on one thread all events are worker 0's, node by node in the order in which they are
 -- written
 abbrev pub AreInOrder : Way → Planned → List Event → Type 0
-AreInOrder Serial plan events = AllByRecursion (λ e. worker_of e ≡ 0) events × IsSerialHistory (tree_of plan) (history_of (events_of events))
+AreInOrder Serial plan events = AllByRecursion (λ e. worker_of e ≡ 0) events
+    × IsSerialHistory (tree_of plan) (history_of (events_of events))
 AreInOrder ByWorkers plan events = ⊤
 AreInOrder (BySchedule schedule) plan events = ⊤
 
 -- the events of a run in some way
 abbrev pub AreEvents : Way → Planned → Start → (workers : ℕ) → List Event → Type 0
-AreEvents way plan start workers events = AreWhole plan start workers events × AreInOrder way plan events
+AreEvents way plan start workers events = AreWhole plan start workers events
+    × AreInOrder way plan events
 
 -- lines of events of which something is true were told where they are asked for, and nothing where
 -- they aren't
 abbrev pub IsScheduled : (List Event → Type 0) → (old new : Option Account) → Type 0
 IsScheduled Are None new = new ≡ None
 IsScheduled Are (Some old) None = ⊥
-IsScheduled Are (Some old) (Some new) = (events : List Event) × Are events × Wrote old new (schedule_text events)
+IsScheduled Are (Some old) (Some new) = (events : List Event) × Are events
+    × Wrote old new (schedule_text events)
 
 -- a run that was observed: its plan, its results, the times of its bodies, and how many workers
 -- were started of how many
@@ -80,7 +85,13 @@ pub record ObservedView : Type 0 where
   pub of : ℕ
 
 abbrev pub observed_of : Observed → ObservedView
-observed_of run = record { plan = run.plan.now; results = run.results.now; times = run.times.now; started = run.started; of = run.of }
+observed_of run = record {
+  plan = run.plan.now;
+  results = run.results.now;
+  times = run.times.now;
+  started = run.started;
+  of = run.of;
+}
 
 -- what its nodes waited for
 abbrev pub waits_of : ObservedView → List NodeWait
@@ -101,13 +112,15 @@ pub record AreFigures (run : ObservedView) (figures : Figures) : Type 0 where
   pub workers_are : figures.workers ≡ run.started
   pub of_is : figures.of ≡ run.of
   pub span_is : figures.span ≡ span (tree_of run.plan) run.times
-  pub busy_is : figures.busy ≡ percent (work (tree_of run.plan) run.times) run.started (span (tree_of run.plan) run.times)
+  pub busy_is : figures.busy ≡ percent (work (tree_of run.plan) run.times) run.started
+      (span (tree_of run.plan) run.times)
 
 -- its figures were told where they are asked for, and nothing where they aren't
 abbrev pub IsCounted : ObservedView → (old new : Option Account) → Type 0
 IsCounted run None new = new ≡ None
 IsCounted run (Some old) None = ⊥
-IsCounted run (Some old) (Some new) = (figures : Figures) × AreFigures run figures × Wrote old new (stats_text (tree_of run.plan) figures)
+IsCounted run (Some old) (Some new) = (figures : Figures) × AreFigures run figures
+    × Wrote old new (stats_text (tree_of run.plan) figures)
 
 -- all that is asked for of its times was told, and its events are asked for as before
 pub record HasObserved (run : ObservedView) (old new : Course) : Type 0 where
@@ -122,7 +135,8 @@ AreStarted ByWorkers workers started = (1 ≤ started) × (started ≤ workers)
 AreStarted (BySchedule schedule) workers started = ⊤
 
 -- a run of a plan by `workers` workers: all nodes have results
-pub record IsRunOf (way : Way) (plan : Planned) (start : Start) (workers : ℕ) (run : ObservedView) : Type 0 where
+pub record IsRunOf (way : Way) (plan : Planned) (start : Start) (workers : ℕ)
+    (run : ObservedView) : Type 0 where
   pub plan_is : run.plan ≡ plan
   pub results_plan : run.results.plan ≡ plan
   pub results_start : run.results.start ≡ start
@@ -132,7 +146,8 @@ pub record IsRunOf (way : Way) (plan : Planned) (start : Start) (workers : ℕ) 
 
 -- All that is asked for of a run's course was told: its events, of which something is true, its
 -- trace and its figures.
-pub record IsCourse (Are : List Event → Type 0) (way : Way) (plan : Planned) (start : Start) (workers : ℕ) (old new : Course) : Type 0 where
+pub record IsCourse (Are : List Event → Type 0) (way : Way) (plan : Planned) (start : Start)
+    (workers : ℕ) (old new : Course) : Type 0 where
   pub schedule : IsScheduled Are old.schedule new.schedule
   pub run : ObservedView
   pub is_run : IsRunOf way plan start workers run
@@ -142,12 +157,15 @@ pub record IsCourse (Are : List Event → Type 0) (way : Way) (plan : Planned) (
 -- Events are the record of a run of the suite that inputs are. Where their text is no longer than a
 -- schedule may be, a replay of it comes to its end with every node finished, and so writes the same
 -- report.
-pub record AreRecord (inputs : Inputs) (suite : Suite) (way : Way) (events : List Event) : Type 0 where
+pub record AreRecord (inputs : Inputs) (suite : Suite) (way : Way)
+    (events : List Event) : Type 0 where
   pub whole : AreWhole (planned suite) suite.start suite.settings.worker_count events
   pub in_order : AreInOrder way (planned suite) events
-  pub replays : (schedule : Bor (List ℕ)) → schedule.now ≡ schedule_text events → length schedule.now ≤ FILE_BYTES → IsPlayed inputs (BySchedule schedule) true
+  pub replays : (schedule : Bor (List ℕ)) → schedule.now ≡ schedule_text events
+      → length schedule.now ≤ FILE_BYTES → IsPlayed inputs (BySchedule schedule) true
 
 -- the course of a run of the suite that inputs are was told
 abbrev pub TellsCourse : Inputs → Way → (old new : Course) → Type 0
 TellsCourse inputs way old new =
-    OfSuite inputs (λ suite. IsCourse (AreRecord inputs suite way) way (planned suite) suite.start suite.settings.worker_count old new)
+    OfSuite inputs (λ suite. IsCourse (AreRecord inputs suite way) way
+    (planned suite) suite.start suite.settings.worker_count old new)

@@ -40,21 +40,29 @@ planned suite = record { rows = suite.nodes; settings = suite.settings }
 -- whether inputs ask for paths alone, and all that they ask for: paths, patterns, and the paths
 -- that a file lists
 abbrev pub asks_for_paths : Inputs → Bool
-asks_for_paths inputs = (length inputs.patterns.now == 0) && (is_none inputs.listed && is_none inputs.shard)
+asks_for_paths inputs =
+    (length inputs.patterns.now == 0) && (is_none inputs.listed && is_none inputs.shard)
 
 abbrev pub wishes_in : Inputs → Option (List Wish)
-wishes_in inputs = all_wishes (texts_of inputs.only.now) (texts_of inputs.patterns.now) (option_copied inputs.listed)
+wishes_in inputs = all_wishes (texts_of inputs.only.now) (texts_of inputs.patterns.now)
+    (option_copied inputs.listed)
 
 -- the nodes of scripts that inputs keep, and why these have no plan
 abbrev pub kept_nodes : Inputs → List Script → List Row
-kept_nodes inputs ss = cond (asks_for_paths inputs) (plan_tree ss (texts_of inputs.only.now)) (picked_tree ss (wishes_in inputs) inputs.shard)
+kept_nodes inputs ss = cond (asks_for_paths inputs) (plan_tree ss (texts_of inputs.only.now))
+    (picked_tree ss (wishes_in inputs) inputs.shard)
 
 abbrev pub kept_fault : Inputs → List Script → Option PlanFault
-kept_fault inputs ss = cond (asks_for_paths inputs) (plan_fault ss (texts_of inputs.only.now)) (picked_plan_fault ss (wishes_in inputs) inputs.shard)
+kept_fault inputs ss = cond (asks_for_paths inputs) (plan_fault ss (texts_of inputs.only.now))
+    (picked_plan_fault ss (wishes_in inputs) inputs.shard)
 
 -- what a suite that was read of inputs stands for
 abbrev pub suite_of : Inputs → ReadSuite → Suite
-suite_of inputs s = record { nodes = kept_nodes inputs (map script_of s.scripts.items); settings = s.settings; start = s.world }
+suite_of inputs s = record {
+  nodes = kept_nodes inputs (map script_of s.scripts.items);
+  settings = s.settings;
+  start = s.world;
+}
 
 -- the TOML document that bytes are, if they are one; a document is UTF-8 (TOML, spec)
 abbrev pub document : List ℕ → Option Members
@@ -94,10 +102,12 @@ OfSuite inputs Is = (suite : Suite) × IsSuite inputs suite × Is suite
 
 -- settings and world are read
 abbrev pub AreSet : Inputs → Type 0
-AreSet inputs = IsOk (settings_from inputs.settings.now inputs.processors) × IsOk (world_from inputs.world.now)
+AreSet inputs = IsOk (settings_from inputs.settings.now inputs.processors)
+    × IsOk (world_from inputs.world.now)
 
 -- The bytes at this place are no script and have this fault, and those before them are scripts.
-pub record FirstUnread (scripts : List (Bor (List ℕ))) (index : ℕ) (fault : ScriptFault) : Type 0 where
+pub record FirstUnread (scripts : List (Bor (List ℕ))) (index : ℕ)
+    (fault : ScriptFault) : Type 0 where
   pub within : index < length scripts
   pub earlier : (ss : List Script) × AreRead (texts (take index scripts)) ss
   pub unread : HasScriptFault (get_or (texts scripts) index []) fault
@@ -106,9 +116,11 @@ pub record FirstUnread (scripts : List (Bor (List ℕ))) (index : ℕ) (fault : 
 -- memory ran out.
 abbrev pub NoSuite : Inputs → RunFault → Type 0
 NoSuite inputs (F.Settings fault) = settings_from inputs.settings.now inputs.processors ≡ Err fault
-NoSuite inputs (F.World fault) = IsOk (settings_from inputs.settings.now inputs.processors) × (world_from inputs.world.now ≡ Err fault)
+NoSuite inputs (F.World fault) = IsOk (settings_from inputs.settings.now inputs.processors)
+    × (world_from inputs.world.now ≡ Err fault)
 NoSuite inputs (F.Script index fault) = AreSet inputs × FirstUnread inputs.scripts.now index fault
 NoSuite inputs (F.Plan fault) = AreSet inputs
-    × ((ss : List Script) × AreRead (texts inputs.scripts.now) ss × (kept_fault inputs ss ≡ Some fault))
+    × ((ss : List Script) × AreRead (texts inputs.scripts.now) ss
+    × (kept_fault inputs ss ≡ Some fault))
 NoSuite inputs F.Memory = ⊤
 NoSuite inputs _ = ⊥

@@ -151,9 +151,12 @@ fn read_scripts(
     mending: &mut ScriptMending,
 ) -> Result<ReadScripts, RunFault>
     requires { AreSet inputs }
-    ensures scripts { MatchResult result (λ r. AreRead (texts inputs.entry.scripts.now) (map script_of r.scripts.items)) (NoSuite inputs.entry) }
+    ensures scripts { MatchResult result
+        (λ r. AreRead (texts inputs.entry.scripts.now) (map script_of r.scripts.items))
+        (NoSuite inputs.entry) }
     ensures places { IfOk result (λ r. keeps ≡ true
-        → ArePlaced (texts inputs.entry.scripts.now) (map script_of r.scripts.items) (places_in r.places.items)) }
+        → ArePlaced (texts inputs.entry.scripts.now) (map script_of r.scripts.items)
+        (places_in r.places.items)) }
 {
     let mut read = ReadScripts {
         scripts: Vec::new(alloc),
@@ -182,7 +185,8 @@ fn read_one(
 ) -> Result<Script, ScriptError>
     ensures found { IfOk result (λ s. Reads bytes.now (script_of s)) }
     ensures fault { IfErr result (UnlessMemory (HasScriptFault bytes.now)) }
-    ensures places { keeps ≡ true → IfOk result (λ s. (more : List P.NodePlace) × ReadsPlaced bytes.now (script_of s) more
+    ensures places { keeps ≡ true
+        → IfOk result (λ s. (more : List P.NodePlace) × ReadsPlaced bytes.now (script_of s) more
         × (places_in places.new.items ≡ places_in places.old.items ++ more ∷ [])) }
 {
     if !keeps {

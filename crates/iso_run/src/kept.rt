@@ -22,10 +22,13 @@ pub(crate) fn plan_kept(
     settings: &Settings,
     inputs: Inputs<'_>,
 ) -> Result<Plan, PlanError>
-    ensures nodes { IfOk result (λ p. tree_of p ≡ kept_nodes inputs.entry (map script_of scripts.now)) }
+    ensures nodes { IfOk result (λ p. tree_of p
+        ≡ kept_nodes inputs.entry (map script_of scripts.now)) }
     ensures settings { IfOk result (λ p. p.settings ≡ settings.now) }
-    ensures accepted { IfOk result (λ p. kept_fault inputs.entry (map script_of scripts.now) ≡ None) }
-    ensures refused { IfErr result (IsFaultOf (kept_fault inputs.entry (map script_of scripts.now))) }
+    ensures accepted { IfOk result
+        (λ p. kept_fault inputs.entry (map script_of scripts.now) ≡ None) }
+    ensures refused { IfErr result
+        (IsFaultOf (kept_fault inputs.entry (map script_of scripts.now))) }
 {
     if asks_for_paths(inputs) {
         return build_only(alloc, scripts, settings, inputs.only);

@@ -69,7 +69,8 @@ fn tell_trace(
     waits: &[NodeWait],
     asked: &mut Option<MemorySink>,
 ) -> Result<(), AllocError>
-    requires { waits.now ≡ all_waits (tree_of run.now.plan.now) run.now.plan.now.settings run.now.times.now }
+    requires { waits.now ≡ all_waits (tree_of run.now.plan.now) run.now.plan.now.settings
+        run.now.times.now }
     ensures { OnOk result (IsTold (trace_of (observed_of run.now)) asked.old asked.new) }
 {
     match asked {
@@ -85,7 +86,8 @@ fn add_trace(
     waits: &[NodeWait],
     sink: &mut MemorySink,
 ) -> Result<(), AllocError>
-    requires { waits.now ≡ all_waits (tree_of run.now.plan.now) run.now.plan.now.settings run.now.times.now }
+    requires { waits.now ≡ all_waits (tree_of run.now.plan.now) run.now.plan.now.settings
+        run.now.times.now }
     ensures { OnOk result (Wrote sink.old sink.new (trace_of (observed_of run.now))) }
 {
     let names = Names::new(alloc, run.plan)?;

@@ -32,8 +32,10 @@ pub(crate) fn say_parts<E: Sink>(
     processors: u32,
     errors: &mut E,
 ) -> bool
-    ensures said { IsSaid (parted false (parts_of files.now processors besides.now)) (E.account errors.old) (E.account errors.new) }
-    ensures quiet { IsQuiet besides.now.tells → besides.now.course.stats ≡ None → besides.now.schedule ≡ None → errors.new ≡ errors.old }
+    ensures said { IsSaid (parted false (parts_of files.now processors besides.now))
+        (E.account errors.old) (E.account errors.new) }
+    ensures quiet { IsQuiet besides.now.tells → besides.now.course.stats ≡ None
+        → besides.now.schedule ≡ None → errors.new ≡ errors.old }
 {
     let tells = &besides.tells;
     let parts = [

@@ -22,7 +22,8 @@ pub(crate) fn tell_book(
     asked: &mut Option<MemorySink>,
 ) -> Result<(), AllocError>
     requires { is_complete book.now ≡ true }
-    ensures { OnOk result (IsScheduled (AreEvents ByWorkers book.now.plan book.now.world book.now.workers) asked.old asked.new) }
+    ensures { OnOk result (IsScheduled
+        (AreEvents ByWorkers book.now.plan book.now.world book.now.workers) asked.old asked.new) }
 {
     match asked {
         Some(sink) => add_book(alloc, book, sink),
@@ -33,7 +34,8 @@ pub(crate) fn tell_book(
 /// Adds the events of a book's run to their text.
 fn add_book(alloc: Global, book: &Book<'_>, sink: &mut MemorySink) -> Result<(), AllocError>
     requires { is_complete book.now ≡ true }
-    ensures { OnOk result (IsScheduled (AreEvents ByWorkers book.now.plan book.now.world book.now.workers) (Some sink.old) (Some sink.new)) }
+    ensures { OnOk result (IsScheduled (AreEvents ByWorkers book.now.plan book.now.world
+        book.now.workers) (Some sink.old) (Some sink.new)) }
 {
     let events = record(alloc, book)?;
     add_events(&events, sink)
@@ -46,7 +48,8 @@ pub(crate) fn tell_alone(
     asked: &mut Option<MemorySink>,
 ) -> Result<(), AllocError>
     requires { 1 ≤ suite.now.settings.worker_count }
-    ensures { OnOk result (IsScheduled (AreEvents Serial suite.now.plan suite.now.world suite.now.settings.worker_count) asked.old asked.new) }
+    ensures { OnOk result (IsScheduled (AreEvents Serial suite.now.plan suite.now.world
+        suite.now.settings.worker_count) asked.old asked.new) }
 {
     match asked {
         Some(sink) => add_alone(alloc, suite, sink),
@@ -57,7 +60,8 @@ pub(crate) fn tell_alone(
 /// Adds the events of a run of a suite by worker 0 alone to their text.
 fn add_alone(alloc: Global, suite: &Suite, sink: &mut MemorySink) -> Result<(), AllocError>
     requires { 1 ≤ suite.now.settings.worker_count }
-    ensures { OnOk result (IsScheduled (AreEvents Serial suite.now.plan suite.now.world suite.now.settings.worker_count) (Some sink.old) (Some sink.new)) }
+    ensures { OnOk result (IsScheduled (AreEvents Serial suite.now.plan suite.now.world
+        suite.now.settings.worker_count) (Some sink.old) (Some sink.new)) }
 {
     let workers = suite.settings.workers();
     let events = record_serial(alloc, &suite.plan, &suite.world, workers)?;

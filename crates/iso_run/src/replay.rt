@@ -69,7 +69,8 @@ fn replay_events<W: Sink>(
 ) -> Result<Summary, RunFault>
     requires { IsRead inputs (wants_places tells.old) suite.now }
     ensures report { (schedule : Bor (List ℕ)) → AreRead schedule.now (Ok events.now)
-        → Writes (λ s. s.all_ok) suite_report inputs.entry (BySchedule schedule) (W.account sink.old) (W.account sink.new) result }
+        → Writes (λ s. s.all_ok) suite_report inputs.entry (BySchedule schedule)
+        (W.account sink.old) (W.account sink.new) result }
     ensures told { OnOk result (TellsOf inputs.entry [] None tells.old tells.new) }
 {
     let workers = suite.settings.workers();

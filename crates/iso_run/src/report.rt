@@ -49,10 +49,13 @@ pub(crate) fn write_results<W: Sink>(
     requires plan { run.now.results.now.plan ≡ suite.now.plan }
     requires complete { AreComplete run.now.results.now }
     ensures report { MatchResult result
-        (λ s. Wrote (W.account sink.old) (W.account sink.new) (report (tree_of suite.now.plan) (outcome_in run.now.results.now))
+        (λ s. Wrote (W.account sink.old) (W.account sink.new)
+        (report (tree_of suite.now.plan) (outcome_in run.now.results.now))
         × (s.all_ok ≡ all_ok (tree_of suite.now.plan) (outcome_in run.now.results.now)))
-        (IsUnwritten (report (tree_of suite.now.plan) (outcome_in run.now.results.now)) (W.account sink.old) (W.account sink.new)) }
-    ensures told { OnOk result (HasTold (as_written suite.now texts.now) (tree_of suite.now.plan) suite.now.plan.settings (outcome_in run.now.results.now) run.now.times.now
+        (IsUnwritten (report (tree_of suite.now.plan) (outcome_in run.now.results.now))
+        (W.account sink.old) (W.account sink.new)) }
+    ensures told { OnOk result (HasTold (as_written suite.now texts.now) (tree_of suite.now.plan)
+        suite.now.plan.settings (outcome_in run.now.results.now) run.now.times.now
         (option_map watched_of run.now.watched) tells.old tells.new) }
 {
     let written = Written {

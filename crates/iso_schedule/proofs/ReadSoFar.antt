@@ -28,7 +28,8 @@ module _ {bytes : List ℕ} {done : List Event} {number : ℕ} {rest line : List
     fault = λ f h. r.fault f (subst (λ ls. HaveFault number ls f) (sym e) (after_event_line i h));
   }
 
-  pub at_wrong_line : (kind : ScheduleFaultKind) → IsReadTo bytes done number rest → lines rest ≡ line ∷ lines after → IsWrong line kind → HaveFault 1 (lines bytes) (record { kind = kind; line = number })
+  pub at_wrong_line : (kind : ScheduleFaultKind) → IsReadTo bytes done number rest → lines rest ≡ line ∷ lines after
+      → IsWrong line kind → HaveFault 1 (lines bytes) (record { kind = kind; line = number })
   at_wrong_line kind r e i =
       let f : ScheduleFault = record { kind = kind; line = number } in
       r.fault f (subst (λ ls. HaveFault number ls f) (sym e) (this_line i))

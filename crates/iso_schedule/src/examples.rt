@@ -7,7 +7,8 @@ ghost use Rattle.iso_standing.specs.declared.event.Event.TheVariants.{Enter, Lea
 /// A line has the word of an event, the worker, and then the node where one is named. No line, no
 /// event.
 pub fn lines_write_events()
-    ensures each { IsSchedule "enter 2 1\nstep 2\nleave 2\nshut 2 1\n" (Enter 2 1 ∷ Step 2 ∷ Leave 2 ∷ Shut 2 1 ∷ []) }
+    ensures each { IsSchedule "enter 2 1\nstep 2\nleave 2\nshut 2 1\n"
+        (Enter 2 1 ∷ Step 2 ∷ Leave 2 ∷ Shut 2 1 ∷ []) }
     ensures none { IsSchedule "" [] }
 {}
 

@@ -5,5 +5,6 @@ ghost use Rattle.iso_schedule.specs.Schedules.{AreRead, Reading};
 /// Bytes are read as one thing: events, or a fault.
 pub fn bytes_have_one_reading()
     ensures some { (bytes : List ℕ) → (r : Reading) × AreRead bytes r }
-    ensures no_other { (bytes : List ℕ) (r q : Reading) → AreRead bytes r → AreRead bytes q → r ≡ q }
+    ensures no_other { (bytes : List ℕ) (r q : Reading) → AreRead bytes r
+        → AreRead bytes q → r ≡ q }
 {}

@@ -51,7 +51,8 @@ fn strip_gap(bytes: &[u8]) -> Option<&[u8]>
 
 /// The digits after a gap, and what follows them.
 fn split_numeral(bytes: &[u8]) -> Option<(Numeral<'_>, &[u8])>
-    ensures { option_map (λ front. (front.0.digits.now, front.1.now)) result ≡ numeral_at bytes.now }
+    ensures { option_map (λ front. (front.0.digits.now, front.1.now)) result
+        ≡ numeral_at bytes.now }
 {
     let (word, rest) = split_word(strip_gap(bytes)?);
     let numeral = Numeral::from_word(word)?;

@@ -23,7 +23,8 @@ pub fn read_schedule(alloc: Global, bytes: &[u8]) -> Result<Vec<Event>, Schedule
     // What is answered is what the bytes are read as.
     ensures answered { IfAnswered (AreRead bytes.now) result }
     // What the bytes are read as is answered, unless memory runs out.
-    ensures only { (reading : Reading) → AreRead bytes.now reading → IfAnswered (λ r. r ≡ reading) result }
+    ensures only { (reading : Reading) → AreRead bytes.now reading
+        → IfAnswered (λ r. r ≡ reading) result }
 {
     if bytes.len() > FILE_BYTES as usize {
         let kind = ScheduleFaultKind::TooLong;

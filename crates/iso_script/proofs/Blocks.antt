@@ -83,7 +83,8 @@ same_self BeforeEach = refl
 same_self AfterEach = refl
 
 -- one block more, of a kind that is not there
-block_more : (blocks : Blocks) (j : Lifecycle) (block : Block) → blocks j ≡ None → (k : Lifecycle) → option_to_list (blocks k) ++ option_to_list (block_in k (record { kind = j; block = block })) ≡ option_to_list (with_block j block blocks k)
+block_more : (blocks : Blocks) (j : Lifecycle) (block : Block) → blocks j ≡ None → (k : Lifecycle)
+    → option_to_list (blocks k) ++ option_to_list (block_in k (record { kind = j; block = block })) ≡ option_to_list (with_block j block blocks k)
 block_more blocks j block none k = go (same_kind k j) refl
   where
     go : (b : Bool) → same_kind k j ≡ b → option_to_list (blocks k) ++ option_to_list (block_in k (record { kind = j; block = block })) ≡ option_to_list (with_block j block blocks k)
@@ -94,7 +95,8 @@ none_is : (o : Option Block) → false ≡ is_some o → o ≡ None
 none_is None h = refl
 none_is (Some x) h = cc
 
-pub comes_to_more : (ws : List Written) (j : Lifecycle) (block : Block) (blocks next : Blocks) → false ≡ is_some (blocks j) → next ≡ with_block j block blocks → ((k : Lifecycle) → filter_map (block_in k) ws ≡ option_to_list (blocks k)) → (k : Lifecycle) → filter_map (block_in k) (ws ++ record { kind = j; block = block } ∷ []) ≡ option_to_list (next k)
+pub comes_to_more : (ws : List Written) (j : Lifecycle) (block : Block) (blocks next : Blocks) → false ≡ is_some (blocks j) → next ≡ with_block j block blocks
+    → ((k : Lifecycle) → filter_map (block_in k) ws ≡ option_to_list (blocks k)) → (k : Lifecycle) → filter_map (block_in k) (ws ++ record { kind = j; block = block } ∷ []) ≡ option_to_list (next k)
 comes_to_more ws j block blocks next none is come k =
     gives_more (block_in k) ws (record { kind = j; block = block }) _ _ (come k) (block_more blocks j block (none_is (blocks j) none) k ∙ ap (λ (bs : Blocks). option_to_list (bs k)) (sym is))
 
@@ -102,7 +104,8 @@ some_is : (k : Lifecycle) → None ≡ Some k → ⊥
 some_is k h = cc
 
 -- what the next block is, where one is
-pub next_block : (ws : List Written) (first here : List Piece) (j : Lifecycle) → AreRead IsWritten ws first here → block_next here ≡ Some j → (all : Blocks) (rest : List Piece) → (h : IsBlocks all first rest)
+pub next_block : (ws : List Written) (first here : List Piece) (j : Lifecycle) → AreRead IsWritten ws first here
+    → block_next here ≡ Some j → (all : Blocks) (rest : List Piece) → (h : IsBlocks all first rest)
     → (w : Written) × (more : List Written) × (qs : List Piece) × (h.written ≡ ws ++ w ∷ more) × (w.kind ≡ j) × IsBlock w.block.body (tail here) qs
 next_block ws first here j read next all rest h =
     let g = goes_on IsWritten block_next one_written some_written ws h.written first here rest read h.read h.ends (λ e. some_is j (sym e ∙ next)) in

@@ -115,7 +115,8 @@ adds_mode m old h = record { mode = ap (λ xs. xs ++ m ∷ []) (none_listed old.
 pub adds_isolation : (old : Marks) → old.isolated ≡ false → Adds isolates old (record { mode = old.mode; isolated = true; disabled = old.disabled; keys = old.keys })
 adds_isolation old h = record { mode = append-nil (option_to_list old.mode); isolated = ap (λ xs. xs ++ isolates ∷ []) (not_isolated old.isolated h); disabled = append-nil (option_to_list old.disabled); keys = append-nil old.keys }
 
-pub adds_reason : (reason : List ℕ) (old : Marks) → is_some old.disabled ≡ false → Adds (disables reason) old (record { mode = old.mode; isolated = old.isolated; disabled = Some reason; keys = old.keys })
+pub adds_reason : (reason : List ℕ) (old : Marks) → is_some old.disabled ≡ false
+    → Adds (disables reason) old (record { mode = old.mode; isolated = old.isolated; disabled = Some reason; keys = old.keys })
 adds_reason reason old h = record { mode = append-nil (option_to_list old.mode); isolated = append-nil (isolation old.isolated); disabled = ap (λ xs. xs ++ reason ∷ []) (none_listed old.disabled h); keys = append-nil old.keys }
 
 pub adds_key : (k : Mark) (old : Marks) → Adds (declares k) old (record { mode = old.mode; isolated = old.isolated; disabled = old.disabled; keys = old.keys ++ k ∷ [] })
@@ -140,7 +141,8 @@ front_of_isolation (x ∷ y ∷ xs) ys true h = cc
 front_of_isolation (x ∷ y ∷ xs) ys false h = cc
 
 -- the marks of a longer list have room for the first of the rest
-split : {A : Type 0} (f : Marking → Option A) (ws more : List Marking) (x : Marking) (old all : List A) → filter_map f ws ≡ old → filter_map f (ws ++ x ∷ more) ≡ all → (rest : List A) × ((old ++ option_to_list (f x)) ++ rest ≡ all)
+split : {A : Type 0} (f : Marking → Option A) (ws more : List Marking) (x : Marking) (old all : List A)
+    → filter_map f ws ≡ old → filter_map f (ws ++ x ∷ more) ≡ all → (rest : List A) × ((old ++ option_to_list (f x)) ++ rest ≡ all)
 split f ws more x old all h k = (
   filter_map f more,
   ap (λ ys. ys ++ filter_map f more) (sym (gives_more f ws x old (old ++ option_to_list (f x)) h refl))

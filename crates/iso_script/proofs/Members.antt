@@ -55,13 +55,15 @@ one_somewhere : (d : ℕ) (taken : List (List ℕ)) (m n : Member) (ps qs rs : L
 one_somewhere d taken m n ps qs rs h k = let u = one_member h.1 k.1 in (u.0, u.2)
 
 -- all members up to the brace, one after another
-pub all_read : (d : ℕ) (taken : List (List ℕ)) (ms : List Member) (places : List NodePlace) (first here rest : List Piece) → ArePlaced (IsMember d taken) ms places first here → after CloseBrace here ≡ Some rest → IsMembers d taken (members_of ms) places first rest
+pub all_read : (d : ℕ) (taken : List (List ℕ)) (ms : List Member) (places : List NodePlace) (first here rest : List Piece)
+    → ArePlaced (IsMember d taken) ms places first here → after CloseBrace here ≡ Some rest → IsMembers d taken (members_of ms) places first rest
 all_read d taken [] places first here rest h brace =
     let s = after-Some CloseBrace here rest brace in
     subst (λ ls. IsMembers d taken no_members ls first rest) (sym h.0) (subst (λ ps. IsMembers d taken no_members [] ps rest) (sym (h.1 ∙ s.1)) closed)
 all_read d taken (m ∷ ms) places first here rest h brace = subst (λ ls. IsMembers d taken (member m (members_of ms)) ls first rest) (sym h.3) (and_then h.4 (all_read d taken ms h.1 h.2 here rest h.5 brace))
 
-as_read : {d : ℕ} {taken : List (List ℕ)} {ms : Members} {places : List NodePlace} {ps rest : List Piece} → IsMembers d taken ms places ps rest → (r : Position) × AreRead (Somewhere (IsMember d taken)) (list_of ms) ps (symbol_at r CloseBrace ∷ rest)
+as_read : {d : ℕ} {taken : List (List ℕ)} {ms : Members} {places : List NodePlace} {ps rest : List Piece}
+    → IsMembers d taken ms places ps rest → (r : Position) × AreRead (Somewhere (IsMember d taken)) (list_of ms) ps (symbol_at r CloseBrace ∷ rest)
 as_read (closed {r = r}) = (r, refl)
 as_read (and_then {own = own} {qs = qs} h k) = let p = as_read k in (p.0, (qs, (own, h), p.1))
 
@@ -69,7 +71,8 @@ none_some : (ps : List Piece) → if_none None ps ≡ None → ⊥
 none_some ps h = cc
 
 -- where no brace closes, whatever is read goes on with a member of another name
-pub next_member : (d : ℕ) (taken : List (List ℕ)) (ms : List Member) (places : List NodePlace) (first here : List Piece) → ArePlaced (IsMember d taken) ms places first here → after CloseBrace here ≡ None → (all : Members) (others : List NodePlace) (rest : List Piece) → HasMembers d taken all others first rest
+pub next_member : (d : ℕ) (taken : List (List ℕ)) (ms : List Member) (places : List NodePlace) (first here : List Piece) → ArePlaced (IsMember d taken) ms places first here
+    → after CloseBrace here ≡ None → (all : Members) (others : List NodePlace) (rest : List Piece) → HasMembers d taken all others first rest
     → (m : Member) × (own : List NodePlace) × (qs : List Piece) × IsNewMember (map name_of ms) d taken m own here qs
 next_member d taken ms places first here read unended all others rest (has_members h some distinct) =
     let p = as_read h in
@@ -79,7 +82,8 @@ next_member d taken ms places first here read unended all others rest (has_membe
     (g.0, g.4.0, g.2, (g.4.1, is_among-before (map name_of ms) (map name_of g.1) (name_of g.0) (subst (IsDistinct bytes_eq) names distinct)))
 
 -- a class that is closed before its first member has none
-pub empty_refused : (d : ℕ) (r : Position) (taken : List (List ℕ)) (ms : List Member) (places : List NodePlace) (first here rest : List Piece) → ArePlaced (IsMember d taken) ms places first here → ms ≡ [] → here ≡ symbol_at r CloseBrace ∷ rest → (all : Members) (others : List NodePlace) (end : List Piece) → HasMembers d taken all others first end → ⊥
+pub empty_refused : (d : ℕ) (r : Position) (taken : List (List ℕ)) (ms : List Member) (places : List NodePlace) (first here rest : List Piece) → ArePlaced (IsMember d taken) ms places first here
+    → ms ≡ [] → here ≡ symbol_at r CloseBrace ∷ rest → (all : Members) (others : List NodePlace) (end : List Piece) → HasMembers d taken all others first end → ⊥
 empty_refused d r taken ms places first here rest read none is all others end h =
     let same : (places ≡ []) × (first ≡ here) = subst (λ ms. ArePlaced (IsMember d taken) ms places first here) none read in
     closes (subst (λ ps. HasMembers d taken all others ps end) (same.1 ∙ is) h)

@@ -20,7 +20,8 @@ meant_word meaning x (bad_at r fault ∷ ps) h = cc
 meant_word meaning x [] h = cc
 
 -- one item more
-pub read_push : {W : Type 0} (Is : W → List Piece → List Piece → Type 0) (ws : List W) (w : W) (first here next : List Piece) → AreRead Is ws first here → Is w here next → AreRead Is (ws ++ w ∷ []) first next
+pub read_push : {W : Type 0} (Is : W → List Piece → List Piece → Type 0) (ws : List W) (w : W) (first here next : List Piece)
+    → AreRead Is ws first here → Is w here next → AreRead Is (ws ++ w ∷ []) first next
 read_push Is [] w first here next h k = (next, subst (λ ps. Is w ps next) (sym h) k, refl)
 read_push Is (v ∷ vs) w first here next h k = (h.0, h.1, read_push Is vs w h.0 here next h.2 k)
 
@@ -63,7 +64,8 @@ gives_more f ws w old new h k = filter_map-append f ws (w ∷ []) ∙ ap (λ xs.
 abbrev pub Somewhere : {W : Type 0} → (W → List NodePlace → List Piece → List Piece → Type 0) → W → List Piece → List Piece → Type 0
 Somewhere Is w ps qs = (places : List NodePlace) × Is w places ps qs
 
-pub read_somewhere : {W : Type 0} (Is : W → List NodePlace → List Piece → List Piece → Type 0) (ws : List W) (places : List NodePlace) (ps rs : List Piece) → ArePlaced Is ws places ps rs → AreRead (Somewhere Is) ws ps rs
+pub read_somewhere : {W : Type 0} (Is : W → List NodePlace → List Piece → List Piece → Type 0) (ws : List W) (places : List NodePlace) (ps rs : List Piece)
+    → ArePlaced Is ws places ps rs → AreRead (Somewhere Is) ws ps rs
 read_somewhere Is [] places ps rs h = h.1
 read_somewhere Is (w ∷ ws) places ps rs h = (h.2, (h.0, h.4), read_somewhere Is ws h.1 h.2 rs h.5)
 

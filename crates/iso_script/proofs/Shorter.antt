@@ -43,7 +43,8 @@ mutual
   member_shorter (as_test h fit k) = omega (arith, marks_within h, test_shorter k)
   member_shorter (as_class h k) = omega (arith, marks_within h, class_shorter k)
 
-  class_shorter : {d : ℕ} {taken : List (List ℕ)} {marks : Marks} {n : List ℕ} {at : Position} {c : Class} {places : List NodePlace} {ps qs : List Piece} → IsClass d taken marks n at c places ps qs → length qs < length ps
+  class_shorter : {d : ℕ} {taken : List (List ℕ)} {marks : Marks} {n : List ℕ} {at : Position} {c : Class} {places : List NodePlace} {ps qs : List Piece}
+      → IsClass d taken marks n at c places ps qs → length qs < length ps
   class_shorter (a_class h k l (has_members m some distinct)) = omega (arith, displayed_within h, variables_within k, blocks_within l, members_shorter m)
 
   members_shorter : {d : ℕ} {taken : List (List ℕ)} {ms : Members} {places : List NodePlace} {ps qs : List Piece} → IsMembers d taken ms places ps qs → length qs < length ps

@@ -28,7 +28,8 @@ use Rattle.iso_script.proofs.Readings.{meant_word, goes_on, one_reading, gives_m
 use Rattle.iso_script_lexer.specs.declared.token.Position.{Position}
 
 -- a static or field, from its parts
-pub is_declared : (word : VariableWord) (n m : List ℕ) (x : Data) (old ps qs rs ss new : List Piece) → m ≡ n → variable_next old ≡ Some word → ps ≡ tail old → name_next ps ≡ Some (n, qs) → after Equals qs ≡ Some rs → IsLiteral x rs ss → after Semicolon ss ≡ Some new
+pub is_declared : (word : VariableWord) (n m : List ℕ) (x : Data) (old ps qs rs ss new : List Piece) → m ≡ n → variable_next old ≡ Some word
+    → ps ≡ tail old → name_next ps ≡ Some (n, qs) → after Equals qs ≡ Some rs → IsLiteral x rs ss → after Semicolon ss ≡ Some new
     → IsDeclared (record { word = word; variable = record { name = m; value = x } }) old new
 is_declared word n m x old ps qs rs ss new same next ahead name equals literal semicolon =
     let w = meant_word variable_word word old next in
@@ -45,7 +46,8 @@ pub declared_parts : {d : Declared} {old rest : List Piece} (word : VariableWord
 declared_parts word next (a_variable {p = p} {s = s} {meant = m} {ps = ps} is literal) = let same : Some m ≡ Some word = sym is ∙ next in (p, s, ps, refl, cc, literal)
 
 -- where an equals sign stands, after the name
-pub equals_next : (n : List ℕ) (ps qs : List Piece) (word : VariableWord) (d : Declared) (old rest : List Piece) → ps ≡ tail old → name_next ps ≡ Some (n, qs) → variable_next old ≡ Some word → IsDeclared d old rest
+pub equals_next : (n : List ℕ) (ps qs : List Piece) (word : VariableWord) (d : Declared) (old rest : List Piece)
+    → ps ≡ tail old → name_next ps ≡ Some (n, qs) → variable_next old ≡ Some word → IsDeclared d old rest
     → (rs : List Piece) × (s : Position) × (after Equals qs ≡ Some rs) × IsLiteral d.variable.value rs (symbol_at s Semicolon ∷ rest)
 equals_next n ps qs word d old rest ahead name next h =
     let p = declared_parts word next h in
@@ -55,17 +57,20 @@ equals_next n ps qs word d old rest ahead name next h =
 none_some : {A : Type 0} (x : A) → None ≡ Some x → ⊥
 none_some x h = cc
 
-pub no_equals : (n : List ℕ) (ps qs : List Piece) (word : VariableWord) (d : Declared) (old rest : List Piece) → ps ≡ tail old → name_next ps ≡ Some (n, qs) → variable_next old ≡ Some word → after Equals qs ≡ None → IsDeclared d old rest → ⊥
+pub no_equals : (n : List ℕ) (ps qs : List Piece) (word : VariableWord) (d : Declared) (old rest : List Piece) → ps ≡ tail old
+    → name_next ps ≡ Some (n, qs) → variable_next old ≡ Some word → after Equals qs ≡ None → IsDeclared d old rest → ⊥
 no_equals n ps qs word d old rest ahead name next none h = let e = equals_next n ps qs word d old rest ahead name next h in none_some e.0 (sym none ∙ e.2)
 
-pub literal_next : (n : List ℕ) (ps qs rs : List Piece) (word : VariableWord) (d : Declared) (old rest : List Piece) → ps ≡ tail old → name_next ps ≡ Some (n, qs) → variable_next old ≡ Some word → after Equals qs ≡ Some rs → IsDeclared d old rest → (s : Position) × IsLiteral d.variable.value rs (symbol_at s Semicolon ∷ rest)
+pub literal_next : (n : List ℕ) (ps qs rs : List Piece) (word : VariableWord) (d : Declared) (old rest : List Piece) → ps ≡ tail old → name_next ps ≡ Some (n, qs)
+    → variable_next old ≡ Some word → after Equals qs ≡ Some rs → IsDeclared d old rest → (s : Position) × IsLiteral d.variable.value rs (symbol_at s Semicolon ∷ rest)
 literal_next n ps qs rs word d old rest ahead name next equals h =
     let e = equals_next n ps qs word d old rest ahead name next h in
     let same : Some e.0 ≡ Some rs = sym e.2 ∙ equals in
     let is : e.0 ≡ rs = cc in
     (e.1, subst (λ ps. IsLiteral d.variable.value ps (symbol_at e.1 Semicolon ∷ rest)) is e.3)
 
-pub no_semicolon : (n : List ℕ) (x : Data) (ps qs rs ss : List Piece) (word : VariableWord) (d : Declared) (old rest : List Piece) → ps ≡ tail old → name_next ps ≡ Some (n, qs) → variable_next old ≡ Some word → after Equals qs ≡ Some rs → IsLiteral x rs ss → after Semicolon ss ≡ None → IsDeclared d old rest → ⊥
+pub no_semicolon : (n : List ℕ) (x : Data) (ps qs rs ss : List Piece) (word : VariableWord) (d : Declared) (old rest : List Piece) → ps ≡ tail old
+    → name_next ps ≡ Some (n, qs) → variable_next old ≡ Some word → after Equals qs ≡ Some rs → IsLiteral x rs ss → after Semicolon ss ≡ None → IsDeclared d old rest → ⊥
 no_semicolon n x ps qs rs ss word d old rest ahead name next equals literal none h =
     let l = literal_next n ps qs rs word d old rest ahead name next equals h in
     let u = one_literal literal l.1 in
@@ -100,14 +105,16 @@ among_statics_first : (n : List ℕ) (xs ys : List (List ℕ)) (m : List ℕ) �
 among_statics_first n [] ys m = refl
 among_statics_first n (x ∷ xs) ys m = ap (λ b. bytes_eq x n || b) (among_statics_first n xs ys m) ∙ or_swap (bytes_eq x n) (bytes_eq m n) (is_among (xs ++ ys) n)
 
-among_next : (w : VariableWord) (x : Variable) (ds : List Declared) (n : List ℕ) → is_among (map name_in ds) n ≡ is_among (names_of (record { statics = filter_map static_in ds; fields = filter_map field_in ds })) n
+among_next : (w : VariableWord) (x : Variable) (ds : List Declared) (n : List ℕ)
+    → is_among (map name_in ds) n ≡ is_among (names_of (record { statics = filter_map static_in ds; fields = filter_map field_in ds })) n
     → is_among (map name_in (record { word = w; variable = x } ∷ ds)) n ≡ is_among (names_of (record { statics = filter_map static_in (record { word = w; variable = x } ∷ ds); fields = filter_map field_in (record { word = w; variable = x } ∷ ds) })) n
 among_next Static x ds n h = ap (λ b. bytes_eq x.name n || b) h
 among_next Field x ds n h =
     ap (λ b. bytes_eq x.name n || b) h
     ∙ sym (among_statics_first n (map (λ (v : Variable). v.name) (filter_map static_in ds)) (map (λ (v : Variable). v.name) (filter_map field_in ds)) x.name)
 
-pub among_both : (written : List Declared) (n : List ℕ) → is_among (map name_in written) n ≡ is_among (names_of (record { statics = filter_map static_in written; fields = filter_map field_in written })) n
+pub among_both : (written : List Declared) (n : List ℕ)
+    → is_among (map name_in written) n ≡ is_among (names_of (record { statics = filter_map static_in written; fields = filter_map field_in written })) n
 among_both [] n = refl
 among_both (d ∷ ds) n = among_next d.word d.variable ds n (among_both ds n)
 
@@ -120,7 +127,8 @@ names_more ws d = map-append name_in ws (d ∷ [])
 pub knows_more : (set : BTreeSet (Bor (List ℕ))) (ws : List Declared) (d : Declared) → Knows set (map name_in ws ++ d.variable.name ∷ []) → Knows set (map name_in (ws ++ d ∷ []))
 knows_more set ws d = subst (Knows set) (sym (names_more ws d))
 
-pub stays_free : (taken : List (List ℕ)) (ws : List Declared) (d : Declared) → AllByRecursion (λ n. is_among taken n ≡ false) (map name_in ws) → is_among taken d.variable.name ≡ false → AllByRecursion (λ n. is_among taken n ≡ false) (map name_in (ws ++ d ∷ []))
+pub stays_free : (taken : List (List ℕ)) (ws : List Declared) (d : Declared) → AllByRecursion (λ n. is_among taken n ≡ false) (map name_in ws)
+    → is_among taken d.variable.name ≡ false → AllByRecursion (λ n. is_among taken n ≡ false) (map name_in (ws ++ d ∷ []))
 stays_free taken ws d h k = subst (AllByRecursion (λ n. is_among taken n ≡ false)) (sym (names_more ws d)) (all_push (λ n. is_among taken n ≡ false) (map name_in ws) d.variable.name h k)
 
 -- one static or field more
@@ -133,13 +141,15 @@ comes_to_more ws d old new come fresh statics fields =
       fields = gives_more field_in ws d _ _ come.fields fields;
     }
 
-pub comes_to_static : (ws : List Declared) (w : VariableWord) (x : Variable) (old : Variables) → w ≡ Static → ComeTo ws old → is_among (map name_in ws) x.name ≡ false → ComeTo (ws ++ record { word = w; variable = x } ∷ []) (record { statics = old.statics ++ x ∷ []; fields = old.fields })
+pub comes_to_static : (ws : List Declared) (w : VariableWord) (x : Variable) (old : Variables) → w ≡ Static → ComeTo ws old
+    → is_among (map name_in ws) x.name ≡ false → ComeTo (ws ++ record { word = w; variable = x } ∷ []) (record { statics = old.statics ++ x ∷ []; fields = old.fields })
 comes_to_static ws w x old is come fresh =
     comes_to_more ws (record { word = w; variable = x }) old (record { statics = old.statics ++ x ∷ []; fields = old.fields }) come fresh
     (ap (λ (v : VariableWord). old.statics ++ option_to_list (static_in (record { word = v; variable = x }))) is)
     (ap (λ (v : VariableWord). old.fields ++ option_to_list (field_in (record { word = v; variable = x }))) is ∙ append-nil old.fields)
 
-pub comes_to_field : (ws : List Declared) (w : VariableWord) (x : Variable) (old : Variables) → w ≡ Field → ComeTo ws old → is_among (map name_in ws) x.name ≡ false → ComeTo (ws ++ record { word = w; variable = x } ∷ []) (record { statics = old.statics; fields = old.fields ++ x ∷ [] })
+pub comes_to_field : (ws : List Declared) (w : VariableWord) (x : Variable) (old : Variables) → w ≡ Field → ComeTo ws old → is_among (map name_in ws) x.name ≡ false
+    → ComeTo (ws ++ record { word = w; variable = x } ∷ []) (record { statics = old.statics; fields = old.fields ++ x ∷ [] })
 comes_to_field ws w x old is come fresh =
     comes_to_more ws (record { word = w; variable = x }) old (record { statics = old.statics; fields = old.fields ++ x ∷ [] }) come fresh
     (ap (λ (v : VariableWord). old.statics ++ option_to_list (static_in (record { word = v; variable = x }))) is ∙ append-nil old.statics)

@@ -23,12 +23,14 @@ members_of (m ∷ ms) = member m (members_of ms)
 
 -- lines are a script of team shop with these classes
 abbrev pub AreClasses : List String → List Class → Type 0
-AreClasses lines classes = Reads (text_of ("team shop" ∷ lines)) (record { team = codes "shop"; classes = classes })
+AreClasses lines classes =
+    Reads (text_of ("team shop" ∷ lines)) (record { team = codes "shop"; classes = classes })
 
 -- the same where each line ends with a carriage return and its line feed
 abbrev pub AreCrlfClasses : List String → List Class → Type 0
 AreCrlfClasses lines classes =
-    Reads (flat_map (λ l. codes l ++ codes "\r\n") ("team shop" ∷ lines)) (record { team = codes "shop"; classes = classes })
+    Reads (flat_map (λ l. codes l ++ codes "\r\n") ("team shop" ∷ lines))
+    (record { team = codes "shop"; classes = classes })
 
 -- the same, and their nodes have these places
 abbrev pub ArePlacedClasses : List String → List Class → List NodePlace → Type 0
@@ -37,10 +39,16 @@ ArePlacedClasses lines classes =
 
 -- a test and a class in which nothing else is written
 abbrev pub a_test : String → Acts → Test
-a_test n body = record { name = codes n; display = None; mode = None; head = record { marks = []; disabled = None; body = body } }
+a_test n body = record {
+  name = codes n;
+  display = None;
+  mode = None;
+  head = record { marks = []; disabled = None; body = body };
+}
 
 abbrev pub a_title : String → ClassHead → ClassTitle
-a_title n head = record { name = codes n; display = None; mode = None; isolated = false; head = head }
+a_title n head =
+    record { name = codes n; display = None; mode = None; isolated = false; head = head }
 
 abbrev pub a_class : String → ClassHead → List Member → Class
 a_class n head ms = class (a_title n head) (members_of ms)
@@ -65,7 +73,8 @@ marked_class =
       mode = Some Concurrent;
       isolated = true;
       head = record empty_head {
-        marks = writes (codes "d") ∷ for_children (reads (codes "c")) ∷ reads (codes "d") ∷ for_children (writes (codes "c")) ∷ [];
+        marks = writes (codes "d") ∷ for_children (reads (codes "c")) ∷ reads (codes "d")
+            ∷ for_children (writes (codes "c")) ∷ [];
         disabled = Some (codes "not yet");
       };
     })
@@ -73,7 +82,11 @@ marked_class =
       name = codes "t";
       display = Some (codes "The test");
       mode = Some SameThread;
-      head = record { marks = reads (codes "e") ∷ []; disabled = Some (codes "later"); body = no_acts };
+      head = record {
+        marks = reads (codes "e") ∷ [];
+        disabled = Some (codes "later");
+        body = no_acts;
+      };
     }) ∷ []))
 
 -- statics and fields in turn
@@ -122,7 +135,8 @@ with_field = record empty_head { fields = variable "x" 1 ∷ [] }
 
 -- comments, tabs, and carriage returns before line feeds
 abbrev pub commented_text : List String
-commented_text = "// by hand:\ta comment" ∷ "class C { // \"" ∷ "\tstatic n = 1; //" ∷ "\ttest t {" ∷ "\t\tprint n; // n" ∷ "} }" ∷ []
+commented_text = "// by hand:\ta comment" ∷ "class C { // \"" ∷ "\tstatic n = 1; //" ∷ "\ttest t {"
+    ∷ "\t\tprint n; // n" ∷ "} }" ∷ []
 
 abbrev pub commented_class : Class
 commented_class =

@@ -37,9 +37,11 @@ pub record Declared : Type 0 where
   pub variable : Variable
 
 pub data IsDeclared : Declared → List Piece → List Piece → Type 0 where
-  a_variable : {r q p s : Position} {w : Word} {meant : VariableWord} {n : List ℕ} {x : Data} {ps qs : List Piece}
+  a_variable : {r q p s : Position} {w : Word} {meant : VariableWord} {n : List ℕ} {x : Data}
+      {ps qs : List Piece}
       → variable_word w ≡ Some meant → IsLiteral x ps (symbol_at s Semicolon ∷ qs)
-      → IsDeclared (record { word = meant; variable = record { name = n; value = x } }) (word_at r w ∷ name_at q n ∷ symbol_at p Equals ∷ ps) qs
+      → IsDeclared (record { word = meant; variable = record { name = n; value = x } })
+      (word_at r w ∷ name_at q n ∷ symbol_at p Equals ∷ ps) qs
 
 -- what a class has of its statics and fields
 pub record Variables : Type 0 where
@@ -72,7 +74,8 @@ names_of v = map (λ (x : Variable). x.name) v.statics ++ map (λ (x : Variable)
 
 -- The statics and fields of a class whose enclosing classes have these names, until none is next:
 -- each has a name that none of the class and of the enclosing classes has.
-pub record IsVariables (taken : List (List ℕ)) (variables : Variables) (ps qs : List Piece) : Type 0 where
+pub record IsVariables (taken : List (List ℕ)) (variables : Variables)
+    (ps qs : List Piece) : Type 0 where
   pub written : List Declared
   pub read : AreRead IsDeclared written ps qs
   pub ends : variable_next qs ≡ None

@@ -20,7 +20,8 @@ no_mark (m ∷ ms) = false
 
 -- no mark is written
 abbrev pub is_unmarked : Marks → Bool
-is_unmarked marks = not (is_some marks.mode) && (not marks.isolated && (not (is_some marks.disabled) && no_mark marks.keys))
+is_unmarked marks = not (is_some marks.mode)
+    && (not marks.isolated && (not (is_some marks.disabled) && no_mark marks.keys))
 
 -- what is wanted after marks where no member is next, and where no top-level class is
 abbrev pub after_marks : Marks → (place : Wanted) → Wanted
@@ -54,4 +55,5 @@ after_target Children = V.Key
 
 -- This is wanted where a member is, if none is next.
 abbrev pub IsPlace : Wanted → List Piece → Type 0
-IsPlace place ps = mark_next ps ≡ None → after_word W.Test ps ≡ None → after_word W.Class ps ≡ None → IsUnmet place ps
+IsPlace place ps = mark_next ps ≡ None → after_word W.Test ps ≡ None → after_word W.Class ps ≡ None
+    → IsUnmet place ps

@@ -38,7 +38,8 @@ pub(crate) fn read_top_class(
     places: &mut Places,
 ) -> Result<Class, ScriptError>
     requires { parser.old.lexer ≢ [] }
-    ensures { ParsesPlaced class_of IsTopClass result parser.old.lexer parser.new.lexer (kept places.old) (kept places.new) }
+    ensures { ParsesPlaced class_of IsTopClass result parser.old.lexer parser.new.lexer
+        (kept places.old) (kept places.new) }
 {
     let marks = read_marks(parser)?;
     let wanted = marks.wanted_of_a_class();
@@ -51,7 +52,8 @@ pub(crate) fn read_top_class(
 
 /// Whether a test of these marks may be next: its word is, and the marks fit one.
 fn is_at_test(parser: &Parser<'_>, marks: &Marks) -> bool
-    ensures { result ≡ (fits_test (marks_of marks.now) && is_some (after_word W.Test parser.now.lexer)) }
+    ensures { result ≡ (fits_test (marks_of marks.now)
+        && is_some (after_word W.Test parser.now.lexer)) }
 {
     marks.fits_test() && parser.is_at_word(Word::Test)
 }
@@ -171,7 +173,8 @@ fn read_member<'a>(
     places: &mut Places,
 ) -> Result<Member, ScriptError>
     requires { IsPlace place parser.old.lexer }
-    ensures read { (taken names : List (List ℕ)) → KnowAll scopes.old.items taken → Knows seen.old names
+    ensures read { (taken names : List (List ℕ)) → KnowAll scopes.old.items taken
+        → Knows seen.old names
         → ParsesPlaced member_of (IsNewMember names classes taken) result
         parser.old.lexer parser.new.lexer (kept places.old) (kept places.new) }
     ensures names { (names : List (List ℕ)) → Knows seen.old names

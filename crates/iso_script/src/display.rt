@@ -14,7 +14,8 @@ use iso_script_statements::wanted::Wanted;
 /// The display text that comes next, if one does. One that may not be shown is `BadDisplay` at its
 /// quote.
 pub(crate) fn read_display(parser: &mut Parser<'_>) -> Result<Option<Text>, ScriptError>
-    ensures { Parses (λ (t : Option (List ℕ)). t) IsDisplayed result parser.old.lexer parser.new.lexer }
+    ensures { Parses (λ (t : Option (List ℕ)). t) IsDisplayed result parser.old.lexer
+        parser.new.lexer }
 {
     let Token::Text(_) = parser.lexer.peek().0 else {
         return Ok(None);

@@ -10,7 +10,8 @@ ghost use Rattle.iso_script.specs.Examples.{marked_class, marked_text, members_t
 pub fn teams_have_classes()
     ensures none { AreClasses [] [] }
     ensures two { AreClasses ("class C { test t { } } class C { test t { } }" ∷ [])
-        (a_class "C" empty_head (empty_test "t" ∷ []) ∷ a_class "C" empty_head (empty_test "t" ∷ []) ∷ []) }
+        (a_class "C" empty_head (empty_test "t" ∷ [])
+        ∷ a_class "C" empty_head (empty_test "t" ∷ []) ∷ []) }
 {}
 
 /// Marks stand in any order, and each that declares a key stands for itself. Display texts follow
@@ -22,7 +23,8 @@ pub fn marks_and_display_texts_are_read()
 /// Statics and fields begin at their literals. Lifecycle blocks stand in any order, and each counts
 /// its own rows.
 pub fn heads_of_classes_are_read()
-    ensures variables { AreClasses variables_text (a_class "C" with_variables (empty_test "t" ∷ []) ∷ []) }
+    ensures variables { AreClasses variables_text
+        (a_class "C" with_variables (empty_test "t" ∷ []) ∷ []) }
     ensures blocks { AreClasses blocks_text (a_class "C" with_blocks (empty_test "t" ∷ []) ∷ []) }
 {}
 
@@ -44,5 +46,6 @@ pub fn comments_and_line_ends_are_left_out()
 /// stands before its members.
 pub fn nodes_stand_where_their_names_do()
     ensures { ArePlacedClasses placed_text (placed_class ∷ [])
-        (class_at 2 7 4 0 0 5 ∷ test_at 6 6 7 ∷ class_at 7 13 0 0 7 0 ∷ test_at 8 8 8 ∷ test_at 9 6 9 ∷ []) }
+        (class_at 2 7 4 0 0 5 ∷ test_at 6 6 7 ∷ class_at 7 13 0 0 7 0 ∷ test_at 8 8 8
+        ∷ test_at 9 6 9 ∷ []) }
 {}

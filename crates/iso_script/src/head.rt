@@ -24,7 +24,8 @@ pub(crate) fn class_head(
     blocks: Blocks,
 ) -> Result<ClassHead, AllocError>
     ensures { IfOk result (λ h. class_head_of h
-        ≡ class_head marks.items disabled (record { statics = statics.items; fields = fields.items }) (blocks_of blocks)) }
+        ≡ class_head marks.items disabled
+        (record { statics = statics.items; fields = fields.items }) (blocks_of blocks)) }
 {
     let contents = ClassContents {
         statics,

@@ -143,7 +143,8 @@ pub(crate) fn read_marks(parser: &mut Parser<'_>) -> Result<Marks, ScriptError>
 fn add_mark(parser: &mut Parser<'_>, word: MarkWord, marks: &mut Marks) -> Result<(), ScriptError>
     requires { mark_next parser.old.lexer ≡ Some word }
     ensures { MatchResult result
-        (λ _. (x : Marking) × IsMarking x parser.old.lexer parser.new.lexer × Adds x (marks_of marks.old) (marks_of marks.new))
+        (λ _. (x : Marking) × IsMarking x parser.old.lexer parser.new.lexer
+        × Adds x (marks_of marks.old) (marks_of marks.new))
         (λ e. (x : Marking) (rest : List Piece) (more : S.Marks) → IsMarking x parser.old.lexer rest
         → Adds x (marks_of marks.old) more → IsMemory e) }
 {

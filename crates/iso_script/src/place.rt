@@ -97,7 +97,8 @@ impl Places {
     /// Keeps the place of the next node, where places are kept.
     #[tactic(auto, unfolding(crate::specs::Places::with_places))]
     pub(crate) fn add(&mut self, place: NodePlace) -> Result<(), ScriptError>
-        ensures { MatchResult result (λ _. kept self.new ≡ with_places (kept self.old) (place ∷ [])) IsMemory }
+        ensures { MatchResult result (λ _. kept self.new
+            ≡ with_places (kept self.old) (place ∷ [])) IsMemory }
     {
         if self.are_kept {
             self.list.push(place)?;

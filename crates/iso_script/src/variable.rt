@@ -95,10 +95,12 @@ fn read_variable<'a>(
     ensures free { (taken : List (List ℕ)) → KnowAll enclosing.now taken
         → IfOk result (λ v. is_among taken v.name ≡ false) }
     ensures fresh { (names : List (List ℕ)) → Knows own.old names
-        → IfOk result (λ v. (is_among names v.name ≡ false) × Knows own.new (names ++ v.name ∷ [])) }
+        → IfOk result (λ v. (is_among names v.name ≡ false)
+        × Knows own.new (names ++ v.name ∷ [])) }
     ensures only { (taken names : List (List ℕ)) → KnowAll enclosing.now taken → Knows own.old names
         → IfErr result (λ e. (v : V.Variable) (rest : List Piece)
-        → IsDeclared (record { word = word; variable = v }) parser.old.lexer rest → IsNew taken names v.name → IsMemory e) }
+        → IsDeclared (record { word = word; variable = v }) parser.old.lexer rest
+        → IsNew taken names v.name → IsMemory e) }
 {
     parser.lexer.advance();
     let name = free_name(parser, enclosing, own)?;

@@ -83,9 +83,12 @@ spelling Disabled = codes "disabled"
 
 -- the reserved words
 abbrev pub all_words : List Word
-all_words = Team ∷ Class ∷ Test ∷ SameThread ∷ Concurrent ∷ Isolated ∷ Read ∷ Write ∷ Static ∷ Field ∷ BeforeAll ∷
-    AfterAll ∷ BeforeEach ∷ AfterEach ∷ Let ∷ Print ∷ Assert ∷ AssertEqual ∷ Assume ∷ Fail ∷ If ∷ Else ∷ Repeat ∷
-    SetProp ∷ ClearProp ∷ SetLocale ∷ WriteFile ∷ AppendFile ∷ DeleteFile ∷ True ∷ False ∷ Text ∷ Len ∷ Prop ∷ HasProp ∷
+all_words = Team ∷ Class ∷ Test ∷ SameThread ∷ Concurrent ∷ Isolated ∷ Read ∷ Write ∷ Static
+    ∷ Field ∷ BeforeAll ∷
+    AfterAll ∷ BeforeEach ∷ AfterEach ∷ Let ∷ Print ∷ Assert ∷ AssertEqual ∷ Assume ∷ Fail ∷ If
+    ∷ Else ∷ Repeat ∷
+    SetProp ∷ ClearProp ∷ SetLocale ∷ WriteFile ∷ AppendFile ∷ DeleteFile ∷ True ∷ False ∷ Text
+    ∷ Len ∷ Prop ∷ HasProp ∷
     Locale ∷ File ∷ HasFile ∷ Children ∷ Disabled ∷ []
 
 -- the reserved word that is written so

@@ -20,7 +20,8 @@ told P x y ps qs old new e f g h = subst (λ z. P z old new) e (subst (λ ps. P 
 pub is_number : (r : Position) (n : ℕ) (z : ℤ) (old new : List Piece) → z ≡ pos n → old ≡ number_at r n ∷ tail old → new ≡ tail old → n < 2 ^ 63 → IsLiteral (Whole z) old new
 is_number r n z old new e f g h = told IsLiteral _ _ _ _ _ _ (ap Whole (sym e)) f g (a_number h)
 
-pub is_negative : (q r : Position) (n : ℕ) (z : ℤ) (old new : List Piece) → z ≡ neg_ℤ (pos n) → old ≡ number_at r n ∷ tail old → new ≡ tail old → n ≤ 2 ^ 63 → IsLiteral (Whole z) (symbol_at q Minus ∷ old) new
+pub is_negative : (q r : Position) (n : ℕ) (z : ℤ) (old new : List Piece) → z ≡ neg_ℤ (pos n)
+    → old ≡ number_at r n ∷ tail old → new ≡ tail old → n ≤ 2 ^ 63 → IsLiteral (Whole z) (symbol_at q Minus ∷ old) new
 is_negative q r n z old new e f g h = told IsLiteral _ _ _ _ _ _ (ap Whole (sym e)) (ap (λ ps. symbol_at q Minus ∷ ps) f) g (a_negative h)
 
 pub is_text : (r : Position) (t u : List ℕ) (old new : List Piece) → u ≡ t → old ≡ text_at r t ∷ tail old → new ≡ tail old → IsLiteral (Text u) old new

@@ -104,7 +104,8 @@ takes V.Operand (a_text t) = true
 takes V.Operand (a_word w) = begins_operand w
 takes V.Operand (a_symbol s) = same_symbol s Minus || same_symbol s OpenParen
 takes (V.Operator follows) (a_symbol s) = is_some (infix_of s) || same_symbol s follows
-takes (V.SameOperator operator follows) (a_symbol s) = (is_some (infix_of s) && same_symbol s operator) || same_symbol s follows
+takes (V.SameOperator operator follows) (a_symbol s) =
+    (is_some (infix_of s) && same_symbol s operator) || same_symbol s follows
 takes V.Statement a_name = true
 takes V.Statement (a_word w) = begins_statement w
 takes V.Statement (a_symbol s) = same_symbol s CloseBrace

@@ -15,7 +15,8 @@ pub fn expressions_are_read()
         (add (name "x") (number 4 ∷ name "y" ∷ []) ∷ [])) }
     ensures texts { IsExpressionText "text(len(prop(file(\"a\")))) ++ locale() ++ \"b\""
         (join (text (len (prop (file (quoted "a"))))) (locale ∷ quoted "b" ∷ [])) }
-    ensures comparisons { IsExpressionText "(has_prop(\"a\") == has_file(\"b\")) != (true == (false == (1 < 2)))"
+    ensures comparisons { IsExpressionText
+        "(has_prop(\"a\") == has_file(\"b\")) != (true == (false == (1 < 2)))"
         (not_equal (equal (has_prop (quoted "a")) (has_file (quoted "b")))
         (equal (flag true) (equal (flag false) (less (number 1) (number 2))))) }
     ensures numbers { IsExpressionText "9223372036854775807 - -9223372036854775808"
@@ -28,14 +29,16 @@ pub fn statements_are_read()
     ensures assign { IsStatementText "{ x = y; }" (assign "x" (name "y")) }
     ensures print { IsStatementText "{ print 1; }" (print (number 1)) }
     ensures assert { IsStatementText "{ assert true; }" (assert (flag true)) }
-    ensures assert_equal { IsStatementText "{ assert_equal 1, x; }" (assert_equal (number 1) (name "x")) }
+    ensures assert_equal { IsStatementText "{ assert_equal 1, x; }"
+        (assert_equal (number 1) (name "x")) }
     ensures assume { IsStatementText "{ assume x, \"not now\"; }" (assume (name "x") "not now") }
     ensures fail { IsStatementText "{ fail \" \"; }" (fail " ") }
     ensures set_prop { IsStatementText "{ set_prop x, y; }" (set_prop (name "x") (name "y")) }
     ensures clear_prop { IsStatementText "{ clear_prop x; }" (clear_prop (name "x")) }
     ensures set_locale { IsStatementText "{ set_locale x; }" (set_locale (name "x")) }
     ensures write_file { IsStatementText "{ write_file x, y; }" (write_file (name "x") (name "y")) }
-    ensures append_file { IsStatementText "{ append_file x, y; }" (append_file (name "x") (name "y")) }
+    ensures append_file { IsStatementText "{ append_file x, y; }"
+        (append_file (name "x") (name "y")) }
     ensures delete_file { IsStatementText "{ delete_file x; }" (delete_file (name "x")) }
 {}
 

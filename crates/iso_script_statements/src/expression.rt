@@ -75,7 +75,8 @@ fn chain(
     first: Expr,
     operands: Vec<Expr>,
 ) -> Result<Expr, ScriptError>
-    ensures { MatchResult result (λ e. term_of e ≡ chain operator (term_of first) (terms_in operands)) IsMemory }
+    ensures { MatchResult result (λ e. term_of e
+        ≡ chain operator (term_of first) (terms_in operands)) IsMemory }
 {
     Ok(Expr::Chain(operator, Box::new(alloc, first)?, operands))
 }
@@ -87,7 +88,8 @@ fn compare(
     first: Expr,
     second: Expr,
 ) -> Result<Expr, ScriptError>
-    ensures { MatchResult result (λ e. term_of e ≡ compare comparison (term_of first) (term_of second)) IsMemory }
+    ensures { MatchResult result (λ e. term_of e
+        ≡ compare comparison (term_of first) (term_of second)) IsMemory }
 {
     Ok(Expr::Compare(
         comparison,
@@ -152,7 +154,9 @@ impl Parser<'_> {
 
     /// The number after a minus, as the negative one that it writes.
     fn negative(&mut self) -> Result<Data, ScriptError>
-        ensures { (q : Position) → Parses (λ (x : Data). x) (λ x ps qs. IsLiteral x (symbol_at q Minus ∷ ps) qs) result self.old.lexer self.new.lexer }
+        ensures { (q : Position) → Parses (λ (x : Data). x)
+            (λ x ps qs. IsLiteral x (symbol_at q Minus ∷ ps) qs) result self.old.lexer
+            self.new.lexer }
     {
         let Token::Number(number) = self.lexer.peek().0 else {
             return Err(self.unexpected(Wanted::Number));
@@ -218,7 +222,8 @@ impl Parser<'_> {
         follows: Symbol,
     ) -> Result<Vec<Expr>, ScriptError>
         requires { infix_of follows ≡ None }
-        ensures { Parses terms_in (IsChained parens symbol (OPERANDS - 1)) result self.old.lexer self.new.lexer }
+        ensures { Parses terms_in (IsChained parens symbol (OPERANDS - 1)) result self.old.lexer
+            self.new.lexer }
     {
         let mut operands = Vec::new(self.alloc);
         'operands: while self.infix().is_some() {
@@ -264,7 +269,8 @@ impl Parser<'_> {
     #[cycle(expression)]
     fn compared(&mut self, parens: u32, follows: Symbol) -> Result<Expr, ScriptError>
         requires { infix_of follows ≡ None }
-        ensures { Parses term_of (λ e ps qs. IsOperand parens e ps qs × (infix_next qs ≡ None)) result self.old.lexer self.new.lexer }
+        ensures { Parses term_of (λ e ps qs. IsOperand parens e ps qs × (infix_next qs ≡ None))
+            result self.old.lexer self.new.lexer }
     {
         let second = self.operand(parens)?;
         if self.infix().is_some() {
@@ -285,7 +291,8 @@ impl Parser<'_> {
 
     /// What is wanted after the expression that was read last, and before this symbol.
     pub(crate) fn wanted_before(&self, symbol: Symbol) -> Wanted
-        ensures { (ps : List Piece) → infix_next ps ≡ None → after symbol ps ≡ None → IsUnmet result ps }
+        ensures { (ps : List Piece) → infix_next ps ≡ None → after symbol ps ≡ None
+            → IsUnmet result ps }
     {
         Wanted::after(self.operators, symbol)
     }

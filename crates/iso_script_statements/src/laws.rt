@@ -6,5 +6,6 @@ ghost use Rattle.iso_script_statements.specs.Statements.{IsBlock};
 
 /// Pieces are one block at most, and what follows it.
 pub fn blocks_are_unique()
-    ensures { (a b : Acts) (ps qs rs : List Piece) → IsBlock a ps qs → IsBlock b ps rs → (a ≡ b) × (qs ≡ rs) }
+    ensures { (a b : Acts) (ps qs rs : List Piece) → IsBlock a ps qs → IsBlock b ps rs
+        → (a ≡ b) × (qs ≡ rs) }
 {}

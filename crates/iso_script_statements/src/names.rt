@@ -22,14 +22,16 @@ impl<'a> Parser<'a> {
     ) -> Result<&'a str, ScriptError>
         ensures found { IfOk result (λ n. name_next self.old.lexer ≡ Some (n.now, self.new.lexer)) }
         ensures fresh { (names : List (List ℕ)) → Knows seen.old names
-            → IfOk result (λ n. (is_among names n.now ≡ false) × Knows seen.new (names ++ n.now ∷ [])) }
+            → IfOk result (λ n. (is_among names n.now ≡ false)
+            × Knows seen.new (names ++ n.now ∷ [])) }
         ensures only { (names : List (List ℕ)) → Knows seen.old names
             → (n : List ℕ) (rest : List Piece) → name_next self.old.lexer ≡ Some (n, rest)
             → is_among names n ≡ false → IfErr result IsMemory }
         ensures taken { (names : List (List ℕ)) → Knows seen.old names
             → (n : List ℕ) (rest : List Piece) → name_next self.old.lexer ≡ Some (n, rest)
             → is_among names n ≡ true → IfErr result (IsMemoryOr kind) }
-        ensures unexpected { name_next self.old.lexer ≡ None → IfErr result (IsFaultOf (IsUnexpected self.old.lexer)) }
+        ensures unexpected { name_next self.old.lexer ≡ None
+            → IfErr result (IsFaultOf (IsUnexpected self.old.lexer)) }
     {
         let Token::Name(name) = self.lexer.peek().0 else {
             return Err(self.unexpected(Wanted::Name));

@@ -97,7 +97,8 @@ impl Parser<'_> {
     /// What follows `if`.
     #[cycle(body)]
     fn choice(&mut self, bodies: u32, above: u32) -> Result<Form, ScriptError>
-        ensures { (r : Position) → Parses form_of (λ a ps qs. IsStatement bodies above a (word_at r W.If ∷ ps) qs)
+        ensures { (r : Position) → Parses form_of
+            (λ a ps qs. IsStatement bodies above a (word_at r W.If ∷ ps) qs)
             result self.old.lexer self.new.lexer }
     {
         let condition = self.expression(PARENTHESES, Symbol::OpenBrace)?;
@@ -123,7 +124,8 @@ impl Parser<'_> {
     /// What follows `repeat`.
     #[cycle(body)]
     fn repetition(&mut self, bodies: u32, above: u32) -> Result<Form, ScriptError>
-        ensures { (r : Position) → Parses form_of (λ a ps qs. IsStatement bodies above a (word_at r W.Repeat ∷ ps) qs)
+        ensures { (r : Position) → Parses form_of
+            (λ a ps qs. IsStatement bodies above a (word_at r W.Repeat ∷ ps) qs)
             result self.old.lexer self.new.lexer }
     {
         let count = self.expression(PARENTHESES, Symbol::OpenBrace)?;

@@ -153,14 +153,16 @@ module _ (pattern text : List ℕ) where
       ∙ end-split next (drop place text)
 
   -- a byte is met that stands for itself
-  pub step-byte : (at place d e : ℕ) → at < length pattern → place < length text → (get_or pattern at d == star) ≡ false → get_or pattern at d ≡ get_or text place e → left at (drop place text) ≡ left (at + 1) (drop (place + 1) text)
+  pub step-byte : (at place d e : ℕ) → at < length pattern → place < length text → (get_or pattern at d == star) ≡ false
+      → get_or pattern at d ≡ get_or text place e → left at (drop place text) ≡ left (at + 1) (drop (place + 1) text)
   step-byte at place d e h p plain same =
       let eq : (get_or pattern at d == get_or text place e) ≡ true = grind (arith, nat_tests) in
       at-byte pattern at d h plain (drop place text) ∙ ap (begins (get_or pattern at d) (left (at + 1))) (drop_more text place e p)
       ∙ ap (λ (t : Bool). t && left (at + 1) (drop (place + 1) text)) eq
 
   -- another byte is met
-  pub other-byte : (at place d e : ℕ) → at < length pattern → place < length text → (get_or pattern at d == star) ≡ false → (get_or pattern at d == get_or text place e) ≡ false → left at (drop place text) ≡ false
+  pub other-byte : (at place d e : ℕ) → at < length pattern → place < length text → (get_or pattern at d == star) ≡ false
+      → (get_or pattern at d == get_or text place e) ≡ false → left at (drop place text) ≡ false
   other-byte at place d e h p plain apart =
       at-byte pattern at d h plain (drop place text) ∙ ap (begins (get_or pattern at d) (left (at + 1))) (drop_more text place e p)
       ∙ ap (λ (t : Bool). t && left (at + 1) (drop (place + 1) text)) apart

@@ -70,7 +70,8 @@ more_by false false true w = refl
 more_by false false false true = refl
 more_by false false false false = refl
 
-pub so_far-more : (root : Bool) (text : List ℕ) (wishes first : List Wish) (w : Wish) → (so_far root text wishes first || (not root && pattern_grants text w)) ≡ so_far root text wishes (first ++ w ∷ [])
+pub so_far-more : (root : Bool) (text : List ℕ) (wishes first : List Wish) (w : Wish)
+    → (so_far root text wishes first || (not root && pattern_grants text w)) ≡ so_far root text wishes (first ++ w ∷ [])
 so_far-more root text wishes first w =
     more_by root (is_among (paths_in wishes) text) (list_any (pattern_grants text) first) (pattern_grants text w)
     ∙ sym (ap (λ (t : Bool). (not root && is_among (paths_in wishes) text) || (not root && t)) (list_any-append (pattern_grants text) first (w ∷ [])))
@@ -154,5 +155,6 @@ left-here named old paths test n m still why before less =
     by-why (inr other) = and_none (get_or old n false) (not (is_root n)) ∙ sym (ap (λ (t : Bool). get_or old n false || (not (is_root n) && t)) other)
 
 -- whether any is found, a text more
-pub any-here : (test : List ℕ → Bool) (paths : List (List ℕ)) (n : ℕ) (d : List ℕ) (found : Bool) → n < length paths → (found || list_any test (drop n paths)) ≡ (found || (test (get_or paths n d) || list_any test (drop (n + 1) paths)))
+pub any-here : (test : List ℕ → Bool) (paths : List (List ℕ)) (n : ℕ) (d : List ℕ) (found : Bool) → n < length paths
+    → (found || list_any test (drop n paths)) ≡ (found || (test (get_or paths n d) || list_any test (drop (n + 1) paths)))
 any-here test paths n d found h = ap (λ (ts : List (List ℕ)). found || list_any test ts) (drop_more paths n d h)

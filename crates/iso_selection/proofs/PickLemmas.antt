@@ -17,7 +17,8 @@ use Rattle.iso_selection.specs.declared.shard.Shard.{Shard}
 use Rattle.iso_selection.specs.declared.wanted.Wanted.{Wanted}
 
 -- of scripts that are sound by themselves what names no node is wrong alone
-pub pick-fault : (scripts : List Script) (wishes : Option (List Wish)) (shard : Option Shard) → scripts_fault scripts ≡ None → pick_fault scripts wishes shard ≡ not_selected (first_in_vain (tree scripts) wishes)
+pub pick-fault : (scripts : List Script) (wishes : Option (List Wish)) (shard : Option Shard)
+    → scripts_fault scripts ≡ None → pick_fault scripts wishes shard ≡ not_selected (first_in_vain (tree scripts) wishes)
 pick-fault scripts None None sound = refl
 pick-fault scripts None (Some shard) sound = sound
 pick-fault scripts (Some wishes) shard sound = ap (λ first. option_or first (not_selected (first_in_vain (tree scripts) (Some wishes)))) sound

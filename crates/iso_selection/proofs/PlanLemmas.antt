@@ -62,7 +62,8 @@ none-unknown : (tree : List Row) (f : ℕ → Bool) → f 0 ≡ false → (n : �
 none-unknown tree f root zero h = refl
 none-unknown tree f root (suc n) h = unknown_by tree f n (f n) (λ e. ap not (known_node tree n (some f root n e) (omega arith))) (none-unknown tree f root n (omega arith))
 
-position_by : (p : List ℕ → Bool) (xs : List (List ℕ)) (k : ℕ) → (list_any p xs ≡ false → position_from p (k + 1) xs ≡ None) → (b : Bool) → (b || list_any p xs) ≡ false → cond b (Some k) (position_from p (k + 1) xs) ≡ None
+position_by : (p : List ℕ → Bool) (xs : List (List ℕ)) (k : ℕ) → (list_any p xs ≡ false → position_from p (k + 1) xs ≡ None)
+    → (b : Bool) → (b || list_any p xs) ≡ false → cond b (Some k) (position_from p (k + 1) xs) ≡ None
 position_by p xs k ih true e = absurd (cc)
 position_by p xs k ih false e = ih e
 
@@ -90,7 +91,8 @@ alone_of None = refl
 alone_of (Some a) = refl
 
 -- what is wrong with what is asked for is what is wrong with its plan
-pub pick-refused : (scripts : List Script) (wishes : Option (List Wish)) (shard : Option Shard) (fault : PlanFault) → pick_fault scripts wishes shard ≡ Some fault → picked_plan_fault scripts wishes shard ≡ Some fault
+pub pick-refused : (scripts : List Script) (wishes : Option (List Wish)) (shard : Option Shard) (fault : PlanFault)
+    → pick_fault scripts wishes shard ≡ Some fault → picked_plan_fault scripts wishes shard ≡ Some fault
 pick-refused scripts None None fault e = let wrong : None ≡ Some fault = e in absurd (cc)
 pick-refused scripts None (Some shard) fault e =
     first_of (scripts_fault scripts) None (size_fault (picked_tree scripts None (Some shard))) fault (alone_of (scripts_fault scripts) ∙ e)
@@ -98,7 +100,8 @@ pick-refused scripts (Some wishes) shard fault e =
     first_of (scripts_fault scripts) (not_selected (first_in_vain (tree scripts) (Some wishes))) (size_fault (picked_tree scripts (Some wishes) shard)) fault e
 
 -- where nothing is asked for, the plan is that of all
-pub all-fault : (scripts : List Script) (wishes : Option (List Wish)) (shard : Option Shard) → None ≡ picked (tree scripts) wishes shard → plan_fault scripts [] ≡ picked_plan_fault scripts wishes shard
+pub all-fault : (scripts : List Script) (wishes : Option (List Wish)) (shard : Option Shard)
+    → None ≡ picked (tree scripts) wishes shard → plan_fault scripts [] ≡ picked_plan_fault scripts wishes shard
 all-fault scripts None None e = refl
 all-fault scripts None (Some shard) e = let wrong : None ≡ Some (picked_paths (tree scripts) None (Some shard)) = e in absurd (cc)
 all-fault scripts (Some wishes) shard e = let wrong : None ≡ Some (picked_paths (tree scripts) (Some wishes) shard) = e in absurd (cc)
@@ -112,7 +115,8 @@ pub record IsLeft (scripts : List Script) (wishes : Option (List Wish)) (shard :
 some_same : (x y : List (List ℕ)) → Some x ≡ Some y → x ≡ y
 some_same x y e = cc
 
-pub left-is : (scripts : List Script) (wishes : Option (List Wish)) (shard : Option Shard) (paths : List (List ℕ)) → Some paths ≡ picked (tree scripts) wishes shard → pick_fault scripts wishes shard ≡ None → IsLeft scripts wishes shard paths
+pub left-is : (scripts : List Script) (wishes : Option (List Wish)) (shard : Option Shard) (paths : List (List ℕ))
+    → Some paths ≡ picked (tree scripts) wishes shard → pick_fault scripts wishes shard ≡ None → IsLeft scripts wishes shard paths
 left-is scripts None None paths e none = let wrong : Some paths ≡ None = e in absurd (cc)
 left-is scripts None (Some shard) paths e none =
     let same : paths ≡ picked_paths (tree scripts) None (Some shard) = some_same paths (picked_paths (tree scripts) None (Some shard)) e in
@@ -147,7 +151,8 @@ these_tree nodes (p ∷ ps) h = refl
 pub these-tree : (scripts : List Script) (paths : List (List ℕ)) → 0 < length paths → plan_tree scripts paths ≡ kept_tree (tree scripts) paths
 these-tree scripts paths h = these_tree (tree scripts) paths h
 
-pub these-fault : (scripts : List Script) (wishes : Option (List Wish)) (shard : Option Shard) (paths : List (List ℕ)) → 0 < length paths → IsLeft scripts wishes shard paths → plan_fault scripts paths ≡ picked_plan_fault scripts wishes shard
+pub these-fault : (scripts : List Script) (wishes : Option (List Wish)) (shard : Option Shard) (paths : List (List ℕ))
+    → 0 < length paths → IsLeft scripts wishes shard paths → plan_fault scripts paths ≡ picked_plan_fault scripts wishes shard
 these-fault scripts wishes shard paths h l =
     ap₂ (λ (a b : Option PlanFault). option_or a (option_or (option_or b (full_fault (plan_tree scripts paths))) (keys_fault (plan_tree scripts paths)))) l.sound (ap not_selected l.known)
     ∙ ap size_fault (these-tree scripts paths h) ∙ sym l.size

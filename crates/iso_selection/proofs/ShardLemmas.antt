@@ -107,7 +107,8 @@ module _ (tree : List Row) (f : ℕ → Bool) where
 some : (p : ℕ) → 0 < p → (p == 0) ≡ false
 some p h = grind (arith, nat_tests)
 
-top_by : (tree : List Row) → IsBelow tree → (x n : ℕ) → 0 < x → 0 < n → (is_under tree x (parent tree n) ≡ true → top_class tree x ≡ top_class tree (parent tree n)) → (b : Bool) → (n == x) ≡ b → is_under tree x n ≡ true → top_class tree x ≡ top_class tree n
+top_by : (tree : List Row) → IsBelow tree → (x n : ℕ) → 0 < x → 0 < n → (is_under tree x (parent tree n) ≡ true → top_class tree x ≡ top_class tree (parent tree n))
+    → (b : Bool) → (n == x) ≡ b → is_under tree x n ≡ true → top_class tree x ≡ top_class tree n
 top_by tree b x n low pos ih true e h = ap (top_class tree) (sym (eq_from n x e))
 top_by tree b x n low pos ih false e h =
     let above : is_under tree x (parent tree n) ≡ true = sym (under-step tree b x n pos ∙ ap (λ (t : Bool). t || is_under tree x (parent tree n)) e) ∙ h in
@@ -246,7 +247,8 @@ pub whole-named : (tree : List Row) → IsTree tree → (wishes : List Wish) (n 
 whole-named tree t wishes n h =
     named-those tree t.below (is_picked tree (Some wishes) None) (wishes-of-paths tree wishes) n h ∙ and_true (is_named_by tree (Some wishes) n)
 
-pub shard-named : (tree : List Row) → IsTree tree → HaveOwnPaths tree → (wishes : Option (List Wish)) (shard : Option Shard) (n : ℕ) → n < length tree → is_named tree (picked_paths tree wishes shard) n ≡ is_picked tree wishes shard n
+pub shard-named : (tree : List Row) → IsTree tree → HaveOwnPaths tree → (wishes : Option (List Wish)) (shard : Option Shard) (n : ℕ)
+    → n < length tree → is_named tree (picked_paths tree wishes shard) n ≡ is_picked tree wishes shard n
 shard-named tree t own wishes shard n h =
     named-those tree t.below (is_picked tree wishes shard) (own-paths tree own (is_picked tree wishes shard) (picked-root tree wishes shard)) n h
 
@@ -268,7 +270,8 @@ shard-within tree passes count class h =
     let less : number_among (holds tree passes) class % count < count = mod-lt (number_among (holds tree passes) class) (omega arith) in
     (omega arith, omega arith)
 
-pub shard-same : (tree : List Row) → IsTree tree → (paths : List (List ℕ)) (m : ℕ) → m < length tree → is_kept_by tree paths m ≡ true → IsSameNode tree m (kept_tree tree paths) (number_among (is_kept_by tree paths) m)
+pub shard-same : (tree : List Row) → IsTree tree → (paths : List (List ℕ)) (m : ℕ) → m < length tree
+    → is_kept_by tree paths m ≡ true → IsSameNode tree m (kept_tree tree paths) (number_among (is_kept_by tree paths) m)
 shard-same tree t paths m h e = same-node tree t (is_kept_by tree paths) (kept-closed tree t paths) m h e
 
 -- where no path is picked, the root alone is kept

@@ -20,4 +20,5 @@ begins b passes (c ∷ cs) = (b == c) && passes cs
 -- takes in some end of it.
 abbrev pub is_match : (pattern text : List ℕ) → Bool
 is_match [] text = length text == 0
-is_match (b ∷ bs) text = cond (b == star) (some_end (is_match bs) text) (begins b (is_match bs) text)
+is_match (b ∷ bs) text =
+    cond (b == star) (some_end (is_match bs) text) (begins b (is_match bs) text)

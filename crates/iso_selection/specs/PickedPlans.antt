@@ -25,4 +25,6 @@ size_fault nodes = option_or (full_fault nodes) (keys_fault nodes)
 -- the first fault of scripts and what is asked for. Nodes and keys are counted of what is picked.
 abbrev pub picked_plan_fault : List Script → Option (List Wish) → Option Shard → Option PlanFault
 picked_plan_fault scripts wishes shard =
-    option_or (scripts_fault scripts) (option_or (not_selected (first_in_vain (tree scripts) wishes)) (size_fault (picked_tree scripts wishes shard)))
+    option_or (scripts_fault scripts)
+    (option_or (not_selected (first_in_vain (tree scripts) wishes))
+    (size_fault (picked_tree scripts wishes shard)))

@@ -15,11 +15,13 @@ use Rattle.iso_selection.specs.declared.shard.Shard.{Shard}
 
 -- whether a node is picked: what is asked for names it, and its top-level class goes to the shard
 abbrev pub is_picked : List Row → Option (List Wish) → Option Shard → ℕ → Bool
-is_picked tree wishes shard n = is_named_by tree wishes n && is_in tree (is_named_by tree wishes) shard n
+is_picked tree wishes shard n =
+    is_named_by tree wishes n && is_in tree (is_named_by tree wishes) shard n
 
 -- the paths of the picked nodes, in the nodes' order
 abbrev pub picked_paths : List Row → Option (List Wish) → Option Shard → List (List ℕ)
-picked_paths tree wishes shard = map (path_text tree) (those_below (is_picked tree wishes shard) (length tree))
+picked_paths tree wishes shard =
+    map (path_text tree) (those_below (is_picked tree wishes shard) (length tree))
 
 -- the same, where something is asked for, or a shard
 abbrev pub picked : List Row → Option (List Wish) → Option Shard → Option (List (List ℕ))
@@ -31,7 +33,8 @@ picked tree (Some wishes) shard = Some (picked_paths tree (Some wishes) shard)
 abbrev pub pick_fault : List Script → Option (List Wish) → Option Shard → Option PlanFault
 pick_fault scripts None None = None
 pick_fault scripts None (Some shard) = scripts_fault scripts
-pick_fault scripts (Some wishes) shard = option_or (scripts_fault scripts) (not_selected (first_in_vain (tree scripts) (Some wishes)))
+pick_fault scripts (Some wishes) shard =
+    option_or (scripts_fault scripts) (not_selected (first_in_vain (tree scripts) (Some wishes)))
 
 -- the paths that an answer has, of which there is one at least where it has any
 abbrev pub paths_of : Picked → Option (List (List ℕ))
@@ -46,7 +49,8 @@ HasPaths (These paths) = 0 < length paths.items
 
 -- no two nodes have one path
 abbrev pub HaveOwnPaths : List Row → Type 0
-HaveOwnPaths tree = (m n : ℕ) → 0 < m → m < length tree → 0 < n → n < length tree → path_text tree m ≡ path_text tree n → m ≡ n
+HaveOwnPaths tree = (m n : ℕ) → 0 < m → m < length tree → 0 < n → n < length tree → path_text tree m
+    ≡ path_text tree n → m ≡ n
 
 -- the tree of the nodes that these paths keep. Where there is none, the root alone is kept.
 abbrev pub kept_tree : List Row → List (List ℕ) → List Row

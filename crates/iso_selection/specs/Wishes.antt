@@ -31,7 +31,8 @@ wishes_of (Some wanted) = Some (map wish_of wanted.now)
 abbrev pub all_wishes : (only patterns : List (List ℕ)) → Option (List ℕ) → Option (List Wish)
 all_wishes [] [] None = None
 all_wishes only patterns None = Some (map path only ++ map pattern patterns)
-all_wishes only patterns (Some file) = Some (map path only ++ (map pattern patterns ++ map path (listed file)))
+all_wishes only patterns (Some file) =
+    Some (map path only ++ (map pattern patterns ++ map path (listed file)))
 
 -- whether a node with this path is asked for
 abbrev pub grants : List ℕ → Wish → Bool

@@ -39,7 +39,8 @@ pub fn whole_paths_match()
 
 /// Lines end with LF or CR LF, empty ones are skipped, and all else belongs to a path.
 pub fn files_list_paths()
-    ensures lines { listed (codes "a" ++ 13 ∷ 10 ∷ 13 ∷ 10 ∷ 10 ∷ codes "b" ++ 10 ∷ codes "c") ≡ codes "a" ∷ codes "b" ∷ codes "c" ∷ [] }
+    ensures lines { listed (codes "a" ++ 13 ∷ 10 ∷ 13 ∷ 10 ∷ 10 ∷ codes "b" ++ 10 ∷ codes "c")
+        ≡ codes "a" ∷ codes "b" ∷ codes "c" ∷ [] }
     ensures empty { listed [] ≡ [] }
     ensures ends { listed (codes "a" ++ 10 ∷ []) ≡ codes "a" ∷ [] }
     ensures alone { listed (codes "a" ++ 13 ∷ []) ≡ (codes "a" ++ 13 ∷ []) ∷ [] }
@@ -59,22 +60,29 @@ pub fn wishes_are_in_order()
 /// top-level classes are named.
 #[tactic(auto, unfolding(iso_plan::specs::Paths::path))]
 pub fn wishes_name_nodes()
-    ensures both { those_below (is_named_by cart_and_desk (Some (pattern (codes "shop.Cart*") ∷ path (codes "shop.Desk.c") ∷ []))) 8
+    ensures both { those_below (is_named_by cart_and_desk
+        (Some (pattern (codes "shop.Cart*") ∷ path (codes "shop.Desk.c") ∷ []))) 8
         ≡ 1 ∷ 2 ∷ 3 ∷ 5 ∷ [] }
-    ensures star { those_below (is_named_by two_classes (Some (path (codes "shop.*") ∷ []))) 5 ≡ [] }
-    ensures root { those_below (is_named_by two_classes (Some (pattern (codes "*") ∷ []))) 5 ≡ 1 ∷ 2 ∷ 3 ∷ 4 ∷ [] }
+    ensures star { those_below (is_named_by two_classes (Some (path (codes "shop.*") ∷ []))) 5
+        ≡ [] }
+    ensures root { those_below (is_named_by two_classes (Some (pattern (codes "*") ∷ []))) 5
+        ≡ 1 ∷ 2 ∷ 3 ∷ 4 ∷ [] }
     ensures all { those_below (is_named_by cart_and_desk None) 8 ≡ 1 ∷ 4 ∷ [] }
-    ensures paths { picked_paths two_classes (Some (path (codes "shop.B") ∷ pattern (codes "*.A.t") ∷ [])) None
+    ensures paths { picked_paths two_classes
+        (Some (path (codes "shop.B") ∷ pattern (codes "*.A.t") ∷ [])) None
         ≡ codes "shop.A.t" ∷ codes "shop.B" ∷ [] }
-    ensures twice { picked_paths two_classes (Some (path (codes "shop.A") ∷ pattern (codes "*.A") ∷ path (codes "shop.A") ∷ [])) None
+    ensures twice { picked_paths two_classes
+        (Some (path (codes "shop.A") ∷ pattern (codes "*.A") ∷ path (codes "shop.A") ∷ [])) None
         ≡ codes "shop.A" ∷ [] }
 {}
 
 /// The first thing that names no node is told, be it a path or a pattern.
 #[tactic(auto, unfolding(iso_plan::specs::Paths::path))]
 pub fn first_in_vain_is_told()
-    ensures pattern { first_in_vain two_classes (Some (path (codes "shop.A") ∷ pattern (codes "*.C") ∷ path (codes "shop") ∷ [])) ≡ Some 1 }
-    ensures path { first_in_vain two_classes (Some (pattern (codes "*.t") ∷ path (codes "shop.*") ∷ [])) ≡ Some 1 }
+    ensures pattern { first_in_vain two_classes
+        (Some (path (codes "shop.A") ∷ pattern (codes "*.C") ∷ path (codes "shop") ∷ [])) ≡ Some 1 }
+    ensures path { first_in_vain two_classes
+        (Some (pattern (codes "*.t") ∷ path (codes "shop.*") ∷ [])) ≡ Some 1 }
     ensures root { first_in_vain two_classes (Some (pattern [] ∷ [])) ≡ Some 0 }
     ensures none { first_in_vain two_classes (Some (pattern (codes "shop.A") ∷ [])) ≡ None }
     ensures empty { first_in_vain two_classes (Some []) ≡ None }
@@ -88,5 +96,6 @@ pub fn classes_go_to_shards_in_turn()
     ensures second { shard_of two_classes (is_top two_classes) 2 3 ≡ 2 }
     ensures again { shard_of two_classes (is_top two_classes) 1 3 ≡ 1 }
     ensures more { shard_of two_classes (is_top two_classes) 3 3 ≡ 2 }
-    ensures named { shard_of two_classes (is_named_by two_classes (Some (path (codes "shop.B.t") ∷ []))) 2 3 ≡ 1 }
+    ensures named { shard_of two_classes
+        (is_named_by two_classes (Some (path (codes "shop.B.t") ∷ []))) 2 3 ≡ 1 }
 {}

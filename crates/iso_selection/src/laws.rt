@@ -67,7 +67,8 @@ pub fn picked_nodes_keep_their_chains(scripts: &[Script])
 /// different settings and numbers of workers.
 pub fn shards_have_the_results_of_the_whole_run(whole: &Plan, part: &Plan)
     ensures { (scripts : List S.Script) (wishes : Option (List Wish)) (shard : Shard)
-        → tree_of whole.now ≡ tree scripts → tree_of part.now ≡ picked_tree scripts wishes (Some shard)
+        → tree_of whole.now ≡ tree scripts → tree_of part.now
+        ≡ picked_tree scripts wishes (Some shard)
         → KeepsResults whole.now part.now (picked_paths (tree scripts) wishes (Some shard)) }
 {
     selected_nodes_have_the_results_of_the_whole_run(whole, part);

@@ -39,7 +39,8 @@ fn without_return(line: &[u8]) -> &[u8]
 
 /// Adds a line, if it isn't empty.
 fn add<'a>(paths: &mut Vec<&'a [u8]>, line: &'a [u8]) -> Result<(), AllocError>
-    ensures { OnOk result (texts_of paths.new.items ≡ texts_of paths.old.items ++ filter has_bytes (line.now ∷ [])) }
+    ensures { OnOk result (texts_of paths.new.items ≡ texts_of paths.old.items
+        ++ filter has_bytes (line.now ∷ [])) }
 {
     if !line.is_empty() {
         paths.push(line)?;

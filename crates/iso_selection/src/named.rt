@@ -25,8 +25,10 @@ pub(crate) fn named(
     wanted: Option<&[Wanted<'_>]>,
 ) -> Result<Vec<bool>, PlanError>
     requires { 0 < length nodes.now.paths.items }
-    ensures named { (tree : List Row) → IsTree tree → nodes.now.paths.items ≡ all_paths tree → nodes.now.classes.items ≡ all_top_classes tree
-        → IfOk result (λ v. v.items ≡ column (is_named_by tree (wishes_of wanted.entry)) (length tree)) }
+    ensures named { (tree : List Row) → IsTree tree → nodes.now.paths.items ≡ all_paths tree
+        → nodes.now.classes.items ≡ all_top_classes tree
+        → IfOk result (λ v. v.items ≡ column (is_named_by tree (wishes_of wanted.entry))
+        (length tree)) }
     ensures known { (tree : List Row) → IsTree tree → nodes.now.paths.items ≡ all_paths tree
         → IfOk result (λ v. first_in_vain tree (wishes_of wanted.entry) ≡ None) }
     ensures unknown { (tree : List Row) → IsTree tree → nodes.now.paths.items ≡ all_paths tree
@@ -54,9 +56,12 @@ fn top_classes(alloc: Global, classes: &[u32]) -> Result<Vec<bool>, AllocError>
 fn named_by(alloc: Global, paths: &[Text], wanted: &[Wanted<'_>]) -> Result<Vec<bool>, PlanError>
     requires { 0 < length paths.now }
     ensures named { IfOk result (λ v. v.items
-        ≡ column (λ n. not (is_root n) && list_any (grants (slice_index_or paths.now n [])) (map wish_of wanted.now)) (length paths.now)) }
-    ensures known { IfOk result (λ v. position_from (is_in_vain (drop 1 paths.now)) 0 (map wish_of wanted.now) ≡ None) }
-    ensures unknown { IfErr result (IsFaultOf (not_selected (position_from (is_in_vain (drop 1 paths.now)) 0 (map wish_of wanted.now)))) }
+        ≡ column (λ n. not (is_root n) && list_any (grants (slice_index_or paths.now n []))
+        (map wish_of wanted.now)) (length paths.now)) }
+    ensures known { IfOk result (λ v. position_from (is_in_vain (drop 1 paths.now)) 0
+        (map wish_of wanted.now) ≡ None) }
+    ensures unknown { IfErr result (IsFaultOf
+        (not_selected (position_from (is_in_vain (drop 1 paths.now)) 0 (map wish_of wanted.now)))) }
 {
     let known = set_of(alloc, &paths[1..])?;
     let mut named = named_by_paths(alloc, paths, wanted)?;
@@ -73,8 +78,10 @@ fn mark(named: &mut Vec<bool>, paths: &[Text], known: &BTreeSet<&[u8]>, wanted: 
     requires some { 0 < length paths.now }
     requires each { length named.old.items ≡ length paths.now }
     requires known { Knows known.now (drop 1 paths.now) }
-    ensures marked { (n : ℕ) → n < length paths.now → slice_index_or named.new.items n false ≡ (slice_index_or named.old.items n false
-        || (not (is_root n) && pattern_grants (slice_index_or paths.now n []) (wish_of wanted.entry))) }
+    ensures marked { (n : ℕ) → n < length paths.now → slice_index_or named.new.items n false
+        ≡ (slice_index_or named.old.items n false
+        || (not (is_root n) && pattern_grants (slice_index_or paths.now n [])
+        (wish_of wanted.entry))) }
     ensures each { length named.new.items ≡ length named.old.items }
     ensures found { not result ≡ is_in_vain (drop 1 paths.now) (wish_of wanted.entry) }
 {
@@ -88,7 +95,8 @@ fn mark(named: &mut Vec<bool>, paths: &[Text], known: &BTreeSet<&[u8]>, wanted: 
 fn mark_matches(named: &mut Vec<bool>, paths: &[Text], pattern: &[u8]) -> bool
     requires some { 0 < length paths.now }
     requires each { length named.old.items ≡ length paths.now }
-    ensures marked { (n : ℕ) → n < length paths.now → slice_index_or named.new.items n false ≡ (slice_index_or named.old.items n false
+    ensures marked { (n : ℕ) → n < length paths.now → slice_index_or named.new.items n false
+        ≡ (slice_index_or named.old.items n false
         || (not (is_root n) && P.is_match pattern.now (slice_index_or paths.now n []))) }
     ensures each { length named.new.items ≡ length named.old.items }
     ensures found { result ≡ list_any (P.is_match pattern.now) (drop 1 paths.now) }
@@ -114,7 +122,8 @@ fn named_by_paths(
 ) -> Result<Vec<bool>, AllocError>
     requires { 0 < length paths.now }
     ensures { IfOk result (λ v. v.items
-        ≡ column (λ n. not (is_root n) && is_among (paths_in (map wish_of wanted.now)) (slice_index_or paths.now n [])) (length paths.now)) }
+        ≡ column (λ n. not (is_root n) && is_among (paths_in (map wish_of wanted.now))
+        (slice_index_or paths.now n [])) (length paths.now)) }
 {
     let asked = paths_in(alloc, wanted)?;
     let mut named = Vec::with_capacity(alloc, paths.len())?;
@@ -138,7 +147,8 @@ fn paths_in<'a>(alloc: Global, wanted: &[Wanted<'a>]) -> Result<BTreeSet<&'a [u8
 
 /// Adds the path that is asked for, if it is one.
 fn add_path<'a>(asked: &mut BTreeSet<&'a [u8]>, wanted: Wanted<'a>) -> Result<(), AllocError>
-    ensures { (wishes : List Wish) → Knows asked.old (paths_in wishes) → OnOk result (Knows asked.new (paths_in (wishes ++ wish_of wanted.entry ∷ []))) }
+    ensures { (wishes : List Wish) → Knows asked.old (paths_in wishes)
+        → OnOk result (Knows asked.new (paths_in (wishes ++ wish_of wanted.entry ∷ []))) }
 {
     match wanted {
         Wanted::Path(path) => claim(asked, path),
@@ -159,7 +169,8 @@ fn set_of<'a>(alloc: Global, texts: &'a [Text]) -> Result<BTreeSet<&'a [u8]>, Al
 
 /// Adds a text to a set.
 fn claim<'a>(set: &mut BTreeSet<&'a [u8]>, text: &'a [u8]) -> Result<(), AllocError>
-    ensures { (texts : List (List ℕ)) → Knows set.old texts → OnOk result (Knows set.new (texts ++ text.now ∷ [])) }
+    ensures { (texts : List (List ℕ)) → Knows set.old texts
+        → OnOk result (Knows set.new (texts ++ text.now ∷ [])) }
 {
     set.insert(text)?;
     Ok(())

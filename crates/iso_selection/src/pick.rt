@@ -43,10 +43,13 @@ pub fn pick(
     wanted: Option<&[Wanted<'_>]>,
     shard: Option<Shard>,
 ) -> Result<Picked, PlanError>
-    ensures picked { IfOk result (λ p. paths_of p ≡ picked (tree (map script_of scripts.now)) (wishes_of wanted.entry) shard) }
+    ensures picked { IfOk result (λ p. paths_of p
+        ≡ picked (tree (map script_of scripts.now)) (wishes_of wanted.entry) shard) }
     ensures some { IfOk result HasPaths }
-    ensures accepted { IfOk result (λ p. pick_fault (map script_of scripts.now) (wishes_of wanted.entry) shard ≡ None) }
-    ensures refused { IfErr result (IsFaultOf (pick_fault (map script_of scripts.now) (wishes_of wanted.entry) shard)) }
+    ensures accepted { IfOk result
+        (λ p. pick_fault (map script_of scripts.now) (wishes_of wanted.entry) shard ≡ None) }
+    ensures refused { IfErr result
+        (IsFaultOf (pick_fault (map script_of scripts.now) (wishes_of wanted.entry) shard)) }
 {
     if wanted.is_none() && shard.is_none() {
         return Ok(Picked::All);
@@ -60,7 +63,8 @@ pub fn pick(
 /// The paths of the nodes that are kept, in the nodes' order.
 fn kept_paths(alloc: Global, paths: &[Text], kept: &[bool]) -> Result<Vec<Text>, AllocError>
     requires { length kept.now ≡ length paths.now }
-    ensures { IfOk result (λ v. v.items ≡ map (λ n. slice_index_or paths.now n []) (those_below (λ n. slice_index_or kept.now n false) (length paths.now))) }
+    ensures { IfOk result (λ v. v.items ≡ map (λ n. slice_index_or paths.now n [])
+        (those_below (λ n. slice_index_or kept.now n false) (length paths.now))) }
 {
     let mut left = Vec::new(alloc);
     'nodes: for n in 0..paths.len() {

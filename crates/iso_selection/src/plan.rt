@@ -33,10 +33,13 @@ pub fn build_picked(
     wanted: Option<&[Wanted<'_>]>,
     shard: Option<Shard>,
 ) -> Result<Plan, PlanError>
-    ensures tree { IfOk result (λ p. tree_of p ≡ picked_tree (map script_of scripts.now) (wishes_of wanted.entry) shard) }
+    ensures tree { IfOk result (λ p. tree_of p
+        ≡ picked_tree (map script_of scripts.now) (wishes_of wanted.entry) shard) }
     ensures settings { IfOk result (λ p. p.settings ≡ settings.now) }
-    ensures accepted { IfOk result (λ p. picked_plan_fault (map script_of scripts.now) (wishes_of wanted.entry) shard ≡ None) }
-    ensures refused { IfErr result (IsFaultOf (picked_plan_fault (map script_of scripts.now) (wishes_of wanted.entry) shard)) }
+    ensures accepted { IfOk result (λ p. picked_plan_fault (map script_of scripts.now)
+        (wishes_of wanted.entry) shard ≡ None) }
+    ensures refused { IfErr result
+        (IsFaultOf (picked_plan_fault (map script_of scripts.now) (wishes_of wanted.entry) shard)) }
 {
     match pick(alloc, scripts, wanted, shard)? {
         Picked::All => build(alloc, scripts, settings),

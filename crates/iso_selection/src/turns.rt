@@ -18,8 +18,10 @@ pub(crate) fn in_shard(
 ) -> Result<Vec<bool>, AllocError>
     requires each { length named.items ≡ length classes.now }
     requires above { (n : ℕ) → n < length classes.now → slice_index_or classes.now n 0 ≤ n }
-    ensures { (tree : List Row) (passes : ℕ → Bool) → classes.now ≡ all_top_classes tree → named.items ≡ column passes (length tree)
-        → IfOk result (λ v. v.items ≡ column (λ n. passes n && is_in tree passes shard n) (length tree)) }
+    ensures { (tree : List Row) (passes : ℕ → Bool) → classes.now ≡ all_top_classes tree
+        → named.items ≡ column passes (length tree)
+        → IfOk result (λ v. v.items ≡ column (λ n. passes n && is_in tree passes shard n)
+        (length tree)) }
 {
     match shard {
         Some(shard) => those_of(alloc, classes, &named, shard),
@@ -36,8 +38,10 @@ fn those_of(
 ) -> Result<Vec<bool>, AllocError>
     requires each { length named.now ≡ length classes.now }
     requires above { (n : ℕ) → n < length classes.now → slice_index_or classes.now n 0 ≤ n }
-    ensures { (tree : List Row) (passes : ℕ → Bool) → classes.now ≡ all_top_classes tree → named.now ≡ column passes (length tree)
-        → IfOk result (λ v. v.items ≡ column (λ n. passes n && is_in tree passes (Some shard) n) (length tree)) }
+    ensures { (tree : List Row) (passes : ℕ → Bool) → classes.now ≡ all_top_classes tree
+        → named.now ≡ column passes (length tree)
+        → IfOk result (λ v. v.items ≡ column (λ n. passes n && is_in tree passes (Some shard) n)
+        (length tree)) }
 {
     let held = held(alloc, classes, named)?;
     let places = places(alloc, &held)?;
@@ -54,7 +58,8 @@ fn those_of(
 fn held(alloc: Global, classes: &[u32], named: &[bool]) -> Result<Vec<bool>, AllocError>
     requires each { length named.now ≡ length classes.now }
     requires above { (n : ℕ) → n < length classes.now → slice_index_or classes.now n 0 ≤ n }
-    ensures held { (tree : List Row) (passes : ℕ → Bool) → classes.now ≡ all_top_classes tree → named.now ≡ column passes (length tree)
+    ensures held { (tree : List Row) (passes : ℕ → Bool) → classes.now ≡ all_top_classes tree
+        → named.now ≡ column passes (length tree)
         → IfOk result (λ v. v.items ≡ column (holds tree passes) (length tree)) }
     ensures each { IfOk result (λ v. length v.items ≡ length classes.now) }
 {

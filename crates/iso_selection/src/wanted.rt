@@ -25,7 +25,8 @@ pub fn all_wanted<'a>(
     patterns: &[&'a str],
     file: Option<&'a [u8]>,
 ) -> Result<Option<Vec<Wanted<'a>>>, AllocError>
-    ensures { IfOk result (λ w. option_map (λ v. map wish_of v.items) w ≡ all_wishes (texts_of only.now) (texts_of patterns.now) (option_copied file.entry)) }
+    ensures { IfOk result (λ w. option_map (λ v. map wish_of v.items) w
+        ≡ all_wishes (texts_of only.now) (texts_of patterns.now) (option_copied file.entry)) }
 {
     if only.is_empty() && patterns.is_empty() && file.is_none() {
         return Ok(None);
@@ -49,7 +50,8 @@ fn add_listed<'a>(
     wanted: &mut Vec<Wanted<'a>>,
     file: &'a [u8],
 ) -> Result<(), AllocError>
-    ensures { OnOk result (map wish_of wanted.new.items ≡ map wish_of wanted.old.items ++ map path (listed file.now)) }
+    ensures { OnOk result (map wish_of wanted.new.items ≡ map wish_of wanted.old.items
+        ++ map path (listed file.now)) }
 {
     let paths = listed(alloc, file)?;
     'paths: for path in &paths {

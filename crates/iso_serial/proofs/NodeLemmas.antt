@@ -65,7 +65,8 @@ module _ (plan : Planned) (world : Start) where
   tr = tree_of plan
 
   -- where a node that stands directly in p has no result, p was opened well
-  child-well : (p n : ℕ) (v : ResultsView) → IsEntered plan world p → 0 < n → parent tr n ≡ p → AreResultsAlong plan world p v → has_result v n ≡ false → (opening_of (subject plan world p)).well ≡ true
+  child-well : (p n : ℕ) (v : ResultsView) → IsEntered plan world p → 0 < n → parent tr n ≡ p
+      → AreResultsAlong plan world p v → has_result v n ≡ false → (opening_of (subject plan world p)).well ≡ true
   child-well p n v e pos q u w = elim (root-or-not p) [
     | inl zeroth ↦
         ap (λ (j : ℕ). (opening_of (subject plan world j)).well) zeroth
@@ -125,7 +126,8 @@ module _ (plan : Planned) (world : Start) where
       tray-is : (w y : TrayView) → w ≡ undone mark end.tray → y ≡ giving_back n w → y ≡ giving_back n (undone (marked u n) end.tray)
       tray-is w y e f = f ∙ ap (giving_back n) (e ∙ gone-back)
 
-      pub left-stands : (x : VaultView) (w y : TrayView) → x ≡ regaining n end.vault → w ≡ undone mark end.tray → y ≡ giving_back n w → BetweenNodes plan world (parent tr n) (record end { vault = x; tray = y })
+      pub left-stands : (x : VaultView) (w y : TrayView) → x ≡ regaining n end.vault → w ≡ undone mark end.tray
+          → y ≡ giving_back n w → BetweenNodes plan world (parent tr n) (record end { vault = x; tray = y })
       left-stands x w y xe e f = record {
         entered = s.entered;
         vault = subst (λ z. IsLentAlong plan world (parent tr n) z) (sym xe) (vault-back plan world s.entered.tree end.vault n pos within at.vault);

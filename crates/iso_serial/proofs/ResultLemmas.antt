@@ -197,7 +197,8 @@ module _ (plan : Planned) (world : Start) (v : ResultsView) (t : IsTree (tree_of
         ];
       }
 
-  pub put-test : (p n : ℕ) → parent tr n ≡ p → 0 < n → n < length v.plan.rows → is_test (row_at tr n).kind ≡ true → AreResultsAlong plan world p v → AreResultsAlong plan world p (with_done_of Test n v)
+  pub put-test : (p n : ℕ) → parent tr n ≡ p → 0 < n → n < length v.plan.rows → is_test (row_at tr n).kind ≡ true
+      → AreResultsAlong plan world p v → AreResultsAlong plan world p (with_done_of Test n v)
   put-test p n q pos within test u =
       put-end p n q pos within u.plan_is u.start_is u.opened_fit u.ended_fit u.enclosed u.opened u.going (λ m _ op a. u.others m op a) u.closed
       (λ m mp mw same. let wrong : true ≡ false = sym test ∙ ap (λ (j : ℕ). is_test (row_at tr j).kind) (sym same) ∙ t.inner m mp in absurd (cc))
@@ -235,7 +236,8 @@ module _ (plan : Planned) (world : Start) (v : ResultsView) (t : IsTree (tree_of
       (inside-all n all)
 
   -- once all that stands directly in the root has results, all nodes have
-  has-by : (m : ℕ) → 0 < m → m < length v.plan.rows → (p : ℕ) → parent tr m ≡ p → AreResultsAlong plan world 0 v → Inside 0 → (0 < p → p < length v.plan.rows → has_result v p ≡ true) → has_result v m ≡ true
+  has-by : (m : ℕ) → 0 < m → m < length v.plan.rows → (p : ℕ) → parent tr m ≡ p → AreResultsAlong plan world 0 v
+      → Inside 0 → (0 < p → p < length v.plan.rows → has_result v p ≡ true) → has_result v m ≡ true
   has-by m mp mw p q u all ih = elim (root-or-not p) [
     | inl zeroth ↦ inside-all 0 all m mp mw (q ∙ zeroth)
     | inr pp ↦

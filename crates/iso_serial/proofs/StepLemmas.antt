@@ -56,7 +56,8 @@ module _ (plan : Planned) (world : Start) where
       let q = parent-at v n u.plan_is in
       subst (λ (j : ℕ). AreOpen v (path (tree_of v.plan) j)) (sym q) (open-above plan world v (tree-at v u.plan_is t) (parent tr n) n q u w)
 
-  can-put-entered : (k : BodyKind) (n : ℕ) (v : ResultsView) → IsTree tr → n < length plan.rows → AreResultsAlong plan world (parent tr n) v → has_result v n ≡ false → is_due k n v ≡ true → CanPut (record { subject = subject plan world n; kind = k }) v
+  can-put-entered : (k : BodyKind) (n : ℕ) (v : ResultsView) → IsTree tr → n < length plan.rows → AreResultsAlong plan world (parent tr n) v
+      → has_result v n ≡ false → is_due k n v ≡ true → CanPut (record { subject = subject plan world n; kind = k }) v
   can-put-entered k n v t within u w due = record {
     plan = sym u.plan_is;
     start = sym u.start_is;
@@ -134,7 +135,8 @@ module _ (plan : Planned) (world : Start) where
   ended-grows : (n : ℕ) (v w : ResultsView) → w ≡ record v { ended = set v.ended n true } → (m : ℕ) → has_result v m ≡ true → has_result w m ≡ true
   ended-grows n v w e m h = ap (λ (x : ResultsView). has_result x m) e ∙ result-more v v.opened (set v.ended n true) (λ _ x. x) (set-more v.ended n) m h
 
-  pub ended-further : (n : ℕ) (old new : Walk) (k : BodyKind) → new.results ≡ record old.results { ended = set old.results.ended n true } → IsTrayAfter plan world k n old.tray new.tray → GoesFurther old new
+  pub ended-further : (n : ℕ) (old new : Walk) (k : BodyKind) → new.results ≡ record old.results { ended = set old.results.ended n true }
+      → IsTrayAfter plan world k n old.tray new.tray → GoesFurther old new
   ended-further n old new k e d = record { tray = d.onward; results = ended-grows n old.results new.results e }
 
   has-ended : (n : ℕ) (v w : ResultsView) → w ≡ record v { ended = set v.ended n true } → n < length v.ended → has_result w n ≡ true

@@ -68,7 +68,8 @@ module _ (plan : Planned) (world : Start) (t : IsTree (tree_of plan)) where
         | inr out ↦ out
       ])
 
-  pub can-lend : (v : VaultView) (u : TrayView) (n : ℕ) → 0 < n → n < length plan.rows → IsLentAlong plan world (parent tr n) v → HoldsAlong plan world (parent tr n) u → AreLentAlong plan (parent tr n) u.lent → CanLend n v u
+  pub can-lend : (v : VaultView) (u : TrayView) (n : ℕ) → 0 < n → n < length plan.rows → IsLentAlong plan world (parent tr n) v
+      → HoldsAlong plan world (parent tr n) u → AreLentAlong plan (parent tr n) u.lent → CanLend n v u
   can-lend v u n pos within a h l =
       let rows : length v.plan.rows ≡ length plan.rows = ap (λ (pl : Planned). length pl.rows) a.plan_is in
       record {

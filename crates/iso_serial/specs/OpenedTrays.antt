@@ -41,12 +41,14 @@ held plan world t = resources (tree_of plan) world t.lent t.values
 -- what a tray holds stands as the opening of p has left it
 abbrev pub IsAsOpened : Planned → Start → ℕ → TrayView → Type 0
 IsAsOpened plan world p t =
-    (k : List ℕ) → is_some (held plan world t k) ≡ true → held plan world t k ≡ (opening_of (subject plan world p)).resources k
+    (k : List ℕ) → is_some (held plan world t k) ≡ true → held plan world t k
+    ≡ (opening_of (subject plan world p)).resources k
 
 -- so does each key that n, a child of p, may not change
 abbrev pub IsAsOpenedApart : Planned → Start → ℕ → ℕ → TrayView → Type 0
 IsAsOpenedApart plan world p n t =
-    (k : List ℕ) → is_writable (rights_of_subject (subject plan world n) k) ≡ false → is_some (held plan world t k) ≡ true
+    (k : List ℕ) → is_writable (rights_of_subject (subject plan world n) k) ≡ false
+    → is_some (held plan world t k) ≡ true
     → held plan world t k ≡ (opening_of (subject plan world p)).resources k
 
 -- a tray has what the nodes on the path of n take for READ_WRITE, and all stands as the opening of
@@ -63,7 +65,8 @@ pub record StandsApart (plan : Planned) (world : Start) (n : ℕ) (t : TrayView)
 
 -- a tray before and after a whole body of a node: but for its frames, its values alone were
 -- changed, and stand as the body leaves them
-pub record IsTrayAfter (plan : Planned) (world : Start) (kind : BodyKind) (n : ℕ) (old new : TrayView) : Type 0 where
+pub record IsTrayAfter (plan : Planned) (world : Start) (kind : BodyKind) (n : ℕ)
+    (old new : TrayView) : Type 0 where
   pub plan_is : new.plan ≡ old.plan
   pub world_is : new.world ≡ old.world
   pub lent : new.lent ≡ old.lent

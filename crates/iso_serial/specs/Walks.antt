@@ -21,7 +21,8 @@ use Rattle.iso_serial.specs.declared.run.Walk.{Walk}
 pub record AreAwayAlong (plan : Planned) (p : ℕ) (home : List Bool) : Type 0 where
   pub fits : length home ≡ length (keys (tree_of plan))
   pub away : (i : ℕ) → IsWrittenOn (tree_of plan) p i → is_home home i ≡ false
-  pub only : (i : ℕ) → i < length (keys (tree_of plan)) → is_home home i ≡ false → IsWrittenOn (tree_of plan) p i
+  pub only : (i : ℕ) → i < length (keys (tree_of plan)) → is_home home i ≡ false
+      → IsWrittenOn (tree_of plan) p i
 
 -- exactly the nodes on the path of p are lent from a vault, and what they take for READ_WRITE is
 -- away
@@ -42,8 +43,10 @@ pub record AreResultsAlong (plan : Planned) (world : Start) (p : ℕ) (v : Resul
   pub enclosed : AreOpen v (path (tree_of v.plan) (parent (tree_of v.plan) p))
   pub opened : 0 < p → is_opened v p ≡ true
   pub going : (m : ℕ) → is_under (tree_of v.plan) m p ≡ true → is_ended v m ≡ false
-  pub others : (m : ℕ) → is_opened v m ≡ true → is_under (tree_of v.plan) m p ≡ false → is_ended v m ≡ true
-  pub closed : (m : ℕ) → 0 < m → m < length v.plan.rows → is_ended v (parent (tree_of v.plan) m) ≡ true → has_result v m ≡ true
+  pub others : (m : ℕ) → is_opened v m ≡ true → is_under (tree_of v.plan) m p ≡ false
+      → is_ended v m ≡ true
+  pub closed : (m : ℕ) → 0 < m → m < length v.plan.rows → is_ended v (parent (tree_of v.plan) m)
+      ≡ true → has_result v m ≡ true
 
 -- the enclosing classes of p were opened well, and p itself is a class or the root
 pub record IsEntered (plan : Planned) (world : Start) (p : ℕ) : Type 0 where
@@ -95,13 +98,16 @@ innermost tree AfterAll n = n
 
 -- a body of n can be done: the frames that it begins with are there, its keys stand as the openings
 -- before it left them, and its end can be put
-pub record CanPerform (plan : Planned) (world : Start) (kind : BodyKind) (n : ℕ) (w : Walk) : Type 0 where
+pub record CanPerform (plan : Planned) (world : Start) (kind : BodyKind) (n : ℕ)
+    (w : Walk) : Type 0 where
   pub tray : w.tray.plan ≡ plan
   pub opened : AreOpened w.results (path (tree_of plan) (innermost (tree_of plan) kind n))
-  pub begins : CanBegin (subject plan world n) kind (frames_on w.results (innermost (tree_of plan) kind n))
+  pub begins : CanBegin (subject plan world n) kind
+      (frames_on w.results (innermost (tree_of plan) kind n))
   pub ready : IsReadyFor (subject plan world n) kind (content w.tray) (has_value w.tray)
   pub put : CanPut (record { subject = subject plan world n; kind = kind }) w.results
 
 -- all that stands directly in p has results
 abbrev pub AreDone : Planned → ℕ → ResultsView → Type 0
-AreDone plan p v = (i : ℕ) → i < length (children (tree_of plan) p) → has_result v (slice_index_or (children (tree_of plan) p) i 0) ≡ true
+AreDone plan p v = (i : ℕ) → i < length (children (tree_of plan) p)
+    → has_result v (slice_index_or (children (tree_of plan) p) i 0) ≡ true

@@ -19,7 +19,8 @@ abbrev mutual
 
   pub leaves_behind : List ℕ → Members → List Leaf
   leaves_behind path no_members = []
-  leaves_behind path (member key value rest) = leaves_at (path ++ key) value ++ leaves_behind path rest
+  leaves_behind path (member key value rest) =
+      leaves_at (path ++ key) value ++ leaves_behind path rest
 
 -- the leaves of a table
 abbrev pub leaves : Members → List Leaf
@@ -28,7 +29,8 @@ leaves = leaves_behind []
 -- the values of the leaves under a joined key: two where it is reached by two spellings
 abbrev pub values_at : List ℕ → List Leaf → List Data
 values_at key [] = []
-values_at key (leaf ∷ rest) = cond (bytes_eq leaf.0 key) (leaf.1 ∷ values_at key rest) (values_at key rest)
+values_at key (leaf ∷ rest) =
+    cond (bytes_eq leaf.0 key) (leaf.1 ∷ values_at key rest) (values_at key rest)
 
 -- what was found is none of these values, the only one, or a word for several
 abbrev pub IsFound : Found → List Data → Type 0

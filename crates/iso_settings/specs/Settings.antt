@@ -64,7 +64,8 @@ is_numeral text = (nat_le 1 (length text) && nat_le (length text) 9) && all_asci
 -- a whole number of 1 to 64, which may be given as a text of one to nine digits
 abbrev pub count : Rule ℕ
 count key (integer value) = in_range key value
-count key (string text) = if is_numeral text then in_range key (pos (digits_value 10 text)) else Err (WrongValue key)
+count key (string text) =
+    if is_numeral text then in_range key (pos (digits_value 10 text)) else Err (WrongValue key)
 count key _ = Err (WrongValue key)
 
 -- the one lifecycle that there is, a test instance for each method
@@ -90,7 +91,8 @@ setting rule all key = only_value key (values_at key all) >>= read rule key
 
 -- The number of workers: one where parallel execution is off. The dynamic strategy gives the
 -- processors times the factor, at most 64, the fixed one its parallelism.
-abbrev pub workers : (is_parallel : Bool) → (chosen : Strategy) → (factor : ℕ) → (parallelism : Option ℕ)
+abbrev pub workers : (is_parallel : Bool) → (chosen : Strategy) → (factor : ℕ)
+    → (parallelism : Option ℕ)
     → (processors : ℕ) → Reading ℕ
 workers false chosen factor parallelism processors = Ok 1
 workers true Dynamic factor parallelism processors = Ok (min (processors * factor) 64)
@@ -107,7 +109,8 @@ settings_of all processors = do
   factor ← setting count all (jupiter "execution.parallel.config.dynamic.factor")
   parallelism ← setting count all (jupiter "execution.parallel.config.fixed.parallelism")
   ignored ← setting lifecycle all (jupiter "testinstance.lifecycle.default")
-  worker_count ← workers (unwrap_or is_parallel false) (unwrap_or chosen Dynamic) (unwrap_or factor 1) parallelism processors
+  worker_count ← workers (unwrap_or is_parallel false) (unwrap_or chosen Dynamic)
+      (unwrap_or factor 1) parallelism processors
   Ok (record {
     parallel = unwrap_or is_parallel false;
     default_mode = unwrap_or default SameThread;

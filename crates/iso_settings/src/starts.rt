@@ -212,7 +212,8 @@ impl FileStarts {
     /// Whether the other has each file of this one, with the same text.
     fn is_within(&self, other: &FileStarts) -> bool
         ensures { IsTrue result
-            ↔ ((path text : List ℕ) → map.get self.now path ≡ Some text → map.get other.now path ≡ Some text) }
+            ↔ ((path text : List ℕ) → map.get self.now path ≡ Some text → map.get other.now path
+            ≡ Some text) }
     {
         'entries: for (path, start) in self.entries.iter() {
             let Some(found) = other.get(path.as_str()) else {

@@ -71,7 +71,8 @@ not-true : (a : Bool) → not a ≡ true → a ≡ false
 not-true true e = absurd (cc)
 not-true false e = refl
 
-one-child : (tree : List Row) (m n : ℕ) (ns : List ℕ) (t : Bool) → (not (Paths.is_root n) && eqb (parent tree n) m) ≡ t → All (IsChild tree m (suc n)) ns → All (IsChild tree m (suc n)) (cond t (ns ++ n ∷ []) ns)
+one-child : (tree : List Row) (m n : ℕ) (ns : List ℕ) (t : Bool) → (not (Paths.is_root n) && eqb (parent tree n) m) ≡ t
+    → All (IsChild tree m (suc n)) ns → All (IsChild tree m (suc n)) (cond t (ns ++ n ∷ []) ns)
 one-child tree m n ns false e all = all
 one-child tree m n ns true e all = All-append (IsChild tree m (suc n)) ns (n ∷ []) all
     (All-cons (IsChild tree m (suc n)) n [] (record { below = omega arith; root = sym (roots n) ∙ not-true (Paths.is_root n) (and-left (not (Paths.is_root n)) (eqb (parent tree n) m) e); parent = and-right (not (Paths.is_root n)) (eqb (parent tree n) m) e }) (All-nil (IsChild tree m (suc n))))

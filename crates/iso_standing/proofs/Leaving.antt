@@ -103,7 +103,8 @@ module _ (v : Standing) (start : Resources) (s : RunState) (like : LooksLike v s
   }
 
   -- the last body of a node
-  finished-by : (n : ℕ) (t : Bool) → scripts.is_test ((suite_in v start).head n) ≡ t → n < length v.phases → (st : NodeStatus) → is_some (body_in (bare (phase_of st))) ≡ true → (is_closing (bare (phase_of st)) || t) ≡ true
+  finished-by : (n : ℕ) (t : Bool) → scripts.is_test ((suite_in v start).head n) ≡ t → n < length v.phases
+      → (st : NodeStatus) → is_some (body_in (bare (phase_of st))) ≡ true → (is_closing (bare (phase_of st)) || t) ≡ true
       → (m : ℕ) → m < nodes_in v → phase_of ((leaving scripts (suite_in v start) n s.nodes st).status m) ≡ get_or (set v.phases n P.Finished) m P.Waiting
   finished-by n t test hn Waiting body last m h = absurd (cc)
   finished-by n t test hn (Begun b) body last m h =
@@ -114,13 +115,15 @@ module _ (v : Standing) (start : Resources) (s : RunState) (like : LooksLike v s
   finished-by n t test hn (Closing fs b) body last m h = changed phase_of n _ s.nodes.status v.phases P.Finished P.Waiting m hn refl (like.phases m h)
   finished-by n t test hn (Finished r) body last m h = absurd (cc)
 
-  finished : (n : ℕ) (t : Bool) → scripts.is_test ((suite_in v start).head n) ≡ t → n < nodes_in v → n < length v.phases → is_some (body_in (bare (phase_at v n))) ≡ true → (is_closing (bare (phase_at v n)) || t) ≡ true
+  finished : (n : ℕ) (t : Bool) → scripts.is_test ((suite_in v start).head n) ≡ t → n < nodes_in v
+      → n < length v.phases → is_some (body_in (bare (phase_at v n))) ≡ true → (is_closing (bare (phase_at v n)) || t) ≡ true
       → (m : ℕ) → m < nodes_in v → phase_of ((leaving scripts (suite_in v start) n s.nodes (s.nodes.status n)).status m) ≡ get_or (set v.phases n P.Finished) m P.Waiting
   finished n t test h hn body last =
       finished-by n t test hn (s.nodes.status n) (ap (λ (p : Phase). is_some (body_in (bare p))) (like.phases n h) ∙ body) (ap (λ (p : Phase). is_closing (bare p) || t) (like.phases n h) ∙ last)
 
   -- the opening of a class, which ended well
-  open-by : (n : ℕ) → scripts.is_test ((suite_in v start).head n) ≡ false → n < length v.phases → (st : NodeStatus) → is_some (body_in (bare (phase_of st))) ≡ true → is_closing (bare (phase_of st)) ≡ false
+  open-by : (n : ℕ) → scripts.is_test ((suite_in v start).head n) ≡ false → n < length v.phases
+      → (st : NodeStatus) → is_some (body_in (bare (phase_of st))) ≡ true → is_closing (bare (phase_of st)) ≡ false
       → ((b : Stage) → st ≡ Begun b → ended_well scripts (suite_in v start) n b s.nodes ≡ true)
       → (m : ℕ) → m < nodes_in v → phase_of ((leaving scripts (suite_in v start) n s.nodes st).status m) ≡ get_or (set v.phases n P.Open) m P.Waiting
   open-by n test hn Waiting body last well m h = absurd (cc)
@@ -131,7 +134,8 @@ module _ (v : Standing) (start : Resources) (s : RunState) (like : LooksLike v s
   open-by n test hn (Closing fs b) body last well m h = absurd (cc)
   open-by n test hn (Finished r) body last well m h = absurd (cc)
 
-  opened : (n : ℕ) → scripts.is_test ((suite_in v start).head n) ≡ false → n < nodes_in v → n < length v.phases → is_some (body_in (bare (phase_at v n))) ≡ true → is_closing (bare (phase_at v n)) ≡ false
+  opened : (n : ℕ) → scripts.is_test ((suite_in v start).head n) ≡ false → n < nodes_in v → n < length v.phases
+      → is_some (body_in (bare (phase_at v n))) ≡ true → is_closing (bare (phase_at v n)) ≡ false
       → ((b : Stage) → s.nodes.status n ≡ Begun b → ended_well scripts (suite_in v start) n b s.nodes ≡ true)
       → (m : ℕ) → m < nodes_in v → phase_of ((leaving scripts (suite_in v start) n s.nodes (s.nodes.status n)).status m) ≡ get_or (set v.phases n P.Open) m P.Waiting
   opened n test h hn body last =

@@ -13,12 +13,14 @@ use Rattle.iso_suites.specs.PlanSuites.{is_same_thread}
 
 -- whether a node is SAME_THREAD and isn't finished
 abbrev pub is_due : Planned → List Phase → ℕ → Bool
-is_due p phases n = is_same_thread (mode (tree_of p) p.settings n) && not (is_finished (bare (slice_index_or phases n Waiting)))
+is_due p phases n = is_same_thread (mode (tree_of p) p.settings n)
+    && not (is_finished (bare (slice_index_or phases n Waiting)))
 
 -- a node has at least `count` children, and none of the first `count` is due
 pub record ArePassed (p : Planned) (phases : List Phase) (n count : ℕ) : Type 0 where
   pub there : count ≤ length (children (tree_of p) n)
-  pub none_due : (i : ℕ) → i < count → is_due p phases (slice_index_or (children (tree_of p) n) i 0) ≡ false
+  pub none_due : (i : ℕ) → i < count → is_due p phases (slice_index_or (children (tree_of p) n) i 0)
+      ≡ false
 
 -- each node has a number of first children, of which none is due
 pub record KeepsPassed (p : Planned) (phases : List Phase) (counts : List ℕ) : Type 0 where

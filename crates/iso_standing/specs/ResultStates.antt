@@ -18,13 +18,16 @@ pub record AreResultsOf (r : ResultsView) (s : RunNodes) : Type 0 where
   pub opened_fit : length r.opened ≡ length r.plan.rows
   pub ended_fit : length r.ended ≡ length r.plan.rows
   pub opened : (n : ℕ) → 0 < n → is_some (frames_in (s.status n)) ≡ true → is_opened r n ≡ true
-  pub unopened : (n : ℕ) → is_some (frames_in (s.status n)) ≡ false → is_finished (s.status n) ≡ false → is_opened r n ≡ false
+  pub unopened : (n : ℕ) → is_some (frames_in (s.status n)) ≡ false → is_finished (s.status n)
+      ≡ false → is_opened r n ≡ false
   pub unended : (n : ℕ) → is_finished (s.status n) ≡ false → is_ended r n ≡ false
-  pub finished : (n : ℕ) → 0 < n → n < length r.plan.rows → has_result r n ≡ is_finished (s.status n)
+  pub finished : (n : ℕ) → 0 < n → n < length r.plan.rows → has_result r n
+      ≡ is_finished (s.status n)
 
 -- A body of a kind is under way at a node of a state that a run leads to, and these are the results
 -- of that state.
-pub record AtLeave (plan : Planned) (world : Start) (r : ResultsView) (s : RunState) (n : ℕ) (b : Stage) (kind : BodyKind) : Type 0 where
+pub record AtLeave (plan : Planned) (world : Start) (r : ResultsView) (s : RunState) (n : ℕ)
+    (b : Stage) (kind : BodyKind) : Type 0 where
   pub reached : IsReached plan world s
   pub results : AreResultsOf r s.nodes
   pub of_plan : r.plan ≡ plan

@@ -42,13 +42,17 @@ abbrev Parts : Type 0
 Parts = Planned × (List Phase × (List ℕ × (List (Option ℕ) × Bool)))
 
 abbrev parts_code : Coded Parts
-parts_code = coded× plan.the_row.coded (coded× (coded_list phase.the_row.coded) (coded× (coded_list coded_ℕ) (coded× (coded_list (coded_option coded_ℕ)) coded_bool)))
+parts_code =
+    coded× plan.the_row.coded (coded× (coded_list phase.the_row.coded)
+    (coded× (coded_list coded_ℕ) (coded× (coded_list (coded_option coded_ℕ)) coded_bool)))
 
 abbrev from_parts : Parts → Standing
-from_parts p = record { plan = p.0; phases = p.1.0; owners = p.1.1.0; busy = p.1.1.1.0; stopped = p.1.1.1.1 }
+from_parts p =
+    record { plan = p.0; phases = p.1.0; owners = p.1.1.0; busy = p.1.1.1.0; stopped = p.1.1.1.1 }
 
 abbrev pub standing_code : Coded Standing
-standing_code = code_by Parts parts_code (λ v. (v.plan, (v.phases, (v.owners, (v.busy, v.stopped))))) from_parts (λ _. refl)
+standing_code = code_by Parts parts_code
+    (λ v. (v.plan, (v.phases, (v.owners, (v.busy, v.stopped))))) from_parts (λ _. refl)
 
 abbrev pub nodes_in : Standing → ℕ
 nodes_in v = length v.plan.rows
@@ -90,7 +94,8 @@ plain_status Phases.Finished = States.Finished (record { verdict = Pass; output 
 
 abbrev pub plain_state : Standing → RunState
 plain_state v = record {
-  nodes = record { flat = λ k. None; status = λ n. plain_status (phase_at v n); saved = λ n k. None };
+  nodes =
+      record { flat = λ k. None; status = λ n. plain_status (phase_at v n); saved = λ n k. None };
   owner = owner_at v;
   busy = node_of v;
   stopped = v.stopped;
@@ -106,7 +111,8 @@ body_under_way v start s w = body_of scripts (suite_in v start) (workers_in v) s
 
 -- whether a worker's body has ended, if it has one
 abbrev pub EndsAs : Standing → RunState → ℕ → Bool → Type 0
-EndsAs v s w has_ended = (start : Resources) (b : Stage) → body_under_way v start s w ≡ Some b → is_ended b ≡ has_ended
+EndsAs v s w has_ended = (start : Resources) (b : Stage) → body_under_way v start s w ≡ Some b
+    → is_ended b ≡ has_ended
 
 -- why an event is refused in a state, if it is
 abbrev pub refusal_in : Standing → Resources → RunState → Event → Option Refused
@@ -125,7 +131,8 @@ pub record OfSame (v u : Standing) : Type 0 where
 -- `before_all`
 abbrev pub EndsWellAs : Standing → RunState → ℕ → Bool → Type 0
 EndsWellAs v s w well =
-    (start : Resources) (n : ℕ) (b : Stage) → s.busy w ≡ Some n → s.nodes.status n ≡ Begun b → is_of_test ((suite_in v start).head n) ≡ false
+    (start : Resources) (n : ℕ) (b : Stage) → s.busy w ≡ Some n → s.nodes.status n ≡ Begun b
+    → is_of_test ((suite_in v start).head n) ≡ false
     → ended_well scripts (suite_in v start) n b s.nodes ≡ well
 
 -- What an event asks to be told of its worker's body: a Step and a Leave whether it has ended, a
@@ -183,7 +190,8 @@ with_phase v n p = record v { phases = slice_set v.phases n p }
 
 -- the phase of a node once a class was barred: what waits in it is finished
 abbrev pub phase_under : Standing → ℕ → ℕ → Phase
-phase_under v c m = cond (is_inside v m c && is_waiting (bare (phase_at v m))) Finished (phase_at v m)
+phase_under v c m =
+    cond (is_inside v m c && is_waiting (bare (phase_at v m))) Finished (phase_at v m)
 
 -- a class was barred, and nothing else changed
 pub record IsBarred (c : ℕ) (v u : Standing) : Type 0 where

@@ -9,5 +9,6 @@ ghost use Rattle.iso_suites.specs.SuiteStates.{RunState};
 /// empty; and the Steps of a body leave it as it is.
 pub fn standings_tell_of_states()
     ensures some { (v : Standing) → LooksLike v (plain_state v) }
-    ensures step { (v : Standing) (start : Resources) (s : RunState) (w : ℕ) → LooksLike v s → LooksLike v (after_in v start s (Step w)) }
+    ensures step { (v : Standing) (start : Resources) (s : RunState) (w : ℕ) → LooksLike v s
+        → LooksLike v (after_in v start s (Step w)) }
 {}

@@ -26,7 +26,8 @@ impl<'a> Standing<'a> {
     /// has one. Takes no memory.
     pub fn refusal(&self, event: Event, ended: bool) -> Option<Refused>
         ensures fits { result ≡ None → CanTake self.now event }
-        ensures kind { (start : Resources) (s : RunState) → LooksLike self.now s → TellsEnd self.now s event ended
+        ensures kind { (start : Resources) (s : RunState) → LooksLike self.now s
+            → TellsEnd self.now s event ended
             → refusal_in self.now start s (event_of event) ≡ option_map refused_of result }
     {
         match event {
@@ -78,7 +79,8 @@ impl<'a> Standing<'a> {
     /// has one.
     fn refusal_of_step(&self, worker: u32, ended: bool) -> Option<Refused>
         ensures fits { result ≡ None → HasBody self.now worker }
-        ensures kind { (start : Resources) (s : RunState) → LooksLike self.now s → EndsAs self.now s worker ended
+        ensures kind { (start : Resources) (s : RunState) → LooksLike self.now s
+            → EndsAs self.now s worker ended
             → refusal_in self.now start s (E.Step worker) ≡ option_map refused_of result }
     {
         if let Some(refused) = self.refusal_of_booking(worker) {
@@ -94,7 +96,8 @@ impl<'a> Standing<'a> {
     /// it has one.
     fn refusal_of_leave(&self, worker: u32, ended: bool) -> Option<Refused>
         ensures fits { result ≡ None → HasBody self.now worker }
-        ensures kind { (start : Resources) (s : RunState) → LooksLike self.now s → EndsAs self.now s worker ended
+        ensures kind { (start : Resources) (s : RunState) → LooksLike self.now s
+            → EndsAs self.now s worker ended
             → refusal_in self.now start s (E.Leave worker) ≡ option_map refused_of result }
     {
         if let Some(refused) = self.refusal_of_booking(worker) {
@@ -183,7 +186,8 @@ impl<'a> Standing<'a> {
     /// Whether a node is the root, or doesn't wait any more.
     fn already_entered(&self, node: u32) -> bool
         requires { node < nodes_in self.now }
-        ensures kind { Refuses self.now (Why.already_entered scripts) node result Why.AlreadyEntered }
+        ensures kind { Refuses self.now (Why.already_entered scripts) node result
+            Why.AlreadyEntered }
         ensures inner { result ≡ false → 0 < node }
     {
         node == 0 || !self.phase(node).is_waiting()
@@ -193,7 +197,8 @@ impl<'a> Standing<'a> {
     fn not_owner_of_parent(&self, worker: u32, node: u32) -> bool
         requires node { node < nodes_in self.now }
         requires inner { 0 < node }
-        ensures { Refuses self.now (λ x workers s. Why.not_owner_of_parent scripts x workers s worker) node result Why.NotOwner }
+        ensures { Refuses self.now (λ x workers s. Why.not_owner_of_parent scripts x workers s
+            worker) node result Why.NotOwner }
     {
         self.is_same_thread(node) && self.owner(self.parent(node)) != worker
     }
@@ -212,7 +217,8 @@ impl<'a> Standing<'a> {
     fn has_unfinished_sibling(&self, node: u32) -> bool
         requires node { node < nodes_in self.now }
         requires inner { 0 < node }
-        ensures { (start : Resources) (s : RunState) → LooksLike self.now s → at self.now start s (Why.has_unfinished_sibling scripts) node ≡ result }
+        ensures { (start : Resources) (s : RunState) → LooksLike self.now s
+            → at self.now start s (Why.has_unfinished_sibling scripts) node ≡ result }
     {
         let parent = self.parent(node);
         let first = self.passed(parent) as usize;
@@ -239,7 +245,8 @@ impl<'a> Standing<'a> {
     /// Whether a node is SAME_THREAD.
     fn is_same_thread(&self, node: u32) -> bool
         requires { node < nodes_in self.now }
-        ensures { result ≡ is_same_thread (mode (tree_of self.now.plan) self.now.plan.settings node) }
+        ensures { result ≡ is_same_thread
+            (mode (tree_of self.now.plan) self.now.plan.settings node) }
     {
         matches!(self.plan().mode(node), Mode::SameThread)
     }
@@ -247,7 +254,8 @@ impl<'a> Standing<'a> {
     /// The lowest entered, unfinished node that conflicts with a node, as what refuses it.
     fn lock_held(&self, node: u32) -> Option<Refused>
         requires { node < nodes_in self.now }
-        ensures { (start : Resources) (s : RunState) → LooksLike self.now s → at self.now start s (Why.lock_held scripts) node ≡ option_map refused_of result }
+        ensures { (start : Resources) (s : RunState) → LooksLike self.now s
+            → at self.now start s (Why.lock_held scripts) node ≡ option_map refused_of result }
     {
         if !self.excludes(node) {
             return None;
@@ -270,7 +278,8 @@ impl<'a> Standing<'a> {
     /// Whether another worker owns a class.
     fn not_owner(&self, worker: u32, node: u32) -> bool
         requires { node < nodes_in self.now }
-        ensures { Refuses self.now (λ x workers s. Why.not_owner scripts x workers s worker) node result Why.NotOwner }
+        ensures { Refuses self.now (λ x workers s. Why.not_owner scripts x workers s worker) node
+            result Why.NotOwner }
     {
         self.owner(node) != worker
     }
@@ -286,7 +295,8 @@ impl<'a> Standing<'a> {
     /// Whether a child of a class isn't finished. It goes over the children.
     fn has_unfinished_child(&self, node: u32) -> bool
         requires { node < nodes_in self.now }
-        ensures { (start : Resources) (s : RunState) → LooksLike self.now s → at self.now start s (Why.has_unfinished_child scripts) node ≡ result }
+        ensures { (start : Resources) (s : RunState) → LooksLike self.now s
+            → at self.now start s (Why.has_unfinished_child scripts) node ≡ result }
     {
         for child in self.plan().children(node) {
             if !self.phase(*child).is_finished() {

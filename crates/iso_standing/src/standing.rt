@@ -51,10 +51,23 @@ impl<'a> Model for Standing<'a> {
 
     ghost coded = { standing_code };
 
-    ghost view = { λ s. record { plan = s.plan.now; phases = s.phases.items; owners = s.owners.items; busy = s.busy.items; stopped = s.stopped } };
+    ghost view = { λ s. record {
+      plan = s.plan.now;
+      phases = s.phases.items;
+      owners = s.owners.items;
+      busy = s.busy.items;
+      stopped = s.stopped;
+    } };
 
-    ghost invariant = { λ s. IsStanding (record { plan = s.plan.now; phases = s.phases.items; owners = s.owners.items; busy = s.busy.items; stopped = s.stopped })
-        × KeepsPassed s.plan.now s.phases.items s.passed.items × KeepsHeld s.plan.now s.phases.items s.held };
+    ghost invariant = { λ s. IsStanding (record {
+      plan = s.plan.now;
+      phases = s.phases.items;
+      owners = s.owners.items;
+      busy = s.busy.items;
+      stopped = s.stopped;
+    })
+        × KeepsPassed s.plan.now s.phases.items s.passed.items
+        × KeepsHeld s.plan.now s.phases.items s.held };
 }
 
 impl<'a> Standing<'a> {
@@ -89,7 +102,8 @@ impl<'a> Standing<'a> {
     pub fn take(&mut self, event: Event, well: bool)
         requires { CanTake self.old event }
         ensures same { OfSame self.old self.new }
-        ensures state { (start : Resources) (s : RunState) → LooksLike self.old s → TellsWell self.old s event well
+        ensures state { (start : Resources) (s : RunState) → LooksLike self.old s
+            → TellsWell self.old s event well
             → LooksLike self.new (after_in self.old start s (event_of event)) }
     {
         match event {
@@ -104,7 +118,8 @@ impl<'a> Standing<'a> {
     pub fn enter(&mut self, worker: u32, node: u32)
         requires { Fits self.old worker node }
         ensures same { OfSame self.old self.new }
-        ensures state { (start : Resources) (s : RunState) → LooksLike self.old s → LooksLike self.new (after_in self.old start s (E.Enter worker node)) }
+        ensures state { (start : Resources) (s : RunState) → LooksLike self.old s
+            → LooksLike self.new (after_in self.old start s (E.Enter worker node)) }
     {
         self.set_phase(node, Phase::Begun);
         self.owners[node as usize] = worker;
@@ -117,7 +132,8 @@ impl<'a> Standing<'a> {
     pub fn leave(&mut self, worker: u32, well: bool)
         requires { HasBody self.old worker }
         ensures same { OfSame self.old self.new }
-        ensures state { (start : Resources) (s : RunState) → LooksLike self.old s → EndsWellAs self.old s worker well
+        ensures state { (start : Resources) (s : RunState) → LooksLike self.old s
+            → EndsWellAs self.old s worker well
             → LooksLike self.new (after_in self.old start s (E.Leave worker)) }
     {
         if let Some(node) = self.busy[worker as usize] {
@@ -136,7 +152,8 @@ impl<'a> Standing<'a> {
     pub fn shut(&mut self, worker: u32, node: u32)
         requires { Fits self.old worker node }
         ensures same { OfSame self.old self.new }
-        ensures state { (start : Resources) (s : RunState) → LooksLike self.old s → LooksLike self.new (after_in self.old start s (E.Shut worker node)) }
+        ensures state { (start : Resources) (s : RunState) → LooksLike self.old s
+            → LooksLike self.new (after_in self.old start s (E.Shut worker node)) }
     {
         self.set_phase(node, Phase::Closing);
         self.busy[worker as usize] = Some(node);
@@ -159,7 +176,8 @@ impl<'a> Standing<'a> {
 
     /// Whether every node but the root is finished. It goes over all nodes.
     pub fn is_complete(&self) -> bool
-        ensures { (start : Resources) (s : RunState) → LooksLike self.now s → is_complete_in self.now start s ≡ result }
+        ensures { (start : Resources) (s : RunState) → LooksLike self.now s
+            → is_complete_in self.now start s ≡ result }
     {
         'nodes: for node in 1..self.plan.len() {
             if !self.phase(node).is_finished() {
@@ -203,7 +221,8 @@ impl<'a> Standing<'a> {
     /// locks, however many hold theirs.
     pub(crate) fn excludes(&self, node: u32) -> bool
         requires { node < nodes_in self.now }
-        ensures { result ≡ is_some (lowest_in_the_way (tree_of self.now.plan) (λ n. is_held (bare (phase_at self.now n))) node) }
+        ensures { result ≡ is_some (lowest_in_the_way (tree_of self.now.plan)
+            (λ n. is_held (bare (phase_at self.now n))) node) }
     {
         self.held.excludes(node)
     }
@@ -212,7 +231,8 @@ impl<'a> Standing<'a> {
     /// which is open from the start and takes no key.
     pub fn held(&self) -> &HeldNodes<'a>
         ensures plan { result.now.plan ≡ self.now.plan }
-        ensures held { (n : ℕ) → is_held_node result.now.held n ≡ is_held (bare (phase_at self.now n)) }
+        ensures held { (n : ℕ) → is_held_node result.now.held n
+            ≡ is_held (bare (phase_at self.now n)) }
     {
         &self.held
     }
@@ -240,7 +260,8 @@ impl<'a> Standing<'a> {
     pub(crate) fn has_body(&self, worker: u32) -> bool
         requires { worker < workers_in self.now }
         ensures there { result ≡ has_body_at self.now worker }
-        ensures state { (start : Resources) (s : RunState) → LooksLike self.now s → is_some (body_under_way self.now start s worker) ≡ result }
+        ensures state { (start : Resources) (s : RunState) → LooksLike self.now s
+            → is_some (body_under_way self.now start s worker) ≡ result }
     {
         match self.busy[worker as usize] {
             None => false,
@@ -251,7 +272,8 @@ impl<'a> Standing<'a> {
     /// Whether the body that is under way at a node is its last: a whole test, or an `after_all`.
     fn has_last_body(&self, node: u32) -> bool
         requires { node < nodes_in self.now }
-        ensures { result ≡ (is_closing (bare (phase_at self.now node)) || is_test (row_at (tree_of self.now.plan) node).kind) }
+        ensures { result ≡ (is_closing (bare (phase_at self.now node))
+            || is_test (row_at (tree_of self.now.plan) node).kind) }
     {
         self.phase(node).is_closing() || self.plan.is_test(node)
     }
@@ -285,7 +307,8 @@ impl<'a> Standing<'a> {
     fn still_passed(&self, node: u32, phase: Phase) -> u32
         requires node { node < nodes_in self.now }
         requires inner { 0 < node }
-        ensures { ArePassed self.now.plan (slice_set self.now.phases node phase) (parent (tree_of self.now.plan) node) result }
+        ensures { ArePassed self.now.plan (slice_set self.now.phases node phase)
+            (parent (tree_of self.now.plan) node) result }
     {
         // No event that is accepted leads here, but the contracts of `enter` and `shut` don't rule
         // it out.
@@ -339,7 +362,8 @@ impl<'a> Standing<'a> {
     /// What becomes of a descendant of a class that is barred.
     fn phase_inside(&self, node: u32) -> Phase
         requires { node < nodes_in self.now }
-        ensures { result ≡ cond (is_waiting (bare (phase_at self.now node))) Finished (phase_at self.now node) }
+        ensures { result ≡ cond (is_waiting (bare (phase_at self.now node))) Finished
+            (phase_at self.now node) }
     {
         let phase = self.phase(node);
         if phase.is_waiting() {

@@ -27,7 +27,8 @@ own bodies n = plus (took (body_time bodies n BeforeAll)) (took (body_time bodie
 
 -- when the last of them ended
 abbrev pub last_end : List (Option BodyTime) → ℕ → ℕ
-last_end bodies n = max (end_of (body_time bodies n BeforeAll)) (end_of (body_time bodies n AfterAll))
+last_end bodies n =
+    max (end_of (body_time bodies n BeforeAll)) (end_of (body_time bodies n AfterAll))
 
 -- how long the bodies of the nodes with a number below n took
 abbrev pub work_below : List (Option BodyTime) → ℕ → ℕ

@@ -66,7 +66,8 @@ chain_line tree c =
 
 -- how fast a run is at best, and without a key, if that is told
 abbrev pub best_by : List Row → ℕ → Option Without → List ℕ
-best_by tree n None = joined (codes "at best " ∷ tenths n ∷ codes " times as fast as one worker\n" ∷ [])
+best_by tree n None =
+    joined (codes "at best " ∷ tenths n ∷ codes " times as fast as one worker\n" ∷ [])
 best_by tree n (Some w) =
     joined
     (codes "at best "
@@ -102,4 +103,5 @@ line_text tree (AtBest b) = best_lines tree b
 
 -- all lines
 abbrev pub stats_text : List Row → Figures → List ℕ
-stats_text tree f = joined (first_line f ∷ waited_lines tree f.waited ∷ chain_lines tree f.chain ∷ best_lines tree f.best ∷ [])
+stats_text tree f = joined (first_line f ∷ waited_lines tree f.waited ∷ chain_lines tree f.chain
+    ∷ best_lines tree f.best ∷ [])

@@ -19,4 +19,5 @@ microseconds = 32 ∷ 194 ∷ 181 ∷ 115 ∷ []
 abbrev pub time : ℕ → List ℕ
 time n =
     cond (nat_lt n 1000000) (hundredths (n / 10) ++ microseconds)
-    (cond (nat_lt n 1000000000) (hundredths (n / 10000) ++ codes " ms") (hundredths (n / 10000000) ++ codes " s"))
+    (cond (nat_lt n 1000000000) (hundredths (n / 10000) ++ codes " ms")
+    (hundredths (n / 10000000) ++ codes " s"))

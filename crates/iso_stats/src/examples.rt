@@ -20,18 +20,24 @@ pub fn times_are_told_in_three_units()
 
 /// The lines of a run of four workers.
 pub fn lines_of_a_run()
-    ensures first { first_line figures_of_four ≡ codes "400 tests, 4 of 4 workers, 5.81 s; busy 61 %\n" }
-    ensures waited { waited_line cart_and_desk waited_for_k ≡ codes "waited 3.10 s for K (shop.Cart.a for shop.Desk 1.90 s; ..)\n" }
-    ensures chain { chain_line cart_and_desk chain_of_k ≡ codes "longest chain 4.20 s: K: shop.Desk, shop.Cart.b, shop.Cart.a, ..\n" }
-    ensures best { best_line cart_and_desk best_without_k ≡ codes "at best 1.4 times as fast as one worker; without K 3.6 times\n" }
+    ensures first { first_line figures_of_four
+        ≡ codes "400 tests, 4 of 4 workers, 5.81 s; busy 61 %\n" }
+    ensures waited { waited_line cart_and_desk waited_for_k
+        ≡ codes "waited 3.10 s for K (shop.Cart.a for shop.Desk 1.90 s; ..)\n" }
+    ensures chain { chain_line cart_and_desk chain_of_k
+        ≡ codes "longest chain 4.20 s: K: shop.Desk, shop.Cart.b, shop.Cart.a, ..\n" }
+    ensures best { best_line cart_and_desk best_without_k
+        ≡ codes "at best 1.4 times as fast as one worker; without K 3.6 times\n" }
 {}
 
 /// Of one test on one worker a line is told. A chain of the root's is told as that of the top
 /// level.
 pub fn lines_that_dont_apply_are_left_out()
-    ensures one { stats_text cart_and_desk figures_of_one ≡ codes "1 test, 1 of 1 worker, 12.34 ms; busy 99 %\n" }
+    ensures one { stats_text cart_and_desk figures_of_one
+        ≡ codes "1 test, 1 of 1 worker, 12.34 ms; busy 99 %\n" }
     ensures root { chain_line cart_and_desk chain_of_root
-        ≡ codes "longest chain 61.50" ++ microseconds ++ codes ": top level: shop.Cart, shop.Desk\n" }
+        ≡ codes "longest chain 61.50" ++ microseconds
+        ++ codes ": top level: shop.Cart, shop.Desk\n" }
 {}
 
 /// Parts are cut off. Where nothing was measured, or no worker was started, they are none.

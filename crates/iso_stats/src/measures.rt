@@ -31,7 +31,8 @@ pub fn figures(
     ensures workers { IfOk result (λ f. f.workers ≡ workers) }
     ensures of { IfOk result (λ f. f.of ≡ of) }
     ensures span { IfOk result (λ f. f.span ≡ span (tree_of plan.now) times.now) }
-    ensures busy { IfOk result (λ f. f.busy ≡ percent (work (tree_of plan.now) times.now) workers (span (tree_of plan.now) times.now)) }
+    ensures busy { IfOk result (λ f. f.busy
+        ≡ percent (work (tree_of plan.now) times.now) workers (span (tree_of plan.now) times.now)) }
 {
     let waited = most_waited(alloc, plan, waits)?;
     let chain = chain_without(alloc, plan, times, None)?;

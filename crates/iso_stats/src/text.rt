@@ -28,7 +28,8 @@ enum Line<'a> {
 ///
 /// The sink is asked again where it takes only some bytes, and no more once it has failed.
 pub fn write_stats<W: Sink>(plan: &Plan, figures: &Figures, sink: &mut W) -> Result<(), TapFault>
-    ensures { Writes (W.account sink.old) (W.account sink.new) (stats_text (tree_of plan.now) figures.now) result }
+    ensures { Writes (W.account sink.old) (W.account sink.new)
+        (stats_text (tree_of plan.now) figures.now) result }
 {
     let mut printer = Printer::new(sink);
     match stats(&mut printer, plan, figures) {
@@ -65,7 +66,8 @@ fn lines<W: Sink>(
     plan: &Plan,
     lines: &[Line<'_>],
 ) -> Result<(), SinkFailed>
-    ensures { Prints printer.old printer.new (joined (map (line_text (tree_of plan.now)) lines.now)) result }
+    ensures { Prints printer.old printer.new
+        (joined (map (line_text (tree_of plan.now)) lines.now)) result }
 {
     for line in lines {
         write_line(printer, plan, line)?;

@@ -17,7 +17,8 @@ pub(crate) fn parts<W: Sink>(
     plan: &Plan,
     parts: &[Part<'_>],
 ) -> Result<(), SinkFailed>
-    ensures { Prints printer.old printer.new (joined (map (part_text (tree_of plan.now)) parts.now)) result }
+    ensures { Prints printer.old printer.new
+        (joined (map (part_text (tree_of plan.now)) parts.now)) result }
 {
     for part in parts {
         write_part(printer, plan, part)?;

@@ -39,7 +39,8 @@ pub place-new : (ps : List Places) (k : List ℕ) (x : Option (List ℕ)) (q : L
 place-new ps k x q = place-put empty ps k x q ∙ ap (λ (o : Option (Option (List ℕ))). cond (bytes_eq q k) (Some x) (option_or o (place_in ps q))) (get-empty (slice_cmp nat_cmp) q)
 
 -- the newest of these layers, with a place put into it
-pub place-first : (xs : Shared) (n : Arc Places Global) (v : Places) (k : List ℕ) (x : Option (List ℕ)) (q : List ℕ) → 0 < length xs → n ≡ slice_index_or xs 0 n → v ≡ insert (arc_value n) k x → place_in (map arc_value (slice_set xs 0 (arc_with_value n v))) q ≡ cond (bytes_eq q k) (Some x) (place_in (map arc_value xs) q)
+pub place-first : (xs : Shared) (n : Arc Places Global) (v : Places) (k : List ℕ) (x : Option (List ℕ)) (q : List ℕ) → 0 < length xs → n ≡ slice_index_or xs 0 n
+    → v ≡ insert (arc_value n) k x → place_in (map arc_value (slice_set xs 0 (arc_with_value n v))) q ≡ cond (bytes_eq q k) (Some x) (place_in (map arc_value xs) q)
 place-first [] n v k x q there is put = absurd (omega (arith, there))
 place-first (y ∷ ys) n v k x q there is put =
     ap (λ (p : Places). place_in (p ∷ map arc_value ys) q) put
@@ -56,7 +57,8 @@ pub layers-next : (xs : Shared) (i : ℕ) (n : Arc Places Global) → i < length
 layers-next xs i n h e = rw add-one (ap (map arc_value) (drop-cons xs i n h ∙ ap (λ (d : Arc Places Global). d ∷ drop (suc i) xs) (sym e)))
 
 -- a layer more is shared
-pub layers-more : (xs ys : Shared) (i : ℕ) (n m : Arc Places Global) → i < length xs → n ≡ slice_index_or xs i n → arc_value m ≡ arc_value n → map arc_value ys ≡ map arc_value (take i xs) → map arc_value (ys ++ m ∷ []) ≡ map arc_value (take (i + 1) xs)
+pub layers-more : (xs ys : Shared) (i : ℕ) (n m : Arc Places Global) → i < length xs → n ≡ slice_index_or xs i n
+    → arc_value m ≡ arc_value n → map arc_value ys ≡ map arc_value (take i xs) → map arc_value (ys ++ m ∷ []) ≡ map arc_value (take (i + 1) xs)
 layers-more xs ys i n m h e same known =
     map-append arc_value ys (m ∷ [])
     ∙ ap₂ (λ (front back : List Places). front ++ back) known (ap (λ (p : Places). p ∷ []) same)
@@ -76,7 +78,8 @@ get-properties_over (p ∷ ps) m q =
     ∙ or-unwrap (get p q) (place_in ps q) (get m q)
 
 -- properties with a place more
-pub properties-put : (ps ns : List Places) (m : Map) (k : List ℕ) (x : Option (List ℕ)) → ((q : List ℕ) → place_in ns q ≡ cond (bytes_eq q k) (Some x) (place_in ps q)) → properties_over ns m ≡ given (properties_over ps m) k x
+pub properties-put : (ps ns : List Places) (m : Map) (k : List ℕ) (x : Option (List ℕ))
+    → ((q : List ℕ) → place_in ns q ≡ cond (bytes_eq q k) (Some x) (place_in ps q)) → properties_over ns m ≡ given (properties_over ps m) k x
 properties-put ps ns m k x put = same_properties _ _ (λ q.
     get-properties_over ns m q
     ∙ ap (λ (o : Option (Option (List ℕ))). unwrap_or o (get m q)) (put q ∙ ap (λ (b : Bool). cond b (Some x) (place_in ps q)) (sym (is_eq-slice_cmp q k)))
@@ -85,10 +88,12 @@ properties-put ps ns m k x put = same_properties _ _ (λ q.
     ∙ sym (get-given (properties_over ps m) k x q))
 
 -- a property that is set, and one that is cleared
-pub over-set : (ns ps : List Places) (r : Resource) (m : Map) (change : Change) (k t : List ℕ) → r ≡ Props m → change ≡ SetProp k t → ((q : List ℕ) → place_in ns q ≡ cond (bytes_eq q k) (Some (Some t)) (place_in ps q)) → over ns r ≡ changed change (over ps r)
+pub over-set : (ns ps : List Places) (r : Resource) (m : Map) (change : Change) (k t : List ℕ) → r ≡ Props m → change ≡ SetProp k t
+    → ((q : List ℕ) → place_in ns q ≡ cond (bytes_eq q k) (Some (Some t)) (place_in ps q)) → over ns r ≡ changed change (over ps r)
 over-set ns ps r m change k t is what put = ap (over ns) is ∙ ap Props (properties-put ps ns m k (Some t) put) ∙ sym (ap₂ (λ (c : Change) (s : Resource). changed c (over ps s)) what is)
 
-pub over-clear : (ns ps : List Places) (r : Resource) (m : Map) (change : Change) (k : List ℕ) → r ≡ Props m → change ≡ ClearProp k → ((q : List ℕ) → place_in ns q ≡ cond (bytes_eq q k) (Some None) (place_in ps q)) → over ns r ≡ changed change (over ps r)
+pub over-clear : (ns ps : List Places) (r : Resource) (m : Map) (change : Change) (k : List ℕ) → r ≡ Props m → change ≡ ClearProp k
+    → ((q : List ℕ) → place_in ns q ≡ cond (bytes_eq q k) (Some None) (place_in ps q)) → over ns r ≡ changed change (over ps r)
 over-clear ns ps r m change k is what put = ap (over ns) is ∙ ap Props (properties-put ps ns m k None put) ∙ sym (ap₂ (λ (c : Change) (s : Resource). changed c (over ps s)) what is)
 
 -- what follows where a call is well

@@ -15,7 +15,8 @@ pub start-same : (before : List (Snapshot Value)) (value : Value) (m : History) 
 start-same before value m e started = sym started ∙ start_of_earlier m (history before value) e
 
 -- the layers and as many changes as a moment had are its history
-pub history-back : (before left : List (Snapshot Value)) (value : Value) (layers : List Places) (n : ℕ) (m : History) → IsEarlier m (history before value) → start_of (history before value) ≡ value.start → IsMoment layers n m → left ≡ take n before → history left (record { start = value.start; layers = layers }) ≡ m
+pub history-back : (before left : List (Snapshot Value)) (value : Value) (layers : List Places) (n : ℕ) (m : History) → IsEarlier m (history before value)
+    → start_of (history before value) ≡ value.start → IsMoment layers n m → left ≡ take n before → history left (record { start = value.start; layers = layers }) ≡ m
 history-back before left value layers n m e started moment cut =
     let now : over layers value.start ≡ m.now = ap (over layers) (start-same before value m e started) ∙ sym moment.now in
     let past : reverse (map (λ (s : Snapshot Value). resource_of s.value) left) ≡ m.past =
@@ -25,5 +26,6 @@ history-back before left value layers n m e started moment cut =
     λ i. record { now = now i; past = past i }
 
 -- and it starts as before
-pub start-back : (before left : List (Snapshot Value)) (value : Value) (layers : List Places) (n : ℕ) (m : History) → IsEarlier m (history before value) → start_of (history before value) ≡ value.start → IsMoment layers n m → left ≡ take n before → start_of (history left (record { start = value.start; layers = layers })) ≡ value.start
+pub start-back : (before left : List (Snapshot Value)) (value : Value) (layers : List Places) (n : ℕ) (m : History) → IsEarlier m (history before value)
+    → start_of (history before value) ≡ value.start → IsMoment layers n m → left ≡ take n before → start_of (history left (record { start = value.start; layers = layers })) ≡ value.start
 start-back before left value layers n m e started moment cut = ap start_of (history-back before left value layers n m e started moment cut) ∙ sym (start-same before value m e started)

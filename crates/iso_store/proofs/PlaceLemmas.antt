@@ -37,7 +37,8 @@ bytes_eq-sym x y = same_from_decides _ _ (bytes_eq-Decides x y) (λ e. sym ((byt
 tested-both : (q k : List ℕ) → bytes_eq k q ≡ same q k
 tested-both q k = bytes_eq-sym k q ∙ sym (is_eq-slice_cmp q k)
 
-updated : (m n : Entries) (k : List ℕ) (w : Option (Option (List ℕ))) → UpdatesBy string_cmp (λ j. slice_cmp nat_cmp k (string_bytes j)) m n w → (q : List ℕ) → get (places_of n.entries) q ≡ cond (same q k) w (get (places_of m.entries) q)
+updated : (m n : Entries) (k : List ℕ) (w : Option (Option (List ℕ))) → UpdatesBy string_cmp (λ j. slice_cmp nat_cmp k (string_bytes j)) m n w
+    → (q : List ℕ) → get (places_of n.entries) q ≡ cond (same q k) w (get (places_of m.entries) q)
 updated m n k w updates q =
     get-places_of n.entries q
     ∙ btree_map_updates_text k m n w updates q
@@ -51,7 +52,8 @@ pub same_properties : (a b : Map) → ((q : List ℕ) → get a q ≡ get b q) �
 same_properties = same_map nat_list_cmp_total (slice_cmp-IsAntisymmetric nat_cmp-IsAntisymmetric)
 
 -- where entries were updated at a name, so were their places
-pub places_of-insert : (m n : Entries) (k : List ℕ) (text : Option (List ℕ)) → UpdatesBy string_cmp (λ j. slice_cmp nat_cmp k (string_bytes j)) m n (Some text) → places_of n.entries ≡ insert (places_of m.entries) k text
+pub places_of-insert : (m n : Entries) (k : List ℕ) (text : Option (List ℕ))
+    → UpdatesBy string_cmp (λ j. slice_cmp nat_cmp k (string_bytes j)) m n (Some text) → places_of n.entries ≡ insert (places_of m.entries) k text
 places_of-insert m n k text updates = same_places _ _ (λ q. updated m n k (Some text) updates q ∙ sym (get-insert nat_list_cmp_total (places_of m.entries) k text q))
 
 pub get-given : (m : Map) (k : List ℕ) (o : Option (List ℕ)) (q : List ℕ) → get (given m k o) q ≡ cond (same q k) o (get m q)

@@ -14,7 +14,8 @@ pub record History : Type 0 where
 -- a history is stored as the pair of its parts
 abbrev pub history_code : Coded History
 history_code =
-    code_by (Resource × List Resource) (coded× the_row.coded (coded_list the_row.coded)) (λ h. (h.now, h.past)) (λ p. record { now = p.0; past = p.1 }) (λ _. refl)
+    code_by (Resource × List Resource) (coded× the_row.coded (coded_list the_row.coded))
+    (λ h. (h.now, h.past)) (λ p. record { now = p.0; past = p.1 }) (λ _. refl)
 
 -- all values of a history, newest first
 abbrev pub values : History → List Resource

@@ -13,7 +13,8 @@ resource_of v = over v.layers v.start
 
 -- the history of a value, of which these stood before each change, the oldest first
 abbrev pub history : List (Snapshot Value) → Value → History
-history before value = record { now = resource_of value; past = reverse (map (λ s. resource_of s.value) before) }
+history before value =
+    record { now = resource_of value; past = reverse (map (λ s. resource_of s.value) before) }
 
 -- layers over the start and a number of changes are those of a moment
 pub record IsMoment (layers : List Places) (changes : ℕ) (moment : History) : Type 0 where

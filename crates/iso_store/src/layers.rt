@@ -66,7 +66,8 @@ impl Layers {
     /// Puts a text, or none, into a name's place. It stands in the newest layer, or in a new one
     /// where others share that.
     pub fn put(&mut self, alloc: Global, name: Text, text: Option<Text>) -> Result<(), AllocError>
-        ensures ok { OnOk result ((q : List ℕ) → place_in self.new q ≡ cond (bytes_eq q name) (Some text) (place_in self.old q)) }
+        ensures ok { OnOk result ((q : List ℕ) → place_in self.new q
+            ≡ cond (bytes_eq q name) (Some text) (place_in self.old q)) }
         ensures err { OnErr result (self.new ≡ self.old) }
     {
         if let Some(newest) = self.layers.first_mut()

@@ -94,7 +94,8 @@ module _ (rows : List Row) (t : IsTree rows) (settings : Settings) (start : Reso
   pub test-chain : (n : ℕ) (h : TestHead) → 0 < n → chain_test rows n ≡ Some h → chain x n ≡ of_test h ∷ heads (chain_classes rows n)
   test-chain n h pos e = test-by n h pos e (nat_lt n (length rows)) refl
 
-  class-by : (n : ℕ) (c : ClassHead) (cs : List ClassHead) → 0 < n → chain_test rows n ≡ None → chain_classes rows n ≡ c ∷ cs → (b : Bool) → nat_lt n (length rows) ≡ b → chain x n ≡ of_class c ∷ heads cs
+  class-by : (n : ℕ) (c : ClassHead) (cs : List ClassHead) → 0 < n → chain_test rows n ≡ None
+      → chain_classes rows n ≡ c ∷ cs → (b : Bool) → nat_lt n (length rows) ≡ b → chain x n ≡ of_class c ∷ heads cs
   class-by n c cs pos e h true l =
       let inside : n < length rows = grind (arith, nat_tests) in
       heads-at n inside (no-test (row_at rows n).kind e) ∙ ap heads h

@@ -50,7 +50,8 @@ excludes (Some a) (Some b) ra rb (inl w) = or_left (is_writable (Some a)) (is_wr
 excludes (Some a) (Some b) ra rb (inr w) = or_last (is_writable (Some a)) (is_writable (Some b)) w
 
 -- what holds of a key among keys holds of one of them
-has_by : (test : List ℕ → Bool) (k j : List ℕ) (ks : List (List ℕ)) → test k ≡ true → (t : Bool) → bytes_eq k j ≡ t → (t || list_any (bytes_eq k) ks) ≡ true → (list_any (bytes_eq k) ks ≡ true → list_any test ks ≡ true) → (test j || list_any test ks) ≡ true
+has_by : (test : List ℕ → Bool) (k j : List ℕ) (ks : List (List ℕ)) → test k ≡ true → (t : Bool) → bytes_eq k j ≡ t
+    → (t || list_any (bytes_eq k) ks) ≡ true → (list_any (bytes_eq k) ks ≡ true → list_any test ks ≡ true) → (test j || list_any test ks) ≡ true
 has_by test k j ks h true e known ih = or_left (test j) (list_any test ks) (ap test (sym ((bytes_decides k j).0 e)) ∙ h)
 has_by test k j ks h false e known ih = or_last (test j) (list_any test ks) (ih known)
 

@@ -53,7 +53,8 @@ pub record Launch : Type 0 where
   pub start : Resources
 
 abbrev pub launch : List Script → List (List ℕ) → Settings → Resources → Launch
-launch written only settings start = record { written = written; only = only; settings = settings; start = start }
+launch written only settings start =
+    record { written = written; only = only; settings = settings; start = start }
 
 -- the nodes of what is run, and its suite
 abbrev pub nodes_of : Launch → List Row

@@ -66,7 +66,8 @@ body_in s = body_at (account_in s) (λ k. None)
 -- the outcome of a class by its frames, of which the first is its own, and its ended `after_all`
 abbrev pub outcome_of_class : List Frame → Body → Outcome
 outcome_of_class [] b = test_outcome b
-outcome_of_class (f ∷ fs) b = record { verdict = verdict (f.ending ∷ b.endings); output = f.lines ++ b.lines }
+outcome_of_class (f ∷ fs) b =
+    record { verdict = verdict (f.ending ∷ b.endings); output = f.lines ++ b.lines }
 
 -- a body that has gone on, and one that has ended, with the resources that it left
 abbrev pub gone_on : Going → Progress Stage Resources

@@ -37,21 +37,27 @@ RunNodes = Nodes (List ℕ) Resource Stage Frame Outcome
 pub record IsReached (plan : Planned) (world : Start) (s : RunState) : Type 0 where
   pub workers : ℕ
   pub events : List Event
-  pub run : is_run scripts (suite_at plan world) workers (first scripts (suite_at plan world)) events ≡ true
-  pub state : after_all_of scripts (suite_at plan world) (first scripts (suite_at plan world)) events ≡ s
+  pub run : is_run scripts (suite_at plan world) workers
+      (first scripts (suite_at plan world)) events ≡ true
+  pub state : after_all_of scripts (suite_at plan world)
+      (first scripts (suite_at plan world)) events ≡ s
 
 -- why what a worker's body came to can't be booked, if it can't: of the kinds that a Leave tests
 -- but for the end of the body, the first that applies
 abbrev pub booking_refusal : Suite Head (List ℕ) Resource → ℕ → RunState → ℕ → Option Refused
-booking_refusal x workers s w = first_of (Why.stopped scripts x workers s ∷ Why.no_worker scripts x workers s w ∷ Why.no_body scripts x workers s w ∷ [])
+booking_refusal x workers s w = first_of (Why.stopped scripts x workers s
+    ∷ Why.no_worker scripts x workers s w ∷ Why.no_body scripts x workers s w ∷ [])
 
 -- A history goes on by a worker's Leave: the steps that its body still needs are made, the body has
 -- ended then, and it is left.
-pub record GoesOnByLeave (plan : Planned) (world : Start) (workers : ℕ) (h : List Event) (w : ℕ) : Type 0 where
+pub record GoesOnByLeave (plan : Planned) (world : Start) (workers : ℕ) (h : List Event)
+    (w : ℕ) : Type 0 where
   pub steps : ℕ
   pub before : RunState
-  pub made : after_all_of scripts (suite_at plan world) (state_of scripts (suite_at plan world) h) (replicate steps (Step w)) ≡ before
-  pub run : is_run scripts (suite_at plan world) workers (state_of scripts (suite_at plan world) h) (replicate steps (Step w)) ≡ true
+  pub made : after_all_of scripts (suite_at plan world) (state_of scripts (suite_at plan world) h)
+      (replicate steps (Step w)) ≡ before
+  pub run : is_run scripts (suite_at plan world) workers (state_of scripts (suite_at plan world) h)
+      (replicate steps (Step w)) ≡ true
   pub reached : IsReached plan world before
   pub node : ℕ
   pub body : Stage
@@ -59,4 +65,5 @@ pub record GoesOnByLeave (plan : Planned) (world : Start) (workers : ℕ) (h : L
   pub there : body_in (before.nodes.status node) ≡ Some body
   pub over : is_ended body ≡ true
   pub history : IsHistory scripts (suite_at plan world) workers (h ++ Leave w ∷ [])
-  pub state : state_of scripts (suite_at plan world) (h ++ Leave w ∷ []) ≡ after scripts (suite_at plan world) before (Leave w)
+  pub state : state_of scripts (suite_at plan world) (h ++ Leave w ∷ [])
+      ≡ after scripts (suite_at plan world) before (Leave w)

@@ -10,7 +10,8 @@ use Rattle.iso_summary.specs.Words.{file_word}
 
 -- the line of a place, with what is said of it
 abbrev pub place_line : LocatedView → (message : List ℕ) → List ℕ
-place_line at message = line (codes "  " ∷ shown_name at.file ∷ codes ":" ∷ decimal at.line ∷ codes ": " ∷ message ∷ [])
+place_line at message =
+    line (codes "  " ∷ shown_name at.file ∷ codes ":" ∷ decimal at.line ∷ codes ": " ∷ message ∷ [])
 
 -- the line of the script that stands there
 abbrev pub source_line : LocatedView → List ℕ
@@ -30,7 +31,8 @@ source_lines at = source_line at ++ hint_lines at
 
 -- how many tests are blocked, where any is
 abbrev pub blocks_line : ℕ → List ℕ
-blocks_line n = cond (n == 0) [] (line (codes "  blocks " ∷ counted n (codes " test") (codes " tests") ∷ []))
+blocks_line n =
+    cond (n == 0) [] (line (codes "  blocks " ∷ counted n (codes " test") (codes " tests") ∷ []))
 
 -- whether a word was given and has a character that no reader sees
 abbrev pub given_has_unseen : Option (List ℕ) → Bool

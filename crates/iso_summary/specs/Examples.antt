@@ -17,14 +17,22 @@ text_of lines = flat_map (λ l. codes l ++ codes "\n") lines
 
 -- a line of cart.jtap, and of standard input
 abbrev pub in_cart : ℕ → String → LocatedView
-in_cart line source = record { file = codes "cart.jtap"; named = true; line = line; source = codes source; hints = [] }
+in_cart line source = record {
+  file = codes "cart.jtap";
+  named = true;
+  line = line;
+  source = codes source;
+  hints = [];
+}
 
 abbrev pub in_stdin : ℕ → String → LocatedView
-in_stdin line source = record { file = codes "stdin"; named = false; line = line; source = codes source; hints = [] }
+in_stdin line source =
+    record { file = codes "stdin"; named = false; line = line; source = codes source; hints = [] }
 
 -- a line of cart.jtap with what mends it
 abbrev pub with_hints : List String → LocatedView
-with_hints hints = record (in_cart 3 "    before_all { print 1 + \"a\"; }") { hints = map (λ hint. codes hint) hints }
+with_hints hints = record (in_cart 3 "    before_all { print 1 + \"a\"; }")
+    { hints = map (λ hint. codes hint) hints }
 
 -- a line of a script whose name begins with a dash, and of one whose name has a line feed
 abbrev pub in_dash : ℕ → String → LocatedView
@@ -38,7 +46,11 @@ abbrev pub plain : AgainView
 plain = record { settings = None; world = None; processors = None }
 
 abbrev pub with_options : AgainView
-with_options = record { settings = Some (codes "it's.toml"); world = Some (codes "-w.toml"); processors = Some 4 }
+with_options = record {
+  settings = Some (codes "it's.toml");
+  world = Some (codes "-w.toml");
+  processors = Some 4;
+}
 
 -- a command whose settings have a name with an escape byte
 abbrev pub with_escape : AgainView
@@ -117,4 +129,5 @@ places_of_failures =
     ∷ []
 
 abbrev pub places_of_skipped : List LocatedView
-places_of_skipped = in_cart 12 "    test e { assume false, \"no #1\"; }" ∷ in_cart 13 "    disabled \"later\" test f { }" ∷ []
+places_of_skipped = in_cart 12 "    test e { assume false, \"no #1\"; }"
+    ∷ in_cart 13 "    disabled \"later\" test f { }" ∷ []

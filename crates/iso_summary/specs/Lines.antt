@@ -14,7 +14,8 @@ counted n one many = decimal n ++ cond (n == 1) one many
 
 -- how many classes failed, where any did
 abbrev pub failed_classes : ℕ → List ℕ
-failed_classes n = cond (n == 0) [] (codes "; " ++ counted n (codes " class") (codes " classes") ++ codes " not ok")
+failed_classes n = cond (n == 0) [] (codes "; " ++ counted n (codes " class") (codes " classes")
+    ++ codes " not ok")
 
 -- an option with its file, where one was given
 abbrev pub file_option : (option : List ℕ) → Option (List ℕ) → List ℕ

@@ -11,7 +11,8 @@ hex_digit d = cond (nat_lt d 10) (48 + d) (55 + d)
 -- a character by its number of four digits, and of eight, as in a basic string of TOML
 abbrev pub short_escape : ℕ → List ℕ
 short_escape c =
-    92 ∷ 117 ∷ hex_digit (c / 4096 % 16) ∷ hex_digit (c / 256 % 16) ∷ hex_digit (c / 16 % 16) ∷ hex_digit (c % 16) ∷ []
+    92 ∷ 117 ∷ hex_digit (c / 4096 % 16) ∷ hex_digit (c / 256 % 16) ∷ hex_digit (c / 16 % 16)
+    ∷ hex_digit (c % 16) ∷ []
 
 abbrev pub long_escape : ℕ → List ℕ
 long_escape c =

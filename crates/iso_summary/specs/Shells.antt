@@ -25,8 +25,10 @@ with_word word words = option_map (λ ws. word ∷ ws) words
 -- What a byte outside of quotes begins, which is no space and no line feed: quotes, what is behind
 -- a backslash, or a byte of a word where it means nothing to a shell. With any other byte a text is
 -- no command of words. The arguments are what the bytes behind it are in each of the three cases.
-abbrev pub read_unquoted : ℕ → (quotes backslash word : Option (List (List ℕ))) → Option (List (List ℕ))
-read_unquoted b quotes backslash word = cond (b == 39) quotes (cond (b == 92) backslash (cond (is_plain b) (with_byte b word) None))
+abbrev pub read_unquoted : ℕ → (quotes backslash word : Option (List (List ℕ)))
+    → Option (List (List ℕ))
+read_unquoted b quotes backslash word =
+    cond (b == 39) quotes (cond (b == 92) backslash (cond (is_plain b) (with_byte b word) None))
 
 -- The words that bytes are from there on; in a word the first of them is what is left of it.
 -- Between quotes each byte up to the next quote stands for itself, and so does the one behind a
@@ -39,12 +41,15 @@ read_from behind_backslash [] = None
 read_from between_words (b ∷ bs) =
     cond (b == 10) (Some [])
     (cond (b == 32) (read_from between_words bs)
-    (read_unquoted b (read_from between_quotes bs) (read_from behind_backslash bs) (read_from in_word bs)))
+    (read_unquoted b (read_from between_quotes bs) (read_from behind_backslash bs)
+    (read_from in_word bs)))
 read_from in_word (b ∷ bs) =
     cond (b == 10) (Some ([] ∷ []))
     (cond (b == 32) (with_word [] (read_from between_words bs))
-    (read_unquoted b (read_from between_quotes bs) (read_from behind_backslash bs) (read_from in_word bs)))
-read_from between_quotes (b ∷ bs) = cond (b == 39) (read_from in_word bs) (with_byte b (read_from between_quotes bs))
+    (read_unquoted b (read_from between_quotes bs) (read_from behind_backslash bs)
+    (read_from in_word bs)))
+read_from between_quotes (b ∷ bs) =
+    cond (b == 39) (read_from in_word bs) (with_byte b (read_from between_quotes bs))
 read_from behind_backslash (b ∷ bs) = with_byte b (read_from in_word bs)
 
 -- the words of a command

@@ -30,11 +30,13 @@ told again at path blocked (Blocked note) = failure_text again at path note.mess
 
 -- an entry: what is told of a node by its verdict
 abbrev pub entry_text : List Row → (ℕ → Outcome) → AgainView → ℕ → LocatedView → List ℕ
-entry_text tree outcome again n at = told again at (path_text tree n) (blocked_by tree outcome n) (outcome n).verdict
+entry_text tree outcome again n at =
+    told again at (path_text tree n) (blocked_by tree outcome n) (outcome n).verdict
 
 -- the entries of nodes, each with its place
 abbrev pub entries_text : List Row → (ℕ → Outcome) → AgainView → List ℕ → List LocatedView → List ℕ
-entries_text tree outcome again nodes places = flat_map (λ e. entry_text tree outcome again e.0 e.1) (zip nodes places)
+entries_text tree outcome again nodes places =
+    flat_map (λ e. entry_text tree outcome again e.0 e.1) (zip nodes places)
 
 -- the last line: how many tests and classes there are, and what they came to
 abbrev pub counts_line : Counts → List ℕ
@@ -56,5 +58,7 @@ counts_line c =
     ∷ [])
 
 -- the summary: the entries, and the last line
-abbrev pub summary_text : List Row → (ℕ → Outcome) → AgainView → (nodes : List ℕ) → List LocatedView → List ℕ
-summary_text tree outcome again nodes places = entries_text tree outcome again nodes places ++ counts_line (counts tree outcome)
+abbrev pub summary_text : List Row → (ℕ → Outcome) → AgainView → (nodes : List ℕ)
+    → List LocatedView → List ℕ
+summary_text tree outcome again nodes places =
+    entries_text tree outcome again nodes places ++ counts_line (counts tree outcome)

@@ -8,7 +8,8 @@ use Rattle.ucd_table.specs.Rows.{Range}
 
 -- whether a general category is one of theirs: Cc, Cf, Zl or Zp
 abbrev pub is_unseen_category : GeneralCategory → Bool
-is_unseen_category category = list_any (λ unseen. general_category_eq category unseen) (Control ∷ Format ∷ LineSeparator ∷ ParagraphSeparator ∷ [])
+is_unseen_category category = list_any (λ unseen. general_category_eq category unseen)
+    (Control ∷ Format ∷ LineSeparator ∷ ParagraphSeparator ∷ [])
 
 -- whether a character is one of them (The Unicode Standard, version 18.0.0, section 4.5, General
 -- Category)

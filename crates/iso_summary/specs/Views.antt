@@ -14,7 +14,13 @@ pub record LocatedView : Type 0 where
   pub hints : List (List ℕ)
 
 abbrev pub located_of : Located → LocatedView
-located_of l = record { file = l.file.now; named = l.named; line = l.line; source = l.source.now; hints = l.hints.now }
+located_of l = record {
+  file = l.file.now;
+  named = l.named;
+  line = l.line;
+  source = l.source.now;
+  hints = l.hints.now;
+}
 
 -- what is told again of a command: the files of its options, and the number of processors
 pub record AgainView : Type 0 where

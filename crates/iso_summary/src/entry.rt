@@ -30,7 +30,8 @@ pub(crate) fn failure<'x, W: Sink>(
     requires above { 0 < node }
     requires within { node < length plan.now.rows }
     ensures { Prints printer.old printer.new
-        (failure_text (again_of again.now) (located_of at.now) (path_text (tree_of plan.now) node) message.now blocked) result }
+        (failure_text (again_of again.now) (located_of at.now)
+        (path_text (tree_of plan.now) node) message.now blocked) result }
 {
     line_with_path(printer, &[Part::Plain("not ok ")], plan, node, &[])?;
     place(printer, at, message)?;
@@ -139,7 +140,8 @@ fn command<W: Sink>(
     requires above { 0 < node }
     requires within { node < length plan.now.rows }
     ensures { Prints printer.old printer.new
-        (again_line (again_of again.now) (located_of at.now) (path_text (tree_of plan.now) node)) result }
+        (again_line (again_of again.now) (located_of at.now) (path_text (tree_of plan.now) node))
+        result }
 {
     if !can_be_told(at, again) {
         return Ok(());

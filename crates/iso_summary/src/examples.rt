@@ -33,27 +33,33 @@ pub fn files_are_no_options()
 /// The characters of a name that no reader sees are shown by their escapes, of one byte up to four,
 /// and all else as it is.
 pub fn unseen_characters_of_names_are_escaped()
-    ensures one_byte { shown_name (codes "a\nb\r\t" ++ 27 ∷ 127 ∷ []) ≡ codes "a\\nb\\r\\t\\u001B\\u007F" }
-    ensures two_bytes { shown_name (194 ∷ 133 ∷ 194 ∷ 160 ∷ []) ≡ codes "\\u0085" ++ 194 ∷ 160 ∷ [] }
-    ensures turned { shown_name (codes "a" ++ turned_text ++ codes ".jtap") ≡ codes "a\\u202E.jtap" }
+    ensures one_byte { shown_name (codes "a\nb\r\t" ++ 27 ∷ 127 ∷ [])
+        ≡ codes "a\\nb\\r\\t\\u001B\\u007F" }
+    ensures two_bytes { shown_name (194 ∷ 133 ∷ 194 ∷ 160 ∷ []) ≡ codes "\\u0085"
+        ++ 194 ∷ 160 ∷ [] }
+    ensures turned { shown_name (codes "a" ++ turned_text ++ codes ".jtap")
+        ≡ codes "a\\u202E.jtap" }
     ensures no_width { shown_name no_width ≡ codes "\\u200B" }
     ensures line_end { shown_name line_end ≡ codes "\\u2028" }
     ensures paragraph_end { shown_name paragraph_end ≡ codes "\\u2029" }
     ensures four_bytes { shown_name language_tag ≡ codes "\\U000E0001" }
     ensures long_dash { shown_name long_dash ≡ long_dash }
-    ensures as_they_are { shown_name (codes "my \"cart\" \\.jtap" ++ 195 ∷ 164 ∷ []) ≡ codes "my \"cart\" \\.jtap" ++ 195 ∷ 164 ∷ [] }
+    ensures as_they_are { shown_name (codes "my \"cart\" \\.jtap" ++ 195 ∷ 164 ∷ [])
+        ≡ codes "my \"cart\" \\.jtap" ++ 195 ∷ 164 ∷ [] }
 {}
 
 /// In a printed plan control characters alone are shown by their escapes.
 pub fn control_characters_of_planned_names_are_escaped()
-    ensures controls { planned_name (codes "a\nb\r\t" ++ 27 ∷ 127 ∷ 194 ∷ 133 ∷ []) ≡ codes "a\\nb\\r\\t\\u001B\\u007F\\u0085" }
+    ensures controls { planned_name (codes "a\nb\r\t" ++ 27 ∷ 127 ∷ 194 ∷ 133 ∷ [])
+        ≡ codes "a\\nb\\r\\t\\u001B\\u007F\\u0085" }
     ensures turned { planned_name (codes "a" ++ turned_text) ≡ codes "a" ++ turned_text }
 {}
 
 /// A tab is shown as a space, each other byte that isn't printable ASCII as a question mark, and
 /// 160 bytes at most.
 pub fn lines_of_scripts_are_shown_as_printable_ascii()
-    ensures bytes { shown_source (codes "\tfail \"no\"; // ~" ++ 195 ∷ 164 ∷ 127 ∷ 13 ∷ []) ≡ codes " fail \"no\"; // ~????" }
+    ensures bytes { shown_source (codes "\tfail \"no\"; // ~" ++ 195 ∷ 164 ∷ 127 ∷ 13 ∷ [])
+        ≡ codes " fail \"no\"; // ~????" }
     ensures whole { shown_source (replicate 160 97) ≡ replicate 160 97 }
     ensures cut { shown_source (replicate 161 97) ≡ replicate 160 97 ++ codes ".." }
 {}
@@ -61,7 +67,8 @@ pub fn lines_of_scripts_are_shown_as_printable_ascii()
 /// A failed test is told by its path, the place with the message, the line of the script and the
 /// command that runs it again.
 pub fn failed_test_is_told()
-    ensures { failure_text plain (in_cart 12 "        assert_equal 6, price + 2;") (codes "shop.Cart.adds") (codes "expected: <6> but was: <5>") 0
+    ensures { failure_text plain (in_cart 12 "        assert_equal 6, price + 2;")
+        (codes "shop.Cart.adds") (codes "expected: <6> but was: <5>") 0
         ≡ text_of
         ("not ok shop.Cart.adds"
         ∷ "  cart.jtap:12: expected: <6> but was: <5>"
@@ -74,7 +81,8 @@ pub fn failed_test_is_told()
 /// Below the line of the script stands what mends it, a line each, a tab and other bytes as in that
 /// line.
 pub fn what_mends_a_fault_is_told()
-    ensures { failure_text plain (with_hints ("+ adds two whole numbers" ∷ "write \"a\tb\"" ∷ [])) (codes "shop.Cart") (codes "wrong kind") 2
+    ensures { failure_text plain (with_hints ("+ adds two whole numbers" ∷ "write \"a\tb\"" ∷ []))
+        (codes "shop.Cart") (codes "wrong kind") 2
         ≡ text_of
         ("not ok shop.Cart"
         ∷ "  cart.jtap:3: wrong kind"
@@ -89,7 +97,8 @@ pub fn what_mends_a_fault_is_told()
 
 /// A class is told in the same way, with the number of tests that it blocks.
 pub fn failed_class_tells_what_it_blocks()
-    ensures many { failure_text plain (in_cart 3 "    before_all { fail \"no db\"; }") (codes "shop.Env") (codes "no db") 17
+    ensures many { failure_text plain (in_cart 3 "    before_all { fail \"no db\"; }")
+        (codes "shop.Env") (codes "no db") 17
         ≡ text_of
         ("not ok shop.Env"
         ∷ "  cart.jtap:3: no db"
@@ -99,12 +108,14 @@ pub fn failed_class_tells_what_it_blocks()
         ∷ ""
         ∷ []) }
     ensures one { failure_text plain (in_stdin 3 "") (codes "shop.Env") (codes "no db") 1
-        ≡ text_of ("not ok shop.Env" ∷ "  stdin:3: no db" ∷ "  3 | " ∷ "  blocks 1 test" ∷ "" ∷ []) }
+        ≡ text_of ("not ok shop.Env" ∷ "  stdin:3: no db" ∷ "  3 | "
+        ∷ "  blocks 1 test" ∷ "" ∷ []) }
 {}
 
 /// The command has the options that a run's results depend on, in this order.
 pub fn command_has_the_options_again()
-    ensures { failure_text with_options (in_dash 7 "fail \"no\";") (codes "shop.Cart.adds") (codes "no") 0
+    ensures { failure_text with_options (in_dash 7 "fail \"no\";") (codes "shop.Cart.adds")
+        (codes "no") 0
         ≡ text_of
         ("not ok shop.Cart.adds"
         ∷ "  -my cart.jtap:7: no"
@@ -135,12 +146,18 @@ pub fn unseen_characters_of_words_are_those_of_unicode()
 /// No command is told where a file's name has a character that no reader sees, and one where it has
 /// other characters of two or three bytes.
 pub fn command_is_told_with_characters_that_are_seen()
-    ensures next_line { failure_text plain (in_file next_line) (codes "shop.Cart.adds") (codes "no") 0
-        ≡ text_of ("not ok shop.Cart.adds" ∷ "  \\u0085.jtap:7: no" ∷ "  7 | fail \"no\";" ∷ "" ∷ []) }
-    ensures command_start { failure_text plain (in_file command_start) (codes "shop.Cart.adds") (codes "no") 0
-        ≡ text_of ("not ok shop.Cart.adds" ∷ "  \\u009B.jtap:7: no" ∷ "  7 | fail \"no\";" ∷ "" ∷ []) }
-    ensures turned { failure_text plain (in_file turned_text) (codes "shop.Cart.adds") (codes "no") 0
-        ≡ text_of ("not ok shop.Cart.adds" ∷ "  \\u202E.jtap:7: no" ∷ "  7 | fail \"no\";" ∷ "" ∷ []) }
+    ensures next_line { failure_text plain (in_file next_line) (codes "shop.Cart.adds")
+        (codes "no") 0
+        ≡ text_of ("not ok shop.Cart.adds" ∷ "  \\u0085.jtap:7: no"
+        ∷ "  7 | fail \"no\";" ∷ "" ∷ []) }
+    ensures command_start { failure_text plain (in_file command_start) (codes "shop.Cart.adds")
+        (codes "no") 0
+        ≡ text_of ("not ok shop.Cart.adds" ∷ "  \\u009B.jtap:7: no"
+        ∷ "  7 | fail \"no\";" ∷ "" ∷ []) }
+    ensures turned { failure_text plain (in_file turned_text) (codes "shop.Cart.adds")
+        (codes "no") 0
+        ≡ text_of ("not ok shop.Cart.adds" ∷ "  \\u202E.jtap:7: no"
+        ∷ "  7 | fail \"no\";" ∷ "" ∷ []) }
     ensures long_dash { again_line plain (in_file long_dash) (codes "shop.Cart.adds")
         ≡ codes "  again: jtap run --only shop.Cart.adds '" ++ long_dash ++ codes ".jtap'\n" }
     ensures wide_space { again_line plain (in_file wide_space) (codes "shop.Cart.adds")
@@ -152,17 +169,22 @@ pub fn command_is_told_with_characters_that_are_seen()
 /// No command is told for standard input, nor where the name of a file has a character that no
 /// reader sees.
 pub fn command_is_told_where_it_can_be_pasted()
-    ensures stdin { failure_text plain (in_stdin 7 "fail \"no\";") (codes "shop.Cart.adds") (codes "no") 0
+    ensures stdin { failure_text plain (in_stdin 7 "fail \"no\";") (codes "shop.Cart.adds")
+        (codes "no") 0
         ≡ text_of ("not ok shop.Cart.adds" ∷ "  stdin:7: no" ∷ "  7 | fail \"no\";" ∷ "" ∷ []) }
-    ensures script { failure_text plain (in_two_lines 7 "fail \"no\";") (codes "shop.Cart.adds") (codes "no") 0
-        ≡ text_of ("not ok shop.Cart.adds" ∷ "  my\\ncart.jtap:7: no" ∷ "  7 | fail \"no\";" ∷ "" ∷ []) }
-    ensures settings { failure_text with_escape (in_cart 7 "fail \"no\";") (codes "shop.Cart.adds") (codes "no") 0
+    ensures script { failure_text plain (in_two_lines 7 "fail \"no\";") (codes "shop.Cart.adds")
+        (codes "no") 0
+        ≡ text_of ("not ok shop.Cart.adds" ∷ "  my\\ncart.jtap:7: no"
+        ∷ "  7 | fail \"no\";" ∷ "" ∷ []) }
+    ensures settings { failure_text with_escape (in_cart 7 "fail \"no\";") (codes "shop.Cart.adds")
+        (codes "no") 0
         ≡ text_of ("not ok shop.Cart.adds" ∷ "  cart.jtap:7: no" ∷ "  7 | fail \"no\";" ∷ "" ∷ []) }
 {}
 
 /// Of a skipped node the path, the place and why are told, and nothing else.
 pub fn skipped_test_is_told()
-    ensures { skipped_text (in_cart 9 "    disabled \"later\" test pays { }") (codes "shop.Cart.pays") (codes "later")
+    ensures { skipped_text (in_cart 9 "    disabled \"later\" test pays { }")
+        (codes "shop.Cart.pays") (codes "later")
         ≡ text_of ("skipped shop.Cart.pays" ∷ "  cart.jtap:9: later" ∷ "" ∷ []) }
 {}
 
@@ -207,7 +229,8 @@ pub fn summary_tells_of_skipped_tests_too()
 
 /// A class that wasn't opened blocks all tests in it.
 pub fn class_that_blocks_all_is_told_once()
-    ensures { summary_text till_in_cart unopened_of plain (1 ∷ []) (in_stdin 3 "before_all { fail \"no\"; }" ∷ [])
+    ensures { summary_text till_in_cart unopened_of plain (1 ∷ [])
+        (in_stdin 3 "before_all { fail \"no\"; }" ∷ [])
         ≡ text_of
         ("not ok shop.Cart"
         ∷ "  stdin:3: no"
@@ -220,13 +243,22 @@ pub fn class_that_blocks_all_is_told_once()
 
 /// Without a failure there is the last line alone, and of a node that passed nothing is told.
 pub fn summary_without_failures_is_a_line()
-    ensures empty { summary_text (tree []) outcome_of plain [] [] ≡ codes "0 tests in 0 classes: 0 ok, 0 skipped, 0 not ok, 0 blocked\n" }
+    ensures empty { summary_text (tree []) outcome_of plain [] []
+        ≡ codes "0 tests in 0 classes: 0 ok, 0 skipped, 0 not ok, 0 blocked\n" }
     ensures passed { summary_text till_in_cart outcome_of plain (2 ∷ []) places_of_skipped
         ≡ codes "6 tests in 4 classes: 1 ok, 2 skipped, 1 not ok, 2 blocked; 2 classes not ok\n" }
 {}
 
 /// One thing has the word for one.
 pub fn one_has_its_own_word()
-    ensures { counts_line (record { tests = 1; ok = 0; skipped = 0; not_ok = 1; blocked = 0; classes = 1; classes_not_ok = 0 })
+    ensures { counts_line (record {
+      tests = 1;
+      ok = 0;
+      skipped = 0;
+      not_ok = 1;
+      blocked = 0;
+      classes = 1;
+      classes_not_ok = 0;
+    })
         ≡ codes "1 test in 1 class: 0 ok, 0 skipped, 1 not ok, 0 blocked\n" }
 {}

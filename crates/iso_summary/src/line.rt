@@ -39,7 +39,8 @@ pub(crate) fn line_with_path<W: Sink>(
     requires above { 0 < node }
     requires within { node < length plan.now.rows }
     ensures { Prints printer.old printer.new
-        (line (map part_text before.now ++ path_text (tree_of plan.now) node ∷ map part_text after.now)) result }
+        (line (map part_text before.now ++ path_text (tree_of plan.now) node
+        ∷ map part_text after.now)) result }
 {
     for part in before {
         write_part(printer, part)?;
@@ -104,7 +105,8 @@ fn file_option<W: Sink>(
     option: &str,
     given: Option<&str>,
 ) -> Result<(), SinkFailed>
-    ensures { Prints printer.old printer.new (file_option option.now (option_map (λ f. f.now) given.entry)) result }
+    ensures { Prints printer.old printer.new
+        (file_option option.now (option_map (λ f. f.now) given.entry)) result }
 {
     match given {
         Some(name) => {

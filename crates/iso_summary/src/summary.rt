@@ -41,7 +41,8 @@ pub fn write_summary<W: Sink>(
     requires nodes { All (IsNode plan.now) nodes.now }
     requires places { length places.now ≡ length nodes.now }
     ensures { Writes (W.account sink.old) (W.account sink.new)
-        (summary_text (tree_of plan.now) (outcome_in results.now) (again_of again.now) nodes.now (map located_of places.now)) result }
+        (summary_text (tree_of plan.now) (outcome_in results.now) (again_of again.now) nodes.now
+        (map located_of places.now)) result }
 {
     let mut printer = Printer::new(sink);
     match summary(&mut printer, plan, results, nodes, places, again) {
@@ -66,7 +67,8 @@ fn summary<W: Sink>(
     requires nodes { All (IsNode plan.now) nodes.now }
     requires places { length places.now ≡ length nodes.now }
     ensures { Prints printer.old printer.new
-        (summary_text (tree_of plan.now) (outcome_in results.now) (again_of again.now) nodes.now (map located_of places.now)) result }
+        (summary_text (tree_of plan.now) (outcome_in results.now) (again_of again.now) nodes.now
+        (map located_of places.now)) result }
 {
     'nodes: for (i, node) in nodes.iter().enumerate() {
         entry(printer, plan, results, *node, &places[i], again)?;
@@ -88,7 +90,8 @@ fn entry<W: Sink>(
     requires above { 0 < node }
     requires within { node < length plan.now.rows }
     ensures { Prints printer.old printer.new
-        (entry_text (tree_of plan.now) (outcome_in results.now) (again_of again.now) node (located_of at.now)) result }
+        (entry_text (tree_of plan.now) (outcome_in results.now) (again_of again.now) node
+        (located_of at.now)) result }
 {
     match verdict(results, node) {
         ViewVerdict::Pass => Ok(()),

@@ -66,7 +66,8 @@ module _ {W : Type 0} {g : Ghosts W} where
       record { done = h.done ++ piece; split = h.split ∙ ap (λ t. h.done ++ t) e ∙ sym (append_assoc h.done piece rest); printed = prints_then (Ok tt) h.printed k }
 
   -- the next piece cut off
-  pub left_cut : {a b c : Printer W g} {whole now piece : List ℕ} (rest : List ℕ) (e f : SinkFailed) → now ≡ piece ++ rest → LeftToPrint a b whole now → Prints b c piece (Err e) → Prints a c whole (Err f)
+  pub left_cut : {a b c : Printer W g} {whole now piece : List ℕ} (rest : List ℕ) (e f : SinkFailed)
+      → now ≡ piece ++ rest → LeftToPrint a b whole now → Prints b c piece (Err e) → Prints a c whole (Err f)
   left_cut {a} {b} {c} {whole} rest e f is h k =
       subst (λ t. Prints a c t (Err f)) (sym (h.split ∙ ap (λ t. h.done ++ t) is)) (prints_then (Err f) h.printed (prints_cut rest e f k))
 

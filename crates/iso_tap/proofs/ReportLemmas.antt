@@ -14,7 +14,8 @@ use Rattle.iso_tap.proofs.Within.{IsChild, children-are, within-down}
 pub child-at : (tree : List Row) (m i : ℕ) (d : ℕ) → IsTree tree → i < length (children tree m) → IsChild tree m (get_or (children tree m) i d)
 child-at tree m i d t h = All-get_or (IsChild tree m) (children tree m) i d h (children-are tree m t)
 
-numbered_same : (tree : List Row) (m : ℕ) (f g : ℕ → ℕ → List ℕ) → ((i n : ℕ) → IsChild tree m n → f i n ≡ g i n) → (i : ℕ) (ns : List ℕ) → AllByRecursion (IsChild tree m) ns → numbered f i ns ≡ numbered g i ns
+numbered_same : (tree : List Row) (m : ℕ) (f g : ℕ → ℕ → List ℕ) → ((i n : ℕ) → IsChild tree m n → f i n ≡ g i n)
+    → (i : ℕ) (ns : List ℕ) → AllByRecursion (IsChild tree m) ns → numbered f i ns ≡ numbered g i ns
 numbered_same tree m f g same i [] h = refl
 numbered_same tree m f g same i (n ∷ ns) h = ap₂ (λ a b. a ++ b) (same i n h.0) (numbered_same tree m f g same (i + 1) ns h.1)
 
@@ -41,7 +42,8 @@ module _ (tree : List Row) (outcome : ℕ → Outcome) (t : IsTree tree) where
       ap (λ (s : List ℕ). cond (is_test (row_at tree n).kind) [] (subtest_line indent (row_at tree n).title ++ (plan_line (indent + 4) (length (children tree n)) ++ s)) ++ point indent number (is_ok tree outcome n) (row_at tree n).title (outcome n))
       (numbered_same tree n f g same 1 (children tree n) (recursion_from_All (IsChild tree n) (children tree n) (children-are tree n t)))
 
-  text_enough : (d e indent number n : ℕ) → n < length tree → length tree ≤ n + d → length tree ≤ n + e → reported_within d tree outcome indent number n ≡ reported_within e tree outcome indent number n
+  text_enough : (d e indent number n : ℕ) → n < length tree → length tree ≤ n + d → length tree ≤ n + e
+      → reported_within d tree outcome indent number n ≡ reported_within e tree outcome indent number n
   text_enough zero e indent number n h k l = absurd (omega arith)
   text_enough (suc d) zero indent number n h k l = absurd (omega arith)
   text_enough (suc d) (suc e) indent number n h k l =

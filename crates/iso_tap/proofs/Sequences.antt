@@ -115,7 +115,8 @@ Left-failed {a} {b} {c} {whole} {rest} more left nothing failed =
     }))
 
 -- the sink took no byte of what is left
-pub Left-zero : (E : Type 0) {a b c : Account} {whole rest : List ℕ} → 0 < length rest → Left a b whole rest → Took b c (take 0 rest) → c.failures ≡ failures_after (is_failure {E = E} (Ok 0) rest) b.failures → CutOff a c whole
+pub Left-zero : (E : Type 0) {a b c : Account} {whole rest : List ℕ} → 0 < length rest → Left a b whole rest
+    → Took b c (take 0 rest) → c.failures ≡ failures_after (is_failure {E = E} (Ok 0) rest) b.failures → CutOff a c whole
 Left-zero E {a} {b} {c} {whole} {rest} more left took failed =
     Left-failed more left
     (record { bytes = took.bytes ∙ appended-nil b.bytes; count = let e = took.count in omega arith })

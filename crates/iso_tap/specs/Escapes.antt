@@ -4,7 +4,8 @@ use Rattle.std.specs.Prelude.{ℕ, suc, List, [], ◌∷◌, ◌++◌, cond, ◌
 -- a text with a backslash before each backslash and before each of one other byte
 abbrev pub with_escapes : ℕ → List ℕ → List ℕ
 with_escapes other [] = []
-with_escapes other (b ∷ bs) = cond (nat_eq b 92 || nat_eq b other) (92 ∷ b ∷ with_escapes other bs) (b ∷ with_escapes other bs)
+with_escapes other (b ∷ bs) = cond (nat_eq b 92 || nat_eq b other) (92 ∷ b ∷ with_escapes other bs)
+    (b ∷ with_escapes other bs)
 
 -- a text as it stands in a title or a reason: a backslash and a hash are escaped (TAP 14, escaping)
 abbrev pub escaped : List ℕ → List ℕ

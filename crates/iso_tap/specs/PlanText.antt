@@ -41,7 +41,8 @@ locks_text keys ls = join_by (lock_text keys) (codes ",") ls
 -- the line of a node, without its end
 abbrev pub node_fields : List Row → Settings → ℕ → List ℕ
 node_fields tree s n =
-    decimal n ++ codes " " ++ kind_word (row_at tree n).kind ++ codes " " ++ mode_word (mode tree s n) ++ codes " ["
+    decimal n ++ codes " " ++ kind_word (row_at tree n).kind ++ codes " "
+    ++ mode_word (mode tree s n) ++ codes " ["
     ++ locks_text (keys tree) (locks tree n) ++ codes "] " ++ path_text tree n
 
 -- the line of a node
@@ -68,4 +69,5 @@ tests_text tree s = test_lines tree s (length tree - 1) 1
 
 -- the plan: all nodes but the root
 abbrev pub plan_text : List Row → Settings → (workers : ℕ) → List ℕ
-plan_text tree s workers = codes "workers " ++ decimal workers ++ codes "\n" ++ node_lines tree s (length tree - 1) 1
+plan_text tree s workers =
+    codes "workers " ++ decimal workers ++ codes "\n" ++ node_lines tree s (length tree - 1) 1

@@ -31,7 +31,8 @@ place_line indent note = line_at indent (codes "at: \"" ++ place_text note.place
 -- a message and its place, where there are any
 abbrev pub note_lines : (indent : ℕ) → Option Note → List ℕ
 note_lines indent None = []
-note_lines indent (Some note) = line_at indent (codes "message: " ++ quoted note.message) ++ place_line indent note
+note_lines indent (Some note) =
+    line_at indent (codes "message: " ++ quoted note.message) ++ place_line indent note
 
 -- printed lines, one item each
 abbrev pub item_lines : (indent : ℕ) → List (List ℕ) → List ℕ
@@ -45,12 +46,14 @@ output_lines indent (l ∷ ls) = line_at indent (codes "output:") ++ item_lines 
 
 -- a verdict's word, and what it says besides
 abbrev pub verdict_lines : (indent : ℕ) → Verdict → List ℕ
-verdict_lines indent verdict = line_at indent (codes "verdict: " ++ verdict_word verdict) ++ note_lines indent (note_of verdict)
+verdict_lines indent verdict = line_at indent (codes "verdict: " ++ verdict_word verdict)
+    ++ note_lines indent (note_of verdict)
 
 -- the block of an outcome
 abbrev pub block_lines : (indent : ℕ) → Outcome → List ℕ
 block_lines indent o =
-    line_at indent (codes "---") ++ verdict_lines indent o.verdict ++ output_lines indent o.output ++ line_at indent (codes "...")
+    line_at indent (codes "---") ++ verdict_lines indent o.verdict ++ output_lines indent o.output
+    ++ line_at indent (codes "...")
 
 -- whether an outcome has nothing to tell: it passed, and nothing was printed
 abbrev pub is_silent : Verdict → (output : List (List ℕ)) → Bool
@@ -64,4 +67,5 @@ is_silent (Blocked note) ls = false
 -- a point, and its block where the outcome has something to tell
 abbrev pub point : (indent number : ℕ) (ok : Bool) (title : List ℕ) → Outcome → List ℕ
 point indent number ok title o =
-    point_line indent number ok title o.verdict ++ cond (is_silent o.verdict o.output) [] (block_lines (indent + 2) o)
+    point_line indent number ok title o.verdict
+    ++ cond (is_silent o.verdict o.output) [] (block_lines (indent + 2) o)

@@ -40,4 +40,5 @@ directive (Blocked note) = []
 -- the line of a point, with its number in its level (TAP 14, test points)
 abbrev pub point_line : (indent number : ℕ) (ok : Bool) (title : List ℕ) → Verdict → List ℕ
 point_line indent number ok title verdict =
-    line_at indent (cond ok (codes "ok ") (codes "not ok ") ++ decimal number ++ codes " - " ++ escaped title ++ cond ok (directive verdict) [])
+    line_at indent (cond ok (codes "ok ") (codes "not ok ") ++ decimal number ++ codes " - "
+    ++ escaped title ++ cond ok (directive verdict) [])

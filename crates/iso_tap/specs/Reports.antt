@@ -31,7 +31,8 @@ level indent text ns = plan_line indent (length ns) ++ numbered text 1 ns
 
 -- a class's level, four spaces further in, under its comment; a test has none
 abbrev pub subtest : (indent : ℕ) → Row → (text : ℕ → ℕ → List ℕ) → List ℕ → List ℕ
-subtest indent row text ns = cond (is_test row.kind) [] (subtest_line indent row.title ++ level (indent + 4) text ns)
+subtest indent row text ns =
+    cond (is_test row.kind) [] (subtest_line indent row.title ++ level (indent + 4) text ns)
 
 -- What is reported of a node: its subtest, in which its children are reported, and then its point.
 -- The definition counts how deep it may still go, and nodes are nested no deeper than
@@ -39,7 +40,8 @@ subtest indent row text ns = cond (is_test row.kind) [] (subtest_line indent row
 abbrev pub reported_within : (depth : ℕ) → List Row → (ℕ → Outcome) → (indent number n : ℕ) → List ℕ
 reported_within zero tree outcome indent number n = []
 reported_within (suc depth) tree outcome indent number n =
-    subtest indent (row_at tree n) (reported_within depth tree outcome (indent + 4)) (children tree n)
+    subtest indent (row_at tree n) (reported_within depth tree outcome (indent + 4))
+    (children tree n)
     ++ point indent number (is_ok tree outcome n) (row_at tree n).title (outcome n)
 
 abbrev pub reported : List Row → (ℕ → Outcome) → (indent number n : ℕ) → List ℕ

@@ -19,7 +19,8 @@ impl<'a, W: Sink> Printer<'a, W> {
     /// Writes the block of an outcome.
     pub(crate) fn block(&mut self, indent: u64, outcome: View<'_>) -> Result<(), SinkFailed>
         requires { indent + 2 < 2 ^ 64 }
-        ensures { Prints self.old self.new (block_lines indent (outcome_of_view outcome.entry)) result }
+        ensures { Prints self.old self.new
+            (block_lines indent (outcome_of_view outcome.entry)) result }
     {
         self.line(indent, &[Piece::Plain(b"---")])?;
         self.verdict(indent, outcome.verdict)?;
@@ -29,7 +30,8 @@ impl<'a, W: Sink> Printer<'a, W> {
 
     /// Writes the word of a verdict, and its message and place where it has them.
     fn verdict(&mut self, indent: u64, verdict: ViewVerdict<'_>) -> Result<(), SinkFailed>
-        ensures { Prints self.old self.new (verdict_lines indent (verdict_of_view verdict.entry)) result }
+        ensures { Prints self.old self.new
+            (verdict_lines indent (verdict_of_view verdict.entry)) result }
     {
         let word = verdict_word(verdict);
         self.line(
@@ -60,7 +62,8 @@ impl<'a, W: Sink> Printer<'a, W> {
     /// Writes what was printed.
     fn output(&mut self, indent: u64, outcome: View<'_>) -> Result<(), SinkFailed>
         requires { indent + 2 < 2 ^ 64 }
-        ensures { Prints self.old self.new (output_lines indent (outcome_of_view outcome.entry).output) result }
+        ensures { Prints self.old self.new
+            (output_lines indent (outcome_of_view outcome.entry).output) result }
     {
         if printed_nothing(outcome) {
             return self.line(indent, &[Piece::Plain(b"output: []")]);

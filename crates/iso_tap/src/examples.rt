@@ -58,7 +58,8 @@ pub fn failures_reach_up()
 
 /// A point that isn't ok has no directive, and a title is escaped.
 pub fn only_ok_points_are_skipped()
-    ensures ok { point_line 4 12 true (codes "A \"b\" # \\") skipped ≡ codes "    ok 12 - A \"b\" \\# \\\\ # SKIP no \\\\ \\#1\n" }
+    ensures ok { point_line 4 12 true (codes "A \"b\" # \\") skipped
+        ≡ codes "    ok 12 - A \"b\" \\# \\\\ # SKIP no \\\\ \\#1\n" }
     ensures not_ok { point_line 0 1 false (codes "shop.C") skipped ≡ codes "not ok 1 - shop.C\n" }
 {}
 

@@ -12,7 +12,8 @@ ghost use Rattle.iso_tap.specs.Reports.{is_ok, reported, subtest};
 /// What is reported of a node is its subtest, in which its children are reported four spaces
 /// further in, and then its point.
 pub fn reports_go_down_the_tree()
-    ensures { (tree : List Row) (outcome : ℕ → Outcome) → IsTree tree → (indent number n : ℕ) → 0 < n → n < length tree
+    ensures { (tree : List Row) (outcome : ℕ → Outcome) → IsTree tree → (indent number n : ℕ)
+        → 0 < n → n < length tree
         → reported tree outcome indent number n
         ≡ subtest indent (row_at tree n) (reported tree outcome (indent + 4)) (children tree n)
         ++ point indent number (is_ok tree outcome n) (row_at tree n).title (outcome n) }
@@ -20,6 +21,8 @@ pub fn reports_go_down_the_tree()
 
 /// A point is ok where the node's own verdict lets it and all its children's points are ok.
 pub fn points_are_ok_with_those_below()
-    ensures { (tree : List Row) (outcome : ℕ → Outcome) → IsTree tree → (n : ℕ) → 0 < n → n < length tree
-        → is_ok tree outcome n ≡ (is_ok_verdict (outcome n).verdict && list_all (is_ok tree outcome) (children tree n)) }
+    ensures { (tree : List Row) (outcome : ℕ → Outcome) → IsTree tree → (n : ℕ) → 0 < n
+        → n < length tree
+        → is_ok tree outcome n
+        ≡ (is_ok_verdict (outcome n).verdict && list_all (is_ok tree outcome) (children tree n)) }
 {}

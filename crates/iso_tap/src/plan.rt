@@ -23,7 +23,8 @@ use iso_plan::plan::Plan;
 ///
 /// The sink is asked again where it takes only some bytes, and no more once it has failed.
 pub fn write_plan<W: Sink>(plan: &Plan, workers: u32, sink: &mut W) -> Result<(), TapFault>
-    ensures { Writes (W.account sink.old) (W.account sink.new) (plan_text (tree_of plan.now) plan.now.settings workers) result }
+    ensures { Writes (W.account sink.old) (W.account sink.new)
+        (plan_text (tree_of plan.now) plan.now.settings workers) result }
 {
     let mut printer = Printer::new(sink);
     match printer.plan(plan, workers) {
@@ -38,7 +39,8 @@ pub fn write_plan<W: Sink>(plan: &Plan, workers: u32, sink: &mut W) -> Result<()
 ///
 /// The sink is asked again where it takes only some bytes, and no more once it has failed.
 pub fn write_tests<W: Sink>(plan: &Plan, sink: &mut W) -> Result<(), TapFault>
-    ensures { Writes (W.account sink.old) (W.account sink.new) (tests_text (tree_of plan.now) plan.now.settings) result }
+    ensures { Writes (W.account sink.old) (W.account sink.new)
+        (tests_text (tree_of plan.now) plan.now.settings) result }
 {
     let mut printer = Printer::new(sink);
     match printer.tests(plan) {
@@ -55,7 +57,8 @@ impl<'a, W: Sink> Printer<'a, W> {
 
     /// Writes a plan.
     fn plan(&mut self, plan: &Plan, workers: u32) -> Result<(), SinkFailed>
-        ensures { Prints self.old self.new (plan_text (tree_of plan.now) plan.now.settings workers) result }
+        ensures { Prints self.old self.new
+            (plan_text (tree_of plan.now) plan.now.settings workers) result }
     {
         self.pieces(&[
             Piece::Plain(b"workers "),
@@ -67,7 +70,8 @@ impl<'a, W: Sink> Printer<'a, W> {
 
     /// Writes the line of each node but the root.
     fn nodes(&mut self, plan: &Plan) -> Result<(), SinkFailed>
-        ensures { Prints self.old self.new (node_lines (tree_of plan.now) plan.now.settings (length plan.now.rows - 1) 1) result }
+        ensures { Prints self.old self.new
+            (node_lines (tree_of plan.now) plan.now.settings (length plan.now.rows - 1) 1) result }
     {
         'nodes: for node in 1..plan.len() {
             self.node(plan, node)?;
@@ -77,7 +81,8 @@ impl<'a, W: Sink> Printer<'a, W> {
 
     /// Writes the lines of tests.
     fn tests(&mut self, plan: &Plan) -> Result<(), SinkFailed>
-        ensures { Prints self.old self.new (tests_text (tree_of plan.now) plan.now.settings) result }
+        ensures { Prints self.old self.new
+            (tests_text (tree_of plan.now) plan.now.settings) result }
     {
         'nodes: for node in 1..plan.len() {
             self.test(plan, node)?;
@@ -89,7 +94,8 @@ impl<'a, W: Sink> Printer<'a, W> {
     fn test(&mut self, plan: &Plan, node: u32) -> Result<(), SinkFailed>
         requires above { 0 < node }
         requires within { node < length plan.now.rows }
-        ensures { Prints self.old self.new (test_line (tree_of plan.now) plan.now.settings node) result }
+        ensures { Prints self.old self.new
+            (test_line (tree_of plan.now) plan.now.settings node) result }
     {
         if plan.is_test(node) {
             self.node(plan, node)?;
@@ -101,7 +107,8 @@ impl<'a, W: Sink> Printer<'a, W> {
     fn node(&mut self, plan: &Plan, node: u32) -> Result<(), SinkFailed>
         requires above { 0 < node }
         requires within { node < length plan.now.rows }
-        ensures { Prints self.old self.new (node_line (tree_of plan.now) plan.now.settings node) result }
+        ensures { Prints self.old self.new
+            (node_line (tree_of plan.now) plan.now.settings node) result }
     {
         self.node_fields(plan, node)?;
         self.bytes(b"\n")
@@ -111,7 +118,8 @@ impl<'a, W: Sink> Printer<'a, W> {
     pub fn node_fields(&mut self, plan: &Plan, node: u32) -> Result<(), SinkFailed>
         requires above { 0 < node }
         requires within { node < length plan.now.rows }
-        ensures { Prints self.old self.new (node_fields (tree_of plan.now) plan.now.settings node) result }
+        ensures { Prints self.old self.new
+            (node_fields (tree_of plan.now) plan.now.settings node) result }
     {
         self.pieces(&[
             Piece::Number(u64::from(node)),
@@ -129,7 +137,8 @@ impl<'a, W: Sink> Printer<'a, W> {
     /// Writes the locks that a node takes, with commas between them.
     fn locks(&mut self, plan: &Plan, node: u32) -> Result<(), SinkFailed>
         requires { node < length plan.now.rows }
-        ensures { Prints self.old self.new (locks_text (keys (tree_of plan.now)) (locks (tree_of plan.now) node)) result }
+        ensures { Prints self.old self.new
+            (locks_text (keys (tree_of plan.now)) (locks (tree_of plan.now) node)) result }
     {
         let locks = plan.locks(node);
         let mut separator = "";

@@ -39,7 +39,8 @@ impl<'a, W: Sink> Printer<'a, W> {
         outcome: View<'x>,
     ) -> Result<(), SinkFailed>
         requires { indent + 4 < 2 ^ 64 }
-        ensures { Prints self.old self.new (point indent number ok title.now (outcome_of_view outcome.entry)) result }
+        ensures { Prints self.old self.new
+            (point indent number ok title.now (outcome_of_view outcome.entry)) result }
     {
         self.point_line(indent, number, ok, title, outcome.verdict)?;
         if is_silent(outcome) {
@@ -57,7 +58,8 @@ impl<'a, W: Sink> Printer<'a, W> {
         title: &'x str,
         verdict: ViewVerdict<'x>,
     ) -> Result<(), SinkFailed>
-        ensures { Prints self.old self.new (point_line indent number ok title.now (verdict_of_view verdict.entry)) result }
+        ensures { Prints self.old self.new
+            (point_line indent number ok title.now (verdict_of_view verdict.entry)) result }
     {
         let answer = if ok { "ok " } else { "not ok " };
         let (directive, reason) = match verdict {
@@ -80,7 +82,8 @@ impl<'a, W: Sink> Printer<'a, W> {
 
 /// Whether an outcome has nothing to tell: it passed, and nothing was printed.
 fn is_silent(outcome: View<'_>) -> bool
-    ensures { result ≡ is_silent (verdict_of_view outcome.entry.verdict) (outcome_of_view outcome.entry).output }
+    ensures { result ≡ is_silent (verdict_of_view outcome.entry.verdict)
+        (outcome_of_view outcome.entry).output }
 {
     matches!(outcome.verdict, ViewVerdict::Pass) && printed_nothing(outcome)
 }

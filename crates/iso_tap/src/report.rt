@@ -27,7 +27,8 @@ pub fn write_report<W: Sink>(
 ) -> Result<(), TapFault>
     requires plan { results.now.plan ≡ plan.now }
     requires complete { AreComplete results.now }
-    ensures { Writes (W.account sink.old) (W.account sink.new) (report (tree_of plan.now) (outcome_in results.now)) result }
+    ensures { Writes (W.account sink.old) (W.account sink.new)
+        (report (tree_of plan.now) (outcome_in results.now)) result }
 {
     let mut printer = Printer::new(sink);
     match printer.report(plan, results) {
@@ -45,7 +46,8 @@ impl<'a, W: Sink> Printer<'a, W> {
     fn report(&mut self, plan: &Plan, results: &Results<'_>) -> Result<(), SinkFailed>
         requires plan { results.now.plan ≡ plan.now }
         requires complete { AreComplete results.now }
-        ensures { Prints self.old self.new (report (tree_of plan.now) (outcome_in results.now)) result }
+        ensures { Prints self.old self.new
+            (report (tree_of plan.now) (outcome_in results.now)) result }
     {
         laws::nodes_are_a_tree(plan);
         self.line(0, &[Piece::Plain(b"TAP version 14")])?;
@@ -66,7 +68,8 @@ impl<'a, W: Sink> Printer<'a, W> {
         requires within { node < length plan.now.rows }
         requires indent { indent ≤ 4 * node }
         ensures { Prints self.old self.new
-            (level indent (reported (tree_of plan.now) (outcome_in results.now) indent) (children (tree_of plan.now) node)) result }
+            (level indent (reported (tree_of plan.now) (outcome_in results.now) indent)
+            (children (tree_of plan.now) node)) result }
     {
         laws::nodes_are_a_tree(plan);
         let children = plan.children(node);
@@ -92,7 +95,8 @@ impl<'a, W: Sink> Printer<'a, W> {
         requires above { 0 < node }
         requires within { node < length plan.now.rows }
         requires indent { indent + 4 ≤ 4 * node }
-        ensures { Prints self.old self.new (reported (tree_of plan.now) (outcome_in results.now) indent number node) result }
+        ensures { Prints self.old self.new
+            (reported (tree_of plan.now) (outcome_in results.now) indent number node) result }
     {
         laws::nodes_are_a_tree(plan);
         self.subtest(plan, results, indent, node)?;
@@ -114,7 +118,8 @@ impl<'a, W: Sink> Printer<'a, W> {
         requires within { node < length plan.now.rows }
         requires indent { indent + 4 ≤ 4 * node }
         ensures { Prints self.old self.new
-            (subtest indent (row_at (tree_of plan.now) node) (reported (tree_of plan.now) (outcome_in results.now) (indent + 4))
+            (subtest indent (row_at (tree_of plan.now) node)
+            (reported (tree_of plan.now) (outcome_in results.now) (indent + 4))
             (children (tree_of plan.now) node)) result }
     {
         if plan.is_test(node) {

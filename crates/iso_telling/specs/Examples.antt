@@ -43,14 +43,16 @@ skipped_at place n = with_verdict (Skipped (at_place place))
 
 -- each node ended by a number of turns below 0, on row 1 of its test
 abbrev pub faulted_of : ℕ → Outcome
-faulted_of n = with_verdict (Fault BadCount (record { message = codes "bad count"; place = Row Test 1 }))
+faulted_of n =
+    with_verdict (Fault BadCount (record { message = codes "bad count"; place = Row Test 1 }))
 
 -- the sites of Cart, a, Till, b, Drawer, c, d, Desk, e, f: Cart has an after_all at line 3 and a
 -- before_each at line 6, Till a before_all at line 12
 abbrev pub till_sites : List Site
 till_sites =
     all_sites (
-    (class_at 2 7 0 3 6 0 ∷ test_at 9 10 9 ∷ class_at 11 11 12 0 0 0 ∷ test_at 15 14 16 ∷ class_at 18 15 0 0 0 0 ∷ test_at 19 18 19 ∷ test_at 23 10 24
+    (class_at 2 7 0 3 6 0 ∷ test_at 9 10 9 ∷ class_at 11 11 12 0 0 0 ∷ test_at 15 14 16
+    ∷ class_at 18 15 0 0 0 0 ∷ test_at 19 18 19 ∷ test_at 23 10 24
     ∷ class_at 30 7 0 0 0 0 ∷ test_at 31 10 31 ∷ test_at 33 24 34 ∷ []) ∷ [])
 
 -- the names and the bytes of two scripts, of which the second has line ends with a carriage return

@@ -14,7 +14,8 @@ use Rattle.iso_plan.specs.Paths.{row_at}
 use Rattle.iso_plan.specs.Tree.{Row}
 
 -- a fault that ended a block of a node, with the chain and the name of the node
-abbrev pub block_fault : List Row → ℕ → FaultKind → (message : List ℕ) → BlockName → (row : ℕ) → BlockFaultView
+abbrev pub block_fault : List Row → ℕ → FaultKind → (message : List ℕ) → BlockName → (row : ℕ)
+    → BlockFaultView
 block_fault tree n kind message block row =
     record {
       kind = kind;

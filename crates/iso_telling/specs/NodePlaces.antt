@@ -13,7 +13,8 @@ nowhere = record { file = []; line = 0; ended = 0 }
 
 -- where a node other than the root stands: the name of its script, or `stdin` where none has a
 -- name, the line of its own name, and the line that is told of it
-abbrev pub place_told : (names : List (List ℕ)) → List Row → List Site → ℕ → (ℕ → Outcome) → PlacedView
+abbrev pub place_told : (names : List (List ℕ)) → List Row → List Site → ℕ
+    → (ℕ → Outcome) → PlacedView
 place_told names tree sites n outcome =
     record {
       file = slice_index_or names (name_line sites n).script (codes "stdin");
@@ -22,10 +23,13 @@ place_told names tree sites n outcome =
     }
 
 -- where a node stands, by its number
-abbrev pub node_place : (names : List (List ℕ)) → List Row → List Site → (ℕ → Outcome) → ℕ → PlacedView
+abbrev pub node_place : (names : List (List ℕ)) → List Row → List Site → (ℕ → Outcome)
+    → ℕ → PlacedView
 node_place names tree sites outcome zero = nowhere
 node_place names tree sites outcome (suc n) = place_told names tree sites (suc n) outcome
 
 -- where each node stands
-abbrev pub node_places : (names : List (List ℕ)) → List Row → List Site → (ℕ → Outcome) → List PlacedView
-node_places names tree sites outcome = map (node_place names tree sites outcome) (range_with_len 0 (length tree))
+abbrev pub node_places : (names : List (List ℕ)) → List Row → List Site → (ℕ → Outcome)
+    → List PlacedView
+node_places names tree sites outcome =
+    map (node_place names tree sites outcome) (range_with_len 0 (length tree))

@@ -24,7 +24,12 @@ pub record WatchedView : Type 0 where
   pub critical : List Body
 
 abbrev pub watched_of : Watched → WatchedView
-watched_of w = record { bodies = w.times.now; figures = w.figures.now; waits = w.waits.now; critical = w.critical.now }
+watched_of w = record {
+  bodies = w.times.now;
+  figures = w.figures.now;
+  waits = w.waits.now;
+  critical = w.critical.now;
+}
 
 -- what the page shows of it
 abbrev pub measured : RunView → WatchedView → MeasuredView
@@ -32,8 +37,10 @@ measured run w = measured_of run w.bodies w.figures w.waits w.critical
 
 -- the page of a run under these settings with these lines of its scripts, of which this was
 -- watched, where it was
-abbrev pub page_of : RunView → Settings → List (List LineView) → Option WatchedView → PageText → List ℕ
-page_of run settings lines watched asked = page_text run settings lines (commands_of asked.commands) (option_map (measured run) watched)
+abbrev pub page_of : RunView → Settings → List (List LineView) → Option WatchedView
+    → PageText → List ℕ
+page_of run settings lines watched asked =
+    page_text run settings lines (commands_of asked.commands) (option_map (measured run) watched)
 
 -- a text was added to a page, which is asked for as before
 abbrev pub AddsPage : (text : List ℕ) → (old new : PageText) → Type 0

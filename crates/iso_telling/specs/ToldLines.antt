@@ -20,12 +20,15 @@ place_of (Blocked note) = Some note.place
 
 -- the line where what ended a node stands, if it is written
 abbrev pub line_of_what_ended : List Row → List Site → (ℕ → Outcome) → ℕ → Option ScriptLine
-line_of_what_ended tree sites outcome n = option_and_then (end_line tree sites n) (place_of (outcome n).verdict)
+line_of_what_ended tree sites outcome n =
+    option_and_then (end_line tree sites n) (place_of (outcome n).verdict)
 
 -- the line of a node's name; of a node without a site, line 0, which no script has
 abbrev pub name_line : List Site → ℕ → ScriptLine
-name_line sites n = unwrap_or (option_map line_of_name (site_at sites n)) (record { script = 0; line = 0 })
+name_line sites n =
+    unwrap_or (option_map line_of_name (site_at sites n)) (record { script = 0; line = 0 })
 
 -- the line that is told of a node: where what ended it stands, else that of its name
 abbrev pub line_told : List Row → List Site → (ℕ → Outcome) → ℕ → ScriptLine
-line_told tree sites outcome n = unwrap_or (line_of_what_ended tree sites outcome n) (name_line sites n)
+line_told tree sites outcome n =
+    unwrap_or (line_of_what_ended tree sites outcome n) (name_line sites n)

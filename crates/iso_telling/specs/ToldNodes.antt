@@ -9,7 +9,8 @@ use Rattle.iso_plan.specs.Tree.{Row}
 -- whether a node is told of: it failed, or it is a test that was skipped, where these are told of,
 -- too
 abbrev pub is_told : List Row → (ℕ → Outcome) → (skipped : Bool) → ℕ → Bool
-is_told tree outcome skipped n = is_failure outcome n || (skipped && is_test_with tree outcome was_skipped n)
+is_told tree outcome skipped n =
+    is_failure outcome n || (skipped && is_test_with tree outcome was_skipped n)
 
 -- the nodes that are told of, in the order in which they are written
 abbrev pub told_nodes : List Row → (ℕ → Outcome) → (skipped : Bool) → List ℕ

@@ -32,7 +32,8 @@ told_of t = record { line = t.line; hints = t.hints.items }
 
 -- what is told of a node by its outcome
 abbrev pub told : (explain : Bool) → List Row → List Site → (ℕ → Outcome) → ℕ → ToldView
-told explain tree sites outcome n = record { line = line_told tree sites outcome n; hints = hints_told explain tree outcome n }
+told explain tree sites outcome n =
+    record { line = line_told tree sites outcome n; hints = hints_told explain tree outcome n }
 
 -- the same with the name of the script and the line itself
 abbrev pub located_told : (names texts : List (List ℕ)) → ToldView → LocatedView

@@ -19,10 +19,15 @@ abbrev pub lent : List (Bor (List ℕ)) → List (List ℕ)
 lent texts = map (λ (text : Bor (List ℕ)). text.now) texts
 
 abbrev pub written_of : Written → WrittenView
-written_of w = record { scripts = map script_of w.scripts.now; places = places_in w.places.now; texts = lent w.texts.now }
+written_of w = record {
+  scripts = map script_of w.scripts.now;
+  places = places_in w.places.now;
+  texts = lent w.texts.now;
+}
 
 -- these bytes are these scripts, and these are the places of the nodes of each
-abbrev pub ArePlaced : (texts : List (List ℕ)) → List Script → (places : List (List NodePlace)) → Type 0
+abbrev pub ArePlaced : (texts : List (List ℕ)) → List Script
+    → (places : List (List NodePlace)) → Type 0
 ArePlaced [] [] [] = Unit {0}
 ArePlaced (t ∷ ts) (s ∷ ss) (p ∷ ps) = ReadsPlaced t s p × ArePlaced ts ss ps
 ArePlaced _ _ _ = ⊥

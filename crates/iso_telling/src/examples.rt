@@ -45,8 +45,10 @@ pub fn rows_of_tests_are_told()
 /// Of a test that a block of a class failed, the line of that block is told, by the class's depth.
 #[tactic(auto, unfolding(iso_plan::specs::Paths::path))]
 pub fn rows_of_class_blocks_are_told()
-    ensures outer { line_told till_in_cart till_sites (failed_at (Row (N.Class 1 BeforeEach) 2)) 4 ≡ line_in 0 7 }
-    ensures inner { line_told till_in_cart till_sites (failed_at (Row (N.Class 2 BeforeAll) 1)) 3 ≡ line_in 0 12 }
+    ensures outer { line_told till_in_cart till_sites (failed_at (Row (N.Class 1 BeforeEach) 2)) 4
+        ≡ line_in 0 7 }
+    ensures inner { line_told till_in_cart till_sites (failed_at (Row (N.Class 2 BeforeAll) 1)) 3
+        ≡ line_in 0 12 }
 {}
 
 /// Of a disabled test the line of its own name is told.
@@ -58,7 +60,8 @@ pub fn disabled_tests_are_told_at_their_names()
 /// So is that of a node whose verdict names a block which isn't written.
 #[tactic(auto, unfolding(iso_plan::specs::Paths::path))]
 pub fn what_is_not_written_is_told_at_the_name()
-    ensures { line_told till_in_cart till_sites (failed_at (Row (N.Class 2 AfterAll) 1)) 4 ≡ line_in 0 15 }
+    ensures { line_told till_in_cart till_sites (failed_at (Row (N.Class 2 AfterAll) 1)) 4
+        ≡ line_in 0 15 }
 {}
 
 /// What mends a fault is told where it is asked for, and nothing of what failed otherwise.
@@ -72,9 +75,21 @@ pub fn faults_are_explained_where_it_is_asked_for()
 /// A line has its script's name and text, without its line end.
 pub fn lines_have_their_files()
     ensures first { located two_names two_texts (line_in 0 2)
-        ≡ record { file = codes "a.jtap"; named = true; line = 2; source = codes "class A { }"; hints = [] } }
+        ≡ record {
+          file = codes "a.jtap";
+          named = true;
+          line = 2;
+          source = codes "class A { }";
+          hints = [];
+        } }
     ensures second { located two_names two_texts (line_in 1 2)
-        ≡ record { file = codes "my b.jtap"; named = true; line = 2; source = codes "class B { }"; hints = [] } }
+        ≡ record {
+          file = codes "my b.jtap";
+          named = true;
+          line = 2;
+          source = codes "class B { }";
+          hints = [];
+        } }
     ensures past { located two_names two_texts (line_in 1 3)
         ≡ record { file = codes "my b.jtap"; named = true; line = 3; source = []; hints = [] } }
 {}
@@ -82,7 +97,13 @@ pub fn lines_have_their_files()
 /// Where no script has a name it is standard input.
 pub fn lines_of_standard_input_have_no_file()
     ensures { located [] (codes "team a\nclass A { }\n" ∷ []) (line_in 0 2)
-        ≡ record { file = codes "stdin"; named = false; line = 2; source = codes "class A { }"; hints = [] } }
+        ≡ record {
+          file = codes "stdin";
+          named = false;
+          line = 2;
+          source = codes "class A { }";
+          hints = [];
+        } }
 {}
 
 /// The XML and GitHub get each node's file, the line of its own name, and the line of what ended
@@ -91,27 +112,34 @@ pub fn lines_of_standard_input_have_no_file()
 pub fn nodes_have_their_files_and_lines()
     ensures row { node_place two_names till_in_cart till_sites (failed_at (Row N.Test 3)) 7
         ≡ record { file = codes "a.jtap"; line = 23; ended = 26 } }
-    ensures class_block { node_place two_names till_in_cart till_sites (failed_at (Row (N.Class 1 BeforeEach) 2)) 4
+    ensures class_block { node_place two_names till_in_cart till_sites
+        (failed_at (Row (N.Class 1 BeforeEach) 2)) 4
         ≡ record { file = codes "a.jtap"; line = 15; ended = 7 } }
     ensures unnamed { node_place [] till_in_cart till_sites (skipped_at Disabled) 10
         ≡ record { file = codes "stdin"; line = 33; ended = 33 } }
-    ensures root { node_place two_names till_in_cart till_sites (failed_at (Row N.Test 1)) 0 ≡ nowhere }
+    ensures root { node_place two_names till_in_cart till_sites
+        (failed_at (Row N.Test 1)) 0 ≡ nowhere }
 {}
 
 /// A page shows a line with two before and two after it, as far as there are these.
 pub fn lines_stand_around_the_one_that_is_told()
-    ensures middle { around six_lines 4 ≡ numbered 2 "b" ∷ numbered 3 "c" ∷ numbered 4 "d" ∷ numbered 5 "e" ∷ numbered 6 "f" ∷ [] }
+    ensures middle { around six_lines 4 ≡ numbered 2 "b" ∷ numbered 3 "c" ∷ numbered 4 "d"
+        ∷ numbered 5 "e" ∷ numbered 6 "f" ∷ [] }
     ensures first { around six_lines 1 ≡ numbered 1 "a" ∷ numbered 2 "b" ∷ numbered 3 "c" ∷ [] }
-    ensures second { around six_lines 2 ≡ numbered 1 "a" ∷ numbered 2 "b" ∷ numbered 3 "c" ∷ numbered 4 "d" ∷ [] }
+    ensures second { around six_lines 2 ≡ numbered 1 "a" ∷ numbered 2 "b" ∷ numbered 3 "c"
+        ∷ numbered 4 "d" ∷ [] }
     ensures last { around six_lines 6 ≡ numbered 4 "d" ∷ numbered 5 "e" ∷ numbered 6 "f" ∷ [] }
-    ensures line_feed { around (six_lines ++ codes "\n") 6 ≡ numbered 4 "d" ∷ numbered 5 "e" ∷ numbered 6 "f" ∷ [] }
-    ensures empty_line { around (six_lines ++ codes "\n\n") 6 ≡ numbered 4 "d" ∷ numbered 5 "e" ∷ numbered 6 "f" ∷ numbered 7 "" ∷ [] }
+    ensures line_feed { around (six_lines ++ codes "\n") 6 ≡ numbered 4 "d" ∷ numbered 5 "e"
+        ∷ numbered 6 "f" ∷ [] }
+    ensures empty_line { around (six_lines ++ codes "\n\n") 6 ≡ numbered 4 "d" ∷ numbered 5 "e"
+        ∷ numbered 6 "f" ∷ numbered 7 "" ∷ [] }
 {}
 
 /// It shows none of a node that didn't fail, and none of the root.
 #[tactic(auto, unfolding(iso_plan::specs::Paths::path))]
 pub fn lines_are_shown_of_failures_alone()
-    ensures failed { failed_line till_in_cart till_sites (failed_at (Row N.Test 1)) 7 ≡ Some (line_in 0 24) }
+    ensures failed { failed_line till_in_cart till_sites (failed_at (Row N.Test 1)) 7
+        ≡ Some (line_in 0 24) }
     ensures skipped { failed_line till_in_cart till_sites (skipped_at Disabled) 10 ≡ None }
     ensures root { failed_line till_in_cart till_sites (failed_at (Row N.Test 1)) 0 ≡ None }
 {}

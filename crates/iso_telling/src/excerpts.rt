@@ -96,7 +96,8 @@ fn shown<'a>(
     line: Option<ScriptLine>,
 ) -> Result<ShownLines<'a>, AllocError>
     requires { at_hand.table ≡ line_starts (slice_index_or (lent texts.now) at_hand.script []) }
-    ensures table { IfOk result (λ s. s.at_hand.table ≡ line_starts (slice_index_or (lent texts.now) s.at_hand.script [])) }
+    ensures table { IfOk result (λ s. s.at_hand.table
+        ≡ line_starts (slice_index_or (lent texts.now) s.at_hand.script [])) }
     ensures lines { IfOk result (λ s. map line_of s.lines.items ≡ excerpt (lent texts.now) line) }
 {
     let Some(at) = line else {

@@ -28,7 +28,8 @@ pub(crate) fn hints_told(
     requires complete { AreComplete results.now }
     requires above { 0 < node }
     requires within { node < length plan.now.rows }
-    ensures { IfOk result (λ hints. hints.items ≡ hints_told explain (tree_of plan.now) (outcome_in results.now) node) }
+    ensures { IfOk result (λ hints. hints.items
+        ≡ hints_told explain (tree_of plan.now) (outcome_in results.now) node) }
 {
     if !explain {
         return Ok(Vec::new(alloc));
@@ -51,7 +52,8 @@ fn hints_at(
     note: &Note,
 ) -> Result<Vec<Text>, AllocError>
     requires { node < length plan.now.rows }
-    ensures { IfOk result (λ hints. hints.items ≡ hints_at (tree_of plan.now) node kind note.now.message note.now.place) }
+    ensures { IfOk result (λ hints. hints.items
+        ≡ hints_at (tree_of plan.now) node kind note.now.message note.now.place) }
 {
     match note.place {
         Place::Row(block, row) => hints(

@@ -18,8 +18,10 @@ use iso_places::laws::{each_node_has_a_site, nodes_of_plans_have_sites};
 
 /// Where what mends a fault isn't asked for, a node is told with its line alone.
 pub fn nodes_are_told_with_their_lines_alone()
-    ensures { (names texts : List (List ℕ)) (tree : List Row) (sites : List Site) (outcome : ℕ → Outcome) (n : ℕ)
-        → located_told names texts (told false tree sites outcome n) ≡ located names texts (line_told tree sites outcome n) }
+    ensures { (names texts : List (List ℕ)) (tree : List Row) (sites : List Site)
+        (outcome : ℕ → Outcome) (n : ℕ)
+        → located_told names texts (told false tree sites outcome n)
+        ≡ located names texts (line_told tree sites outcome n) }
 {}
 
 /// No plan of scripts that were read with these places has a node without a place, be it of all
@@ -29,8 +31,10 @@ pub fn nodes_of_suites_have_places(scripts: &[Script])
         (texts : List (List ℕ)) (places : List (List NodePlace)) → ArePlaced texts scripts places
         → HasStranger (tree scripts) (all_sites places) (tree scripts) → ⊥ }
     ensures kept { let scripts = map script_of scripts.now in
-        (texts paths : List (List ℕ)) (places : List (List NodePlace)) → ArePlaced texts scripts places
-        → HasStranger (tree scripts) (all_sites places) (those_of (is_kept_by (tree scripts) paths) (tree scripts)) → ⊥ }
+        (texts paths : List (List ℕ)) (places : List (List NodePlace))
+        → ArePlaced texts scripts places
+        → HasStranger (tree scripts) (all_sites places)
+        (those_of (is_kept_by (tree scripts) paths) (tree scripts)) → ⊥ }
 {
     each_node_has_a_site(scripts);
     nodes_of_plans_have_sites(scripts);

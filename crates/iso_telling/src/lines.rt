@@ -29,7 +29,8 @@ pub(crate) fn lines_told(
     requires plan { results.now.plan ≡ plan.now }
     requires complete { AreComplete results.now }
     requires nodes { All (IsNode plan.now) nodes.now }
-    ensures { IfOk result (λ v. map told_of v.items ≡ map (told explain (tree_of plan.now) sites.now (outcome_in results.now)) nodes.now) }
+    ensures { IfOk result (λ v. map told_of v.items
+        ≡ map (told explain (tree_of plan.now) sites.now (outcome_in results.now)) nodes.now) }
 {
     let mut lines = Vec::with_capacity(alloc, nodes.len())?;
     'nodes: for node in nodes {
@@ -51,7 +52,8 @@ fn told(
     requires complete { AreComplete results.now }
     requires above { 0 < node }
     requires within { node < length plan.now.rows }
-    ensures { IfOk result (λ t. told_of t ≡ told explain (tree_of plan.now) sites.now (outcome_in results.now) node) }
+    ensures { IfOk result (λ t. told_of t
+        ≡ told explain (tree_of plan.now) sites.now (outcome_in results.now) node) }
 {
     Ok(Told {
         line: line_told(plan, results, sites, node),
@@ -84,7 +86,8 @@ fn line_of_what_ended(
     requires complete { AreComplete results.now }
     requires above { 0 < node }
     requires within { node < length plan.now.rows }
-    ensures { result ≡ line_of_what_ended (tree_of plan.now) sites.now (outcome_in results.now) node }
+    ensures { result ≡ line_of_what_ended (tree_of plan.now) sites.now
+        (outcome_in results.now) node }
 {
     let at = place_of(verdict(results, node))?;
     line_of_end(plan, sites, node, at)

@@ -19,7 +19,8 @@ pub(crate) fn all_located<'a>(
     texts: &'a [&'a [u8]],
     lines: &'a [Told],
 ) -> Result<Vec<Located<'a>>, AllocError>
-    ensures { IfOk result (λ v. map located_of v.items ≡ map (located_told (lent names.now) (lent texts.now)) (map told_of lines.now)) }
+    ensures { IfOk result (λ v. map located_of v.items
+        ≡ map (located_told (lent names.now) (lent texts.now)) (map told_of lines.now)) }
 {
     let mut places = Vec::with_capacity(alloc, lines.len())?;
     let Some(first) = lines.first() else {
@@ -42,7 +43,8 @@ fn with_file<'a>(
     told: &'a Told,
 ) -> Result<Located<'a>, AllocError>
     requires { table.now ≡ line_starts (slice_index_or (lent texts.now) told.now.line.script []) }
-    ensures { IfOk result (λ l. located_of l ≡ located_told (lent names.now) (lent texts.now) (told_of told.now)) }
+    ensures { IfOk result (λ l. located_of l
+        ≡ located_told (lent names.now) (lent texts.now) (told_of told.now)) }
 {
     let at = told.line;
     let Ok(line) = u32::try_from(at.line) else {

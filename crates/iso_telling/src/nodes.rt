@@ -22,7 +22,8 @@ pub(crate) fn told_nodes(
 ) -> Result<Vec<u32>, AllocError>
     requires plan { results.now.plan ≡ plan.now }
     requires complete { AreComplete results.now }
-    ensures told { IfOk result (λ v. v.items ≡ told_nodes (tree_of plan.now) (outcome_in results.now) skipped) }
+    ensures told { IfOk result (λ v. v.items
+        ≡ told_nodes (tree_of plan.now) (outcome_in results.now) skipped) }
     ensures nodes { IfOk result (λ v. All (IsNode plan.now) v.items) }
 {
     laws::nodes_are_a_tree(plan);

@@ -28,7 +28,8 @@ pub(crate) fn add_page(
 ) -> Result<(), AllocError>
     requires { AreComplete run.now.results.now }
     ensures { OnOk result (AddsPage (page_of (run_of run.now) run.now.plan.now.settings
-        (excerpts (lent texts.now) (tree_of run.now.plan.now) sites.now (outcome_in run.now.results.now))
+        (excerpts (lent texts.now) (tree_of run.now.plan.now) sites.now
+        (outcome_in run.now.results.now))
         (option_map watched_of watched.entry) page.old) page.old page.new) }
 {
     let lines = node_lines(alloc, &*texts, run.plan, run.results, sites)?;
@@ -55,7 +56,8 @@ fn measured<'a>(
     watched: Option<Watched<'a>>,
 ) -> Result<Option<Measured<'a>>, AllocError>
     requires { AreComplete run.now.results.now }
-    ensures { IfOk result (λ m. m ≡ option_map (measured (run_of run.now)) (option_map watched_of watched.entry)) }
+    ensures { IfOk result (λ m. m ≡ option_map (measured (run_of run.now))
+        (option_map watched_of watched.entry)) }
 {
     let Some(watched) = watched else {
         return Ok(None);

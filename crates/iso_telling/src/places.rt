@@ -25,7 +25,8 @@ pub(crate) fn node_places<'a>(
 ) -> Result<Vec<Placed<'a>>, AllocError>
     requires plan { results.now.plan ≡ plan.now }
     requires complete { AreComplete results.now }
-    ensures places { IfOk result (λ v. map placed_of v.items ≡ node_places (lent names.now) (tree_of plan.now) sites.now (outcome_in results.now)) }
+    ensures places { IfOk result (λ v. map placed_of v.items
+        ≡ node_places (lent names.now) (tree_of plan.now) sites.now (outcome_in results.now)) }
     ensures each { IfOk result (λ v. length v.items ≡ length plan.now.rows) }
 {
     let mut places = Vec::with_capacity(alloc, plan.len() as usize)?;
@@ -46,7 +47,8 @@ fn node_place<'a>(
     requires plan { results.now.plan ≡ plan.now }
     requires complete { AreComplete results.now }
     requires within { node < length plan.now.rows }
-    ensures { IfOk result (λ p. placed_of p ≡ node_place (lent names.now) (tree_of plan.now) sites.now (outcome_in results.now) node) }
+    ensures { IfOk result (λ p. placed_of p
+        ≡ node_place (lent names.now) (tree_of plan.now) sites.now (outcome_in results.now) node) }
 {
     if node == 0 {
         return Ok(nowhere());
@@ -77,7 +79,8 @@ fn place_told<'a>(
     requires complete { AreComplete results.now }
     requires above { 0 < node }
     requires within { node < length plan.now.rows }
-    ensures { IfOk result (λ p. placed_of p ≡ place_told (lent names.now) (tree_of plan.now) sites.now node (outcome_in results.now)) }
+    ensures { IfOk result (λ p. placed_of p
+        ≡ place_told (lent names.now) (tree_of plan.now) sites.now node (outcome_in results.now)) }
 {
     let name = name_line(plan, sites, node);
     let ended = line_told(plan, results, sites, node);

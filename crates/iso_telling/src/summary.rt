@@ -28,7 +28,8 @@ pub(crate) fn add_summary(
     requires plan { results.now.plan ≡ plan.now }
     requires complete { AreComplete results.now }
     ensures { OnOk result (AddsSummary
-        (summary_of (lent texts.now) (tree_of plan.now) (outcome_in results.now) sites.now (lent names.now) summary.old) summary.old summary.new) }
+        (summary_of (lent texts.now) (tree_of plan.now) (outcome_in results.now) sites.now
+        (lent names.now) summary.old) summary.old summary.new) }
 {
     let nodes = told_nodes(alloc, plan, results, summary.skipped)?;
     let lines = lines_told(alloc, plan, results, sites, summary.explain, &nodes)?;

@@ -21,7 +21,8 @@ impl ScriptTable {
         script: u32,
     ) -> Result<ScriptTable, AllocError>
         ensures script { IfOk result (λ t. t.script ≡ script) }
-        ensures table { IfOk result (λ t. t.table ≡ line_starts (slice_index_or (lent texts.now) script [])) }
+        ensures table { IfOk result (λ t. t.table
+            ≡ line_starts (slice_index_or (lent texts.now) script [])) }
     {
         Ok(ScriptTable {
             script,
@@ -38,7 +39,8 @@ impl ScriptTable {
     ) -> Result<ScriptTable, AllocError>
         requires { self.table ≡ line_starts (slice_index_or (lent texts.now) self.script []) }
         ensures script { IfOk result (λ t. t.script ≡ script) }
-        ensures table { IfOk result (λ t. t.table ≡ line_starts (slice_index_or (lent texts.now) script [])) }
+        ensures table { IfOk result (λ t. t.table
+            ≡ line_starts (slice_index_or (lent texts.now) script [])) }
     {
         if self.script == script {
             return Ok(self);

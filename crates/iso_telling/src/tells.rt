@@ -137,7 +137,8 @@ impl Tells<'_> {
     ) -> Result<(), AllocError>
         requires plan { results.now.plan ≡ plan.now }
         requires complete { AreComplete results.now }
-        ensures { OnOk result (HasTold (written_of written.now) (tree_of plan.now) plan.now.settings (outcome_in results.now) times.now
+        ensures { OnOk result (HasTold (written_of written.now) (tree_of plan.now) plan.now.settings
+            (outcome_in results.now) times.now
             (option_map watched_of watched.entry) self.old self.new) }
     {
         tell_failed(&mut self.failed, plan, results)?;
@@ -164,7 +165,8 @@ impl Tells<'_> {
     ) -> Result<(), AllocError>
         requires plan { results.now.plan ≡ plan.now }
         requires complete { AreComplete results.now }
-        ensures { OnOk result (HasToldPlaces (written_of written.now) (tree_of plan.now) plan.now.settings (outcome_in results.now) times.now
+        ensures { OnOk result (HasToldPlaces (written_of written.now)
+            (tree_of plan.now) plan.now.settings (outcome_in results.now) times.now
             (option_map watched_of watched.entry) sites.now self.old self.new) }
     {
         let texts = written.texts;
@@ -272,7 +274,8 @@ fn tell_failed(
 ) -> Result<(), AllocError>
     requires plan { results.now.plan ≡ plan.now }
     requires complete { AreComplete results.now }
-    ensures { OnOk result (IsTold (failed_text (tree_of plan.now) (outcome_in results.now)) asked.old asked.new) }
+    ensures { OnOk result (IsTold (failed_text (tree_of plan.now) (outcome_in results.now))
+        asked.old asked.new) }
 {
     match asked {
         Some(sink) => match write_failed(plan, results, sink) {
@@ -296,7 +299,8 @@ fn tell_summary(
     requires plan { results.now.plan ≡ plan.now }
     requires complete { AreComplete results.now }
     ensures { OnOk result (IsSummarized
-        (summary_of (lent texts.now) (tree_of plan.now) (outcome_in results.now) sites.now (lent names.now)) asked.old asked.new) }
+        (summary_of (lent texts.now) (tree_of plan.now) (outcome_in results.now) sites.now
+        (lent names.now)) asked.old asked.new) }
 {
     match asked {
         Some(summary) => add_summary(alloc, summary, names, texts, sites, plan, results),
@@ -342,7 +346,8 @@ fn tell_page(
 ) -> Result<(), AllocError>
     requires { AreComplete run.now.results.now }
     ensures { OnOk result (IsPaged (page_of (run_of run.now) run.now.plan.now.settings
-        (excerpts (lent texts.now) (tree_of run.now.plan.now) sites.now (outcome_in run.now.results.now))
+        (excerpts (lent texts.now) (tree_of run.now.plan.now) sites.now
+        (outcome_in run.now.results.now))
         (option_map watched_of watched.entry)) asked.old asked.new) }
 {
     match asked {
@@ -361,7 +366,8 @@ fn tell_errors(
     requires plan { results.now.plan ≡ plan.now }
     requires complete { AreComplete results.now }
     requires places { length places.now ≡ length plan.now.rows }
-    ensures { OnOk result (IsTold (errors_text (tree_of plan.now) (outcome_in results.now) (map placed_of places.now)) asked.old asked.new) }
+    ensures { OnOk result (IsTold (errors_text (tree_of plan.now) (outcome_in results.now)
+        (map placed_of places.now)) asked.old asked.new) }
 {
     match asked {
         Some(sink) => match write_errors(plan, results, places, sink) {

@@ -41,7 +41,8 @@ micros (Some b) = took b
 
 -- the microseconds that the bodies of a node took: a test's, or a class's own two
 abbrev pub micros_of : List (Option BodyTime) → ℕ → ℕ
-micros_of bodies node = micros (time_in bodies node BeforeAll) + micros (time_in bodies node AfterAll)
+micros_of bodies node =
+    micros (time_in bodies node BeforeAll) + micros (time_in bodies node AfterAll)
 
 -- the same, none where neither body has a time
 abbrev pub node_time : List (Option BodyTime) → ℕ → Option ℕ

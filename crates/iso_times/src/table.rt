@@ -24,7 +24,8 @@ impl Model for Table {
 
     ghost view = { λ t. t.nodes };
 
-    ghost invariant = { λ t. (length t.cells.items ≡ 2 * t.nodes) × (t.room.items ≡ []) × (2 * t.nodes ≤ vec_capacity t.room) };
+    ghost invariant = { λ t. (length t.cells.items ≡ 2 * t.nodes) × (t.room.items ≡ [])
+        × (2 * t.nodes ≤ vec_capacity t.room) };
 }
 
 impl Table {

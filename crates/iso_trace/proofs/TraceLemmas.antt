@@ -21,7 +21,8 @@ bodies-next tree bodies results critical len n h =
     let f : n + 1 ≡ suc n = omega arith in
     rw e (ap (λ (m : ℕ). node_events tree bodies results critical n ++ body_events tree bodies results critical (len - (n + 1)) m) (sym f))
 
-pub waits-next : (tree : List Row) (ws : List NodeWait) (i : ℕ) (d : NodeWait) → i < length ws → wait_events tree i (drop i ws) ≡ wait_event tree i (get_or ws i d) ++ wait_events tree (i + 1) (drop (i + 1) ws)
+pub waits-next : (tree : List Row) (ws : List NodeWait) (i : ℕ) (d : NodeWait) → i < length ws
+    → wait_events tree i (drop i ws) ≡ wait_event tree i (get_or ws i d) ++ wait_events tree (i + 1) (drop (i + 1) ws)
 waits-next tree ws i d h =
     let f : suc i ≡ i + 1 = omega arith in
     ap (wait_events tree i) (drop_next ws i d h) ∙ ap (λ (m : ℕ). wait_event tree i (get_or ws i d) ++ wait_events tree m (drop (i + 1) ws)) f

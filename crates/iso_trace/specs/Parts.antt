@@ -18,7 +18,8 @@ joined (t ∷ ts) = t ++ joined ts
 
 -- nanoseconds in microseconds, with three decimals
 abbrev pub micros : ℕ → List ℕ
-micros n = decimal (n / 1000) ++ codes "." ++ decimal (n / 100 % 10) ++ decimal (n / 10 % 10) ++ decimal (n % 10)
+micros n = decimal (n / 1000) ++ codes "." ++ decimal (n / 100 % 10) ++ decimal (n / 10 % 10)
+    ++ decimal (n % 10)
 
 -- a node: its path, which has nothing to escape; a number that is no node's, and the root, have
 -- none
@@ -33,7 +34,8 @@ access_text Write = codes "write"
 -- a lock among the arguments of an event: its key, and how it is taken
 abbrev pub lock_text : List Row → Lock → List ℕ
 lock_text tree l =
-    codes "," ++ slice_index_or (key_names tree (codes "lock ")) l.key [] ++ codes ":\"" ++ access_text l.access ++ codes "\""
+    codes "," ++ slice_index_or (key_names tree (codes "lock ")) l.key [] ++ codes ":\""
+    ++ access_text l.access ++ codes "\""
 
 -- locks, one after another
 abbrev pub locks_text : List Row → List Lock → List ℕ

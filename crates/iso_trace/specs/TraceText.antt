@@ -66,7 +66,8 @@ timed_event tree word n kind critical t =
 -- the event of a body that has a time
 abbrev pub body_event : List Row → ResultsView → ℕ → List ℕ → Bool → Option BodyTime → List ℕ
 body_event tree results n kind critical None = []
-body_event tree results n kind critical (Some t) = timed_event tree (word_of (result_in results n)) n kind critical t
+body_event tree results n kind critical (Some t) =
+    timed_event tree (word_of (result_in results n)) n kind critical t
 
 -- what stands behind the path of a node in the name of its first body
 abbrev pub first_kind : List Row → ℕ → List ℕ
@@ -75,14 +76,18 @@ first_kind tree n = cond (is_test (row_at tree n).kind) [] (codes " before_all")
 -- the bodies of a node
 abbrev pub node_events : List Row → List (Option BodyTime) → ResultsView → List Body → ℕ → List ℕ
 node_events tree bodies results critical n =
-    body_event tree results n (first_kind tree n) (is_among critical n BeforeAll) (body_time bodies n BeforeAll)
-    ++ body_event tree results n (codes " after_all") (is_among critical n AfterAll) (body_time bodies n AfterAll)
+    body_event tree results n (first_kind tree n) (is_among critical n BeforeAll)
+    (body_time bodies n BeforeAll)
+    ++ body_event tree results n (codes " after_all") (is_among critical n AfterAll)
+    (body_time bodies n AfterAll)
 
 -- the bodies of `count` nodes, of which the first has number n
-abbrev pub body_events : List Row → List (Option BodyTime) → ResultsView → List Body → (count n : ℕ) → List ℕ
+abbrev pub body_events : List Row → List (Option BodyTime) → ResultsView → List Body
+    → (count n : ℕ) → List ℕ
 body_events tree bodies results critical zero n = []
 body_events tree bodies results critical (suc count) n =
-    node_events tree bodies results critical n ++ body_events tree bodies results critical count (suc n)
+    node_events tree bodies results critical n
+    ++ body_events tree bodies results critical count (suc n)
 
 -- a wait of a node for a key, with a number: its begin, and its end. Told are the node that it
 -- waited for longest, how many single waits there were, and how long they were together.
@@ -118,15 +123,18 @@ wait_events tree id [] = []
 wait_events tree id (w ∷ ws) = wait_event tree id w ++ wait_events tree (suc id) ws
 
 -- a section of a trace
-abbrev pub section_text : List Row → List (Option BodyTime) → ResultsView → List Body → Section → List ℕ
+abbrev pub section_text : List Row → List (Option BodyTime) → ResultsView → List Body
+    → Section → List ℕ
 section_text tree bodies results critical (Plain text) = text.now
 section_text tree bodies results critical (Threads workers) = thread_events workers 0
-section_text tree bodies results critical Bodies = body_events tree bodies results critical (length tree - 1) 1
+section_text tree bodies results critical Bodies =
+    body_events tree bodies results critical (length tree - 1) 1
 section_text tree bodies results critical (Waits waits) = wait_events tree 0 waits.now
 
 -- the trace: the lanes of `workers` workers, the bodies in the order of the nodes, of which
 -- some are critical, and the waits
-abbrev pub trace_text : List Row → List (Option BodyTime) → ResultsView → (workers : ℕ) → List NodeWait → (critical : List Body) → List ℕ
+abbrev pub trace_text : List Row → List (Option BodyTime) → ResultsView → (workers : ℕ)
+    → List NodeWait → (critical : List Body) → List ℕ
 trace_text tree bodies results workers waits critical =
     joined
     (codes "{\"traceEvents\":[\n{\"ph\":\"M\",\"pid\":1,\"name\":\"process_name\",\"args\":{\"name\":\"jtap\"}}"

@@ -22,7 +22,8 @@ pub(crate) fn node_events<W: Sink>(
 ) -> Result<(), SinkFailed>
     requires { node < length run.now.plan.now.rows }
     ensures { Prints printer.old printer.new
-        (node_events (tree_of run.now.plan.now) run.now.times.now run.now.results.now run.now.critical.now node) result }
+        (node_events (tree_of run.now.plan.now) run.now.times.now run.now.results.now
+        run.now.critical.now node) result }
 {
     let first = run.times.body(node, BodyKind::BeforeAll);
     let last = run.times.body(node, BodyKind::AfterAll);
@@ -55,7 +56,8 @@ fn event<'x, W: Sink>(
 ) -> Result<(), SinkFailed>
     requires { node < length run.now.plan.now.rows }
     ensures { Prints printer.old printer.new
-        (body_event (tree_of run.now.plan.now) run.now.results.now node kind.now critical time) result }
+        (body_event (tree_of run.now.plan.now) run.now.results.now node kind.now critical time)
+        result }
 {
     match time {
         Some(time) => timed(
@@ -82,7 +84,8 @@ fn timed<'x, W: Sink>(
     time: BodyTime,
 ) -> Result<(), SinkFailed>
     requires { node < length run.now.plan.now.rows }
-    ensures { Prints printer.old printer.new (timed_event (tree_of run.now.plan.now) word.now node kind.now critical time) result }
+    ensures { Prints printer.old printer.new
+        (timed_event (tree_of run.now.plan.now) word.now node kind.now critical time) result }
 {
     parts(
         printer,

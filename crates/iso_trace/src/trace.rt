@@ -41,7 +41,8 @@ pub fn write_trace<W: Sink>(
     sink: &mut W,
 ) -> Result<(), TapFault>
     ensures { Writes (W.account sink.old) (W.account sink.new)
-        (trace_text (tree_of run.now.plan.now) run.now.times.now run.now.results.now workers waits.now run.now.critical.now) result }
+        (trace_text (tree_of run.now.plan.now) run.now.times.now run.now.results.now workers
+        waits.now run.now.critical.now) result }
 {
     let mut printer = Printer::new(sink);
     match trace(&mut printer, run, workers, waits) {
@@ -70,7 +71,8 @@ fn trace<W: Sink>(
     waits: &[NodeWait],
 ) -> Result<(), SinkFailed>
     ensures { Prints printer.old printer.new
-        (trace_text (tree_of run.now.plan.now) run.now.times.now run.now.results.now workers waits.now run.now.critical.now) result }
+        (trace_text (tree_of run.now.plan.now) run.now.times.now run.now.results.now workers
+        waits.now run.now.critical.now) result }
 {
     sections(
         printer,
@@ -94,7 +96,8 @@ fn sections<W: Sink>(
     sections: &[Section<'_>],
 ) -> Result<(), SinkFailed>
     ensures { Prints printer.old printer.new
-        (joined (map (section_text (tree_of run.now.plan.now) run.now.times.now run.now.results.now run.now.critical.now) sections.now)) result }
+        (joined (map (section_text (tree_of run.now.plan.now) run.now.times.now run.now.results.now
+        run.now.critical.now) sections.now)) result }
 {
     for section in sections {
         write_section(printer, run, section)?;
@@ -109,7 +112,8 @@ fn write_section<W: Sink>(
     section: &Section<'_>,
 ) -> Result<(), SinkFailed>
     ensures { Prints printer.old printer.new
-        (section_text (tree_of run.now.plan.now) run.now.times.now run.now.results.now run.now.critical.now section.now) result }
+        (section_text (tree_of run.now.plan.now) run.now.times.now run.now.results.now
+        run.now.critical.now section.now) result }
 {
     match *section {
         Section::Plain(text) => printer.bytes(text.as_bytes()),
@@ -145,7 +149,8 @@ fn thread<W: Sink>(printer: &mut Printer<'_, W>, worker: u32) -> Result<(), Sink
 /// Writes the bodies of all nodes.
 fn bodies<W: Sink>(printer: &mut Printer<'_, W>, run: &Run<'_, '_>) -> Result<(), SinkFailed>
     ensures { Prints printer.old printer.new
-        (body_events (tree_of run.now.plan.now) run.now.times.now run.now.results.now run.now.critical.now (length run.now.plan.now.rows - 1) 1) result }
+        (body_events (tree_of run.now.plan.now) run.now.times.now run.now.results.now
+        run.now.critical.now (length run.now.plan.now.rows - 1) 1) result }
 {
     'nodes: for node in 1..run.plan.len() {
         node_events(printer, run, node)?;

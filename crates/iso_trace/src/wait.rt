@@ -16,7 +16,8 @@ pub(crate) fn wait_events<W: Sink>(
     run: &Run<'_, '_>,
     waits: &[NodeWait],
 ) -> Result<(), SinkFailed>
-    ensures { Prints printer.old printer.new (wait_events (tree_of run.now.plan.now) 0 waits.now) result }
+    ensures { Prints printer.old printer.new
+        (wait_events (tree_of run.now.plan.now) 0 waits.now) result }
 {
     for (id, wait) in waits.iter().enumerate() {
         wait_event(printer, run, id as u64, *wait)?;
@@ -33,7 +34,8 @@ fn wait_event<W: Sink>(
     id: u64,
     wait: NodeWait,
 ) -> Result<(), SinkFailed>
-    ensures { Prints printer.old printer.new (wait_event (tree_of run.now.plan.now) id wait) result }
+    ensures { Prints printer.old printer.new
+        (wait_event (tree_of run.now.plan.now) id wait) result }
 {
     parts(
         printer,

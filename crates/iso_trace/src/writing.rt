@@ -19,7 +19,8 @@ pub(crate) fn parts<W: Sink>(
     run: &Run<'_, '_>,
     parts: &[Part<'_>],
 ) -> Result<(), SinkFailed>
-    ensures { Prints printer.old printer.new (joined (map (part_text (tree_of run.now.plan.now)) parts.now)) result }
+    ensures { Prints printer.old printer.new
+        (joined (map (part_text (tree_of run.now.plan.now)) parts.now)) result }
 {
     for part in parts {
         write_part(printer, run, part)?;
@@ -33,7 +34,8 @@ fn write_part<W: Sink>(
     run: &Run<'_, '_>,
     part: &Part<'_>,
 ) -> Result<(), SinkFailed>
-    ensures { Prints printer.old printer.new (part_text (tree_of run.now.plan.now) part.now) result }
+    ensures { Prints printer.old printer.new
+        (part_text (tree_of run.now.plan.now) part.now) result }
 {
     match *part {
         Part::Plain(text) => printer.bytes(text.as_bytes()),
@@ -103,7 +105,8 @@ fn locks<W: Sink>(
     run: &Run<'_, '_>,
     locks: &[Lock],
 ) -> Result<(), SinkFailed>
-    ensures { Prints printer.old printer.new (locks_text (tree_of run.now.plan.now) locks.now) result }
+    ensures { Prints printer.old printer.new
+        (locks_text (tree_of run.now.plan.now) locks.now) result }
 {
     for lock in locks {
         write_lock(printer, run, *lock)?;

@@ -110,7 +110,8 @@ of-passing : (P : Wait → Type 0) (p : Wait → Bool) (ws : List Wait) → AllB
 of-passing P p [] all = tt
 of-passing P p (w ∷ ws) all = by (of-passing P p ws) (p w) refl all
   where
-    by : (AllByRecursion P (filter p ws) → AllByRecursion (λ v. p v ≡ true → P v) ws) → (b : Bool) → p w ≡ b → AllByRecursion P (cond b (w ∷ filter p ws) (filter p ws)) → AllByRecursion (λ v. p v ≡ true → P v) (w ∷ ws)
+    by : (AllByRecursion P (filter p ws) → AllByRecursion (λ v. p v ≡ true → P v) ws) → (b : Bool) → p w ≡ b
+        → AllByRecursion P (cond b (w ∷ filter p ws) (filter p ws)) → AllByRecursion (λ v. p v ≡ true → P v) (w ∷ ws)
     by rest true e h = (λ _. h.0, rest h.1)
     by rest false e h = (λ t. absurd (let no : true ≡ false = sym t ∙ e in cc), rest h)
 
@@ -119,7 +120,8 @@ in-lock : (ls ms : List Lock) → is_some (first_shared ls ms) ≡ true → Any 
 in-lock [] ms e = absurd (cc)
 in-lock (l ∷ ls) ms e = by (in-lock ls ms) (shares l ms) e
   where
-    by : (is_some (first_shared ls ms) ≡ true → Any (λ (m : Lock). m.key ≡ unwrap_or (first_shared ls ms) 0) ls) → (b : Bool) → is_some (cond b (Some l.key) (first_shared ls ms)) ≡ true → Any (λ (m : Lock). m.key ≡ unwrap_or (cond b (Some l.key) (first_shared ls ms)) 0) (l ∷ ls)
+    by : (is_some (first_shared ls ms) ≡ true → Any (λ (m : Lock). m.key ≡ unwrap_or (first_shared ls ms) 0) ls) → (b : Bool)
+        → is_some (cond b (Some l.key) (first_shared ls ms)) ≡ true → Any (λ (m : Lock). m.key ≡ unwrap_or (cond b (Some l.key) (first_shared ls ms)) 0) (l ∷ ls)
     by rest true h = (0, l, omega arith, refl, refl)
     by rest false h = let a = rest h in (suc a.0, a.1, omega (arith, a.2), a.3, a.4)
 
@@ -186,7 +188,8 @@ until-turn h None s = (0, 0, tt)
 until-turn h (Some from) None = (0, 0, tt)
 until-turn h (Some from) (Some s) = (from, s.begin, in-turn h from s.begin)
 
-pub within-told : (tree : List Row) (settings : Settings) (bodies : List (Option BodyTime)) (n : ℕ) → All (λ w. Any (λ sum. Covers (key_of tree n w) sum w) (node_waits tree settings bodies n)) (waits tree settings bodies n)
+pub within-told : (tree : List Row) (settings : Settings) (bodies : List (Option BodyTime)) (n : ℕ)
+    → All (λ w. Any (λ sum. Covers (key_of tree n w) sum w) (node_waits tree settings bodies n)) (waits tree settings bodies n)
 within-told tree settings bodies n =
     let turn = until-turn (holder tree bodies n) (ready tree settings bodies n) (stayed bodies n) in
     told-for tree n (waits tree settings bodies n) turn.0 turn.1 turn.2 (waits-for tree settings bodies n)

@@ -37,7 +37,8 @@ module _ (P : ℕ → Type 0) where
   both over None is = All-append For over [] is.all (All-nil For)
   both over (Some w) is = All-append For over (w ∷ []) is.all (All-cons For w [] is.one (All-nil For))
 
-  held-by : (from until m : ℕ) (over : List Wait) (w : Wait) (b : Bool) → (w.holder == m) ≡ b → P m → Fors over (Some w) → Fors (held from until m over (Some w)).over (held from until m over (Some w)).last
+  held-by : (from until m : ℕ) (over : List Wait) (w : Wait) (b : Bool) → (w.holder == m) ≡ b → P m
+      → Fors over (Some w) → Fors (held from until m over (Some w)).over (held from until m over (Some w)).last
   unfolding LastFor
   held-by from until m over w true e p is = rw e (record { all = is.all; one = p })
   held-by from until m over w false e p is = rw e (record { all = both over (Some w) is; one = p })

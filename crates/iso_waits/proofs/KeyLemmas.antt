@@ -53,7 +53,8 @@ pass-beside some others i j d e r h k no_later apart =
     ∙ ap (λ (ls : List Lock). first_shared ls (drop (j + 1) others)) (sym (drop_more some i d h)))
 
 -- where the first locks that are left exclude each other, that is their key
-pub shared-here : (some others : List Lock) (i j : ℕ) (d e : Lock) → i < length some → j < length others → excludes (get_or some i d) (get_or others j e) ≡ true → first_shared (drop i some) (drop j others) ≡ Some (get_or some i d).key
+pub shared-here : (some others : List Lock) (i j : ℕ) (d e : Lock) → i < length some → j < length others
+    → excludes (get_or some i d) (get_or others j e) ≡ true → first_shared (drop i some) (drop j others) ≡ Some (get_or some i d).key
 shared-here some others i j d e h k both =
     let l = get_or some i d in
     let m = get_or others j e in

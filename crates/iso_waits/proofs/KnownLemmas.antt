@@ -37,7 +37,8 @@ conflict-turned tree m n = by (keys tree)
     by (k ∷ ks) = ap₂ (λ (p q : Bool). p || q) (exclude-turned (taken tree m k) (taken tree n k)) (by ks)
 
 -- the key of one node more is known
-pub known-more : (tree : List Row) (firsts : List ℕ) (found : List (Option KnownKey)) (m : ℕ) (known : KnownKey) → m < length tree → known.key ≡ contended_key tree known.of m → AreKnownKeys tree firsts found → AreKnownKeys tree firsts (set found m (Some known))
+pub known-more : (tree : List Row) (firsts : List ℕ) (found : List (Option KnownKey)) (m : ℕ) (known : KnownKey) → m < length tree
+    → known.key ≡ contended_key tree known.of m → AreKnownKeys tree firsts found → AreKnownKeys tree firsts (set found m (Some known))
 known-more tree firsts found m known h is are = record {
   stand = are.stand;
   size = length-set found m (Some known) ∙ are.size;
@@ -55,7 +56,8 @@ pub place-within : (tree : List Row) (firsts : List ℕ) (found : List (Option K
 place-within tree firsts found m are h = let twin = are.stand.each m h in let in_tree = twin.within in let e = are.size in omega arith
 
 -- what is known of a node for one that takes the same keys
-pub known-key : (tree : List Row) (firsts : List ℕ) (found : List (Option KnownKey)) (n m place : ℕ) (d : Option KnownKey) (known : KnownKey) → AreKnownKeys tree firsts found → n < length tree → m < length tree → place ≡ get_or firsts m 0 → get_or found place d ≡ Some known → known.of ≡ get_or firsts n 0 → known.key ≡ contended_key tree n m
+pub known-key : (tree : List Row) (firsts : List ℕ) (found : List (Option KnownKey)) (n m place : ℕ) (d : Option KnownKey) (known : KnownKey) → AreKnownKeys tree firsts found
+    → n < length tree → m < length tree → place ≡ get_or firsts m 0 → get_or found place d ≡ Some known → known.of ≡ get_or firsts n 0 → known.key ≡ contended_key tree n m
 known-key tree firsts found n m place d known are h l p at same =
     let first = get_or firsts n 0 in
     let a = are.stand.each n h in
@@ -65,7 +67,8 @@ known-key tree firsts found n m place d known are h l p at same =
     is ∙ ap (λ (k : ℕ). contended_key tree k place) same ∙ twins-key tree n m first place a b
 
 -- what is found of two nodes is kept for those that stand for them
-pub known-kept : (tree : List Row) (firsts : List ℕ) (found : List (Option KnownKey)) (n m first place : ℕ) (key : Option ℕ) → AreKnownKeys tree firsts found → n < length tree → m < length tree → first ≡ get_or firsts n 0 → place ≡ get_or firsts m 0 → key ≡ contended_key tree n m → AreKnownKeys tree firsts (set found place (Some (record { of = first; key = key })))
+pub known-kept : (tree : List Row) (firsts : List ℕ) (found : List (Option KnownKey)) (n m first place : ℕ) (key : Option ℕ) → AreKnownKeys tree firsts found → n < length tree
+    → m < length tree → first ≡ get_or firsts n 0 → place ≡ get_or firsts m 0 → key ≡ contended_key tree n m → AreKnownKeys tree firsts (set found place (Some (record { of = first; key = key })))
 known-kept tree firsts found n m first place key are h l f p e =
     let a : IsTwin tree n first = subst (IsTwin tree n) (sym f) (are.stand.each n h) in
     let b : IsTwin tree m place = subst (IsTwin tree m) (sym p) (are.stand.each m l) in

@@ -96,7 +96,8 @@ lowest-stands t n (s ∷ ss) all =
     ∙ sym (lowest-joined (is_at t s) s.node n (stands t ss) (All-head (λ (s : Stay). s.node < n) s ss all))
     ∙ sym (lowest-same (stands t (s ∷ ss)) (joined (is_at t s) s.node (stands t ss)) n (stands-more t s ss n))
 
-kept : (p q : Stay → Bool) (s : Stay) (ss : List Stay) (b : Bool) → q s ≡ b → list_any p (filter q ss) ≡ list_any (λ (s : Stay). q s && p s) ss → list_any p (filter q (s ∷ ss)) ≡ (b && p s || list_any (λ (s : Stay). q s && p s) ss)
+kept : (p q : Stay → Bool) (s : Stay) (ss : List Stay) (b : Bool) → q s ≡ b → list_any p (filter q ss) ≡ list_any (λ (s : Stay). q s && p s) ss
+    → list_any p (filter q (s ∷ ss)) ≡ (b && p s || list_any (λ (s : Stay). q s && p s) ss)
 kept p q s ss true e h = rw e (ap (λ (b : Bool). p s || b) h)
 kept p q s ss false e h = rw e h
 
@@ -155,7 +156,8 @@ module _ (t : ℕ) (q : ℕ → Bool) (bodies : List (Option BodyTime)) where
       ]
 
 -- the lowest of a node's rivals is who is in its way
-pub rivals-holder : (tree : List Row) (bodies : List (Option BodyTime)) (stays : List Stay) (n t : ℕ) → IsPermutation (stays_below bodies (length tree)) stays → All (IsAmong tree) stays → lowest_at t (rivals tree stays n) ≡ holder tree bodies n t
+pub rivals-holder : (tree : List Row) (bodies : List (Option BodyTime)) (stays : List Stay) (n t : ℕ)
+    → IsPermutation (stays_below bodies (length tree)) stays → All (IsAmong tree) stays → lowest_at t (rivals tree stays n) ≡ holder tree bodies n t
 rivals-holder tree bodies stays n t all among =
     let q : ℕ → Bool = λ m. conflict tree m n in
     lowest-stands t (length tree) (rivals tree stays n) (All-filter (is_rival tree n) (IsAmong tree) stays among)

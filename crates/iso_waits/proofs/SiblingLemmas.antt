@@ -22,7 +22,8 @@ parent-some tree zero p h e = absurd (omega arith)
 parent-some tree (suc n) p h e = cc
 
 -- a sibling has a higher number than the class
-pub no-sibling : (tree : List Row) (settings : Settings) (bodies : List (Option BodyTime)) (n m : ℕ) → ((k : ℕ) → 0 < k → parent tree k < k) → m ≤ parent tree n → is_sibling tree settings bodies n m ≡ false
+pub no-sibling : (tree : List Row) (settings : Settings) (bodies : List (Option BodyTime)) (n m : ℕ)
+    → ((k : ℕ) → 0 < k → parent tree k < k) → m ≤ parent tree n → is_sibling tree settings bodies n m ≡ false
 no-sibling tree settings bodies n zero below h = refl
 no-sibling tree settings bodies n (suc k) below h =
     let up = below (suc k) (omega arith) in

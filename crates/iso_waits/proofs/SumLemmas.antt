@@ -19,7 +19,8 @@ added-push : (n k : ℕ) (before : Option NodeWait) (ws : List Wait) (w : Wait) 
 added-push n k before [] w = refl
 added-push n k before (x ∷ xs) w = added-push n k (Some (and_then n k before x)) xs w
 
-wait-push : (tree : List Row) (n : ℕ) (ws : List Wait) (w : Wait) (k : ℕ) → wait_for tree n (ws ++ w ∷ []) k ≡ cond (has_key tree n k w) (Some (and_then n k (wait_for tree n ws k) w)) (wait_for tree n ws k)
+wait-push : (tree : List Row) (n : ℕ) (ws : List Wait) (w : Wait) (k : ℕ)
+    → wait_for tree n (ws ++ w ∷ []) k ≡ cond (has_key tree n k w) (Some (and_then n k (wait_for tree n ws k) w)) (wait_for tree n ws k)
 wait-push tree n ws w k = ap (added_up n k None) (filter-append (has_key tree n k) ws (w ∷ [])) ∙ by (has_key tree n k w)
   where
     by : (b : Bool) → added_up n k None (filter (has_key tree n k) ws ++ cond b (w ∷ []) []) ≡ cond b (Some (and_then n k (wait_for tree n ws k) w)) (wait_for tree n ws k)
@@ -55,7 +56,8 @@ later n None h = tt
 later n (Some sum) h = omega (arith, h)
 
 -- the sums for the keys of one lock more
-pub locks-more : (n : ℕ) (sums : List (Option NodeWait)) (ls : List Lock) (i : ℕ) (l : Lock) → i < length ls → sums_of n sums (take (i + 1) ls) ≡ sums_of n sums (take i ls) ++ option_to_list (sum_at n sums (get_or ls i l).key)
+pub locks-more : (n : ℕ) (sums : List (Option NodeWait)) (ls : List Lock) (i : ℕ) (l : Lock) → i < length ls
+    → sums_of n sums (take (i + 1) ls) ≡ sums_of n sums (take i ls) ++ option_to_list (sum_at n sums (get_or ls i l).key)
 locks-more n sums ls i l h =
     ap (sums_of n sums) (take_more ls i l h)
     ∙ filter_map-append (λ (m : Lock). sum_at n sums m.key) (take i ls) (get_or ls i l ∷ [])
@@ -85,7 +87,8 @@ module _ (tree : List Row) (n : ℕ) where
       mine : (k : ℕ) → (and_then n key (sum_at n sums k) w).node ≡ n
       mine k = then-own n key (sum_at n sums k) w (of-own n (get_or sums k None))
 
-      sum-by : (k : ℕ) → k < length (keys tree) → (b : Bool) → (key == k) ≡ b → of_node n (cond b (Some (and_then n key (sum_at n sums k) w)) (get_or sums k None)) ≡ cond (key == k) (Some (and_then n k (wait_for tree n ws k) w)) (wait_for tree n ws k)
+      sum-by : (k : ℕ) → k < length (keys tree) → (b : Bool) → (key == k) ≡ b
+          → of_node n (cond b (Some (and_then n key (sum_at n sums k) w)) (get_or sums k None)) ≡ cond (key == k) (Some (and_then n k (wait_for tree n ws k) w)) (wait_for tree n ws k)
       sum-by k h true e =
           own n (and_then n key (sum_at n sums k) w) (mine k)
           ∙ ap (λ (o : Option NodeWait). Some (and_then n key o w)) (are.all k h)
@@ -105,10 +108,12 @@ module _ (tree : List Row) (n : ℕ) where
     before = λ k h. later n (get_or sums k None) (are.before k h);
   }
 
-  same-by : (ws : List Wait) (sums : List (Option NodeWait)) (ls : List Lock) → AreSums tree n ws sums → AllByRecursion (λ (l : Lock). l.key < length (keys tree)) ls → sums_of n sums ls ≡ filter_map (λ l. wait_for tree n ws l.key) ls
+  same-by : (ws : List Wait) (sums : List (Option NodeWait)) (ls : List Lock) → AreSums tree n ws sums
+      → AllByRecursion (λ (l : Lock). l.key < length (keys tree)) ls → sums_of n sums ls ≡ filter_map (λ l. wait_for tree n ws l.key) ls
   same-by ws sums [] are known = refl
   same-by ws sums (l ∷ ls) are known = ap₂ (λ (o : Option NodeWait) (rest : List NodeWait). cons_option o rest) (are.all l.key known.0) (same-by ws sums ls are known.1)
 
   -- what a table has for some locks
-  pub sums-are : (ws : List Wait) (sums : List (Option NodeWait)) (ls : List Lock) → AreSums tree n ws sums → All (λ (l : Lock). l.key < length (keys tree)) ls → sums_of n sums ls ≡ filter_map (λ l. wait_for tree n ws l.key) ls
+  pub sums-are : (ws : List Wait) (sums : List (Option NodeWait)) (ls : List Lock) → AreSums tree n ws sums
+      → All (λ (l : Lock). l.key < length (keys tree)) ls → sums_of n sums ls ≡ filter_map (λ l. wait_for tree n ws l.key) ls
   sums-are ws sums ls are known = same-by ws sums ls are (recursion_from_All (λ (l : Lock). l.key < length (keys tree)) ls known)

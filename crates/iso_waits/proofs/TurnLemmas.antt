@@ -106,7 +106,8 @@ module _ (holder : ℕ → Option ℕ) (from : ℕ) where
     lasts = λ t a b. ap holder (let e : t ≡ at = omega arith in e) ∙ none;
   }
 
-  begins : (m at : ℕ) (over : List Wait) → from ≤ at → AreInTurn from at over → ((t : ℕ) → from ≤ t → t < at → waited_for t over ≡ holder t) → holder at ≡ Some m → IsTold holder from (at + 1) over (Some (record { holder = m; begin = at; end = at + 1 }))
+  begins : (m at : ℕ) (over : List Wait) → from ≤ at → AreInTurn from at over → ((t : ℕ) → from ≤ t → t < at → waited_for t over ≡ holder t)
+      → holder at ≡ Some m → IsTold holder from (at + 1) over (Some (record { holder = m; begin = at; end = at + 1 }))
   unfolding Lasts
   begins m at over f turn told here = record {
     mid = at;
@@ -123,7 +124,8 @@ module _ (holder : ℕ → Option ℕ) (from : ℕ) where
     };
   }
 
-  stays-on : (m at : ℕ) (over : List Wait) (w : Wait) → from ≤ at → IsTold holder from at over (Some w) → w.holder ≡ m → holder at ≡ Some m → IsTold holder from (at + 1) over (Some (record { holder = m; begin = w.begin; end = at + 1 }))
+  stays-on : (m at : ℕ) (over : List Wait) (w : Wait) → from ≤ at → IsTold holder from at over (Some w) → w.holder ≡ m
+      → holder at ≡ Some m → IsTold holder from (at + 1) over (Some (record { holder = m; begin = w.begin; end = at + 1 }))
   unfolding Lasts
   stays-on m at over w f is same here = record {
     mid = is.mid;
@@ -143,16 +145,19 @@ module _ (holder : ℕ → Option ℕ) (from : ℕ) where
     };
   }
 
-  holds-by : (m at : ℕ) (over : List Wait) (w : Wait) (b : Bool) → (w.holder == m) ≡ b → from ≤ at → IsTold holder from at over (Some w) → holder at ≡ Some m → IsTold holder from (at + 1) (held at (at + 1) m over (Some w)).over (held at (at + 1) m over (Some w)).last
+  holds-by : (m at : ℕ) (over : List Wait) (w : Wait) (b : Bool) → (w.holder == m) ≡ b → from ≤ at → IsTold holder from at over (Some w)
+      → holder at ≡ Some m → IsTold holder from (at + 1) (held at (at + 1) m over (Some w)).over (held at (at + 1) m over (Some w)).last
   holds-by m at over w true e f is here = rw e (stays-on m at over w f is (eq_from w.holder m e) here)
   holds-by m at over w false e f is here = rw e (begins m at (over ++ w ∷ []) f (all-turn at over (Some w) is) (λ t a b. some-told at t over w is a b) here)
 
-  holds : (m at : ℕ) (over : List Wait) (last : Option Wait) → from ≤ at → IsTold holder from at over last → holder at ≡ Some m → IsTold holder from (at + 1) (held at (at + 1) m over last).over (held at (at + 1) m over last).last
+  holds : (m at : ℕ) (over : List Wait) (last : Option Wait) → from ≤ at → IsTold holder from at over last
+      → holder at ≡ Some m → IsTold holder from (at + 1) (held at (at + 1) m over last).over (held at (at + 1) m over last).last
   holds m at over None f is here =
       begins m at over f (subst (AreInTurn from at) (append-nil over) (all-turn at over None is)) (λ t a b. none-told at t over is a b) here
   holds m at over (Some w) f is here = holds-by m at over w (w.holder == m) refl f is here
 
-  goes : (at : ℕ) (h : Option ℕ) (w : Waited) → from ≤ at → holder at ≡ h → IsTold holder from at w.over w.last → IsTold holder from (at + 1) (goes_on at (at + 1) h w).over (goes_on at (at + 1) h w).last
+  goes : (at : ℕ) (h : Option ℕ) (w : Waited) → from ≤ at → holder at ≡ h → IsTold holder from at w.over w.last
+      → IsTold holder from (at + 1) (goes_on at (at + 1) h w).over (goes_on at (at + 1) h w).last
   goes at None w f e is = closes at w.over w.last f is e
   goes at (Some m) w f e is = holds m at w.over w.last f is e
 

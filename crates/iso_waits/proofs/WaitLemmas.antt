@@ -25,12 +25,14 @@ rivals-none tree [] n e = refl
 rivals-none tree (s ∷ ss) n e = rw (conflict-none tree s.node n e) (rivals-none tree ss n e)
 
 -- those of some stays with one more
-pub rivals-more : (tree : List Row) (stays found after : List Stay) (n i : ℕ) (d : Stay) → i < length stays → is_rival tree n (get_or stays i d) ≡ true → found ≡ rivals tree (take i stays) n → after ≡ found ++ get_or stays i d ∷ [] → after ≡ rivals tree (take (i + 1) stays) n
+pub rivals-more : (tree : List Row) (stays found after : List Stay) (n i : ℕ) (d : Stay) → i < length stays → is_rival tree n (get_or stays i d) ≡ true
+    → found ≡ rivals tree (take i stays) n → after ≡ found ++ get_or stays i d ∷ [] → after ≡ rivals tree (take (i + 1) stays) n
 rivals-more tree stays found after n i d h e before more =
     more ∙ ap (λ (ss : List Stay). ss ++ get_or stays i d ∷ []) before
     ∙ sym (filter_more (is_rival tree n) stays i d h ∙ ap (λ (b : Bool). rivals tree (take i stays) n ++ cond b (get_or stays i d ∷ []) []) e)
 
-pub rivals-skip : (tree : List Row) (stays found : List Stay) (n i : ℕ) (d : Stay) → i < length stays → is_rival tree n (get_or stays i d) ≡ false → found ≡ rivals tree (take i stays) n → found ≡ rivals tree (take (i + 1) stays) n
+pub rivals-skip : (tree : List Row) (stays found : List Stay) (n i : ℕ) (d : Stay) → i < length stays
+    → is_rival tree n (get_or stays i d) ≡ false → found ≡ rivals tree (take i stays) n → found ≡ rivals tree (take (i + 1) stays) n
 rivals-skip tree stays found n i d h e before =
     before
     ∙ sym (filter_more (is_rival tree n) stays i d h ∙ ap (λ (b : Bool). rivals tree (take i stays) n ++ cond b (get_or stays i d ∷ []) []) e ∙ append-nil (rivals tree (take i stays) n))
@@ -45,7 +47,8 @@ rivals-alike tree (s ∷ ss) m n e =
     ap₂ (λ (b : Bool) (rest : List Stay). cond b (s ∷ rest) rest) (rival-alike tree s.node m n e) (rivals-alike tree ss m n e)
 
 -- what is known of a node that takes the same keys in the same way
-pub known-same : (tree : List Row) (stays : List Stay) (of : Option ℕ) (found : List Stay) (first n : ℕ) → AreKnown tree stays of found → is_that of first ≡ true → IsTwin tree n first → found ≡ rivals tree stays n
+pub known-same : (tree : List Row) (stays : List Stay) (of : Option ℕ) (found : List Stay) (first n : ℕ)
+    → AreKnown tree stays of found → is_that of first ≡ true → IsTwin tree n first → found ≡ rivals tree stays n
 known-same tree stays None found first n known same twin = absurd (cc)
 known-same tree stays (Some m) found first n known same twin =
     known ∙ ap (rivals tree stays) (eq_from m first same) ∙ rivals-alike tree stays first n twin.same
@@ -54,7 +57,8 @@ pub rivals-order : (tree : List Row) (stays found : List Stay) (n : ℕ) → IsN
 rivals-order tree stays found n order is = subst (IsNonDecreasingBy begin_of) (sym is) (IsNonDecreasingBy-filter begin_of (is_rival tree n) stays order)
 
 -- the waits until a stay are those for the rivals
-pub waits-by : (tree : List Row) (settings : Settings) (bodies : List (Option BodyTime)) (stays found : List Stay) (n from : ℕ) (s : Stay) → AreStays tree bodies stays → found ≡ rivals tree stays n → Some from ≡ ready tree settings bodies n → Some s ≡ stayed bodies n → waits_within (λ t. lowest_at t found) from s.begin ≡ waits tree settings bodies n
+pub waits-by : (tree : List Row) (settings : Settings) (bodies : List (Option BodyTime)) (stays found : List Stay) (n from : ℕ) (s : Stay) → AreStays tree bodies stays
+    → found ≡ rivals tree stays n → Some from ≡ ready tree settings bodies n → Some s ≡ stayed bodies n → waits_within (λ t. lowest_at t found) from s.begin ≡ waits tree settings bodies n
 waits-by tree settings bodies stays found n from s all is r st =
     ap (λ (f : List Stay). waits_within (λ t. lowest_at t f) from s.begin) is
     ∙ waits-same (λ t. lowest_at t (rivals tree stays n)) (holder tree bodies n) (λ t. rivals-holder tree bodies stays n t all.all all.among) from s.begin

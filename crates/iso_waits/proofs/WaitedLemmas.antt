@@ -11,7 +11,8 @@ eq_same n = grind arith
 on : (over : List Wait) (m b t next : ℕ) → held t next m over (Some (record { holder = m; begin = b; end = t })) ≡ waiting over m b next
 on over m b t next = rw (eq_same m) refl
 
-by_test : (t t' next m : ℕ) (over : List Wait) (w : Wait) (b : Bool) → (w.holder == m) ≡ b → held t' next m (held t t' m over (Some w)).over (held t t' m over (Some w)).last ≡ held t next m over (Some w)
+by_test : (t t' next m : ℕ) (over : List Wait) (w : Wait) (b : Bool) → (w.holder == m) ≡ b
+    → held t' next m (held t t' m over (Some w)).over (held t t' m over (Some w)).last ≡ held t next m over (Some w)
 by_test t t' next m over w true e = rw e (on over m w.begin t' next)
 by_test t t' next m over w false e = rw e (on (over ++ w ∷ []) m t t' next)
 
@@ -38,7 +39,8 @@ module _ (holder : ℕ → Option ℕ) (from n : ℕ) (h : Option ℕ) where
       cc
 
 -- what was waited for until a moment, where up to it from another one node was in the way, or none was
-pub waited-next : (holder : ℕ → Option ℕ) (from at next : ℕ) (h : Option ℕ) (before after : Waited) → from ≤ at → at < next → ((s : ℕ) → at ≤ s → s < next → holder s ≡ h) → before ≡ waited holder from (at - from) → after ≡ goes_on at next h before → after ≡ waited holder from (next - from)
+pub waited-next : (holder : ℕ → Option ℕ) (from at next : ℕ) (h : Option ℕ) (before after : Waited) → from ≤ at → at < next
+    → ((s : ℕ) → at ≤ s → s < next → holder s ≡ h) → before ≡ waited holder from (at - from) → after ≡ goes_on at next h before → after ≡ waited holder from (next - from)
 waited-next holder from at next h before after begun later same is step =
     let n = at - from in
     let m = next - from - 1 in

@@ -34,7 +34,17 @@ plus a b = min (a + b) 18446744073709551615
 -- the wait of node n for key k that a single wait makes by itself
 abbrev pub alone : ℕ → ℕ → Wait → NodeWait
 alone n k w =
-    record { node = n; key = k; begin = w.begin; end = w.end; time = took w; count = 1; holder = w.holder; longest = took w; last = w.holder }
+    record {
+      node = n;
+      key = k;
+      begin = w.begin;
+      end = w.end;
+      time = took w;
+      count = 1;
+      holder = w.holder;
+      longest = took w;
+      last = w.holder;
+    }
 
 -- the same with a single wait more, which is a later one
 abbrev pub with_later : NodeWait → Wait → NodeWait
@@ -78,7 +88,8 @@ node_waits tree settings bodies n = key_waits tree n (waits tree settings bodies
 -- the waits of the first nodes after the root, this number of them
 abbrev pub waits_of_first : List Row → Settings → List (Option BodyTime) → ℕ → List NodeWait
 waits_of_first tree settings bodies zero = []
-waits_of_first tree settings bodies (suc n) = waits_of_first tree settings bodies n ++ node_waits tree settings bodies (suc n)
+waits_of_first tree settings bodies (suc n) =
+    waits_of_first tree settings bodies n ++ node_waits tree settings bodies (suc n)
 
 -- the waits of all nodes, in the order of the nodes
 abbrev pub all_waits : List Row → Settings → List (Option BodyTime) → List NodeWait

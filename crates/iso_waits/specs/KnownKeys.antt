@@ -21,7 +21,8 @@ IsKnown tree m None = ⊤
 IsKnown tree m (Some known) = known.key ≡ contended_key tree known.of m
 
 -- nodes that stand for those of a tree, and what is known of each node
-pub record AreKnownKeys (tree : List Row) (firsts : List ℕ) (found : List (Option KnownKey)) : Type 0 where
+pub record AreKnownKeys (tree : List Row) (firsts : List ℕ)
+    (found : List (Option KnownKey)) : Type 0 where
   pub stand : AreFirsts tree firsts
   pub size : length found ≡ length tree
   pub known : (m : ℕ) → m < length tree → IsKnown tree m (slice_index_or found m None)

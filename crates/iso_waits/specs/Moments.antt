@@ -52,12 +52,14 @@ abbrev pub closed : Waited → Waited
 closed w = record { over = all_of w; last = None }
 
 abbrev pub waiting : List Wait → ℕ → ℕ → ℕ → Waited
-waiting over m from until = record { over = over; last = Some (record { holder = m; begin = from; end = until }) }
+waiting over m from until =
+    record { over = over; last = Some (record { holder = m; begin = from; end = until }) }
 
 -- node m is in the way from a moment until another: the wait for it goes on, or else begins
 abbrev pub held : ℕ → ℕ → ℕ → List Wait → Option Wait → Waited
 held from until m over None = waiting over m from until
-held from until m over (Some w) = cond (w.holder == m) (waiting over m w.begin until) (waiting (over ++ w ∷ []) m from until)
+held from until m over (Some w) =
+    cond (w.holder == m) (waiting over m w.begin until) (waiting (over ++ w ∷ []) m from until)
 
 -- what was waited for, where from a moment until another this node is in the way, or none is
 abbrev pub goes_on : ℕ → ℕ → Option ℕ → Waited → Waited
@@ -68,7 +70,8 @@ goes_on from until (Some m) w = held from until m w.over w.last
 -- in the way at each
 abbrev pub waited : (ℕ → Option ℕ) → ℕ → ℕ → Waited
 waited holder from zero = nothing_told
-waited holder from (suc n) = goes_on (from + n) (from + n + 1) (holder (from + n)) (waited holder from n)
+waited holder from (suc n) =
+    goes_on (from + n) (from + n + 1) (holder (from + n)) (waited holder from n)
 
 -- the waits from a moment until another: one for each node and each time that it is in the way
 -- without a break

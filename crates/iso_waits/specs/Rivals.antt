@@ -33,7 +33,8 @@ AreKnown tree stays None found = ⊤
 AreKnown tree stays (Some m) found = found ≡ rivals tree stays m
 
 -- these are all stays of a run, in the order of their begins
-pub record AreStays (tree : List Row) (bodies : List (Option BodyTime)) (stays : List Stay) : Type 0 where
+pub record AreStays (tree : List Row) (bodies : List (Option BodyTime))
+    (stays : List Stay) : Type 0 where
   pub all : IsPermutation (stays_below bodies (length tree)) stays
   pub among : All (IsAmong tree) stays
   pub order : IsNonDecreasingBy begin_of stays

@@ -19,7 +19,8 @@ body_time bodies n kind = option_map (since (first_begin bodies)) (time_in bodie
 -- known
 abbrev pub stay_of : ℕ → Option BodyTime → Option BodyTime → Option Stay
 stay_of n None last = None
-stay_of n (Some first) last = Some (record { node = n; begin = first.begin; end = (unwrap_or last first).end })
+stay_of n (Some first) last =
+    Some (record { node = n; begin = first.begin; end = (unwrap_or last first).end })
 
 -- when a node was entered and hadn't finished. A test's body has the place of a `before_all`.
 abbrev pub stayed : List (Option BodyTime) → ℕ → Option Stay

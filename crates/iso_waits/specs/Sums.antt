@@ -24,7 +24,9 @@ sums_of n sums ls = filter_map (λ l. sum_at n sums l.key) ls
 
 -- a table has for each key what some single waits of node n add up to, and nothing of nodes after
 -- it
-pub record AreSums (tree : List Row) (n : ℕ) (ws : List Wait) (sums : List (Option NodeWait)) : Type 0 where
+pub record AreSums (tree : List Row) (n : ℕ) (ws : List Wait)
+    (sums : List (Option NodeWait)) : Type 0 where
   pub size : length sums ≡ length (keys tree)
   pub all : (k : ℕ) → k < length (keys tree) → sum_at n sums k ≡ wait_for tree n ws k
-  pub before : (k : ℕ) → k < length (keys tree) → IfSome (slice_index_or sums k None) (λ sum. sum.node ≤ n)
+  pub before : (k : ℕ) → k < length (keys tree)
+      → IfSome (slice_index_or sums k None) (λ sum. sum.node ≤ n)

@@ -31,7 +31,8 @@ was_entered (Some s) = true
 -- whether node m is a SAME_THREAD sibling of node n that was entered
 abbrev pub is_sibling : List Row → Settings → List (Option BodyTime) → ℕ → ℕ → Bool
 is_sibling tree settings bodies n m =
-    not (is_root m) && (parent tree m == parent tree n) && is_same_thread (mode tree settings m) && was_entered (stayed bodies m)
+    not (is_root m) && (parent tree m == parent tree n) && is_same_thread (mode tree settings m)
+    && was_entered (stayed bodies m)
 
 -- the highest number below n that passes a test
 abbrev pub highest : (ℕ → Bool) → ℕ → Option ℕ
@@ -41,7 +42,8 @@ highest test (suc n) = cond (test n) (Some n) (highest test n)
 -- the last SAME_THREAD sibling before a node, where the node is SAME_THREAD too: the one that it
 -- has to let finish
 abbrev pub earlier : List Row → Settings → List (Option BodyTime) → ℕ → Option ℕ
-earlier tree settings bodies n = cond (is_same_thread (mode tree settings n)) (highest (is_sibling tree settings bodies n) n) None
+earlier tree settings bodies n = cond (is_same_thread (mode tree settings n))
+    (highest (is_sibling tree settings bodies n) n) None
 
 -- when a stay was over; from the start on where there is none
 abbrev pub over : Option Stay → ℕ
@@ -55,7 +57,8 @@ finished bodies (Some m) = over (stayed bodies m)
 
 -- when a node was ready: its class was open, and the sibling that it has to let finish had finished
 abbrev pub ready : List Row → Settings → List (Option BodyTime) → ℕ → Option ℕ
-ready tree settings bodies n = option_map (λ t. max t (finished bodies (earlier tree settings bodies n))) (opened bodies (parent tree n))
+ready tree settings bodies n = option_map
+    (λ t. max t (finished bodies (earlier tree settings bodies n))) (opened bodies (parent tree n))
 
 -- the waits from a moment until a stay begins
 abbrev pub waits_until : (ℕ → Option ℕ) → Option ℕ → Option Stay → List Wait
@@ -66,4 +69,5 @@ waits_until holder (Some from) (Some s) = waits_within holder from s.begin
 -- the waits of a node for others. What is left of the time until it was entered, it waited for a
 -- worker.
 abbrev pub waits : List Row → Settings → List (Option BodyTime) → ℕ → List Wait
-waits tree settings bodies n = waits_until (holder tree bodies n) (ready tree settings bodies n) (stayed bodies n)
+waits tree settings bodies n =
+    waits_until (holder tree bodies n) (ready tree settings bodies n) (stayed bodies n)

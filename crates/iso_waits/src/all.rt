@@ -16,7 +16,8 @@ use std::alloc::{AllocError, Global};
 /// single waits of a node are kept until they are added up; so this takes memory in proportion to
 /// the nodes and their locks.
 pub fn all_waits(alloc: Global, plan: &Plan, times: &Times) -> Result<Vec<NodeWait>, AllocError>
-    ensures { IfOk result (λ v. v.items ≡ all_waits (tree_of plan.now) plan.now.settings times.now) }
+    ensures { IfOk result (λ v. v.items ≡ all_waits
+        (tree_of plan.now) plan.now.settings times.now) }
 {
     nodes_are_a_tree(plan);
     let mut waits = Waits::new(alloc, plan, times)?;

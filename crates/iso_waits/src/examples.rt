@@ -34,8 +34,10 @@ pub fn one_test_waits_for_another()
 /// that waited for no key has none.
 pub fn single_waits_are_told_as_one()
     ensures one { key_waits writing_children 2 (wait 3 3 6 ∷ []) ≡ wait_for_b ∷ [] }
-    ensures two { key_waits writing_children 2 (wait 3 3 6 ∷ wait 3 8 9 ∷ []) ≡ for_b_and_then_for_b ∷ [] }
-    ensures three { added_up 2 1 None (wait 3 3 6 ∷ wait 5 7 12 ∷ wait 4 12 17 ∷ []) ≡ Some three_waits }
+    ensures two { key_waits writing_children 2 (wait 3 3 6 ∷ wait 3 8 9 ∷ [])
+        ≡ for_b_and_then_for_b ∷ [] }
+    ensures three { added_up 2 1 None (wait 3 3 6 ∷ wait 5 7 12 ∷ wait 4 12 17 ∷ [])
+        ≡ Some three_waits }
     ensures none { key_waits writing_children 2 [] ≡ [] }
     ensures all { all_waits writing_children concurrent_by_default b_before_a ≡ wait_for_b ∷ [] }
 {}

@@ -48,7 +48,8 @@ impl KnownKeys {
     pub(crate) fn key(&self, plan: &Plan, node: u32, other: u32) -> Option<u32>
         requires node { node < length plan.now.rows }
         requires other { other < length plan.now.rows }
-        requires known { AreKnownKeys (tree_of plan.now) self.now.firsts.items self.now.found.items }
+        requires known { AreKnownKeys (tree_of plan.now) self.now.firsts.items
+            self.now.found.items }
         ensures { result ≡ contended_key (tree_of plan.now) node other }
     {
         let of = self.first(node);
@@ -63,7 +64,8 @@ impl KnownKeys {
     pub(crate) fn conflict(&mut self, plan: &Plan, node: u32, other: u32) -> bool
         requires node { node < length plan.now.rows }
         requires other { other < length plan.now.rows }
-        requires known { AreKnownKeys (tree_of plan.now) self.old.firsts.items self.old.found.items }
+        requires known { AreKnownKeys (tree_of plan.now) self.old.firsts.items
+            self.old.found.items }
         ensures conflict { result ≡ conflict (tree_of plan.now) other node }
         ensures known { AreKnownKeys (tree_of plan.now) self.new.firsts.items self.new.found.items }
     {

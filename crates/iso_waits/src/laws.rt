@@ -17,12 +17,14 @@ ghost use Rattle.iso_waits.specs.declared.wait.Wait.{Wait};
 /// The waits between two moments lie between them and follow one another: none begins before the
 /// one before it is over.
 pub fn waits_follow_one_another()
-    ensures { (holder : ℕ → Option ℕ) (from until : ℕ) → AreInTurn from until (waits_within holder from until) }
+    ensures { (holder : ℕ → Option ℕ) (from until : ℕ)
+        → AreInTurn from until (waits_within holder from until) }
 {}
 
 /// At each moment between, who is waited for is who is in the way then, and nobody else.
 pub fn each_moment_is_told()
-    ensures { (holder : ℕ → Option ℕ) (from until t : ℕ) → from ≤ t → t < until → waited_for t (waits_within holder from until) ≡ holder t }
+    ensures { (holder : ℕ → Option ℕ) (from until t : ℕ) → from ≤ t → t < until
+        → waited_for t (waits_within holder from until) ≡ holder t }
 {}
 
 /// A node waits for nodes that conflict with it.
@@ -40,18 +42,21 @@ pub fn nodes_conflict_on_a_key()
 /// longer than the longest that is told.
 pub fn single_waits_lie_within()
     ensures { (tree : List Row) (settings : Settings) (bodies : List (Option BodyTime)) (n : ℕ)
-        → All (λ w. Any (λ sum. Covers (key_of tree n w) sum w) (node_waits tree settings bodies n)) (waits tree settings bodies n) }
+        → All (λ w. Any (λ sum. Covers (key_of tree n w) sum w) (node_waits tree settings bodies n))
+        (waits tree settings bodies n) }
 {}
 
 /// What is told of a node's waits for a key is how long its single waits for this key took
 /// together, and how many there were.
 pub fn single_waits_add_up()
-    ensures { (tree : List Row) (n k : ℕ) (ws : List Wait) → IfSome (wait_for tree n ws k) (AddUpTo (filter (has_key tree n k) ws)) }
+    ensures { (tree : List Row) (n k : ℕ) (ws : List Wait)
+        → IfSome (wait_for tree n ws k) (AddUpTo (filter (has_key tree n k) ws)) }
 {}
 
 /// A wait for a key is told just where there is a single one.
 pub fn waits_are_told_where_there_are_any()
-    ensures { (tree : List Row) (n k : ℕ) (ws : List Wait) → is_some (wait_for tree n ws k) ≡ list_any (has_key tree n k) ws }
+    ensures { (tree : List Row) (n k : ℕ) (ws : List Wait) → is_some (wait_for tree n ws k)
+        ≡ list_any (has_key tree n k) ws }
 {}
 
 /// A node has at most as many waits as it takes keys.

@@ -61,7 +61,8 @@ pub(crate) fn earlier(plan: &Plan, times: &Times, node: u32) -> Option<u32>
 fn last_sibling(plan: &Plan, times: &Times, node: u32) -> Option<u32>
     requires above { 0 < node }
     requires within { node < length plan.now.rows }
-    ensures { result ≡ highest (is_sibling (tree_of plan.now) plan.now.settings times.now node) node }
+    ensures { result ≡ highest
+        (is_sibling (tree_of plan.now) plan.now.settings times.now node) node }
 {
     parents_come_first(plan);
     let first = plan.parent(node)? + 1;

@@ -43,7 +43,8 @@ impl Rivals {
         requires stays { All (IsAmong (tree_of plan.now)) stays.now }
         requires known { AreKnown (tree_of plan.now) stays.now self.old.of self.old.stays.items }
         requires keys { AreKnownKeys (tree_of plan.now) keys.old.firsts.items keys.old.found.items }
-        ensures found { OnOk result (self.new.stays.items ≡ rivals (tree_of plan.now) stays.now node) }
+        ensures found { OnOk result (self.new.stays.items
+            ≡ rivals (tree_of plan.now) stays.now node) }
         ensures known { AreKnown (tree_of plan.now) stays.now self.new.of self.new.stays.items }
         ensures keys { AreKnownKeys (tree_of plan.now) keys.new.firsts.items keys.new.found.items }
     {

@@ -40,7 +40,8 @@ fn key_of(told: &Waits<'_>, node: u32, wait: Wait) -> u32
 fn note(sums: &mut Vec<Option<NodeWait>>, node: u32, key: u32, wait: Wait)
     ensures size { length sums.new.items ≡ length sums.old.items }
     ensures noted { (k : ℕ) → k < length sums.old.items → slice_index_or sums.new.items k None
-        ≡ cond (key == k) (Some (and_then node key (sum_at node sums.old.items k) wait)) (slice_index_or sums.old.items k None) }
+        ≡ cond (key == k) (Some (and_then node key (sum_at node sums.old.items k) wait))
+        (slice_index_or sums.old.items k None) }
 {
     let place = key as usize;
     if place < sums.len() {

@@ -40,7 +40,8 @@ passing-end p n end h =
     let e : end - n ≡ 0 = omega arith in
     rw e refl
 
-both_by : (u g : ℕ → Bool) (n : ℕ) (ns : List ℕ) (a b : Bool) → g n ≡ b → filter g (filter u ns) ≡ filter (λ m. u m && g m) ns → filter g (cond a (n ∷ filter u ns) (filter u ns)) ≡ cond (a && b) (n ∷ filter (λ m. u m && g m) ns) (filter (λ m. u m && g m) ns)
+both_by : (u g : ℕ → Bool) (n : ℕ) (ns : List ℕ) (a b : Bool) → g n ≡ b → filter g (filter u ns) ≡ filter (λ m. u m && g m) ns
+    → filter g (cond a (n ∷ filter u ns) (filter u ns)) ≡ cond (a && b) (n ∷ filter (λ m. u m && g m) ns) (filter (λ m. u m && g m) ns)
 both_by u g n ns true true e ih = ap (λ t. cond t (n ∷ filter g (filter u ns)) (filter g (filter u ns))) e ∙ ap (λ xs. n ∷ xs) ih
 both_by u g n ns true false e ih = ap (λ t. cond t (n ∷ filter g (filter u ns)) (filter g (filter u ns))) e ∙ ih
 both_by u g n ns false b e ih = ih
@@ -89,7 +90,8 @@ past_by tree n m last h past true e = let less = past e in absurd (omega arith)
 past_by tree n m last h past false e = refl
 
 -- the nodes that gave a lock stand from the node on, and below its end
-pub givers-are : (tree : List Row) → IsBelow tree → (n : ℕ) (l : Lock) (last : ℕ) → n ≤ length tree → last ≤ length tree → ((m : ℕ) → m < length tree → is_under tree n m ≡ true → m < last) → givers tree n l ≡ passing (is_giver tree n l) n last
+pub givers-are : (tree : List Row) → IsBelow tree → (n : ℕ) (l : Lock) (last : ℕ) → n ≤ length tree → last ≤ length tree
+    → ((m : ℕ) → m < length tree → is_under tree n m ≡ true → m < last) → givers tree n l ≡ passing (is_giver tree n l) n last
 givers-are tree b n l last inside within past =
     let p = is_giver tree n l in
     let end = length tree in

@@ -62,7 +62,8 @@ past_by : (tree : List Row) (n j : ℕ) (old new : List ℕ) (m : ℕ) → (j < 
 past_by tree n j old new m below grows here h =
     elim (cases_lt j n) [ inl less ↦ (let k = below less in omega arith) | inr more ↦ (let same : j ≡ n = omega arith in let k = here same in omega arith) ]
 
-pub reach-more : (tree : List Row) (n : ℕ) (old new : List ℕ) → Reaches tree n old → length new ≡ length tree → ((m : ℕ) → get_or new m 0 ≤ n + 1) → ((m : ℕ) → get_or old m 0 ≤ get_or new m 0) → ((m : ℕ) → is_under tree m n ≡ true → n < get_or new m 0) → Reaches tree (n + 1) new
+pub reach-more : (tree : List Row) (n : ℕ) (old new : List ℕ) → Reaches tree n old → length new ≡ length tree → ((m : ℕ) → get_or new m 0 ≤ n + 1)
+    → ((m : ℕ) → get_or old m 0 ≤ get_or new m 0) → ((m : ℕ) → is_under tree m n ≡ true → n < get_or new m 0) → Reaches tree (n + 1) new
 reach-more tree n old new h l before grows reached =
     record {
       each = l;

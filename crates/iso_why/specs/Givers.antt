@@ -19,7 +19,8 @@ is_as Write (Some Write) = true
 -- whether a node gives a lock to the node that gathers for it: its marks declare the key in that
 -- access. The global key, number 0, is given by what asks for isolation.
 abbrev pub gives : List Row → Lock → ℕ → Bool
-gives tree l m = cond (l.key == 0) (isolates tree m) (is_as l.access (declared tree m (slice_index_or (keys tree) l.key [])))
+gives tree l m = cond (l.key == 0) (isolates tree m)
+    (is_as l.access (declared tree m (slice_index_or (keys tree) l.key [])))
 
 -- the nodes that gave a node a lock, as they are written: it and its descendants
 abbrev pub givers : List Row → ℕ → Lock → List ℕ

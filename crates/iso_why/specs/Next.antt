@@ -9,4 +9,5 @@ passing test from end = filter test (range_with_len from (end - from))
 -- none passes, or the first that does is this one
 abbrev pub IsNext : (ℕ → Bool) → (from end : ℕ) → Option ℕ → Type 0
 IsNext test from end None = passing test from end ≡ []
-IsNext test from end (Some n) = (from ≤ n) × (n < end) × (passing test from end ≡ n ∷ passing test (n + 1) end)
+IsNext test from end (Some n) =
+    (from ≤ n) × (n < end) × (passing test from end ≡ n ∷ passing test (n + 1) end)

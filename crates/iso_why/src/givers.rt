@@ -18,7 +18,8 @@ pub(crate) fn next_giver(plan: &Plan, node: u32, lock: Lock, from: u32, end: u32
     requires above { 0 < node }
     requires key { lock.key < length (keys (tree_of plan.now)) }
     requires end { end ≤ length plan.now.rows }
-    ensures { IsNext (λ m. is_under (tree_of plan.now) node m && gives (tree_of plan.now) lock m) from end result }
+    ensures { IsNext (λ m. is_under (tree_of plan.now) node m && gives (tree_of plan.now) lock m)
+        from end result }
 {
     'nodes: for giver in from..end {
         if is_giver(plan, node, lock, giver) {
@@ -33,7 +34,8 @@ fn is_giver(plan: &Plan, node: u32, lock: Lock, giver: u32) -> bool
     requires above { 0 < node }
     requires within { giver < length plan.now.rows }
     requires key { lock.key < length (keys (tree_of plan.now)) }
-    ensures { result ≡ (is_under (tree_of plan.now) node giver && gives (tree_of plan.now) lock giver) }
+    ensures { result ≡ (is_under (tree_of plan.now) node giver
+        && gives (tree_of plan.now) lock giver) }
 {
     stands_in(plan, giver, node) && gives(plan, lock, giver)
 }

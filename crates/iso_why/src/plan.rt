@@ -35,7 +35,8 @@ pub fn write_plan_why<W: Sink>(
 ) -> Result<(), TapFault>
     requires { IsReach (tree_of plan.now) reach.now }
     ensures { Writes (W.account sink.old) (W.account sink.new)
-        (plan_why (tree_of plan.now) plan.now.settings workers sites.now (texts_of names.now)) result }
+        (plan_why (tree_of plan.now) plan.now.settings workers sites.now
+        (texts_of names.now)) result }
 {
     let mut printer = Printer::new(sink);
     match plan_why(&mut printer, plan, reach, workers, sites, names) {
@@ -80,7 +81,8 @@ fn plan_why<W: Sink>(
 ) -> Result<(), SinkFailed>
     requires { IsReach (tree_of plan.now) reach.now }
     ensures { Prints printer.old printer.new
-        (plan_why (tree_of plan.now) plan.now.settings workers sites.now (texts_of names.now)) result }
+        (plan_why (tree_of plan.now) plan.now.settings workers sites.now
+        (texts_of names.now)) result }
 {
     printer.pieces(&[
         Piece::Plain(b"workers "),

@@ -29,8 +29,10 @@ fn reach_to(ends: &mut Vec<u32>, plan: &Plan, last: u32)
     requires before { (m : ℕ) → slice_index_or ends.old.items m 0 ≤ last }
     ensures each { length ends.new.items ≡ length plan.now.rows }
     ensures before { (m : ℕ) → slice_index_or ends.new.items m 0 ≤ last + 1 }
-    ensures grows { (m : ℕ) → slice_index_or ends.old.items m 0 ≤ slice_index_or ends.new.items m 0 }
-    ensures reached { (m : ℕ) → is_under (tree_of plan.now) m last ≡ true → last < slice_index_or ends.new.items m 0 }
+    ensures grows { (m : ℕ) → slice_index_or ends.old.items m 0
+        ≤ slice_index_or ends.new.items m 0 }
+    ensures reached { (m : ℕ) → is_under (tree_of plan.now) m last ≡ true
+        → last < slice_index_or ends.new.items m 0 }
 {
     laws::parents_come_first(plan);
     laws::paths_lead_up(plan);

@@ -68,9 +68,12 @@ impl<'a> BlockRun<'a> {
         requires { HasKeys (run_rights self.old) (T.content touch.now) (T.writes touch.now) }
         ensures done { OnOk result (state_of self.new (T.content touch.now) ≡ upon row
             (difference
-            (value (run_rights self.old) (state_of self.old (T.content touch.now)) (term_of expected.now))
-            (value (run_rights self.old) (state_of self.old (T.content touch.now)) (term_of actual.now)))
-            (state_of self.old (T.content touch.now)) (said row (state_of self.old (T.content touch.now)))) }
+            (value (run_rights self.old) (state_of self.old (T.content touch.now))
+            (term_of expected.now))
+            (value (run_rights self.old) (state_of self.old (T.content touch.now))
+            (term_of actual.now)))
+            (state_of self.old (T.content touch.now))
+            (said row (state_of self.old (T.content touch.now)))) }
         ensures work { SameWork self.old self.new }
     {
         match self.difference(touch, expected, actual)? {
@@ -92,8 +95,10 @@ impl<'a> BlockRun<'a> {
     ) -> Result<Result<Option<Text>, Fault>, AllocError>
         requires { HasKeys (run_rights self.now) (T.content touch.now) (T.writes touch.now) }
         ensures { IfOk result (λ g. g ≡ difference
-            (value (run_rights self.now) (state_of self.now (T.content touch.now)) (term_of expected.now))
-            (value (run_rights self.now) (state_of self.now (T.content touch.now)) (term_of actual.now))) }
+            (value (run_rights self.now) (state_of self.now (T.content touch.now))
+            (term_of expected.now))
+            (value (run_rights self.now) (state_of self.now (T.content touch.now))
+            (term_of actual.now))) }
     {
         let expected = match self.value(touch, expected)? {
             Ok(value) => value,
@@ -135,7 +140,8 @@ impl<'a> BlockRun<'a> {
 
     /// `fail MESSAGE;`
     pub(super) fn fail_with(&mut self, row: u32, message: &Text) -> Result<(), AllocError>
-        ensures done { OnOk result (local_of self.new ≡ failed row message.now (local_of self.old)) }
+        ensures done { OnOk result (local_of self.new
+            ≡ failed row message.now (local_of self.old)) }
         ensures work { SameWork self.old self.new }
     {
         let message = message.copy(self.alloc)?;
@@ -150,7 +156,8 @@ fn difference_of(
     expected: &Value<'_>,
     actual: &Value<'_>,
 ) -> Result<Result<Option<Text>, Fault>, AllocError>
-    ensures { IfOk result (λ g. g ≡ difference (Ok (data_of expected.now)) (Ok (data_of actual.now))) }
+    ensures { IfOk result (λ g. g ≡ difference (Ok (data_of expected.now))
+        (Ok (data_of actual.now))) }
 {
     match is_equal(expected, actual) {
         Ok(true) => Ok(Ok(None)),
@@ -165,7 +172,8 @@ fn difference_message(
     expected: &Value<'_>,
     actual: &Value<'_>,
 ) -> Result<Text, AllocError>
-    ensures { IfOk result (λ t. t ≡ difference_message (data_of expected.now) (data_of actual.now)) }
+    ensures { IfOk result (λ t. t ≡ difference_message (data_of expected.now)
+        (data_of actual.now)) }
 {
     let expected = expected.shown(alloc)?;
     let actual = actual.shown(alloc)?;

@@ -39,7 +39,8 @@ impl<'a> BlockRun<'a> {
 
     /// Adds a local, unless its name is visible already.
     fn declare(&mut self, row: u32, name: &Text, value: Data) -> Result<(), AllocError>
-        ensures done { OnOk result ((m : Resources) → state_of self.new m ≡ declares row name.now value (state_of self.old m)) }
+        ensures done { OnOk result ((m : Resources) → state_of self.new m
+            ≡ declares row name.now value (state_of self.old m)) }
         ensures work { SameWork self.old self.new }
     {
         let name = name.copy(self.alloc)?;
@@ -71,7 +72,9 @@ impl<'a> BlockRun<'a> {
 
     /// Sets a name that is visible and isn't frozen.
     fn set(&mut self, row: u32, name: &Text, value: Data) -> Result<(), AllocError>
-        ensures done { OnOk result ((m : Resources) → state_of self.new m ≡ upon row (assigned self.old.names.names name.now value) (state_of self.old m) (λ names. locally (with_names names) (state_of self.old m))) }
+        ensures done { OnOk result ((m : Resources) → state_of self.new m
+            ≡ upon row (assigned self.old.names.names name.now value) (state_of self.old m)
+            (λ names. locally (with_names names) (state_of self.old m))) }
         ensures work { SameWork self.old self.new }
     {
         match self.names.assign(name.as_str(), value)? {
@@ -110,7 +113,8 @@ impl<'a> BlockRun<'a> {
 
     /// Prints a line, where it fits into the output.
     fn write(&mut self, row: u32, line: &str) -> Result<(), AllocError>
-        ensures done { OnOk result ((m : Resources) → state_of self.new m ≡ prints row line.now (state_of self.old m)) }
+        ensures done { OnOk result ((m : Resources) → state_of self.new m
+            ≡ prints row line.now (state_of self.old m)) }
         ensures work { SameWork self.old self.new }
     {
         if !self.names.count_line(line.len()) {

@@ -8,14 +8,17 @@ use Rattle.iso_model.specs.declared.place.BlockName.{BlockName}
 
 -- a test of a chain
 abbrev pub test_after : ℕ → TestHead → List ClassHead → Going
-test_after n t cs = let o = opening cs empty_world in body_steps (test_rights t cs) n (going (test_stage t cs o.frames) o.resources)
+test_after n t cs = let o = opening cs empty_world in
+    body_steps (test_rights t cs) n (going (test_stage t cs o.frames) o.resources)
 
 -- `before_all`, and `after_all`, of a top-level class
 abbrev pub before_all_after : ℕ → ClassHead → Going
-before_all_after n c = body_steps (class_rights (c ∷ [])) n (going (opening_stage c [] []) empty_world)
+before_all_after n c =
+    body_steps (class_rights (c ∷ [])) n (going (opening_stage c [] []) empty_world)
 
 abbrev pub after_all_after : ℕ → ClassHead → Going
-after_all_after n c = let o = opening (c ∷ []) empty_world in body_steps (class_rights (c ∷ [])) n (going (closing_stage c [] o.frames) o.resources)
+after_all_after n c = let o = opening (c ∷ []) empty_world in
+    body_steps (class_rights (c ∷ [])) n (going (closing_stage c [] o.frames) o.resources)
 
 -- what it has so far: with its block under way, as if that ended here
 abbrev pub so_far : Stage → Account

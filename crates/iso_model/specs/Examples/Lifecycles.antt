@@ -8,10 +8,16 @@ use Rattle.iso_model.specs.Examples.Words.{body, a_test, quoted, flag, print, fa
 -- "ib"; } after_each { print "ia"; } test t { print "t"; } } } The outer class's `before_each` runs
 -- first and its `after_each` last.
 abbrev pub outer : ClassHead
-outer = record empty_head { before_each = body (print (quoted "ob") ∷ []); after_each = body (print (quoted "oa") ∷ []) }
+outer = record empty_head {
+  before_each = body (print (quoted "ob") ∷ []);
+  after_each = body (print (quoted "oa") ∷ []);
+}
 
 abbrev pub inner : ClassHead
-inner = record empty_head { before_each = body (print (quoted "ib") ∷ []); after_each = body (print (quoted "ia") ∷ []) }
+inner = record empty_head {
+  before_each = body (print (quoted "ib") ∷ []);
+  after_each = body (print (quoted "ia") ∷ []);
+}
 
 abbrev pub prints_t : TestHead
 prints_t = a_test (print (quoted "t") ∷ [])
@@ -38,7 +44,10 @@ opens_inside = record empty_head { before_all = body (print (quoted "in") ∷ []
 -- print "ib"; } after_each { print "ia"; } test t { print "t"; } } } After a `before_each` that
 -- didn't end well neither a further one nor the test is run; each `after_each` is.
 abbrev pub assumes_before_each : ClassHead
-assumes_before_each = record empty_head { before_each = body (assume (flag false) "no" ∷ []); after_each = body (print (quoted "a") ∷ []) }
+assumes_before_each = record empty_head {
+  before_each = body (assume (flag false) "no" ∷ []);
+  after_each = body (print (quoted "a") ∷ []);
+}
 
 -- class C { before_each { fail "no"; } class In { before_each { print "ib"; } after_each { print
 -- "ia"; } test t { print "t"; } } }

@@ -6,7 +6,10 @@ use Rattle.iso_model.specs.Examples.Words.{body, a_test, variable, number, name,
 -- class C { field n = 1; before_each { n = n + 1; } test t { print n; } test u { print n; } }
 -- Each test begins with the fields at their literals; t and u are alike.
 abbrev pub counts_up : ClassHead
-counts_up = record empty_head { fields = variable "n" 1 ∷ []; before_each = body (assign "n" (add (name "n") (number 1 ∷ [])) ∷ []) }
+counts_up = record empty_head {
+  fields = variable "n" 1 ∷ [];
+  before_each = body (assign "n" (add (name "n") (number 1 ∷ [])) ∷ []);
+}
 
 abbrev pub prints_n : TestHead
 prints_n = a_test (print (name "n") ∷ [])
@@ -14,7 +17,11 @@ prints_n = a_test (print (name "n") ∷ [])
 -- class C { static n = 1; before_all { n = 5; } after_all { print n; } test t { print n; } }
 -- Tests and `after_all` see a static as `before_all` left it.
 abbrev pub sets_static : ClassHead
-sets_static = record empty_head { statics = variable "n" 1 ∷ []; before_all = body (assign "n" (number 5) ∷ []); after_all = body (print (name "n") ∷ []) }
+sets_static = record empty_head {
+  statics = variable "n" 1 ∷ [];
+  before_all = body (assign "n" (number 5) ∷ []);
+  after_all = body (print (name "n") ∷ []);
+}
 
 -- class C { static n = 1; test t { n = 2; } test u { let n = 2; } }
 -- A test assigns no static, and declares no local in its place.

@@ -9,7 +9,8 @@ use Rattle.iso_locks.specs.Slots.{Slots, slot}
 use Rattle.iso_locks.specs.Trays.{key_at}
 use Rattle.iso_locks.proofs.vault.values.Goals as goal
 
-more : (start : ℕ → Resource) (vs next : Slots) (n : ℕ) (x : History) → length vs ≡ n → next ≡ vs ++ Some x ∷ [] → x.now ≡ start n → ((i : ℕ) (h : History) → slot vs i ≡ Some h → h.now ≡ start i) → (i : ℕ) (h : History) → slot next i ≡ Some h → h.now ≡ start i
+more : (start : ℕ → Resource) (vs next : Slots) (n : ℕ) (x : History) → length vs ≡ n → next ≡ vs ++ Some x ∷ [] → x.now ≡ start n
+    → ((i : ℕ) (h : History) → slot vs i ≡ Some h → h.now ≡ start i) → (i : ℕ) (h : History) → slot next i ≡ Some h → h.now ≡ start i
 more start vs next n x len e is old i h at =
     let here : slot (vs ++ Some x ∷ []) i ≡ Some h = ap (λ (ss : Slots). slot ss i) (sym e) ∙ at in
     elim (cases_order i n) [

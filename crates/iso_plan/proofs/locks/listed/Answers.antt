@@ -9,7 +9,8 @@ use Rattle.iso_plan.proofs.locks.listed.Goals as goal
 use Rattle.iso_plan.proofs.locks.listed.Goals.{in-Some+in_ok-push, in_default}
 
 -- the next access of a table is listed, if it is there
-listed-next : (accesses : List (Option Access)) (ls new all : List Lock) (i : ℕ) (a : Option Access) → i < length accesses → a ≡ get_or accesses i None → new ≡ ls ++ lock_of i a → ls ++ locks_from i (drop i accesses) ≡ all → new ++ locks_from (i + 1) (drop (i + 1) accesses) ≡ all
+listed-next : (accesses : List (Option Access)) (ls new all : List Lock) (i : ℕ) (a : Option Access) → i < length accesses → a ≡ get_or accesses i None
+    → new ≡ ls ++ lock_of i a → ls ++ locks_from i (drop i accesses) ≡ all → new ++ locks_from (i + 1) (drop (i + 1) accesses) ≡ all
 listed-next accesses ls new all i a h e pushed inv =
     let rest = drop (i + 1) accesses in
     let next : drop i accesses ≡ a ∷ rest = drop_more accesses i None h ∙ ap (λ (x : Option Access). x ∷ rest) (sym e) in

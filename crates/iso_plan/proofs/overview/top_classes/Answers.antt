@@ -16,7 +16,8 @@ nodes-init c =
     ∙ sym (ap (λ (n : ℕ). n ∷ []) (top_class-root (map row_of c.args.rows.now)))
 
 -- a class that is read of a column has a smaller number
-in_column : (rows : List Row) (classes : Vec ℕ Global) (n : ℕ) (d : Row) → IsRooted (map row_of rows) → 0 < n → n < length rows → classes.items ≡ column (top_class (map row_of rows)) n → (get_or rows n d).parent < vec_len classes
+in_column : (rows : List Row) (classes : Vec ℕ Global) (n : ℕ) (d : Row) → IsRooted (map row_of rows) → 0 < n
+    → n < length rows → classes.items ≡ column (top_class (map row_of rows)) n → (get_or rows n d).parent < vec_len classes
 in_column rows classes n d tree pos h e =
     let at = parent-at rows n d h in
     let below : parent (map row_of rows) n < n = tree.below n pos in

@@ -19,7 +19,8 @@ keeps kept n = get_or kept n false
 abbrev first_left : List Row → List Bool → ℕ → List T.Row
 first_left rows kept n = map (λ (m : ℕ). renumbered (keeps kept) (row_at (map row_of rows) m)) (those_below (keeps kept) n)
 
-left_more : (rows left : List Row) (kept : List Bool) (n : ℕ) (r : Row) → keeps kept n ≡ true → map row_of left ≡ first_left rows kept n → row_of r ≡ renumbered (keeps kept) (row_at (map row_of rows) n)
+left_more : (rows left : List Row) (kept : List Bool) (n : ℕ) (r : Row) → keeps kept n ≡ true
+    → map row_of left ≡ first_left rows kept n → row_of r ≡ renumbered (keeps kept) (row_at (map row_of rows) n)
     → map row_of (left ++ r ∷ []) ≡ first_left rows kept (n + 1)
 left_more rows left kept n r is before this =
     let g : ℕ → T.Row = λ (m : ℕ). renumbered (keeps kept) (row_at (map row_of rows) m) in
@@ -37,7 +38,8 @@ place_of_next rows left kept i n before e =
     sym (length-map left.items row_of) ∙ ap length before ∙ length-map (those_below (keeps kept) i) (λ (m : ℕ). renumbered (keeps kept) (row_at (map row_of rows) m)) in
     omega (arith, left.ok.0)
 
-numbers_more : (kept : List Bool) (numbers : List ℕ) (i n : ℕ) (more : List ℕ) → length numbers ≡ i → numbers ≡ column (number_among (keeps kept)) (length numbers) → n ≡ number_among (keeps kept) i → more ≡ numbers ++ n ∷ []
+numbers_more : (kept : List Bool) (numbers : List ℕ) (i n : ℕ) (more : List ℕ) → length numbers ≡ i
+    → numbers ≡ column (number_among (keeps kept)) (length numbers) → n ≡ number_among (keeps kept) i → more ≡ numbers ++ n ∷ []
     → more ≡ column (number_among (keeps kept)) (length more)
 numbers_more kept numbers i n more long before is e =
     e ∙ column-push (number_among (keeps kept)) numbers i n (before ∙ ap (column (number_among (keeps kept))) long) is

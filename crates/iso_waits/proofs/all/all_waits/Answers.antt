@@ -32,7 +32,8 @@ add_up-requires-clause-sums c =
     subst (λ (p : Planned). AreSums (tree_of p) c.nodes.node [] c.nodes.sums.items) (sym plan_told) c.nodes.invariant.sums
 
 -- the waits of one node more
-next : (tree : List Row) (settings : Settings) (bodies : List (Option BodyTime)) (n : ℕ) → 0 < n → waits_of_first tree settings bodies (n - 1) ++ node_waits tree settings bodies n ≡ waits_of_first tree settings bodies (n + 1 - 1)
+next : (tree : List Row) (settings : Settings) (bodies : List (Option BodyTime)) (n : ℕ) → 0 < n
+    → waits_of_first tree settings bodies (n - 1) ++ node_waits tree settings bodies n ≡ waits_of_first tree settings bodies (n + 1 - 1)
 next tree settings bodies n h =
     let up : n ≡ suc (n - 1) = omega arith in
     let more : suc (n - 1) ≡ n + 1 - 1 = omega arith in

@@ -14,7 +14,8 @@ use Rattle.iso_locks.proofs.NumberLemmas.{spelled}
 use Rattle.iso_locks.proofs.TouchLemmas.{keys-of}
 use Rattle.iso_locks.proofs.tray.Tray.mark.Goals as goal
 
-kept-is : (tree : List Row) (world : Start) (starts found : List Starting) (rights : List (List ℕ × Access)) (values : Slots) (n : ℕ) → starts ≡ map (start_at world) (keys tree) → found ≡ starts → access_in rights ≡ node_rights tree n
+kept-is : (tree : List Row) (world : Start) (starts found : List Starting) (rights : List (List ℕ × Access)) (values : Slots) (n : ℕ)
+    → starts ≡ map (start_at world) (keys tree) → found ≡ starts → access_in rights ≡ node_rights tree n
     → column (kept_at rights (map spelled found) values) (length values) ≡ kept tree n values
 kept-is tree world starts found rights values n e same rights_are =
     ap₂ (λ (r : Rights) (ks : List (List ℕ)). column (λ i. cond (is_writable (r (slice_index_or ks i []))) (slot values i) None) (length values)) rights_are (keys-of tree world found (same ∙ e))

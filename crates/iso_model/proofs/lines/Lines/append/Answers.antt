@@ -12,7 +12,8 @@ invariant_of-self c =
     both _ c.self.inside.bytes.items c.more.inside.bytes.items c.extend_from_slice.new.self.items
     (rw c.deref.ensures.value at c.extend_from_slice.ensures.items) c.self.invariant c.more.invariant
 
-joined : {E : Type 0} (r : Result (Unit {0}) E) (xs ys zs : List ℕ) (ls ms : List (List ℕ)) → zs ≡ cond (is_ok r) (xs ++ ys) xs → IsEnded xs → ls ≡ lines_of xs → ms ≡ lines_of ys → OnOk r (lines_of zs ≡ ls ++ ms)
+joined : {E : Type 0} (r : Result (Unit {0}) E) (xs ys zs : List ℕ) (ls ms : List (List ℕ))
+    → zs ≡ cond (is_ok r) (xs ++ ys) xs → IsEnded xs → ls ≡ lines_of xs → ms ≡ lines_of ys → OnOk r (lines_of zs ≡ ls ++ ms)
 joined (Ok _) xs ys zs ls ms e h l m = rw (e, l, m) (lines_of-append xs ys h)
 joined (Err _) xs ys zs ls ms e h l m = tt
 
