@@ -7,8 +7,8 @@
  * GROWTHS_OF_CALLS     where it is set, a growth has a number only between two lines that the program writes to standard error, `calling`
  *                      and `called`, each in one piece; they don't get there. All others have the number 0, and none of them is refused.
  * GROWTHS_TOLD_IN      a file. When the program ends it holds `growths N`; `calls N`, how often `calling` was written; for each growth that
- *                      was refused `refused NUMBER CALL BYTES OWNER`, and for each that started a thread `started NUMBER ..`; for each
- *                      block that was not given back `kept NUMBER ..`, of each at most 100; and `kept BLOCKS in all`.
+ *                      was refused `refused NUMBER CALL BYTES OWNER`, and for each that started a thread `started NUMBER ..`; and for each
+ *                      block that was not given back `kept NUMBER ..`; and `kept BLOCKS in all`. At most 100 refused and started, 10,000 kept.
  * OWNER is `program` where the program itself made the call, and `library` where a library that it uses did, as the C library for
  * a thread that it starts. */
 #define _GNU_SOURCE
@@ -45,6 +45,7 @@ struct growth {
 static struct growth kept[PLACES];
 static unsigned long kept_count;
 #define SHOWN 100
+#define KEPT_SHOWN 10000
 static struct growth refused[SHOWN], started[SHOWN];
 static unsigned long refused_count, started_count;
 static int is_full;
@@ -257,7 +258,7 @@ __attribute__((destructor)) static void end(void) {
     for (unsigned long at = 0; at < refused_count; at++) tell(file, "refused", &refused[at]);
     for (unsigned long at = 0; at < started_count; at++) tell(file, "started", &started[at]);
     unsigned long shown = 0;
-    for (unsigned long place = 0; place < PLACES && shown < SHOWN; place++) {
+    for (unsigned long place = 0; place < PLACES && shown < KEPT_SHOWN; place++) {
         if (!kept[place].block) continue;
         tell(file, "kept", &kept[place]);
         shown++;

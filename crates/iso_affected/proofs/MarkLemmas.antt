@@ -4,7 +4,7 @@ use Rattle.std.specs.Cmp.Lexicographic.{bytes_decides}
 use Rattle.iso_affected.specs.Reasons.{IsFirstApart}
 use Rattle.iso_lifecycle.specs.Subjects.{started}
 use Rattle.iso_model.proofs.RightsLemmas.{rights_of-append}
-use Rattle.iso_model.specs.Agreement.{EqualAt}
+use Rattle.iso_model.specs.ChainAgreement.{EqualAt}
 use Rattle.iso_model.specs.Rights.{declared_by, is_readable, rights_of, strongest}
 use Rattle.iso_model.specs.declared.access.Access.{Access}
 use Rattle.iso_model.specs.declared.access.Access.TheVariants.{Read}

@@ -1,7 +1,7 @@
 -- The properties with which worlds start.
 use Rattle.std.proofs.Common.{◌≡◌, ℕ, List, Option, ap, subst}
 use Rattle.iso_affected.specs.PropertyStarts.{IsFirstName, asked, property_of}
-use Rattle.iso_model.specs.Keys.{properties_key}
+use Rattle.iso_model.specs.ResourceKeys.{properties_key}
 use Rattle.iso_model.specs.declared.resource.Resource.{Resource}
 use Rattle.iso_model.specs.declared.resource.Resource.TheVariants.{Props}
 use Rattle.iso_settings.specs.Worlds.{Start, starting_value_in}

@@ -3,7 +3,7 @@ use Rattle.std.proofs.Common.{◌≡◌, ℕ, ◌<◌, List, [], ◌∷◌, leng
 use Rattle.iso_isolation.proofs.Rights.{unaffected}
 use Rattle.iso_isolation.specs.Isolation.{AgreeOn, Gives}
 use Rattle.iso_isolation.specs.Suites.{Suite, chain}
-use Rattle.iso_model.specs.Agreement.{EqualAt}
+use Rattle.iso_model.specs.ChainAgreement.{EqualAt}
 use Rattle.iso_model.specs.Chains.{ClassHead, TestHead}
 use Rattle.iso_model.specs.Resources.{Resources}
 use Rattle.iso_model.specs.Rights.{is_readable}

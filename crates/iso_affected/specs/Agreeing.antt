@@ -2,7 +2,7 @@
 use Rattle.std.specs.Prelude.{◌≡◌, ℕ, Option}
 use Rattle.iso_isolation.specs.Isolation.{Gives}
 use Rattle.iso_lifecycle.specs.Subjects.{Subject, classes_of, rights_of_subject, started}
-use Rattle.iso_model.specs.Agreement.{EqualAt}
+use Rattle.iso_model.specs.ChainAgreement.{EqualAt}
 use Rattle.iso_model.specs.Chains.{TestHead}
 use Rattle.iso_model.specs.Rights.{rights_of}
 use Rattle.iso_model.specs.declared.outcome.Outcome.{Outcome}

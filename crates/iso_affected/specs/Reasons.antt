@@ -9,7 +9,7 @@ use Rattle.iso_affected.specs.declared.difference.Blocks.{Blocks}
 use Rattle.iso_affected.specs.declared.difference.Declared.{Declared}
 use Rattle.iso_affected.specs.declared.difference.Difference.{Difference}
 use Rattle.iso_lifecycle.specs.Subjects.{started}
-use Rattle.iso_model.specs.Agreement.{EqualAt}
+use Rattle.iso_model.specs.ChainAgreement.{EqualAt}
 use Rattle.iso_model.specs.Rights.{rights_of}
 use Rattle.iso_model.specs.declared.heads.Mark.{Mark}
 use Rattle.iso_model.specs.declared.place.Lifecycle.TheVariants.{BeforeAll, AfterAll, BeforeEach, AfterEach}
@@ -22,7 +22,8 @@ use Rattle.iso_suites.specs.ScriptLanguage.{Head, is_of_test, marks_on}
 -- the mark at a place names a key that starts with another value, and no mark before it does
 pub record StartsApart (before after : Start) (marks : List Mark) (place : ℕ) : Type 0 where
   pub within : place < length marks
-  pub apart : (d : Mark) → starting_value_in before (slice_index_or marks place d).key ≡ starting_value_in after (slice_index_or marks place d).key → ⊥
+  pub apart : (d : Mark) → starting_value_in before (slice_index_or marks place d).key
+      ≡ starting_value_in after (slice_index_or marks place d).key → ⊥
   pub first : EqualAt (rights_of (take place marks)) (started before) (started after)
 
 -- the first of some marks whose key starts with another value, by its place
@@ -40,10 +41,14 @@ pub record AreDeclaredApart (h g : Head) (d : Declared) : Type 0 where
 
 -- where the blocks of two heads differ first
 pub record AreBlocksApart (h g : Head) (b : Blocks) : Type 0 where
-  pub before_all : AreRowsApart (statements (lifecycle_on BeforeAll h)) (statements (lifecycle_on BeforeAll g)) b.before_all
-  pub after_all : AreRowsApart (statements (lifecycle_on AfterAll h)) (statements (lifecycle_on AfterAll g)) b.after_all
-  pub before_each : AreRowsApart (statements (lifecycle_on BeforeEach h)) (statements (lifecycle_on BeforeEach g)) b.before_each
-  pub after_each : AreRowsApart (statements (lifecycle_on AfterEach h)) (statements (lifecycle_on AfterEach g)) b.after_each
+  pub before_all : AreRowsApart (statements (lifecycle_on BeforeAll h))
+      (statements (lifecycle_on BeforeAll g)) b.before_all
+  pub after_all : AreRowsApart (statements (lifecycle_on AfterAll h))
+      (statements (lifecycle_on AfterAll g)) b.after_all
+  pub before_each : AreRowsApart (statements (lifecycle_on BeforeEach h))
+      (statements (lifecycle_on BeforeEach g)) b.before_each
+  pub after_each : AreRowsApart (statements (lifecycle_on AfterEach h))
+      (statements (lifecycle_on AfterEach g)) b.after_each
   pub test : AreRowsApart (statements (body_on h)) (statements (body_on g)) b.test
 
 -- what differs of two heads: whether one is a test and the other a class, what they declare, their
@@ -59,7 +64,8 @@ abbrev pub declares_alike : Declared → Bool
 declares_alike d = not d.marks && not d.disabled && is_none d.statics && is_none d.fields
 
 abbrev pub blocks_alike : Blocks → Bool
-blocks_alike b = is_none b.before_all && is_none b.after_all && is_none b.before_each && is_none b.after_each && is_none b.test
+blocks_alike b = is_none b.before_all && is_none b.after_all && is_none b.before_each
+    && is_none b.after_each && is_none b.test
 
 abbrev pub is_nothing : Difference → Bool
 is_nothing d = not d.kind && declares_alike d.declared && blocks_alike d.blocks && is_none d.start
@@ -67,7 +73,8 @@ is_nothing d = not d.kind && declares_alike d.declared && blocks_alike d.blocks 
 -- a node of the new suite agrees with its namesake, if it has one, on what the node has itself
 abbrev pub AgreesItself : Suites → ℕ → Type 0
 AgreesItself s n = (m : ℕ) → namesake (tree_of s.old) (tree_of s.new) n ≡ Some m
-    → OwnAgree s.before s.after (head_of (row_at (tree_of s.old) m).kind) (head_of (row_at (tree_of s.new) n).kind)
+    → OwnAgree s.before s.after (head_of (row_at (tree_of s.old) m).kind)
+    (head_of (row_at (tree_of s.new) n).kind)
 
 -- so does each node on its path: the node and its enclosing classes
 abbrev pub AllAgree : Suites → ℕ → Type 0

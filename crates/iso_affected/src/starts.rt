@@ -2,7 +2,7 @@
 ghost use Rattle.std.specs.Prelude.{◌≡◌, ◌↔◌, IfOk, IsTrue};
 ghost use Rattle.iso_affected.specs.Reasons.{IsFirstApart};
 ghost use Rattle.iso_lifecycle.specs.Subjects.{started};
-ghost use Rattle.iso_model.specs.Agreement.{EqualAt};
+ghost use Rattle.iso_model.specs.ChainAgreement.{EqualAt};
 ghost use Rattle.iso_model.specs.Rights.{rights_of};
 ghost use Rattle.iso_settings.specs.Worlds.{starting_value_in};
 
@@ -51,7 +51,8 @@ impl<'a> Starts<'a> {
     /// Whether a key starts with equal values in both.
     fn alike(&mut self, alloc: Global, key: &Key) -> Result<bool, AllocError>
         ensures alike { IfOk result (λ alike. IsTrue alike
-            ↔ (starting_value_in self.old.before key.now ≡ starting_value_in self.old.after key.now)) }
+            ↔ (starting_value_in self.old.before key.now
+            ≡ starting_value_in self.old.after key.now)) }
         ensures same { self.new ≡ self.old }
     {
         if let Some(alike) = self.kept.get_of(key) {

@@ -25,7 +25,8 @@ pub fn differences(
     requires count { length fates.now ≡ length new.now.rows }
     requires fates { AreFates (suites old.now before.now new.now after.now) fates.now }
     ensures count { IfOk result (λ told. length told.items ≡ length new.now.rows) }
-    ensures told { IfOk result (λ told. AreDifferences (suites old.now before.now new.now after.now) fates.now told.items) }
+    ensures told { IfOk result (λ told. AreDifferences
+        (suites old.now before.now new.now after.now) fates.now told.items) }
 {
     nodes_are_a_tree(new);
     let mut starts = Starts::new(alloc, before, after);
@@ -50,7 +51,8 @@ fn difference_of(
     requires above { 0 < node }
     requires within { node < length new.now.rows }
     requires fate { IsFate (suites old.now starts.old.before new.now starts.old.after) node fate }
-    ensures told { IfOk result (IsDifferenceOf (suites old.now starts.old.before new.now starts.old.after) node fate) }
+    ensures told { IfOk result
+        (IsDifferenceOf (suites old.now starts.old.before new.now starts.old.after) node fate) }
     ensures same { starts.new ≡ starts.old }
 {
     nodes_are_a_tree(old);
@@ -64,7 +66,7 @@ fn difference_of(
     }
 }
 
-/// Whether something is told to differ of what a node has itself.
+/// For a runner of one's own: whether something is told to differ of what a node has itself.
 pub fn tells(told: &[Option<Difference>], node: u32) -> bool
     requires { node < length told.now }
     ensures { result ≡ tells told.now node }

@@ -13,7 +13,7 @@ use Rattle.iso_affected_text.specs.declared.row.Block.{Block}
 use Rattle.iso_affected_text.specs.declared.row.Block.TheVariants as B
 use Rattle.iso_affected_text.specs.declared.row.Part.{Part}
 use Rattle.iso_affected_text.specs.declared.row.Part.TheVariants.{NowTest, NowClass, Marks, Disabled, Static, Field}
-use Rattle.iso_model.specs.Keys.{properties_key}
+use Rattle.iso_model.specs.ResourceKeys.{properties_key}
 use Rattle.iso_model.specs.declared.heads.Mark.{Mark}
 use Rattle.iso_model.specs.declared.heads.Variable.{Variable}
 use Rattle.iso_model.specs.declared.place.Lifecycle.TheVariants.{BeforeAll, AfterAll, BeforeEach, AfterEach}
@@ -44,27 +44,37 @@ abbrev pub name_at : (was now : List Variable) → ℕ → List ℕ
 name_at was now place = unwrap_or (option_or (named_at now place) (named_at was place)) []
 
 -- the row of the first variable that differs, where one does
-abbrev pub variable_rows : (place : Option ℕ) → Part → (was now : List Variable) → (of_class : Option (List ℕ)) → List RowView
+abbrev pub variable_rows : (place : Option ℕ) → Part → (was now : List Variable)
+    → (of_class : Option (List ℕ)) → List RowView
 variable_rows None part was now of_it = []
-variable_rows (Some place) part was now of_it = part_row part (Some (name_at was now place)) of_it ∷ []
+variable_rows (Some place) part was now of_it =
+    part_row part (Some (name_at was now place)) of_it ∷ []
 
 -- the rows of what differs of what two heads declare
-abbrev pub declared_rows : (was now : Head) → Difference → (of_class : Option (List ℕ)) → List RowView
+abbrev pub declared_rows : (was now : Head) → Difference → (of_class : Option (List ℕ))
+    → List RowView
 declared_rows was now d of_it =
-    part_rows d.kind (kind_part now) of_it ++ part_rows d.declared.marks Marks of_it ++ part_rows d.declared.disabled Disabled of_it
-    ++ variable_rows d.declared.statics Static (statics_on was) (statics_on now) of_it ++ variable_rows d.declared.fields Field (fields_on was) (fields_on now) of_it
+    part_rows d.kind (kind_part now) of_it ++ part_rows d.declared.marks Marks of_it
+    ++ part_rows d.declared.disabled Disabled of_it
+    ++ variable_rows d.declared.statics Static (statics_on was) (statics_on now) of_it
+    ++ variable_rows d.declared.fields Field (fields_on was) (fields_on now) of_it
 
 -- the row of a block of node n, whose namesake is node m, where it differs
-abbrev pub block_rows : ChangeView → (n m : ℕ) → Block → Option RowsApart → (of_class : Option (List ℕ)) → List RowView
+abbrev pub block_rows : ChangeView → (n m : ℕ) → Block → Option RowsApart
+    → (of_class : Option (List ℕ)) → List RowView
 block_rows c n m block None of_it = []
 block_rows c n m block (Some rows) of_it =
-    block_row block of_it (option_and_then (spot_in c.names c.new n block) rows.now) (option_and_then (spot_in c.names c.old m block) rows.before) ∷ []
+    block_row block of_it (option_and_then (spot_in c.names c.new n block) rows.now)
+    (option_and_then (spot_in c.names c.old m block) rows.before) ∷ []
 
 -- the rows of its blocks, in the order in which they run
-abbrev pub blocks_rows : ChangeView → (n m : ℕ) → Blocks → (of_class : Option (List ℕ)) → List RowView
+abbrev pub blocks_rows : ChangeView → (n m : ℕ) → Blocks → (of_class : Option (List ℕ))
+    → List RowView
 blocks_rows c n m b of_it =
-    block_rows c n m (B.Class BeforeAll) b.before_all of_it ++ block_rows c n m (B.Class BeforeEach) b.before_each of_it ++ block_rows c n m B.Test b.test of_it
-    ++ block_rows c n m (B.Class AfterEach) b.after_each of_it ++ block_rows c n m (B.Class AfterAll) b.after_all of_it
+    block_rows c n m (B.Class BeforeAll) b.before_all of_it ++ block_rows c n m
+    (B.Class BeforeEach) b.before_each of_it ++ block_rows c n m B.Test b.test of_it
+    ++ block_rows c n m (B.Class AfterEach) b.after_each of_it
+    ++ block_rows c n m (B.Class AfterAll) b.after_all of_it
 
 -- the key of the mark at a place, and the property that is told where it is that of the properties
 abbrev pub key_at : List Mark → ℕ → List ℕ
@@ -74,9 +84,11 @@ abbrev pub property_of : (key : List ℕ) → Option (List ℕ) → Option (List
 property_of key property = cond (bytes_eq key properties_key) property None
 
 -- the row of the first mark whose key starts with another value, where one does
-abbrev pub start_rows : (property : Option (List ℕ)) → List Mark → (place : Option ℕ) → (of_class : Option (List ℕ)) → List RowView
+abbrev pub start_rows : (property : Option (List ℕ)) → List Mark → (place : Option ℕ)
+    → (of_class : Option (List ℕ)) → List RowView
 start_rows property marks None of_it = []
-start_rows property marks (Some place) of_it = start_row (key_at marks place) of_it (property_of (key_at marks place) property) ∷ []
+start_rows property marks (Some place) of_it =
+    start_row (key_at marks place) of_it (property_of (key_at marks place) property) ∷ []
 
 -- the rows of what differs of node n and its namesake, node m
 abbrev pub difference_rows : ChangeView → (n m : ℕ) → Difference → List RowView
@@ -84,4 +96,5 @@ difference_rows c n m d =
     let was = head_of (row_at c.old.tree m).kind in
     let now = head_of (row_at c.new.tree n).kind in
     let of_it = of_class c.new.tree n in
-    declared_rows was now d of_it ++ blocks_rows c n m d.blocks of_it ++ start_rows c.property (marks_on now) d.start of_it
+    declared_rows was now d of_it ++ blocks_rows c n m d.blocks of_it
+    ++ start_rows c.property (marks_on now) d.start of_it

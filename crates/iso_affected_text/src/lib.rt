@@ -5,9 +5,10 @@ pub mod change;
 pub mod examples;
 pub mod laws;
 mod parts;
-pub mod paths;
 pub mod row;
 pub mod rows;
 mod spots;
 pub mod text;
 mod word;
+
+pub use iso_places::paths;

@@ -1,6 +1,6 @@
 //! How many processors are counted with.
 ghost use Rattle.std.specs.Prelude.{IfSome};
-ghost use Rattle.iso_arguments.specs.Requests.{IsWithin};
+ghost use Rattle.iso_arguments.specs.RequestBounds.{IsWithin};
 
 /// The largest number of processors that may be asked for.
 const MOST: u32 = 1024;

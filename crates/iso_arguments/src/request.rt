@@ -1,7 +1,7 @@
 //! What the words of a command line ask for.
 ghost use Rattle.std.specs.Prelude.{◌≡◌, [], None, IfOk, IfSome, IsOkAnd, drop, false};
 ghost use Rattle.std.specs.Vec.Iter.{into_iter_items};
-ghost use Rattle.iso_arguments.specs.Requests.{AsksForNoMore, AsksInBounds, AreInBounds, IsPlainRun, IsShard, IsWithin};
+ghost use Rattle.iso_arguments.specs.RequestBounds.{AsksForNoMore, AsksInBounds, AreInBounds, IsPlainRun, IsShard, IsWithin};
 
 use crate::number::read_number;
 use crate::options::command_line;
@@ -48,8 +48,10 @@ impl<'a> InputFiles<'a> {
     /// No file, no path, and no number of processors: a script is read from standard input, and all
     /// of it is kept.
     pub fn none(alloc: Global) -> InputFiles<'a>
-        ensures names { (result.settings ≡ None) × (result.world ≡ None) × (result.scripts.items ≡ []) }
-        ensures all { (result.only.items ≡ []) × (result.patterns.items ≡ []) × (result.only_from ≡ None) }
+        ensures names { (result.settings ≡ None) × (result.world ≡ None)
+            × (result.scripts.items ≡ []) }
+        ensures all { (result.only.items ≡ []) × (result.patterns.items ≡ [])
+            × (result.only_from ≡ None) }
         ensures whole { result.shard ≡ None }
         ensures processors { result.processors ≡ None }
         ensures unexplained { result.explain ≡ false }

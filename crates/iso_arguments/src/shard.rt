@@ -1,6 +1,6 @@
 //! Shards: parts of a suite, each for a machine of its own.
 ghost use Rattle.std.specs.Prelude.{◌≤◌, IfSome};
-ghost use Rattle.iso_arguments.specs.Requests.{IsShard};
+ghost use Rattle.iso_arguments.specs.RequestBounds.{IsShard};
 
 use crate::number::read_number;
 

@@ -56,9 +56,21 @@ impl<'a> Model for Book<'a> {
 
     ghost coded = { book_code };
 
-    ghost view = { λ b. record { plan = b.plan.now; world = b.world.now; workers = b.workers; history = b.history.items; stopped = b.standing.stopped } };
+    ghost view = { λ b. record {
+      plan = b.plan.now;
+      world = b.world.now;
+      workers = b.workers;
+      history = b.history.items;
+      stopped = b.standing.stopped;
+    } };
 
-    ghost invariant = { λ b. IsBook (record { plan = b.plan.now; world = b.world.now; workers = b.workers; history = b.history.items; stopped = b.standing.stopped })
+    ghost invariant = { λ b. IsBook (record {
+      plan = b.plan.now;
+      world = b.world.now;
+      workers = b.workers;
+      history = b.history.items;
+      stopped = b.standing.stopped;
+    })
         b.standing b.vault b.results (vec_capacity b.history) };
 }
 
@@ -112,7 +124,8 @@ impl<'a> Book<'a> {
     /// they are a run.
     pub fn history(&self) -> &[Event]
         ensures events { result.now ≡ self.now.history }
-        ensures run { IsHistory scripts (suite_in self.now) self.now.workers (events_of self.now.history) }
+        ensures run { IsHistory scripts (suite_in self.now) self.now.workers
+            (events_of self.now.history) }
         ensures bounded { length result.now ≤ 4 * length self.now.plan.rows }
     {
         &self.history
@@ -129,7 +142,8 @@ impl<'a> Book<'a> {
     /// which is open from the start and takes no key.
     pub fn held(&self) -> &HeldNodes<'a>
         ensures plan { result.now.plan ≡ self.now.plan }
-        ensures held { (n : ℕ) → n < length self.now.plan.rows → is_held_node result.now.held n ≡ is_held ((state_in self.now).nodes.status n) }
+        ensures held { (n : ℕ) → n < length self.now.plan.rows → is_held_node result.now.held n
+            ≡ is_held ((state_in self.now).nodes.status n) }
     {
         self.standing.held()
     }
@@ -141,11 +155,13 @@ impl<'a> Book<'a> {
         self.standing.stop();
     }
 
-    /// The outcome of a node, if it is finished: that of the node run alone, whatever else has run.
+    /// For a runner of one's own: the outcome of a node, if it is finished, which is that of the
+    /// node run alone, whatever else has run.
     pub fn outcome(&self, node: u32) -> Option<View<'_>>
         requires { node < length self.now.plan.rows }
         ensures finished { option_map outcome_of_view result ≡ outcome_in self.now node }
-        ensures alone { IfSome result (λ v. outcome_of_view v ≡ outcome_alone (tree_of self.now.plan) (started self.now.world) node) }
+        ensures alone { IfSome result (λ v. outcome_of_view v
+            ≡ outcome_alone (tree_of self.now.plan) (started self.now.world) node) }
     {
         results_follow_leaves(self.plan);
         self.results.get(node)
@@ -156,7 +172,8 @@ impl<'a> Book<'a> {
     pub fn results(&self) -> &Results<'a>
         ensures plan { result.now.plan ≡ self.now.plan }
         ensures start { result.now.start ≡ self.now.world }
-        ensures outcomes { (n : ℕ) → n < length self.now.plan.rows → result_in result.now n ≡ outcome_in self.now n }
+        ensures outcomes { (n : ℕ) → n < length self.now.plan.rows → result_in result.now n
+            ≡ outcome_in self.now n }
         ensures complete { is_complete self.now ≡ true → AreComplete result.now }
     {
         results_follow_leaves(self.plan);
@@ -166,7 +183,8 @@ impl<'a> Book<'a> {
     /// Whether a tray was made for a plan and a world that say the same as those of this book. It
     /// goes over both.
     fn is_made_for(&self, tray: &Tray<'_>) -> bool
-        ensures { IsTrue result ↔ ((tray.now.plan ≡ self.now.plan) × (tray.now.world ≡ self.now.world)) }
+        ensures { IsTrue result
+            ↔ ((tray.now.plan ≡ self.now.plan) × (tray.now.world ≡ self.now.world)) }
     {
         tray.plan().same(self.plan) && tray.world().same(self.world)
     }

@@ -1,17 +1,15 @@
 //! Whether a tray is the book's.
 ghost use Rattle.std.specs.Prelude.{◌≡◌, ◌<◌, ◌&&◌, length, not, true};
-ghost use Rattle.std.specs.List.{list_any};
 ghost use Rattle.iso_book.specs.Turns.{has_around, holds_writers};
 ghost use Rattle.iso_locks.specs.Owners.{CanHold};
 ghost use Rattle.iso_locks.specs.Trays.{is_lent};
-ghost use Rattle.iso_plan.specs.Locks.{is_write, takes_write};
+ghost use Rattle.iso_plan.specs.Locks.{takes_write};
 ghost use Rattle.iso_plan.specs.Paths.{parent, path};
 ghost use Rattle.iso_plan.specs.RowView.{tree_of};
 
 use iso_locks::tray::Tray;
-use iso_model::access::Access;
 use iso_plan::laws::nodes_are_a_tree;
-use iso_plan::lock::Lock;
+use iso_plan::lock::takes_write;
 
 /// Whether a node that waits may be entered with a tray of the book's plan and starting values.
 pub(crate) fn enters_with(tray: &Tray<'_>, node: u32) -> bool
@@ -46,7 +44,8 @@ fn has_around(tray: &Tray<'_>, node: u32) -> bool
 fn holds_writers(tray: &Tray<'_>, node: u32) -> bool
     requires inner { 0 < node }
     requires node { node < length tray.now.plan.rows }
-    ensures { result ≡ holds_writers tray.now (path (tree_of tray.now.plan) (parent (tree_of tray.now.plan) node)) }
+    ensures { result ≡ holds_writers tray.now
+        (path (tree_of tray.now.plan) (parent (tree_of tray.now.plan) node)) }
 {
     let plan = tray.plan();
     nodes_are_a_tree(plan);
@@ -63,19 +62,8 @@ fn holds_writers(tray: &Tray<'_>, node: u32) -> bool
 /// Whether a class takes a key for READ_WRITE and isn't lent to a tray.
 fn is_missing(tray: &Tray<'_>, class: u32) -> bool
     requires { class < length tray.now.plan.rows }
-    ensures { result ≡ (takes_write (tree_of tray.now.plan) class && not (is_lent tray.now.lent class)) }
+    ensures { result ≡ (takes_write (tree_of tray.now.plan) class
+        && not (is_lent tray.now.lent class)) }
 {
     takes_write(tray.plan().locks(class)) && !tray.is_lent(class)
-}
-
-/// Whether one of some locks is for READ_WRITE.
-fn takes_write(locks: &[Lock]) -> bool
-    ensures { result ≡ list_any is_write locks.now }
-{
-    'locks: for lock in locks {
-        if lock.access == Access::Write {
-            return true;
-        }
-    }
-    false
 }

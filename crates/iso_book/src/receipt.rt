@@ -35,21 +35,21 @@ impl Receipt {
         }
     }
 
-    /// The place of the Leave in the history, counted from 0.
+    /// For a runner of one's own: the place of the Leave in the history, counted from 0.
     pub fn number(&self) -> usize
         ensures { result ≡ self.now.number }
     {
         self.number
     }
 
-    /// The worker whose Leave it is.
+    /// For a runner of one's own: the worker whose Leave it is.
     pub fn worker(&self) -> u32
         ensures { result ≡ self.now.worker }
     {
         self.worker
     }
 
-    /// The node that was left.
+    /// For a runner of one's own: the node that was left.
     pub fn node(&self) -> u32
         ensures { result ≡ self.now.node }
     {

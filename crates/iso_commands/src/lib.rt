@@ -4,4 +4,3 @@
 pub mod examples;
 mod part;
 pub mod replay;
-mod word;

@@ -7,8 +7,8 @@ ghost use Rattle.iso_summary.specs.Lines.{file_option, line, number_option};
 ghost use Rattle.iso_summary.specs.Words.{file_word, shell_word};
 ghost use Rattle.iso_tap.specs.Printers.{Prints};
 
-use crate::word::{file, word};
 use iso_arguments::shard::Shard;
+use iso_summary::word::{file, word};
 use iso_tap::printer::Printer;
 use iso_tap::sink::{Sink, SinkFailed};
 
@@ -62,7 +62,8 @@ fn file_option<W: Sink>(
     option: &str,
     given: Option<&str>,
 ) -> Result<(), SinkFailed>
-    ensures { Prints printer.old printer.new (file_option option.now (option_map (λ f. f.now) given.entry)) result }
+    ensures { Prints printer.old printer.new
+        (file_option option.now (option_map (λ f. f.now) given.entry)) result }
 {
     match given {
         Some(name) => {

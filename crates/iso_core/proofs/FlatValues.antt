@@ -16,7 +16,7 @@ use Rattle.iso_locks.specs.Flats.{IsFlat, flat}
 use Rattle.iso_locks.specs.Slots.{Slots, slot}
 use Rattle.iso_locks.specs.Trays.{TrayView, content, has_at, has_value, is_open, kept, key_at, marked, may_write, number_of, restored, seen, seen_at, undone}
 use Rattle.iso_model.proofs.TouchLemmas.{changed_at-kind}
-use Rattle.iso_model.specs.Keys.{file_prefix, locale_key, properties_key}
+use Rattle.iso_model.specs.ResourceKeys.{file_prefix, locale_key, properties_key}
 use Rattle.iso_model.specs.Resources.{Resources, changed_at}
 use Rattle.iso_model.specs.Rights.{is_readable, is_writable}
 use Rattle.iso_model.specs.Touch.{HasKeys, HasKind, Kind, kind_of_key, kind_of_value}
@@ -146,7 +146,8 @@ pub kept-from : (tree : List Row) (n : ℕ) (values : Slots) (i : ℕ) (h : Hist
 kept-from tree n values i h e = both-of (may_write tree n i) (slot values i) h (sym (kept-at tree n values i) ∙ e)
 
 -- a mark keeps the values that its flat map had at the keys that the node may change
-pub kept-value : (t : TrayView) (n : ℕ) (k : List ℕ) → IsTree (tree_of t.plan) → IsFlat t → is_writable (node_rights (tree_of t.plan) n k) ≡ true → kept_values (tree_of t.plan) (marked t n) k ≡ flat t k
+pub kept-value : (t : TrayView) (n : ℕ) (k : List ℕ) → IsTree (tree_of t.plan) → IsFlat t
+    → is_writable (node_rights (tree_of t.plan) n k) ≡ true → kept_values (tree_of t.plan) (marked t n) k ≡ flat t k
 kept-value t n k tr is w =
     let tree = tree_of t.plan in
     let r : is_readable (node_rights tree n k) ≡ true = readable-of (node_rights tree n k) w in
@@ -161,7 +162,8 @@ pub restored-at : (marks values : Slots) (i : ℕ) → i < length values → slo
 restored-at marks values i within = column-read (λ (j : ℕ). option_or (slot marks j) (slot values j)) (restored marks values) (length values) i None refl within
 
 -- a value that a world starts with is of its key's kind
-start-by : (world : Start) (k : List ℕ) (a b c : Bool) → bytes_eq k properties_key ≡ a → bytes_eq k locale_key ≡ b → starts_with nat_eq k file_prefix ≡ c → kind_of_value (starting_value_in world k) ≡ kind_of_key k
+start-by : (world : Start) (k : List ℕ) (a b c : Bool) → bytes_eq k properties_key ≡ a → bytes_eq k locale_key ≡ b
+    → starts_with nat_eq k file_prefix ≡ c → kind_of_value (starting_value_in world k) ≡ kind_of_key k
 start-by world k true b c ea eb ec = rw ea refl
 start-by world k false true c ea eb ec = rw (ea, eb) refl
 start-by world k false false true ea eb ec = rw (ea, eb, ec) refl

@@ -15,16 +15,17 @@ use iso_script::explain::Explained;
 use iso_tap::printer::{Piece, Printer};
 use iso_tap::sink::{Sink, SinkFailed};
 
-/// Writes what mends a script that these bytes should have been: the line of the fault with carets
-/// and what could have stood there, and below it what else there is to be told. A word may be given
-/// that was meant in the place of the fault. Takes no memory.
+/// For a runner of one's own: writes what mends a script that these bytes should have been, the
+/// line of the fault with carets and what could have stood there, and below it what else there is
+/// to be told. A word may be given that was meant in the place of the fault. Takes no memory.
 pub fn write_explanation<W: Sink>(
     bytes: &[u8],
     explained: &Explained<'_>,
     meant: Option<&str>,
     printer: &mut Printer<'_, W>,
 ) -> Result<(), SinkFailed>
-    ensures { Prints printer.old printer.new (explanation bytes.now explained.now (option_map (λ w. w.now) meant.entry)) result }
+    ensures { Prints printer.old printer.new
+        (explanation bytes.now explained.now (option_map (λ w. w.now) meant.entry)) result }
 {
     write_at(&spot_of(bytes, explained.fault), explained, meant, printer)
 }
@@ -37,7 +38,8 @@ pub(crate) fn write_at<W: Sink>(
     printer: &mut Printer<'_, W>,
 ) -> Result<(), SinkFailed>
     ensures { (bytes : List ℕ) → IsSpotOf spot.now bytes explained.now.fault
-        → Prints printer.old printer.new (explanation bytes explained.now (option_map (λ w. w.now) meant.entry)) result }
+        → Prints printer.old printer.new
+        (explanation bytes explained.now (option_map (λ w. w.now) meant.entry)) result }
 {
     picture(printer, spot.line, explained)?;
     notes(printer, &spot.place, explained, meant)
@@ -78,7 +80,8 @@ fn notes<W: Sink>(
     meant: Option<&str>,
 ) -> Result<(), SinkFailed>
     ensures { (bytes : List ℕ) → IsPlaceOf place.now bytes explained.now.fault
-        → Prints printer.old printer.new (notes bytes explained.now (option_map (λ w. w.now) meant.entry)) result }
+        → Prints printer.old printer.new
+        (notes bytes explained.now (option_map (λ w. w.now) meant.entry)) result }
 {
     let hint = hint_of(place, explained);
     let other = other_of(place, explained);

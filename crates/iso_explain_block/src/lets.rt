@@ -13,7 +13,8 @@ pub(crate) fn add_lets<'a>(
     row: u32,
     statements: &'a [Stmt],
 ) -> Result<(), AllocError>
-    ensures { OnOk result (map (λ n. n.now) names.new.items ≡ lets row (block_of statements.now) (map (λ n. n.now) names.old.items)) }
+    ensures { OnOk result (map (λ n. n.now) names.new.items
+        ≡ lets row (block_of statements.now) (map (λ n. n.now) names.old.items)) }
 {
     for i in 0..statements.len() {
         add_let(names, row, &statements[i], &statements[i + 1..])?;
@@ -30,7 +31,8 @@ fn add_let<'a>(
     rest: &[Stmt],
 ) -> Result<(), AllocError>
     ensures { OnOk result (map (λ n. n.now) names.new.items ≡
-        act_lets row (stmt_of statement.now).0 (stmt_of statement.now).1 (block_of rest.now) (map (λ n. n.now) names.old.items)) }
+        act_lets row (stmt_of statement.now).0 (stmt_of statement.now).1 (block_of rest.now)
+        (map (λ n. n.now) names.old.items)) }
 {
     if statement.row > row {
         return Ok(());
@@ -59,17 +61,10 @@ fn add_let<'a>(
             add_lets(names, row, body)
         }
         Form::Assign(_, _)
-        | Form::Print(_)
-        | Form::Assert(_)
-        | Form::AssertEqual(_, _)
+        | Form::One(_, _)
+        | Form::Two(_, _, _)
         | Form::Assume(_, _)
-        | Form::Fail(_)
-        | Form::SetProp(_, _)
-        | Form::ClearProp(_)
-        | Form::SetLocale(_)
-        | Form::WriteFile(_, _)
-        | Form::AppendFile(_, _)
-        | Form::DeleteFile(_) => Ok(()),
+        | Form::Fail(_) => Ok(()),
     }
 }
 

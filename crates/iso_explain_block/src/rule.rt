@@ -3,7 +3,7 @@ ghost use Rattle.std.specs.Prelude.{◌≡◌};
 ghost use Rattle.iso_explain_block.specs.Rules.{act_rule, chain_rule, comparison_rule, function_rule};
 ghost use Rattle.iso_model.specs.SyntaxView.{form_of};
 
-use iso_model::tree::{Comparison, Form, Function, Operator};
+use iso_model::tree::{Comparison, Form, Function, OneOperand, Operator, TwoOperands};
 
 /// What an operator of a chain takes.
 pub(crate) fn chain_rule(operator: Operator) -> &'static str
@@ -50,18 +50,21 @@ pub(crate) fn form_rule(form: &Form) -> &'static str
     match form {
         Form::Let(_, _) => "let takes a value of any kind",
         Form::Assign(_, _) => "a name takes a value of any kind",
-        Form::Print(_) => "print takes a value of any kind",
+        Form::One(OneOperand::Print, _) => "print takes a value of any kind",
         Form::Fail(_) => "fail takes no value",
-        Form::Assert(_) => "assert takes a truth value, as == and < give it",
+        Form::One(OneOperand::Assert, _) => "assert takes a truth value, as == and < give it",
         Form::Assume(_, _) => "assume takes a truth value, as == and < give it",
         Form::If(_, _, _) => "if takes a truth value, as == and < give it",
         Form::Repeat(_, _) => "repeat takes a whole number",
-        Form::AssertEqual(_, _) => "assert_equal compares two values of one kind",
-        Form::SetProp(_, _) => "set_prop takes two texts; text(n) is the text of a number",
-        Form::WriteFile(_, _) => "write_file takes two texts; text(n) is the text of a number",
-        Form::AppendFile(_, _) => "append_file takes two texts; text(n) is the text of a number",
-        Form::ClearProp(_) => "clear_prop takes a text, the name of a property",
-        Form::SetLocale(_) => "set_locale takes a text",
-        Form::DeleteFile(_) => "delete_file takes a text, the path of a file",
+        Form::Two(TwoOperands::AssertEqual, _, _) => "assert_equal compares two values of one kind",
+        Form::Two(TwoOperands::SetProp, _, _) =>
+            "set_prop takes two texts; text(n) is the text of a number",
+        Form::Two(TwoOperands::WriteFile, _, _) =>
+            "write_file takes two texts; text(n) is the text of a number",
+        Form::Two(TwoOperands::AppendFile, _, _) =>
+            "append_file takes two texts; text(n) is the text of a number",
+        Form::One(OneOperand::ClearProp, _) => "clear_prop takes a text, the name of a property",
+        Form::One(OneOperand::SetLocale, _) => "set_locale takes a text",
+        Form::One(OneOperand::DeleteFile, _) => "delete_file takes a text, the path of a file",
     }
 }

@@ -9,7 +9,7 @@ ghost use Rattle.iso_model.specs.SyntaxView.{block_of, stmt_of, term_of};
 use iso_model::chain::Chain;
 use iso_model::data::Data;
 use iso_model::heads::{ClassHead, TestHead};
-use iso_model::tree::{Expr, Form, Stmt};
+use iso_model::tree::{Expr, Form, Stmt, TwoOperands};
 use std::alloc::{AllocError, Global};
 use std::sync::Arc;
 
@@ -29,7 +29,8 @@ pub(crate) fn set_names<'a>(
     chain: Chain<'a>,
 ) -> Result<Vec<&'a str>, AllocError>
     ensures { IfOk result (λ v. map (λ n. n.now) v.items
-        ≡ chain_names thing (heads_of chain.entry.classes.now) (option_map (λ t. test_head_of t.now) chain.entry.test)) }
+        ≡ chain_names thing (heads_of chain.entry.classes.now)
+        (option_map (λ t. test_head_of t.now) chain.entry.test)) }
 {
     let mut names = Vec::new(alloc);
     add_classes(&mut names, thing, chain.classes)?;
@@ -43,7 +44,8 @@ fn add_classes<'a>(
     thing: Thing,
     classes: &'a [Arc<ClassHead>],
 ) -> Result<(), AllocError>
-    ensures { OnOk result (map (λ n. n.now) names.new.items ≡ classes_names thing (heads_of classes.now) (map (λ n. n.now) names.old.items)) }
+    ensures { OnOk result (map (λ n. n.now) names.new.items
+        ≡ classes_names thing (heads_of classes.now) (map (λ n. n.now) names.old.items)) }
 {
     for class in classes {
         add_class(names, thing, &**class)?;
@@ -57,7 +59,8 @@ fn add_class<'a>(
     thing: Thing,
     class: &'a ClassHead,
 ) -> Result<(), AllocError>
-    ensures { OnOk result (map (λ n. n.now) names.new.items ≡ class_names thing (class_head_of class.now) (map (λ n. n.now) names.old.items)) }
+    ensures { OnOk result (map (λ n. n.now) names.new.items
+        ≡ class_names thing (class_head_of class.now) (map (λ n. n.now) names.old.items)) }
 {
     add_body(names, thing, &class.contents.before_all)?;
     add_body(names, thing, &class.contents.before_each)?;
@@ -72,7 +75,8 @@ fn add_test<'a>(
     test: Option<&'a TestHead>,
 ) -> Result<(), AllocError>
     ensures { OnOk result (map (λ n. n.now) names.new.items
-        ≡ test_names thing (option_map (λ t. test_head_of t.now) test.entry) (map (λ n. n.now) names.old.items)) }
+        ≡ test_names thing (option_map (λ t. test_head_of t.now) test.entry)
+        (map (λ n. n.now) names.old.items)) }
 {
     match test {
         Some(head) => add_body(names, thing, &head.contents.body),
@@ -87,7 +91,8 @@ fn add_body<'a>(
     thing: Thing,
     statements: &'a [Stmt],
 ) -> Result<(), AllocError>
-    ensures { OnOk result (map (λ n. n.now) names.new.items ≡ body_names thing (block_of statements.now) (map (λ n. n.now) names.old.items)) }
+    ensures { OnOk result (map (λ n. n.now) names.new.items
+        ≡ body_names thing (block_of statements.now) (map (λ n. n.now) names.old.items)) }
 {
     for i in 0..statements.len() {
         add_statement(names, thing, &statements[i])?;
@@ -102,12 +107,12 @@ fn add_statement<'a>(
     thing: Thing,
     statement: &'a Stmt,
 ) -> Result<(), AllocError>
-    ensures { OnOk result (map (λ n. n.now) names.new.items ≡ act_names thing (stmt_of statement.now).1 (map (λ n. n.now) names.old.items)) }
+    ensures { OnOk result (map (λ n. n.now) names.new.items
+        ≡ act_names thing (stmt_of statement.now).1 (map (λ n. n.now) names.old.items)) }
 {
     match (&statement.form, thing) {
-        (Form::SetProp(name, _), Thing::Property) | (Form::WriteFile(name, _), Thing::File) => {
-            add_literal(names, name)
-        }
+        (Form::Two(TwoOperands::SetProp, name, _), Thing::Property)
+        | (Form::Two(TwoOperands::WriteFile, name, _), Thing::File) => add_literal(names, name),
         (Form::If(_, first, second), _) => {
             add_body(names, thing, first)?;
             add_body(names, thing, second)
@@ -119,7 +124,8 @@ fn add_statement<'a>(
 
 /// Adds a literal text.
 fn add_literal<'a>(names: &mut Vec<&'a str>, expression: &'a Expr) -> Result<(), AllocError>
-    ensures { OnOk result (map (λ n. n.now) names.new.items ≡ with_literal (term_of expression.now) (map (λ n. n.now) names.old.items)) }
+    ensures { OnOk result (map (λ n. n.now) names.new.items
+        ≡ with_literal (term_of expression.now) (map (λ n. n.now) names.old.items)) }
 {
     match expression {
         Expr::Literal(Data::Text(text)) => {

@@ -9,7 +9,7 @@ use crate::kind::Kind;
 use crate::operation::{Taking, add_pair, add_single};
 use crate::rule::form_rule;
 use iso_model::text::Text;
-use iso_model::tree::{Expr, Form, Stmt};
+use iso_model::tree::{Expr, Form, OneOperand, Stmt, TwoOperands};
 use std::alloc::{AllocError, Global};
 
 /// Adds the lines of those statements of a body that stand on a row, in their order, also of bodies
@@ -21,7 +21,8 @@ pub(crate) fn add_statements(
     row: u32,
     statements: &[Stmt],
 ) -> Result<(), AllocError>
-    ensures { OnOk result (lines.new.items ≡ acts_lines row (block_of statements.now) lines.old.items) }
+    ensures { OnOk result (lines.new.items
+        ≡ acts_lines row (block_of statements.now) lines.old.items) }
 {
     for statement in statements {
         add_statement(alloc, lines, row, statement)?;
@@ -37,7 +38,8 @@ fn add_statement(
     row: u32,
     statement: &Stmt,
 ) -> Result<(), AllocError>
-    ensures { OnOk result (lines.new.items ≡ act_lines row (stmt_of statement.now).0 (stmt_of statement.now).1 lines.old.items) }
+    ensures { OnOk result (lines.new.items
+        ≡ act_lines row (stmt_of statement.now).0 (stmt_of statement.now).1 lines.old.items) }
 {
     if statement.row == row {
         add_own(alloc, lines, &statement.form)?;
@@ -53,17 +55,10 @@ fn add_inner(alloc: Global, lines: &mut Vec<Text>, row: u32, form: &Form) -> Res
     match form {
         Form::Let(_, _)
         | Form::Assign(_, _)
-        | Form::Print(_)
-        | Form::Assert(_)
-        | Form::AssertEqual(_, _)
+        | Form::One(_, _)
+        | Form::Two(_, _, _)
         | Form::Assume(_, _)
-        | Form::Fail(_)
-        | Form::SetProp(_, _)
-        | Form::ClearProp(_)
-        | Form::SetLocale(_)
-        | Form::WriteFile(_, _)
-        | Form::AppendFile(_, _)
-        | Form::DeleteFile(_) => Ok(()),
+        | Form::Fail(_) => Ok(()),
         Form::If(_, first, second) => {
             add_statements(alloc, lines, row, first)?;
             add_statements(alloc, lines, row, second)
@@ -79,22 +74,24 @@ fn add_own(alloc: Global, lines: &mut Vec<Text>, form: &Form) -> Result<(), Allo
     let rule = form_rule(form);
     match form {
         Form::Fail(_) => Ok(()),
-        Form::Let(_, value) | Form::Assign(_, value) | Form::Print(value) => {
+        Form::Let(_, value) | Form::Assign(_, value) | Form::One(OneOperand::Print, value) => {
             add_expression(alloc, lines, value)
         }
-        Form::Assert(condition) | Form::Assume(condition, _) | Form::If(condition, _, _) => {
-            add_one(alloc, lines, rule, Kind::Flag, condition)
-        }
+        Form::One(OneOperand::Assert, condition)
+        | Form::Assume(condition, _)
+        | Form::If(condition, _, _) => add_one(alloc, lines, rule, Kind::Flag, condition),
         Form::Repeat(count, _) => add_one(alloc, lines, rule, Kind::Whole, count),
-        Form::ClearProp(text) | Form::SetLocale(text) | Form::DeleteFile(text) => {
+        Form::One(OneOperand::ClearProp | OneOperand::SetLocale | OneOperand::DeleteFile, text) => {
             add_one(alloc, lines, rule, Kind::Text, text)
         }
-        Form::AssertEqual(expected, actual) => {
+        Form::Two(TwoOperands::AssertEqual, expected, actual) => {
             add_two(alloc, lines, rule, Taking::Alike, expected, actual)
         }
-        Form::SetProp(name, text) | Form::WriteFile(name, text) | Form::AppendFile(name, text) => {
-            add_two(alloc, lines, rule, Taking::Both(Kind::Text), name, text)
-        }
+        Form::Two(
+            TwoOperands::SetProp | TwoOperands::WriteFile | TwoOperands::AppendFile,
+            name,
+            text,
+        ) => add_two(alloc, lines, rule, Taking::Both(Kind::Text), name, text),
     }
 }
 
@@ -107,7 +104,8 @@ fn add_one(
     wanted: Kind,
     operand: &Expr,
 ) -> Result<(), AllocError>
-    ensures { OnOk result (lines.new.items ≡ plain_single_lines rule.now wanted (term_of operand.now) lines.old.items) }
+    ensures { OnOk result (lines.new.items
+        ≡ plain_single_lines rule.now wanted (term_of operand.now) lines.old.items) }
 {
     add_expression(alloc, lines, operand)?;
     add_single(alloc, lines, rule, wanted, operand)
@@ -123,7 +121,8 @@ fn add_two(
     left: &Expr,
     right: &Expr,
 ) -> Result<(), AllocError>
-    ensures { OnOk result (lines.new.items ≡ plain_pair_lines rule.now taking (term_of left.now) (term_of right.now) lines.old.items) }
+    ensures { OnOk result (lines.new.items
+        ≡ plain_pair_lines rule.now taking (term_of left.now) (term_of right.now) lines.old.items) }
 {
     add_expression(alloc, lines, left)?;
     add_expression(alloc, lines, right)?;

@@ -9,7 +9,6 @@ mod key;
 mod largest;
 pub mod laws;
 mod line;
-mod lines;
 mod meant;
 mod note;
 mod part;

@@ -4,7 +4,7 @@ ghost use Rattle.std.specs.Str.Lines.{lines};
 ghost use Rattle.iso_model.specs.declared.limits.TheConstants.{FILE_BYTES};
 ghost use Rattle.iso_explain_plan.specs.ScheduleLines.{event_line, line_at};
 
-use crate::lines::split_line;
+use iso_schedule::lines::split_line;
 
 /// A line of a schedule, with its number, counted from 1.
 #[derive(Clone, Copy)]
@@ -33,7 +33,8 @@ pub(crate) fn line_at(schedule: &[u8], number: u32) -> &[u8]
 /// The line of the event with this number, counted from 0: empty lines write none.
 pub(crate) fn event_line(schedule: &[u8], event: usize) -> Option<Line<'_>>
     requires { length schedule.now ≤ FILE_BYTES }
-    ensures { option_map (λ l. (l.number, l.text.now)) result ≡ event_line event 1 (lines schedule.now) }
+    ensures { option_map (λ l. (l.number, l.text.now)) result
+        ≡ event_line event 1 (lines schedule.now) }
 {
     let mut left = event;
     let mut number = 1;

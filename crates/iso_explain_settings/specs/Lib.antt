@@ -1,7 +1,6 @@
 pub mod Chosen
 pub mod Examples
 pub mod Explanations
-pub mod Findings
 pub mod Listing
 pub mod Parts
 pub mod Places

@@ -7,11 +7,11 @@ ghost use Rattle.iso_settings.specs.Leaves.{leaves};
 ghost use Rattle.iso_settings.specs.Settings.{is_numeral};
 ghost use Rattle.toml.specs.View.{table_view, view};
 
-use crate::find::{Found, find};
 use crate::keys::{CLASSES_MODE, ENABLED, FACTOR, LIFECYCLE, MODE, PARALLELISM, STRATEGY};
 use crate::wanted::{Wanted, settings_wanted};
 use iso_hints::setting::{Origin, Setting, Value as Told};
 use iso_model::script::Mode;
+use iso_settings::find::{Found, find};
 use toml::{Table, Value};
 
 /// The value at a key, if it is one that the key takes.
@@ -225,7 +225,8 @@ pub(crate) fn setting(
     is_parallel: bool,
     default_mode: Mode,
 ) -> Setting<'static>
-    ensures { setting_line result ≡ setting_text key.now (leaves (table_view table.now)) is_parallel default_mode }
+    ensures { setting_line result ≡ setting_text key.now
+        (leaves (table_view table.now)) is_parallel default_mode }
 {
     match told_at(table, key) {
         Some(value) => Setting {

@@ -12,13 +12,13 @@ ghost use Rattle.toml.specs.Data.{Members};
 ghost use Rattle.toml.specs.Parse.{parse_document};
 ghost use Rattle.toml.specs.View.{table_view};
 
-use crate::find::find;
 use crate::part::{Part, tell};
 use crate::refusal::explain_refusal;
 use crate::told::{Mistake, tell_found};
 use crate::value::Kind;
 use crate::wanted::{File, wanted_at};
 use iso_settings::fault::SettingsFault;
+use iso_settings::find::find;
 use iso_tap::memory::MemorySink;
 use std::alloc::{AllocError, Global};
 use toml::Table;
@@ -32,7 +32,8 @@ pub(crate) fn explain(
     fault: &SettingsFault,
     text: &mut MemorySink,
 ) -> Result<(), AllocError>
-    ensures found { (document : Members) → IsUtf8 bytes.now → parse_document bytes.now ≡ Some document
+    ensures found { (document : Members) → IsUtf8 bytes.now → parse_document bytes.now
+        ≡ Some document
         → OnOk result (IsExplained file fault.now document text.old text.new) }
     ensures refused { fault.now ≡ NotToml → (IsUtf8 bytes.now → parse_document bytes.now ≡ None)
         → OnOk result (Adds text.old text.new (IsRefusal name.now bytes.now)) }
@@ -83,7 +84,8 @@ fn explain_value(
 ) -> Result<(), AllocError>
     ensures { (document : Members) → IsUtf8 bytes.now → parse_document bytes.now ≡ Some document
         → OnOk result (Adds text.old text.new
-        (IsTold mistake.now.kind mistake.now.wanted mistake.now.key.now (values_at mistake.now.key.now (leaves document)))) }
+        (IsTold mistake.now.kind mistake.now.wanted mistake.now.key.now
+        (values_at mistake.now.key.now (leaves document)))) }
 {
     match read_table(alloc, bytes)? {
         Some(table) => tell_found(alloc, mistake, find(&table, mistake.key), text),

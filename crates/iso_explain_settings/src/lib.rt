@@ -4,7 +4,6 @@
 mod chosen;
 pub mod examples;
 mod explain;
-mod find;
 mod keys;
 pub mod laws;
 pub mod listing;

@@ -2,15 +2,15 @@
 ghost use Rattle.std.specs.Prelude.{◌≡◌, ◌∷◌, [], List, OnOk, length, unwrap_or};
 ghost use Rattle.toml.specs.Data.{Data, as_str};
 ghost use Rattle.toml.specs.View.{view};
-ghost use Rattle.iso_explain_settings.specs.Findings.{IsFound};
 ghost use Rattle.iso_explain_settings.specs.Told.{Adds, IsFoundText, IsTold, advice, advice_text, found_line, long_advice, long_line, table_text, twice_text};
+ghost use Rattle.iso_settings.specs.Leaves.{IsFound};
 ghost use Rattle.iso_tap.specs.Sinks.{Wrote};
 
-use crate::find::Found;
 use crate::note::mending;
 use crate::part::{Part, tell};
 use crate::value::{Kind, hint, is_long_text, kind_text, meant, meant_key, written};
 use crate::wanted::{Wanted, before_key, takes};
+use iso_settings::find::Found;
 use iso_tap::memory::MemorySink;
 use std::alloc::{AllocError, Global};
 use toml::Value;
@@ -41,7 +41,8 @@ pub(crate) fn tell_found(
     text: &mut MemorySink,
 ) -> Result<(), AllocError>
     ensures { (values : List Data) → IsFound found.entry values
-        → OnOk result (Adds text.old text.new (IsTold mistake.now.kind mistake.now.wanted mistake.now.key.now values)) }
+        → OnOk result (Adds text.old text.new
+        (IsTold mistake.now.kind mistake.now.wanted mistake.now.key.now values)) }
 {
     match found {
         Found::Nothing => tell_table(alloc, mistake, text),
@@ -133,7 +134,8 @@ fn tell_advice(
     text: &mut MemorySink,
 ) -> Result<(), AllocError>
     ensures { OnOk result (Wrote text.old text.new
-        (advice_text is_long mistake.now.kind mistake.now.wanted mistake.now.key.now (view value.now))) }
+        (advice_text is_long mistake.now.kind mistake.now.wanted mistake.now.key.now
+        (view value.now))) }
 {
     if is_long {
         tell_long_advice(mistake, text)
@@ -172,7 +174,8 @@ fn tell_short_advice(
 
 /// Adds what the key takes, and how long it is itself.
 fn tell_long_advice(mistake: &Mistake<'_>, text: &mut MemorySink) -> Result<(), AllocError>
-    ensures { OnOk result (Wrote text.old text.new (long_advice mistake.now.wanted mistake.now.key.now)) }
+    ensures { OnOk result (Wrote text.old text.new
+        (long_advice mistake.now.wanted mistake.now.key.now)) }
 {
     let Mistake { wanted, key, .. } = *mistake;
     tell(
@@ -192,7 +195,8 @@ fn tell_long_advice(mistake: &Mistake<'_>, text: &mut MemorySink) -> Result<(), 
 
 /// Adds that a table stands where the key takes no table.
 fn tell_table(alloc: Global, mistake: &Mistake<'_>, text: &mut MemorySink) -> Result<(), AllocError>
-    ensures { OnOk result (Wrote text.old text.new (table_text mistake.now.wanted mistake.now.key.now)) }
+    ensures { OnOk result (Wrote text.old text.new
+        (table_text mistake.now.wanted mistake.now.key.now)) }
 {
     let Mistake { wanted, key, .. } = *mistake;
     let meant = meant_key(alloc, wanted, key)?;

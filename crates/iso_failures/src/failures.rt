@@ -10,10 +10,10 @@ use iso_plan::laws;
 use iso_plan::plan::Plan;
 use std::alloc::{AllocError, Global};
 
-/// The nodes that failed, in the order in which they are written: each test and each class whose
-/// own verdict is a fail or a fault. A class's own verdict is that of its own blocks. Descendants
-/// of a class that wasn't opened well are blocked or skipped, and none of these. All nodes but
-/// the root must have results.
+/// For a runner of one's own: the nodes that failed, in the order in which they are written. These
+/// are each test and each class whose own verdict is a fail or a fault. A class's own verdict is
+/// that of its own blocks. Descendants of a class that wasn't opened well are blocked or skipped,
+/// and none of these. All nodes but the root must have results.
 pub fn failures(alloc: Global, plan: &Plan, results: &Results<'_>) -> Result<Vec<u32>, AllocError>
     requires plan { results.now.plan ≡ plan.now }
     requires complete { AreComplete results.now }

@@ -5,7 +5,7 @@ use Rattle.std.specs.Str.{bytes_eq}
 use Rattle.iso_locks.proofs.KeyLemmas.{written-is, written-within}
 use Rattle.iso_locks.specs.Moves.{is_written}
 use Rattle.iso_locks.specs.Trays.{key_at}
-use Rattle.iso_model.specs.Keys.{global_key}
+use Rattle.iso_model.specs.ResourceKeys.{global_key}
 use Rattle.iso_model.specs.Rights.{is_writable, rights_of, strongest}
 use Rattle.iso_model.specs.declared.access.Access.TheVariants.{Read, Write}
 use Rattle.iso_plan.proofs.PathLemmas.{under-le}

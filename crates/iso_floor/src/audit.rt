@@ -85,8 +85,9 @@ fn mark(history: &[Event], receipt: &Receipt, highest: Option<usize>, marks: &mu
     true
 }
 
-/// Compares a seat's list with the history, after the lists of other seats: answers the lowest
-/// number that is lost so far, and marks the numbers of the receipts that are in order.
+/// For a runner of one's own: compares a seat's list with the history, after the lists of other
+/// seats. It answers the lowest number that is lost so far, and marks the numbers of the receipts
+/// that are in order.
 pub fn audit_list(
     history: &[Event],
     list: &[Receipt],
@@ -123,10 +124,12 @@ fn first_unmarked(history: &[Event], marks: &[bool]) -> Option<usize>
     None
 }
 
-/// The lowest number that is lost, if one is, after the lists of all seats.
+/// For a runner of one's own: the lowest number that is lost, if one is, after the lists of all
+/// seats.
 pub fn lowest_lost(history: &[Event], marks: &[bool], lost: Option<usize>) -> Option<usize>
     requires { length history.now ≤ length marks.now }
-    ensures { (lists : List (List ReceiptView)) → IsAudited history.now lists marks.now lost → IsLowest history.now lists result }
+    ensures { (lists : List (List ReceiptView)) → IsAudited history.now lists marks.now lost
+        → IsLowest history.now lists result }
 {
     match first_unmarked(history, marks) {
         Some(number) => Some(lower(number, lost)),

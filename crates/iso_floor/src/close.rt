@@ -12,8 +12,8 @@ use crate::seat::Seat;
 use iso_book::book::Book;
 use iso_standing::event::Event;
 
-/// Compares the receipts of all seats with a history, by a table with a place for each event that
-/// has no mark. Takes no memory.
+/// For a runner of one's own: compares the receipts of all seats with a history, by a table with a
+/// place for each event that has no mark. Takes no memory.
 pub fn audit<'a, G: Ground>(
     history: &[Event],
     seats: &[Seat<'a, G>],
@@ -30,7 +30,8 @@ pub fn audit<'a, G: Ground>(
     lowest_lost(history, marks, lost)
 }
 
-/// Hands out a book that is whole beside the receipts of these seats. Takes no memory.
+/// For a runner of one's own: hands out a book that is whole beside the receipts of these seats.
+/// Takes no memory.
 pub fn settle<'a, G: Ground>(
     book: Book<'a>,
     seats: &[Seat<'a, G>],

@@ -108,8 +108,10 @@ impl<'a, G: Ground> Floor<'a, G> {
     /// running out of memory change nothing. It may wait for the lock.
     pub fn enter<R: Wait>(&self, rt: &R, seat: &mut Seat<'a, G>, node: u32) -> Result<(), CoreFault>
         ensures entered { OnOk result (IsEntered node seat.old.tray seat.new.tray) }
-        ensures taken { OnOk result (OfSomeBook G.plan G.start G.workers (TakesEnter seat.old node)) }
-        ensures refused { IfErr result (λ fault. OfSomeBook G.plan G.start G.workers (RefusesEnter seat.old node fault)) }
+        ensures taken { OnOk result
+            (OfSomeBook G.plan G.start G.workers (TakesEnter seat.old node)) }
+        ensures refused { IfErr result
+            (λ fault. OfSomeBook G.plan G.start G.workers (RefusesEnter seat.old node fault)) }
         ensures seat { seat.new ≡ record seat.old { tray = seat.new.tray } }
         ensures same { OnErr result (seat.new ≡ seat.old) }
     {
@@ -126,8 +128,10 @@ impl<'a, G: Ground> Floor<'a, G> {
     /// refusal and running out of memory change nothing. It may wait for the lock.
     pub fn shut<R: Wait>(&self, rt: &R, seat: &mut Seat<'a, G>, node: u32) -> Result<(), CoreFault>
         ensures shut { OnOk result (IsShut node seat.old.tray seat.new.tray) }
-        ensures taken { OnOk result (OfSomeBook G.plan G.start G.workers (TakesShut seat.old node)) }
-        ensures refused { IfErr result (λ fault. OfSomeBook G.plan G.start G.workers (RefusesShut seat.old node fault)) }
+        ensures taken { OnOk result
+            (OfSomeBook G.plan G.start G.workers (TakesShut seat.old node)) }
+        ensures refused { IfErr result
+            (λ fault. OfSomeBook G.plan G.start G.workers (RefusesShut seat.old node fault)) }
         ensures seat { seat.new ≡ record seat.old { tray = seat.new.tray } }
         ensures same { OnErr result (seat.new ≡ seat.old) }
     {
@@ -152,11 +156,14 @@ impl<'a, G: Ground> Floor<'a, G> {
     ) -> Result<(), (Refused, Done)>
         requires { MayBring done seat.old.tray }
         ensures left { OnOk result (HasLeft done seat.old seat.new) }
-        ensures reads { OnOk result ((n : ℕ) → is_lent seat.new.tray.lent n ≡ true → ReadsStart n seat.new.tray) }
+        ensures reads { OnOk result ((n : ℕ) → is_lent seat.new.tray.lent n ≡ true
+            → ReadsStart n seat.new.tray) }
         ensures room { OnOk result (HasRoom seat.old) }
-        ensures taken { OnOk result (OfSomeBook G.plan G.start G.workers (TakesLeave seat.old done)) }
+        ensures taken { OnOk result
+            (OfSomeBook G.plan G.start G.workers (TakesLeave seat.old done)) }
         ensures full { IfErr result (λ refusal. IsFull seat.old → refusal.0 ≡ Refused.Stranger) }
-        ensures refused { IfErr result (λ refusal. HasRoom seat.old → OfSomeBook G.plan G.start G.workers (RefusesLeave seat.old done refusal.0)) }
+        ensures refused { IfErr result (λ refusal. HasRoom seat.old
+            → OfSomeBook G.plan G.start G.workers (RefusesLeave seat.old done refusal.0)) }
         ensures same { OnErr result (seat.new ≡ seat.old) }
         ensures done { IfErr result (λ refusal. refusal.1 ≡ done) }
     {
@@ -180,8 +187,8 @@ impl<'a, G: Ground> Floor<'a, G> {
         self.tell(wakes);
     }
 
-    /// Waits until the history is longer than `seen`, the run complete or stopped, and answers the
-    /// history's length.
+    /// For a runner of one's own: waits until the history is longer than `seen`, the run complete
+    /// or stopped, and answers the history's length.
     pub fn wait_change<R: Wait>(&self, rt: &R, seen: u64) -> u64
         ensures { OfSomeBook G.plan G.start G.workers (EndsWait seen result) }
     {
@@ -200,7 +207,8 @@ impl<'a, G: Ground> Floor<'a, G> {
     pub fn close(self, seats: Vec<Seat<'a, G>>) -> Result<Book<'a>, CloseFault>
         ensures ground { IfOk result (IsBookOf G.plan G.start G.workers) }
         ensures whole { IfOk result (λ b. IsWhole b (lists_of seats.entry.items)) }
-        ensures fault { IfErr result (λ fault. OfSomeBook G.plan G.start G.workers (λ b. IsCloseFault b (lists_of seats.entry.items) fault)) }
+        ensures fault { IfErr result (λ fault. OfSomeBook G.plan G.start G.workers
+            (λ b. IsCloseFault b (lists_of seats.entry.items) fault)) }
     {
         let Floor {
             desk,

@@ -51,7 +51,12 @@ impl<'a, G: Ground> Model for Seat<'a, G> {
 
     ghost coded = { seat_code };
 
-    ghost view = { λ s. record { worker = s.worker; tray = s.tray; receipts = s.receipts.items; room = vec_capacity s.receipts } };
+    ghost view = { λ s. record {
+      worker = s.worker;
+      tray = s.tray;
+      receipts = s.receipts.items;
+      room = vec_capacity s.receipts;
+    } };
 
     ghost invariant = { λ s. IsTrayOf G.plan G.start s.tray };
 }
@@ -123,7 +128,7 @@ impl<'a, G: Ground> Seat<'a, G> {
         &self.tray
     }
 
-    /// The receipts of its Leaves, in their order.
+    /// For a runner of one's own: the receipts of its Leaves, in their order.
     pub fn receipts(&self) -> &[Receipt]
         ensures { result.now ≡ self.now.receipts }
     {
@@ -149,8 +154,10 @@ impl<'a, G: Ground> Seat<'a, G> {
     // Enters a node at a desk.
     pub(crate) fn enter_at(&mut self, desk: &mut Desk<'a, G>, node: u32) -> Result<(), CoreFault>
         ensures entered { OnOk result (IsEntered node self.old.tray self.new.tray) }
-        ensures taken { OnOk result (OfSomeBook G.plan G.start G.workers (TakesEnter self.old node)) }
-        ensures refused { IfErr result (λ fault. OfSomeBook G.plan G.start G.workers (RefusesEnter self.old node fault)) }
+        ensures taken { OnOk result
+            (OfSomeBook G.plan G.start G.workers (TakesEnter self.old node)) }
+        ensures refused { IfErr result
+            (λ fault. OfSomeBook G.plan G.start G.workers (RefusesEnter self.old node fault)) }
         ensures seat { self.new ≡ record self.old { tray = self.new.tray } }
         ensures same { OnErr result (self.new ≡ self.old) }
     {
@@ -161,8 +168,10 @@ impl<'a, G: Ground> Seat<'a, G> {
     // Shuts a class at a desk.
     pub(crate) fn shut_at(&mut self, desk: &mut Desk<'a, G>, node: u32) -> Result<(), CoreFault>
         ensures shut { OnOk result (IsShut node self.old.tray self.new.tray) }
-        ensures taken { OnOk result (OfSomeBook G.plan G.start G.workers (TakesShut self.old node)) }
-        ensures refused { IfErr result (λ fault. OfSomeBook G.plan G.start G.workers (RefusesShut self.old node fault)) }
+        ensures taken { OnOk result
+            (OfSomeBook G.plan G.start G.workers (TakesShut self.old node)) }
+        ensures refused { IfErr result
+            (λ fault. OfSomeBook G.plan G.start G.workers (RefusesShut self.old node fault)) }
         ensures seat { self.new ≡ record self.old { tray = self.new.tray } }
         ensures same { OnErr result (self.new ≡ self.old) }
     {
@@ -178,11 +187,14 @@ impl<'a, G: Ground> Seat<'a, G> {
     ) -> Result<(), (Refused, Done)>
         requires { MayBring done self.old.tray }
         ensures left { OnOk result (HasLeft done self.old self.new) }
-        ensures reads { OnOk result ((n : ℕ) → is_lent self.new.tray.lent n ≡ true → ReadsStart n self.new.tray) }
+        ensures reads { OnOk result ((n : ℕ) → is_lent self.new.tray.lent n ≡ true
+            → ReadsStart n self.new.tray) }
         ensures room { OnOk result (HasRoom self.old) }
-        ensures taken { OnOk result (OfSomeBook G.plan G.start G.workers (TakesLeave self.old done)) }
+        ensures taken { OnOk result
+            (OfSomeBook G.plan G.start G.workers (TakesLeave self.old done)) }
         ensures full { IfErr result (λ refusal. IsFull self.old → refusal.0 ≡ Refused.Stranger) }
-        ensures refused { IfErr result (λ refusal. HasRoom self.old → OfSomeBook G.plan G.start G.workers (RefusesLeave self.old done refusal.0)) }
+        ensures refused { IfErr result (λ refusal. HasRoom self.old
+            → OfSomeBook G.plan G.start G.workers (RefusesLeave self.old done refusal.0)) }
         ensures same { OnErr result (self.new ≡ self.old) }
         ensures done { IfErr result (λ refusal. refusal.1 ≡ done) }
     {

@@ -1,11 +1,10 @@
 //! What a worker does with the nodes that it enters, outside the lock.
 ghost use Rattle.std.specs.Prelude.{◌≡◌, ◌<◌, ◌||◌, IfOk, OnOk, false, length, true};
-ghost use Rattle.std.specs.List.{list_any};
 ghost use Rattle.iso_book.specs.Leaves.{MayBring, after_leave};
 ghost use Rattle.iso_floor.specs.Workers.{CanPerform, FurtherFromEntry, IsAtEntry, IsEnclosed, IsEnteredFree, IsFree, IsInside, IsLastOf, IsShutFree};
 ghost use Rattle.iso_lifecycle.specs.Subjects.{subject};
 ghost use Rattle.iso_locks.specs.Trays.{GoesOn};
-ghost use Rattle.iso_plan.specs.Locks.{is_write, takes_write};
+ghost use Rattle.iso_plan.specs.Locks.{takes_write};
 ghost use Rattle.iso_plan.specs.Paths.{is_test, parent, row_at};
 ghost use Rattle.iso_plan.specs.RowView.{tree_of};
 ghost use Rattle.iso_serial.specs.OpenedTrays.{IsTrayAfter, StandsApart};
@@ -19,9 +18,8 @@ use iso_lifecycle::done::Done;
 use iso_lifecycle::gate::Gate;
 use iso_lifecycle::kind::BodyKind;
 use iso_locks::laws::lent_nodes_find_their_values;
-use iso_model::access::Access;
 use iso_plan::laws::nodes_are_a_tree;
-use iso_plan::lock::Lock;
+use iso_plan::lock::takes_write;
 use iso_plan::plan::Plan;
 use iso_standing::core_fault::CoreFault;
 use iso_standing::refused::Refused;
@@ -90,7 +88,8 @@ impl<'w, 'a, G: Ground, R: Wait, T: Gate> Worker<'w, 'a, G, R, T> {
         requires positive { 0 < node }
         requires within { node < length G.plan.rows }
         requires inside { IsInside G.plan G.start (parent (tree_of G.plan) node) seat.old.tray }
-        ensures inside { OnOk result (IsInside G.plan G.start (parent (tree_of G.plan) node) seat.new.tray) }
+        ensures inside { OnOk result
+            (IsInside G.plan G.start (parent (tree_of G.plan) node) seat.new.tray) }
         ensures further { OnOk result (GoesOn seat.old.tray seat.new.tray) }
     {
         match self.floor.enter(self.rt, seat, node) {
@@ -104,8 +103,10 @@ impl<'w, 'a, G: Ground, R: Wait, T: Gate> Worker<'w, 'a, G, R, T> {
     #[cycle(depth)]
     fn finish(&self, seat: &mut Seat<'a, G>, node: u32) -> Result<(), Halt>
         requires { IsAtEntry G.plan G.start node seat.old.tray }
-        ensures inside { OnOk result (IsInside G.plan G.start (parent (tree_of G.plan) node) seat.new.tray) }
-        ensures further { OnOk result (FurtherFromEntry G.plan G.start node seat.old.tray seat.new.tray) }
+        ensures inside { OnOk result
+            (IsInside G.plan G.start (parent (tree_of G.plan) node) seat.new.tray) }
+        ensures further { OnOk result
+            (FurtherFromEntry G.plan G.start node seat.old.tray seat.new.tray) }
     {
         let mark = seat.mark(self.alloc, node)?;
         let last = self.bodies(seat, node)?;
@@ -183,8 +184,10 @@ impl<'w, 'a, G: Ground, R: Wait, T: Gate> Worker<'w, 'a, G, R, T> {
     /// the first step and after each.
     fn perform(&self, seat: &mut Seat<'a, G>, node: u32, kind: BodyKind) -> Result<Done, Halt>
         requires { CanPerform G.plan G.start kind node seat.old.tray }
-        ensures done { IfOk result (λ d. d ≡ record { subject = subject G.plan G.start node; kind = kind }) }
-        ensures after { OnOk result (IsTrayAfter G.plan G.start kind node seat.old.tray seat.new.tray) }
+        ensures done { IfOk result (λ d. d
+            ≡ record { subject = subject G.plan G.start node; kind = kind }) }
+        ensures after { OnOk result
+            (IsTrayAfter G.plan G.start kind node seat.old.tray seat.new.tray) }
     {
         let worker = seat.worker();
         let frames = seat.tray().frames();
@@ -198,7 +201,8 @@ impl<'w, 'a, G: Ground, R: Wait, T: Gate> Worker<'w, 'a, G, R, T> {
     /// Books what a body came to.
     fn leave(&self, seat: &mut Seat<'a, G>, done: Done) -> Result<(), Halt>
         requires { MayBring done seat.old.tray }
-        ensures { OnOk result (seat.new.tray ≡ after_leave done.kind done.subject.node seat.old.tray) }
+        ensures { OnOk result (seat.new.tray
+            ≡ after_leave done.kind done.subject.node seat.old.tray) }
     {
         match self.floor.leave(self.rt, seat, done) {
             Ok(()) => Ok(()),
@@ -210,19 +214,8 @@ impl<'w, 'a, G: Ground, R: Wait, T: Gate> Worker<'w, 'a, G, R, T> {
 /// Whether the worker that enters a node does it whole: it is a test, or takes a key for
 /// READ_WRITE.
 pub(crate) fn is_done_whole(plan: &Plan, node: u32) -> bool
-    ensures { node < length plan.now.rows → result ≡ (is_test (row_at (tree_of plan.now) node).kind || takes_write (tree_of plan.now) node) }
+    ensures { node < length plan.now.rows → result
+        ≡ (is_test (row_at (tree_of plan.now) node).kind || takes_write (tree_of plan.now) node) }
 {
     node < plan.len() && (plan.is_test(node) || takes_write(plan.locks(node)))
-}
-
-// Whether one of some locks is for READ_WRITE.
-fn takes_write(locks: &[Lock]) -> bool
-    ensures { result ≡ list_any is_write locks.now }
-{
-    'locks: for lock in locks {
-        if lock.access == Access::Write {
-            return true;
-        }
-    }
-    false
 }

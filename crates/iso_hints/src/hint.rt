@@ -21,8 +21,8 @@ use crate::table::parentheses::parentheses;
 use crate::table::statements::statements;
 use crate::table::symbols::symbols;
 
-/// What mends a mistake in a script, of which a fault stands behind `bytes` bytes: a token that
-/// doesn't fit, or is none.
+/// For a runner of one's own: what mends a mistake in a script, of which a fault stands behind
+/// `bytes` bytes, a token that doesn't fit or is none.
 pub fn hint(text: &[u8], bytes: usize) -> Option<&'static str>
     ensures { option_map (λ told. told.now) result ≡ hint_at text.now bytes }
 {
@@ -30,7 +30,8 @@ pub fn hint(text: &[u8], bytes: usize) -> Option<&'static str>
     hint_for(&place)
 }
 
-/// How the statement or head is written that stands before the place behind `bytes` bytes.
+/// For a runner of one's own: how the statement or head is written that stands before the place
+/// behind `bytes` bytes.
 pub fn form(text: &[u8], bytes: usize) -> Option<&'static str>
     ensures { option_map (λ told. told.now) result ≡ form_at text.now bytes }
 {

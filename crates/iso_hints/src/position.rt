@@ -4,8 +4,8 @@ ghost use Rattle.iso_hints.specs.Positions.{line_start, place_at_position};
 
 use memchr::memchr;
 
-/// How many bytes of a text stand before a line and a column, both from 1 on. A text that has fewer
-/// lines is one with its end there.
+/// For a runner of one's own: how many bytes of a text stand before a line and a column, both from
+/// 1 on. A text that has fewer lines is one with its end there.
 pub fn bytes_before(text: &[u8], line: u32, column: u32) -> usize
     ensures { result ≡ place_at_position text.now line column }
 {

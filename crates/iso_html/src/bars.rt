@@ -1,7 +1,7 @@
 //! The bars of a run: of bodies, and of nodes that had a key.
 ghost use Rattle.std.specs.Prelude.{◌≡◌, ◌<◌, length};
 ghost use Rattle.iso_failures.specs.Failures.{is_failure};
-ghost use Rattle.iso_html.specs.Bars.{body_mark, first_kind, look_of, taken_mark, taking_look};
+ghost use Rattle.iso_html.specs.Bars.{body_mark, look_of, taken_mark, taking_look};
 ghost use Rattle.iso_junit.specs.Runs.{run_of};
 ghost use Rattle.iso_lifecycle.specs.ResultViews.{AreComplete};
 
@@ -59,18 +59,6 @@ fn is_failure(run: &Run<'_, '_>, node: u32) -> bool
         run.view(node).verdict,
         ViewVerdict::Fail(_) | ViewVerdict::Fault(_, _)
     )
-}
-
-/// The first body of a node.
-pub(crate) fn first_kind(run: &Run<'_, '_>, node: u32) -> BodyKind
-    requires { node < length run.now.plan.now.rows }
-    ensures { result ≡ first_kind (run_of run.now) node }
-{
-    if run.plan.is_test(node) {
-        BodyKind::Test
-    } else {
-        BodyKind::BeforeAll
-    }
 }
 
 /// A node that took a key so, from when it was entered until it had finished.

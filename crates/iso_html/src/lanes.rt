@@ -6,12 +6,12 @@ ghost use Rattle.iso_junit.specs.Runs.{run_of};
 ghost use Rattle.iso_lifecycle.specs.ResultViews.{AreComplete};
 ghost use Rattle.iso_plan.specs.Paths.{column};
 
-use crate::bars::{body_mark, first_kind, look_of};
+use crate::bars::{body_mark, look_of};
 use crate::lists::{empty, put};
 use crate::shape::{Look, Mark};
 use iso_critical::critical::CriticalBodies;
 use iso_junit::run::Run;
-use iso_lifecycle::kind::BodyKind;
+use iso_lifecycle::kind::{BodyKind, first_kind};
 use iso_times::times::{BodyTime, Times};
 use std::alloc::{AllocError, Global};
 
@@ -25,7 +25,8 @@ pub(crate) fn lanes(
     workers: u32,
 ) -> Result<Vec<Vec<Mark>>, AllocError>
     requires complete { AreComplete run.now.results.now }
-    ensures { IfOk result (λ v. map (λ l. l.items) v.items ≡ column (lane_marks (run_of run.now) times.now critical.now) workers) }
+    ensures { IfOk result (λ v. map (λ l. l.items) v.items
+        ≡ column (lane_marks (run_of run.now) times.now critical.now) workers) }
 {
     let mut lanes = empty(alloc, workers)?;
     'nodes: for node in 0..run.plan.len() {
@@ -44,7 +45,8 @@ fn add_node(
 ) -> Result<(), AllocError>
     requires complete { AreComplete run.now.results.now }
     requires within { node < length run.now.plan.now.rows }
-    ensures { OnOk result (AreLonger (map (λ l. l.items) lanes.old.items) (map (λ l. l.items) lanes.new.items)
+    ensures { OnOk result (AreLonger (map (λ l. l.items) lanes.old.items)
+        (map (λ l. l.items) lanes.new.items)
         (λ w. node_marks (run_of run.now) times.now critical.now w node)) }
 {
     if run.time(node).is_none() {
@@ -63,11 +65,12 @@ fn add_both(
 ) -> Result<(), AllocError>
     requires complete { AreComplete run.now.results.now }
     requires within { node < length run.now.plan.now.rows }
-    ensures { OnOk result (AreLonger (map (λ l. l.items) lanes.old.items) (map (λ l. l.items) lanes.new.items)
+    ensures { OnOk result (AreLonger (map (λ l. l.items) lanes.old.items)
+        (map (λ l. l.items) lanes.new.items)
         (λ w. both_marks (run_of run.now) times.now critical.now w node)) }
 {
     let look = look_of(run, node);
-    let kind = first_kind(run, node);
+    let kind = first_kind(run.plan, node);
     let first = times.body(node, BodyKind::BeforeAll);
     let last = times.body(node, BodyKind::AfterAll);
     add_body(lanes, node, look, critical.has(node, kind), kind, first)?;
@@ -91,7 +94,8 @@ fn add_body(
     kind: BodyKind,
     time: Option<BodyTime>,
 ) -> Result<(), AllocError>
-    ensures { OnOk result (AreLonger (map (λ l. l.items) lanes.old.items) (map (λ l. l.items) lanes.new.items)
+    ensures { OnOk result (AreLonger (map (λ l. l.items) lanes.old.items)
+        (map (λ l. l.items) lanes.new.items)
         (λ w. body_marks w node look critical kind time)) }
 {
     match time {

@@ -15,7 +15,6 @@ mod lists;
 pub mod measured;
 mod mode;
 mod node;
-mod ok;
 pub mod page;
 mod part;
 mod picture;

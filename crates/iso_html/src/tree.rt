@@ -9,9 +9,9 @@ ghost use Rattle.iso_tap.specs.Printers.{Prints};
 
 use crate::mode::mode;
 use crate::node::{message, name, printed, seconds, stands};
-use crate::ok::is_ok;
 use iso_junit::run::Run;
 use iso_plan::laws;
+use iso_tap::ok::is_ok;
 use iso_tap::printer::Printer;
 use iso_tap::sink::{Sink, SinkFailed};
 
@@ -25,7 +25,8 @@ pub(crate) fn list<W: Sink>(
     requires complete { AreComplete run.now.results.now }
     requires within { node < length run.now.plan.now.rows }
     ensures { Prints printer.old printer.new
-        (list_text (node_text (run_of run.now) run.now.plan.now.settings) (children (tree_of run.now.plan.now) node)) result }
+        (list_text (node_text (run_of run.now) run.now.plan.now.settings)
+        (children (tree_of run.now.plan.now) node)) result }
 {
     laws::nodes_are_a_tree(run.plan);
     printer.bytes(b"<ul>\n")?;
@@ -45,7 +46,8 @@ fn tree_node<W: Sink>(
     requires complete { AreComplete run.now.results.now }
     requires above { 0 < node }
     requires within { node < length run.now.plan.now.rows }
-    ensures { Prints printer.old printer.new (node_text (run_of run.now) run.now.plan.now.settings node) result }
+    ensures { Prints printer.old printer.new
+        (node_text (run_of run.now) run.now.plan.now.settings node) result }
 {
     laws::nodes_are_a_tree(run.plan);
     opening(printer, run, node)?;
@@ -64,7 +66,8 @@ fn inside<W: Sink>(
     requires above { 0 < node }
     requires within { node < length run.now.plan.now.rows }
     ensures { Prints printer.old printer.new
-        (inside_text (run_of run.now) (node_text (run_of run.now) run.now.plan.now.settings) node) result }
+        (inside_text (run_of run.now) (node_text (run_of run.now) run.now.plan.now.settings) node)
+        result }
 {
     if run.plan.is_test(node) {
         return Ok(());
@@ -81,7 +84,8 @@ fn opening<W: Sink>(
     requires complete { AreComplete run.now.results.now }
     requires above { 0 < node }
     requires within { node < length run.now.plan.now.rows }
-    ensures { Prints printer.old printer.new (opening_text (run_of run.now) run.now.plan.now.settings node) result }
+    ensures { Prints printer.old printer.new
+        (opening_text (run_of run.now) run.now.plan.now.settings node) result }
 {
     let view = run.view(node);
     let at = run.place(node);

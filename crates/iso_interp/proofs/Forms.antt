@@ -7,10 +7,12 @@ use Rattle.iso_model.specs.Statements.{State, performed}
 use Rattle.iso_model.specs.Steps.{Piece, begin}
 use Rattle.iso_model.specs.Syntax as S
 use Rattle.iso_model.specs.Syntax.{Act, Plain, plain}
-use Rattle.iso_model.specs.SyntaxView.{term_of, form_of, stmt_of, block_of}
+use Rattle.iso_model.specs.SyntaxView.{term_of, form_of, stmt_of, block_of, with_one, with_two}
 use Rattle.iso_model.specs.declared.tree.Expr.{Expr}
 use Rattle.iso_model.specs.declared.tree.Form as F
+use Rattle.iso_model.specs.declared.tree.OneOperand.{OneOperand}
 use Rattle.iso_model.specs.declared.tree.Stmt.{Stmt}
+use Rattle.iso_model.specs.declared.tree.TwoOperands.{TwoOperands}
 use Rattle.iso_interp.specs.Runs.{SameWork, pieces_in, pieces_of}
 use Rattle.iso_interp.specs.declared.run.BlockRun.{BlockRun}
 use Rattle.iso_interp.specs.declared.run.Pending.{Pending}
@@ -30,65 +32,23 @@ form_of-assign x e = search (rules, F.the_lemmas)
 pub stmt_of-assign : (s : Stmt) (x : List ℕ) (e : Expr) → s.form ≡ F.Assign x e → stmt_of s ≡ (s.row, plain (S.assign x (term_of e)))
 stmt_of-assign s x e is = stmt_of-parts s ∙ rw (is, form_of-assign x e) refl
 
-form_of-print : (e : Expr) → form_of (F.Print e) ≡ plain (S.print (term_of e))
-form_of-print e = search (rules, F.the_lemmas)
+form_of-one : (what : OneOperand) (e : Expr) → form_of (F.One what e) ≡ plain (with_one what (term_of e))
+form_of-one what e = search (rules, F.the_lemmas)
 
-pub stmt_of-print : (s : Stmt) (e : Expr) → s.form ≡ F.Print e → stmt_of s ≡ (s.row, plain (S.print (term_of e)))
-stmt_of-print s e is = stmt_of-parts s ∙ rw (is, form_of-print e) refl
+pub stmt_of-one : (s : Stmt) (what : OneOperand) (e : Expr) → s.form ≡ F.One what e → stmt_of s ≡ (s.row, plain (with_one what (term_of e)))
+stmt_of-one s what e is = stmt_of-parts s ∙ rw (is, form_of-one what e) refl
 
-form_of-assert : (e : Expr) → form_of (F.Assert e) ≡ plain (S.assert (term_of e))
-form_of-assert e = search (rules, F.the_lemmas)
+form_of-two : (what : TwoOperands) (a b : Expr) → form_of (F.Two what a b) ≡ plain (with_two what (term_of a) (term_of b))
+form_of-two what a b = search (rules, F.the_lemmas)
 
-pub stmt_of-assert : (s : Stmt) (e : Expr) → s.form ≡ F.Assert e → stmt_of s ≡ (s.row, plain (S.assert (term_of e)))
-stmt_of-assert s e is = stmt_of-parts s ∙ rw (is, form_of-assert e) refl
-
-form_of-assert_equal : (a b : Expr) → form_of (F.AssertEqual a b) ≡ plain (S.assert_equal (term_of a) (term_of b))
-form_of-assert_equal a b = search (rules, F.the_lemmas)
-
-pub stmt_of-assert_equal : (s : Stmt) (a b : Expr) → s.form ≡ F.AssertEqual a b → stmt_of s ≡ (s.row, plain (S.assert_equal (term_of a) (term_of b)))
-stmt_of-assert_equal s a b is = stmt_of-parts s ∙ rw (is, form_of-assert_equal a b) refl
+pub stmt_of-two : (s : Stmt) (what : TwoOperands) (a b : Expr) → s.form ≡ F.Two what a b → stmt_of s ≡ (s.row, plain (with_two what (term_of a) (term_of b)))
+stmt_of-two s what a b is = stmt_of-parts s ∙ rw (is, form_of-two what a b) refl
 
 form_of-assume : (e : Expr) (reason : List ℕ) → form_of (F.Assume e reason) ≡ plain (S.assume (term_of e) reason)
 form_of-assume e reason = search (rules, F.the_lemmas)
 
 pub stmt_of-assume : (s : Stmt) (e : Expr) (reason : List ℕ) → s.form ≡ F.Assume e reason → stmt_of s ≡ (s.row, plain (S.assume (term_of e) reason))
 stmt_of-assume s e reason is = stmt_of-parts s ∙ rw (is, form_of-assume e reason) refl
-
-form_of-set_prop : (a b : Expr) → form_of (F.SetProp a b) ≡ plain (S.set_prop (term_of a) (term_of b))
-form_of-set_prop a b = search (rules, F.the_lemmas)
-
-pub stmt_of-set_prop : (s : Stmt) (a b : Expr) → s.form ≡ F.SetProp a b → stmt_of s ≡ (s.row, plain (S.set_prop (term_of a) (term_of b)))
-stmt_of-set_prop s a b is = stmt_of-parts s ∙ rw (is, form_of-set_prop a b) refl
-
-form_of-clear_prop : (e : Expr) → form_of (F.ClearProp e) ≡ plain (S.clear_prop (term_of e))
-form_of-clear_prop e = search (rules, F.the_lemmas)
-
-pub stmt_of-clear_prop : (s : Stmt) (e : Expr) → s.form ≡ F.ClearProp e → stmt_of s ≡ (s.row, plain (S.clear_prop (term_of e)))
-stmt_of-clear_prop s e is = stmt_of-parts s ∙ rw (is, form_of-clear_prop e) refl
-
-form_of-set_locale : (e : Expr) → form_of (F.SetLocale e) ≡ plain (S.set_locale (term_of e))
-form_of-set_locale e = search (rules, F.the_lemmas)
-
-pub stmt_of-set_locale : (s : Stmt) (e : Expr) → s.form ≡ F.SetLocale e → stmt_of s ≡ (s.row, plain (S.set_locale (term_of e)))
-stmt_of-set_locale s e is = stmt_of-parts s ∙ rw (is, form_of-set_locale e) refl
-
-form_of-write_file : (a b : Expr) → form_of (F.WriteFile a b) ≡ plain (S.write_file (term_of a) (term_of b))
-form_of-write_file a b = search (rules, F.the_lemmas)
-
-pub stmt_of-write_file : (s : Stmt) (a b : Expr) → s.form ≡ F.WriteFile a b → stmt_of s ≡ (s.row, plain (S.write_file (term_of a) (term_of b)))
-stmt_of-write_file s a b is = stmt_of-parts s ∙ rw (is, form_of-write_file a b) refl
-
-form_of-append_file : (a b : Expr) → form_of (F.AppendFile a b) ≡ plain (S.append_file (term_of a) (term_of b))
-form_of-append_file a b = search (rules, F.the_lemmas)
-
-pub stmt_of-append_file : (s : Stmt) (a b : Expr) → s.form ≡ F.AppendFile a b → stmt_of s ≡ (s.row, plain (S.append_file (term_of a) (term_of b)))
-stmt_of-append_file s a b is = stmt_of-parts s ∙ rw (is, form_of-append_file a b) refl
-
-form_of-delete_file : (e : Expr) → form_of (F.DeleteFile e) ≡ plain (S.delete_file (term_of e))
-form_of-delete_file e = search (rules, F.the_lemmas)
-
-pub stmt_of-delete_file : (s : Stmt) (e : Expr) → s.form ≡ F.DeleteFile e → stmt_of s ≡ (s.row, plain (S.delete_file (term_of e)))
-stmt_of-delete_file s e is = stmt_of-parts s ∙ rw (is, form_of-delete_file e) refl
 
 form_of-if : (e : Expr) (a b : Vec Stmt Global) → form_of (F.If e a b) ≡ S.choice (term_of e) (block_of a.items) (block_of b.items)
 form_of-if e a b = search (rules, F.the_lemmas)

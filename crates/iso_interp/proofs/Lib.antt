@@ -1,6 +1,5 @@
 pub mod Assertions
 pub mod Blocks
-pub mod ByTexts
 pub mod Chains
 pub mod Completion
 pub mod Forms

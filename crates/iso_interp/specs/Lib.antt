@@ -1,4 +1,3 @@
 pub mod Blocks
-pub mod ByTexts
 pub mod Runs
 pub mod Values

@@ -1,12 +1,19 @@
 -- What the values of an evaluation stand for, wherever their texts are.
 use Rattle.std.specs.Borrow.{Bor}
-use Rattle.std.specs.Prelude.{ℕ, List, ◌++◌, Option, Some, None, Result, Ok, Err, cond, ◌≡◌, ⊤}
-use Rattle.iso_model.specs.Evaluation.{Given, is_equal, is_short, then}
+use Rattle.std.specs.Prelude.{ℕ, ℤ, List, ◌++◌, drop, Option, Some, None, Result, Ok, Err, cond, ◌≡◌, ⊤}
+use Rattle.iso_model.specs.Evaluation.{Given, evaluated, evaluated_all, is_equal, is_short, joined, joined_all, then}
+use Rattle.iso_model.specs.Resources.{Resources}
+use Rattle.iso_model.specs.Rights.{Rights}
+use Rattle.iso_model.specs.Syntax.{Term}
+use Rattle.iso_model.specs.SyntaxView.{terms_of_all}
 use Rattle.iso_model.specs.Texts.{difference_message}
 use Rattle.iso_model.specs.declared.data.Data.{Data}
 use Rattle.iso_model.specs.declared.data.Data.TheVariants as D
 use Rattle.iso_model.specs.declared.fault.Fault.{Fault}
 use Rattle.iso_model.specs.declared.fault.Fault.TheVariants.{MissingFile, TextTooLong}
+use Rattle.iso_model.specs.declared.names.Binding.{Binding}
+use Rattle.iso_model.specs.declared.tree.Expr.{Expr}
+use Rattle.iso_model.specs.declared.tree.Operator.{Operator}
 use Rattle.iso_interp.specs.declared.interrupt.Interrupt.{Interrupt}
 use Rattle.iso_interp.specs.declared.interrupt.Interrupt.TheVariants as I
 use Rattle.iso_interp.specs.declared.value.TextValue.{TextValue}
@@ -33,6 +40,23 @@ Answers view (Ok x) given = given ≡ Ok (view x)
 Answers view (Err (I.Fault fault)) given = given ≡ Err fault
 Answers view (Err I.OutOfMemory) given = ⊤
 
+-- an expression has this value, whatever the resources and the rights are
+abbrev pub AlwaysGives : List Binding → Term → Data → Type 0
+AlwaysGives names e d = (m : Resources) (r : Rights) → evaluated names m r e ≡ Ok d
+
+-- a number and the operand after it come to this number, whatever the resources and the rights are
+abbrev pub ComeTo : List Binding → Operator → ℤ → Term → ℤ → Type 0
+ComeTo names op x e z =
+    (m : Resources) (r : Rights) → then (evaluated names m r e) (joined op (D.Whole x))
+    ≡ Ok (D.Whole z)
+
+-- a value with these operands comes to what this one with those from this place on comes to
+abbrev pub SumUpTo : List Binding → Operator → Data → List Expr → (sum : Data)
+    → (place : ℕ) → Type 0
+SumUpTo names op x es sum place = (m : Resources) (r : Rights) →
+    then (evaluated_all names m r (terms_of_all (drop place es))) (joined_all op sum)
+    ≡ then (evaluated_all names m r (terms_of_all es)) (joined_all op x)
+
 abbrev pub text_given : Result (Bor (List ℕ)) Fault → Result (List ℕ) Fault
 text_given (Ok t) = Ok t.now
 text_given (Err fault) = Err fault
@@ -40,7 +64,8 @@ text_given (Err fault) = Err fault
 -- what an `assert_equal` of two values says, where they differ
 abbrev pub difference : Given → Given → Result (Option (List ℕ)) Fault
 difference a b =
-    then a (λ x. then b (λ y. then (is_equal x y) (λ holds. Ok (cond holds None (Some (difference_message x y))))))
+    then a (λ x. then b (λ y. then (is_equal x y)
+    (λ holds. Ok (cond holds None (Some (difference_message x y))))))
 
 -- a text after that of a file, where the file is there and they aren't too long together
 abbrev pub appended : List ℕ → List ℕ → Option (List ℕ) → Result (List ℕ) Fault

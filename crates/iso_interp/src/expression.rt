@@ -1,5 +1,5 @@
 //! The value of an expression, over the names, the rights and the resources of a block.
-ghost use Rattle.std.specs.Prelude.{◌≡◌, [], IfOk, Err, Ok, option_copied, option_map};
+ghost use Rattle.std.specs.Prelude.{◌≡◌, [], IfOk, IfSome, Err, Ok, drop, option_copied, option_map};
 ghost use Rattle.iso_model.specs.Evaluation.{called, compared, evaluated, evaluated_all, joined, joined_all, looked, or_fault, then};
 ghost use Rattle.iso_model.specs.Names.{binding_of};
 ghost use Rattle.iso_model.specs.ResourceKeys.{spelling};
@@ -12,10 +12,10 @@ ghost use Rattle.iso_model.specs.declared.data.Data.TheVariants.{Flag};
 ghost use Rattle.iso_model.specs.declared.fault.Fault.TheVariants as Faults;
 ghost use Rattle.iso_model.specs.declared.names.Binding.{Binding};
 ghost use Rattle.iso_model.specs.declared.tree.Function.TheVariants as Functions;
-ghost use Rattle.iso_interp.specs.Values.{Answers, data_of, given_of};
+ghost use Rattle.iso_interp.specs.Values.{AlwaysGives, Answers, ComeTo, SumUpTo, data_of, given_of};
 
 use crate::interrupt::Interrupt;
-use crate::operators::{compared, joined};
+use crate::operators::{combined_numbers, compared, joined};
 use crate::value::{Given, TextValue, Value, as_text, length};
 use iso_model::access::Access;
 use iso_model::fault::Fault;
@@ -31,6 +31,7 @@ use std::alloc::{AllocError, Global};
 /// The value of an expression, or its first fault. Operands are evaluated from the left, each once.
 /// Memory is taken only for a text that is made, and for a fault.
 #[cycle(evaluate)]
+#[inline(always)]
 pub fn evaluate<'a, T: Touch>(
     alloc: Global,
     names: &'a Names,
@@ -39,13 +40,55 @@ pub fn evaluate<'a, T: Touch>(
     expression: &'a Expr,
 ) -> Result<Value<'a>, Interrupt>
     requires { HasKeys (access_in rights.now) (T.content touch.now) (T.writes touch.now) }
-    ensures { Answers data_of result (evaluated names.now.names (T.content touch.now) (access_in rights.now) (term_of expression.now)) }
+    ensures { Answers data_of result (evaluated names.now.names (T.content touch.now)
+        (access_in rights.now) (term_of expression.now)) }
+{
+    match at_once(names, expression) {
+        Some(value) => Ok(value),
+        None => worked_out(alloc, names, rights, touch, expression),
+    }
+}
+
+/// The value of a literal or of a visible name. Most expressions are one, so no call is made for
+/// them.
+#[inline(always)]
+fn at_once<'a>(names: &'a Names, expression: &'a Expr) -> Option<Value<'a>>
+    ensures { IfSome result (λ v. AlwaysGives names.now.names (term_of expression.now)
+        (data_of v)) }
+{
+    match expression {
+        Expr::Literal(data) => Some(Value::lent(data)),
+        Expr::Name(name) => {
+            let binding = names.get(name.as_str())?;
+            Some(Value::lent(binding.value))
+        }
+        _ => None,
+    }
+}
+
+/// The value of an expression by what it is made of.
+#[cycle(evaluate)]
+#[inline(never)]
+fn worked_out<'a, T: Touch>(
+    alloc: Global,
+    names: &'a Names,
+    rights: &Rights,
+    touch: &'a T,
+    expression: &'a Expr,
+) -> Result<Value<'a>, Interrupt>
+    requires { HasKeys (access_in rights.now) (T.content touch.now) (T.writes touch.now) }
+    ensures { Answers data_of result (evaluated names.now.names (T.content touch.now)
+        (access_in rights.now) (term_of expression.now)) }
 {
     match expression {
         Expr::Literal(data) => Ok(Value::lent(data)),
         Expr::Name(name) => named(alloc, names, name),
         Expr::Chain(operator, first, rest) => match evaluate(alloc, names, rights, touch, first) {
-            Ok(first) => chain(alloc, names, rights, touch, *operator, first, rest),
+            Ok(first) => {
+                let rest: &[Expr] = rest;
+                let (before, passed) = summed(names, *operator, first, rest);
+                chain(alloc, names, rights, touch, *operator, before, rest, passed)
+            }
             Err(interrupt) => Err(interrupt),
         },
         Expr::Compare(comparison, first, second) => {
@@ -62,8 +105,60 @@ pub fn evaluate<'a, T: Touch>(
     }
 }
 
-/// A chain of a first value and the operands after it. All of them are evaluated before a fault of
-/// joining them counts.
+/// What a first value and the operands after it come to, as far as all of them are numbers at once;
+/// and how many operands these are. Most chains are of numbers, and need no call.
+#[inline(always)]
+fn summed<'a>(
+    names: &Names,
+    operator: Operator,
+    first: Value<'a>,
+    rest: &[Expr],
+) -> (Value<'a>, usize)
+    ensures { SumUpTo names.now.names operator (data_of first.entry) rest.now
+        (data_of result.0) result.1 }
+{
+    match first {
+        Value::Whole(first) => {
+            let (sum, passed) = numbers(names, operator, first, rest);
+            (Value::Whole(sum), passed)
+        }
+        first => (first, 0),
+    }
+}
+
+/// The same of a first number.
+#[inline(always)]
+fn numbers(names: &Names, operator: Operator, first: i64, rest: &[Expr]) -> (i64, usize)
+    ensures { SumUpTo names.now.names operator (Kinds.Whole first) rest.now
+        (Kinds.Whole result.0) result.1 }
+{
+    let mut sum = first;
+    for passed in 0..rest.len() {
+        match next_number(names, operator, sum, &rest[passed]) {
+            Some(next) => sum = next,
+            None => return (sum, passed),
+        }
+    }
+    (sum, rest.len())
+}
+
+/// What a number and the operand after it come to, where the operand is a number at once and the
+/// two come to a number.
+#[inline(always)]
+fn next_number(names: &Names, operator: Operator, sum: i64, operand: &Expr) -> Option<i64>
+    ensures { IfSome result (ComeTo names.now.names operator sum (term_of operand.now)) }
+{
+    match at_once(names, operand)? {
+        Value::Whole(number) => match combined_numbers(operator, sum, number) {
+            Ok(Value::Whole(next)) => Some(next),
+            _ => None,
+        },
+        _ => None,
+    }
+}
+
+/// A chain of what its operands before this place come to, and of those from it on. All of them are
+/// evaluated before a fault of joining them counts.
 #[cycle(evaluate)]
 fn chain<'a, T: Touch>(
     alloc: Global,
@@ -71,17 +166,19 @@ fn chain<'a, T: Touch>(
     rights: &Rights,
     touch: &'a T,
     operator: Operator,
-    first: Value<'a>,
+    before: Value<'a>,
     rest: &'a [Expr],
+    from: usize,
 ) -> Result<Value<'a>, Interrupt>
     requires { HasKeys (access_in rights.now) (T.content touch.now) (T.writes touch.now) }
     ensures { Answers data_of result (then
-        (evaluated_all names.now.names (T.content touch.now) (access_in rights.now) (terms_of_all rest.now))
-        (λ ds. joined_all operator (data_of first.entry) ds)) }
+        (evaluated_all names.now.names (T.content touch.now) (access_in rights.now)
+        (terms_of_all (drop from rest.now)))
+        (λ ds. joined_all operator (data_of before.entry) ds)) }
 {
-    let mut sum = Ok(first);
-    for operand in rest {
-        match evaluate(alloc, names, rights, touch, operand) {
+    let mut sum = Ok(before);
+    for place in from..rest.len() {
+        match evaluate(alloc, names, rights, touch, &rest[place]) {
             Ok(value) => sum = joined_to(alloc, operator, sum, value)?,
             // A call drops the sum: its variants then stand in the proof of that call alone.
             Err(interrupt) => {
@@ -109,7 +206,8 @@ fn against<'a, T: Touch>(
 ) -> Result<Value<'a>, Interrupt>
     requires { HasKeys (access_in rights.now) (T.content touch.now) (T.writes touch.now) }
     ensures { Answers data_of result (then
-        (evaluated names.now.names (T.content touch.now) (access_in rights.now) (term_of second.now))
+        (evaluated names.now.names (T.content touch.now) (access_in rights.now)
+        (term_of second.now))
         (λ y. then (compared comparison (data_of first.entry) y) (λ holds. Ok (Flag holds)))) }
 {
     match evaluate(alloc, names, rights, touch, second) {
@@ -127,7 +225,9 @@ fn comparison_of<'a>(
     first: Value<'_>,
     second: Value<'_>,
 ) -> Result<Value<'a>, Interrupt>
-    ensures { Answers data_of result (then (compared comparison (data_of first.entry) (data_of second.entry)) (λ holds. Ok (Flag holds))) }
+    ensures { Answers data_of result
+        (then (compared comparison (data_of first.entry) (data_of second.entry))
+        (λ holds. Ok (Flag holds))) }
 {
     let holds = compared(comparison, &first, &second);
     drop(first);
@@ -145,7 +245,8 @@ fn joined_to<'a>(
     sum: Given<'a>,
     value: Value<'a>,
 ) -> Result<Given<'a>, AllocError>
-    ensures { IfOk result (λ g. given_of g ≡ then (given_of sum.entry) (λ x. joined operator x (data_of value.entry))) }
+    ensures { IfOk result (λ g. given_of g
+        ≡ then (given_of sum.entry) (λ x. joined operator x (data_of value.entry))) }
 {
     match sum {
         Ok(sum) => {
@@ -163,7 +264,9 @@ fn joined_to<'a>(
 
 /// The value of a name.
 fn named<'a>(alloc: Global, names: &'a Names, name: &Text) -> Result<Value<'a>, Interrupt>
-    ensures { Answers data_of result (or_fault (option_map (λ (b : Binding). b.value) (binding_of names.now.names name.now)) (Faults.UnknownName name.now)) }
+    ensures { Answers data_of result
+        (or_fault (option_map (λ (b : Binding). b.value) (binding_of names.now.names name.now))
+        (Faults.UnknownName name.now)) }
 {
     match names.get(name.as_str()) {
         Some(binding) => Ok(Value::lent(binding.value)),
@@ -180,7 +283,8 @@ fn call<'a, T: Touch>(
     operand: Value<'a>,
 ) -> Result<Value<'a>, Interrupt>
     requires { HasKeys (access_in rights.now) (T.content touch.now) (T.writes touch.now) }
-    ensures { Answers data_of result (called (T.content touch.now) (access_in rights.now) function (data_of operand.entry)) }
+    ensures { Answers data_of result (called (T.content touch.now) (access_in rights.now) function
+        (data_of operand.entry)) }
 {
     if let Function::Text = function {
         return Ok(Value::Text(operand.text(alloc)?));
@@ -202,7 +306,8 @@ fn call_on_text<'a, T: Touch>(
     text: &str,
 ) -> Result<Value<'a>, Interrupt>
     requires { HasKeys (access_in rights.now) (T.content touch.now) (T.writes touch.now) }
-    ensures { Answers data_of result (called (T.content touch.now) (access_in rights.now) function (Kinds.Text text.now)) }
+    ensures { Answers data_of result (called (T.content touch.now) (access_in rights.now) function
+        (Kinds.Text text.now)) }
 {
     match function {
         Function::Text => Ok(Value::Text(TextValue::Made(Text::copied(alloc, text)?))),
@@ -264,7 +369,8 @@ fn locale<'a, T: Touch>(
     touch: &'a T,
 ) -> Result<Value<'a>, Interrupt>
     requires { HasKeys (access_in rights.now) (T.content touch.now) (T.writes touch.now) }
-    ensures { Answers data_of result (evaluated [] (T.content touch.now) (access_in rights.now) locale) }
+    ensures { Answers data_of result
+        (evaluated [] (T.content touch.now) (access_in rights.now) locale) }
 {
     let found = looked(alloc, rights, touch, ResourceKey::Locale, Ask::Locale)?;
     Ok(Value::Text(TextValue::Lent(found.unwrap_or(""))))

@@ -6,5 +6,5 @@ mod expression;
 mod interrupt;
 mod operators;
 pub mod run;
+pub mod run_block;
 mod value;
-pub mod whole;

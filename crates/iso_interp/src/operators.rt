@@ -18,7 +18,8 @@ pub fn joined<'a>(
     first: &Value<'_>,
     second: &Value<'_>,
 ) -> Result<Given<'a>, AllocError>
-    ensures { IfOk result (λ g. given_of g ≡ joined operator (data_of first.now) (data_of second.now)) }
+    ensures { IfOk result (λ g. given_of g
+        ≡ joined operator (data_of first.now) (data_of second.now)) }
 {
     match (first, second) {
         (Value::Whole(x), Value::Whole(y)) => Ok(combined_numbers(operator, *x, *y)),
@@ -28,7 +29,7 @@ pub fn joined<'a>(
 }
 
 /// What an operator makes of two numbers.
-fn combined_numbers<'a>(operator: Operator, x: i64, y: i64) -> Given<'a>
+pub fn combined_numbers<'a>(operator: Operator, x: i64, y: i64) -> Given<'a>
     ensures { given_of result ≡ joined operator (Kinds.Whole x) (Kinds.Whole y) }
 {
     let number = match operator {
@@ -50,7 +51,8 @@ fn combined_texts<'a>(
     first: &str,
     second: &str,
 ) -> Result<Given<'a>, AllocError>
-    ensures { IfOk result (λ g. given_of g ≡ joined operator (Kinds.Text first.now) (Kinds.Text second.now)) }
+    ensures { IfOk result (λ g. given_of g
+        ≡ joined operator (Kinds.Text first.now) (Kinds.Text second.now)) }
 {
     if !matches!(operator, Operator::Join) {
         return Ok(Err(Fault::WrongKind));
@@ -63,7 +65,8 @@ fn combined_texts<'a>(
 
 /// Two texts as one, or `None` where it would be too long.
 pub fn joined_text(alloc: Global, first: &str, second: &str) -> Result<Option<Text>, AllocError>
-    ensures { IfOk result (λ o. o ≡ cond (is_short (first.now ++ second.now)) (Some (first.now ++ second.now)) None) }
+    ensures { IfOk result (λ o. o ≡ cond (is_short (first.now ++ second.now))
+        (Some (first.now ++ second.now)) None) }
 {
     let limit = TEXT_BYTES as usize;
     if first.len() > limit || second.len() > limit - first.len() {

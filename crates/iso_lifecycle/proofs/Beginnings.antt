@@ -5,7 +5,7 @@ use Rattle.std.specs.Arc.{arc_value}
 use Rattle.std.specs.declared.alloc.Global.{Global}
 use Rattle.std.specs.declared.sync.Arc.{Arc}
 use Rattle.iso_model.proofs.BodyKeys.{body-step-alike}
-use Rattle.iso_model.specs.Agreement.{EqualAt}
+use Rattle.iso_model.specs.ChainAgreement.{EqualAt}
 use Rattle.iso_model.specs.Bodies.{Going, Stage, body_step, during, ended, fresh_account, going, is_ended, stage_from, stage_unless, test_stage}
 use Rattle.iso_model.specs.BodyAgreement.{AlikeGoing}
 use Rattle.iso_model.specs.Chains.{ClassHead, TestHead}
@@ -59,7 +59,8 @@ opening-begins s c cs n reason acts names chain count disabled block are =
     (λ i. stage_unless (disabled i) (are i) (job (Class (count i) L.BeforeAll) (block i) (length (are i)) false ∷ []))
     ∙ sym (λ i. (begun_opening (chain i) (opening_of (enclosing s))).stage)
 
-pub closing-begins : (s : Subject) (c : ClassHead) (cs : List ClassHead) (n : ℕ) (acts : Acts) (names : List Binding) → classes_of s ≡ c ∷ cs → n ≡ length (c ∷ cs) → acts ≡ acts_unless c.disabled c.after_all
+pub closing-begins : (s : Subject) (c : ClassHead) (cs : List ClassHead) (n : ℕ) (acts : Acts) (names : List Binding)
+    → classes_of s ≡ c ∷ cs → n ≡ length (c ∷ cs) → acts ≡ acts_unless c.disabled c.after_all
     → names ≡ statics_of (opening_of s).frames
     → stage_from (job (Class n L.AfterAll) acts (length names) false ∷ []) (fresh_account names) ≡ (begun AfterAll s).stage
 closing-begins s c cs n acts names chain count block are =

@@ -3,6 +3,7 @@ pub mod Beginnings
 pub mod Combined
 pub mod Comings
 pub mod ExampleResults
+pub mod FirstKinds
 pub mod Following
 pub mod FramesUp
 pub mod Framing

@@ -1,6 +1,6 @@
 -- What a body is for, and where it stands.
 use Rattle.std.specs.Prelude.{◌≡◌, ℕ}
-use Rattle.iso_model.specs.Agreement.{EqualAt}
+use Rattle.iso_model.specs.ChainAgreement.{EqualAt}
 use Rattle.iso_model.specs.Bodies.{Stage}
 use Rattle.iso_model.specs.Resources.{Resources}
 use Rattle.iso_lifecycle.specs.BodyRuns.{rights_of, stage_of}
@@ -34,4 +34,5 @@ pub record IsBeginning (o : Origin) (b : Beginning) : Type 0 where
 pub record Stands (b : Body) (m : Resources) : Type 0 where
   pub steps : ℕ
   pub stage : stage_of_body b ≡ (reached (kind_of_body b) (subject_of b) steps).stage
-  pub resources : EqualAt (rights_of_subject (subject_of b)) m (reached (kind_of_body b) (subject_of b) steps).resources
+  pub resources : EqualAt (rights_of_subject (subject_of b)) m
+      (reached (kind_of_body b) (subject_of b) steps).resources

@@ -1,6 +1,6 @@
 -- What a frame, a body or a done is for: a node of a plan, on starting values; and what the
 -- definitions say of it.
-use Rattle.std.specs.Prelude.{◌≡◌, ℕ, List, [], ◌∷◌, ◌++◌, map, reverse, Option, Some, None, Bool, true, false, refl}
+use Rattle.std.specs.Prelude.{◌≡◌, ℕ, List, [], ◌∷◌, ◌++◌, cond, map, reverse, Option, Some, None, Bool, true, false, refl}
 use Rattle.std.specs.Coded.{Coded, code_by, coded×, coded_ℕ}
 use Rattle.iso_model.specs.Alone.{class_alone, test_alone}
 use Rattle.iso_model.specs.Bodies.{Going, body_steps, ended, fresh_account, going, closing_stage, opening_stage, test_stage}
@@ -15,7 +15,7 @@ use Rattle.iso_model.specs.declared.outcome.Ending.TheVariants.{Well}
 use Rattle.iso_model.specs.declared.outcome.Outcome.{Outcome}
 use Rattle.iso_model.specs.declared.outcome.Verdict.TheVariants.{Pass}
 use Rattle.iso_plan.specs.NodeChains.{chain_classes, chain_test, node_rights}
-use Rattle.iso_plan.specs.Paths.{parent, path, row_at}
+use Rattle.iso_plan.specs.Paths.{is_test, parent, path, row_at}
 use Rattle.iso_plan.specs.Planned.{Planned}
 use Rattle.iso_plan.specs.RowView.{tree_of}
 use Rattle.iso_plan.specs.Tree.{Kind, root, class_node, test_node, Row}
@@ -36,7 +36,8 @@ subject plan start node = record { plan = plan; start = start; node = node }
 -- a subject is stored as its parts
 abbrev pub subject_code : Coded Subject
 subject_code =
-    code_by (Planned × (Start × ℕ)) (coded× plan.the_row.coded (coded× start_code coded_ℕ)) (λ s. (s.plan, (s.start, s.node))) (λ p. subject p.0 p.1.0 p.1.1) (λ _. refl)
+    code_by (Planned × (Start × ℕ)) (coded× plan.the_row.coded (coded× start_code coded_ℕ))
+    (λ s. (s.plan, (s.start, s.node))) (λ p. subject p.0 p.1.0 p.1.1) (λ _. refl)
 
 -- the starting value of each key
 abbrev pub started : Start → Resources
@@ -94,6 +95,10 @@ is_kind_of AfterAll (class_node isolated head) = true
 is_kind_of BeforeAll (test_node head) = false
 is_kind_of Test (test_node head) = true
 is_kind_of AfterAll (test_node head) = false
+
+-- the body with which a node begins: a test's own, or the `before_all` of a class
+abbrev pub first_kind : List Row → ℕ → BodyKind
+first_kind tree n = cond (is_test (row_at tree n).kind) Test BeforeAll
 
 -- a subject's node is a class
 abbrev pub IsOfClass : Subject → Type 0

@@ -1,6 +1,6 @@
 -- When a body can begin, and what it leaves when it is done to its end.
 use Rattle.std.specs.Prelude.{◌≡◌, ℕ, ◌<◌, List, length, map, Bool, true, false}
-use Rattle.iso_model.specs.Agreement.{EqualAt}
+use Rattle.iso_model.specs.ChainAgreement.{EqualAt}
 use Rattle.iso_model.specs.Bodies.{body_finished}
 use Rattle.iso_model.specs.Resources.{Resources}
 use Rattle.iso_model.specs.Rights.{is_writable}
@@ -22,7 +22,8 @@ pub record CanBegin (s : Subject) (kind : BodyKind) (given : List Subject) : Typ
 
 -- Resources are ready for the body: all keys of its rights are there, and stand as the openings
 -- before it have left them.
-pub record IsReadyFor (s : Subject) (kind : BodyKind) (m : Resources) (writes : List ℕ → Bool) : Type 0 where
+pub record IsReadyFor (s : Subject) (kind : BodyKind) (m : Resources)
+    (writes : List ℕ → Bool) : Type 0 where
   pub keys : HasKeys (rights_of_subject s) m writes
   pub stands : EqualAt (rights_of_subject s) m (begun kind s).resources
 
@@ -30,4 +31,5 @@ pub record IsReadyFor (s : Subject) (kind : BodyKind) (m : Resources) (writes : 
 -- its rights stand as the whole body leaves them.
 pub record IsAfterBody (s : Subject) (kind : BodyKind) (old new : Resources) : Type 0 where
   pub others : (k : List ℕ) → is_writable (rights_of_subject s k) ≡ false → new k ≡ old k
-  pub whole : EqualAt (rights_of_subject s) new (body_finished (rights_of_subject s) (begun kind s)).resources
+  pub whole : EqualAt (rights_of_subject s) new
+      (body_finished (rights_of_subject s) (begun kind s)).resources

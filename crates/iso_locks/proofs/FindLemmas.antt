@@ -10,7 +10,7 @@ use Rattle.iso_locks.specs.Owners.{AreOwned}
 use Rattle.iso_locks.specs.Slots.{Slots, slot}
 use Rattle.iso_locks.specs.Trays.{TrayView, content, has_at, has_value, holds_read, is_lent, is_open, is_read, key_at, reads, seen, seen_at}
 use Rattle.iso_model.proofs.RightsLemmas.{strongest-none}
-use Rattle.iso_model.specs.Keys.{global_key}
+use Rattle.iso_model.specs.ResourceKeys.{global_key}
 use Rattle.iso_model.specs.Rights.{is_readable, is_writable, strongest}
 use Rattle.iso_model.specs.declared.access.Access.{Access}
 use Rattle.iso_model.specs.declared.access.Access.TheVariants.{Read, Write}
@@ -37,7 +37,8 @@ isolated-locks tree b m top holds =
     ap (outermost (declares tree)) (own-path tree b m top)
     ∙ ap (λ (d : Bool). option_or None (cond d (Some m) None)) (or-left (holds_isolated tree m) (is_marked tree m) holds)
 
-global-locks : (tree : List Row) → IsBelow tree → (m : ℕ) (k : List ℕ) → is_top tree m ≡ true → is_writable (taken tree m k) ≡ true → (own : Bool) → is_locking tree m ≡ own → locking_node tree m ≡ Some m
+global-locks : (tree : List Row) → IsBelow tree → (m : ℕ) (k : List ℕ) → is_top tree m ≡ true
+    → is_writable (taken tree m k) ≡ true → (own : Bool) → is_locking tree m ≡ own → locking_node tree m ≡ Some m
 global-locks tree b m k top w true own = that-is (locking_node tree m) m own
 global-locks tree b m k top w false own =
     let alone : taken tree m k ≡ global_access tree m k =
@@ -140,7 +141,8 @@ finds-start t is fits own flat n k within l h =
     let shown : is_open tree t.lent k ≡ true = any-has t.lent (holds_read tree k) (length tree) n (omega arith) l h in
     ap (seen_at tree t.world t.lent t.values k) num.is ∙ ap₂ (λ (o : Option History) (s : Bool). seen o s start) none shown
 
-pub finds-value : (t : TrayView) → IsTree (tree_of t.plan) → AreOwned (tree_of t.plan) t.flat t.lent t.values → (n : ℕ) (k : List ℕ) → is_lent t.lent n ≡ true → is_writable (taken (tree_of t.plan) n k) ≡ true → has_value t k ≡ true
+pub finds-value : (t : TrayView) → IsTree (tree_of t.plan) → AreOwned (tree_of t.plan) t.flat t.lent t.values
+    → (n : ℕ) (k : List ℕ) → is_lent t.lent n ≡ true → is_writable (taken (tree_of t.plan) n k) ≡ true → has_value t k ≡ true
 finds-value t is own n k l w =
     let tree = tree_of t.plan in
     let num = has-number tree is n k (readable-of (taken tree n k) w) in

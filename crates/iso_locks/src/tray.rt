@@ -71,9 +71,17 @@ impl<'a> Model for Tray<'a> {
 
     ghost coded = { tray_code };
 
-    ghost view = { λ t. record { plan = t.plan.now; world = t.world.now; flat = t.flat; lent = t.lent.held; values = t.values; frames = t.frames.items } };
+    ghost view = { λ t. record {
+      plan = t.plan.now;
+      world = t.world.now;
+      flat = t.flat;
+      lent = t.lent.held;
+      values = t.values;
+      frames = t.frames.items;
+    } };
 
-    ghost invariant = { λ t. IsTray t.plan.now t.world.now t.flat t.lent t.values t.starts.items (vec_capacity t.frames) (vec_capacity t.spare) t.spare.items };
+    ghost invariant = { λ t. IsTray t.plan.now t.world.now t.flat t.lent t.values t.starts.items
+        (vec_capacity t.frames) (vec_capacity t.spare) t.spare.items };
 }
 
 impl<'a> Tray<'a> {
@@ -165,9 +173,9 @@ impl<'a> Tray<'a> {
         &self.frames
     }
 
-    /// Hands it a frame, after those that it has: one for each enclosing class of a test or block,
-    /// so that it has no more than the longest class chain of its plan has classes. Takes no
-    /// memory.
+    /// For a runner of one's own: hands it a frame, after those that it has. There is one for each
+    /// enclosing class of a test or block, so that it has no more than the longest class chain of
+    /// its plan has classes. Takes no memory.
     pub fn hand(&mut self, frame: Frame)
         requires { length self.old.frames < depth (tree_of self.old.plan) }
         ensures { self.new ≡ record self.old { frames = self.old.frames ++ frame ∷ [] } }
@@ -183,7 +191,8 @@ impl<'a> Tray<'a> {
         requires node { class < length self.old.plan.rows }
         requires class { is_test (row_at (tree_of self.old.plan) class).kind ≡ false }
         requires opened { AreOpened results.now (path (tree_of self.old.plan) class) }
-        ensures ok { OnOk result (self.new ≡ record self.old { frames = frames_on results.now class }) }
+        ensures ok { OnOk result (self.new
+            ≡ record self.old { frames = frames_on results.now class }) }
         ensures err { OnErr result (self.new ≡ self.old) }
     {
         nodes_are_a_tree(self.plan);
@@ -193,7 +202,7 @@ impl<'a> Tray<'a> {
         Ok(())
     }
 
-    /// Lets go of all frames that were handed to it. Takes no memory.
+    /// For a runner of one's own: lets go of all frames that were handed to it. Takes no memory.
     pub fn clear_frames(&mut self)
         ensures { self.new ≡ record self.old { frames = [] } }
     {
@@ -221,7 +230,8 @@ impl<'a> Tray<'a> {
 
     /// What a tray keeps of its values and the nodes that are lent to it.
     pub(crate) fn keep_owners(&self)
-        ensures owned { AreOwned (tree_of self.now.plan) self.now.flat self.now.lent self.now.values }
+        ensures owned { AreOwned (tree_of self.now.plan) self.now.flat self.now.lent
+            self.now.values }
         ensures lent { length self.now.lent ≡ length self.now.plan.rows }
     {
         let _lent = &self.lent;
@@ -232,11 +242,15 @@ impl<'a> Tray<'a> {
         requires node { node < length self.old.plan.rows }
         requires home { length home.old ≡ length (keys (tree_of self.old.plan)) }
         requires taken { taken.now ≡ locks (tree_of self.old.plan) node }
-        requires there { (i : ℕ) → is_written (locks (tree_of self.old.plan) node) i ≡ true → is_some (slot home.old i) ≡ true }
+        requires there { (i : ℕ) → is_written (locks (tree_of self.old.plan) node) i ≡ true
+            → is_some (slot home.old i) ≡ true }
         requires apart { is_lent self.old.lent node ≡ false }
-        requires beside { (m : ℕ) → is_lent self.old.lent m ≡ true → clash (tree_of self.old.plan) m node ≡ false }
+        requires beside { (m : ℕ) → is_lent self.old.lent m ≡ true
+            → clash (tree_of self.old.plan) m node ≡ false }
         ensures holds { is_lent self.new.lent node ≡ true }
-        ensures fresh { self.old.flat ≡ false → (i : ℕ) → is_written (locks (tree_of self.old.plan) node) i ≡ true → slot self.old.values i ≡ None }
+        ensures fresh { self.old.flat ≡ false → (i : ℕ)
+            → is_written (locks (tree_of self.old.plan) node) i ≡ true
+            → slot self.old.values i ≡ None }
         ensures fits { length self.old.values ≡ length (keys (tree_of self.old.plan)) }
         ensures tray { self.new ≡ receiving node home.old self.old }
         ensures home { home.new ≡ moved_away (locks (tree_of self.old.plan) node) home.old }
@@ -253,7 +267,8 @@ impl<'a> Tray<'a> {
         requires holds { is_lent self.old.lent node ≡ true }
         ensures fits { length self.old.values ≡ length (keys (tree_of self.old.plan)) }
         ensures tray { self.new ≡ giving_back node self.old }
-        ensures home { home.new ≡ moved_here (locks (tree_of self.old.plan) node) self.old.values home.old }
+        ensures home { home.new ≡ moved_here
+            (locks (tree_of self.old.plan) node) self.old.values home.old }
     {
         self.lent.take_back(node);
         move_values(taken, &mut self.values, home);
@@ -302,7 +317,8 @@ fn kept(
     values: &Slots,
 ) -> Result<Vec<Option<held::Savepoint>>, AllocError>
     requires { length starts.now ≡ length values.now }
-    ensures { IfOk result (λ v. v.items ≡ column (kept_at rights.now (map (λ s. s.key) starts.now) values.now) (length values.now)) }
+    ensures { IfOk result (λ v. v.items ≡ column
+        (kept_at rights.now (map (λ s. s.key) starts.now) values.now) (length values.now)) }
 {
     let mut marks = Vec::with_capacity(alloc, values.len())?;
     'keys: for number in 0..values.len() {
@@ -319,7 +335,8 @@ fn kept_at(
     key: &Key,
     value: Option<&Held>,
 ) -> Result<Option<held::Savepoint>, AllocError>
-    ensures { IfOk result (λ m. m ≡ cond (is_writable (access_in rights.now key.now)) (option_copied value.entry) None) }
+    ensures { IfOk result (λ m. m ≡ cond (is_writable (access_in rights.now key.now))
+        (option_copied value.entry) None) }
 {
     let Some(held) = value else {
         return Ok(None);

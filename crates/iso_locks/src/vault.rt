@@ -43,7 +43,12 @@ impl<'a> Model for Vault<'a> {
 
     ghost coded = { vault_code };
 
-    ghost view = { λ v. record { plan = v.plan.now; world = v.world.now; lent = v.lent.held; home = map is_some v.values } };
+    ghost view = { λ v. record {
+      plan = v.plan.now;
+      world = v.world.now;
+      lent = v.lent.held;
+      home = map is_some v.values;
+    } };
 
     ghost invariant = { λ v. KeepsVault v.plan.now v.world.now v.lent v.values };
 }
@@ -70,7 +75,7 @@ impl<'a> Vault<'a> {
         self.lent.is_held(node)
     }
 
-    /// Whether the value of the key with a number is home.
+    /// For a runner of one's own: whether the value of the key with a number is home.
     pub fn home(&self, key: u32) -> bool
         requires { key < length (keys (tree_of self.now.plan)) }
         ensures { result ≡ is_home self.now.home key }
@@ -83,7 +88,8 @@ impl<'a> Vault<'a> {
     /// names the lowest lent node that conflicts with it; nothing is moved then. Takes no memory.
     pub fn lend(&mut self, node: u32, tray: &mut Tray<'_>) -> Result<(), Busy>
         requires { CanLend node self.old tray.old }
-        ensures busy { MatchResult result (λ _. busy self.old node ≡ None) (λ b. busy self.old node ≡ Some b.node) }
+        ensures busy { MatchResult result (λ _. busy self.old node ≡ None)
+            (λ b. busy self.old node ≡ Some b.node) }
         ensures vault { OnOk result (self.new ≡ lending node self.old) }
         ensures tray { OnOk result (IsLentTo node tray.old tray.new) }
         ensures vault_stays { OnErr result (self.new ≡ self.old) }
@@ -149,8 +155,10 @@ impl<'a> Holders for Vault<'a> {
 
 /// All values of a plan at their start, by key number.
 pub(crate) fn values(alloc: Global, plan: &Plan, world: &World) -> Result<Slots, AllocError>
-    ensures fits { IfOk result (λ s. map is_some s ≡ replicate (length (keys (tree_of plan.now))) true) }
-    ensures start { IfOk result (λ s. (i : ℕ) (h : History) → slot s i ≡ Some h → h.now ≡ starting_value_in world.now (key_at (tree_of plan.now) i)) }
+    ensures fits { IfOk result (λ s. map is_some s
+        ≡ replicate (length (keys (tree_of plan.now))) true) }
+    ensures start { IfOk result (λ s. (i : ℕ) (h : History) → slot s i ≡ Some h
+        → h.now ≡ starting_value_in world.now (key_at (tree_of plan.now) i)) }
 {
     let mut values = Slots::new(alloc);
     'keys: for number in 0..plan.key_count() {

@@ -1,6 +1,6 @@
 -- A body changes no key and looks at none that its rights don't let it.
 use Rattle.std.proofs.Common.{◌≡◌, ℕ, zero, suc, List, [], ◌∷◌, ◌++◌, take, drop, Bool, true, false, cond, refl, ap, ◌∙◌, subst}
-use Rattle.iso_model.specs.Agreement.{EqualAt, Alike, AlikeBodies}
+use Rattle.iso_model.specs.ChainAgreement.{EqualAt, Alike, AlikeBodies}
 use Rattle.iso_model.specs.Blocks.{block}
 use Rattle.iso_model.specs.Bodies.{body_at, Stage, during, ended, Going, account_after, stage_at, stage_from, stage_step, body_step, body_steps, body_finish, body_finished}
 use Rattle.iso_model.specs.BodyAgreement.{AlikeGoing}

@@ -1,6 +1,6 @@
 -- The rights of a chain are those of its enclosing classes and more.
 use Rattle.std.proofs.Common.{◌≡◌, ℕ, List, [], ◌∷◌, ◌++◌, Bool, true, false, Option, Some, None, refl, sym, ◌∙◌, true≢false}
-use Rattle.iso_model.specs.Agreement.{LooksWithin}
+use Rattle.iso_model.specs.ChainAgreement.{LooksWithin}
 use Rattle.iso_model.specs.Chains.{ClassHead, TestHead, marks_of, class_rights, test_rights}
 use Rattle.iso_model.specs.Rights.{strongest, declared_by, rights_of, is_readable, is_writable}
 use Rattle.iso_model.specs.declared.access.Access.{Access}

@@ -1,7 +1,7 @@
 -- Openings, tests and classes change no key and look at none that their chain doesn't declare so.
 use Rattle.std.proofs.Common.{◌≡◌, ℕ, List, [], ◌∷◌, ◌++◌, length, take, drop, Bool, true, false, cond, Option, Some, None, refl, sym, ap, ◌∙◌, subst, true≢false}
 use Rattle.std.specs.List.{list_all}
-use Rattle.iso_model.specs.Agreement.{EqualAt, LooksWithin, Alike, AlikeOpenings, AlikeBodies, TestsAgree, ClassesAgree}
+use Rattle.iso_model.specs.ChainAgreement.{EqualAt, LooksWithin, Alike, AlikeOpenings, AlikeBodies, TestsAgree, ClassesAgree}
 use Rattle.iso_model.specs.Alone.{after_all, barred, test_outcome, class_outcome, test_from, class_from, test_alone, class_alone}
 use Rattle.iso_model.specs.Blocks.{block}
 use Rattle.iso_model.specs.Chains.{ClassHead, TestHead, class_rights, test_rights}
@@ -19,7 +19,7 @@ use Rattle.iso_model.specs.declared.place.BlockName.{BlockName}
 use Rattle.iso_model.specs.declared.place.BlockName.TheVariants.{Test}
 use Rattle.iso_model.specs.declared.place.Lifecycle.TheVariants.{BeforeAll, AfterAll, BeforeEach, AfterEach}
 use Rattle.iso_model.specs.declared.resource.Resource.{Resource}
-use Rattle.iso_model.proofs.Agreement.{unreadable-locked}
+use Rattle.iso_model.proofs.ChainAgreement.{unreadable-locked}
 use Rattle.iso_model.proofs.ChainRights.{outer-within, classes-within, outer-locked, within-self, within-trans}
 use Rattle.iso_model.proofs.Pairs.{run-same}
 use Rattle.iso_model.proofs.Untouched.{block-untouched}
@@ -47,11 +47,13 @@ block-within q r within acts env m n same =
     }
 
 -- the same of a block that is left out where its node is disabled
-unless-within : (d : Option (List ℕ)) (q r : Rights) → LooksWithin q r → (acts : Acts) (env : Environment) (m n : Resources) → EqualAt r m n → Alike r (block_unless d q acts env m) (block_unless d q acts env n)
+unless-within : (d : Option (List ℕ)) (q r : Rights) → LooksWithin q r → (acts : Acts) (env : Environment) (m n : Resources)
+    → EqualAt r m n → Alike r (block_unless d q acts env m) (block_unless d q acts env n)
 unless-within None q r within acts env m n same = block-within q r within acts env m n same
 unless-within (Some reason) q r within acts env m n same = record { here = refl; resources = same }
 
-pub block_unless-untouched : (d : Option (List ℕ)) (r : Rights) (k : List ℕ) → is_writable (r k) ≡ false → (acts : Acts) (env : Environment) (m : Resources) → (block_unless d r acts env m).resources k ≡ m k
+pub block_unless-untouched : (d : Option (List ℕ)) (r : Rights) (k : List ℕ) → is_writable (r k) ≡ false
+    → (acts : Acts) (env : Environment) (m : Resources) → (block_unless d r acts env m).resources k ≡ m k
 block_unless-untouched None r k locked acts env m = block-untouched r k locked acts env m
 block_unless-untouched (Some reason) r k locked acts env m = refl
 
@@ -107,7 +109,8 @@ module _ (k : List ℕ) where
 
 -- over resources that are equal at these keys, the same is done
 module _ (r : Rights) where
-  lifecycle-alike : (d : Option (List ℕ)) (q : Rights) → LooksWithin q r → (acts : Acts) (env : List Frame → Environment) (o p : Opening) → AlikeOpenings r o p → Alike r (block_unless d q acts (env o.frames) o.resources) (block_unless d q acts (env p.frames) p.resources)
+  lifecycle-alike : (d : Option (List ℕ)) (q : Rights) → LooksWithin q r → (acts : Acts) (env : List Frame → Environment) (o p : Opening)
+      → AlikeOpenings r o p → Alike r (block_unless d q acts (env o.frames) o.resources) (block_unless d q acts (env p.frames) p.resources)
   lifecycle-alike d q within acts env o p both =
       subst (λ (fs : List Frame). Alike r (block_unless d q acts (env o.frames) o.resources) (block_unless d q acts (env fs) p.resources)) both.frames (unless-within d q r within acts (env o.frames) o.resources p.resources both.resources)
 

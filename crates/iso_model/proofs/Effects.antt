@@ -1,6 +1,6 @@
 -- What a statement without a body does once its step is taken: one of a few effects, each on one thing.
 use Rattle.std.proofs.Common.{◌≡◌, ℕ, List, [], ◌∷◌, ◌++◌, Option, Some, None, Result, Ok, Err, Bool, true, false, cond, is_some, refl}
-use Rattle.iso_model.specs.Keys.{properties_key, locale_key, file_key}
+use Rattle.iso_model.specs.ResourceKeys.{properties_key, locale_key, file_key}
 use Rattle.iso_model.specs.Rights.{Rights, is_writable}
 use Rattle.iso_model.specs.Names.{bound, binding_of, assigned}
 use Rattle.iso_model.specs.Syntax.{Plain, let_name, assign, print, assert, assert_equal, assume, fail, set_prop, clear_prop, set_locale, write_file, append_file, delete_file, Act, plain, choice, repeat, Acts}

@@ -1,7 +1,7 @@
-pub mod Agreement
 pub mod BindingLemmas
 pub mod BodyKeys
 pub mod BodyRuns
+pub mod ChainAgreement
 pub mod ChainLemmas
 pub mod ChainRights
 pub mod ChainRuns

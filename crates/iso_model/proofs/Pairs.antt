@@ -1,9 +1,9 @@
 -- Two runs of a block from one point, over resources that are equal where the rights let it look.
 use Rattle.std.proofs.Common.{◌≡◌, ℕ, zero, suc, List, [], ◌∷◌, ◌++◌, Bool, true, false, cond, Option, Some, None, Result, Ok, Err, is_some, length, refl, ap, ◌∙◌, subst}
-use Rattle.iso_model.specs.Keys.{properties_key, locale_key, file_key}
+use Rattle.iso_model.specs.ResourceKeys.{properties_key, locale_key, file_key}
 use Rattle.iso_model.specs.Rights.{Rights, is_writable}
 use Rattle.iso_model.specs.Resources.{Resources, text_in}
-use Rattle.iso_model.specs.Agreement.{EqualAt, Alike, AlikeAt}
+use Rattle.iso_model.specs.ChainAgreement.{EqualAt, Alike, AlikeAt}
 use Rattle.iso_model.specs.Names.{binding_of, assigned}
 use Rattle.iso_model.specs.Syntax.{Term, Plain, let_name, assign, print, assert, assert_equal, assume, fail, set_prop, clear_prop, set_locale, write_file, append_file, delete_file, Act, plain, choice, repeat, Acts, no_acts, act}
 use Rattle.iso_model.specs.Texts.{text_of}
@@ -15,7 +15,7 @@ use Rattle.iso_model.specs.declared.fault.Fault.{Fault}
 use Rattle.iso_model.specs.declared.fault.Fault.TheVariants.{Undeclared}
 use Rattle.iso_model.specs.declared.resource.Change.{Change}
 use Rattle.iso_model.specs.declared.resource.Change.TheVariants as C
-use Rattle.iso_model.proofs.Agreement.{evaluated-agree, then-agree, agree-changed, writable-readable}
+use Rattle.iso_model.proofs.ChainAgreement.{evaluated-agree, then-agree, agree-changed, writable-readable}
 
 abbrev at : Local → Resources → State
 at l m = record { here = l; resources = m }
@@ -35,21 +35,25 @@ module _ (r : Rights) where
   cond-alike true s s' t t' p q = p
   cond-alike false s s' t t' p q = q
 
-  upon-alike_at : {A : Type 0} (row : ℕ) (x : Result A Fault) (l : Local) (m n : Resources) → EqualAt r m n → (f g : A → State) → ((v : A) → Alike r (f v) (g v)) → Alike r (upon row x (at l m) f) (upon row x (at l n) g)
+  upon-alike_at : {A : Type 0} (row : ℕ) (x : Result A Fault) (l : Local) (m n : Resources) → EqualAt r m n
+      → (f g : A → State) → ((v : A) → Alike r (f v) (g v)) → Alike r (upon row x (at l m) f) (upon row x (at l n) g)
   upon-alike_at row (Ok v) l m n agree f g each = each v
   upon-alike_at row (Err fault) l m n agree f g each = record { here = refl; resources = agree }
 
-  upon-alike : {A : Type 0} (row : ℕ) (x y : Result A Fault) → x ≡ y → (l : Local) (m n : Resources) → EqualAt r m n → (f g : A → State) → ((v : A) → Alike r (f v) (g v)) → Alike r (upon row x (at l m) f) (upon row y (at l n) g)
+  upon-alike : {A : Type 0} (row : ℕ) (x y : Result A Fault) → x ≡ y → (l : Local) (m n : Resources) → EqualAt r m n
+      → (f g : A → State) → ((v : A) → Alike r (f v) (g v)) → Alike r (upon row x (at l m) f) (upon row y (at l n) g)
   upon-alike row x y e l m n agree f g each = subst (λ (z : Result _ Fault). Alike r (upon row x (at l m) f) (upon row z (at l n) g)) e (upon-alike_at row x l m n agree f g each)
 
   changing-alike : (l : Local) (m n : Resources) → EqualAt r m n → (k : List ℕ) (change : Change) → Alike r (changing k change (at l m)) (changing k change (at l n))
   changing-alike l m n agree k change = record { here = refl; resources = agree-changed r m n agree k change }
 
-  allowed-alike_at : (b : Bool) (k : List ℕ) (row : ℕ) (l : Local) (m n : Resources) → EqualAt r m n → (s t : State) → (b ≡ true → Alike r s t) → Alike r (cond b s (faults row (Undeclared Write k) (at l m))) (cond b t (faults row (Undeclared Write k) (at l n)))
+  allowed-alike_at : (b : Bool) (k : List ℕ) (row : ℕ) (l : Local) (m n : Resources) → EqualAt r m n → (s t : State) → (b ≡ true → Alike r s t)
+      → Alike r (cond b s (faults row (Undeclared Write k) (at l m))) (cond b t (faults row (Undeclared Write k) (at l n)))
   allowed-alike_at true k row l m n agree s t both = both refl
   allowed-alike_at false k row l m n agree s t both = record { here = refl; resources = agree }
 
-  allowed-alike : (k : List ℕ) (row : ℕ) (l : Local) (m n : Resources) → EqualAt r m n → (s t : State) → (is_writable (r k) ≡ true → Alike r s t) → Alike r (allowed r row k (at l m) s) (allowed r row k (at l n) t)
+  allowed-alike : (k : List ℕ) (row : ℕ) (l : Local) (m n : Resources) → EqualAt r m n → (s t : State)
+      → (is_writable (r k) ≡ true → Alike r s t) → Alike r (allowed r row k (at l m) s) (allowed r row k (at l n) t)
   allowed-alike k row l m n agree s t both = allowed-alike_at (is_writable (r k)) k row l m n agree s t both
 
   appending-alike_at : (row : ℕ) (p t : List ℕ) (found : Option (List ℕ)) (l : Local) (m n : Resources) → EqualAt r m n → Alike r (appending row p t found (at l m)) (appending row p t found (at l n))
@@ -65,15 +69,18 @@ module _ (r : Rights) where
   same_text : (m n : Resources) → EqualAt r m n → (p : List ℕ) → is_writable (r (file_key p)) ≡ true → text_in (m (file_key p)) ≡ text_in (n (file_key p))
   same_text m n agree p writable = ap text_in (agree.same (file_key p) (writable-readable (r (file_key p)) writable))
 
-  appending-alike : (row : ℕ) (p t : List ℕ) (l : Local) (m n : Resources) → EqualAt r m n → is_writable (r (file_key p)) ≡ true → Alike r (appending row p t (text_in (m (file_key p))) (at l m)) (appending row p t (text_in (n (file_key p))) (at l n))
+  appending-alike : (row : ℕ) (p t : List ℕ) (l : Local) (m n : Resources) → EqualAt r m n → is_writable (r (file_key p)) ≡ true
+      → Alike r (appending row p t (text_in (m (file_key p))) (at l m)) (appending row p t (text_in (n (file_key p))) (at l n))
   appending-alike row p t l m n agree writable =
       subst (λ (o : Option (List ℕ)). Alike r (appending row p t (text_in (m (file_key p))) (at l m)) (appending row p t o (at l n))) (same_text m n agree p writable) (appending-alike_at row p t (text_in (m (file_key p))) l m n agree)
 
-  deleting-alike : (row : ℕ) (p : List ℕ) (l : Local) (m n : Resources) → EqualAt r m n → is_writable (r (file_key p)) ≡ true → Alike r (deleting row p (text_in (m (file_key p))) (at l m)) (deleting row p (text_in (n (file_key p))) (at l n))
+  deleting-alike : (row : ℕ) (p : List ℕ) (l : Local) (m n : Resources) → EqualAt r m n → is_writable (r (file_key p)) ≡ true
+      → Alike r (deleting row p (text_in (m (file_key p))) (at l m)) (deleting row p (text_in (n (file_key p))) (at l n))
   deleting-alike row p l m n agree writable =
       subst (λ (o : Option (List ℕ)). Alike r (deleting row p (text_in (m (file_key p))) (at l m)) (deleting row p o (at l n))) (same_text m n agree p writable) (deleting-alike_at row p (text_in (m (file_key p))) l m n agree)
 
-  two_texts : (names : List _) (m n : Resources) → EqualAt r m n → (a b : Term) → then (evaluated names m r a) (λ x. then (evaluated names m r b) (as_texts x)) ≡ then (evaluated names n r a) (λ x. then (evaluated names n r b) (as_texts x))
+  two_texts : (names : List _) (m n : Resources) → EqualAt r m n → (a b : Term)
+      → then (evaluated names m r a) (λ x. then (evaluated names m r b) (as_texts x)) ≡ then (evaluated names n r a) (λ x. then (evaluated names n r b) (as_texts x))
   two_texts names m n agree a b = then-agree _ _ _ _ (evaluated-agree names r m n agree a) (λ x. ap (λ z. then z (as_texts x)) (evaluated-agree names r m n agree b))
 
   -- a statement without a body does the same over both

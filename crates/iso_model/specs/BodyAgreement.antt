@@ -1,6 +1,6 @@
 -- Bodies that do the same over resources that are equal at the keys of their rights.
 use Rattle.std.specs.Prelude.{◌≡◌}
-use Rattle.iso_model.specs.Agreement.{EqualAt}
+use Rattle.iso_model.specs.ChainAgreement.{EqualAt}
 use Rattle.iso_model.specs.Bodies.{Going}
 use Rattle.iso_model.specs.Rights.{Rights}
 

@@ -1,7 +1,7 @@
 -- Evaluation: what an expression gives over the visible names, the resources and the access rights.
 use Rattle.std.specs.Prelude.{ℕ, List, [], ◌∷◌, ◌++◌, length, Option, Some, None, Result, Ok, Err, Bool, true, false, cond, not, ◌&&◌, ℤ, pos, negsuc, ◌+ℤ◌, ◌-ℤ◌, ◌*ℤ◌, nat_le, bytes_eq, is_some, option_map, int_lt, unwrap_or}
 use Rattle.std.specs.Ordering.{int_eq}
-use Rattle.iso_model.specs.Keys.{properties_key, locale_key, file_key}
+use Rattle.iso_model.specs.ResourceKeys.{properties_key, locale_key, file_key}
 use Rattle.iso_model.specs.Rights.{Rights, is_readable}
 use Rattle.iso_model.specs.Resources.{Resources, property_in, text_in, locale_in}
 use Rattle.iso_model.specs.Names.{binding_of}
@@ -56,7 +56,8 @@ as_texts d e = Err WrongKind
 -- a whole number of 64 bits, as two's complement holds it; Overflow outside
 abbrev pub whole : ℤ → Given
 whole z =
-    cond (not (int_lt z (negsuc 9223372036854775807)) && not (int_lt (pos 9223372036854775807) z)) (Ok (Whole z)) (Err Overflow)
+    cond (not (int_lt z (negsuc 9223372036854775807)) && not (int_lt (pos 9223372036854775807) z))
+    (Ok (Whole z)) (Err Overflow)
 
 -- whether a text is no longer than the limit
 abbrev pub is_short : List ℕ → Bool
@@ -100,21 +101,32 @@ looked r k found = cond (is_readable (r k)) found (Err (Undeclared Read k))
 abbrev pub called : Resources → Rights → Function → Data → Given
 called m r F.Text d = Ok (Text (text_of d))
 called m r F.Len d = then (as_text d) (λ t. Ok (Whole (pos (length t))))
-called m r F.Prop d = then (as_text d) (λ x. looked r properties_key (or_fault (option_map Text (property_in (m properties_key) x)) (MissingProperty x)))
-called m r F.HasProp d = then (as_text d) (λ x. looked r properties_key (Ok (Flag (is_some (property_in (m properties_key) x)))))
-called m r F.File d = then (as_text d) (λ p. looked r (file_key p) (or_fault (option_map Text (text_in (m (file_key p)))) (MissingFile p)))
-called m r F.HasFile d = then (as_text d) (λ p. looked r (file_key p) (Ok (Flag (is_some (text_in (m (file_key p)))))))
+called m r F.Prop d =
+    then (as_text d) (λ x. looked r properties_key
+    (or_fault (option_map Text (property_in (m properties_key) x)) (MissingProperty x)))
+called m r F.HasProp d = then (as_text d)
+    (λ x. looked r properties_key (Ok (Flag (is_some (property_in (m properties_key) x)))))
+called m r F.File d =
+    then (as_text d) (λ p. looked r (file_key p)
+    (or_fault (option_map Text (text_in (m (file_key p)))) (MissingFile p)))
+called m r F.HasFile d =
+    then (as_text d) (λ p. looked r (file_key p) (Ok (Flag (is_some (text_in (m (file_key p)))))))
 
 -- the value of an expression, and of several: operands from the left, each once
 abbrev mutual
   pub evaluated : List Binding → Resources → Rights → Term → Given
   evaluated names m r (literal d) = Ok d
-  evaluated names m r (name x) = or_fault (option_map (λ (b : Binding). b.value) (binding_of names x)) (UnknownName x)
-  evaluated names m r (chain op e es) = then (evaluated names m r e) (λ x. then (evaluated_all names m r es) (λ ys. joined_all op x ys))
-  evaluated names m r (compare c a b) = then (evaluated names m r a) (λ x. then (evaluated names m r b) (λ y. then (compared c x y) (λ holds. Ok (Flag holds))))
+  evaluated names m r (name x) =
+      or_fault (option_map (λ (b : Binding). b.value) (binding_of names x)) (UnknownName x)
+  evaluated names m r (chain op e es) = then (evaluated names m r e)
+      (λ x. then (evaluated_all names m r es) (λ ys. joined_all op x ys))
+  evaluated names m r (compare c a b) = then (evaluated names m r a)
+      (λ x. then (evaluated names m r b) (λ y. then (compared c x y) (λ holds. Ok (Flag holds))))
   evaluated names m r (call f e) = then (evaluated names m r e) (called m r f)
-  evaluated names m r locale = looked r locale_key (Ok (Text (unwrap_or (locale_in (m locale_key)) [])))
+  evaluated names m r locale =
+      looked r locale_key (Ok (Text (unwrap_or (locale_in (m locale_key)) [])))
 
   pub evaluated_all : List Binding → Resources → Rights → Terms → Result (List Data) Fault
   evaluated_all names m r no_terms = Ok []
-  evaluated_all names m r (term e es) = then (evaluated names m r e) (λ d. then (evaluated_all names m r es) (λ ds. Ok (d ∷ ds)))
+  evaluated_all names m r (term e es) =
+      then (evaluated names m r e) (λ d. then (evaluated_all names m r es) (λ ds. Ok (d ∷ ds)))

@@ -1,8 +1,8 @@
-pub mod Agreement
 pub mod Alone
 pub mod Blocks
 pub mod Bodies
 pub mod BodyAgreement
+pub mod ChainAgreement
 pub mod Changes
 pub mod Chains
 pub mod ChainView
@@ -12,7 +12,6 @@ pub mod Evaluation
 pub mod Examples
 pub mod Jobs
 pub mod KeyMaps
-pub mod Keys
 pub mod Layers
 pub mod Lines
 pub mod LinesView

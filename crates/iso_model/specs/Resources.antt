@@ -2,7 +2,7 @@
 use Rattle.std.specs.Prelude.{ℕ, List, Option, Some, None, cond, bytes_eq, codes, option_map, nat_eq}
 use Rattle.std.specs.List.{starts_with}
 use Rattle.std.specs.FinMap.{empty, get, insert, remove}
-use Rattle.iso_model.specs.Keys.{properties_key, locale_key, file_prefix}
+use Rattle.iso_model.specs.ResourceKeys.{properties_key, locale_key, file_prefix}
 use Rattle.iso_model.specs.Rights.{Rights, is_readable}
 use Rattle.iso_model.specs.declared.resource.Resource.{Resource}
 use Rattle.iso_model.specs.declared.resource.Resource.TheVariants.{Props, Locale, File, Plain}

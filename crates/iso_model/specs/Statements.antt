@@ -1,7 +1,7 @@
 -- Statements: the whole meaning of a body, from a state to the state at its end.
 -- A state in which the block has ended stays as it is.
 use Rattle.std.specs.Prelude.{ℕ, zero, suc, ◌+◌, List, [], ◌∷◌, ◌++◌, length, take, Option, Some, None, Result, Ok, Err, Bool, true, false, cond, nat_le, is_some}
-use Rattle.iso_model.specs.Keys.{properties_key, locale_key, file_key}
+use Rattle.iso_model.specs.ResourceKeys.{properties_key, locale_key, file_key}
 use Rattle.iso_model.specs.Rights.{Rights, is_writable}
 use Rattle.iso_model.specs.Resources.{Resources, text_in, changed_at}
 use Rattle.iso_model.specs.Environments.{Environment}
@@ -53,7 +53,10 @@ with_steps n l = record l { env = record l.env { steps = n } }
 
 -- a line more, which takes its bytes and one for its end
 abbrev pub with_line : List ℕ → Local → Local
-with_line line l = record l { env = record l.env { printed = l.env.printed + length line + 1 }; lines = l.lines ++ line ∷ [] }
+with_line line l = record l {
+  env = record l.env { printed = l.env.printed + length line + 1 };
+  lines = l.lines ++ line ∷ [];
+}
 
 abbrev pub with_ending : Ending → Local → Local
 with_ending ending l = record l { ending = ending }
@@ -67,10 +70,12 @@ note message row l = record { message = message; place = Row l.env.block row }
 
 -- the block ends by a fault, because no step is left, by a fail, or by a false assumption
 abbrev pub faults : ℕ → Fault → State → State
-faults row fault s = locally (with_ending (E.Fault (kind_of fault) (note (fault_message fault) row s.here))) s
+faults row fault s =
+    locally (with_ending (E.Fault (kind_of fault) (note (fault_message fault) row s.here))) s
 
 abbrev pub runs_out : ℕ → State → State
-runs_out row s = locally (with_ending (E.Fault K.OutOfSteps (note out_of_steps_message row s.here))) s
+runs_out row s =
+    locally (with_ending (E.Fault K.OutOfSteps (note out_of_steps_message row s.here))) s
 
 abbrev pub fails : ℕ → List ℕ → State → State
 fails row message s = locally (with_ending (E.Fail (note message row s.here))) s
@@ -114,11 +119,13 @@ has_room l line = nat_le (l.env.printed + length line + 1) OUTPUT_BYTES
 
 -- a line more, where it fits
 abbrev pub prints : ℕ → List ℕ → State → State
-prints row line s = cond (has_room s.here line) (locally (with_line line) s) (faults row OutputFull s)
+prints row line s =
+    cond (has_room s.here line) (locally (with_line line) s) (faults row OutputFull s)
 
 -- goes on where two values are equal
 abbrev pub expects : ℕ → Data → Data → State → State
-expects row x y s = upon row (is_equal x y) s (λ holds. cond holds s (fails row (difference_message x y) s))
+expects row x y s =
+    upon row (is_equal x y) s (λ holds. cond holds s (fails row (difference_message x y) s))
 
 -- goes on where the rights let a key be changed
 abbrev pub allowed : Rights → ℕ → List ℕ → State → State → State
@@ -139,7 +146,8 @@ file_text s p = text_in (s.resources (file_key p))
 abbrev pub appending : ℕ → List ℕ → List ℕ → Option (List ℕ) → State → State
 appending row p t None s = faults row (MissingFile p) s
 appending row p t (Some before) s =
-    cond (is_short (before ++ t)) (changing (file_key p) (C.WriteFile (before ++ t)) s) (faults row TextTooLong s)
+    cond (is_short (before ++ t)) (changing (file_key p) (C.WriteFile (before ++ t)) s)
+    (faults row TextTooLong s)
 
 -- deletes a file that is there
 abbrev pub deleting : ℕ → List ℕ → Option (List ℕ) → State → State
@@ -149,20 +157,30 @@ deleting row p (Some before) s = changing (file_key p) C.DeleteFile s
 -- a statement without a body, once its step is taken
 abbrev pub performed : Rights → ℕ → Plain → State → State
 performed r row (let_name x e) s = upon row (value r s e) s (λ d. declares row x d s)
-performed r row (assign x e) s = upon row (then (value r s e) (assigned s.here.env.names x)) s (λ names. locally (with_names names) s)
+performed r row (assign x e) s = upon row (then (value r s e) (assigned s.here.env.names x)) s
+    (λ names. locally (with_names names) s)
 performed r row (print e) s = upon row (value r s e) s (λ d. prints row (text_of d) s)
-performed r row (assert e) s = upon row (flag_value r s e) s (λ holds. cond holds s (fails row assertion_message s))
-performed r row (assert_equal a b) s = upon row (value r s a) s (λ x. upon row (value r s b) s (λ y. expects row x y s))
-performed r row (assume e reason) s = upon row (flag_value r s e) s (λ holds. cond holds s (skips row reason s))
+performed r row (assert e) s =
+    upon row (flag_value r s e) s (λ holds. cond holds s (fails row assertion_message s))
+performed r row (assert_equal a b) s =
+    upon row (value r s a) s (λ x. upon row (value r s b) s (λ y. expects row x y s))
+performed r row (assume e reason) s =
+    upon row (flag_value r s e) s (λ holds. cond holds s (skips row reason s))
 performed r row (fail message) s = fails row message s
-performed r row (set_prop a b) s = upon row (text_values r s a b) s (λ xt. changes r row properties_key (C.SetProp xt.0 xt.1) s)
-performed r row (clear_prop e) s = upon row (text_value r s e) s (λ x. changes r row properties_key (C.ClearProp x) s)
-performed r row (set_locale e) s = upon row (text_value r s e) s (λ t. changes r row locale_key (C.SetLocale t) s)
-performed r row (write_file a b) s = upon row (text_values r s a b) s (λ pt. changes r row (file_key pt.0) (C.WriteFile pt.1) s)
+performed r row (set_prop a b) s =
+    upon row (text_values r s a b) s (λ xt. changes r row properties_key (C.SetProp xt.0 xt.1) s)
+performed r row (clear_prop e) s =
+    upon row (text_value r s e) s (λ x. changes r row properties_key (C.ClearProp x) s)
+performed r row (set_locale e) s =
+    upon row (text_value r s e) s (λ t. changes r row locale_key (C.SetLocale t) s)
+performed r row (write_file a b) s =
+    upon row (text_values r s a b) s (λ pt. changes r row (file_key pt.0) (C.WriteFile pt.1) s)
 performed r row (append_file a b) s =
-    upon row (text_values r s a b) s (λ pt. allowed r row (file_key pt.0) s (appending row pt.0 pt.1 (file_text s pt.0) s))
+    upon row (text_values r s a b) s
+    (λ pt. allowed r row (file_key pt.0) s (appending row pt.0 pt.1 (file_text s pt.0) s))
 performed r row (delete_file e) s =
-    upon row (text_value r s e) s (λ p. allowed r row (file_key p) s (deleting row p (file_text s p) s))
+    upon row (text_value r s e) s
+    (λ p. allowed r row (file_key p) s (deleting row p (file_text s p) s))
 
 -- one step, and then f; with no step left the block ends
 abbrev pub step_or_end : ℕ → ℕ → State → (State → State) → State
@@ -199,6 +217,7 @@ abbrev mutual
   pub ran : Rights → ℕ → Act → State → State
   ran r row (plain p) s = taking row s (performed r row p)
   ran r row (choice e a b) s =
-      taking row s (λ s. upon row (flag_value r s e) s (λ holds. cond holds (scoped (run r a) s) (scoped (run r b) s)))
+      taking row s (λ s. upon row (flag_value r s e) s
+      (λ holds. cond holds (scoped (run r a) s) (scoped (run r b) s)))
   ran r row (repeat e a) s =
       taking row s (λ s. upon row (count_value r s e) s (λ n. turns row n (scoped (run r a)) s))

@@ -1,11 +1,15 @@
 -- What the tree of expressions and statements stands for.
 use Rattle.std.specs.Prelude.{ℕ, List, [], ◌∷◌, map}
-use Rattle.iso_model.specs.Syntax.{Term, literal, name, chain, compare, call, locale, Terms, no_terms, term, let_name, assign, print, assert, assert_equal, assume, fail, set_prop, clear_prop, set_locale, write_file, append_file, delete_file, Act, plain, choice, repeat, Acts, no_acts, act}
+use Rattle.iso_model.specs.Syntax.{Term, literal, name, chain, compare, call, locale, Terms, no_terms, term, Plain, let_name, assign, print, assert, assert_equal, assume, fail, set_prop, clear_prop, set_locale, write_file, append_file, delete_file, Act, plain, choice, repeat, Acts, no_acts, act}
 use Rattle.iso_model.specs.declared.tree.Expr.{Expr, fold-Expr}
 use Rattle.iso_model.specs.declared.tree.Expr.TheOpen.{Expr-F}
 use Rattle.iso_model.specs.declared.tree.Form.{Form, fold-Form}
 use Rattle.iso_model.specs.declared.tree.Stmt.{Stmt, fold-Stmt}
 use Rattle.iso_model.specs.declared.tree.Form.TheOpen.{Form-F, Stmt-F}
+use Rattle.iso_model.specs.declared.tree.OneOperand.{OneOperand}
+use Rattle.iso_model.specs.declared.tree.OneOperand.TheVariants.{Print, Assert, ClearProp, SetLocale, DeleteFile}
+use Rattle.iso_model.specs.declared.tree.TwoOperands.{TwoOperands}
+use Rattle.iso_model.specs.declared.tree.TwoOperands.TheVariants.{AssertEqual, SetProp, WriteFile, AppendFile}
 
 abbrev pub terms_of : List Term → Terms
 terms_of [] = no_terms
@@ -31,20 +35,27 @@ abbrev pub acts_of : List (ℕ × Act) → Acts
 acts_of [] = no_acts
 acts_of (p ∷ ps) = act p.0 p.1 (acts_of ps)
 
+-- what a statement of one expression says, and one of two
+abbrev pub with_one : OneOperand → Term → Plain
+with_one Print = print
+with_one Assert = assert
+with_one ClearProp = clear_prop
+with_one SetLocale = set_locale
+with_one DeleteFile = delete_file
+
+abbrev pub with_two : TwoOperands → Term → Term → Plain
+with_two AssertEqual = assert_equal
+with_two SetProp = set_prop
+with_two WriteFile = write_file
+with_two AppendFile = append_file
+
 abbrev pub form_step : Form-F Act (ℕ × Act) → Act
 form_step (Form-F.Let x e) = plain (let_name x (term_of e))
 form_step (Form-F.Assign x e) = plain (assign x (term_of e))
-form_step (Form-F.Print e) = plain (print (term_of e))
-form_step (Form-F.Assert e) = plain (assert (term_of e))
-form_step (Form-F.AssertEqual a b) = plain (assert_equal (term_of a) (term_of b))
+form_step (Form-F.One what e) = plain (with_one what (term_of e))
+form_step (Form-F.Two what a b) = plain (with_two what (term_of a) (term_of b))
 form_step (Form-F.Assume e reason) = plain (assume (term_of e) reason)
 form_step (Form-F.Fail message) = plain (fail message)
-form_step (Form-F.SetProp a b) = plain (set_prop (term_of a) (term_of b))
-form_step (Form-F.ClearProp e) = plain (clear_prop (term_of e))
-form_step (Form-F.SetLocale e) = plain (set_locale (term_of e))
-form_step (Form-F.WriteFile a b) = plain (write_file (term_of a) (term_of b))
-form_step (Form-F.AppendFile a b) = plain (append_file (term_of a) (term_of b))
-form_step (Form-F.DeleteFile e) = plain (delete_file (term_of e))
 form_step (Form-F.If e a b) = choice (term_of e) (acts_of a.items) (acts_of b.items)
 form_step (Form-F.Repeat e a) = repeat (term_of e) (acts_of a.items)
 

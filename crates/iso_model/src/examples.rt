@@ -3,7 +3,7 @@
 ghost use Rattle.std.specs.Prelude.{◌≡◌, ◌-◌, [], ◌∷◌, Ok, Err, codes, map, replicate, true, false, pos, negsuc};
 ghost use Rattle.iso_model.specs.Alone.{after_all, test_alone, class_alone};
 ghost use Rattle.iso_model.specs.Chains.{empty_head};
-ghost use Rattle.iso_model.specs.Keys.{properties_key};
+ghost use Rattle.iso_model.specs.ResourceKeys.{properties_key};
 ghost use Rattle.iso_model.specs.Openings.{opening};
 ghost use Rattle.iso_model.specs.Resources.{empty_world};
 ghost use Rattle.iso_model.specs.Steps.{is_done};
@@ -68,7 +68,8 @@ pub fn marks_of_the_whole_chain_count()
         ≡ passed [] }
     ensures around { test_alone reads_and_prints_a (looks_around ∷ []) property_a_is_1
         ≡ passed ("true" ∷ "1" ∷ "true" ∷ []) }
-    ensures stronger_inside { test_alone sets_2 (reads_properties ∷ []) property_a_is_1 ≡ passed [] }
+    ensures stronger_inside { test_alone sets_2 (reads_properties ∷ []) property_a_is_1
+        ≡ passed [] }
 {}
 
 /// Without a mark nothing may be looked at, and a `read` lets nothing be changed.
@@ -76,13 +77,18 @@ pub fn undeclared_access_is_a_fault()
     ensures look { test_alone prints_a (empty_head ∷ []) empty_world
         ≡ faulted K.Undeclared "undeclared READ of java.lang.System.properties" (in_test 1) [] }
     ensures change { test_alone sets_1 (reads_properties ∷ []) empty_world
-        ≡ faulted K.Undeclared "undeclared READ_WRITE of java.lang.System.properties" (in_test 1) [] }
-    ensures looks { values_of (has_prop (quoted "a") ∷ locale ∷ file (quoted "a") ∷ has_file (quoted "a") ∷ [])
+        ≡ faulted K.Undeclared "undeclared READ_WRITE of java.lang.System.properties"
+        (in_test 1) [] }
+    ensures looks { values_of (has_prop (quoted "a") ∷ locale ∷ file (quoted "a")
+        ∷ has_file (quoted "a") ∷ [])
         ≡ map (λ k. Err (F.Undeclared Read (codes k)))
         ("java.lang.System.properties" ∷ "java.util.Locale.default" ∷ "file:a" ∷ "file:a" ∷ []) }
-    ensures changes { endings_of (clear_prop (quoted "a") ∷ set_locale (quoted "de") ∷ write_file (quoted "a") (quoted "m") ∷ append_file (quoted "a") (quoted "m") ∷ delete_file (quoted "a") ∷ [])
+    ensures changes { endings_of (clear_prop (quoted "a") ∷ set_locale (quoted "de")
+        ∷ write_file (quoted "a") (quoted "m") ∷ append_file (quoted "a") (quoted "m")
+        ∷ delete_file (quoted "a") ∷ [])
         ≡ map (fault_here K.Undeclared)
-        ("undeclared READ_WRITE of java.lang.System.properties" ∷ "undeclared READ_WRITE of java.util.Locale.default"
+        ("undeclared READ_WRITE of java.lang.System.properties"
+        ∷ "undeclared READ_WRITE of java.util.Locale.default"
         ∷ replicate 3 "undeclared READ_WRITE of file:a") }
 {}
 
@@ -91,7 +97,8 @@ pub fn undeclared_access_is_a_fault()
 pub fn cleared_property_is_absent()
     ensures absent { test_alone clears_a (writes_properties ∷ []) property_a_is_1
         ≡ passed ("true" ∷ "false" ∷ []) }
-    ensures others { test_alone changes_b (writes_properties ∷ []) property_a_is_1 ≡ passed ("1" ∷ []) }
+    ensures others { test_alone changes_b (writes_properties ∷ []) property_a_is_1
+        ≡ passed ("1" ∷ []) }
 {}
 
 /// The locale starts as "en" where the world says nothing of it.
@@ -154,23 +161,29 @@ pub fn false_assumption_in_before_all_skips_all()
         ≡ skipped "no #1" (in_class 1 BeforeAll) [] }
     ensures class { class_alone assumes_false_first [] empty_world
         ≡ skipped "no #1" (in_class 1 BeforeAll) [] }
-    ensures first { class_alone assumes_twice [] empty_world ≡ skipped "no #1" (in_class 1 BeforeAll) [] }
+    ensures first { class_alone assumes_twice [] empty_world
+        ≡ skipped "no #1" (in_class 1 BeforeAll) [] }
 {}
 
 /// A mark with `children` counts on each child of its class alone, and there as one of the child's
 /// own, after these.
 pub fn marks_of_children_are_theirs()
-    ensures class { effective [] (for_children (writes properties_key) ∷ reads file_a ∷ []) ≡ reads file_a ∷ [] }
-    ensures child { effective (for_children (writes properties_key) ∷ reads file_a ∷ []) (reads properties_key ∷ [])
+    ensures class { effective [] (for_children (writes properties_key) ∷ reads file_a ∷ [])
+        ≡ reads file_a ∷ [] }
+    ensures child { effective (for_children (writes properties_key) ∷ reads file_a ∷ [])
+        (reads properties_key ∷ [])
         ≡ reads properties_key ∷ writes properties_key ∷ [] }
-    ensures grandchild { effective (reads properties_key ∷ []) (reads file_a ∷ []) ≡ reads file_a ∷ [] }
+    ensures grandchild { effective (reads properties_key ∷ []) (reads file_a ∷ [])
+        ≡ reads file_a ∷ [] }
 {}
 
 /// None of a disabled test's blocks runs. It is skipped with its reason, unless an enclosing
 /// class's opening barred it.
 pub fn disabled_test_is_skipped()
-    ensures own { test_alone disabled_test (inner ∷ outer ∷ []) empty_world ≡ skipped "later" Disabled [] }
-    ensures blocked { test_alone disabled_test (no_database ∷ []) empty_world ≡ blocked "no db" (in_class 1 BeforeAll) [] }
+    ensures own { test_alone disabled_test (inner ∷ outer ∷ []) empty_world
+        ≡ skipped "later" Disabled [] }
+    ensures blocked { test_alone disabled_test (no_database ∷ []) empty_world
+        ≡ blocked "no db" (in_class 1 BeforeAll) [] }
     ensures place { place_text Disabled ≡ codes "disabled" }
 {}
 
@@ -178,10 +191,14 @@ pub fn disabled_test_is_skipped()
 /// too, and enclosing ones aren't.
 pub fn disabled_class_skips_all_in_it()
     ensures class { class_alone disabled_class [] empty_world ≡ skipped "soon" Disabled [] }
-    ensures test { test_alone prints_t (disabled_class ∷ []) empty_world ≡ skipped "soon" Disabled [] }
-    ensures inner { class_alone opens_inside (disabled_class ∷ []) empty_world ≡ skipped "soon" Disabled [] }
-    ensures outer { test_alone disabled_test (disabled_class ∷ []) empty_world ≡ skipped "soon" Disabled [] }
-    ensures enclosing { class_alone disabled_class (no_database ∷ []) empty_world ≡ blocked "no db" (in_class 1 BeforeAll) [] }
+    ensures test { test_alone prints_t (disabled_class ∷ []) empty_world
+        ≡ skipped "soon" Disabled [] }
+    ensures inner { class_alone opens_inside (disabled_class ∷ []) empty_world
+        ≡ skipped "soon" Disabled [] }
+    ensures outer { test_alone disabled_test (disabled_class ∷ []) empty_world
+        ≡ skipped "soon" Disabled [] }
+    ensures enclosing { class_alone disabled_class (no_database ∷ []) empty_world
+        ≡ blocked "no db" (in_class 1 BeforeAll) [] }
 {}
 
 /// Each test begins with the fields at their literals.
@@ -203,7 +220,8 @@ pub fn statics_are_frozen_elsewhere()
         ≡ faulted K.Frozen "n is frozen" (in_test 1) [] }
     ensures taken { test_alone declares_n (has_static ∷ []) empty_world
         ≡ faulted K.DoubleName "name n is taken" (in_test 1) [] }
-    ensures before_each { test_alone prints_t (assigns_static_before_each ∷ empty_head ∷ []) empty_world
+    ensures before_each { test_alone prints_t
+        (assigns_static_before_each ∷ empty_head ∷ []) empty_world
         ≡ faulted K.Frozen "n is frozen" (in_class 2 BeforeEach) [] }
     ensures inner { class_alone assigns_outer_static (has_static ∷ []) empty_world
         ≡ faulted K.Frozen "n is frozen" (in_class 2 BeforeAll) [] }
@@ -221,13 +239,15 @@ pub fn other_names_are_unknown()
 
 /// A `let` of a visible name is a fault, here after three steps.
 pub fn visible_name_is_taken()
-    ensures taken { (by_itself takes_name_twice).here.ending ≡ fault_here K.DoubleName "name x is taken" }
+    ensures taken { (by_itself takes_name_twice).here.ending
+        ≡ fault_here K.DoubleName "name x is taken" }
     ensures steps { steps_left (by_itself takes_name_twice) ≡ 10000 - 3 }
 {}
 
 /// A local ends with the body that holds its `let`.
 pub fn locals_end_with_their_body()
-    ensures { (by_itself (if_then (flag true) (let_name "x" (number 1) ∷ []) ∷ let_name "x" (number 2) ∷ [])).here.ending
+    ensures { (by_itself (if_then (flag true) (let_name "x" (number 1) ∷ [])
+        ∷ let_name "x" (number 2) ∷ [])).here.ending
         ≡ Well }
 {}
 
@@ -248,10 +268,14 @@ pub fn numbers_have_64_bits()
 /// Operands come from the left, all of them before the first pair and before what the form itself
 /// tests. Chains group to the left.
 pub fn operands_come_first()
-    ensures faults { values_of (add (number 1) (quoted "a" ∷ name "x" ∷ name "y" ∷ []) ∷ equal (name "x") (name "y")
-        ∷ add (flag true) (name "x" ∷ []) ∷ join (number 1) (name "x" ∷ []) ∷ less (quoted "a") (name "x") ∷ [])
+    ensures faults { values_of (add (number 1) (quoted "a" ∷ name "x" ∷ name "y" ∷ [])
+        ∷ equal (name "x") (name "y")
+        ∷ add (flag true) (name "x" ∷ []) ∷ join (number 1) (name "x" ∷ [])
+        ∷ less (quoted "a") (name "x") ∷ [])
         ≡ replicate 5 (Err (F.UnknownName (codes "x"))) }
-    ensures statements { endings_of (assert_equal (name "x") (name "y") ∷ set_prop (name "x") (name "y") ∷ write_file (name "x") (name "y") ∷ append_file (name "x") (name "y") ∷ assign "y" (name "x") ∷ [])
+    ensures statements { endings_of (assert_equal (name "x") (name "y")
+        ∷ set_prop (name "x") (name "y") ∷ write_file (name "x") (name "y")
+        ∷ append_file (name "x") (name "y") ∷ assign "y" (name "x") ∷ [])
         ≡ replicate 5 (fault_here K.UnknownName "unknown name x") }
     ensures pairs { values_of (subtract (number 2) (number 3 ∷ number 4 ∷ [])
         ∷ multiply (add (number 2) (number 3 ∷ [])) (number 4 ∷ []) ∷ [])
@@ -273,8 +297,10 @@ pub fn pairs_come_one_after_another()
 /// What a statement tests comes after the values of all its operands: whether a name is taken or
 /// frozen, whether a line fits, and whether the first of two values is a text.
 pub fn operands_come_before_what_is_tested()
-    ensures faults { endings_crowded (let_name "x" (name "y") ∷ assign "n" (name "y") ∷ print (name "y")
-        ∷ set_prop (number 1) (name "y") ∷ write_file (number 1) (name "y") ∷ append_file (number 1) (name "y") ∷ [])
+    ensures faults { endings_crowded (let_name "x" (name "y") ∷ assign "n" (name "y")
+        ∷ print (name "y")
+        ∷ set_prop (number 1) (name "y") ∷ write_file (number 1) (name "y")
+        ∷ append_file (number 1) (name "y") ∷ [])
         ≡ replicate 6 (fault_here K.UnknownName "unknown name y") }
     ensures tested { endings_crowded (let_name "f" (number 1) ∷ let_name "x" (number 1)
         ∷ assign "n" (number 1) ∷ print (quoted "") ∷ [])
@@ -285,22 +311,29 @@ pub fn operands_come_before_what_is_tested()
 /// An assignment may give a name a value of another kind. It stays where the body or the turn
 /// around it ends.
 pub fn assignments_stay()
-    ensures kind { (by_itself (let_name "x" (number 1) ∷ assign "x" (quoted "a") ∷ print (name "x") ∷ [])).here.lines
+    ensures kind { (by_itself (let_name "x" (number 1) ∷ assign "x" (quoted "a") ∷ print (name "x")
+        ∷ [])).here.lines
         ≡ lines ("a" ∷ []) }
-    ensures body { (by_itself (let_name "x" (quoted "a") ∷ if_then (flag true) (assign "x" (quoted "b") ∷ []) ∷ print (name "x") ∷ [])).here.lines
+    ensures body { (by_itself (let_name "x" (quoted "a")
+        ∷ if_then (flag true) (assign "x" (quoted "b") ∷ []) ∷ print (name "x")
+        ∷ [])).here.lines
         ≡ lines ("b" ∷ []) }
     ensures turns { (by_itself (let_name "x" (quoted "a")
-        ∷ repeat (number 2) (body (assign "x" (join (name "x") (quoted "b" ∷ [])) ∷ [])) ∷ print (name "x") ∷ [])).here.lines
+        ∷ repeat (number 2) (body (assign "x" (join (name "x") (quoted "b" ∷ [])) ∷ []))
+        ∷ print (name "x") ∷ [])).here.lines
         ≡ lines ("abb" ∷ []) }
 {}
 
 /// Values of one kind are compared.
 pub fn comparisons_give_flags()
-    ensures hold { values_of (less (minus 1) (number 0) ∷ equal (flag false) (flag false) ∷ not_equal (quoted "a") (quoted "b") ∷ [])
+    ensures hold { values_of (less (minus 1) (number 0) ∷ equal (flag false) (flag false)
+        ∷ not_equal (quoted "a") (quoted "b") ∷ [])
         ≡ replicate 3 (Ok (Flag true)) }
-    ensures fail { values_of (less (number 1) (number 1) ∷ equal (flag true) (flag false) ∷ not_equal (number 1) (number 1) ∷ [])
+    ensures fail { values_of (less (number 1) (number 1) ∷ equal (flag true) (flag false)
+        ∷ not_equal (number 1) (number 1) ∷ [])
         ≡ replicate 3 (Ok (Flag false)) }
-    ensures flags { values_of (equal (flag true) (flag true) ∷ not_equal (flag false) (flag true) ∷ [])
+    ensures flags { values_of (equal (flag true) (flag true)
+        ∷ not_equal (flag false) (flag true) ∷ [])
         ≡ replicate 2 (Ok (Flag true)) }
     ensures numbers { values_of (less (number 1) (number 2) ∷ less (number 2) (number 1) ∷ [])
         ≡ Ok (Flag true) ∷ Ok (Flag false) ∷ [] }
@@ -309,7 +342,8 @@ pub fn comparisons_give_flags()
 /// Texts are joined and measured, and any value has a text.
 #[tactic(auto, using(crate::proofs::ExampleLemmas::numerals))]
 pub fn texts_are_joined_and_measured()
-    ensures joined { values_of (join (text (number 5)) (text (flag true) ∷ []) ∷ len (quoted "abc") ∷ [])
+    ensures joined { values_of (join (text (number 5)) (text (flag true) ∷ [])
+        ∷ len (quoted "abc") ∷ [])
         ≡ Ok (Text (codes "5true")) ∷ Ok (Whole (pos 3)) ∷ [] }
     ensures negative { values_of (text (minus 5) ∷ []) ≡ Ok (Text (codes "-5")) ∷ [] }
 {}
@@ -318,27 +352,36 @@ pub fn texts_are_joined_and_measured()
 pub fn kinds_come_first()
     ensures values { values_of (add (number 1) (quoted "a" ∷ []) ∷ join (number 1) (quoted "a" ∷ [])
         ∷ equal (number 1) (quoted "1") ∷ less (quoted "a") (quoted "b")
-        ∷ len (number 1) ∷ prop (number 1) ∷ has_prop (number 1) ∷ file (number 1) ∷ has_file (number 1) ∷ [])
+        ∷ len (number 1) ∷ prop (number 1) ∷ has_prop (number 1) ∷ file (number 1)
+        ∷ has_file (number 1) ∷ [])
         ≡ replicate 9 (Err F.WrongKind) }
-    ensures operators { values_of (add (quoted "a") (quoted "b" ∷ []) ∷ subtract (flag true) (flag true ∷ [])
+    ensures operators { values_of (add (quoted "a") (quoted "b" ∷ [])
+        ∷ subtract (flag true) (flag true ∷ [])
         ∷ multiply (flag true) (number 1 ∷ []) ∷ join (number 1) (number 2 ∷ [])
         ∷ equal (flag true) (number 1) ∷ equal (flag true) (quoted "true")
         ∷ not_equal (number 1) (quoted "1") ∷ less (flag false) (flag true) ∷ [])
         ≡ replicate 8 (Err F.WrongKind) }
-    ensures statements { endings_of (assert (number 1) ∷ assume (number 1) "no" ∷ if_then (number 1) [] ∷ repeat (flag true) no_acts
-        ∷ assert_equal (number 1) (quoted "1") ∷ set_prop (number 1) (quoted "x") ∷ set_prop (quoted "x") (number 1) ∷ clear_prop (number 1) ∷ set_locale (number 1)
-        ∷ write_file (quoted "a") (number 1) ∷ append_file (quoted "a") (number 1) ∷ delete_file (number 1) ∷ [])
+    ensures statements { endings_of (assert (number 1) ∷ assume (number 1) "no"
+        ∷ if_then (number 1) [] ∷ repeat (flag true) no_acts
+        ∷ assert_equal (number 1) (quoted "1") ∷ set_prop (number 1) (quoted "x")
+        ∷ set_prop (quoted "x") (number 1) ∷ clear_prop (number 1) ∷ set_locale (number 1)
+        ∷ write_file (quoted "a") (number 1) ∷ append_file (quoted "a") (number 1)
+        ∷ delete_file (number 1) ∷ [])
         ≡ replicate 12 (fault_here K.WrongKind "wrong kind") }
-    ensures count { endings_of (repeat (minus 1) no_acts ∷ []) ≡ fault_here K.BadCount "bad count" ∷ [] }
+    ensures count { endings_of (repeat (minus 1) no_acts ∷ [])
+        ≡ fault_here K.BadCount "bad count" ∷ [] }
 {}
 
 /// A false `assert` says so, and `assert_equal` names both values, the expected one first. What
 /// holds goes on.
 #[tactic(auto, using(crate::proofs::ExampleLemmas::numerals))]
 pub fn assertions_name_what_differs()
-    ensures fail { endings_of (assert (flag false) ∷ assert_equal (number 3) (number 4) ∷ assume (flag false) "no" ∷ [])
-        ≡ Fail (note "assertion failed" (in_test 1)) ∷ Fail (note "expected: <3> but was: <4>" (in_test 1)) ∷ Assumed (note "no" (in_test 1)) ∷ [] }
-    ensures hold { endings_of (assert (flag true) ∷ assert_equal (quoted "a") (quoted "a") ∷ assume (flag true) "no" ∷ [])
+    ensures fail { endings_of (assert (flag false) ∷ assert_equal (number 3) (number 4)
+        ∷ assume (flag false) "no" ∷ [])
+        ≡ Fail (note "assertion failed" (in_test 1)) ∷ Fail
+        (note "expected: <3> but was: <4>" (in_test 1)) ∷ Assumed (note "no" (in_test 1)) ∷ [] }
+    ensures hold { endings_of (assert (flag true) ∷ assert_equal (quoted "a") (quoted "a")
+        ∷ assume (flag true) "no" ∷ [])
         ≡ replicate 3 Well }
 {}
 
@@ -355,7 +398,8 @@ pub fn places_name_their_block()
 /// A place has the row of the innermost statement, and of the `repeat` for the beginning of a turn.
 #[tactic(auto, using(crate::proofs::ExampleLemmas::numerals))]
 pub fn rows_are_of_the_innermost_statement()
-    ensures statements { map ending_on_row_3 (fail "no" ∷ assume (flag false) "no" ∷ print (name "x") ∷ [])
+    ensures statements { map ending_on_row_3
+        (fail "no" ∷ assume (flag false) "no" ∷ print (name "x") ∷ [])
         ≡ Fail (note "no" (in_test 3)) ∷ Assumed (note "no" (in_test 3))
         ∷ Fault K.UnknownName (note "unknown name x" (in_test 3)) ∷ [] }
     ensures turn { (block_with [] 0 (on_row 2 (repeats 10000 ∷ []))).here.ending
@@ -377,17 +421,20 @@ pub fn turns_take_steps()
 /// A block has 10,000 steps. Past them a statement does nothing more.
 pub fn steps_are_limited()
     ensures last { (by_itself (repeats 9999 ∷ [])).here.ending ≡ Well }
-    ensures past { let s = block_with [] 0 (act 1 (repeats 9999) (on_row 2 (print (name "x") ∷ []))) in
+    ensures past { let s = block_with [] 0
+        (act 1 (repeats 9999) (on_row 2 (print (name "x") ∷ []))) in
         s.here.ending ≡ Fault K.OutOfSteps (note "out of steps" (in_test 2)) }
 {}
 
 /// With no step left each statement ends the block, before any of its operands is evaluated.
 pub fn steps_come_first()
-    ensures { endings_without_steps (let_name "x" (name "y") ∷ assign "n" (name "y") ∷ print (name "y") ∷ assert (flag false)
+    ensures { endings_without_steps (let_name "x" (name "y") ∷ assign "n" (name "y")
+        ∷ print (name "y") ∷ assert (flag false)
         ∷ assert_equal (name "y") (name "z") ∷ assume (flag false) "no" ∷ fail "no"
         ∷ if_then (name "y") [] ∷ repeat (name "y") no_acts
         ∷ set_prop (number 1) (name "y") ∷ clear_prop (number 1) ∷ set_locale (number 1)
-        ∷ write_file (number 1) (name "y") ∷ append_file (number 1) (name "y") ∷ delete_file (number 1) ∷ [])
+        ∷ write_file (number 1) (name "y") ∷ append_file (number 1) (name "y")
+        ∷ delete_file (number 1) ∷ [])
         ≡ replicate 15 (fault_here K.OutOfSteps "out of steps") }
 {}
 
@@ -401,12 +448,16 @@ pub fn output_is_limited()
 /// A text has 4,096 bytes at most, and so has a file. Whether a file may be changed is tested
 /// first.
 pub fn texts_are_limited()
-    ensures last { (by_itself (let_name "x" (join (long 4095) (quoted "b" ∷ [])) ∷ [])).here.ending ≡ Well }
+    ensures last { (by_itself (let_name "x" (join (long 4095) (quoted "b" ∷ [])) ∷ [])).here.ending
+        ≡ Well }
     ensures past { (by_itself (let_name "x" (join (long 4096) (quoted "b" ∷ [])) ∷ [])).here.ending
         ≡ fault_here K.TextTooLong "text is too long" }
-    ensures file { (block_with (writes file_a ∷ []) 0 (body (write_file (quoted "a") (long 4096) ∷ append_file (quoted "a") (quoted "b") ∷ []))).here.ending
+    ensures file { (block_with (writes file_a ∷ []) 0
+        (body (write_file (quoted "a") (long 4096) ∷ append_file (quoted "a") (quoted "b")
+        ∷ []))).here.ending
         ≡ fault_here K.TextTooLong "text is too long" }
-    ensures undeclared { (beside_a_long_file (append_file (quoted "a") (quoted "b") ∷ [])).here.ending
+    ensures undeclared { (beside_a_long_file
+        (append_file (quoted "a") (quoted "b") ∷ [])).here.ending
         ≡ fault_here K.Undeclared "undeclared READ_WRITE of file:a" }
 {}
 
@@ -414,18 +465,23 @@ pub fn texts_are_limited()
 pub fn files_are_written_and_deleted()
     ensures grows { test_alone writes_and_deletes (empty_head ∷ []) empty_world
         ≡ passed ("mn" ∷ "true" ∷ "false" ∷ []) }
-    ensures replaced { (block_with (writes file_a ∷ []) 0 (body (write_file (quoted "a") (quoted "m") ∷ write_file (quoted "a") (quoted "n") ∷ print (file (quoted "a")) ∷ []))).here.lines
+    ensures replaced { (block_with (writes file_a ∷ []) 0
+        (body (write_file (quoted "a") (quoted "m") ∷ write_file (quoted "a") (quoted "n")
+        ∷ print (file (quoted "a")) ∷ []))).here.lines
         ≡ lines ("n" ∷ []) }
 {}
 
 /// What isn't there is missing, by its name.
 #[tactic(auto, using(crate::proofs::ExampleLemmas::properties))]
 pub fn absent_resources_are_missing()
-    ensures append { (block_with (writes file_a ∷ []) 0 (body (append_file (quoted "a") (quoted "n") ∷ []))).here.ending
+    ensures append { (block_with (writes file_a ∷ []) 0
+        (body (append_file (quoted "a") (quoted "n") ∷ []))).here.ending
         ≡ fault_here K.Missing "missing file a" }
-    ensures delete { (block_with (writes file_a ∷ []) 0 (body (delete_file (quoted "a") ∷ []))).here.ending
+    ensures delete { (block_with (writes file_a ∷ []) 0
+        (body (delete_file (quoted "a") ∷ []))).here.ending
         ≡ fault_here K.Missing "missing file a" }
-    ensures file { (block_with (reads file_a ∷ []) 0 (body (print (file (quoted "a")) ∷ []))).here.ending
+    ensures file { (block_with (reads file_a ∷ []) 0
+        (body (print (file (quoted "a")) ∷ []))).here.ending
         ≡ fault_here K.Missing "missing file a" }
     ensures property { test_alone reads_and_prints_a (empty_head ∷ []) empty_world
         ≡ faulted K.Missing "missing property a" (in_test 1) [] }
@@ -433,6 +489,8 @@ pub fn absent_resources_are_missing()
 
 /// An `if` does one of its two bodies.
 pub fn one_body_is_chosen()
-    ensures { (by_itself (if_else (flag true) (print (quoted "a") ∷ []) (print (quoted "b") ∷ []) ∷ if_else (flag false) (print (quoted "a") ∷ []) (print (quoted "b") ∷ []) ∷ [])).here.lines
+    ensures { (by_itself (if_else (flag true) (print (quoted "a") ∷ []) (print (quoted "b") ∷ [])
+        ∷ if_else (flag false) (print (quoted "a") ∷ []) (print (quoted "b") ∷ [])
+        ∷ [])).here.lines
         ≡ lines ("a" ∷ "b" ∷ []) }
 {}

@@ -1,7 +1,7 @@
 ghost use Rattle.std.specs.Prelude.{◌≡◌, IfOk};
 ghost use Rattle.std.specs.Ordering.{nat_cmp};
 ghost use Rattle.std.specs.Cmp.Lexicographic.{slice_cmp};
-ghost use Rattle.iso_model.specs.Keys.{file_key};
+ghost use Rattle.iso_model.specs.ResourceKeys.{file_key};
 
 use crate::text::Text;
 use std::alloc::{AllocError, Global};

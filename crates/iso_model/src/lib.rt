@@ -11,6 +11,7 @@ pub mod distinct;
 pub mod examples;
 pub mod fault;
 pub mod heads;
+pub mod input_error;
 pub mod key;
 pub mod key_map;
 pub mod laws;

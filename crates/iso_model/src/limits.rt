@@ -22,6 +22,8 @@ pub const KEY_BYTES: u32 = 255;
 pub const KEYS: u32 = 255;
 /// Bytes of a text.
 pub const TEXT_BYTES: u32 = 4_096;
+/// A number of a script, which may stand after a minus.
+pub const NUMBER: u64 = 9_223_372_036_854_775_808;
 /// Bytes of a display text or a reason, which has at least one.
 pub const DISPLAY_BYTES: u32 = 200;
 /// Steps of a block.

@@ -91,7 +91,12 @@ impl Model for Names {
 
     ghost Value = { Environment };
 
-    ghost view = { λ n. record { names = n.bindings; steps = n.steps; printed = n.printed; block = n.block } };
+    ghost view = { λ n. record {
+      names = n.bindings;
+      steps = n.steps;
+      printed = n.printed;
+      block = n.block;
+    } };
 }
 
 impl Names {
@@ -136,7 +141,8 @@ impl Names {
 
     /// A local more.
     pub fn declare(&mut self, name: Text, value: Data) -> Result<(), AllocError>
-        ensures ok { OnOk result (self.new ≡ record self.old { names = self.old.names ++ bound Local name value ∷ [] }) }
+        ensures ok { OnOk result (self.new
+            ≡ record self.old { names = self.old.names ++ bound Local name value ∷ [] }) }
         ensures err { OnErr result (self.new ≡ self.old) }
     {
         self.bindings.push(Binding {
@@ -157,7 +163,8 @@ impl Names {
     /// isn't visible, before `Frozen` where it may not be assigned. Memory is taken for a shared
     /// name alone.
     pub fn assign(&mut self, name: &str, value: Data) -> Result<Result<(), AssignFault>, AllocError>
-        ensures answer { IfOk result (λ answer. assigned self.old.names name.now value ≡ assignment answer name.now self.new.names) }
+        ensures answer { IfOk result (λ answer. assigned self.old.names name.now value
+            ≡ assignment answer name.now self.new.names) }
         ensures rest { self.new ≡ record self.old { names = self.new.names } }
         ensures fault { IfOk result (λ answer. OnErr answer (self.new ≡ self.old)) }
         ensures err { OnErr result (self.new ≡ self.old) }
@@ -173,7 +180,7 @@ impl Names {
         Ok(Ok(()))
     }
 
-    /// The steps that are left in the block.
+    /// For a runner of one's own: the steps that are left in the block.
     pub fn steps(&self) -> u32
         ensures { result ≡ self.now.steps }
     {
@@ -198,7 +205,8 @@ impl Names {
     /// Where it hasn't, nothing is counted.
     pub fn count_line(&mut self, bytes: usize) -> bool
         ensures room { result ≡ nat_le (self.old.printed + bytes + 1) OUTPUT_BYTES }
-        ensures counted { OnTrue result (self.new ≡ record self.old { printed = self.old.printed + bytes + 1 }) }
+        ensures counted { OnTrue result (self.new
+            ≡ record self.old { printed = self.old.printed + bytes + 1 }) }
         ensures full { OnFalse result (self.new ≡ self.old) }
     {
         if self.printed >= OUTPUT_BYTES || bytes >= (OUTPUT_BYTES - self.printed) as usize {

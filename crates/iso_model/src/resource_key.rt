@@ -1,8 +1,7 @@
 ghost use Rattle.std.specs.Prelude.{◌≡◌, IfOk, bytes_eq};
 ghost use Rattle.std.specs.Ordering.{nat_cmp};
 ghost use Rattle.std.specs.Cmp.Lexicographic.{slice_cmp};
-ghost use Rattle.iso_model.specs.ResourceKeys.{spelling};
-ghost use Rattle.iso_model.specs.Keys.{file_key};
+ghost use Rattle.iso_model.specs.ResourceKeys.{file_key, spelling};
 
 use crate::key::Key;
 use crate::text::Text;

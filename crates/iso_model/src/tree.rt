@@ -29,6 +29,26 @@ pub enum Function {
     HasFile,
 }
 
+/// A statement of one expression.
+#[derive(Clone, Copy)]
+pub enum OneOperand {
+    Print,
+    Assert,
+    ClearProp,
+    SetLocale,
+    DeleteFile,
+}
+
+/// A statement of two expressions.
+#[derive(Clone, Copy)]
+pub enum TwoOperands {
+    /// The expected value, and the actual one.
+    AssertEqual,
+    SetProp,
+    WriteFile,
+    AppendFile,
+}
+
 /// An expression. Parentheses leave no node.
 #[derive(Drop)]
 pub enum Expr {
@@ -58,19 +78,11 @@ pub type Block = Vec<Stmt>;
 pub enum Form {
     Let(Text, Expr),
     Assign(Text, Expr),
-    Print(Expr),
-    Assert(Expr),
-    /// The expected value, and the actual one.
-    AssertEqual(Expr, Expr),
+    One(OneOperand, Expr),
+    Two(TwoOperands, Expr, Expr),
     /// The condition, and the reason.
     Assume(Expr, Text),
     Fail(Text),
-    SetProp(Expr, Expr),
-    ClearProp(Expr),
-    SetLocale(Expr),
-    WriteFile(Expr, Expr),
-    AppendFile(Expr, Expr),
-    DeleteFile(Expr),
     /// The condition, the body where it holds, and the one where it doesn't: empty without `else`.
     If(Expr, Vec<Stmt>, Vec<Stmt>),
     /// The number of turns, and the body.

@@ -12,12 +12,11 @@ use Rattle.iso_places.specs.Sites.{site_at}
 use Rattle.iso_places.specs.declared.fault.LocateError.{LocateError}
 use Rattle.iso_places.specs.declared.fault.LocateError.TheVariants.{NoPlace, OutOfMemory}
 use Rattle.iso_places.specs.declared.site.Site.{Site}
-use Rattle.iso_plan.specs.Faults.{scripts_fault}
+use Rattle.iso_plan.specs.Faults.{scripts_fault, PlanError}
 use Rattle.iso_plan.specs.PathTexts.{path_text}
 use Rattle.iso_plan.specs.Selections.{node_paths}
 use Rattle.iso_plan.specs.Tree.{Row, tree}
-use Rattle.iso_plan.specs.declared.fault.PlanError.{PlanError}
-use Rattle.iso_plan.specs.declared.fault.PlanError.TheVariants as P
+use Rattle.iso_model.specs.declared.input_error.InputError.TheVariants as P
 use Rattle.iso_script.specs.Grammar.{ReadsPlaced}
 use Rattle.iso_script.specs.declared.place.NodePlace.{NodePlace}
 
@@ -28,9 +27,11 @@ site_by_path nodes sites path = lookup (bytes_eq path) (zip (node_paths nodes) s
 
 -- These are the sites of a plan's nodes but the root: each stands where the first node stands that
 -- has its path.
-pub record AreSites (nodes : List Row) (all : List Site) (plan : List Row) (sites : List Site) : Type 0 where
+pub record AreSites (nodes : List Row) (all : List Site) (plan : List Row)
+    (sites : List Site) : Type 0 where
   pub each : length plan ≡ length sites + 1
-  pub own : (n : ℕ) → 0 < n → n < length plan → site_at sites n ≡ site_by_path nodes all (path_text plan n)
+  pub own : (n : ℕ) → 0 < n → n < length plan → site_at sites n
+      ≡ site_by_path nodes all (path_text plan n)
 
 -- a node of a plan whose path no node with a site has
 pub record HasStranger (nodes : List Row) (all : List Site) (plan : List Row) : Type 0 where
@@ -42,7 +43,8 @@ pub record HasStranger (nodes : List Row) (all : List Site) (plan : List Row) : 
 -- why the sites of a plan's nodes are not found: one is no node of these scripts that has a site,
 -- or no plan is of these scripts, or memory ran out
 abbrev pub IsRefusal : List Script → List Site → List Row → LocateError → Type 0
-IsRefusal scripts all plan NoPlace = (scripts_fault scripts ≢ None) ⊎ HasStranger (tree scripts) all plan
+IsRefusal scripts all plan NoPlace =
+    (scripts_fault scripts ≢ None) ⊎ HasStranger (tree scripts) all plan
 IsRefusal scripts all plan OutOfMemory = ⊤
 
 -- what is answered where scripts have no overview
@@ -52,7 +54,8 @@ from_plan_error P.OutOfMemory = OutOfMemory
 
 -- a table finds by each path what is the first of these entries that has it
 abbrev pub FindsBy : BTreeMap (Bor (List ℕ)) Site → List (List ℕ × Site) → Type 0
-FindsBy table entries = (path : List ℕ) → get_by (λ key. slice_cmp nat_cmp path key.now) table ≡ lookup (bytes_eq path) entries
+FindsBy table entries = (path : List ℕ) → get_by (λ key. slice_cmp nat_cmp path key.now) table
+    ≡ lookup (bytes_eq path) entries
 
 -- one of these paths is that of no entry, or memory ran out
 abbrev pub IsMissing : List (List ℕ × Site) → List (List ℕ) → LocateError → Type 0
@@ -64,4 +67,5 @@ abbrev pub WereRead : List Script → List (List NodePlace) → Type 0
 WereRead [] [] = ⊤
 WereRead [] (places ∷ more) = ⊥
 WereRead (s ∷ ss) [] = ⊥
-WereRead (s ∷ ss) (places ∷ more) = ((bytes : List ℕ) × ReadsPlaced bytes s places) × WereRead ss more
+WereRead (s ∷ ss) (places ∷ more) = ((bytes : List ℕ) × ReadsPlaced bytes s places)
+    × WereRead ss more

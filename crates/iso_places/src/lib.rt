@@ -7,6 +7,6 @@ pub mod fault;
 pub mod laws;
 pub mod lines;
 pub mod locate;
-mod paths;
+pub mod paths;
 pub mod site;
 mod table;

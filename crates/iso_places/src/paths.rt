@@ -8,8 +8,8 @@ use iso_plan::laws::{nodes_are_a_tree, parents_come_first};
 use iso_plan::plan::Plan;
 use std::alloc::{AllocError, Global};
 
-/// The path of each node of a plan; the root's is empty.
-pub(crate) fn plan_paths(alloc: Global, plan: &Plan) -> Result<Vec<Text>, AllocError>
+/// The path of each node of a plan, as `jtap plan` prints it; the root's is empty.
+pub fn plan_paths(alloc: Global, plan: &Plan) -> Result<Vec<Text>, AllocError>
     ensures { IfOk result (λ v. v.items ≡ all_paths (tree_of plan.now)) }
 {
     nodes_are_a_tree(plan);
@@ -26,7 +26,8 @@ pub(crate) fn plan_paths(alloc: Global, plan: &Plan) -> Result<Vec<Text>, AllocE
 /// The path of a node of this name that is a child of the class with this number and path, or of
 /// the root.
 fn path_in(alloc: Global, class: u32, above: &Text, name: &str) -> Result<Text, AllocError>
-    ensures { IfOk result (λ t. t ≡ cond (class == 0) name.now (above.now ++ (codes "." ++ name.now))) }
+    ensures { IfOk result (λ t. t ≡ cond (class == 0) name.now
+        (above.now ++ (codes "." ++ name.now))) }
 {
     if class == 0 {
         return Text::copied(alloc, name);

@@ -8,7 +8,7 @@ use Rattle.std.proofs.lemmas.Map.Made.{length-le_from_is_member}
 use Rattle.std.specs.Cmp.{IsEquivalence}
 use Rattle.std.specs.List.{AllByRecursion, IsDistinct, list_any}
 use Rattle.std.specs.Option.{option_or}
-use Rattle.iso_model.specs.Keys.{global_key}
+use Rattle.iso_model.specs.ResourceKeys.{global_key}
 use Rattle.iso_model.specs.NameSets.{is_among}
 use Rattle.iso_model.specs.Scripts.{Class, class, Member, class_member, test_member, Members, no_members, member, Script}
 use Rattle.iso_model.specs.Targets.{is_target}
@@ -149,7 +149,8 @@ key_there q (n ∷ ns) h =
     ] h
 
 -- marks of which no two are alike are no more than two for each of the keys that they are of
-pub two-of-each : (ns : List Mark) (ks : List (List ℕ)) → AreApart ns → ((k : List ℕ) → list_any (bytes_eq k) (mark_keys ns) ≡ true → list_any (bytes_eq k) ks ≡ true) → length ns ≤ length ks + length ks
+pub two-of-each : (ns : List Mark) (ks : List (List ℕ)) → AreApart ns
+    → ((k : List ℕ) → list_any (bytes_eq k) (mark_keys ns) ≡ true → list_any (bytes_eq k) ks ≡ true) → length ns ≤ length ks + length ks
 two-of-each ns ks apart among =
     let most = length-le_from_is_member alike ns (marks_of_keys ks) apart (λ q h. by_target q ks q.target refl (among q.key (key_there q ns h))) in
     let all = length-append (marks_to Itself ks) (marks_to Children ks) in
@@ -300,7 +301,8 @@ more : (a b c : Bool) → (a ≡ true → b ≡ true) → (a || c) ≡ true → 
 more true b c f h = ap (λ x. x || c) (f refl)
 more false b c f h = or_second b c h
 
-among_more : (xs ys ms : List Mark) (k : List ℕ) → (is_among (mark_keys xs) k ≡ true → is_among (mark_keys ys) k ≡ true) → is_among (mark_keys (xs ++ ms)) k ≡ true → is_among (mark_keys (ys ++ ms)) k ≡ true
+among_more : (xs ys ms : List Mark) (k : List ℕ) → (is_among (mark_keys xs) k ≡ true → is_among (mark_keys ys) k ≡ true)
+    → is_among (mark_keys (xs ++ ms)) k ≡ true → is_among (mark_keys (ys ++ ms)) k ≡ true
 among_more xs ys ms k f h = among_append ys ms k ∙ more (is_among (mark_keys xs) k) (is_among (mark_keys ys) k) (is_among (mark_keys ms) k) f (sym (among_append xs ms k) ∙ h)
 
 key_all : (ms ns : List Mark) (k : List ℕ) → is_among (mark_keys (with_marks ns ms)) k ≡ true → is_among (mark_keys (ns ++ ms)) k ≡ true

@@ -4,11 +4,10 @@ use Rattle.std.proofs.lemmas.Bool.{le-ltb, lt-ltb}
 use Rattle.std.specs.Option.{option_or}
 use Rattle.iso_model.specs.Scripts.{Script}
 use Rattle.iso_model.specs.declared.limits.TheConstants.{SCRIPTS, NODES, KEYS}
-use Rattle.iso_plan.specs.Faults.{IsCrowded, IsFaultOf, IsFull, full_fault, has_double, keys_fault, scripts_fault, top_names}
+use Rattle.iso_plan.specs.Faults.{IsCrowded, IsFaultOf, IsFull, full_fault, has_double, keys_fault, scripts_fault, top_names, PlanError}
 use Rattle.iso_plan.specs.KeyTable.{keys}
 use Rattle.iso_plan.specs.Tree.{Row, tree}
-use Rattle.iso_plan.specs.declared.fault.PlanError.{PlanError}
-use Rattle.iso_plan.specs.declared.fault.PlanError.TheVariants.{Fault, OutOfMemory}
+use Rattle.iso_model.specs.declared.input_error.InputError.TheVariants.{Fault, OutOfMemory}
 use Rattle.iso_plan.specs.declared.fault.PlanFault.{PlanFault}
 use Rattle.iso_plan.specs.declared.fault.PlanFault.TheVariants.{DoubleClass, TooManyNodes, TooManyKeys, TooManyScripts}
 

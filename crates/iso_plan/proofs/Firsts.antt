@@ -7,7 +7,7 @@ use Rattle.std.specs.Bool.{if◌then◌else◌}
 use Rattle.std.specs.Cmp.Lexicographic.{bytes_decides}
 use Rattle.std.specs.List.{list_any}
 use Rattle.indexmap.specs.IndexSet.{insert_all}
-use Rattle.iso_model.specs.Keys.{global_key}
+use Rattle.iso_model.specs.ResourceKeys.{global_key}
 use Rattle.iso_plan.specs.KeyTable.{firsts, keys, marked_keys}
 use Rattle.iso_plan.specs.Tree.{Row}
 
@@ -54,7 +54,8 @@ one_more seen k xs =
     xs
     ∙ sym (two_filters (is_new seen) (differs k) xs)
 
-inserted_by : (seen : List (List ℕ)) (k : List ℕ) (ks : List (List ℕ)) → ((s : List (List ℕ)) → insert_all bytes_eq s ks ≡ s ++ filter (is_new s) (firsts ks)) → (t : Bool) → list_any (bytes_eq k) seen ≡ t
+inserted_by : (seen : List (List ℕ)) (k : List ℕ) (ks : List (List ℕ))
+    → ((s : List (List ℕ)) → insert_all bytes_eq s ks ≡ s ++ filter (is_new s) (firsts ks)) → (t : Bool) → list_any (bytes_eq k) seen ≡ t
     → insert_all bytes_eq (if t then seen else seen ++ k ∷ []) ks ≡ seen ++ cond (not t) (k ∷ filter (is_new seen) (filter (differs k) (firsts ks))) (filter (is_new seen) (filter (differs k) (firsts ks)))
 inserted_by seen k ks ih true e = ih seen ∙ ap (λ xs. seen ++ xs) (sym (known_too seen k (firsts ks) e))
 inserted_by seen k ks ih false e =

@@ -10,12 +10,11 @@ use Rattle.iso_model.specs.Scripts.{class}
 use Rattle.iso_model.specs.declared.script.Class.{Class}
 use Rattle.iso_model.specs.declared.script.Member.{Member}
 use Rattle.iso_model.specs.declared.script.Member.TheFolds.{fold_out-Class}
-use Rattle.iso_plan.specs.Faults.{IsFull}
+use Rattle.iso_plan.specs.Faults.{IsFull, PlanError}
 use Rattle.iso_plan.specs.RowView.{row_of, title_of}
 use Rattle.iso_plan.specs.Tree as T
 use Rattle.iso_plan.specs.Tree.{members_rows}
-use Rattle.iso_plan.specs.declared.fault.PlanError.{PlanError}
-use Rattle.iso_plan.specs.declared.fault.PlanError.TheVariants.{Fault, OutOfMemory}
+use Rattle.iso_model.specs.declared.input_error.InputError.TheVariants.{Fault, OutOfMemory}
 use Rattle.iso_plan.specs.declared.row.Row.{Row}
 
 -- a list from a place on, with its first element apart

@@ -10,7 +10,7 @@ use Rattle.std.specs.Bool.{if◌then◌else◌}
 use Rattle.std.specs.Cmp.Lexicographic.{bytes_decides}
 use Rattle.std.specs.List.{IsDistinct, list_any, position, position_or_len, prefix_len}
 use Rattle.indexmap.specs.IndexSet.{insert_all, insert_key}
-use Rattle.iso_model.specs.Keys.{global_key}
+use Rattle.iso_model.specs.ResourceKeys.{global_key}
 use Rattle.iso_plan.proofs.PathLemmas.{eq_from, eq_same, eq_not}
 use Rattle.iso_plan.specs.KeyTable.{keys, marked_keys}
 use Rattle.iso_plan.specs.Locks.{is_that}
@@ -97,6 +97,7 @@ number_by xs key None e d i h =
     nat_list_eq_equiv.symm (get_or xs i []) key ∙ fails_before_first (bytes_eq key) xs i [] (omega arith)
 
 -- the place of a key is its number
-pub number-is : (ks : List (Bor (List ℕ))) (key : List ℕ) (o : Option ℕ) → o ≡ position (λ (x : Bor (List ℕ)). bytes_eq key x.now) ks → IsDistinct bytes_eq (map (λ (x : Bor (List ℕ)). x.now) ks) → (i : ℕ) → i < length ks → bytes_eq (get_or (map (λ (x : Bor (List ℕ)). x.now) ks) i []) key ≡ is_that o i
+pub number-is : (ks : List (Bor (List ℕ))) (key : List ℕ) (o : Option ℕ) → o ≡ position (λ (x : Bor (List ℕ)). bytes_eq key x.now) ks
+    → IsDistinct bytes_eq (map (λ (x : Bor (List ℕ)). x.now) ks) → (i : ℕ) → i < length ks → bytes_eq (get_or (map (λ (x : Bor (List ℕ)). x.now) ks) i []) key ≡ is_that o i
 number-is ks key o e d i h =
     number_by (map (λ (x : Bor (List ℕ)). x.now) ks) key o (sym (e ∙ position_map (bytes_eq key) ks)) d i (rw (length-map ks (λ (x : Bor (List ℕ)). x.now)) h)

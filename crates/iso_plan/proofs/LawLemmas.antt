@@ -10,7 +10,7 @@ use Rattle.std.specs.Option.{option_or}
 use Rattle.indexmap.specs.IndexSet.{insert_all, insert_key}
 use Rattle.iso_model.proofs.RightsLemmas.{strongest-none, strongest-assoc, strongest-comm, rights_of-append}
 use Rattle.iso_model.specs.Chains.{ClassHead, marks_of}
-use Rattle.iso_model.specs.Keys.{global_key}
+use Rattle.iso_model.specs.ResourceKeys.{global_key}
 use Rattle.iso_model.specs.Rights.{declared_by, strongest, rights_of, is_readable, is_writable}
 use Rattle.iso_model.specs.declared.access.Access.{Access}
 use Rattle.iso_model.specs.declared.access.Access.TheVariants.{Read, Write}
@@ -86,7 +86,8 @@ swap g d x = sym (strongest-assoc g d x) ∙ ap (λ (y : Option Access). stronge
 less_of : (n l : ℕ) → n < suc l → (l == n) ≡ false → n < l
 less_of n l h e = grind (arith, nat_tests)
 
-has_by : (tree : List Row) (m n l : ℕ) (k : List ℕ) → n < suc l → is_under tree m n ≡ true → (n < l → strongest (declared tree n k) (gathered_below tree m k l) ≡ gathered_below tree m k l) → (t : Bool) → (l == n) ≡ t → strongest (declared tree n k) (gathered_below tree m k (suc l)) ≡ gathered_below tree m k (suc l)
+has_by : (tree : List Row) (m n l : ℕ) (k : List ℕ) → n < suc l → is_under tree m n ≡ true → (n < l → strongest (declared tree n k) (gathered_below tree m k l) ≡ gathered_below tree m k l)
+    → (t : Bool) → (l == n) ≡ t → strongest (declared tree n k) (gathered_below tree m k (suc l)) ≡ gathered_below tree m k (suc l)
 has_by tree m n l k h u ih true e =
     let same : l ≡ n = eq_from l n e in
     let d = declared tree n k in
@@ -138,7 +139,9 @@ above_by tree t n k pos zero e ih =
     record { at = λ m h own. ap (λ (r : Option Access). strongest r (gathered_below tree m k (length tree))) none; nowhere = λ h. none }
 above_by tree t n k pos (suc p) e ih = ih (omega arith)
 
-gathers_at : (tree : List Row) → IsTree tree → (n : ℕ) (k : List ℕ) → 0 < n → Above tree k (parent tree n) → (m : ℕ) → n < length tree → locking_node tree n ≡ Some m → (o : Option ℕ) → locking_node tree (parent tree n) ≡ o → option_or o (cond (declares tree n) (Some n) None) ≡ Some m → strongest (node_rights tree n k) (gathered_below tree m k (length tree)) ≡ gathered_below tree m k (length tree)
+gathers_at : (tree : List Row) → IsTree tree → (n : ℕ) (k : List ℕ) → 0 < n → Above tree k (parent tree n) → (m : ℕ) → n < length tree
+    → locking_node tree n ≡ Some m → (o : Option ℕ) → locking_node tree (parent tree n) ≡ o → option_or o (cond (declares tree n) (Some n) None) ≡ Some m
+    → strongest (node_rights tree n k) (gathered_below tree m k (length tree)) ≡ gathered_below tree m k (length tree)
 gathers_at tree t n k pos up m h own (Some j) e c =
     let same : j ≡ m = let whole : Some j ≡ Some m = c in cc in
     let g = gathered_below tree m k (length tree) in
@@ -154,7 +157,8 @@ none_declares : (n : ℕ) (b : Bool) → cond b (Some n) None ≡ None → b ≡
 none_declares n true h = let wrong : Some n ≡ None = h in absurd (cc)
 none_declares n false h = refl
 
-gathers_none : (tree : List Row) → IsTree tree → (n : ℕ) (k : List ℕ) → 0 < n → Above tree k (parent tree n) → (o : Option ℕ) → locking_node tree (parent tree n) ≡ o → option_or o (cond (declares tree n) (Some n) None) ≡ None → node_rights tree n k ≡ None
+gathers_none : (tree : List Row) → IsTree tree → (n : ℕ) (k : List ℕ) → 0 < n → Above tree k (parent tree n) → (o : Option ℕ)
+    → locking_node tree (parent tree n) ≡ o → option_or o (cond (declares tree n) (Some n) None) ≡ None → node_rights tree n k ≡ None
 gathers_none tree t n k pos up (Some j) e c = let wrong : Some j ≡ None = c in absurd (cc)
 gathers_none tree t n k pos up None e c =
     rights-step tree t n k pos ∙ ap₂ strongest (undeclared tree n k (none_declares n (declares tree n) c)) (up.nowhere e)
@@ -184,7 +188,8 @@ writable_by (Some Read) g e h = let wrong : false ≡ true = h in absurd (cc)
 writable_by (Some Write) None e h = let wrong : Some Write ≡ None = e in absurd (cc)
 writable_by (Some Write) (Some b) e h = ap is_writable (sym e)
 
-covered_by : (tree : List Row) → IsTree tree → (n : ℕ) (k : List ℕ) → 0 < n → n < length tree → is_readable (node_rights tree n k) ≡ true → (o : Option ℕ) → locking_node tree n ≡ o → IsCovered tree n k
+covered_by : (tree : List Row) → IsTree tree → (n : ℕ) (k : List ℕ) → 0 < n → n < length tree
+    → is_readable (node_rights tree n k) ≡ true → (o : Option ℕ) → locking_node tree n ≡ o → IsCovered tree n k
 covered_by tree t n k pos h r None e =
     let none : is_readable (node_rights tree n k) ≡ false = ap is_readable ((rises tree t k n pos).nowhere e) in
     absurd (cc)
@@ -318,7 +323,8 @@ global_known : (tree : List Row) → list_any (bytes_eq global_key) (keys tree) 
 global_known tree =
     all_keep (marked_keys tree) (global_key ∷ []) global_key (or_left (bytes_eq global_key global_key) false (nat_list_eq_equiv.refl global_key))
 
-global_by : (tree : List Row) (m : ℕ) (k : List ℕ) → (t e : Bool) → is_top tree m ≡ t → bytes_eq global_key k ≡ e → is_readable (cond (t && e) (Some (cond (holds_isolated tree m) Write Read)) None) ≡ true → (is_top tree m ≡ true) × (global_key ≡ k)
+global_by : (tree : List Row) (m : ℕ) (k : List ℕ) → (t e : Bool) → is_top tree m ≡ t → bytes_eq global_key k ≡ e
+    → is_readable (cond (t && e) (Some (cond (holds_isolated tree m) Write Read)) None) ≡ true → (is_top tree m ≡ true) × (global_key ≡ k)
 global_by tree m k true true ht he h = (ht, (bytes_decides global_key k).0 he)
 global_by tree m k true false ht he h = let wrong : false ≡ true = h in absurd (cc)
 global_by tree m k false e ht he h = let wrong : false ≡ true = h in absurd (cc)
@@ -327,12 +333,14 @@ global_by tree m k false e ht he h = let wrong : false ≡ true = h in absurd (c
 takes_global : (tree : List Row) (m : ℕ) (k : List ℕ) → is_readable (global_access tree m k) ≡ true → (is_top tree m ≡ true) × (global_key ≡ k)
 takes_global tree m k h = global_by tree m k (is_top tree m) (bytes_eq global_key k) refl refl h
 
-locking_by : (tree : List Row) (m : ℕ) (k : List ℕ) → (t : Bool) → is_locking tree m ≡ t → is_readable (cond t (gathered tree m k) None) ≡ true → (is_locking tree m ≡ true) × (is_readable (gathered tree m k) ≡ true)
+locking_by : (tree : List Row) (m : ℕ) (k : List ℕ) → (t : Bool) → is_locking tree m ≡ t
+    → is_readable (cond t (gathered tree m k) None) ≡ true → (is_locking tree m ≡ true) × (is_readable (gathered tree m k) ≡ true)
 locking_by tree m k true e h = (e, h)
 locking_by tree m k false e h = let wrong : false ≡ true = h in absurd (cc)
 
 -- how a node comes to take a key: as a top-level class, or as a locking node
-pub takes-by : (tree : List Row) (m : ℕ) (k : List ℕ) → is_readable (taken tree m k) ≡ true → ((is_top tree m ≡ true) × (global_key ≡ k)) ⊎ ((is_locking tree m ≡ true) × (is_readable (gathered tree m k) ≡ true))
+pub takes-by : (tree : List Row) (m : ℕ) (k : List ℕ) → is_readable (taken tree m k) ≡ true
+    → ((is_top tree m ≡ true) × (global_key ≡ k)) ⊎ ((is_locking tree m ≡ true) × (is_readable (gathered tree m k) ≡ true))
 takes-by tree m k h =
     ⊎_elim (λ g. inl (takes_global tree m k g)) (λ g. inr (locking_by tree m k (is_locking tree m) refl g))
     (readable_cases (global_access tree m k) (cond (is_locking tree m) (gathered tree m k) None) h)
@@ -357,7 +365,8 @@ lock_writes : (i : ℕ) (a : Option Access) → is_writable a ≡ true → list_
 lock_writes i None h = h
 lock_writes i (Some a) h = or_left (is_writable (Some a)) false h
 
-writes_by : (f : List ℕ → Option Access) (x : List ℕ) (ks : List (List ℕ)) (k : List ℕ) (i : ℕ) → is_writable (f k) ≡ true → (t : Bool) → bytes_eq k x ≡ t → (t || list_any (bytes_eq k) ks) ≡ true → (list_any (bytes_eq k) ks ≡ true → list_any is_write (locks_from (suc i) (map f ks)) ≡ true) → list_any is_write (lock_of i (f x) ++ locks_from (suc i) (map f ks)) ≡ true
+writes_by : (f : List ℕ → Option Access) (x : List ℕ) (ks : List (List ℕ)) (k : List ℕ) (i : ℕ) → is_writable (f k) ≡ true → (t : Bool) → bytes_eq k x ≡ t → (t || list_any (bytes_eq k) ks) ≡ true
+    → (list_any (bytes_eq k) ks ≡ true → list_any is_write (locks_from (suc i) (map f ks)) ≡ true) → list_any is_write (lock_of i (f x) ++ locks_from (suc i) (map f ks)) ≡ true
 writes_by f x ks k i w true e h ih =
     let same : k ≡ x = (bytes_decides k x).0 e in
     list_any-append is_write (lock_of i (f x)) (locks_from (suc i) (map f ks)) ∙ or_left (list_any is_write (lock_of i (f x))) (list_any is_write (locks_from (suc i) (map f ks))) (lock_writes i (f x) (ap (λ (j : List ℕ). is_writable (f j)) (sym same) ∙ w))
@@ -371,7 +380,8 @@ locks_write f (x ∷ ks) k i h w = writes_by f x ks k i w (bytes_eq k x) refl h 
 pub taken-writes : (tree : List Row) → IsTree tree → (m : ℕ) (k : List ℕ) → is_writable (taken tree m k) ≡ true → takes_write tree m ≡ true
 taken-writes tree t m k w = locks_write (taken tree m) (keys tree) k 0 (taken-known tree t m k (readable_of (taken tree m k) w)) w
 
-on_by : (test : ℕ → Bool) (n : ℕ) (ns : List ℕ) (m : ℕ) → test m ≡ true → (t : Bool) → (n == m) ≡ t → (t || is_on ns m) ≡ true → (is_on ns m ≡ true → list_any test ns ≡ true) → (test n || list_any test ns) ≡ true
+on_by : (test : ℕ → Bool) (n : ℕ) (ns : List ℕ) (m : ℕ) → test m ≡ true → (t : Bool) → (n == m) ≡ t
+    → (t || is_on ns m) ≡ true → (is_on ns m ≡ true → list_any test ns ≡ true) → (test n || list_any test ns) ≡ true
 on_by test n ns m w true e h ih =
     let same : n ≡ m = eq_from n m e in
     or_left (test n) (list_any test ns) (ap test same ∙ w)
@@ -401,7 +411,8 @@ pub top_alone : (tree : List Row) → IsBelow tree → (m n : ℕ) → is_top tr
 top_alone tree b m n h u = alone_by m n (n == m) refl (sym (ap (λ (ns : List ℕ). is_on ns m) (own-path tree b n h)) ∙ u)
 
 -- a key that marks declare is the global one only where they name it
-global_mark : (m : Mark) (ms : List Mark) → (t : Bool) → bytes_eq global_key m.key ≡ t → is_readable (strongest (cond t (Some m.access) None) (rights_of ms global_key)) ≡ true → (is_readable (rights_of ms global_key) ≡ true → marks_global ms ≡ true) → (t || marks_global ms) ≡ true
+global_mark : (m : Mark) (ms : List Mark) → (t : Bool) → bytes_eq global_key m.key ≡ t → is_readable (strongest (cond t (Some m.access) None) (rights_of ms global_key)) ≡ true
+    → (is_readable (rights_of ms global_key) ≡ true → marks_global ms ≡ true) → (t || marks_global ms) ≡ true
 global_mark m ms true e h ih = refl
 global_mark m ms false e h ih = ih h
 
@@ -409,7 +420,8 @@ global_marked : (ms : List Mark) → is_readable (rights_of ms global_key) ≡ t
 global_marked [] h = h
 global_marked (m ∷ ms) h = global_mark m ms (bytes_eq global_key m.key) refl h (global_marked ms)
 
-isolates_by : (tree : List Row) (t j l : ℕ) → j < suc l → is_under tree t j ≡ true → isolates tree j ≡ true → (j < l → isolates_below tree t l ≡ true) → (b : Bool) → (l == j) ≡ b → isolates_below tree t (suc l) ≡ true
+isolates_by : (tree : List Row) (t j l : ℕ) → j < suc l → is_under tree t j ≡ true → isolates tree j ≡ true
+    → (j < l → isolates_below tree t l ≡ true) → (b : Bool) → (l == j) ≡ b → isolates_below tree t (suc l) ≡ true
 isolates_by tree t j l h u i ih true e =
     let same : l ≡ j = eq_from l j e in
     or_left (is_under tree t l && isolates tree l) (isolates_below tree t l) (ap (λ (x : ℕ). is_under tree t x && isolates tree x) same ∙ ap₂ (λ (a b : Bool). a && b) u i)
@@ -424,7 +436,8 @@ isolated_locks : (tree : List Row) → IsBelow tree → (t : ℕ) → is_top tre
 isolated_locks tree b t top h =
     that-self (locking_node tree t) t (ap (outermost (declares tree)) (own-path tree b t top) ∙ ap (λ (d : Bool). option_or None (cond d (Some t) None)) (or_left (holds_isolated tree t) (is_marked tree t) h))
 
-global_top : (tree : List Row) → IsBelow tree → (n j t : ℕ) → j < length tree → is_locking tree n ≡ true → is_under tree n j ≡ true → isolates tree j ≡ true → top tree j ≡ Some t → is_top tree n ≡ true
+global_top : (tree : List Row) → IsBelow tree → (n j t : ℕ) → j < length tree → is_locking tree n ≡ true
+    → is_under tree n j ≡ true → isolates tree j ≡ true → top tree j ≡ Some t → is_top tree n ≡ true
 global_top tree b n j t h ln u i e =
     let above : is_top tree t ≡ true = top-is tree b j t e in
     let ut : is_under tree t j ≡ true = under-top tree b t j above ∙ that-self (top tree j) t e in
@@ -435,7 +448,8 @@ global_top tree b n j t h ln u i e =
     let same : t ≡ n = let whole : Some t ≡ Some n = sym one ∙ two in cc in
     ap (is_top tree) (sym same) ∙ above
 
-global_by_top : (tree : List Row) → IsBelow tree → (n : ℕ) → is_locking tree n ≡ true → Declarer tree n global_key (length tree) → (o : Option ℕ) → (j : ℕ) → top tree j ≡ o → j < length tree → is_under tree n j ≡ true → is_readable (declared tree j global_key) ≡ true → is_top tree n ≡ true
+global_by_top : (tree : List Row) → IsBelow tree → (n : ℕ) → is_locking tree n ≡ true → Declarer tree n global_key (length tree) → (o : Option ℕ)
+    → (j : ℕ) → top tree j ≡ o → j < length tree → is_under tree n j ≡ true → is_readable (declared tree j global_key) ≡ true → is_top tree n ≡ true
 global_by_top tree b n ln d (Some t) j e h u r =
     global_top tree b n j t h ln u (or_last (is_isolated (row_at tree j).kind) (marks_global (effective_marks tree j)) (global_marked (effective_marks tree j) r)) e
 global_by_top tree b n ln d None j e h u r =
@@ -470,7 +484,8 @@ excluded None b h = let wrong : false ≡ true = h in absurd (cc)
 excluded (Some a) None h = let wrong : false ≡ true = h in absurd (cc)
 excluded (Some a) (Some b) h = (refl, refl)
 
-key_by : (tree : List Row) → IsBelow tree → (m n : ℕ) → is_under tree m n ≡ true → (k : List ℕ) → (x : Bool) → exclude (taken tree m k) (taken tree n k) ≡ x → (rest : Bool) → (x || rest) ≡ true → (rest ≡ true → m ≡ n) → m ≡ n
+key_by : (tree : List Row) → IsBelow tree → (m n : ℕ) → is_under tree m n ≡ true → (k : List ℕ) → (x : Bool)
+    → exclude (taken tree m k) (taken tree n k) ≡ x → (rest : Bool) → (x || rest) ≡ true → (rest ≡ true → m ≡ n) → m ≡ n
 key_by tree b m n u k true e rest h ih =
     let r = excluded (taken tree m k) (taken tree n k) e in
     apart tree b m n k u r.0 r.1

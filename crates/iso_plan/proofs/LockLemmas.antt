@@ -4,7 +4,7 @@ use Rattle.std.proofs.lemmas.List.{length-map, length-replicate, length-set, get
 use Rattle.std.proofs.lemmas.List.Elements.{All-from_recursion}
 use Rattle.std.specs.List.{All, AllByRecursion}
 use Rattle.iso_model.proofs.RightsLemmas.{strongest-none, strongest-assoc, strongest-comm}
-use Rattle.iso_model.specs.Keys.{global_key}
+use Rattle.iso_model.specs.ResourceKeys.{global_key}
 use Rattle.iso_model.specs.Rights.{strongest}
 use Rattle.iso_model.specs.declared.access.Access.{Access}
 use Rattle.iso_model.specs.declared.access.Access.TheVariants.{Read, Write}
@@ -39,7 +39,8 @@ locking-le tree b m n e =
     under-le tree b m n (under-locking tree b m n (locking-locks tree b m n e) ∙ that-self (locking_node tree n) m e)
 
 -- a node with another locking node adds nothing
-other_by : (tree : List Row) → IsBelow tree → (m n : ℕ) (k : List ℕ) → is_that (locking_node tree n) m ≡ false → (t : Bool) → is_locking tree m ≡ t → taken_below tree m k (suc n) ≡ taken_below tree m k n
+other_by : (tree : List Row) → IsBelow tree → (m n : ℕ) (k : List ℕ) → is_that (locking_node tree n) m ≡ false
+    → (t : Bool) → is_locking tree m ≡ t → taken_below tree m k (suc n) ≡ taken_below tree m k n
 other_by tree b m n k apart true l =
     ap (λ (u : Bool). strongest (global_access tree m k) (cond (is_locking tree m) (strongest (cond u (declared tree n k) None) (gathered_below tree m k n)) None)) (under-locking tree b m n l ∙ apart)
 other_by tree b m n k apart false l =
@@ -104,7 +105,8 @@ first-length a [] = refl
 first-length a (x ∷ xs) = refl
 
 -- the locks of a table, of which keys past its end are not taken
-pub listed-from : (f : List ℕ → Option Access) (ks : List (List ℕ)) (os : List (Option Access)) (i : ℕ) → length os ≤ length ks → ((j : ℕ) → j < length ks → get_or os j None ≡ f (get_or ks j [])) → locks_from i os ≡ locks_from i (map f ks)
+pub listed-from : (f : List ℕ → Option Access) (ks : List (List ℕ)) (os : List (Option Access)) (i : ℕ) → length os ≤ length ks
+    → ((j : ℕ) → j < length ks → get_or os j None ≡ f (get_or ks j [])) → locks_from i os ≡ locks_from i (map f ks)
 listed-from f [] [] i h each = refl
 listed-from f [] (o ∷ os) i h each = absurd (omega arith)
 listed-from f (k ∷ ks) [] i h each =
@@ -141,18 +143,23 @@ or_true true = refl
 or_true false = refl
 
 -- a locking node has a table of all keys
-pub locking-size : (tree : List Row) → IsBelow tree → (l : ℕ) (tables : List (List (Option Access))) (n m : ℕ) → TablesAre tree l tables n → locking_node tree n ≡ Some m → m < l → length (get_or tables m []) ≡ length (keys tree)
+pub locking-size : (tree : List Row) → IsBelow tree → (l : ℕ) (tables : List (List (Option Access))) (n m : ℕ)
+    → TablesAre tree l tables n → locking_node tree n ≡ Some m → m < l → length (get_or tables m []) ≡ length (keys tree)
 locking-size tree b l tables n m t e h =
     t.sizes m h ∙ ap (λ (u : Bool). cond (is_top tree m || u) (length (keys tree)) 0) (locking-locks tree b m n e) ∙ ap (λ (u : Bool). cond u (length (keys tree)) 0) (or_true (is_top tree m))
 
-size_by : (tree : List Row) (l : ℕ) (tables : List (List (Option Access))) (n m : ℕ) (new : List (Option Access)) → TablesAre tree l tables n → m < length tables → length new ≡ length (get_or tables m []) → (j : ℕ) → j < l → (u : Bool) → (m == j) ≡ u → length (get_or (set tables m new) j []) ≡ cond (is_top tree j || is_locking tree j) (length (keys tree)) 0
+size_by : (tree : List Row) (l : ℕ) (tables : List (List (Option Access))) (n m : ℕ) (new : List (Option Access)) → TablesAre tree l tables n → m < length tables
+    → length new ≡ length (get_or tables m []) → (j : ℕ) → j < l → (u : Bool) → (m == j) ≡ u
+    → length (get_or (set tables m new) j []) ≡ cond (is_top tree j || is_locking tree j) (length (keys tree)) 0
 size_by tree l tables n m new t w s j h true e =
     let same : m ≡ j = eq_from m j e in
     ap (λ (k : ℕ). length (get_or (set tables m new) k [])) (sym same) ∙ ap length (get_or-set_same tables m new [] w) ∙ s ∙ ap (λ (k : ℕ). length (get_or tables k [])) same ∙ t.sizes j h
 size_by tree l tables n m new t w s j h false e =
     ap length (get_or-set_other tables m j new [] (λ same. let yes : (m == j) ≡ true = ap (λ k. m == k) same ∙ eq_same m in absurd (cc))) ∙ t.sizes j h
 
-so_far_by : (tree : List Row) → IsBelow tree → (l : ℕ) (tables : List (List (Option Access))) (n m : ℕ) (new : List (Option Access)) → TablesAre tree l tables n → locking_node tree n ≡ Some m → m < l → m < length tables → ((i : ℕ) → i < length (keys tree) → get_or new i None ≡ strongest (declared tree n (get_or (keys tree) i [])) (get_or (get_or tables m []) i None)) → (j i : ℕ) → j < l → i < length (keys tree) → (u : Bool) → (m == j) ≡ u → get_or (get_or (set tables m new) j []) i None ≡ taken_below tree j (get_or (keys tree) i []) (suc n)
+so_far_by : (tree : List Row) → IsBelow tree → (l : ℕ) (tables : List (List (Option Access))) (n m : ℕ) (new : List (Option Access)) → TablesAre tree l tables n → locking_node tree n ≡ Some m
+    → m < l → m < length tables → ((i : ℕ) → i < length (keys tree) → get_or new i None ≡ strongest (declared tree n (get_or (keys tree) i [])) (get_or (get_or tables m []) i None))
+    → (j i : ℕ) → j < l → i < length (keys tree) → (u : Bool) → (m == j) ≡ u → get_or (get_or (set tables m new) j []) i None ≡ taken_below tree j (get_or (keys tree) i []) (suc n)
 so_far_by tree b l tables n m new t own hm w each j i hj hi true e =
     let same : m ≡ j = eq_from m j e in
     let k = get_or (keys tree) i [] in
@@ -164,7 +171,9 @@ so_far_by tree b l tables n m new t own hm w each j i hj hi false e =
     ∙ t.so_far j i hj hi ∙ sym (taken-other tree b j n k (ap (λ (o : Option ℕ). is_that o j) own ∙ e))
 
 -- what is marked on a node is gathered in the table of its locking node
-pub tables-gather : (tree : List Row) → IsBelow tree → (l : ℕ) (tables : List (List (Option Access))) (n m : ℕ) (new : List (Option Access)) → TablesAre tree l tables n → locking_node tree n ≡ Some m → m < l → length new ≡ length (get_or tables m []) → ((i : ℕ) → i < length (keys tree) → get_or new i None ≡ strongest (declared tree n (get_or (keys tree) i [])) (get_or (get_or tables m []) i None)) → TablesAre tree l (set tables m new) (n + 1)
+pub tables-gather : (tree : List Row) → IsBelow tree → (l : ℕ) (tables : List (List (Option Access))) (n m : ℕ) (new : List (Option Access))
+    → TablesAre tree l tables n → locking_node tree n ≡ Some m → m < l → length new ≡ length (get_or tables m [])
+    → ((i : ℕ) → i < length (keys tree) → get_or new i None ≡ strongest (declared tree n (get_or (keys tree) i [])) (get_or (get_or tables m []) i None)) → TablesAre tree l (set tables m new) (n + 1)
 tables-gather tree b l tables n m new t own h s each =
     let w : m < length tables = rw t.each h in
     record {

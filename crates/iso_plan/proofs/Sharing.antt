@@ -14,7 +14,9 @@ use Rattle.iso_model.proofs.tree.Comparison.TheSendSync as comparison
 use Rattle.iso_model.proofs.tree.Expr.TheLaws.TheKnot as exprs
 use Rattle.iso_model.proofs.tree.Form.TheLaws.TheKnot as form
 use Rattle.iso_model.proofs.tree.Function.TheSendSync as function
+use Rattle.iso_model.proofs.tree.OneOperand.TheSendSync as one
 use Rattle.iso_model.proofs.tree.Operator.TheSendSync as operator
+use Rattle.iso_model.proofs.tree.TwoOperands.TheSendSync as two
 use Rattle.iso_model.specs.contracts.tree.Expr as expr
 use Rattle.iso_model.specs.contracts.heads.ClassContents as class_contents
 use Rattle.iso_model.specs.contracts.heads.ClassHead as class
@@ -48,10 +50,10 @@ pub expr_shared : IsSync (expr.the_field).row
 expr_shared = exprs.sync-Expr datum.the_field_sync text.the_sync operator.the_field_sync Box-sync Vec-sync comparison.the_field_sync function.the_field_sync
 
 pub stmt_sent : IsSend stmt.the_row
-stmt_sent = as_row_send stmt.the_field (form.send-Stmt text.the_send expr_sent Vec-send (search sendable))
+stmt_sent = as_row_send stmt.the_field (form.send-Stmt text.the_send expr_sent one.the_field_send two.the_field_send Vec-send (search sendable))
 
 pub stmt_shared : IsSync stmt.the_row
-stmt_shared = as_row_sync stmt.the_field (form.sync-Stmt text.the_sync expr_shared Vec-sync (search sendable))
+stmt_shared = as_row_sync stmt.the_field (form.sync-Stmt text.the_sync expr_shared one.the_field_sync two.the_field_sync Vec-sync (search sendable))
 
 ruleset parts = (as_row_send, as_row_sync, option_sent, option_shared, stmt_sent, stmt_shared, marks.the_send, marks.the_sync, variables.the_send, variables.the_sync, rights.the_sync, key_map.the_sync, mode.the_sync, text.the_send, text.the_sync, lock.the_sync, settings.the_sync, crosses, sendable)
 

@@ -10,8 +10,12 @@ use Rattle.iso_plan.specs.Selections.{first_unknown, plan_tree}
 use Rattle.iso_plan.specs.Tree.{Row, in_team, tree}
 use Rattle.iso_plan.specs.declared.fault.PlanFault.{PlanFault}
 use Rattle.iso_plan.specs.declared.fault.PlanFault.TheVariants.{DoubleClass, NotSelected, TooManyNodes, TooManyKeys, TooManyScripts}
-use Rattle.iso_plan.specs.declared.fault.PlanError.{PlanError}
-use Rattle.iso_plan.specs.declared.fault.PlanError.TheVariants.{Fault, OutOfMemory}
+use Rattle.iso_model.specs.declared.input_error.InputError.{InputError}
+use Rattle.iso_model.specs.declared.input_error.InputError.TheVariants.{Fault, OutOfMemory}
+
+-- why a plan was not made
+abbrev pub PlanError : Type 0
+PlanError = InputError PlanFault
 
 abbrev pub class_name : Class → List ℕ
 class_name (class title ms) = title.name
@@ -53,11 +57,13 @@ keys_fault tree = cond (nat_lt (KEYS + 1) (length (keys tree))) (Some TooManyKey
 -- what is wrong with paths that select among the nodes of scripts: one names no node, or too many
 -- nodes are kept
 abbrev pub nodes_fault : List Script → List (List ℕ) → Option PlanFault
-nodes_fault scripts only = option_or (not_selected (first_unknown (tree scripts) only)) (full_fault (plan_tree scripts only))
+nodes_fault scripts only = option_or (not_selected (first_unknown (tree scripts) only))
+    (full_fault (plan_tree scripts only))
 
 -- the first fault of scripts and paths. Nodes and keys are counted of what is kept.
 abbrev pub plan_fault : List Script → List (List ℕ) → Option PlanFault
-plan_fault scripts only = option_or (scripts_fault scripts) (option_or (nodes_fault scripts only) (keys_fault (plan_tree scripts only)))
+plan_fault scripts only = option_or (scripts_fault scripts)
+    (option_or (nodes_fault scripts only) (keys_fault (plan_tree scripts only)))
 
 -- a refusal: it is this fault, or memory ran out
 abbrev pub IsFaultOf : Option PlanFault → PlanError → Type 0

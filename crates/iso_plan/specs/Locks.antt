@@ -2,7 +2,7 @@
 use Rattle.std.specs.Prelude.{ℕ, suc, List, [], ◌∷◌, ◌++◌, length, map, Option, Some, None, Bool, false, ◌||◌, ◌&&◌, ◌==◌, not, cond}
 use Rattle.std.specs.List.{flat_map, list_any}
 use Rattle.std.specs.Str.{bytes_eq}
-use Rattle.iso_model.specs.Keys.{global_key}
+use Rattle.iso_model.specs.ResourceKeys.{global_key}
 use Rattle.iso_model.specs.Rights.{Rights, strongest, rights_of, is_writable}
 use Rattle.iso_model.specs.declared.access.Access.{Access}
 use Rattle.iso_model.specs.declared.access.Access.TheVariants.{Read, Write}
@@ -69,12 +69,14 @@ gathered tree n = rights_of (flat_map (effective_marks tree) (nodes_under tree n
 -- isolated class, else READ
 abbrev pub global_access : List Row → ℕ → List ℕ → Option Access
 global_access tree n k =
-    cond (is_top tree n && bytes_eq global_key k) (Some (cond (holds_isolated tree n) Write Read)) None
+    cond (is_top tree n && bytes_eq global_key k)
+    (Some (cond (holds_isolated tree n) Write Read)) None
 
 -- the access with which a node takes a key, if it does: a locking node takes what is marked on it
 -- and below it, and a top-level class the global key besides
 abbrev pub taken : List Row → ℕ → Rights
-taken tree n k = strongest (global_access tree n k) (cond (is_locking tree n) (gathered tree n k) None)
+taken tree n k =
+    strongest (global_access tree n k) (cond (is_locking tree n) (gathered tree n k) None)
 
 -- a lock, if there is one
 abbrev pub lock_of : ℕ → Option Access → List Lock

@@ -45,8 +45,8 @@ pub fn lowest_in_the_way<H: Holders>(plan: &Plan, holders: &H, node: u32) -> Opt
     None
 }
 
-/// Whether two nodes of a plan conflict: they take one key, and one of them takes it for
-/// READ_WRITE. Takes no memory.
+/// For a runner of one's own: whether two nodes of a plan conflict, since they take one key and one
+/// of them takes it for READ_WRITE. Takes no memory.
 pub fn nodes_conflict(plan: &Plan, node: u32, other: u32) -> bool
     requires node { node < length plan.now.rows }
     requires other { other < length plan.now.rows }

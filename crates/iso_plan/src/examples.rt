@@ -1,7 +1,7 @@
 //! Worked examples of the definitions, as public laws.
 
 ghost use Rattle.std.specs.Prelude.{◌≡◌, [], ◌∷◌, Some, None, codes, false, slice_set, true};
-ghost use Rattle.iso_model.specs.Keys.{global_key};
+ghost use Rattle.iso_model.specs.ResourceKeys.{global_key};
 ghost use Rattle.iso_model.specs.declared.access.Access.TheVariants.{Read, Write};
 ghost use Rattle.iso_model.specs.declared.script.Mode.TheVariants.{SameThread, Concurrent};
 ghost use Rattle.iso_plan.specs.Conflicts.{lowest_in_the_way};
@@ -97,9 +97,11 @@ pub fn grandchildren_are_no_children()
 
 /// Of marks of one key for one target the stronger counts, where the first of them stands.
 pub fn marks_of_one_key_are_one()
-    ensures stronger { merged (reads key_k ∷ reads key_l ∷ writes key_k ∷ []) ≡ writes key_k ∷ reads key_l ∷ [] }
+    ensures stronger { merged (reads key_k ∷ reads key_l ∷ writes key_k ∷ [])
+        ≡ writes key_k ∷ reads key_l ∷ [] }
     ensures weaker { merged (writes key_k ∷ reads key_k ∷ []) ≡ writes key_k ∷ [] }
-    ensures apart { merged (reads key_k ∷ for_children (writes key_k) ∷ []) ≡ reads key_k ∷ for_children (writes key_k) ∷ [] }
+    ensures apart { merged (reads key_k ∷ for_children (writes key_k) ∷ [])
+        ≡ reads key_k ∷ for_children (writes key_k) ∷ [] }
 {}
 
 /// Keys are numbered where the mark is written.
@@ -126,7 +128,8 @@ pub fn held_nodes_are_counted_by_key()
     ensures test_writes { takers writing_children class_and_test Write 1 ≡ 1 }
     ensures none_reads { takers writing_children class_and_test Read 1 ≡ 0 }
     ensures excluded { lowest_in_the_way writing_children (is_held class_and_test) 3 ≡ Some 2 }
-    ensures released { lowest_in_the_way writing_children (is_held (slice_set class_and_test 2 false)) 3 ≡ None }
+    ensures released { lowest_in_the_way writing_children
+        (is_held (slice_set class_and_test 2 false)) 3 ≡ None }
     ensures both_read { takers two_classes first_and_second Read 0 ≡ 2 }
     ensures readers { lowest_in_the_way two_classes (is_held first_and_second) 1 ≡ None }
 {}
@@ -181,19 +184,26 @@ pub fn top_level_classes_are_known_at_each_depth()
 /// Keys are gathered of what is kept.
 #[tactic(auto, unfolding(crate::specs::Paths::path))]
 pub fn named_nodes_are_kept()
-    ensures test { those_below (is_kept cart_and_desk (codes "shop.Desk.Till.d" ∷ [])) 8 ≡ 0 ∷ 4 ∷ 6 ∷ 7 ∷ [] }
-    ensures class { those_below (is_kept cart_and_desk (codes "shop.Cart" ∷ [])) 8 ≡ 0 ∷ 1 ∷ 2 ∷ 3 ∷ [] }
-    ensures both { those_below (is_kept cart_and_desk (codes "shop.Desk.c" ∷ codes "shop.Cart.a" ∷ [])) 8 ≡ 0 ∷ 1 ∷ 2 ∷ 4 ∷ 5 ∷ [] }
+    ensures test { those_below (is_kept cart_and_desk (codes "shop.Desk.Till.d" ∷ [])) 8
+        ≡ 0 ∷ 4 ∷ 6 ∷ 7 ∷ [] }
+    ensures class { those_below (is_kept cart_and_desk (codes "shop.Cart" ∷ [])) 8
+        ≡ 0 ∷ 1 ∷ 2 ∷ 3 ∷ [] }
+    ensures both { those_below (is_kept cart_and_desk
+        (codes "shop.Desk.c" ∷ codes "shop.Cart.a" ∷ [])) 8 ≡ 0 ∷ 1 ∷ 2 ∷ 4 ∷ 5 ∷ [] }
     ensures all { those_below (is_kept two_classes []) 5 ≡ 0 ∷ 1 ∷ 2 ∷ 3 ∷ 4 ∷ [] }
-    ensures numbers { children (selection cart_and_desk (codes "shop.Desk.Till.d" ∷ [])) 1 ≡ 2 ∷ [] }
-    ensures locks { locks (selection cart_and_desk (codes "shop.Cart.a" ∷ [])) 1 ≡ read_lock 0 ∷ read_lock 1 ∷ [] }
-    ensures mode { mode (selection cart_and_desk (codes "shop.Cart.a" ∷ [])) concurrent_by_default 2 ≡ Concurrent }
+    ensures numbers { children (selection cart_and_desk (codes "shop.Desk.Till.d" ∷ [])) 1
+        ≡ 2 ∷ [] }
+    ensures locks { locks (selection cart_and_desk (codes "shop.Cart.a" ∷ [])) 1
+        ≡ read_lock 0 ∷ read_lock 1 ∷ [] }
+    ensures mode { mode (selection cart_and_desk (codes "shop.Cart.a" ∷ [])) concurrent_by_default 2
+        ≡ Concurrent }
 {}
 
 /// The first path that names no node is told; an empty one names none.
 #[tactic(auto, unfolding(crate::specs::Paths::path))]
 pub fn first_unknown_path_is_told()
-    ensures first { first_unknown two_classes (codes "shop.A" ∷ codes "shop.C" ∷ codes "shop" ∷ []) ≡ Some 1 }
+    ensures first { first_unknown two_classes (codes "shop.A" ∷ codes "shop.C" ∷ codes "shop" ∷ [])
+        ≡ Some 1 }
     ensures empty { first_unknown two_classes ([] ∷ []) ≡ Some 0 }
     ensures none { first_unknown two_classes (codes "shop.A.t" ∷ []) ≡ None }
 {}

@@ -1,4 +1,4 @@
-use std::alloc::{AllocError, AllocFailed};
+use iso_model::input_error::InputError;
 use thiserror::Error;
 
 /// Why scripts have no plan. Where several hold, `TooManyScripts` is answered first, then
@@ -24,32 +24,4 @@ pub enum PlanFault {
 }
 
 /// Why a plan was not made.
-#[derive(Clone, Copy, Debug, PartialEq, Eq, Error)]
-pub enum PlanError {
-    #[error("{0}")]
-    Fault(PlanFault),
-    #[error("out of memory")]
-    OutOfMemory,
-}
-
-impl From<AllocError> for PlanError {
-    ghost use Rattle.std.specs.Prelude.{◌≡◌};
-    ghost use Rattle.iso_plan.specs.declared.fault.PlanError.TheVariants.{OutOfMemory};
-
-    ghost from_gives = { λ _ e. e ≡ OutOfMemory };
-
-    fn from(_error: AllocError) -> PlanError {
-        PlanError::OutOfMemory
-    }
-}
-
-impl<T: Drop> From<AllocFailed<T>> for PlanError {
-    ghost use Rattle.std.specs.Prelude.{◌≡◌};
-    ghost use Rattle.iso_plan.specs.declared.fault.PlanError.TheVariants.{OutOfMemory};
-
-    ghost from_gives = { λ _ e. e ≡ OutOfMemory };
-
-    fn from(_error: AllocFailed<T>) -> PlanError {
-        PlanError::OutOfMemory
-    }
-}
+pub type PlanError = InputError<PlanFault>;

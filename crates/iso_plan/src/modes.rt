@@ -2,14 +2,13 @@
 ghost use Rattle.std.specs.Prelude.{◌≡◌, ◌&&◌, IfOk, cond, length, map, not, unwrap_or};
 ghost use Rattle.std.specs.List.{list_any};
 ghost use Rattle.iso_model.specs.declared.script.Mode.TheVariants.{SameThread};
-ghost use Rattle.iso_plan.specs.Locks.{is_write, locks, takes_write};
+ghost use Rattle.iso_plan.specs.Locks.{locks, takes_write};
 ghost use Rattle.iso_plan.specs.Modes.{mode, nearest_mode};
 ghost use Rattle.iso_plan.specs.Paths.{IsTree, column, path};
 ghost use Rattle.iso_plan.specs.RowView.{nodes_in};
 
-use crate::lock::Lock;
+use crate::lock::{Lock, takes_write};
 use crate::row::Row;
-use iso_model::access::Access;
 use iso_model::script::Mode;
 use iso_settings::settings::Settings;
 use std::alloc::{AllocError, Global};
@@ -23,8 +22,10 @@ pub(crate) fn modes(
     taken: &[Vec<Lock>],
 ) -> Result<Vec<Mode>, AllocError>
     requires tree { IsTree (nodes_in rows.now) }
-    requires taken { map (λ l. l.items) taken.now ≡ column (locks (nodes_in rows.now)) (length rows.now) }
-    ensures { IfOk result (λ v. v.items ≡ column (mode (nodes_in rows.now) settings) (length rows.now)) }
+    requires taken { map (λ l. l.items) taken.now
+        ≡ column (locks (nodes_in rows.now)) (length rows.now) }
+    ensures { IfOk result (λ v. v.items ≡ column (mode (nodes_in rows.now) settings)
+        (length rows.now)) }
 {
     let marked = nearest_modes(alloc, rows)?;
     let writing = writing(alloc, rows, taken)?;
@@ -41,7 +42,8 @@ pub(crate) fn modes(
 /// isn't, and is marked with a mode or is a descendant of a class that is.
 fn mode_of(settings: Settings, top: bool, forced: bool, marked: Option<Mode>) -> Mode
     ensures { result ≡ cond (settings.parallel && not forced)
-        (unwrap_or marked (cond top settings.classes_default_mode settings.default_mode)) SameThread }
+        (unwrap_or marked (cond top settings.classes_default_mode settings.default_mode))
+        SameThread }
 {
     if !settings.parallel || forced {
         return Mode::SameThread;
@@ -57,7 +59,8 @@ fn mode_of(settings: Settings, top: bool, forced: bool, marked: Option<Mode>) ->
 fn nearest_modes(alloc: Global, rows: &[Row]) -> Result<Vec<Option<Mode>>, AllocError>
     requires { IsTree (nodes_in rows.now) }
     ensures { IfOk result (λ v. v.items
-        ≡ column (λ n. nearest_mode (nodes_in rows.now) (path (nodes_in rows.now) n)) (length rows.now)) }
+        ≡ column (λ n. nearest_mode (nodes_in rows.now) (path (nodes_in rows.now) n))
+        (length rows.now)) }
 {
     let mut marked: Vec<Option<Mode>> = Vec::with_capacity(alloc, rows.len())?;
     marked.push(None)?;
@@ -71,9 +74,11 @@ fn nearest_modes(alloc: Global, rows: &[Row]) -> Result<Vec<Option<Mode>>, Alloc
 /// For each node whether it, or one of its enclosing classes, takes a key for READ_WRITE.
 fn writing(alloc: Global, rows: &[Row], taken: &[Vec<Lock>]) -> Result<Vec<bool>, AllocError>
     requires tree { IsTree (nodes_in rows.now) }
-    requires taken { map (λ l. l.items) taken.now ≡ column (locks (nodes_in rows.now)) (length rows.now) }
+    requires taken { map (λ l. l.items) taken.now
+        ≡ column (locks (nodes_in rows.now)) (length rows.now) }
     ensures { IfOk result (λ v. v.items
-        ≡ column (λ n. list_any (takes_write (nodes_in rows.now)) (path (nodes_in rows.now) n)) (length rows.now)) }
+        ≡ column (λ n. list_any (takes_write (nodes_in rows.now)) (path (nodes_in rows.now) n))
+        (length rows.now)) }
 {
     let mut writing: Vec<bool> = Vec::with_capacity(alloc, rows.len())?;
     writing.push(false)?;
@@ -82,16 +87,4 @@ fn writing(alloc: Global, rows: &[Row], taken: &[Vec<Lock>]) -> Result<Vec<bool>
         writing.push(takes_write(&taken[n]) || above)?;
     }
     Ok(writing)
-}
-
-/// Whether one of the locks is for READ_WRITE.
-fn takes_write(locks: &[Lock]) -> bool
-    ensures { result ≡ list_any is_write locks.now }
-{
-    'locks: for lock in locks {
-        if lock.access == Access::Write {
-            return true;
-        }
-    }
-    false
 }

@@ -75,7 +75,8 @@ impl Model for Plan {
     ghost view = { λ p. record { rows = nodes_in p.rows.items; settings = p.settings } };
 
     ghost invariant = { λ p. IsPlan (nodes_in p.rows.items) p.settings (map (λ c. c.items) p.children.items)
-        (map (λ c. innermost_first c.items) p.chains.items) (map access_in p.rights.items) p.keys.items p.numbers
+        (map (λ c. innermost_first c.items) p.chains.items)
+        (map access_in p.rights.items) p.keys.items p.numbers
         p.locking.items (map (λ l. l.items) p.locks.items) p.modes.items };
 }
 
@@ -114,11 +115,15 @@ pub fn build_only(
     settings: &Settings,
     only: &[&str],
 ) -> Result<Plan, PlanError>
-    ensures tree { IfOk result (λ p. tree_of p ≡ plan_tree (map script_of scripts.now) (texts_of only.now)) }
+    ensures tree { IfOk result (λ p. tree_of p
+        ≡ plan_tree (map script_of scripts.now) (texts_of only.now)) }
     ensures settings { IfOk result (λ p. p.settings ≡ settings.now) }
-    ensures accepted { IfOk result (λ p. plan_fault (map script_of scripts.now) (texts_of only.now) ≡ None) }
-    ensures refused { IfErr result (IsFaultOf (plan_fault (map script_of scripts.now) (texts_of only.now))) }
-    ensures chains { IfOk result (KeepsChains (tree (map script_of scripts.now)) (texts_of only.now)) }
+    ensures accepted { IfOk result
+        (λ p. plan_fault (map script_of scripts.now) (texts_of only.now) ≡ None) }
+    ensures refused { IfErr result
+        (IsFaultOf (plan_fault (map script_of scripts.now) (texts_of only.now))) }
+    ensures chains { IfOk result
+        (KeepsChains (tree (map script_of scripts.now)) (texts_of only.now)) }
 {
     check_scripts(alloc, scripts)?;
     let rows = kept_rows(alloc, scripts, only)?;
@@ -178,9 +183,9 @@ impl Plan {
         &self.children[node as usize]
     }
 
-    /// The node with this path, as `jtap plan` prints it: the names of the team, the enclosing
-    /// classes and the node, with dots between them. Of several the first. The root has no path.
-    /// Takes no memory.
+    /// For a runner of one's own: the node with this path, as `jtap plan` prints it, which is the
+    /// names of the team, the enclosing classes and the node, with dots between them. Of several
+    /// the first. The root has no path. Takes no memory.
     pub fn find(&self, path: &str) -> Option<u32>
         ensures { result ≡ found (tree_of self.now) path.now }
     {
@@ -223,8 +228,10 @@ impl Plan {
     /// script's.
     pub fn chain(&self, node: u32) -> Chain<'_>
         requires { node < length self.now.rows }
-        ensures classes { innermost_first result.classes.now ≡ chain_classes (tree_of self.now) node }
-        ensures test { option_map (λ t. test_head_of t.now) result.test ≡ chain_test (tree_of self.now) node }
+        ensures classes { innermost_first result.classes.now
+            ≡ chain_classes (tree_of self.now) node }
+        ensures test { option_map (λ t. test_head_of t.now) result.test
+            ≡ chain_test (tree_of self.now) node }
     {
         let test = match &self.rows[node as usize].kind {
             Kind::Test { head } => Some(&**head),
@@ -336,7 +343,8 @@ impl Plan {
 
     /// The number of the key of a resource, if a node is marked with it. Takes no memory.
     pub fn key_number(&self, resource: ResourceKey<'_>) -> Option<usize>
-        ensures { result ≡ number_below (keys (tree_of self.now)) (spelling resource.entry) (length (keys (tree_of self.now))) }
+        ensures { result ≡ number_below (keys (tree_of self.now)) (spelling resource.entry)
+            (length (keys (tree_of self.now))) }
     {
         self.numbers.get(resource)
     }

@@ -28,7 +28,8 @@ impl Model for Owner {
 
     ghost view = { λ o. owner_view (worker_deque o.deque).0 (worker_view o.deque) };
 
-    ghost invariant = { λ o. IsOwnersEnd (worker_flavor o.deque) (worker_capacity o.deque) (worker_index o.deque) (worker_view o.deque) };
+    ghost invariant = { λ o. IsOwnersEnd (worker_flavor o.deque) (worker_capacity o.deque)
+        (worker_index o.deque) (worker_view o.deque) };
 }
 
 impl Owner {
@@ -45,7 +46,8 @@ impl Owner {
     /// the ends of a deque can't be counted.
     pub fn thief(&mut self) -> Result<Thief, AllocError>
         ensures thief { IfOk result (λ t. t ≡ new_thief self.old.deque) }
-        ensures counted { OnOk result (self.new ≡ record self.old { thieves = self.old.thieves + 1 }) }
+        ensures counted { OnOk result (self.new
+            ≡ record self.old { thieves = self.old.thieves + 1 }) }
         ensures same { OnErr result (self.new ≡ self.old) }
     {
         let stealer = self.deque.stealer()?;
@@ -56,7 +58,8 @@ impl Owner {
     /// Posts a node at the back. Where the deque couldn't grow it hands the node back, and not
     /// before 64 nodes were posted.
     pub fn post(&mut self, node: u32) -> Result<(), (u32, AllocError)>
-        ensures posted { OnOk result (self.new ≡ record self.old { posted = self.old.posted ++ node ∷ [] }) }
+        ensures posted { OnOk result (self.new
+            ≡ record self.old { posted = self.old.posted ++ node ∷ [] }) }
         ensures refused { IfErr result (λ refusal. refusal.0 ≡ node) }
         ensures room { OnErr result (64 ≤ length self.old.posted) }
         ensures same { OnErr result (self.new ≡ self.old) }
@@ -69,15 +72,16 @@ impl Owner {
 
     /// Takes the node at the front, or none where at one moment no node lay in the deque.
     pub fn take(&mut self) -> Option<u32>
-        ensures taken { IfSome result (λ node. self.new ≡ record self.old { taken = self.old.taken ++ node ∷ [] }) }
+        ensures taken { IfSome result (λ node. self.new
+            ≡ record self.old { taken = self.old.taken ++ node ∷ [] }) }
         ensures none { result ≡ None → AddsUp self.old 0 }
         ensures same { result ≡ None → self.new ≡ self.old }
     {
         self.deque.pop_as::<Taking>()
     }
 
-    /// How many nodes lay in the deque at one moment. Then each was posted as often as it was
-    /// taken, was stolen and lay there.
+    /// For a runner of one's own: how many nodes lay in the deque at one moment. Then each was
+    /// posted as often as it was taken, was stolen and lay there.
     pub fn balance(&mut self) -> usize
         ensures account { AddsUp self.old result }
         ensures same { self.new ≡ self.old }
@@ -85,10 +89,14 @@ impl Owner {
         self.deque.len_as::<Accounting>()
     }
 
-    /// Takes back the end of a thief of this deque, with the account of what it has stolen.
+    /// For a runner of one's own: takes back the end of a thief of this deque, with the account of
+    /// what it has stolen.
     pub fn join(&mut self, thief: Thief)
         requires { thief.deque ≡ self.old.deque }
-        ensures { self.new ≡ record self.old { returned = self.old.returned ++ thief.stolen; thieves = self.old.thieves - 1 } }
+        ensures { self.new ≡ record self.old {
+          returned = self.old.returned ++ thief.stolen;
+          thieves = self.old.thieves - 1;
+        } }
     {
         self.deque.absorb::<Thieving>(thief.into_pass());
     }

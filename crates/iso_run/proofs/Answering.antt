@@ -4,10 +4,10 @@ use Rattle.std.specs.Borrow.{Bor}
 use Rattle.std.proofs.Common.{◌≡◌, ◌≢◌, inl, inr, ℕ, List, [], ◌∷◌, Option, Some, None, Bool, Result, Ok, Err, IfErr, IsErrAnd, MatchResult, OnOk, true, refl, ap, sym, subst, ◌∙◌}
 use Rattle.iso_arguments.specs.declared.request.Extras.{Extras}
 use Rattle.iso_arguments.specs.declared.request.InputFiles.{InputFiles}
-use Rattle.iso_arguments.specs.Requests.{NamesNothing}
+use Rattle.iso_arguments.specs.RequestBounds.{NamesNothing}
 use Rattle.iso_run.proofs.Late.{late-so}
 use Rattle.iso_run.specs.Commands.{AreFor, IsRefused, files_asked, way_of}
-use Rattle.iso_run.specs.Ends.{End, Whole, LacksFile, Refuses, GivesUp, BreaksOff, Answers, IfLate, IsEnded, IsOfFile, Leaves, NamesFile, command_end, end_of, run_end}
+use Rattle.iso_run.specs.ExitStatuses.{End, Whole, LacksFile, Refuses, GivesUp, BreaksOff, Answers, IfLate, IsEnded, IsOfFile, Leaves, NamesFile, command_end, end_of, run_end}
 use Rattle.iso_run.specs.Replays.{Cause}
 use Rattle.iso_run.specs.Watches.{TellsRun}
 use Rattle.iso_telling.specs.Pages.{WatchedView}
@@ -30,20 +30,23 @@ use Rattle.iso_telling.specs.declared.tells.SummaryText.{SummaryText}
 use Rattle.iso_telling.specs.declared.tells.Tells.{Tells}
 
 -- what is left by an end, where more is known of the whole and of the broken output
-weaker : (X : Type 0) (P Q : Bool → Type 0) → (X → (ok : Bool) → P ok → Q ok) → (C D : Type 0) → (C → D) → (A B : Type 0) → (A → B) → (old new : Account) (end : End) → IfLate end X → Leaves P C A old new end → Leaves Q D B old new end
+weaker : (X : Type 0) (P Q : Bool → Type 0) → (X → (ok : Bool) → P ok → Q ok) → (C D : Type 0) → (C → D) → (A B : Type 0)
+    → (A → B) → (old new : Account) (end : End) → IfLate end X → Leaves P C A old new end → Leaves Q D B old new end
 weaker X P Q f C D k A B g old new (Whole ok) late h = f late ok h
 weaker X P Q f C D k A B g old new LacksFile late h = k h
 weaker X P Q f C D k A B g old new Refuses late h = h
 weaker X P Q f C D k A B g old new GivesUp late h = h
 weaker X P Q f C D k A B g old new BreaksOff late h = g h
 
-pub answered-as : (P Q : Bool → Type 0) → ((ok : Bool) → P ok → Q ok) → (C D : Type 0) → (C → D) → (old new : Account) (result : Result Bool CommandFault) → Answers P C old new result → Answers Q D old new result
+pub answered-as : (P Q : Bool → Type 0) → ((ok : Bool) → P ok → Q ok) → (C D : Type 0) → (C → D)
+    → (old new : Account) (result : Result Bool CommandFault) → Answers P C old new result → Answers Q D old new result
 answered-as P Q f C D k old new result h =
     let end = end_of (λ (ok : Bool). ok) command_end result in
     weaker ⊤ P Q (λ late ok h. f ok h) C D k _ _ (λ failed. failed) old new end (late-so ⊤ end tt) h
 
 -- the files of what is told besides, by their names
-pub files-named : (besides : Besides) (extras : Extras) → besides.failed ≡ extras.failed → besides.junit ≡ extras.junit → besides.html ≡ extras.html → besides.schedule ≡ extras.«record» → besides.trace ≡ extras.trace
+pub files-named : (besides : Besides) (extras : Extras) → besides.failed ≡ extras.failed → besides.junit ≡ extras.junit
+    → besides.html ≡ extras.html → besides.schedule ≡ extras.«record» → besides.trace ≡ extras.trace
     → files_of besides ≡ files_asked extras
 files-named besides extras failed junit html schedule trace = rw (failed, junit, html, schedule, trace) refl
 
@@ -86,7 +89,8 @@ ended-after P file ok old mid new text wrote w (Err fault) (inr h) =
     (ok, subst (λ (a : Account). P a ok) (sym h.0) w, named-file file fault h.1)
 
 -- what is told of a run is answered of its files
-pub run-answered : (X : Type 0) (P : Account → Bool → Type 0) (product : Suite → Product) (inputs : Inputs) (way : Way) (old mid : Account) → (X → (ok : Bool) → IsWritten product inputs way old mid ok → P mid ok)
+pub run-answered : (X : Type 0) (P : Account → Bool → Type 0) (product : Suite → Product) (inputs : Inputs) (way : Way) (old mid : Account)
+    → (X → (ok : Bool) → IsWritten product inputs way old mid ok → P mid ok)
     → (file : List (Option (Bor (List ℕ)))) (new : Account) (ran : Result Summary RunFault) → IfLate (end_of (λ (s : Summary). s.all_ok) run_end ran) X → Writes (λ (s : Summary). s.all_ok) product inputs way old mid ran
     → (result : Result Bool CommandFault)
     → MatchResult ran (λ s. IsEnded s.all_ok file mid new result) (λ fault. (new ≡ mid) × IsErrAnd result (λ told. command_end told ≡ run_end fault))
@@ -102,7 +106,8 @@ run-answered X P product inputs way old mid f file new (Err fault) late writes (
     (subst (Leaves (P mid) (Lacking P file mid) (HasFailed old.failures mid.failures) old mid) (sym h.1) left)
 
 -- a plain run that is told as refused was refused
-pub run-refused : (files : InputFiles) (input : Option (List ℕ)) (inputs : Inputs) (serial : Bool) (way : Way) → NamesNothing files → AreFor files input inputs → way ≡ way_of serial → (file : List (Option (Bor (List ℕ)))) (old mid new : Account)
+pub run-refused : (files : InputFiles) (input : Option (List ℕ)) (inputs : Inputs) (serial : Bool) (way : Way) → NamesNothing files
+    → AreFor files input inputs → way ≡ way_of serial → (file : List (Option (Bor (List ℕ)))) (old mid new : Account)
     → (ran : Result Summary RunFault) → Writes (λ (s : Summary). s.all_ok) suite_report inputs way old mid ran
     → (result : Result Bool CommandFault)
     → MatchResult ran (λ s. IsEnded s.all_ok file mid new result) (λ fault. (new ≡ mid) × IsErrAnd result (λ told. command_end told ≡ run_end fault))

@@ -1,10 +1,10 @@
 -- How a command ends, by what it answers.
 use Rattle.std.proofs.Common.{◌≡◌, ℕ, ◌≤◌, List, [], Bool, true, false, Option, None, Some, IfSome, refl, arith}
-use Rattle.iso_arguments.specs.Requests.{IsPlainRun}
+use Rattle.iso_arguments.specs.RequestBounds.{IsPlainRun}
 use Rattle.iso_arguments.specs.declared.request.Request.{Request}
 use Rattle.iso_arguments.specs.declared.request.Request.TheVariants.{Run, Plan, Conflicts, Replay, Check, Affected, Settings, Show}
 use Rattle.iso_run.specs.Commands.{Answered, Did, RanOn}
-use Rattle.iso_run.specs.Ends.{Refuses, Whole, command_end, exit_status, run_end}
+use Rattle.iso_run.specs.ExitStatuses.{Refuses, Whole, command_end, exit_status, run_end}
 use Rattle.iso_run.specs.declared.command_fault.CommandFault.{CommandFault}
 use Rattle.iso_run.specs.declared.command_fault.CommandFault.TheVariants as C
 use Rattle.iso_run.specs.declared.fault.RunFault.{RunFault}

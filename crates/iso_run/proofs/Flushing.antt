@@ -1,6 +1,6 @@
 -- What is answered once a whole output was flushed, and of faults that were told before.
 use Rattle.std.proofs.Common.{◌≡◌, ℕ, List, Bool, true, false, Result, Ok, Err, ap, refl, subst, sym, ◌∙◌}
-use Rattle.iso_run.specs.Ends.{Answers, IsFlushed}
+use Rattle.iso_run.specs.ExitStatuses.{Answers, IsFlushed}
 use Rattle.iso_run.specs.declared.command_fault.CommandFault.{CommandFault}
 use Rattle.iso_run.specs.declared.command_fault.CommandFault.TheVariants.{Told}
 use Rattle.iso_tap.specs.Sinks.{Account, Wrote, failures_after}

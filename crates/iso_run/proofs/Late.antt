@@ -1,5 +1,5 @@
 -- What is true of ends that come late.
-use Rattle.iso_run.specs.Ends.{End, Whole, LacksFile, Refuses, GivesUp, BreaksOff, IfLate}
+use Rattle.iso_run.specs.ExitStatuses.{End, Whole, LacksFile, Refuses, GivesUp, BreaksOff, IfLate}
 
 pub late-so : (X : Type 0) (end : End) → X → IfLate end X
 late-so X (Whole ok) x = x

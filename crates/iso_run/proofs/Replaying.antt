@@ -16,13 +16,13 @@ use Rattle.iso_run.specs.declared.way.Way.TheVariants.{BySchedule}
 use Rattle.iso_lifecycle.specs.ResultViews.{ResultsView}
 use Rattle.iso_run.specs.Replays.{IsPlayed, events_fault, schedule_fault}
 use Rattle.iso_run.specs.Runs.{IsRead, Writes, suite_report}
-use Rattle.iso_schedule.specs.Schedules.{AreRead, IfAnswered}
+use Rattle.iso_schedule.specs.Schedules.{AreRead, IfAnswered, ScheduleError}
 use Rattle.iso_standing.specs.declared.event.Event.{Event}
-use Rattle.iso_schedule.specs.declared.fault.ScheduleError.{ScheduleError}
-use Rattle.iso_schedule.specs.declared.fault.ScheduleError.TheVariants as S
+use Rattle.iso_model.specs.declared.input_error.InputError.TheVariants as S
 use Rattle.iso_tap.specs.Sinks.{Account}
 
-pub unread : (inputs : Inputs) (schedule : Bor (List ℕ)) (a : Account) (suite : ReadSuite) (error : ScheduleError) (keeps : Bool) → IsRead inputs keeps suite → IfAnswered (AreRead schedule.now) (Err error)
+pub unread : (inputs : Inputs) (schedule : Bor (List ℕ)) (a : Account) (suite : ReadSuite) (error : ScheduleError) (keeps : Bool)
+    → IsRead inputs keeps suite → IfAnswered (AreRead schedule.now) (Err error)
     → Writes (λ (s : Summary). s.all_ok) suite_report inputs (BySchedule schedule) a a (Err (schedule_fault error))
 unread inputs schedule a suite (S.Fault fault) keeps is wrong = record { cause = (suite_of inputs suite, is.is_suite, wrong); leaves = refl }
 unread inputs schedule a suite S.OutOfMemory keeps is wrong = record { cause = tt; leaves = refl }

@@ -1,6 +1,6 @@
 -- Inputs that are no suite.
 use Rattle.std.proofs.Common.{◌≡◌, Bool, Err, refl}
-use Rattle.iso_run.specs.Ends.{BreaksOff, GivesUp, IfLate, IsEarly, LacksFile, Refuses, run_end}
+use Rattle.iso_run.specs.ExitStatuses.{BreaksOff, GivesUp, IfLate, IsEarly, LacksFile, Refuses, run_end}
 use Rattle.iso_run.specs.Runs.{Product, Writes}
 use Rattle.iso_run.specs.Suites.{NoSuite, Suite}
 use Rattle.iso_run.specs.declared.fault.RunFault.{RunFault}
@@ -16,7 +16,8 @@ pub gives-up-early : IsEarly GivesUp
 gives-up-early = ((λ (e : GivesUp ≡ BreaksOff). cc), (λ (e : GivesUp ≡ LacksFile). cc))
 
 -- in no way anything is written of them, and the sink is asked nothing
-pub unread-unwritten : {A : Type 0} (ok_of : A → Bool) (product : Suite → Product) (inputs : Inputs) (way : Way) (a : Account) (fault : RunFault) → NoSuite inputs fault → Writes ok_of product inputs way a a (Err fault)
+pub unread-unwritten : {A : Type 0} (ok_of : A → Bool) (product : Suite → Product) (inputs : Inputs) (way : Way) (a : Account) (fault : RunFault)
+    → NoSuite inputs fault → Writes ok_of product inputs way a a (Err fault)
 unread-unwritten ok_of product inputs way a (F.Settings fault) h = record { cause = h; leaves = refl }
 unread-unwritten ok_of product inputs way a (F.World fault) h = record { cause = h; leaves = refl }
 unread-unwritten ok_of product inputs way a (F.Script index fault) h = record { cause = h; leaves = refl }

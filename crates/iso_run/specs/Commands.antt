@@ -3,7 +3,7 @@ use Rattle.std.specs.Prelude.{◌≡◌, ⊤, ℕ, ◌+◌, List, [], ◌∷◌,
 use Rattle.std.specs.Option.{option_copied}
 use Rattle.std.specs.Borrow.{Bor}
 use Rattle.std.specs.Global.{Global}
-use Rattle.iso_arguments.specs.Requests.{IsCount, IsPlainRun, NamesNothing}
+use Rattle.iso_arguments.specs.RequestBounds.{IsCount, IsPlainRun, NamesNothing}
 use Rattle.iso_arguments.specs.declared.processors.Processors.{Processors}
 use Rattle.iso_arguments.specs.declared.processors.Processors.TheVariants.{Count, Auto}
 use Rattle.iso_arguments.specs.declared.request.Extras.{Extras}
@@ -24,7 +24,7 @@ use Rattle.iso_plan.specs.TopClasses.{all_paths}
 use Rattle.iso_run.specs.Alterations.{AreBelow, IsAlteration, IsChangeOf, IsSideOf, StartsOtherwise, change_text}
 use Rattle.iso_run.specs.declared.affected.Asked.{Asked}
 use Rattle.iso_run.specs.declared.state.State.{State}
-use Rattle.iso_run.specs.Ends.{End, NamesFile, Whole, Refuses, Leaves, exit_status, run_end}
+use Rattle.iso_run.specs.ExitStatuses.{End, NamesFile, Whole, Refuses, Leaves, exit_status, run_end}
 use Rattle.iso_run.specs.Replays.{Cause}
 use Rattle.iso_places.specs.declared.site.Site.{Site}
 use Rattle.iso_plan.specs.Selections.{texts_of}
@@ -49,13 +49,16 @@ use Rattle.toml.specs.Data.{Members}
 -- script that is named one text, and where none is, what the input has left, if that is known, up
 -- to one byte past the limit; and a list of paths, where one is named, which for `-` is all that
 -- the input has left. What a named file holds isn't known.
-pub record AreOf (files : InputFiles) (input : Option (List ℕ)) (settings world : List ℕ) (scripts : List (List ℕ)) (listed : Option (List ℕ)) : Type 0 where
+pub record AreOf (files : InputFiles) (input : Option (List ℕ)) (settings world : List ℕ)
+    (scripts : List (List ℕ)) (listed : Option (List ℕ)) : Type 0 where
   pub settings_named : files.settings ≡ None → settings ≡ []
   pub world_named : files.world ≡ None → world ≡ []
-  pub scripts_named : files.scripts.items ≡ [] → IfSome input (λ bytes. scripts ≡ take (FILE_BYTES + 1) bytes ∷ [])
+  pub scripts_named : files.scripts.items ≡ []
+      → IfSome input (λ bytes. scripts ≡ take (FILE_BYTES + 1) bytes ∷ [])
   pub each : (files.scripts.items ≡ [] → ⊥) → length scripts ≡ length files.scripts.items
   pub list_named : is_some listed ≡ is_some files.only_from
-  pub list_piped : option_copied files.only_from ≡ Some (codes "-") → (files.scripts.items ≡ [] → ⊥) → IfSome input (λ bytes. listed ≡ Some bytes)
+  pub list_piped : option_copied files.only_from ≡ Some (codes "-") → (files.scripts.items ≡ [] → ⊥)
+      → IfSome input (λ bytes. listed ≡ Some bytes)
 
 -- the number of processors that are counted with: one without a word, as many as it says, or those
 -- of the machine, however many these are
@@ -65,22 +68,27 @@ IsCountedAs (Some (Count asked)) n = n ≡ asked
 IsCountedAs (Some Auto) n = IsCount n
 
 abbrev pub WereRead : InputFiles → Option (List ℕ) → InputBytes → Type 0
-WereRead files input bytes = AreOf files input bytes.settings.items bytes.world.items (map (λ v. v.items) bytes.scripts.items) (option_map (λ v. v.items) bytes.listed)
+WereRead files input bytes = AreOf files input bytes.settings.items bytes.world.items
+    (map (λ v. v.items) bytes.scripts.items) (option_map (λ v. v.items) bytes.listed)
     × IsCountedAs files.processors bytes.processors
 
 -- what was read of one script, where this is the input, if that is known
 abbrev pub IsOneRead : Option (List ℕ) → List (Result (Vec ℕ Global) CommandFault) → Type 0
-IsOneRead input reads = (read : Result (Vec ℕ Global) CommandFault) × (reads ≡ read ∷ []) × IfSome input (λ bytes. IfOk read (λ v. v.items ≡ take (FILE_BYTES + 1) bytes))
+IsOneRead input reads = (read : Result (Vec ℕ Global) CommandFault) × (reads ≡ read ∷ [])
+    × IfSome input (λ bytes. IfOk read (λ v. v.items ≡ take (FILE_BYTES + 1) bytes))
 
 -- These are the same of each file that was read, for these files.
-pub record AreReads (files : InputFiles) (input : Option (List ℕ)) (reads : FileReads) : Type 0 where
+pub record AreReads (files : InputFiles) (input : Option (List ℕ))
+    (reads : FileReads) : Type 0 where
   pub settings_named : files.settings ≡ None → IfOk reads.settings (λ v. v.items ≡ [])
   pub world_named : files.world ≡ None → IfOk reads.world (λ v. v.items ≡ [])
   pub scripts_named : files.scripts.items ≡ [] → IsOneRead input reads.scripts.items
-  pub each : (files.scripts.items ≡ [] → ⊥) → length reads.scripts.items ≡ length files.scripts.items
+  pub each : (files.scripts.items ≡ [] → ⊥) → length reads.scripts.items
+      ≡ length files.scripts.items
   pub list_named : IfOk reads.listed (λ listed. is_some listed ≡ is_some files.only_from)
   pub list_piped : option_copied files.only_from ≡ Some (codes "-") → (files.scripts.items ≡ [] → ⊥)
-      → IfSome input (λ bytes. IfOk reads.listed (λ listed. option_map (λ v. v.items) listed ≡ Some bytes))
+      → IfSome input (λ bytes. IfOk reads.listed
+      (λ listed. option_map (λ v. v.items) listed ≡ Some bytes))
   pub counted : IsCountedAs files.processors reads.processors
 
 -- the shard as the words have it
@@ -90,14 +98,17 @@ shard_asked shard = record { number = shard.index; of = shard.count }
 -- These are the inputs that were read for these files, with the paths and the processors that are
 -- asked for.
 pub record AreFor (files : InputFiles) (input : Option (List ℕ)) (inputs : Inputs) : Type 0 where
-  pub are_of : AreOf files input inputs.settings.now inputs.world.now (texts inputs.scripts.now) (option_copied inputs.listed)
+  pub are_of : AreOf files input inputs.settings.now inputs.world.now (texts inputs.scripts.now)
+      (option_copied inputs.listed)
   pub only : inputs.only.now ≡ files.only.items
   pub patterns : inputs.patterns.now ≡ files.patterns.items
   pub shard : option_map shard_asked inputs.shard ≡ files.shard
   pub processors : IsCountedAs files.processors inputs.processors
 
-abbrev pub IsWrittenFor : (Suite → Product) → InputFiles → Option (List ℕ) → Way → (old new : Account) → (ok : Bool) → Type 0
-IsWrittenFor product files input way old new ok = (inputs : Inputs) × AreFor files input inputs × IsWritten product inputs way old new ok
+abbrev pub IsWrittenFor : (Suite → Product) → InputFiles → Option (List ℕ) → Way
+    → (old new : Account) → (ok : Bool) → Type 0
+IsWrittenFor product files input way old new ok = (inputs : Inputs) × AreFor files input inputs
+    × IsWritten product inputs way old new ok
 
 -- the way of a run, which is asked for with `--serial` or without
 abbrev pub way_of : (serial : Bool) → Way
@@ -107,7 +118,9 @@ way_of serial = cond serial Serial ByWorkers
 -- them; with why its modes and locks are so
 abbrev pub plan_of : Printed → (names : List (List ℕ)) → List Site → Suite → Product
 plan_of printed names sites =
-    cond printed.why (suite_why printed.tests names sites) (cond printed.places (suite_places printed.tests names sites) (cond printed.tests suite_tests suite_plan))
+    cond printed.why (suite_why printed.tests names sites)
+    (cond printed.places (suite_places printed.tests names sites)
+    (cond printed.tests suite_tests suite_plan))
 
 -- where sites are asked for, they are those of the suite that inputs are; else there are none
 abbrev pub ArePlaces : (places : Bool) → Inputs → List Site → Type 0
@@ -115,17 +128,21 @@ ArePlaces true inputs sites = OfSuite inputs (λ suite. AreSitesOf inputs suite 
 ArePlaces false inputs sites = sites ≡ []
 
 -- a plan was printed, whole
-abbrev pub IsPrintedFor : Printed → InputFiles → Option (List ℕ) → (old new : Account) → (ok : Bool) → Type 0
-IsPrintedFor printed files input old new ok = (sites : List Site) × ((inputs : Inputs) × AreFor files input inputs × ArePlaces printed.places inputs sites
+abbrev pub IsPrintedFor : Printed → InputFiles → Option (List ℕ) → (old new : Account)
+    → (ok : Bool) → Type 0
+IsPrintedFor printed files input old new ok = (sites : List Site)
+    × ((inputs : Inputs) × AreFor files input inputs × ArePlaces printed.places inputs sites
     × IsWritten (plan_of printed (texts_of files.scripts.items) sites) inputs Serial old new ok)
 
 -- the inputs for these files are a suite
 abbrev pub IsAcceptedFor : InputFiles → Option (List ℕ) → Type 0
-IsAcceptedFor files input = (inputs : Inputs) × AreFor files input inputs × OfSuite inputs (λ suite. ⊤)
+IsAcceptedFor files input = (inputs : Inputs) × AreFor files input inputs
+    × OfSuite inputs (λ suite. ⊤)
 
 -- What settings come to was written, whole: those that were read of a file of this name, by the
 -- number of processors that are counted with.
-pub record IsListedFor (name : Option (Bor (List ℕ))) (asked : Option Processors) (old new : Account) : Type 0 where
+pub record IsListedFor (name : Option (Bor (List ℕ))) (asked : Option Processors)
+    (old new : Account) : Type 0 where
   pub bytes : List ℕ
   pub named : name ≡ None → bytes ≡ []
   pub processors : ℕ
@@ -150,7 +167,8 @@ pub record IsReady (state : State) : Type 0 where
   pub tables : state.tables.items ≡ map line_starts (map (λ v. v.items) state.bytes.scripts.items)
 
 -- What a change of one state to another can alter was told, whole, or the paths alone.
-pub record IsComparedIn (asked : Asked) (was now : State) (scripts : List (Bor (List ℕ))) (missing : ℕ) (old new : Account) : Type 0 where
+pub record IsComparedIn (asked : Asked) (was now : State) (scripts : List (Bor (List ℕ)))
+    (missing : ℕ) (old new : Account) : Type 0 where
   pub change : ChangeView
   pub names : change.names ≡ texts_of scripts
   pub old_tree : change.old.tree ≡ tree_of was.suite.plan
@@ -159,14 +177,16 @@ pub record IsComparedIn (asked : Asked) (was now : State) (scripts : List (Bor (
   pub new_tree : change.new.tree ≡ tree_of now.suite.plan
   pub new_sites : change.new.sites ≡ now.sites
   pub new_texts : change.new.texts ≡ map (λ v. v.items) now.bytes.scripts.items
-  pub altered : IsAlteration (suites was.suite.plan was.suite.world now.suite.plan now.suite.world) change.fates change.told change.gone
+  pub altered : IsAlteration (suites was.suite.plan was.suite.world now.suite.plan now.suite.world)
+      change.fates change.told change.gone
   pub property : IfSome change.property (StartsOtherwise was.suite.world now.suite.world)
   pub wrote : Wrote old new (change_text asked.paths change asked.folder.now missing)
 
 -- What a change can alter was told, whole, or the paths alone: the change of the suite that stands
 -- below the folder by the names of these files to the suite that these files are. What the files
 -- below the folder hold isn't known, nor how many of them weren't there.
-pub record IsToldFor (asked : Asked) (files : InputFiles) (input : Option (List ℕ)) (old new : Account) : Type 0 where
+pub record IsToldFor (asked : Asked) (files : InputFiles) (input : Option (List ℕ))
+    (old new : Account) : Type 0 where
   pub older : InputFiles
   pub below : AreBelow asked.folder.now files older
   pub before : Inputs
@@ -187,23 +207,30 @@ pub record IsToldFor (asked : Asked) (files : InputFiles) (input : Option (List 
 -- of a replay after some schedule
 abbrev pub Did : Request → Option (List ℕ) → (old new : Account) → (ok : Bool) → Type 0
 Did (Show text) input old new ok = (ok ≡ true) × Wrote old new (string_bytes text)
-Did (Plan tests places why files) input old new ok = IsPrintedFor (record { tests = tests; places = places; why = why }) files input old new ok
+Did (Plan tests places why files) input old new ok =
+    IsPrintedFor (record { tests = tests; places = places; why = why }) files input old new ok
 Did (Conflicts files) input old new ok = IsWrittenFor suite_conflicts files input Serial old new ok
 Did (Check files) input old new ok = (ok ≡ true) × (new ≡ old) × IsAcceptedFor files input
-Did (Affected folder paths files) input old new ok = (ok ≡ true) × IsToldFor (record { folder = folder; paths = paths }) files input old new
-Did (Settings name processors explain) input old new ok = (ok ≡ true) × IsListedFor name processors old new
-Did (Run serial extras files) input old new ok = IsWrittenFor suite_report files input (way_of serial) old new ok
-Did (Replay name extras files) input old new ok = (schedule : Bor (List ℕ)) × IsWrittenFor suite_report files input (BySchedule schedule) old new ok
+Did (Affected folder paths files) input old new ok =
+    (ok ≡ true) × IsToldFor (record { folder = folder; paths = paths }) files input old new
+Did (Settings name processors explain) input old new ok =
+    (ok ≡ true) × IsListedFor name processors old new
+Did (Run serial extras files) input old new ok =
+    IsWrittenFor suite_report files input (way_of serial) old new ok
+Did (Replay name extras files) input old new ok = (schedule : Bor (List ℕ))
+    × IsWrittenFor suite_report files input (BySchedule schedule) old new ok
 
 -- What some request asks for was done, without words that of a plain run.
-pub record Answered {A : Type 0} (words : List A) (input : Option (List ℕ)) (old new : Account) (ok : Bool) : Type 0 where
+pub record Answered {A : Type 0} (words : List A) (input : Option (List ℕ)) (old new : Account)
+    (ok : Bool) : Type 0 where
   pub request : Request
   pub plain : words ≡ [] → IsPlainRun request
   pub did : Did request input old new ok
 
 -- the files that are asked for besides, where they are named
 abbrev pub files_asked : Extras → List (Option (Bor (List ℕ)))
-files_asked extras = extras.failed ∷ extras.junit ∷ extras.html ∷ extras.«record» ∷ extras.trace ∷ []
+files_asked extras =
+    extras.failed ∷ extras.junit ∷ extras.html ∷ extras.«record» ∷ extras.trace ∷ []
 
 -- the files that a request has written besides, where it names them
 abbrev pub files_named : Request → List (Option (Bor (List ℕ)))
@@ -218,20 +245,24 @@ files_named (Replay name extras files) = files_asked extras
 
 -- What a request asks for was done, and it names a file to be written besides.
 abbrev pub DidBesides : Request → Option (List ℕ) → (old new : Account) → Type 0
-DidBesides request input old new = (ok : Bool) × Did request input old new ok × NamesFile (files_named request)
+DidBesides request input old new = (ok : Bool) × Did request input old new ok
+    × NamesFile (files_named request)
 
 -- What some request asks for was done, of those that name a file to be written besides.
-pub record AnsweredBesides {A : Type 0} (words : List A) (input : Option (List ℕ)) (old new : Account) : Type 0 where
+pub record AnsweredBesides {A : Type 0} (words : List A) (input : Option (List ℕ))
+    (old new : Account) : Type 0 where
   pub ok : Bool
   pub answered : Answered words input old new ok
   pub names : NamesFile (files_named answered.request)
 
 -- How a command ended, by its exit status. What is left of an output that broke off is that it
 -- failed, once.
-pub record Ended {A : Type 0} (words : List A) (input : Option (List ℕ)) (old new : Account) (status : ℕ) : Type 0 where
+pub record Ended {A : Type 0} (words : List A) (input : Option (List ℕ)) (old new : Account)
+    (status : ℕ) : Type 0 where
   pub end : End
   pub status_is : status ≡ exit_status end
-  pub leaves : Leaves (Answered words input old new) (AnsweredBesides words input old new) (HasFailed old.failures new.failures) old new end
+  pub leaves : Leaves (Answered words input old new) (AnsweredBesides words input old new)
+      (HasFailed old.failures new.failures) old new end
 
 -- The report of all of a script was written, whole, without settings and world and for one
 -- processor, and the status tells of it.
@@ -273,4 +304,5 @@ again_of files processors =
 -- the commands that a page tells, of a command with these files, by the number of processors
 -- that were counted with
 abbrev pub page_commands : InputFiles → (processors : ℕ) → P.Commands
-page_commands files processors = record { again = again_of files processors; named = not (length files.scripts.items == 0) }
+page_commands files processors =
+    record { again = again_of files processors; named = not (length files.scripts.items == 0) }

@@ -2,7 +2,7 @@ pub mod Alterations
 pub mod Besides
 pub mod Commands
 pub mod Courses
-pub mod Ends
+pub mod ExitStatuses
 pub mod Parts
 pub mod Replays
 pub mod Runs

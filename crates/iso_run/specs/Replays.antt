@@ -11,10 +11,9 @@ use Rattle.iso_run.specs.declared.fault.RunFault.TheVariants.{Schedule, Refused,
 use Rattle.iso_run.specs.declared.inputs.Inputs.{Inputs}
 use Rattle.iso_run.specs.declared.way.Way.{Way}
 use Rattle.iso_run.specs.declared.way.Way.TheVariants.{Serial, ByWorkers, BySchedule}
-use Rattle.iso_schedule.specs.Schedules.{AreRead}
+use Rattle.iso_schedule.specs.Schedules.{AreRead, ScheduleError}
 use Rattle.iso_standing.specs.declared.event.Event.{Event}
-use Rattle.iso_schedule.specs.declared.fault.ScheduleError.{ScheduleError}
-use Rattle.iso_schedule.specs.declared.fault.ScheduleError.TheVariants as S
+use Rattle.iso_model.specs.declared.input_error.InputError.TheVariants as S
 
 -- the fault of a replay whose schedule could not be read
 abbrev pub schedule_fault : ScheduleError → RunFault
@@ -30,20 +29,24 @@ events_fault stopped = elim stopped.fault [
 
 -- The inputs are a suite and the schedule is events, of both of which something is true.
 abbrev pub OfReplay : Inputs → List ℕ → (Suite → List Event → Type 0) → Type 0
-OfReplay inputs schedule Is = OfSuite inputs (λ suite. (events : List Event) × AreRead schedule (Ok events) × Is suite events)
+OfReplay inputs schedule Is =
+    OfSuite inputs (λ suite. (events : List Event) × AreRead schedule (Ok events) × Is suite events)
 
 -- The workers of the settings have each event accepted, and this tells whether every node but the
 -- root is finished then.
 abbrev pub IsAccepted : Suite → List Event → (whole : Bool) → Type 0
-IsAccepted suite events whole = AreAccepted (planned suite) suite.start suite.settings.worker_count events
-    × (is_complete (core_after (planned suite) suite.start suite.settings.worker_count events) ≡ whole)
+IsAccepted suite events whole =
+    AreAccepted (planned suite) suite.start suite.settings.worker_count events
+    × (is_complete (core_after (planned suite) suite.start suite.settings.worker_count events)
+    ≡ whole)
 
 -- what a way came to, and whether every node but the root is finished then; of workers only that
 -- the inputs are a suite
 abbrev pub IsPlayed : Inputs → Way → (whole : Bool) → Type 0
 IsPlayed inputs Serial whole = whole ≡ true
 IsPlayed inputs ByWorkers whole = OfSuite inputs (λ suite. ⊤)
-IsPlayed inputs (BySchedule schedule) whole = OfReplay inputs schedule.now (λ suite events. IsAccepted suite events whole)
+IsPlayed inputs (BySchedule schedule) whole =
+    OfReplay inputs schedule.now (λ suite events. IsAccepted suite events whole)
 
 -- the suite is run by a schedule of which something is true
 abbrev pub IsByScheduleAnd : Way → (List ℕ → Type 0) → Type 0
@@ -54,11 +57,15 @@ IsByScheduleAnd _ Is = ⊥
 -- a suite, and where a thread wasn't started, that there are two workers at least: the first has
 -- none of its own.
 abbrev pub Cause : Inputs → Way → RunFault → Type 0
-Cause inputs way (Schedule fault) = IsByScheduleAnd way (λ schedule. OfSuite inputs (λ suite. AreRead schedule (Err fault)))
-Cause inputs way (Refused index why) = IsByScheduleAnd way (λ schedule. OfReplay inputs schedule (λ suite events.
-    RefusedAt (planned suite) suite.start suite.settings.worker_count events index (Some (refused_of why))))
+Cause inputs way (Schedule fault) =
+    IsByScheduleAnd way (λ schedule. OfSuite inputs (λ suite. AreRead schedule (Err fault)))
+Cause inputs way (Refused index why) =
+    IsByScheduleAnd way (λ schedule. OfReplay inputs schedule (λ suite events.
+    RefusedAt (planned suite) suite.start suite.settings.worker_count events index
+    (Some (refused_of why))))
 Cause inputs way Unfinished = IsPlayed inputs way false
-Cause inputs way Start = (way ≡ ByWorkers) × OfSuite inputs (λ suite. 2 ≤ suite.settings.worker_count)
+Cause inputs way Start =
+    (way ≡ ByWorkers) × OfSuite inputs (λ suite. 2 ≤ suite.settings.worker_count)
 Cause inputs way Lost = (way ≡ ByWorkers) × OfSuite inputs (λ suite. ⊤)
 Cause inputs way (Write written) = IsPlayed inputs way true
 Cause inputs way fault = NoSuite inputs fault

@@ -2,7 +2,7 @@
 use Rattle.std.specs.Borrow.{Bor}
 use Rattle.std.specs.Int.{IsInRange}
 use Rattle.std.specs.Prelude.{◌≡◌, ℕ, ◌<◌, List, Bool, true, cond, length, map, take, Option, Result, IfErr}
-use Rattle.iso_run.specs.Ends.{Leaves, end_of, run_end}
+use Rattle.iso_run.specs.ExitStatuses.{Leaves, end_of, run_end}
 use Rattle.iso_run.specs.Replays.{Cause, IsPlayed}
 use Rattle.iso_run.specs.Suites.{IsSuite, OfSuite, Suite, planned, suite_of, texts}
 use Rattle.iso_run.specs.declared.fault.RunFault.{RunFault}
@@ -43,11 +43,15 @@ pub record Product : Type 0 where
 
 -- the report, and whether all top-level points are ok
 abbrev pub suite_report : Suite → Product
-suite_report suite = record { text = report suite.nodes (suite_outcome suite); ok = all_ok suite.nodes (suite_outcome suite) }
+suite_report suite = record {
+  text = report suite.nodes (suite_outcome suite);
+  ok = all_ok suite.nodes (suite_outcome suite);
+}
 
 -- the printed plan, with the number of workers that the settings give
 abbrev pub suite_plan : Suite → Product
-suite_plan suite = record { text = plan_text suite.nodes suite.settings suite.settings.worker_count; ok = true }
+suite_plan suite =
+    record { text = plan_text suite.nodes suite.settings suite.settings.worker_count; ok = true }
 
 -- the lines of tests in it, and no other
 abbrev pub suite_tests : Suite → Product
@@ -73,10 +77,12 @@ IsUnwritten text old new Memory = new ≡ old
 IsUnwritten text old new fault = IsCutOff text old new fault
 
 -- A product of inputs was written whole; or why not, and what was written of it.
-pub record Writes {A : Type 0} (ok_of : A → Bool) (product : Suite → Product) (inputs : Inputs) (way : Way) (old new : Account) (result : Result A RunFault) : Type 0 where
+pub record Writes {A : Type 0} (ok_of : A → Bool) (product : Suite → Product) (inputs : Inputs)
+    (way : Way) (old new : Account) (result : Result A RunFault) : Type 0 where
   pub cause : IfErr result (Cause inputs way)
   pub leaves : Leaves (IsWritten product inputs way old new) ⊥
-      (OfSuite inputs (λ suite. IfErr result (IsCutOff (product suite).text old new))) old new (end_of ok_of run_end result)
+      (OfSuite inputs (λ suite. IfErr result (IsCutOff (product suite).text old new))) old new
+      (end_of ok_of run_end result)
 
 -- The inputs are the suite that was read, with its plan, with 1 to 64 workers, and with the places
 -- of its scripts' nodes, where these are kept.
@@ -84,23 +90,31 @@ pub record IsRead (inputs : Inputs) (keeps : Bool) (suite : ReadSuite) : Type 0 
   pub is_suite : IsSuite inputs (suite_of inputs suite)
   pub planned_as : suite.plan ≡ planned (suite_of inputs suite)
   pub manned : IsInRange 1 64 suite.settings.worker_count
-  pub placed : keeps ≡ true → ArePlaced (texts inputs.scripts.now) (map script_of suite.scripts.items) (places_in suite.places.items)
+  pub placed : keeps ≡ true → ArePlaced (texts inputs.scripts.now)
+      (map script_of suite.scripts.items) (places_in suite.places.items)
 
 -- a suite that was read, as it is written in these bytes
 abbrev pub as_written : ReadSuite → List (Bor (List ℕ)) → WrittenView
-as_written suite scripts = record { scripts = map script_of suite.scripts.items; places = places_in suite.places.items; texts = texts scripts }
+as_written suite scripts = record {
+  scripts = map script_of suite.scripts.items;
+  places = places_in suite.places.items;
+  texts = texts scripts;
+}
 
 -- Of a suite all that is asked for was told besides, with these times of its nodes, and with what
 -- was watched of a run. What is told with places is told with those that stand in the bytes of its
 -- scripts.
-pub record IsToldOf (inputs : Inputs) (suite : Suite) (times : List (Option ℕ)) (watched : Option WatchedView) (old new : Tells) : Type 0 where
+pub record IsToldOf (inputs : Inputs) (suite : Suite) (times : List (Option ℕ))
+    (watched : Option WatchedView) (old new : Tells) : Type 0 where
   pub written : WrittenView
   pub texts_are : written.texts ≡ texts inputs.scripts.now
   pub placed : wants_places old ≡ true → ArePlaced written.texts written.scripts written.places
   pub told : HasTold written suite.nodes suite.settings (suite_outcome suite) times watched old new
 
-abbrev pub TellsOf : Inputs → (times : List (Option ℕ)) → (watched : Option WatchedView) → (old new : Tells) → Type 0
-TellsOf inputs times watched old new = OfSuite inputs (λ suite. IsToldOf inputs suite times watched old new)
+abbrev pub TellsOf : Inputs → (times : List (Option ℕ)) → (watched : Option WatchedView)
+    → (old new : Tells) → Type 0
+TellsOf inputs times watched old new =
+    OfSuite inputs (λ suite. IsToldOf inputs suite times watched old new)
 
 -- Sites are those of the nodes of the suite that inputs are, by what stands in the bytes of its
 -- scripts.
@@ -111,21 +125,40 @@ pub record AreSitesOf (inputs : Inputs) (suite : Suite) (sites : List Site) : Ty
   pub are : AreSites (tree scripts) (all_sites places) suite.nodes sites
 
 -- the printed plan with the sites of its nodes, or the lines of tests in it alone
-abbrev pub places_text : (tests : Bool) → (names : List (List ℕ)) → List Site → List Row → Settings → (workers : ℕ) → List ℕ
+abbrev pub places_text : (tests : Bool) → (names : List (List ℕ)) → List Site → List Row → Settings
+    → (workers : ℕ) → List ℕ
 places_text tests names sites nodes settings workers =
-    cond tests (placed_tests_text nodes settings sites names) (placed_plan_text nodes settings workers sites names)
+    cond tests (placed_tests_text nodes settings sites names)
+    (placed_plan_text nodes settings workers sites names)
 
 -- the same with why modes and locks are so
-abbrev pub why_text : (tests : Bool) → (names : List (List ℕ)) → List Site → List Row → Settings → (workers : ℕ) → List ℕ
-why_text tests names sites nodes settings workers = cond tests (tests_why nodes settings sites names) (plan_why nodes settings workers sites names)
+abbrev pub why_text : (tests : Bool) → (names : List (List ℕ)) → List Site → List Row → Settings
+    → (workers : ℕ) → List ℕ
+why_text tests names sites nodes settings workers =
+    cond tests (tests_why nodes settings sites names) (plan_why nodes settings workers sites names)
 
 abbrev pub suite_why : (tests : Bool) → (names : List (List ℕ)) → List Site → Suite → Product
-suite_why tests names sites suite = record { text = why_text tests names sites suite.nodes suite.settings suite.settings.worker_count; ok = true }
+suite_why tests names sites suite =
+    record {
+      text =
+          why_text tests names sites suite.nodes suite.settings suite.settings.worker_count;
+      ok =
+          true;
+    }
 
 -- the keys of the plan, with who takes them
 abbrev pub suite_conflicts : Suite → Product
-suite_conflicts suite = record { text = conflicts_text suite.nodes suite.settings suite.settings.worker_count; ok = true }
+suite_conflicts suite =
+    record {
+      text =
+          conflicts_text suite.nodes suite.settings suite.settings.worker_count;
+      ok = true;
+    }
 
 abbrev pub suite_places : (tests : Bool) → (names : List (List ℕ)) → List Site → Suite → Product
 suite_places tests names sites suite =
-    record { text = places_text tests names sites suite.nodes suite.settings suite.settings.worker_count; ok = true }
+    record {
+      text = places_text tests names sites suite.nodes suite.settings
+          suite.settings.worker_count;
+      ok = true;
+    }

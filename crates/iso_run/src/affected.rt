@@ -7,12 +7,12 @@ ghost use Rattle.iso_affected.specs.Fates.{IsNode, suites};
 ghost use Rattle.iso_affected_text.specs.Changes.{IsChange, IsSide, change_of};
 ghost use Rattle.iso_affected_text.specs.Rows.{row_of};
 ghost use Rattle.iso_affected_text.specs.Texts.{affected_text, last_of, paths_text};
-ghost use Rattle.iso_arguments.specs.Requests.{AreInBounds};
+ghost use Rattle.iso_arguments.specs.RequestBounds.{AreInBounds};
 ghost use Rattle.iso_plan.specs.RowView.{tree_of};
 ghost use Rattle.iso_plan.specs.Selections.{texts_of};
 ghost use Rattle.iso_run.specs.Alterations.{IsAlteration, StartsOtherwise, change_text};
 ghost use Rattle.iso_run.specs.Commands.{AreFor, IsComparedIn, IsReady, IsStateOf, IsToldFor};
-ghost use Rattle.iso_run.specs.Ends.{Answers};
+ghost use Rattle.iso_run.specs.ExitStatuses.{Answers};
 ghost use Rattle.iso_run.specs.declared.command_fault.CommandFault.TheVariants.{Told};
 ghost use Rattle.iso_run.specs.declared.inputs.Inputs.{Inputs};
 ghost use Rattle.iso_tap.specs.Printers.{Writes};
@@ -21,9 +21,9 @@ ghost use Rattle.iso_tap.specs.Sinks.{Wrote};
 use crate::command::flushed;
 use crate::command_fault::CommandFault;
 use crate::exit::FAILED;
+use crate::fault_lines::say;
 use crate::files::{lent, read_files};
 use crate::inputs::Suite;
-use crate::lines::say;
 use crate::older::{Older, names_below, older_files, read_older};
 use crate::property::first_apart;
 use crate::state::{State, state_of};
@@ -64,7 +64,8 @@ pub(crate) fn show_affected<'a, G: AllocGlobal + Files + Threads, R: Read, W: Si
     errors: &mut E,
 ) -> Result<bool, CommandFault<'a>>
     requires { AreInBounds files.now }
-    ensures { Answers (λ ok. (ok ≡ true) × IsToldFor asked.entry files.now (R.remaining input.old) (W.account output.old) (W.account output.new)) ⊥
+    ensures { Answers (λ ok. (ok ≡ true) × IsToldFor asked.entry files.now (R.remaining input.old)
+        (W.account output.old) (W.account output.new)) ⊥
         (W.account output.old) (W.account output.new) result }
 {
     let bytes = read_files(rt, files, None, input)?;
@@ -90,7 +91,8 @@ fn older_state<'n, G: AllocGlobal + Files>(
     files: &InputFiles<'n>,
 ) -> Result<OlderState, CommandFault<'n>>
     requires { AreInBounds files.now }
-    ensures read { files.now.only_from ≡ None → files.now.processors ≡ None → IfOk result (λ older. (inputs : Inputs)
+    ensures read { files.now.only_from ≡ None → files.now.processors ≡ None
+        → IfOk result (λ older. (inputs : Inputs)
         × AreFor files.now None inputs × IsStateOf inputs older.state) }
     ensures ready { IfOk result (λ older. IsReady older.state) }
 {
@@ -117,7 +119,9 @@ struct Alteration {
 
 /// What the change of one suite to another makes of their nodes.
 fn altered(alloc: Global, was: &Suite, now: &Suite) -> Result<Alteration, AllocError>
-    ensures so { IfOk result (λ a. IsAlteration (suites was.now.plan was.now.world now.now.plan now.now.world) a.fates.items a.told.items a.gone.items) }
+    ensures so { IfOk result
+        (λ a. IsAlteration (suites was.now.plan was.now.world now.now.plan now.now.world)
+        a.fates.items a.told.items a.gone.items) }
     ensures nodes { IfOk result (λ a. All (IsNode (tree_of was.now.plan)) a.gone.items) }
 {
     let fates = fates(alloc, &was.plan, &was.world, &now.plan, &now.world)?;
@@ -139,7 +143,9 @@ fn show_change<W: Sink>(
 ) -> Result<bool, CommandFault<'static>>
     requires was { IsReady was.now.state }
     requires now { IsReady now.now }
-    ensures { Answers (λ ok. (ok ≡ true) × IsComparedIn asked.entry was.now.state now.now names.now was.now.missing (W.account output.old) (W.account output.new)) ⊥
+    ensures { Answers (λ ok. (ok ≡ true)
+        × IsComparedIn asked.entry was.now.state now.now names.now was.now.missing
+        (W.account output.old) (W.account output.new)) ⊥
         (W.account output.old) (W.account output.new) result }
 {
     let OlderState {
@@ -220,7 +226,8 @@ fn write_change<W: Sink>(
 ) -> Result<bool, CommandFault<'static>>
     requires change { IsChange change.now }
     requires few { AreFew last.now.counts }
-    requires counts { last.now.counts ≡ counts (change_of change.now).old.tree (change_of change.now).new.tree change.now.fates.now change.now.gone.now }
+    requires counts { last.now.counts ≡ counts (change_of change.now).old.tree
+        (change_of change.now).new.tree change.now.fates.now change.now.gone.now }
     ensures { Answers (λ ok. (ok ≡ true) × Wrote (W.account output.old) (W.account output.new)
         (change_text paths (change_of change.now) last.now.folder.now last.now.missing)) ⊥
         (W.account output.old) (W.account output.new) result }
@@ -241,7 +248,8 @@ fn write_rows<W: Sink>(
 ) -> Result<(), TapFault>
     requires { AreFew last.now.counts }
     ensures { Writes (W.account output.old) (W.account output.new)
-        (cond paths (paths_text (map row_of rows.now)) (affected_text (map row_of rows.now) (last_of last.now))) result }
+        (cond paths (paths_text (map row_of rows.now))
+        (affected_text (map row_of rows.now) (last_of last.now))) result }
 {
     if paths {
         write_paths(rows, output)

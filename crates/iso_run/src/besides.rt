@@ -1,6 +1,6 @@
 //! What a command tells besides a report.
 ghost use Rattle.std.specs.Prelude.{◌≡◌, IfSome, IsSomeAnd, None, is_some};
-ghost use Rattle.iso_arguments.specs.Requests.{AsksForNoMore};
+ghost use Rattle.iso_arguments.specs.RequestBounds.{AsksForNoMore};
 ghost use Rattle.iso_run.specs.Besides.{IsPlain};
 ghost use Rattle.iso_run.specs.Commands.{again_of, page_commands, tells_of_skipped};
 ghost use Rattle.iso_telling.specs.Telling.{nothing_yet, told_nothing};
@@ -64,14 +64,20 @@ impl<'b, 'a> Besides<'b, 'a> {
         ensures failed { result.tells.failed ≡ told_nothing (is_some extras.entry.failed) }
         ensures junit { result.tells.junit ≡ told_nothing (is_some extras.entry.junit) }
         ensures unpaged { extras.entry.html ≡ None → result.tells.html ≡ None }
-        ensures page { IfSome extras.entry.html (λ name. IsSomeAnd result.tells.html (λ p. (p.commands ≡ page_commands files.now processors)
+        ensures page { IfSome extras.entry.html
+            (λ name. IsSomeAnd result.tells.html
+            (λ p. (p.commands ≡ page_commands files.now processors)
             × (p.text ≡ nothing_yet))) }
         ensures github { result.tells.github ≡ told_nothing extras.entry.github }
         ensures untimed { extras.entry.durations ≡ None → result.tells.durations ≡ None }
-        ensures durations { IfSome extras.entry.durations (λ most. IsSomeAnd result.tells.durations (λ d. (d.most ≡ most) × (d.text ≡ nothing_yet))) }
+        ensures durations { IfSome extras.entry.durations
+            (λ most. IsSomeAnd result.tells.durations
+            (λ d. (d.most ≡ most) × (d.text ≡ nothing_yet))) }
         ensures unasked { extras.entry.summary ≡ None → result.tells.summary ≡ None }
-        ensures summary { IfSome extras.entry.summary (λ of. IsSomeAnd result.tells.summary (λ s. (s.skipped ≡ tells_of_skipped of)
-            × (s.explain ≡ files.now.explain) × (s.again ≡ again_of files.now processors) × (s.text ≡ nothing_yet))) }
+        ensures summary { IfSome extras.entry.summary
+            (λ of. IsSomeAnd result.tells.summary (λ s. (s.skipped ≡ tells_of_skipped of)
+            × (s.explain ≡ files.now.explain) × (s.again ≡ again_of files.now processors)
+            × (s.text ≡ nothing_yet))) }
         ensures plain { AsksForNoMore extras.entry → IsPlain result }
     {
         let summary = match extras.summary {

@@ -1,16 +1,16 @@
 //! Checks of files, without a run.
 ghost use Rattle.std.specs.Prelude.{◌≤◌, IfErr, IfOk, Option, ℕ, List};
-ghost use Rattle.iso_arguments.specs.Requests.{AreInBounds};
+ghost use Rattle.iso_arguments.specs.RequestBounds.{AreInBounds};
 ghost use Rattle.iso_run.specs.Commands.{AreReads, IsAcceptedFor};
-ghost use Rattle.iso_run.specs.Ends.{ComesEarly};
+ghost use Rattle.iso_run.specs.ExitStatuses.{ComesEarly};
 
 use crate::command::{named, with_mending};
 use crate::command_fault::CommandFault;
 use crate::exit::FAILED;
 use crate::fault::RunFault;
+use crate::fault_lines::say;
 use crate::files::{FileReads, all_of, read_each};
 use crate::inputs::{placed, settings_from, world_from};
-use crate::lines::say;
 use crate::mending::{settings_mending, suite_of, world_mending};
 use crate::script_mending::ScriptMending;
 use crate::warning::say_warnings;
@@ -55,7 +55,8 @@ fn accept_reads<'a, E: Sink>(
 ) -> Result<(), CommandFault<'a>>
     requires bounds { AreInBounds files.now }
     requires counted { 1 ≤ reads.processors }
-    ensures { (input : Option (List ℕ)) → AreReads files.now input reads.entry → IfOk result (λ _. IsAcceptedFor files.now input) }
+    ensures { (input : Option (List ℕ)) → AreReads files.now input reads.entry
+        → IfOk result (λ _. IsAcceptedFor files.now input) }
 {
     let bytes = all_of(alloc, reads)?;
     let mut mending = ScriptMending::unasked();

@@ -1,29 +1,30 @@
 //! The program, over a reader and two sinks.
 ghost use Rattle.std.specs.Prelude.{◌≡◌, ◌≤◌, ℕ, List, None, Option, [], IfErr, IfSome, IsErrAnd, MatchResult, OnOk, false, true, option_map};
 ghost use Rattle.std.specs.Option.{option_copied};
-ghost use Rattle.iso_arguments.specs.Requests.{AreInBounds, AsksInBounds, IsPlainRun, IsShard};
+ghost use Rattle.iso_arguments.specs.RequestBounds.{AreInBounds, AsksInBounds, IsPlainRun, IsShard};
 ghost use Rattle.iso_places.specs.declared.site.Site.{Site};
 ghost use Rattle.iso_plan.specs.Selections.{texts_of};
 ghost use Rattle.iso_run.specs.Besides.{IsQuiet, IsSaid, NamesNone, files_of, parted, parts_of};
 ghost use Rattle.iso_run.specs.Courses.{IsUnasked};
 ghost use Rattle.iso_run.specs.Commands.{Answered, AnsweredBesides, ArePlaces, AreFor, Did, DidBesides, Ended, IsRefused, RanOn, WereRead, plan_of, shard_asked, way_of};
-ghost use Rattle.iso_run.specs.Ends.{Answers, IfLate, IsEnded, IsFlushed, Refuses, command_end, end_of, exit_status, run_end, words_fault};
+ghost use Rattle.iso_run.specs.ExitStatuses.{Answers, IfLate, IsEnded, IsFlushed, Refuses, command_end, end_of, exit_status, run_end, words_fault};
 ghost use Rattle.iso_run.specs.Runs.{Writes, suite_conflicts, suite_report};
 ghost use Rattle.iso_run.specs.declared.inputs.Inputs.{Inputs};
 ghost use Rattle.iso_run.specs.declared.way.Way.TheVariants.{Serial};
 ghost use Rattle.iso_tap.specs.Sinks.{Wrote};
 
 use crate::affected::{Asked, show_affected};
+use crate::afterwards::Afterwards;
 use crate::besides::Besides;
 use crate::check::check;
 use crate::command_fault::CommandFault;
 use crate::course::Course;
 use crate::exit::{ALL_OK, NOT_ALL_OK};
 use crate::fault::RunFault;
+use crate::fault_lines::say;
 use crate::files::{InputBytes, lent, read_files};
 use crate::filing::filed;
 use crate::inputs::Inputs;
-use crate::lines::say;
 use crate::mending::after_fault;
 use crate::parts::say_parts;
 use crate::plan::{show_conflicts, show_places, show_plan, show_tests, show_why};
@@ -67,7 +68,8 @@ pub fn command<
     E: Sink,
     T: Eprint + IsTerminal + Copy + Send + Drop + 'static,
 >(rt: &G, words: &[String], input: &mut R, output: &mut W, errors: &mut E, terminal: T) -> u8
-    ensures ended { Ended words.now (R.remaining input.old) (W.account output.old) (W.account output.new) result }
+    ensures ended { Ended words.now (R.remaining input.old) (W.account output.old)
+        (W.account output.new) result }
     // Without words, what was run is the script on the input.
     ensures no_word { words.now ≡ [] → IfSome (R.remaining input.old) (λ script. result ≤ 1
         → RanOn script (W.account output.old) (W.account output.new) result) }
@@ -112,10 +114,13 @@ fn answer<
     errors: &mut E,
     terminal: T,
 ) -> Result<bool, CommandFault<'a>>
-    ensures answers { Answers (Answered words.now (R.remaining input.old) (W.account output.old) (W.account output.new))
-        (AnsweredBesides words.now (R.remaining input.old) (W.account output.old) (W.account output.new))
+    ensures answers { Answers (Answered words.now (R.remaining input.old) (W.account output.old)
+        (W.account output.new))
+        (AnsweredBesides words.now (R.remaining input.old) (W.account output.old)
+        (W.account output.new))
         (W.account output.old) (W.account output.new) result }
-    ensures refused { words.now ≡ [] → IfErr result (λ fault. command_end fault ≡ Refuses → IsRefused (R.remaining input.old)) }
+    ensures refused { words.now ≡ [] → IfErr result (λ fault. command_end fault ≡ Refuses
+        → IsRefused (R.remaining input.old)) }
     ensures quiet { words.now ≡ [] → errors.new ≡ errors.old }
 {
     let request = read_words(rt.alloc(), words)?;
@@ -139,8 +144,10 @@ fn answer_request<
     terminal: T,
 ) -> Result<bool, CommandFault<'a>>
     requires { AsksInBounds request.now }
-    ensures answers { Answers (Did request.now (R.remaining input.old) (W.account output.old) (W.account output.new))
-        (DidBesides request.now (R.remaining input.old) (W.account output.old) (W.account output.new))
+    ensures answers { Answers (Did request.now (R.remaining input.old) (W.account output.old)
+        (W.account output.new))
+        (DidBesides request.now (R.remaining input.old) (W.account output.old)
+        (W.account output.new))
         (W.account output.old) (W.account output.new) result }
     ensures refused { IsPlainRun request.now
         → IfErr result (λ fault. command_end fault ≡ Refuses → IsRefused (R.remaining input.old)) }
@@ -240,7 +247,8 @@ fn answer_request<
 
 /// Writes a text.
 fn show<W: Sink>(text: &str, output: &mut W) -> Result<bool, CommandFault<'static>>
-    ensures { Answers (λ ok. (ok ≡ true) × Wrote (W.account output.old) (W.account output.new) text.now) ⊥
+    ensures { Answers (λ ok. (ok ≡ true)
+        × Wrote (W.account output.old) (W.account output.new) text.now) ⊥
         (W.account output.old) (W.account output.new) result }
 {
     if write_text(text, output).is_err() {
@@ -276,8 +284,10 @@ fn run_shown<
 ) -> Result<Summary, RunFault>
     requires bounds { AreInBounds files.now }
     requires counted { 1 ≤ bytes.now.processors }
-    ensures report { (input : Option (List ℕ)) → WereRead files.now input bytes.now → (inputs : Inputs) × AreFor files.now input inputs
-        × Writes (λ s. s.all_ok) suite_report inputs way.entry (W.account output.old) (W.account output.new) result }
+    ensures report { (input : Option (List ℕ)) → WereRead files.now input bytes.now
+        → (inputs : Inputs) × AreFor files.now input inputs
+        × Writes (λ s. s.all_ok) suite_report inputs way.entry (W.account output.old)
+        (W.account output.new) result }
     ensures quiet { IsQuiet tells.old → OnOk result (IsQuiet tells.new) }
     ensures unasked { IsUnasked course.old → OnOk result (IsUnasked course.new) }
 {
@@ -303,8 +313,10 @@ fn run<'b, G: AllocGlobal + Clock + Threads + Wait + Sync, P: Progress, W: Sink>
 ) -> Result<Summary, RunFault>
     requires bounds { AreInBounds files.now }
     requires counted { 1 ≤ bytes.now.processors }
-    ensures report { (input : Option (List ℕ)) → WereRead files.now input bytes.now → (inputs : Inputs) × AreFor files.now input inputs
-        × Writes (λ s. s.all_ok) suite_report inputs way.entry (W.account output.old) (W.account output.new) result }
+    ensures report { (input : Option (List ℕ)) → WereRead files.now input bytes.now
+        → (inputs : Inputs) × AreFor files.now input inputs
+        × Writes (λ s. s.all_ok) suite_report inputs way.entry (W.account output.old)
+        (W.account output.new) result }
     ensures quiet { IsQuiet tells.old → OnOk result (IsQuiet tells.new) }
     ensures unasked { IsUnasked course.old → OnOk result (IsUnasked course.new) }
 {
@@ -312,11 +324,21 @@ fn run<'b, G: AllocGlobal + Clock + Threads + Wait + Sync, P: Progress, W: Sink>
     let scripts = lent(rt.alloc(), &bytes.scripts)?;
     let inputs = inputs_of(bytes, &scripts, files, shard);
     match way {
-        Way::Serial => run_serial_shown(rt, rt.alloc(), inputs, progress, tells, course, output),
+        Way::Serial => run_serial_shown(
+            rt,
+            rt.alloc(),
+            inputs,
+            Afterwards::Leave,
+            progress,
+            tells,
+            course,
+            output,
+        ),
         Way::ByWorkers => run_workers_shown(
             rt,
             rt.alloc(),
             inputs,
+            Afterwards::Leave,
             &OpenGate,
             progress,
             tells,
@@ -344,8 +366,10 @@ fn conflicts<'b, W: Sink>(
 ) -> Result<Summary, RunFault>
     requires bounds { AreInBounds files.now }
     requires counted { 1 ≤ bytes.now.processors }
-    ensures { (input : Option (List ℕ)) → WereRead files.now input bytes.now → (inputs : Inputs) × AreFor files.now input inputs
-        × Writes (λ s. s.all_ok) suite_conflicts inputs Serial (W.account output.old) (W.account output.new) result }
+    ensures { (input : Option (List ℕ)) → WereRead files.now input bytes.now → (inputs : Inputs)
+        × AreFor files.now input inputs
+        × Writes (λ s. s.all_ok) suite_conflicts inputs Serial (W.account output.old)
+        (W.account output.new) result }
 {
     let shard = shard_of(files.shard);
     let scripts = lent(alloc, &bytes.scripts)?;
@@ -366,9 +390,12 @@ fn plan<'b, W: Sink>(
 ) -> Result<Summary, RunFault>
     requires bounds { AreInBounds files.now }
     requires counted { 1 ≤ bytes.now.processors }
-    ensures { (input : Option (List ℕ)) → WereRead files.now input bytes.now → (inputs : Inputs) × AreFor files.now input inputs
-        × ((sites : List Site) × IfLate (end_of (λ s. s.all_ok) run_end result) (ArePlaces printed.places inputs sites)
-        × Writes (λ s. s.all_ok) (plan_of printed (texts_of files.now.scripts.items) sites) inputs Serial (W.account output.old) (W.account output.new) result) }
+    ensures { (input : Option (List ℕ)) → WereRead files.now input bytes.now → (inputs : Inputs)
+        × AreFor files.now input inputs
+        × ((sites : List Site) × IfLate (end_of (λ s. s.all_ok) run_end result)
+        (ArePlaces printed.places inputs sites)
+        × Writes (λ s. s.all_ok) (plan_of printed (texts_of files.now.scripts.items) sites) inputs
+        Serial (W.account output.old) (W.account output.new) result) }
 {
     let shard = shard_of(files.shard);
     let scripts = lent(alloc, &bytes.scripts)?;
@@ -389,8 +416,10 @@ fn print_plan<W: Sink>(
     output: &mut W,
 ) -> Result<(), RunFault>
     requires { 1 ≤ inputs.processors }
-    ensures { (sites : List Site) × IfLate (end_of (λ _. true) run_end result) (ArePlaces printed.places inputs.entry sites)
-        × Writes (λ _. true) (plan_of printed (texts_of names.now) sites) inputs.entry Serial (W.account output.old) (W.account output.new) result }
+    ensures { (sites : List Site) × IfLate (end_of (λ _. true) run_end result)
+        (ArePlaces printed.places inputs.entry sites)
+        × Writes (λ _. true) (plan_of printed (texts_of names.now) sites) inputs.entry Serial
+        (W.account output.old) (W.account output.new) result }
 {
     let Printed { tests, places, why } = printed;
     if why {
@@ -458,10 +487,15 @@ fn told<'a, G: AllocGlobal + Files, W: Sink, E: Sink>(
     requires bounds { AreInBounds files.now }
     requires counted { 1 ≤ bytes.processors }
     ensures answer { MatchResult ran
-        (λ s. IsEnded s.all_ok (files_of besides.now) (W.account output.old) (W.account output.new) result)
-        (λ fault. (W.account output.new ≡ W.account output.old) × IsErrAnd result (λ told. command_end told ≡ run_end fault)) }
-    ensures said { OnOk result (IsSaid (parted false (parts_of files.now bytes.processors besides.now)) (E.account errors.old) (E.account errors.new)) }
-    ensures quiet { OnOk ran (IsQuiet besides.now.tells) → OnOk ran (IsUnasked besides.now.course) → NamesNone besides.now → errors.new ≡ errors.old }
+        (λ s. IsEnded s.all_ok (files_of besides.now) (W.account output.old)
+        (W.account output.new) result)
+        (λ fault. (W.account output.new ≡ W.account output.old)
+        × IsErrAnd result (λ told. command_end told ≡ run_end fault)) }
+    ensures said { OnOk result
+        (IsSaid (parted false (parts_of files.now bytes.processors besides.now))
+        (E.account errors.old) (E.account errors.new)) }
+    ensures quiet { OnOk ran (IsQuiet besides.now.tells) → OnOk ran (IsUnasked besides.now.course)
+        → NamesNone besides.now → errors.new ≡ errors.old }
 {
     match ran {
         Ok(summary) => {

@@ -1,6 +1,6 @@
 //! Why a command ends with status 2 or 3.
 ghost use Rattle.std.specs.Prelude.{◌≡◌, None};
-ghost use Rattle.iso_run.specs.Ends.{command_end, exit_status, words_fault};
+ghost use Rattle.iso_run.specs.ExitStatuses.{command_end, exit_status, words_fault};
 ghost use Rattle.iso_run.specs.declared.command_fault.CommandFault.TheVariants.{Run};
 ghost use Rattle.iso_run.specs.declared.fault.RunFault.TheVariants.{Memory};
 

@@ -1,6 +1,6 @@
 //! What a run tells of its course.
 ghost use Rattle.std.specs.Prelude.{◌≡◌, is_some};
-ghost use Rattle.iso_arguments.specs.Requests.{AsksForNoMore};
+ghost use Rattle.iso_arguments.specs.RequestBounds.{AsksForNoMore};
 ghost use Rattle.iso_run.specs.Courses.{IsUnasked, wants_times};
 ghost use Rattle.iso_telling.specs.Telling.{told_nothing};
 

@@ -1,6 +1,6 @@
 //! Why a run has no report, or only its beginning.
 ghost use Rattle.std.specs.Prelude.{◌≡◌};
-ghost use Rattle.iso_run.specs.Ends.{exit_status, run_end};
+ghost use Rattle.iso_run.specs.ExitStatuses.{exit_status, run_end};
 ghost use Rattle.iso_run.specs.Replays.{events_fault, schedule_fault};
 ghost use Rattle.iso_run.specs.declared.fault.RunFault.TheVariants.{Memory};
 

@@ -3,18 +3,18 @@ ghost use Rattle.std.specs.Prelude.{◌≡◌, ◌≤◌, ◌+◌, [], ◌∷◌
 ghost use Rattle.std.specs.Option.{option_copied};
 ghost use Rattle.std.specs.IoError.{error_kind};
 ghost use Rattle.std.specs.declared.io.ErrorKind.TheVariants.{OutOfMemory};
-ghost use Rattle.iso_arguments.specs.Requests.{IsWithin, NamesNothing};
+ghost use Rattle.iso_arguments.specs.RequestBounds.{IsWithin, NamesNothing};
 ghost use Rattle.iso_model.specs.declared.limits.TheConstants.{FILE_BYTES};
 ghost use Rattle.iso_selection.specs.declared.list.TheConstants.{LIST_BYTES};
 ghost use Rattle.iso_run.specs.Suites.{texts};
 ghost use Rattle.iso_arguments.specs.declared.request.InputFiles as I;
 ghost use Rattle.iso_run.specs.Commands.{AreReads, IsCountedAs, IsOneRead, WereRead};
-ghost use Rattle.iso_run.specs.Ends.{ComesEarly, GaveUp};
+ghost use Rattle.iso_run.specs.ExitStatuses.{ComesEarly, GaveUp};
 ghost use Rattle.iso_run.specs.declared.command_fault.CommandFault.TheVariants.{Run, Unreadable};
 ghost use Rattle.iso_run.specs.declared.fault.RunFault.TheVariants.{Memory};
 
 use crate::command_fault::CommandFault;
-use crate::lines::STDIN;
+use crate::fault_lines::STDIN;
 use iso_arguments::processors::Processors;
 use iso_arguments::request::InputFiles;
 use iso_model::limits::FILE_BYTES;
@@ -112,8 +112,10 @@ fn read_each_script<'a, G: AllocGlobal + Files, R: Read>(
     input: &mut R,
 ) -> Result<Vec<Result<Vec<u8>, CommandFault<'a>>>, CommandFault<'a>>
     ensures gave_up { IfErr result GaveUp }
-    ensures standard_input { names.now ≡ [] → IfOk result (λ reads. IsOneRead (R.remaining input.old) reads.items) }
-    ensures each { (names.now ≡ [] → ⊥) → IfOk result (λ reads. length reads.items ≡ length names.now) }
+    ensures standard_input { names.now ≡ []
+        → IfOk result (λ reads. IsOneRead (R.remaining input.old) reads.items) }
+    ensures each { (names.now ≡ [] → ⊥)
+        → IfOk result (λ reads. length reads.items ≡ length names.now) }
     ensures unread { (names.now ≡ [] → ⊥) → R.remaining input.new ≡ R.remaining input.old }
 {
     let mut reads = Vec::new(rt.alloc());
@@ -132,7 +134,8 @@ pub(crate) fn all_of<'a>(
     alloc: Global,
     reads: FileReads<'a>,
 ) -> Result<InputBytes, CommandFault<'a>>
-    ensures read { (files : I.InputFiles) (input : Option (List ℕ)) → AreReads files input reads.entry → IfOk result (WereRead files input) }
+    ensures read { (files : I.InputFiles) (input : Option (List ℕ))
+        → AreReads files input reads.entry → IfOk result (WereRead files input) }
     ensures counted { IfOk result (λ bytes. bytes.processors ≡ reads.entry.processors) }
 {
     let FileReads {
@@ -195,7 +198,8 @@ fn read_list<'a, G: AllocGlobal + Files, R: Read>(
 ) -> Result<Option<Vec<u8>>, CommandFault<'a>>
     ensures early { IfErr result ComesEarly }
     ensures some { IfOk result (λ listed. is_some listed ≡ is_some name.entry) }
-    ensures piped { option_copied name.entry ≡ Some (codes "-") → IfSome (R.remaining input.old) (λ bytes.
+    ensures piped { option_copied name.entry ≡ Some (codes "-")
+        → IfSome (R.remaining input.old) (λ bytes.
         IfOk result (λ listed. option_map (λ v. v.items) listed ≡ Some bytes)) }
     ensures unnamed { name.entry ≡ None → IsOkAnd result (λ listed. listed ≡ None) }
 {
@@ -213,7 +217,8 @@ fn read_list<'a, G: AllocGlobal + Files, R: Read>(
 /// A list of paths, where it isn't above the limit.
 fn listed_in<'a>(bytes: Vec<u8>, name: &'a str) -> Result<Option<Vec<u8>>, CommandFault<'a>>
     ensures early { IfErr result ComesEarly }
-    ensures whole { IfOk result (λ listed. (listed ≡ Some bytes) × (length bytes.items ≤ LIST_BYTES)) }
+    ensures whole { IfOk result (λ listed. (listed ≡ Some bytes)
+        × (length bytes.items ≤ LIST_BYTES)) }
 {
     if bytes.len() > LIST_BYTES as usize {
         return Err(CommandFault::TooLarge(name));
@@ -247,8 +252,10 @@ fn read_script_files<'a, G: AllocGlobal + Files, R: Read>(
 ) -> Result<Vec<Vec<u8>>, CommandFault<'a>>
     ensures gave_up { IfErr result GaveUp }
     ensures standard_input { names.now ≡ [] → IfSome (R.remaining input.old) (λ bytes.
-        IfOk result (λ scripts. map (λ v. v.items) scripts.items ≡ take (FILE_BYTES + 1) bytes ∷ [])) }
-    ensures each { (names.now ≡ [] → ⊥) → IfOk result (λ scripts. length scripts.items ≡ length names.now) }
+        IfOk result (λ scripts. map (λ v. v.items) scripts.items
+        ≡ take (FILE_BYTES + 1) bytes ∷ [])) }
+    ensures each { (names.now ≡ [] → ⊥)
+        → IfOk result (λ scripts. length scripts.items ≡ length names.now) }
     ensures unread { (names.now ≡ [] → ⊥) → R.remaining input.new ≡ R.remaining input.old }
 {
     if names.is_empty() {

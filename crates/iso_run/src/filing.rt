@@ -1,12 +1,12 @@
 //! The files that a command writes besides its report.
 ghost use Rattle.std.specs.Prelude.{◌≡◌, None, OnOk};
 ghost use Rattle.iso_run.specs.Besides.{files_of};
-ghost use Rattle.iso_run.specs.Ends.{IsFiled, IsOneOf};
+ghost use Rattle.iso_run.specs.ExitStatuses.{IsFiled, IsOneOf};
 
 use crate::besides::Besides;
 use crate::command_fault::CommandFault;
+use crate::fault_lines::say;
 use crate::files::write_file;
-use crate::lines::say;
 use crate::parts::{page_bytes, text_bytes};
 use iso_tap::printer::Printer;
 use iso_tap::sink::Sink;

@@ -2,6 +2,7 @@
 #![tactic(auto)]
 
 mod affected;
+mod afterwards;
 mod besides;
 mod check;
 pub mod command;
@@ -10,11 +11,11 @@ mod counts;
 pub mod course;
 mod exit;
 pub mod fault;
+mod fault_lines;
 mod files;
 mod filing;
 pub mod inputs;
 mod kept;
-mod lines;
 mod mending;
 mod observation;
 mod observed;

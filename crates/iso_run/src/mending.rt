@@ -1,17 +1,17 @@
 //! What mends a fault of a run.
 ghost use Rattle.std.specs.Prelude.{◌≡◌, ◌≤◌, ℕ, IfErr, List, MatchResult, Option, map, true};
-ghost use Rattle.iso_arguments.specs.Requests.{AreInBounds};
+ghost use Rattle.iso_arguments.specs.RequestBounds.{AreInBounds};
 ghost use Rattle.iso_run.specs.Commands.{AreFor, WereRead};
-ghost use Rattle.iso_run.specs.Ends.{IsEarly, run_end};
+ghost use Rattle.iso_run.specs.ExitStatuses.{IsEarly, run_end};
 ghost use Rattle.iso_run.specs.Runs.{IsRead};
 ghost use Rattle.iso_run.specs.Suites.{NoSuite, texts};
 ghost use Rattle.iso_run.specs.declared.inputs.Inputs.{Inputs};
 
 use crate::command::{inputs_of, shard_of};
 use crate::fault::RunFault;
+use crate::fault_lines::{STDIN, listed_at};
 use crate::files::{InputBytes, lent};
 use crate::inputs::{Suite, read_explained};
-use crate::lines::{STDIN, listed_at};
 use crate::script_mending::ScriptMending;
 use crate::settings::SETTINGS;
 use iso_arguments::request::InputFiles;
@@ -258,8 +258,10 @@ pub(crate) fn suite_of<'b>(
 ) -> Result<Suite, RunFault>
     requires bounds { AreInBounds files.now }
     requires counted { 1 ≤ bytes.now.processors }
-    ensures read { (input : Option (List ℕ)) → WereRead files.now input bytes.now → (inputs : Inputs) × AreFor files.now input inputs
-        × (texts inputs.scripts.now ≡ map (λ v. v.items) bytes.now.scripts.items) × MatchResult result (IsRead inputs true) (NoSuite inputs) }
+    ensures read { (input : Option (List ℕ)) → WereRead files.now input bytes.now
+        → (inputs : Inputs) × AreFor files.now input inputs
+        × (texts inputs.scripts.now ≡ map (λ v. v.items) bytes.now.scripts.items)
+        × MatchResult result (IsRead inputs true) (NoSuite inputs) }
     ensures early { IfErr result (λ fault. IsEarly (run_end fault)) }
 {
     let shard = shard_of(files.shard);

@@ -1,11 +1,11 @@
 //! The files of an older state, which stand by the same names below a folder.
 ghost use Rattle.std.specs.Prelude.{◌≡◌, [], IfErr, IfOk, None, length, map};
 ghost use Rattle.std.specs.Option.{option_copied, option_map};
-ghost use Rattle.iso_arguments.specs.Requests.{AreInBounds};
+ghost use Rattle.iso_arguments.specs.RequestBounds.{AreInBounds};
 ghost use Rattle.iso_plan.specs.Selections.{texts_of};
 ghost use Rattle.iso_run.specs.Alterations.{AreBelow, below};
 ghost use Rattle.iso_run.specs.Commands.{WereRead};
-ghost use Rattle.iso_run.specs.Ends.{ComesEarly, GaveUp};
+ghost use Rattle.iso_run.specs.ExitStatuses.{ComesEarly, GaveUp};
 
 use crate::command_fault::CommandFault;
 use crate::files::{InputBytes, read_limited, unread};
@@ -33,8 +33,10 @@ pub(crate) fn names_below(
     folder: &str,
     files: &InputFiles<'_>,
 ) -> Result<OlderNames, AllocError>
-    ensures scripts { IfOk result (λ names. names.scripts.items ≡ map (below folder.now) (texts_of files.now.scripts.items)) }
-    ensures world { IfOk result (λ names. names.world ≡ option_map (below folder.now) (option_copied files.now.world)) }
+    ensures scripts { IfOk result (λ names. names.scripts.items
+        ≡ map (below folder.now) (texts_of files.now.scripts.items)) }
+    ensures world { IfOk result (λ names. names.world
+        ≡ option_map (below folder.now) (option_copied files.now.world)) }
 {
     let scripts = all_below(alloc, folder, &files.scripts)?;
     let world = match files.world {
@@ -68,9 +70,11 @@ pub(crate) fn older_files<'n>(
     names: &'n OlderNames,
     explain: bool,
 ) -> Result<InputFiles<'n>, AllocError>
-    ensures scripts { IfOk result (λ files. texts_of files.scripts.items ≡ names.now.scripts.items) }
+    ensures scripts { IfOk result (λ files. texts_of files.scripts.items
+        ≡ names.now.scripts.items) }
     ensures world { IfOk result (λ files. option_copied files.world ≡ names.now.world) }
-    ensures all { IfOk result (λ files. (files.only.items ≡ []) × (files.patterns.items ≡ []) × (files.only_from ≡ None)) }
+    ensures all { IfOk result (λ files. (files.only.items ≡ []) × (files.patterns.items ≡ [])
+        × (files.only_from ≡ None)) }
     ensures whole { IfOk result (λ files. (files.shard ≡ None) × (files.processors ≡ None)) }
     ensures bounds { IfOk result AreInBounds }
 {
@@ -116,7 +120,8 @@ pub(crate) fn read_older<'n, G: AllocGlobal + Files>(
     files: &InputFiles<'n>,
 ) -> Result<Older, CommandFault<'n>>
     ensures early { IfErr result ComesEarly }
-    ensures read { files.now.only_from ≡ None → files.now.processors ≡ None → IfOk result (λ older. WereRead files.now None older.bytes) }
+    ensures read { files.now.only_from ≡ None → files.now.processors ≡ None
+        → IfOk result (λ older. WereRead files.now None older.bytes) }
     ensures counted { IfOk result (λ older. older.bytes.processors ≡ 1) }
 {
     let mut missing = 0;

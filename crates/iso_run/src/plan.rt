@@ -8,7 +8,7 @@ ghost use Rattle.iso_plan.specs.RowView.{tree_of};
 ghost use Rattle.iso_plan.specs.Selections.{texts_of};
 ghost use Rattle.iso_plan.specs.Tree.{tree};
 ghost use Rattle.iso_run.specs.Commands.{ArePlaces};
-ghost use Rattle.iso_run.specs.Ends.{IfLate, end_of, run_end};
+ghost use Rattle.iso_run.specs.ExitStatuses.{IfLate, end_of, run_end};
 ghost use Rattle.iso_run.specs.Runs.{AreSitesOf, Writes, places_text, suite_conflicts, suite_places, suite_plan, suite_tests, suite_why, why_text};
 ghost use Rattle.iso_run.specs.Suites.{OfSuite};
 ghost use Rattle.iso_tap.specs.Printers as P;
@@ -36,7 +36,8 @@ use std::alloc::Global;
 /// The first fault of the inputs is answered; with any but `Write` the sink is asked nothing.
 pub fn show_plan<W: Sink>(alloc: Global, inputs: Inputs<'_>, sink: &mut W) -> Result<(), RunFault>
     requires { 1 ≤ inputs.processors }
-    ensures { Writes (λ _. true) suite_plan inputs.entry Serial (W.account sink.old) (W.account sink.new) result }
+    ensures { Writes (λ _. true) suite_plan inputs.entry Serial (W.account sink.old)
+        (W.account sink.new) result }
 {
     let suite = read_inputs(alloc, inputs, false)?;
     match write_plan(&suite.plan, suite.settings.workers(), sink) {
@@ -51,7 +52,8 @@ pub fn show_plan<W: Sink>(alloc: Global, inputs: Inputs<'_>, sink: &mut W) -> Re
 /// The first fault of the inputs is answered; with any but `Write` the sink is asked nothing.
 pub fn show_tests<W: Sink>(alloc: Global, inputs: Inputs<'_>, sink: &mut W) -> Result<(), RunFault>
     requires { 1 ≤ inputs.processors }
-    ensures { Writes (λ _. true) suite_tests inputs.entry Serial (W.account sink.old) (W.account sink.new) result }
+    ensures { Writes (λ _. true) suite_tests inputs.entry Serial (W.account sink.old)
+        (W.account sink.new) result }
 {
     let suite = read_inputs(alloc, inputs, false)?;
     match write_tests(&suite.plan, sink) {
@@ -73,8 +75,10 @@ pub fn show_places<W: Sink>(
     sink: &mut W,
 ) -> Result<(), RunFault>
     requires { 1 ≤ inputs.processors }
-    ensures { (sites : List Site) × IfLate (end_of (λ _. true) run_end result) (OfSuite inputs.entry (λ suite. AreSitesOf inputs.entry suite sites))
-        × Writes (λ _. true) (suite_places tests (texts_of names.now) sites) inputs.entry Serial (W.account sink.old) (W.account sink.new) result }
+    ensures { (sites : List Site) × IfLate (end_of (λ _. true) run_end result)
+        (OfSuite inputs.entry (λ suite. AreSitesOf inputs.entry suite sites))
+        × Writes (λ _. true) (suite_places tests (texts_of names.now) sites) inputs.entry Serial
+        (W.account sink.old) (W.account sink.new) result }
 {
     let suite = read_inputs(alloc, inputs, true)?;
     let sites = sites_of(alloc, &suite)?;
@@ -99,8 +103,10 @@ pub fn show_why<W: Sink>(
     sink: &mut W,
 ) -> Result<(), RunFault>
     requires { 1 ≤ inputs.processors }
-    ensures { (sites : List Site) × IfLate (end_of (λ _. true) run_end result) (ArePlaces places inputs.entry sites)
-        × Writes (λ _. true) (suite_why tests (texts_of names.now) sites) inputs.entry Serial (W.account sink.old) (W.account sink.new) result }
+    ensures { (sites : List Site) × IfLate (end_of (λ _. true) run_end result)
+        (ArePlaces places inputs.entry sites)
+        × Writes (λ _. true) (suite_why tests (texts_of names.now) sites) inputs.entry Serial
+        (W.account sink.old) (W.account sink.new) result }
 {
     let suite = read_inputs(alloc, inputs, places)?;
     let sites = sites_asked(alloc, &suite, places)?;
@@ -121,7 +127,8 @@ pub fn show_conflicts<W: Sink>(
     sink: &mut W,
 ) -> Result<(), RunFault>
     requires { 1 ≤ inputs.processors }
-    ensures { Writes (λ _. true) suite_conflicts inputs.entry Serial (W.account sink.old) (W.account sink.new) result }
+    ensures { Writes (λ _. true) suite_conflicts inputs.entry Serial (W.account sink.old)
+        (W.account sink.new) result }
 {
     let suite = read_inputs(alloc, inputs, false)?;
     let tests = tests_in(alloc, &suite.plan)?;
@@ -142,7 +149,9 @@ fn write_why<W: Sink>(
 ) -> Result<(), TapFault>
     requires { IsReach (tree_of suite.now.plan) ends.now }
     ensures { P.Writes (W.account sink.old) (W.account sink.new)
-        (why_text tests (texts_of names.now) sites.now (tree_of suite.now.plan) suite.now.plan.settings suite.now.settings.worker_count) result }
+        (why_text tests (texts_of names.now) sites.now
+        (tree_of suite.now.plan) suite.now.plan.settings suite.now.settings.worker_count)
+        result }
 {
     if tests {
         write_tests_why(&suite.plan, ends, sites, names, sink)
@@ -167,7 +176,9 @@ fn write_places<W: Sink>(
     sink: &mut W,
 ) -> Result<(), TapFault>
     ensures { P.Writes (W.account sink.old) (W.account sink.new)
-        (places_text tests (texts_of names.now) sites.now (tree_of suite.now.plan) suite.now.plan.settings suite.now.settings.worker_count) result }
+        (places_text tests (texts_of names.now) sites.now
+        (tree_of suite.now.plan) suite.now.plan.settings suite.now.settings.worker_count)
+        result }
 {
     if tests {
         write_placed_tests(&suite.plan, sites, names, sink)
@@ -179,7 +190,9 @@ fn write_places<W: Sink>(
 /// The sites of a suite's nodes where places are asked for, and else none. There is no fault but
 /// out of memory.
 fn sites_asked(alloc: Global, suite: &Suite, places: bool) -> Result<Sites, RunFault>
-    ensures found { places ≡ true → IfOk result (AreSites (tree (map script_of suite.now.scripts.items)) (all_sites (places_in suite.now.places.items)) (tree_of suite.now.plan)) }
+    ensures found { places ≡ true
+        → IfOk result (AreSites (tree (map script_of suite.now.scripts.items))
+        (all_sites (places_in suite.now.places.items)) (tree_of suite.now.plan)) }
     ensures none { places ≡ false → IfOk result (λ sites. sites ≡ []) }
     ensures fault { IfErr result (λ fault. fault ≡ Memory) }
 {
@@ -193,7 +206,8 @@ fn sites_asked(alloc: Global, suite: &Suite, places: bool) -> Result<Sites, RunF
 /// The sites of a suite's nodes. Each node of a suite that was read has one, so there is no fault
 /// but out of memory.
 pub(crate) fn sites_of(alloc: Global, suite: &Suite) -> Result<Sites, RunFault>
-    ensures found { IfOk result (AreSites (tree (map script_of suite.now.scripts.items)) (all_sites (places_in suite.now.places.items)) (tree_of suite.now.plan)) }
+    ensures found { IfOk result (AreSites (tree (map script_of suite.now.scripts.items))
+        (all_sites (places_in suite.now.places.items)) (tree_of suite.now.plan)) }
     ensures fault { IfErr result (λ fault. fault ≡ Memory) }
 {
     match locate(alloc, &suite.scripts, &suite.places, &suite.plan) {

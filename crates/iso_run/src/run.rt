@@ -7,6 +7,7 @@ ghost use Rattle.iso_run.specs.Runs.{Writes, suite_report};
 ghost use Rattle.iso_run.specs.Watches.{TellsRun, WasWatched, watched_with};
 ghost use Rattle.iso_run.specs.declared.way.Way.TheVariants.{Serial};
 
+use crate::afterwards::Afterwards;
 use crate::counts::CountingGate;
 use crate::course::Course;
 use crate::fault::RunFault;
@@ -43,25 +44,39 @@ pub fn run_serial<C: Clock, W: Sink>(
     sink: &mut W,
 ) -> Result<Summary, RunFault>
     requires { 1 ≤ inputs.processors }
-    ensures report { Writes (λ s. s.all_ok) suite_report inputs.entry Serial (W.account sink.old) (W.account sink.new) result }
+    ensures report { Writes (λ s. s.all_ok) suite_report inputs.entry Serial (W.account sink.old)
+        (W.account sink.new) result }
     ensures told { OnOk result (TellsRun inputs.entry Serial tells.old tells.new) }
     ensures course { OnOk result (TellsCourse inputs.entry Serial course.old course.new) }
 {
-    run_serial_shown(clock, alloc, inputs, &mut Unshown, tells, course, sink)
+    let afterwards = Afterwards::LetGo;
+    run_serial_shown(
+        clock,
+        alloc,
+        inputs,
+        afterwards,
+        &mut Unshown,
+        tells,
+        course,
+        sink,
+    )
 }
 
-/// Runs a suite as `run_serial` does, and shows how far it has come.
+/// Runs a suite as `run_serial` does, and shows how far it has come. What it has made when the
+/// report is written is let go or left, as the caller says.
 pub(crate) fn run_serial_shown<C: Clock, P: Progress, W: Sink>(
     clock: &C,
     alloc: Global,
     inputs: Inputs<'_>,
+    afterwards: Afterwards,
     progress: &mut P,
     tells: &mut Tells<'_>,
     course: &mut Course,
     sink: &mut W,
 ) -> Result<Summary, RunFault>
     requires { 1 ≤ inputs.processors }
-    ensures report { Writes (λ s. s.all_ok) suite_report inputs.entry Serial (W.account sink.old) (W.account sink.new) result }
+    ensures report { Writes (λ s. s.all_ok) suite_report inputs.entry Serial (W.account sink.old)
+        (W.account sink.new) result }
     ensures told { OnOk result (TellsRun inputs.entry Serial tells.old tells.new) }
     ensures course { OnOk result (TellsCourse inputs.entry Serial course.old course.new) }
 {
@@ -77,7 +92,10 @@ pub(crate) fn run_serial_shown<C: Clock, P: Progress, W: Sink>(
                 times: &ran.node_times,
                 watched: watched(&ran.times, &ran.watch),
             };
-            write_results(alloc, &suite, inputs.scripts, &run, tells, sink)
+            let written = write_results(alloc, &suite, inputs.scripts, &run, tells, sink);
+            afterwards.of(ran);
+            afterwards.of(suite);
+            written
         }
         Err(_) => Err(RunFault::Memory),
     }
@@ -107,10 +125,13 @@ fn run_timed<'s, C: Clock, G: Gate>(
     ensures plan { IfOk result (λ r. r.results.plan ≡ suite.now.plan) }
     ensures start { IfOk result (λ r. r.results.start ≡ suite.now.world) }
     ensures complete { IfOk result (λ r. AreComplete r.results) }
-    ensures watched { IfOk result (λ r. WasWatched Serial suite.now.plan suite.now.world suite.now.settings.worker_count
+    ensures watched { IfOk result
+        (λ r. WasWatched Serial suite.now.plan suite.now.world suite.now.settings.worker_count
         (is_some tells.now.html) (option_map (watched_with r.times) r.watch)) }
-    ensures course { OnOk result (IsCourse (AreEvents Serial suite.now.plan suite.now.world suite.now.settings.worker_count)
-        Serial suite.now.plan suite.now.world suite.now.settings.worker_count course.old course.new) }
+    ensures course { OnOk result
+        (IsCourse (AreEvents Serial suite.now.plan suite.now.world suite.now.settings.worker_count)
+        Serial suite.now.plan suite.now.world suite.now.settings.worker_count
+        course.old course.new) }
 {
     let timed = tells.wants_times();
     let gate = if timed || course.wants_times() {

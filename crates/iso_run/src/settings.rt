@@ -1,8 +1,8 @@
 //! What settings come to, printed.
 ghost use Rattle.std.specs.Prelude.{◌≡◌, IfOk, IfSome, Some, true};
-ghost use Rattle.iso_arguments.specs.Requests.{IsWithin};
+ghost use Rattle.iso_arguments.specs.RequestBounds.{IsWithin};
 ghost use Rattle.iso_run.specs.Commands.{IsListedFor};
-ghost use Rattle.iso_run.specs.Ends.{Answers, command_end, run_end};
+ghost use Rattle.iso_run.specs.ExitStatuses.{Answers, command_end, run_end};
 ghost use Rattle.iso_run.specs.Suites.{document};
 ghost use Rattle.iso_run.specs.declared.fault.RunFault.TheVariants as F;
 ghost use Rattle.iso_explain_settings.specs.Listing.{listing_text};
@@ -42,7 +42,8 @@ pub(crate) fn show_settings<'a, G: AllocGlobal + Files + Threads, W: Sink, E: Si
     errors: &mut E,
 ) -> Result<bool, CommandFault<'a>>
     requires { IfSome asked IsWithin }
-    ensures { Answers (λ ok. (ok ≡ true) × IsListedFor name.entry asked (W.account output.old) (W.account output.new)) ⊥
+    ensures { Answers (λ ok. (ok ≡ true)
+        × IsListedFor name.entry asked (W.account output.old) (W.account output.new)) ⊥
         (W.account output.old) (W.account output.new) result }
 {
     let processors = counted(rt, asked)?;
@@ -67,7 +68,8 @@ fn listing(
     processors: u32,
 ) -> Result<MemorySink, AllocError>
     ensures { (members : Members) → document bytes.now ≡ Some members
-        → IfOk result (λ text. text.bytes ≡ Some (listing_text (leaves members) settings.now processors)) }
+        → IfOk result (λ text. text.bytes
+        ≡ Some (listing_text (leaves members) settings.now processors)) }
 {
     let mut text = MemorySink::new(alloc);
     list_settings(alloc, bytes, settings, processors, &mut text)?;
@@ -76,7 +78,8 @@ fn listing(
 
 /// Writes a text.
 fn show_bytes<W: Sink>(bytes: &[u8], output: &mut W) -> Result<bool, CommandFault<'static>>
-    ensures { Answers (λ ok. (ok ≡ true) × Wrote (W.account output.old) (W.account output.new) bytes.now) ⊥
+    ensures { Answers (λ ok. (ok ≡ true)
+        × Wrote (W.account output.old) (W.account output.new) bytes.now) ⊥
         (W.account output.old) (W.account output.new) result }
 {
     if Printer::new(output).bytes(bytes).is_err() {

@@ -1,11 +1,11 @@
 //! One of the two states that a change is told of.
 ghost use Rattle.std.specs.Prelude.{◌≡◌, ◌≤◌, IfErr, IfOk, List, Option, map, ℕ};
 ghost use Rattle.iso_affected_text.specs.Changes.{IsSide};
-ghost use Rattle.iso_arguments.specs.Requests.{AreInBounds};
+ghost use Rattle.iso_arguments.specs.RequestBounds.{AreInBounds};
 ghost use Rattle.iso_places.specs.LineStarts.{line_starts};
 ghost use Rattle.iso_plan.specs.Selections.{texts_of};
 ghost use Rattle.iso_run.specs.Commands.{AreFor, IsReady, IsStateOf, WereRead};
-ghost use Rattle.iso_run.specs.Ends.{ComesEarly};
+ghost use Rattle.iso_run.specs.ExitStatuses.{ComesEarly};
 ghost use Rattle.iso_run.specs.declared.inputs.Inputs.{Inputs};
 
 use crate::command::named;
@@ -42,7 +42,8 @@ pub(crate) fn state_of<'a>(
 ) -> Result<State, CommandFault<'a>>
     requires bounds { AreInBounds files.now }
     requires counted { 1 ≤ bytes.processors }
-    ensures read { (input : Option (List ℕ)) → WereRead files.now input bytes → IfOk result (λ state. (inputs : Inputs)
+    ensures read { (input : Option (List ℕ)) → WereRead files.now input bytes
+        → IfOk result (λ state. (inputs : Inputs)
         × AreFor files.now input inputs × IsStateOf inputs state) }
     ensures early { IfErr result ComesEarly }
     ensures ready { IfOk result IsReady }
@@ -67,7 +68,8 @@ pub(crate) fn state_of<'a>(
 
 /// The tables of the lines of scripts.
 fn tables_of(alloc: Global, scripts: &[Vec<u8>]) -> Result<Vec<LineTable>, AllocError>
-    ensures { IfOk result (λ tables. tables.items ≡ map line_starts (map (λ v. v.items) scripts.now)) }
+    ensures { IfOk result (λ tables. tables.items
+        ≡ map line_starts (map (λ v. v.items) scripts.now)) }
 {
     let mut tables = Vec::new(alloc);
     for script in scripts {

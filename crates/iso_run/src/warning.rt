@@ -1,13 +1,13 @@
 //! Warnings of what was likely meant otherwise.
 ghost use Rattle.std.specs.Prelude.{◌≡◌, ◌≤◌, IfErr, IfOk, Ok, false};
-ghost use Rattle.iso_arguments.specs.Requests.{AreInBounds};
-ghost use Rattle.iso_run.specs.Ends.{ComesEarly};
+ghost use Rattle.iso_arguments.specs.RequestBounds.{AreInBounds};
+ghost use Rattle.iso_run.specs.ExitStatuses.{ComesEarly};
 
 use crate::command::named;
 use crate::command_fault::CommandFault;
+use crate::fault_lines::STDIN;
 use crate::files::InputBytes;
 use crate::inputs::{Suite, settings_from};
-use crate::lines::STDIN;
 use crate::mending::suite_of;
 use crate::resource::meant;
 use crate::script_mending::ScriptMending;

@@ -11,6 +11,7 @@ ghost use Rattle.iso_run.specs.Replays.{IsOfWorkers};
 ghost use Rattle.iso_run.specs.Runs.{Writes, suite_report};
 ghost use Rattle.iso_run.specs.Watches.{TellsRun, WasWatched, watched_with};
 
+use crate::afterwards::Afterwards;
 use crate::counts::CountingGate;
 use crate::course::Course;
 use crate::fault::RunFault;
@@ -64,14 +65,27 @@ pub fn run_workers<R: Threads + Wait + Clock + Sync, G: Gate + Sync, W: Sink>(
     sink: &mut W,
 ) -> Result<Summary, RunFault>
     requires { 1 ≤ inputs.processors }
-    ensures report { Writes (λ s. s.all_ok) suite_report inputs.entry ByWorkers (W.account sink.old) (W.account sink.new) result }
+    ensures report { Writes (λ s. s.all_ok) suite_report inputs.entry ByWorkers (W.account sink.old)
+        (W.account sink.new) result }
     ensures told { OnOk result (TellsRun inputs.entry ByWorkers tells.old tells.new) }
     ensures course { OnOk result (TellsCourse inputs.entry ByWorkers course.old course.new) }
 {
-    run_workers_shown(rt, alloc, inputs, gate, &mut Unshown, tells, course, sink)
+    let afterwards = Afterwards::LetGo;
+    run_workers_shown(
+        rt,
+        alloc,
+        inputs,
+        afterwards,
+        gate,
+        &mut Unshown,
+        tells,
+        course,
+        sink,
+    )
 }
 
-/// Runs a suite as `run_workers` does, and shows how far it has come.
+/// Runs a suite as `run_workers` does, and shows how far it has come. What it has made when the
+/// report is written is let go or left, as the caller says.
 pub(crate) fn run_workers_shown<
     R: Threads + Wait + Clock + Sync,
     G: Gate + Sync,
@@ -81,6 +95,7 @@ pub(crate) fn run_workers_shown<
     rt: &R,
     alloc: Global,
     inputs: Inputs<'_>,
+    afterwards: Afterwards,
     gate: &G,
     progress: &mut P,
     tells: &mut Tells<'_>,
@@ -88,7 +103,8 @@ pub(crate) fn run_workers_shown<
     sink: &mut W,
 ) -> Result<Summary, RunFault>
     requires { 1 ≤ inputs.processors }
-    ensures report { Writes (λ s. s.all_ok) suite_report inputs.entry ByWorkers (W.account sink.old) (W.account sink.new) result }
+    ensures report { Writes (λ s. s.all_ok) suite_report inputs.entry ByWorkers (W.account sink.old)
+        (W.account sink.new) result }
     ensures told { OnOk result (TellsRun inputs.entry ByWorkers tells.old tells.new) }
     ensures course { OnOk result (TellsCourse inputs.entry ByWorkers course.old course.new) }
 {
@@ -105,7 +121,10 @@ pub(crate) fn run_workers_shown<
         times: &ran.node_times,
         watched: watched(&ran.times, &ran.watch),
     };
-    write_results(alloc, &suite, inputs.scripts, &run, tells, sink)
+    let written = write_results(alloc, &suite, inputs.scripts, &run, tells, sink);
+    afterwards.of(ran);
+    afterwards.of(suite);
+    written
 }
 
 /// The book of a suite's run, when its bodies ran, how many microseconds those of its nodes took,
@@ -134,9 +153,11 @@ fn run_timed<'s, L: Ground + Send + Sync, R: Threads + Wait + Clock + Sync, G: G
     requires workers { suite.now.settings.worker_count ≡ L.workers }
     ensures book { IfOk result (λ r. IsBookOf L.plan L.start L.workers r.book) }
     ensures complete { IfOk result (λ r. is_complete r.book ≡ true) }
-    ensures watched { IfOk result (λ r. WasWatched ByWorkers L.plan L.start L.workers (is_some tells.now.html)
+    ensures watched { IfOk result (λ r. WasWatched ByWorkers L.plan L.start L.workers
+        (is_some tells.now.html)
         (option_map (watched_with r.times) r.watch)) }
-    ensures course { OnOk result (IsCourse (AreEvents ByWorkers L.plan L.start L.workers) ByWorkers L.plan L.start L.workers course.old course.new) }
+    ensures course { OnOk result (IsCourse (AreEvents ByWorkers L.plan L.start L.workers) ByWorkers
+        L.plan L.start L.workers course.old course.new) }
     ensures fault { IfErr result (IsOfWorkers suite.now.settings.worker_count) }
 {
     let timed = tells.wants_times();

@@ -7,7 +7,7 @@ use Rattle.std.specs.Char.{is_ascii_digit}
 use Rattle.std.specs.List.{prefix_len, AllByRecursion}
 use Rattle.std.specs.Str.{all_ascii_digits}
 use Rattle.iso_script_lexer.proofs.Prefixes.{All-take-prefix_len, prefix_len-append}
-use Rattle.iso_script_lexer.specs.Lexical.{Ends}
+use Rattle.iso_script_lexer.specs.LexicalGrammar.{Ends}
 use Rattle.iso_schedule.specs.Lines.{IsGap, IsNumeral}
 use Rattle.iso_schedule.specs.Scan.{Front, is_space, in_word, then_try, word_at, after_gap, numeral_of, numeral_front, numeral_at, at_end, last_numeral}
 

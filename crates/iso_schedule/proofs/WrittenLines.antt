@@ -2,7 +2,7 @@
 use Rattle.std.proofs.Common.{◌≡◌, ◌∙◌, ℕ, List, [], ◌∷◌, ◌++◌, Some, option_map, Bool, true, false, refl, ap, subst, append-nil, codes}
 use Rattle.std.proofs.lemmas.Slice.Eq.{bytes_eq-Decides}
 use Rattle.std.specs.Str.{bytes_eq}
-use Rattle.iso_script_lexer.specs.Lexical.{Ends}
+use Rattle.iso_script_lexer.specs.LexicalGrammar.{Ends}
 use Rattle.iso_schedule.specs.Lines.{Written, enter, step, leave, shut, IsGap, IsNumeral, Writes, writes_enter, writes_step, writes_leave, writes_shut}
 use Rattle.iso_schedule.specs.Scan.{in_word, then_try, word_at, numeral_at, last_numeral, with_one, with_two, after_verb, scanned}
 use Rattle.iso_schedule.proofs.Fronts.{AllPass, word_at-append, word_at-parts, numeral_at-append, last_numeral-append, numeral_at-parts, last_numeral-parts, then_try-steps, option_map-mapped}

@@ -1,5 +1,5 @@
 pub mod Examples
-pub mod Faults
+pub mod FaultNames
 pub mod Lines
 pub mod Parts
 pub mod Scan

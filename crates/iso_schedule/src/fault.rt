@@ -1,4 +1,4 @@
-use std::alloc::{AllocError, AllocFailed};
+use iso_model::input_error::InputError;
 use std::fmt;
 use thiserror::Error;
 
@@ -15,7 +15,7 @@ pub enum ScheduleFaultKind {
 
 impl ScheduleFaultKind {
     ghost use Rattle.std.specs.Prelude.{◌≡◌};
-    ghost use Rattle.iso_schedule.specs.Faults.{fault_name};
+    ghost use Rattle.iso_schedule.specs.FaultNames.{fault_name};
 
     /// How the kind is called.
     pub fn as_str(self) -> &'static str
@@ -31,7 +31,7 @@ impl ScheduleFaultKind {
 
 impl fmt::Display for ScheduleFaultKind {
     ghost use Rattle.std.specs.Prelude.{Some};
-    ghost use Rattle.iso_schedule.specs.Faults.{fault_name};
+    ghost use Rattle.iso_schedule.specs.FaultNames.{fault_name};
 
     ghost output = { λ kind. Some (fault_name kind) };
 
@@ -41,39 +41,12 @@ impl fmt::Display for ScheduleFaultKind {
 }
 
 /// A fault of a schedule, and the line where it lies. Lines count from 1.
-#[derive(Clone, Copy, Debug, PartialEq, Eq)]
+#[derive(Clone, Copy, Debug, PartialEq, Eq, Error)]
+#[error("{kind} at line {line}")]
 pub struct ScheduleFault {
     pub kind: ScheduleFaultKind,
     pub line: u32,
 }
 
 /// Why a schedule could not be read.
-#[derive(Clone, Copy, Debug, PartialEq, Eq, Error)]
-pub enum ScheduleError {
-    #[error("{} at line {}", .0.kind, .0.line)]
-    Fault(ScheduleFault),
-    #[error("out of memory")]
-    OutOfMemory,
-}
-
-impl From<AllocError> for ScheduleError {
-    ghost use Rattle.std.specs.Prelude.{◌≡◌};
-    ghost use Rattle.iso_schedule.specs.declared.fault.ScheduleError.TheVariants.{OutOfMemory};
-
-    ghost from_gives = { λ _ e. e ≡ OutOfMemory };
-
-    fn from(_error: AllocError) -> ScheduleError {
-        ScheduleError::OutOfMemory
-    }
-}
-
-impl<T: Drop> From<AllocFailed<T>> for ScheduleError {
-    ghost use Rattle.std.specs.Prelude.{◌≡◌};
-    ghost use Rattle.iso_schedule.specs.declared.fault.ScheduleError.TheVariants.{OutOfMemory};
-
-    ghost from_gives = { λ _ e. e ≡ OutOfMemory };
-
-    fn from(_error: AllocFailed<T>) -> ScheduleError {
-        ScheduleError::OutOfMemory
-    }
-}
+pub type ScheduleError = InputError<ScheduleFault>;

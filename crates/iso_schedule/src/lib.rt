@@ -5,7 +5,7 @@ pub mod examples;
 pub mod fault;
 pub mod laws;
 mod line;
-mod lines;
+pub mod lines;
 mod numeral;
 pub mod reader;
 mod written;

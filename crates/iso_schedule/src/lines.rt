@@ -1,5 +1,5 @@
 //! The lines of bytes.
-ghost use Rattle.std.specs.Prelude.{◌≡◌, ◌≢◌, ◌<◌, ◌==◌, [], ◌∷◌, length};
+ghost use Rattle.std.specs.Prelude.{◌≡◌, ◌≢◌, ◌<◌, ◌+◌, ◌==◌, [], ◌∷◌, length, drop, MatchOption};
 ghost use Rattle.std.specs.List.{position};
 ghost use Rattle.std.specs.Str.Lines.{lines, strip_carriage_return};
 
@@ -22,9 +22,11 @@ fn without_return(line: &[u8]) -> &[u8]
 
 /// The first line of bytes, and what follows its line feed. A line loses the carriage return before
 /// its line feed.
-pub(crate) fn split_line(bytes: &[u8]) -> (&[u8], &[u8])
+pub fn split_line(bytes: &[u8]) -> (&[u8], &[u8])
     requires { bytes.now ≢ [] }
     ensures first { lines bytes.now ≡ result.0.now ∷ lines result.1.now }
+    ensures rest { MatchOption (position (λ b. b == 10) bytes.now) (result.1.now ≡ [])
+        (λ end. result.1.now ≡ drop (end + 1) bytes.now) }
     ensures shorter { length result.1.now < length bytes.now }
 {
     match line_feed(bytes) {

@@ -2,7 +2,7 @@
 use Rattle.std.proofs.Common.{◌≡◌, ◌≢◌, ◌<◌, List, [], ◌∷◌, ◌++◌, length, arith, refl, ap, subst, sym, ◌∙◌, append_assoc}
 use Rattle.std.proofs.lemmas.List.Sums.{fold_push}
 use Rattle.iso_script.specs.Contexts.{BeginAt, after_piece, open_after}
-use Rattle.iso_script_lexer.specs.Lexical.{ArePiecesOf}
+use Rattle.iso_script_lexer.specs.LexicalGrammar.{ArePiecesOf}
 use Rattle.iso_script_lexer.specs.Piece.{Piece, tail}
 use Rattle.iso_script_lexer.specs.Tokens.{front}
 use Rattle.iso_script_lexer.specs.declared.token.Position.{Position}

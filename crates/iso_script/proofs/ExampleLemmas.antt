@@ -11,7 +11,7 @@ use Rattle.iso_model.specs.declared.limits.TheConstants.{FILE_BYTES}
 use Rattle.iso_model.specs.declared.place.Lifecycle.{Lifecycle}
 use Rattle.iso_model.specs.declared.place.Lifecycle.TheVariants.{BeforeAll, AfterAll, BeforeEach, AfterEach}
 use Rattle.iso_script_lexer.specs.Piece.{Piece, name_at, number_at, text_at, word_at, symbol_at}
-use Rattle.iso_script_lexer.specs.Lexical.{ArePiecesOf}
+use Rattle.iso_script_lexer.specs.LexicalGrammar.{ArePiecesOf}
 use Rattle.iso_script_lexer.specs.Scan.{pieces_of}
 use Rattle.iso_script_lexer.specs.Positions.{first_line}
 use Rattle.iso_script_lexer.proofs.Pieces.{pieces_of-HasPieces}

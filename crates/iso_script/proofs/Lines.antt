@@ -1,7 +1,7 @@
 -- Later pieces stand on no earlier lines.
 use Rattle.std.proofs.Common.{◌≡◌, ◌≤◌, ◌+◌, ◌-◌, ℕ, List, [], ◌∷◌, ◌++◌, refl, ap, subst, sym, ◌∙◌, arith}
 use Rattle.iso_model.specs.Syntax.{Act, Acts, act}
-use Rattle.iso_script_lexer.specs.Lexical.{IsGap, no_gap, a_blank, a_line, a_comment, Spells, spells_name, spells_word, spells_number, spells_text, spells_symbol, HasPieces, ends, goes_on, breaks_off, ArePiecesOf}
+use Rattle.iso_script_lexer.specs.LexicalGrammar.{IsGap, no_gap, a_blank, a_line, a_comment, Spells, spells_name, spells_word, spells_number, spells_text, spells_symbol, HasPieces, ends, goes_on, breaks_off, ArePiecesOf}
 use Rattle.iso_script_lexer.specs.Piece.{Piece, symbol_at}
 use Rattle.iso_script_lexer.specs.Positions.{Line}
 use Rattle.iso_script_lexer.specs.declared.symbol.Symbol.{Symbol}
@@ -39,7 +39,8 @@ not_before (q ∷ before) ps p e (goes_on gap spells more) = omega (arith, gap_l
 not_before (q ∷ before) ps p e (breaks_off gap none) = absurd (not_the_end before ps p (same_tail e).1)
 
 -- after a symbol the pieces are those of bytes from its line on
-pub after_symbol : {r : Line} {bs : List ℕ} {all : List Piece} (before ps : List Piece) (b : Position) (s : Symbol) → all ≡ before ++ symbol_at b s ∷ ps → HasPieces r bs all → (q : Line) × (cs : List ℕ) × HasPieces q cs ps × (b.line ≡ q.0)
+pub after_symbol : {r : Line} {bs : List ℕ} {all : List Piece} (before ps : List Piece) (b : Position) (s : Symbol)
+    → all ≡ before ++ symbol_at b s ∷ ps → HasPieces r bs all → (q : Line) × (cs : List ℕ) × HasPieces q cs ps × (b.line ≡ q.0)
 after_symbol [] ps b s e (goes_on {q = q} {ds = ds} gap spells more) =
     (q, ds, subst (HasPieces q ds) (same_tail e).1 more, sym (ap line_of (same_tail e).0) ∙ spelled_line spells)
 after_symbol before ps b s e (ends gap) = absurd (not_the_end before ps (symbol_at b s) e)
@@ -50,7 +51,8 @@ after_symbol (q ∷ before) ps b s e (breaks_off gap none) = absurd (not_the_end
 row_is : {d above row : ℕ} {a : Act} {more : Acts} {p : Piece} {ps qs : List Piece} → IsStatements d above (act row a more) (p ∷ ps) qs → row ≡ line_of p - above
 row_is (and_then h k) = refl
 
-pub row_from_brace : (bytes : List ℕ) (before within ps qs : List Piece) (b : Position) (p : Piece) (d row : ℕ) (a : Act) (more : Acts) → ArePiecesOf bytes (before ++ symbol_at b OpenBrace ∷ (within ++ p ∷ ps))
+pub row_from_brace : (bytes : List ℕ) (before within ps qs : List Piece) (b : Position) (p : Piece) (d row : ℕ) (a : Act) (more : Acts)
+    → ArePiecesOf bytes (before ++ symbol_at b OpenBrace ∷ (within ++ p ∷ ps))
     → IsStatements d (b.line - 1) (act row a more) (p ∷ ps) qs → b.line + row - 1 ≡ line_of p
 row_from_brace bytes before within ps qs b p d row a more spelled statements =
     let t = after_symbol before (within ++ p ∷ ps) b OpenBrace refl spelled in

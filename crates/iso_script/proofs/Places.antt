@@ -1,7 +1,7 @@
 -- Places that are kept.
 use Rattle.std.proofs.Common.{◌≡◌, Bool, true, false, if◌then◌else◌, List, [], ◌∷◌, ◌++◌, Option, Some, None, Result, Ok, Err, append-nil, append_assoc, refl, ap, sym, ◌∙◌}
 use Rattle.iso_script_lexer.specs.Piece.{Piece}
-use Rattle.iso_script_statements.specs.declared.fault.ScriptError.{ScriptError}
+use Rattle.iso_script_statements.specs.Faults.{ScriptError}
 use Rattle.iso_script.specs.Places.{with_places, ParsesPlaced}
 use Rattle.iso_script.specs.declared.place.NodePlace.{NodePlace}
 
@@ -17,11 +17,13 @@ both_kept None own more = refl
 both_kept (Some places) own more = ap Some (append_assoc places own more)
 
 -- some, and then more
-pub kept_more : (old : Option (List NodePlace)) {mid new : Option (List NodePlace)} (own more : List NodePlace) → mid ≡ with_places old own → new ≡ with_places mid more → new ≡ with_places old (own ++ more)
+pub kept_more : (old : Option (List NodePlace)) {mid new : Option (List NodePlace)} (own more : List NodePlace)
+    → mid ≡ with_places old own → new ≡ with_places mid more → new ≡ with_places old (own ++ more)
 kept_more old own more h k = k ∙ ap (λ o. with_places o more) h ∙ both_kept old own more
 
 -- one, which is this, and then more
-pub kept_after : (old : Option (List NodePlace)) {mid new : Option (List NodePlace)} (place other : NodePlace) (more : List NodePlace) → place ≡ other → mid ≡ with_places old (place ∷ []) → new ≡ with_places mid more → new ≡ with_places old (other ∷ more)
+pub kept_after : (old : Option (List NodePlace)) {mid new : Option (List NodePlace)} (place other : NodePlace) (more : List NodePlace)
+    → place ≡ other → mid ≡ with_places old (place ∷ []) → new ≡ with_places mid more → new ≡ with_places old (other ∷ more)
 kept_after old place other more is h k = kept_more old (place ∷ []) more h k ∙ ap (λ p. with_places old (p ∷ more)) is
 
 -- what was read of the pieces that were left is read of all of them

@@ -4,12 +4,11 @@ use Rattle.std.proofs.lemmas.Option.{some_pair_parts}
 use Rattle.iso_script_lexer.proofs.Afters.{after_word-word_at}
 use Rattle.iso_model.specs.ScriptView.{script_of}
 use Rattle.iso_model.specs.declared.script.Script as D
-use Rattle.iso_script_lexer.specs.Lexical.{ArePiecesOf}
+use Rattle.iso_script_lexer.specs.LexicalGrammar.{ArePiecesOf}
 use Rattle.iso_script_lexer.proofs.Pieces.{one_list}
 use Rattle.iso_model.specs.declared.limits.TheConstants.{FILE_BYTES}
-use Rattle.iso_script_statements.specs.Faults.{IsMemory, IsFaultOf, IsUnexpected}
-use Rattle.iso_script_statements.specs.declared.fault.ScriptError.{ScriptError}
-use Rattle.iso_script_statements.specs.declared.fault.ScriptError.TheVariants.{Fault, OutOfMemory}
+use Rattle.iso_script_statements.specs.Faults.{IsMemory, IsFaultOf, IsUnexpected, ScriptError}
+use Rattle.iso_model.specs.declared.input_error.InputError.TheVariants.{Fault, OutOfMemory}
 use Rattle.iso_script_lexer.specs.Piece.{Piece, name_at}
 use Rattle.iso_script_lexer.specs.Tokens.{after_word}
 use Rattle.iso_script_lexer.specs.declared.word.Word.TheVariants as W
@@ -29,7 +28,8 @@ is_left [] some = absurd (some refl)
 is_left (p ∷ ps) some = λ e. cc
 
 -- where something is left, whatever is read goes on with a class
-pub next_class : (cs : List Class) (places : List NodePlace) (first here : List Piece) → ArePlaced IsTopClass cs places first here → here ≢ [] → (all : List Class) (others : List NodePlace) → ArePlaced IsTopClass all others first []
+pub next_class : (cs : List Class) (places : List NodePlace) (first here : List Piece) → ArePlaced IsTopClass cs places first here
+    → here ≢ [] → (all : List Class) (others : List NodePlace) → ArePlaced IsTopClass all others first []
     → (c : Class) × (own : List NodePlace) × (qs : List Piece) × IsTopClass c own here qs
 next_class cs places first here read some all others h =
     let g =
@@ -43,7 +43,8 @@ next_class cs places first here read some all others h =
     some_somewhere : (c : Class) (ps qs : List Piece) → Somewhere IsTopClass c ps qs → left ps ≢ None
     some_somewhere c ps qs h = some_class c h.0 ps qs h.1
 
-pub is_script : (n : List ℕ) (cs : List Class) (places : List NodePlace) (old ps qs : List Piece) → after_word W.Team old ≡ Some ps → name_next ps ≡ Some (n, qs) → ArePlaced IsTopClass cs places qs [] → IsScript (record { team = n; classes = cs }) places old
+pub is_script : (n : List ℕ) (cs : List Class) (places : List NodePlace) (old ps qs : List Piece) → after_word W.Team old ≡ Some ps
+    → name_next ps ≡ Some (n, qs) → ArePlaced IsTopClass cs places qs [] → IsScript (record { team = n; classes = cs }) places old
 is_script n cs places old ps qs word name h =
     let s = named W.Team n old ps qs word name in
     subst (IsScript (record { team = n; classes = cs }) places) (sym s.2) (a_script h)
@@ -60,7 +61,8 @@ script_name s places old ps word none (a_script {r = r} {q = q} {n = n} {ps = re
     cc
 
 -- the classes of a script
-pub script_classes : (n : List ℕ) (s : Script) (places : List NodePlace) (old ps : List Piece) {qs : List Piece} → after_word W.Team old ≡ Some ps → name_next ps ≡ Some (n, qs) → IsScript s places old → (cs : List Class) × ArePlaced IsTopClass cs places qs []
+pub script_classes : (n : List ℕ) (s : Script) (places : List NodePlace) (old ps : List Piece) {qs : List Piece}
+    → after_word W.Team old ≡ Some ps → name_next ps ≡ Some (n, qs) → IsScript s places old → (cs : List Class) × ArePlaced IsTopClass cs places qs []
 script_classes n s places old ps {qs} word name (a_script {r = r} {q = q} {n = k} {cs = cs} {ps = rest} h) =
     let e : Some (name_at q k ∷ rest) ≡ Some ps = sym (after_word-word_at r W.Team (name_at q k ∷ rest)) ∙ word in
     let is : name_at q k ∷ rest ≡ ps = cc in
@@ -79,7 +81,8 @@ of_name (Fault fault) ps qs some none h = record {
   name = λ rs other _. let e : Some qs ≡ Some rs = sym some ∙ other in let same : qs ≡ rs = cc in subst (λ xs. IsUnexpected xs fault.kind) same h;
 }
 
-pub of_rest : (e : ScriptError) (n : List ℕ) (ps : List Piece) {qs rs : List Piece} → after_word W.Team ps ≡ Some qs → name_next qs ≡ Some (n, rs) → UnlessMemory (λ fault. IsOfBeginning ps fault.kind) e
+pub of_rest : (e : ScriptError) (n : List ℕ) (ps : List Piece) {qs rs : List Piece} → after_word W.Team ps ≡ Some qs
+    → name_next qs ≡ Some (n, rs) → UnlessMemory (λ fault. IsOfBeginning ps fault.kind) e
 of_rest OutOfMemory n ps some name = tt
 of_rest (Fault fault) n ps {qs} {rs} some name = record {
   word = λ no. let e : None ≡ Some qs = sym no ∙ some in cc;
@@ -104,7 +107,8 @@ pub found : (r : Result D.Script ScriptError) (bytes : List ℕ) (before after :
 found (Ok x) bytes before after h = record { places = h.0; placed = h.1 }
 found (Err e) bytes before after h = tt
 
-pub answers_only : (r : Result D.Script ScriptError) (bytes : List ℕ) (before after : Option (List NodePlace)) → Finds script_of (ReadsPlaced bytes) r before after → (s : Script) → Reads bytes s → MatchResult r (λ v. script_of v ≡ s) IsMemory
+pub answers_only : (r : Result D.Script ScriptError) (bytes : List ℕ) (before after : Option (List NodePlace))
+    → Finds script_of (ReadsPlaced bytes) r before after → (s : Script) → Reads bytes s → MatchResult r (λ v. script_of v ≡ s) IsMemory
 answers_only (Ok x) bytes before after h s reads = (one_placed h.1 reads.placed).0
 answers_only (Err e) bytes before after h s reads = h s reads.places reads.placed
 

@@ -1,6 +1,6 @@
 -- Pieces are one script at most: each rule has one clause.
 use Rattle.std.proofs.Common.{◌≡◌, ◌≢◌, ℕ, List, [], ◌∷◌, ◌++◌, Option, Some, None, refl, ap, subst, sym, ◌∙◌}
-use Rattle.iso_script_lexer.specs.Lexical.{PiecesAreUnique}
+use Rattle.iso_script_lexer.specs.LexicalGrammar.{PiecesAreUnique}
 use Rattle.iso_script_lexer.specs.Piece.{Piece, name_at, word_at, symbol_at}
 use Rattle.iso_script_lexer.specs.declared.symbol.Symbol.{Symbol}
 use Rattle.iso_script_lexer.specs.declared.word.Word.{Word}
@@ -65,21 +65,24 @@ told_test {more = more} {n = n} {k = k} {at = at} {other = other} {t = t} {place
     subst (λ x. IsTest x n at t places ps rs) (sym same)
     (subst (λ x. IsTest more x at t places ps rs) (sym name) (subst (λ x. IsTest more k x t places ps rs) (sym stands) (subst (λ x. IsTest more k other t places x rs) (sym left) h)))
 
-pub told_class : {d : ℕ} {taken : List (List ℕ)} {marks more : Marks} {n k : List ℕ} {at other : Position} {c : Class} {places : List NodePlace} {ps qs rs : List Piece} → marks ≡ more → n ≡ k → at ≡ other → ps ≡ qs
+pub told_class : {d : ℕ} {taken : List (List ℕ)} {marks more : Marks} {n k : List ℕ} {at other : Position} {c : Class} {places : List NodePlace} {ps qs rs : List Piece}
+    → marks ≡ more → n ≡ k → at ≡ other → ps ≡ qs
     → IsClass d taken more k other c places qs rs → IsClass d taken marks n at c places ps rs
 told_class {d = d} {taken = taken} {more = more} {n = n} {k = k} {at = at} {other = other} {c = c} {places = places} {ps = ps} {rs = rs} same name stands left h =
     subst (λ x. IsClass d taken x n at c places ps rs) (sym same)
     (subst (λ x. IsClass d taken more x at c places ps rs) (sym name)
     (subst (λ x. IsClass d taken more k x c places ps rs) (sym stands) (subst (λ x. IsClass d taken more k other c places x rs) (sym left) h)))
 
-pub one_test : {marks : Marks} {n : List ℕ} {at : Position} {t u : Test} {own other : List NodePlace} {ps qs rs : List Piece} → IsTest marks n at t own ps qs → IsTest marks n at u other ps rs → (t ≡ u) × (own ≡ other) × (qs ≡ rs)
+pub one_test : {marks : Marks} {n : List ℕ} {at : Position} {t u : Test} {own other : List NodePlace} {ps qs rs : List Piece}
+    → IsTest marks n at t own ps qs → IsTest marks n at u other ps rs → (t ≡ u) × (own ≡ other) × (qs ≡ rs)
 one_test {marks = marks} {n = n} {at = at} (a_test {body = body} h k) (a_test {display = display} {body = other} {rs = rs} i j) =
     let u = one_display h i in
     let v = one_block k (subst (λ ps. IsBlock other ps rs) (sym u.1) j) in
     (ap (λ t. test marks n t body) u.0 ∙ ap (test marks n display) v.0, ap (λ (b : Position). test_place at b.line ∷ []) (same_position u.1), v.1)
 
 mutual
-  pub one_member : {d : ℕ} {taken : List (List ℕ)} {m n : Member} {own other : List NodePlace} {ps qs rs : List Piece} → IsMember d taken m own ps qs → IsMember d taken n other ps rs → (m ≡ n) × (own ≡ other) × (qs ≡ rs)
+  pub one_member : {d : ℕ} {taken : List (List ℕ)} {m n : Member} {own other : List NodePlace} {ps qs rs : List Piece}
+      → IsMember d taken m own ps qs → IsMember d taken n other ps rs → (m ≡ n) × (own ≡ other) × (qs ≡ rs)
   one_member (as_test h fit k) (as_test i also j) =
       let u = one_marks _ _ _ _ _ h i in
       let e = same_named u.1 in
@@ -93,7 +96,8 @@ mutual
   one_member (as_test h fit k) (as_class i j) = absurd (not_one_word (same_named (one_marks _ _ _ _ _ h i).1).0)
   one_member (as_class h k) (as_test i fit j) = absurd (not_one_word (sym (same_named (one_marks _ _ _ _ _ h i).1).0))
 
-  pub one_class : {d : ℕ} {taken : List (List ℕ)} {marks : Marks} {n : List ℕ} {at : Position} {c b : Class} {own other : List NodePlace} {ps qs rs : List Piece} → IsClass d taken marks n at c own ps qs → IsClass d taken marks n at b other ps rs
+  pub one_class : {d : ℕ} {taken : List (List ℕ)} {marks : Marks} {n : List ℕ} {at : Position} {c b : Class} {own other : List NodePlace} {ps qs rs : List Piece}
+      → IsClass d taken marks n at c own ps qs → IsClass d taken marks n at b other ps rs
       → (c ≡ b) × (own ≡ other) × (qs ≡ rs)
   one_class {d = d} {taken = taken} {marks = marks} {n = n} {at = at} (a_class {variables = variables} {blocks = blocks} {ms = ms} {places = places} h k l m) (a_class {display = t} {variables = vs} {blocks = bs} {ms = ns} {places = others} {rs = rs} {ss = ss} {ts = ts} a b c e) =
       let u = one_display h a in
@@ -106,10 +110,12 @@ mutual
         x.2,
       )
 
-  pub one_content : {d : ℕ} {taken : List (List ℕ)} {ms ns : Members} {own other : List NodePlace} {ps qs rs : List Piece} → HasMembers d taken ms own ps qs → HasMembers d taken ns other ps rs → (ms ≡ ns) × (own ≡ other) × (qs ≡ rs)
+  pub one_content : {d : ℕ} {taken : List (List ℕ)} {ms ns : Members} {own other : List NodePlace} {ps qs rs : List Piece}
+      → HasMembers d taken ms own ps qs → HasMembers d taken ns other ps rs → (ms ≡ ns) × (own ≡ other) × (qs ≡ rs)
   one_content (has_members h some distinct) (has_members k also too) = one_members h k
 
-  one_members : {d : ℕ} {taken : List (List ℕ)} {ms ns : Members} {own other : List NodePlace} {ps qs rs : List Piece} → IsMembers d taken ms own ps qs → IsMembers d taken ns other ps rs → (ms ≡ ns) × (own ≡ other) × (qs ≡ rs)
+  one_members : {d : ℕ} {taken : List (List ℕ)} {ms ns : Members} {own other : List NodePlace} {ps qs rs : List Piece}
+      → IsMembers d taken ms own ps qs → IsMembers d taken ns other ps rs → (ms ≡ ns) × (own ≡ other) × (qs ≡ rs)
   one_members closed closed = (refl, refl, refl)
   one_members {d = d} {taken = taken} (and_then {own = own} {more = mine} h hs) (and_then {ms = more} {own = others} {more = rest} {rs = rs} k ks) =
       let u = one_member h k in

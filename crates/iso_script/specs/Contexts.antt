@@ -1,7 +1,7 @@
 -- What stands before a place of a script.
 use Rattle.std.specs.Prelude.{ℕ, ◌-◌, List, [], ◌∷◌, ◌++◌, ◌≡◌, Option, None, length, fold, take}
 use Rattle.std.specs.Option.{option_to_list}
-use Rattle.iso_script_lexer.specs.Lexical.{ArePiecesOf}
+use Rattle.iso_script_lexer.specs.LexicalGrammar.{ArePiecesOf}
 use Rattle.iso_script_lexer.specs.Piece.{Piece, symbol_at, tail}
 use Rattle.iso_script_lexer.specs.Tokens.{front}
 use Rattle.iso_script_lexer.specs.declared.symbol.Symbol.TheVariants.{OpenBrace, CloseBrace}

@@ -6,7 +6,7 @@ use Rattle.std.specs.Global.{Global}
 use Rattle.std.specs.Prelude.{ℕ, suc, ◌≤◌, List, [], ◌∷◌, ◌++◌, ◌≡◌, ◌≢◌, Option, Some, None, Vec, true, false, length, map}
 use Rattle.std.specs.List.{IsDistinct}
 use Rattle.std.specs.Str.{bytes_eq}
-use Rattle.iso_script_lexer.specs.Lexical.{ArePiecesOf}
+use Rattle.iso_script_lexer.specs.LexicalGrammar.{ArePiecesOf}
 use Rattle.iso_script_lexer.specs.Piece.{Piece, name_at, word_at, symbol_at}
 use Rattle.iso_script_lexer.specs.declared.symbol.Symbol.TheVariants.{OpenBrace, CloseBrace}
 use Rattle.iso_script_lexer.specs.declared.word.Word.TheVariants as W
@@ -33,12 +33,20 @@ use Rattle.iso_script_lexer.specs.declared.token.Position.{Position}
 
 -- a test, from its marks, its name, its display text and its body
 abbrev pub test : Marks → List ℕ → Option (List ℕ) → Acts → Test
-test marks n display body = record { name = n; display = display; mode = marks.mode; head = record { marks = marks.keys; disabled = marks.disabled; body = body } }
+test marks n display body = record {
+  name = n;
+  display = display;
+  mode = marks.mode;
+  head = record { marks = marks.keys; disabled = marks.disabled; body = body };
+}
 
 -- a test after its name, which stands at this position
-pub data IsTest : (marks : Marks) (n : List ℕ) (at : Position) → Test → List NodePlace → List Piece → List Piece → Type 0 where
-  a_test : {at b : Position} {marks : Marks} {n : List ℕ} {display : Option (List ℕ)} {body : Acts} {ps qs rs : List Piece}
-      → IsDisplayed display ps (symbol_at b OpenBrace ∷ qs) → IsBlock body (symbol_at b OpenBrace ∷ qs) rs
+pub data IsTest : (marks : Marks) (n : List ℕ) (at : Position) → Test → List NodePlace → List Piece
+    → List Piece → Type 0 where
+  a_test : {at b : Position} {marks : Marks} {n : List ℕ} {display : Option (List ℕ)} {body : Acts}
+      {ps qs rs : List Piece}
+      → IsDisplayed display ps (symbol_at b OpenBrace ∷ qs)
+      → IsBlock body (symbol_at b OpenBrace ∷ qs) rs
       → IsTest marks n at (test marks n display body) (test_place at b.line ∷ []) ps rs
 
 -- the statements of a lifecycle block: one that is not written has none
@@ -85,14 +93,19 @@ names_of (member m ms) = name_of m ∷ names_of ms
 mutual
   -- A test or a class: marks, its word, its name, and what follows. The marks of a test have to fit
   -- one.
-  pub data IsMember : (d : ℕ) (taken : List (List ℕ)) → Member → List NodePlace → List Piece → List Piece → Type 0 where
-    as_test : {d : ℕ} {r q : Position} {taken : List (List ℕ)} {marks : Marks} {n : List ℕ} {t : Test} {places : List NodePlace}
+  pub data IsMember : (d : ℕ) (taken : List (List ℕ)) → Member → List NodePlace → List Piece
+      → List Piece → Type 0 where
+    as_test : {d : ℕ} {r q : Position} {taken : List (List ℕ)} {marks : Marks} {n : List ℕ}
+        {t : Test} {places : List NodePlace}
         {ps qs rs : List Piece}
-        → IsMarks marks ps (word_at r W.Test ∷ name_at q n ∷ qs) → fits_test marks ≡ true → IsTest marks n q t places qs rs
+        → IsMarks marks ps (word_at r W.Test ∷ name_at q n ∷ qs) → fits_test marks ≡ true
+        → IsTest marks n q t places qs rs
         → IsMember d taken (test_member t) places ps rs
-    as_class : {d : ℕ} {r q : Position} {taken : List (List ℕ)} {marks : Marks} {n : List ℕ} {c : Class} {places : List NodePlace}
+    as_class : {d : ℕ} {r q : Position} {taken : List (List ℕ)} {marks : Marks} {n : List ℕ}
+        {c : Class} {places : List NodePlace}
         {ps qs rs : List Piece}
-        → IsMarks marks ps (word_at r W.Class ∷ name_at q n ∷ qs) → IsClass d taken marks n q c places qs rs
+        → IsMarks marks ps (word_at r W.Class ∷ name_at q n ∷ qs)
+        → IsClass d taken marks n q c places qs rs
         → IsMember (suc d) taken (class_member c) places ps rs
 
   -- A class after its name, which stands at this position. A class in it can take no name of its
@@ -100,31 +113,39 @@ mutual
   pub data IsClass : (d : ℕ) (taken : List (List ℕ)) (marks : Marks) (n : List ℕ) (at : Position)
       → Class → List NodePlace → List Piece → List Piece → Type 0 where
     a_class : {d : ℕ} {at b : Position} {taken : List (List ℕ)} {marks : Marks} {n : List ℕ}
-        {display : Option (List ℕ)} {variables : Variables} {blocks : Blocks} {ms : Members} {places : List NodePlace}
+        {display : Option (List ℕ)} {variables : Variables} {blocks : Blocks} {ms : Members}
+        {places : List NodePlace}
         {ps qs rs ss ts : List Piece}
         → IsDisplayed display ps (symbol_at b OpenBrace ∷ qs)
         → IsVariables taken variables qs rs
         → IsBlocks blocks rs ss
         → HasMembers d (V.names_of variables ++ taken) ms places ss ts
-        → IsClass d taken marks n at (class (title marks n display variables blocks) ms) (class_place at blocks ∷ places) ps ts
+        → IsClass d taken marks n at (class (title marks n display variables blocks) ms)
+        (class_place at blocks ∷ places) ps ts
 
   -- the members of a class, and the brace that closes them: one at least, and no two of one name
-  pub data HasMembers : (d : ℕ) (taken : List (List ℕ)) → Members → List NodePlace → List Piece → List Piece → Type 0 where
-    has_members : {d : ℕ} {taken : List (List ℕ)} {ms : Members} {places : List NodePlace} {ps qs : List Piece}
+  pub data HasMembers : (d : ℕ) (taken : List (List ℕ)) → Members → List NodePlace → List Piece
+      → List Piece → Type 0 where
+    has_members : {d : ℕ} {taken : List (List ℕ)} {ms : Members} {places : List NodePlace}
+        {ps qs : List Piece}
         → IsMembers d taken ms places ps qs → ms ≢ no_members → IsDistinct bytes_eq (names_of ms)
         → HasMembers d taken ms places ps qs
 
   -- any members, and the brace that closes them
-  pub data IsMembers : (d : ℕ) (taken : List (List ℕ)) → Members → List NodePlace → List Piece → List Piece → Type 0 where
+  pub data IsMembers : (d : ℕ) (taken : List (List ℕ)) → Members → List NodePlace → List Piece
+      → List Piece → Type 0 where
     closed : {d : ℕ} {r : Position} {taken : List (List ℕ)} {ps : List Piece}
         → IsMembers d taken no_members [] (symbol_at r CloseBrace ∷ ps) ps
-    and_then : {d : ℕ} {taken : List (List ℕ)} {m : Member} {ms : Members} {own more : List NodePlace} {ps qs rs : List Piece}
-        → IsMember d taken m own ps qs → IsMembers d taken ms more qs rs → IsMembers d taken (member m ms) (own ++ more) ps rs
+    and_then : {d : ℕ} {taken : List (List ℕ)} {m : Member} {ms : Members}
+        {own more : List NodePlace} {ps qs rs : List Piece}
+        → IsMember d taken m own ps qs → IsMembers d taken ms more qs rs
+        → IsMembers d taken (member m ms) (own ++ more) ps rs
 
 -- a member whose name is none of these
 abbrev pub IsNewMember : (names : List (List ℕ)) (d : ℕ) (taken : List (List ℕ))
     → Member → List NodePlace → List Piece → List Piece → Type 0
-IsNewMember names d taken m places ps qs = IsMember d taken m places ps qs × (is_among names (name_of m) ≡ false)
+IsNewMember names d taken m places ps qs =
+    IsMember d taken m places ps qs × (is_among names (name_of m) ≡ false)
 
 -- what the members of a class stand for
 abbrev pub members_in : Vec M.Member Global → Members
@@ -140,7 +161,8 @@ IsTopClass c = IsMember CLASS_DEPTH [] (class_member c)
 
 -- a script: a team and its classes, up to the end
 pub data IsScript : Script → List NodePlace → List Piece → Type 0 where
-  a_script : {r q : Position} {n : List ℕ} {cs : List Class} {places : List NodePlace} {ps : List Piece}
+  a_script : {r q : Position} {n : List ℕ} {cs : List Class} {places : List NodePlace}
+      {ps : List Piece}
       → ArePlaced IsTopClass cs places ps []
       → IsScript (record { team = n; classes = cs }) places (word_at r W.Team ∷ name_at q n ∷ ps)
 

@@ -8,7 +8,7 @@ use Rattle.iso_script_lexer.specs.Piece.{Piece, word_at, text_at}
 use Rattle.iso_script_lexer.specs.Tokens.{after_word}
 use Rattle.iso_script_lexer.specs.declared.word.Word.{Word}
 use Rattle.iso_script_lexer.specs.declared.word.Word.TheVariants as W
-use Rattle.iso_model.specs.Keys.{global_key}
+use Rattle.iso_model.specs.ResourceKeys.{global_key}
 use Rattle.iso_model.specs.Targets.{is_for_children}
 use Rattle.iso_model.specs.declared.access.Access.TheVariants.{Read, Write}
 use Rattle.iso_model.specs.declared.heads.Mark.{Mark}
@@ -50,7 +50,8 @@ key_fault k =
 
 -- a key that a mark may declare
 pub data IsKeyText : List ℕ → List Piece → List Piece → Type 0 where
-  a_key : {q : Position} {k : List ℕ} {ps : List Piece} → key_fault k ≡ None → IsKeyText k (text_at q k ∷ ps) ps
+  a_key : {q : Position} {k : List ℕ} {ps : List Piece} → key_fault k ≡ None
+      → IsKeyText k (text_at q k ∷ ps) ps
 
 -- what a key is declared for: the children of a class, where their word is next
 pub data IsTarget : Target → List Piece → List Piece → Type 0 where
@@ -68,13 +69,16 @@ pub data Marking : Type 0 where
 pub data IsMarked : MarkWord → Marking → List Piece → List Piece → Type 0 where
   a_mode : {m : ExecutionMode} {ps : List Piece} → IsMarked (Mode m) (runs m) ps ps
   an_isolation : {ps : List Piece} → IsMarked Isolated isolates ps ps
-  a_disabling : {reason : List ℕ} {ps qs : List Piece} → IsDisplay reason ps qs → IsMarked Disabled (disables reason) ps qs
-  a_declaration : {a : _} {t : Target} {k : List ℕ} {ps qs rs : List Piece} → IsTarget t ps qs → IsKeyText k qs rs
+  a_disabling : {reason : List ℕ} {ps qs : List Piece} → IsDisplay reason ps qs
+      → IsMarked Disabled (disables reason) ps qs
+  a_declaration : {a : _} {t : Target} {k : List ℕ} {ps qs rs : List Piece} → IsTarget t ps qs
+      → IsKeyText k qs rs
       → IsMarked (Access a) (declares (record { access = a; target = t; key = k })) ps rs
 
 -- a mark: its word, and what follows it
 pub data IsMarking : Marking → List Piece → List Piece → Type 0 where
-  a_mark : {r : Position} {w : Word} {meant : MarkWord} {x : Marking} {ps qs : List Piece} → mark_word w ≡ Some meant
+  a_mark : {r : Position} {w : Word} {meant : MarkWord} {x : Marking} {ps qs : List Piece}
+      → mark_word w ≡ Some meant
       → IsMarked meant x ps qs → IsMarking x (word_at r w ∷ ps) qs
 
 -- what a class or test has of its marks
@@ -85,7 +89,8 @@ pub record Marks : Type 0 where
   pub keys : List Mark
 
 abbrev pub marks_of : D.Marks → Marks
-marks_of m = record { mode = m.mode; isolated = m.isolated; disabled = m.disabled; keys = m.keys.items }
+marks_of m =
+    record { mode = m.mode; isolated = m.isolated; disabled = m.disabled; keys = m.keys.items }
 
 -- whether a test may have these marks: none isolates it, and none is for the children of a class
 abbrev pub fits_test : Marks → Bool
@@ -132,5 +137,6 @@ pub record IsMarks (marks : Marks) (ps qs : List Piece) : Type 0 where
 pub record Adds (x : Marking) (old new : Marks) : Type 0 where
   pub mode : option_to_list old.mode ++ option_to_list (mode_in x) ≡ option_to_list new.mode
   pub isolated : isolation old.isolated ++ option_to_list (isolation_in x) ≡ isolation new.isolated
-  pub disabled : option_to_list old.disabled ++ option_to_list (reason_in x) ≡ option_to_list new.disabled
+  pub disabled : option_to_list old.disabled ++ option_to_list (reason_in x)
+      ≡ option_to_list new.disabled
   pub keys : old.keys ++ option_to_list (key_in x) ≡ new.keys

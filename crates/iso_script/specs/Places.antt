@@ -8,8 +8,7 @@ use Rattle.iso_script.specs.declared.place.NodePlace.{NodePlace}
 use Rattle.iso_script.specs.declared.place.Places as D
 use Rattle.iso_script_lexer.specs.Piece.{Piece}
 use Rattle.iso_script_lexer.specs.declared.token.Position.{Position}
-use Rattle.iso_script_statements.specs.Faults.{IsMemory}
-use Rattle.iso_script_statements.specs.declared.fault.ScriptError.{ScriptError}
+use Rattle.iso_script_statements.specs.Faults.{IsMemory, ScriptError}
 
 -- the place of a test whose name stands here, and whose body begins on this line
 abbrev pub test_place : (name : Position) → (line : ℕ) → NodePlace
@@ -61,7 +60,8 @@ Finds view Is result old new =
 
 -- The same of what is read of pieces: `Is x places ps qs` says that ps are the pieces of x, and
 -- then qs, and that x has these places.
-abbrev pub ParsesPlaced : {X A : Type 0} → (X → A) → (A → List NodePlace → List Piece → List Piece → Type 0)
+abbrev pub ParsesPlaced : {X A : Type 0} → (X → A)
+    → (A → List NodePlace → List Piece → List Piece → Type 0)
     → Result X ScriptError → (ps qs : List Piece) → (old new : Option (List NodePlace)) → Type 0
 ParsesPlaced view Is result ps qs old new =
     MatchResult result

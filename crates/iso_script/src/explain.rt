@@ -10,9 +10,9 @@ ghost use Rattle.iso_script.specs.Refusals.{IfRefused};
 ghost use Rattle.iso_script.specs.declared.explain.Unread.TheVariants.{OutOfMemory};
 
 use crate::context::open_brace;
+use crate::doubles::{Twice, first_of};
 use crate::place::Places;
 use crate::reader::{PlacedScript, script};
-use crate::twice::{Twice, first_of};
 use iso_model::limits::FILE_BYTES;
 use iso_script_lexer::token::Position;
 use iso_script_statements::fault::{ScriptError, ScriptFault, ScriptFaultKind};
@@ -50,14 +50,18 @@ pub enum Unread<'a> {
 pub fn read_or_why(alloc: Global, bytes: &[u8], are_kept: bool) -> Result<PlacedScript, Unread<'_>>
     // What is read is the script of the bytes.
     ensures found { IfOk result (λ p. Reads bytes.now (script_of p.script)) }
-    ensures placed { are_kept ≡ true → IfOk result (λ p. ReadsPlaced bytes.now (script_of p.script) p.places.items) }
+    ensures placed { are_kept ≡ true
+        → IfOk result (λ p. ReadsPlaced bytes.now (script_of p.script) p.places.items) }
     // The script of the bytes is read, unless memory runs out.
-    ensures only { (s : S.Script) → Reads bytes.now s → MatchResult result (λ p. script_of p.script ≡ s) (λ e. e ≡ OutOfMemory) }
+    ensures only { (s : S.Script) → Reads bytes.now s
+        → MatchResult result (λ p. script_of p.script ≡ s) (λ e. e ≡ OutOfMemory) }
     // The fault is that of the bytes.
     ensures fault { IfErr result (IfRefused (λ e. HasScriptFault bytes.now e.fault)) }
     // The brace is the innermost that is open before the place of the fault.
-    ensures brace { length bytes.now ≤ FILE_BYTES → IfErr result (IfRefused (λ e. IsOpenAt bytes.now (place_of e.fault) e.brace)) }
-    ensures too_long { FILE_BYTES < length bytes.now → IfErr result (λ u. IfRefused (λ e. e.fault ≡ too_long) u × (u ≢ OutOfMemory)) }
+    ensures brace { length bytes.now ≤ FILE_BYTES
+        → IfErr result (IfRefused (λ e. IsOpenAt bytes.now (place_of e.fault) e.brace)) }
+    ensures too_long { FILE_BYTES < length bytes.now
+        → IfErr result (λ u. IfRefused (λ e. e.fault ≡ too_long) u × (u ≢ OutOfMemory)) }
 {
     if bytes.len() > FILE_BYTES as usize {
         return Err(Unread::Refused(longer()));

@@ -3,6 +3,7 @@ ghost use Rattle.std.specs.Prelude.{◌≡◌, ◌<◌, List, [], IfErr, IfOk, M
 ghost use Rattle.iso_script.specs.Readings.{ArePlaced};
 ghost use Rattle.iso_model.specs.Scripts as S;
 ghost use Rattle.iso_model.specs.ScriptView.{script_of};
+ghost use Rattle.iso_model.specs.declared.input_error.InputError.TheVariants.{Fault};
 ghost use Rattle.iso_model.specs.declared.limits.TheConstants.{FILE_BYTES};
 ghost use Rattle.iso_script_statements.specs.Faults.{IsMemory};
 ghost use Rattle.iso_script.specs.Faults.{HasScriptFault, IsOfBeginning, UnlessMemory, too_long};
@@ -17,7 +18,7 @@ use iso_model::script::{Class, Script};
 use iso_model::text::Text;
 use iso_script_lexer::token::Position;
 use iso_script_lexer::word::Word;
-use iso_script_statements::fault::{ScriptError, ScriptFaultKind};
+use iso_script_statements::fault::{ScriptError, ScriptFault, ScriptFaultKind};
 use iso_script_statements::parser::Parser;
 use std::alloc::Global;
 
@@ -40,8 +41,9 @@ pub fn read_script(alloc: Global, bytes: &[u8]) -> Result<Script, ScriptError>
     // What is read is the script of the bytes.
     ensures found { IfOk result (λ s. Reads bytes.now (script_of s)) }
     // The script of the bytes is read, unless memory runs out.
-    ensures only { (s : S.Script) → Reads bytes.now s → MatchResult result (λ v. script_of v ≡ s) IsMemory }
-    ensures too_long { FILE_BYTES < length bytes.now → result ≡ Err (ScriptError.Fault too_long) }
+    ensures only { (s : S.Script) → Reads bytes.now s
+        → MatchResult result (λ v. script_of v ≡ s) IsMemory }
+    ensures too_long { FILE_BYTES < length bytes.now → result ≡ Err (Fault too_long) }
     // A fault is that of the bytes.
     ensures fault { IfErr result (UnlessMemory (HasScriptFault bytes.now)) }
 {
@@ -57,7 +59,7 @@ pub fn read_placed(alloc: Global, bytes: &[u8]) -> Result<PlacedScript, ScriptEr
     // The script of the bytes is read, with these places, unless memory runs out.
     ensures only { (s : S.Script) (places : List NodePlace) → ReadsPlaced bytes.now s places
         → MatchResult result (λ p. (script_of p.script ≡ s) × (p.places.items ≡ places)) IsMemory }
-    ensures too_long { FILE_BYTES < length bytes.now → result ≡ Err (ScriptError.Fault too_long) }
+    ensures too_long { FILE_BYTES < length bytes.now → result ≡ Err (Fault too_long) }
     // A fault is that of the bytes.
     ensures fault { IfErr result (UnlessMemory (HasScriptFault bytes.now)) }
 {
@@ -71,13 +73,14 @@ pub fn read_placed(alloc: Global, bytes: &[u8]) -> Result<PlacedScript, ScriptEr
 
 /// Reads a script, and adds the places of its nodes to those that are kept.
 fn read(alloc: Global, bytes: &[u8], places: &mut Places) -> Result<Script, ScriptError>
-    ensures read { Finds script_of (ReadsPlaced bytes.now) result (kept places.old) (kept places.new) }
-    ensures too_long { FILE_BYTES < length bytes.now → result ≡ Err (ScriptError.Fault too_long) }
+    ensures read { Finds script_of (ReadsPlaced bytes.now) result (kept places.old)
+        (kept places.new) }
+    ensures too_long { FILE_BYTES < length bytes.now → result ≡ Err (Fault too_long) }
     ensures fault { IfErr result (UnlessMemory (HasScriptFault bytes.now)) }
 {
     if bytes.len() > FILE_BYTES as usize {
         let start = Position { line: 1, column: 1 };
-        return Err(ScriptError::fault(ScriptFaultKind::TooLong, start));
+        return Err(ScriptError::Fault(ScriptFault::at(ScriptFaultKind::TooLong, start)));
     }
     let mut parser = Parser::new(alloc, bytes);
     script(&mut parser, places)
@@ -85,8 +88,10 @@ fn read(alloc: Global, bytes: &[u8], places: &mut Places) -> Result<Script, Scri
 
 /// A script, up to the end.
 pub(crate) fn script(parser: &mut Parser<'_>, places: &mut Places) -> Result<Script, ScriptError>
-    ensures read { Finds script_of (λ s here. IsScript s here parser.old.lexer) result (kept places.old) (kept places.new) }
-    ensures begins { IfErr result (UnlessMemory (λ fault. IsOfBeginning parser.old.lexer fault.kind)) }
+    ensures read { Finds script_of (λ s here. IsScript s here parser.old.lexer) result
+        (kept places.old) (kept places.new) }
+    ensures begins { IfErr result
+        (UnlessMemory (λ fault. IsOfBeginning parser.old.lexer fault.kind)) }
 {
     parser.expect_word(Word::Team)?;
     let name = parser.name()?;

@@ -4,8 +4,8 @@ use Rattle.std.proofs.lemmas.Bool.Decides.{nat_tests}
 use Rattle.std.specs.List.{prefix_len}
 use Rattle.iso_script_lexer.specs.Piece.{Piece, bad_at}
 use Rattle.iso_script_lexer.specs.Spelling.{is_letter, is_digit, in_name, is_blank}
-use Rattle.iso_script_lexer.specs.Lexical.{Spells}
-use Rattle.iso_script_lexer.specs.Misspellings.{token_fault}
+use Rattle.iso_script_lexer.specs.LexicalGrammar.{Spells}
+use Rattle.iso_script_lexer.specs.TokenFaults.{token_fault}
 use Rattle.iso_script_lexer.specs.declared.token.TokenFault.{TokenFault}
 use Rattle.iso_script_lexer.specs.Scan.{gap_from, Front, after_gap, name_piece, number_piece, text_piece, symbol_piece, symbol_front, double_symbol, single_symbol, longest_symbol, quoted_length, front_of}
 use Rattle.iso_script_lexer.specs.declared.token.Position.{Position}
@@ -48,6 +48,7 @@ pub front_of-quote : (r : Position) (bs : List ℕ) → front_of r (34 ∷ bs) �
 unfolding front_of
 front_of-quote r bs = refl
 
-pub front_of-other : (r : Position) (b : ℕ) (bs : List ℕ) → is_letter b ≡ false → is_digit b ≡ false → nat_eq b 34 ≡ false → front_of r (b ∷ bs) ≡ symbol_piece r b (longest_symbol (double_symbol b bs) (single_symbol b) bs)
+pub front_of-other : (r : Position) (b : ℕ) (bs : List ℕ) → is_letter b ≡ false → is_digit b ≡ false
+    → nat_eq b 34 ≡ false → front_of r (b ∷ bs) ≡ symbol_piece r b (longest_symbol (double_symbol b bs) (single_symbol b) bs)
 unfolding front_of symbol_front
 front_of-other r b bs l d q = rw (l, d, q) refl

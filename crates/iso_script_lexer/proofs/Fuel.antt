@@ -3,7 +3,7 @@ use Rattle.std.proofs.Common.{◌≡◌, ℕ, zero, suc, ◌+◌, ◌<◌, ◌�
 use Rattle.std.specs.List.{prefix_len}
 use Rattle.iso_script_lexer.specs.Piece.{Piece}
 use Rattle.iso_script_lexer.specs.Spelling.{is_letter, is_digit, in_name, is_blank, in_comment, begins, begins_in}
-use Rattle.iso_script_lexer.specs.Lexical.{decimal_value}
+use Rattle.iso_script_lexer.specs.LexicalGrammar.{decimal_value}
 use Rattle.iso_script_lexer.specs.Scan.{gap_from, Front, after_gap, double_symbol, single_symbol, longest_symbol, symbol_front, symbol_piece, name_piece, number_piece, text_piece, quoted_length, front_of, front_on, then_pieces, pieces, pieces_of}
 use Rattle.iso_script_lexer.specs.Positions.{Line, line_after, position}
 use Rattle.iso_script_lexer.specs.Piece.{tail}
@@ -77,7 +77,8 @@ front_shorter row (b ∷ bs) =
     digit true e = number_shorter row b bs e
     digit false e = other
 
-    letter : (t : Bool) → is_letter b ≡ t → Shorter (suc (length bs)) (cond t (name_piece row (prefix_len in_name (b ∷ bs)) (b ∷ bs)) (cond (is_digit b) (number_piece row (prefix_len is_digit (b ∷ bs)) (b ∷ bs)) (cond (nat_eq b 34) (text_piece row (quoted_length false 4096 bs) bs) (symbol_piece row b (symbol_front (b ∷ bs))))))
+    letter : (t : Bool) → is_letter b ≡ t
+        → Shorter (suc (length bs)) (cond t (name_piece row (prefix_len in_name (b ∷ bs)) (b ∷ bs)) (cond (is_digit b) (number_piece row (prefix_len is_digit (b ∷ bs)) (b ∷ bs)) (cond (nat_eq b 34) (text_piece row (quoted_length false 4096 bs) bs) (symbol_piece row b (symbol_front (b ∷ bs))))))
     letter true e = name_shorter row b bs e
     letter false e = digit (is_digit b) refl
 
@@ -87,7 +88,8 @@ enough zero m row bs h k = absurd (omega arith)
 enough (suc n) zero row bs h k = absurd (omega arith)
 enough (suc n) (suc m) row bs h k = go (enough n m) (front_on row bs) (front_shorter (position row bs) bs)
   where
-    go : ((row : Line) (cs : List ℕ) → length cs < n → length cs < m → pieces n (row, cs) ≡ pieces m (row, cs)) → (f : Front) → Shorter (length bs) f → then_pieces f (λ rest. pieces n (after_gap false row rest)) ≡ then_pieces f (λ rest. pieces m (after_gap false row rest))
+    go : ((row : Line) (cs : List ℕ) → length cs < n → length cs < m → pieces n (row, cs) ≡ pieces m (row, cs)) → (f : Front)
+        → Shorter (length bs) f → then_pieces f (λ rest. pieces n (after_gap false row rest)) ≡ then_pieces f (λ rest. pieces m (after_gap false row rest))
     go more None s = refl
     go more (Some f) s = let j = after_gap_shorter false row f.1 in ap (λ ps. f.0 ∷ ps) (more (after_gap false row f.1).0 (after_gap false row f.1).1 (omega arith) (omega arith))
 

@@ -5,7 +5,7 @@ use Rattle.std.specs.List.{AllByRecursion}
 use Rattle.iso_script_lexer.specs.Spelling.{is_blank, in_comment, begins}
 use Rattle.iso_script_lexer.specs.Positions.{Line, line_after}
 use Rattle.iso_script_lexer.specs.Scan.{gap_from, after_gap}
-use Rattle.iso_script_lexer.specs.Lexical.{EndsLine, IsGap, no_gap, a_blank, a_line, a_comment}
+use Rattle.iso_script_lexer.specs.LexicalGrammar.{EndsLine, IsGap, no_gap, a_blank, a_line, a_comment}
 use Rattle.iso_script_lexer.proofs.Decisions.{by_test, equal, both}
 
 abbrev pub InComment : List ℕ → Type 0

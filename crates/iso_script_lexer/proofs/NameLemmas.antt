@@ -5,7 +5,7 @@ use Rattle.std.proofs.lemmas.List.{take-append-drop, length-take}
 use Rattle.std.proofs.Math.Seq.{take-append_seam, drop-append_seam}
 use Rattle.std.specs.List.{prefix_len, AllByRecursion}
 use Rattle.iso_script_lexer.specs.Spelling.{is_letter, in_name, spelling, word_of, begins_in}
-use Rattle.iso_script_lexer.specs.Lexical.{EndsName, IsIdentifier, Spells, spells_name, spells_word}
+use Rattle.iso_script_lexer.specs.LexicalGrammar.{EndsName, IsIdentifier, Spells, spells_name, spells_word}
 use Rattle.iso_script_lexer.specs.Scan.{name_or_word, name_piece, front_of}
 use Rattle.iso_script_lexer.specs.declared.word.Word.{Word}
 use Rattle.iso_script_lexer.proofs.Decisions.{by_test}

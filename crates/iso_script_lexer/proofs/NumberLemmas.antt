@@ -6,8 +6,8 @@ use Rattle.std.proofs.Math.Seq.{take-append_seam, drop-append_seam}
 use Rattle.std.specs.List.{prefix_len}
 use Rattle.iso_script_lexer.specs.Piece.{number_at}
 use Rattle.iso_script_lexer.specs.Spelling.{is_letter, is_digit, in_name, begins_in}
-use Rattle.iso_script_lexer.specs.Lexical.{Ends, EndsName, IsNumeral, decimal_value, spells_number}
-use Rattle.iso_script_lexer.specs.Misspellings.{number_fault, token_fault}
+use Rattle.iso_script_lexer.specs.LexicalGrammar.{Ends, EndsName, IsNumeral, decimal_value, spells_number}
+use Rattle.iso_script_lexer.specs.TokenFaults.{number_fault, token_fault}
 use Rattle.iso_script_lexer.specs.declared.token.TokenFault.TheVariants.{BadToken, NumberTooBig}
 use Rattle.iso_script_lexer.specs.Scan.{number_piece, front_of}
 use Rattle.iso_script_lexer.proofs.Decisions.{by_test}

@@ -5,11 +5,11 @@ use Rattle.std.proofs.lemmas.Option.{some_pair_parts}
 use Rattle.std.specs.List.{AllByRecursion}
 use Rattle.iso_script_lexer.specs.Piece.{Piece, name_at, number_at, text_at, word_at, symbol_at, bad_at}
 use Rattle.iso_script_lexer.specs.Spelling.{begins, is_blank, is_letter, is_digit, is_printable, in_comment, spelling}
-use Rattle.iso_script_lexer.specs.Misspellings.{begins_comment, token_fault, fault_of}
+use Rattle.iso_script_lexer.specs.TokenFaults.{begins_comment, token_fault, fault_of}
 use Rattle.iso_script_lexer.specs.Text.{written}
 use Rattle.iso_script_lexer.specs.declared.token.TokenFault.{TokenFault}
 use Rattle.iso_script_lexer.specs.declared.token.TokenFault.TheVariants.{BadByte, BadToken}
-use Rattle.iso_script_lexer.specs.Lexical.{decimal_value, EndsLine, IsIdentifier, IsGap, no_gap, a_blank, a_line, a_comment, Spells, spells_name, spells_word, spells_number, spells_text, spells_symbol, IsNoToken, HasPieces, ends, goes_on, breaks_off}
+use Rattle.iso_script_lexer.specs.LexicalGrammar.{decimal_value, EndsLine, IsIdentifier, IsGap, no_gap, a_blank, a_line, a_comment, Spells, spells_name, spells_word, spells_number, spells_text, spells_symbol, IsNoToken, HasPieces, ends, goes_on, breaks_off}
 use Rattle.iso_script_lexer.specs.Scan.{gap_from, Front, no_token, after_gap, name_or_word, text_piece, symbol_front, quoted_length, front_of, front_on, then_pieces, pieces, pieces_of}
 use Rattle.iso_script_lexer.specs.Positions.{Line, first_line, position}
 use Rattle.iso_script_lexer.proofs.Decisions.{by_test, equal, both}
@@ -122,7 +122,8 @@ two_ways (t ∷ text) [] more [] stop is all all' out end = cc
 two_ways (t ∷ text) [] more (b ∷ rest) stop is all all' out end = let e : t ≡ b = cc in let k = all.0 in grind (arith, nat_tests)
 two_ways (t ∷ text) (t' ∷ text') more rest stop is all all' out end = two_ways text text' more rest stop (cc) all.1 all'.1 out end
 
-broken_gap : (q : Line) (a b : ℕ) (last : Line) (stop : ℕ) (text more bs ds : List ℕ) → a ≡ 47 → b ≡ 47 → bs ≡ text ++ (stop ∷ more) → InComment text → Stops stop → IsGap q (a ∷ b ∷ bs) last ds → ds ≡ a ∷ b ∷ bs
+broken_gap : (q : Line) (a b : ℕ) (last : Line) (stop : ℕ) (text more bs ds : List ℕ) → a ≡ 47 → b ≡ 47
+    → bs ≡ text ++ (stop ∷ more) → InComment text → Stops stop → IsGap q (a ∷ b ∷ bs) last ds → ds ≡ a ∷ b ∷ bs
 broken_gap q a b last stop text more bs ds e s is all out no_gap = refl
 broken_gap q a b last stop text more bs ds e s is all out (a_blank blank g) = absurd (grind (arith, nat_tests))
 broken_gap q a b last stop text more bs ds e s is all out (a_line line g) = absurd (omega arith)

@@ -1,7 +1,7 @@
 -- The longest front of such bytes.
 use Rattle.std.proofs.Common.{◌≡◌, ℕ, List, [], ◌∷◌, ◌++◌, length, take, drop, Bool, true, false, refl, one-add, arith}
 use Rattle.std.specs.List.{prefix_len, AllByRecursion}
-use Rattle.iso_script_lexer.specs.Lexical.{Ends}
+use Rattle.iso_script_lexer.specs.LexicalGrammar.{Ends}
 
 pub All-take-prefix_len : (p : ℕ → Bool) (bs : List ℕ) → AllByRecursion (λ c. p c ≡ true) (take (prefix_len p bs) bs)
 All-take-prefix_len p [] = tt

@@ -2,7 +2,7 @@
 use Rattle.std.proofs.Common.{◌≡◌, ℕ, ◌≤◌, List, [], ◌∷◌, ◌++◌, length, drop, Bool, true, false, nat_eq, ◌&&◌, Option, Some, None, refl, ap, sym, ◌∙◌, arith}
 use Rattle.iso_script_lexer.specs.Piece.{symbol_at}
 use Rattle.iso_script_lexer.specs.Spelling.{marks, begins, is_letter, is_digit}
-use Rattle.iso_script_lexer.specs.Lexical.{spells_symbol}
+use Rattle.iso_script_lexer.specs.LexicalGrammar.{spells_symbol}
 use Rattle.iso_script_lexer.specs.Scan.{gap_from, double_symbol, single_symbol, longest_symbol, symbol_front, symbol_piece, front_of, after_gap}
 use Rattle.iso_script_lexer.specs.declared.symbol.Symbol.{Symbol}
 use Rattle.iso_script_lexer.specs.declared.symbol.Symbol.TheVariants.{OpenBrace, Equals, Plus, PlusPlus, EqualsEquals, NotEquals}

@@ -7,7 +7,7 @@ use Rattle.std.specs.List.{AllByRecursion}
 use Rattle.iso_script_lexer.specs.Piece.{text_at}
 use Rattle.iso_script_lexer.specs.Spelling.{is_printable, is_escaped}
 use Rattle.iso_script_lexer.specs.Text.{written, decoded, is_quoted, IsQuoted, IsText}
-use Rattle.iso_script_lexer.specs.Lexical.{spells_text}
+use Rattle.iso_script_lexer.specs.LexicalGrammar.{spells_text}
 use Rattle.iso_script_lexer.specs.Scan.{quoted_length, text_piece, front_of}
 use Rattle.iso_script_lexer.proofs.Decisions.{chosen, both, equal}
 use Rattle.iso_script_lexer.proofs.Texts.{quoted, after_one, after_counted}

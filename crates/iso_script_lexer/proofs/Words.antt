@@ -4,7 +4,7 @@ use Rattle.std.proofs.lemmas.Slice.Eq.{bytes_eq-Decides}
 use Rattle.std.specs.List.{find}
 use Rattle.std.specs.Str.{bytes_eq}
 use Rattle.iso_script_lexer.specs.Spelling.{spelling, word_of, all_words}
-use Rattle.iso_script_lexer.specs.Lexical.{IsIdentifier}
+use Rattle.iso_script_lexer.specs.LexicalGrammar.{IsIdentifier}
 use Rattle.iso_script_lexer.specs.declared.word.Word.{Word}
 use Rattle.iso_script_lexer.specs.declared.word.Word.TheVariants.{Team}
 use Rattle.iso_script_lexer.proofs.Decisions.{chosen}

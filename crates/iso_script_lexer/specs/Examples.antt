@@ -2,7 +2,7 @@
 -- states and proves.
 use Prim.Native.String.{String}
 use Rattle.std.specs.Prelude.{ℕ, ◌+◌, List, [], ◌∷◌, ◌++◌, codes, length, map}
-use Rattle.iso_script_lexer.specs.Lexical.{ArePiecesOf}
+use Rattle.iso_script_lexer.specs.LexicalGrammar.{ArePiecesOf}
 use Rattle.iso_script_lexer.specs.Piece as P
 use Rattle.iso_script_lexer.specs.Piece.{Piece, word_at, symbol_at, bad_at}
 use Rattle.iso_script_lexer.specs.Spelling.{spelling}

@@ -4,8 +4,8 @@ use Rattle.std.specs.List.{prefix_len}
 use Rattle.iso_script_lexer.specs.Positions.{Line, line_after, position}
 use Rattle.iso_script_lexer.specs.Piece.{Piece, name_at, number_at, text_at, word_at, symbol_at, bad_at}
 use Rattle.iso_script_lexer.specs.Spelling.{begins, begins_in, is_blank, is_printable, in_comment, is_letter, is_digit, in_name, is_escaped, word_of}
-use Rattle.iso_script_lexer.specs.Lexical.{decimal_value}
-use Rattle.iso_script_lexer.specs.Misspellings.{text_fault}
+use Rattle.iso_script_lexer.specs.LexicalGrammar.{decimal_value}
+use Rattle.iso_script_lexer.specs.TokenFaults.{text_fault}
 use Rattle.iso_script_lexer.specs.Text.{decoded}
 use Rattle.iso_script_lexer.specs.declared.token.Position.{Position}
 use Rattle.iso_script_lexer.specs.declared.token.TokenFault.{TokenFault}
@@ -49,7 +49,8 @@ quoted_length false room (b ∷ bs) =
     else if nat_eq b 92 then one_more (quoted_length true room bs)
     else if is_printable b then counted room (λ r. quoted_length false r bs)
     else None
-quoted_length true room (b ∷ bs) = if is_escaped b then counted room (λ r. quoted_length false r bs) else None
+quoted_length true room (b ∷ bs) =
+    if is_escaped b then counted room (λ r. quoted_length false r bs) else None
 
 -- the symbol of one byte
 abbrev pub single_symbol : ℕ → Option S.Symbol
@@ -104,12 +105,14 @@ name_or_word at n None = name_at at n
 
 abbrev pub name_piece : Position → ℕ → List ℕ → Front
 name_piece at n bs =
-    if nat_le n 64 then Some (name_or_word at (take n bs) (word_of (take n bs)), drop n bs) else no_token at F.TooLong
+    if nat_le n 64 then Some (name_or_word at (take n bs) (word_of (take n bs)), drop n bs) else
+    no_token at F.TooLong
 
 abbrev pub number_piece : Position → ℕ → List ℕ → Front
 number_piece at n bs =
     if begins_in in_name (drop n bs) then no_token at F.BadToken
-    else if nat_le (decimal_value (take n bs)) 9223372036854775808 then Some (number_at at (decimal_value (take n bs)), drop n bs)
+    else if nat_le (decimal_value (take n bs)) 9223372036854775808 then Some
+    (number_at at (decimal_value (take n bs)), drop n bs)
     else no_token at F.NumberTooBig
 
 abbrev pub text_piece : Position → Option ℕ → List ℕ → Front

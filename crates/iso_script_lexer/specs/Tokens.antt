@@ -3,7 +3,7 @@ use Rattle.std.specs.Prelude.{ℕ, ◌≤◌, ◌^◌, List, [], ◌∷◌, Opti
 use Rattle.iso_script_lexer.specs.Piece.{Piece, name_at, number_at, text_at, word_at, symbol_at, bad_at}
 use Rattle.iso_script_lexer.specs.Spelling.{same_symbol, same_word}
 use Rattle.iso_script_lexer.specs.Text.{decoded}
-use Rattle.iso_script_lexer.specs.Lexical.{IsName}
+use Rattle.iso_script_lexer.specs.LexicalGrammar.{IsName}
 use Rattle.iso_script_lexer.specs.declared.symbol.Symbol as S
 use Rattle.iso_script_lexer.specs.declared.word.Word as W
 use Rattle.iso_script_lexer.specs.declared.text.QuotedText.{QuotedText}

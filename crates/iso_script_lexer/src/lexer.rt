@@ -1,5 +1,5 @@
 ghost use Rattle.std.specs.Prelude.{◌≡◌, ◌≤◌, List, Some, None, false, length, if◌then◌else◌};
-ghost use Rattle.iso_script_lexer.specs.Lexical.{ArePiecesOf};
+ghost use Rattle.iso_script_lexer.specs.LexicalGrammar.{ArePiecesOf};
 ghost use Rattle.iso_script_lexer.specs.Piece.{Piece};
 ghost use Rattle.iso_script_lexer.specs.Cursors.{line_of};
 ghost use Rattle.iso_script_lexer.specs.Scan.{pieces_of};

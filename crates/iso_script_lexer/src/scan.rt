@@ -3,8 +3,8 @@ ghost use Rattle.std.specs.Prelude.{◌≡◌, ℕ, ◌+◌, ◌≤◌, ◌^◌,
 ghost use Rattle.std.specs.List.{prefix_len};
 ghost use Rattle.std.specs.Result.{result_ok};
 ghost use Rattle.iso_script_lexer.specs.Spelling.{begins_in, is_letter, is_digit, in_name};
-ghost use Rattle.iso_script_lexer.specs.Lexical.{AllDigits, decimal_value};
-ghost use Rattle.iso_script_lexer.specs.Misspellings.{text_fault};
+ghost use Rattle.iso_script_lexer.specs.LexicalGrammar.{AllDigits, decimal_value};
+ghost use Rattle.iso_script_lexer.specs.TokenFaults.{text_fault};
 ghost use Rattle.iso_script_lexer.specs.Scan.{quoted_length, single_symbol, symbol_front, name_piece, number_piece, text_piece, front_of};
 ghost use Rattle.iso_script_lexer.specs.Tokens.{IsToken};
 ghost use Rattle.iso_script_lexer.specs.Scanned.{seen, IsWithin};
@@ -14,16 +14,13 @@ use crate::symbol::Symbol;
 use crate::text::QuotedText;
 use crate::token::{Token, TokenFault};
 use crate::word::Word;
-use iso_model::limits::{NAME_BYTES, TEXT_BYTES};
+use iso_model::limits::{NAME_BYTES, NUMBER, TEXT_BYTES};
 
 /// The most bytes of a name.
 const NAME_LIMIT: usize = NAME_BYTES as usize;
 
 /// The most bytes of a decoded text.
 const TEXT_LIMIT: usize = TEXT_BYTES as usize;
-
-/// The greatest number, which may stand after a minus.
-const NUMBER_LIMIT: u64 = 9_223_372_036_854_775_808;
 
 /// What makes bytes no token, and how many bytes from their first it lies.
 #[derive(Clone, Copy)]
@@ -119,7 +116,7 @@ fn scan_number(bytes: &[u8]) -> Result<(Token<'_>, &[u8]), Misspelling>
         return Err(fault_at(TokenFault::BadToken, 0));
     }
     let value = saturated_value(digits);
-    if value > NUMBER_LIMIT {
+    if value > NUMBER {
         return Err(fault_at(TokenFault::NumberTooBig, 0));
     }
     Ok((Token::Number(value), rest))
@@ -127,7 +124,7 @@ fn scan_number(bytes: &[u8]) -> Result<(Token<'_>, &[u8]), Misspelling>
 
 /// How many bytes stand before the closing quote of a text, where these follow its opening quote.
 /// The offset of a fault counts from the opening quote.
-#[tactic(auto, unfolding(crate::specs::Scan::quoted_length, crate::specs::Misspellings::text_fault))]
+#[tactic(auto, unfolding(crate::specs::Scan::quoted_length, crate::specs::TokenFaults::text_fault))]
 fn quoted_length(bytes: &[u8]) -> Result<usize, Misspelling>
     ensures value { quoted_length false 4096 bytes.now ≡ result_ok result }
     ensures fault { IfErr result (λ e. e.fault ≡ text_fault false 4096 bytes.now) }

@@ -1,9 +1,8 @@
 -- What another call answered.
 use Rattle.std.proofs.Common.{◌≡◌, List, Result, Ok, Err, MatchResult, subst, sym}
 use Rattle.iso_script_lexer.specs.Piece.{Piece}
-use Rattle.iso_script_statements.specs.Faults.{IsMemory}
+use Rattle.iso_script_statements.specs.Faults.{IsMemory, ScriptError}
 use Rattle.iso_script_statements.specs.Parsing.{Parses}
-use Rattle.iso_script_statements.specs.declared.fault.ScriptError.{ScriptError}
 
 -- what was read of the pieces that were left is read of all of them
 pub parses_from : {X A : Type 0} (view : X → A) (Was Is : A → List Piece → List Piece → Type 0) (result : Result X ScriptError) (old mid new : List Piece)

@@ -20,7 +20,7 @@ use Rattle.iso_script_statements.specs.Expressions as E
 use Rattle.iso_script_statements.specs.Expressions.{IsLiteral, infix_of, infix_next, function_of, function_next, IsLocale, no_argument, IsOperand, a_literal, a_name, in_parentheses, a_call, the_locale, IsEnclosed, enclosed, IsChained, chained, IsExpression, an_operand, a_chain, a_comparison, IsBefore, before}
 use Rattle.iso_script_statements.specs.Parsing.{Parses}
 use Rattle.iso_script_statements.specs.Pieces.{name_ahead}
-use Rattle.iso_script_statements.specs.declared.fault.ScriptError.{ScriptError}
+use Rattle.iso_script_statements.specs.Faults.{ScriptError}
 use Rattle.iso_script_statements.specs.declared.expression.Infix.{Infix}
 use Rattle.iso_script_statements.specs.declared.expression.Infix.TheVariants.{Chain, Compare}
 use Rattle.iso_script_statements.proofs.Repetitions.{onto, HaveRead}
@@ -62,7 +62,8 @@ is_call d f e old mid rest next ahead h =
     let s = function_first f old next in
     subst (λ ps. IsOperand d (call f e) ps rest) (sym s.3) (a_call s.2 (subst (λ ps. IsEnclosed d e ps rest) ahead h))
 
-from_function : {d : ℕ} {r : Position} {w : Word} {f : Function} {e : Term} {ps rest : List Piece} → function_of w ≡ Some f → IsOperand d e (word_at r w ∷ ps) rest → (x : Term) × IsEnclosed d x ps rest
+from_function : {d : ℕ} {r : Position} {w : Word} {f : Function} {e : Term} {ps rest : List Piece}
+    → function_of w ≡ Some f → IsOperand d e (word_at r w ∷ ps) rest → (x : Term) × IsEnclosed d x ps rest
 from_function is (a_literal h) = absurd (no_function is h)
 from_function is (a_call {e = e} f h) = (e, h)
 from_function is (the_locale h) = cc
@@ -112,7 +113,8 @@ is_name d n (symbol_at r s ∷ ps) new next ahead = cc
 is_name d n (bad_at r fault ∷ ps) new next ahead = cc
 
 -- what is no parenthesis, function, locale or name is a literal
-pub literal_only : (d : ℕ) (e : Term) (old rest : List Piece) → after OpenParen old ≡ None → function_next old ≡ None → after_word W.Locale old ≡ None → name_ahead old ≡ None → IsOperand d e old rest → (x : Data) × IsLiteral x old rest
+pub literal_only : (d : ℕ) (e : Term) (old rest : List Piece) → after OpenParen old ≡ None → function_next old ≡ None
+    → after_word W.Locale old ≡ None → name_ahead old ≡ None → IsOperand d e old rest → (x : Data) × IsLiteral x old rest
 literal_only d e old rest p f l n (a_literal {x = x} h) = (x, h)
 literal_only d e old rest p f l n a_name = cc
 literal_only d e old rest p f l n (in_parentheses {r = r} {ps = ps} h) = let e : None ≡ Some ps = sym p ∙ after-symbol_at r OpenParen ps in cc
@@ -120,13 +122,15 @@ literal_only d e old rest p f l n (a_call is h) = cc
 literal_only d e old rest p f l n (the_locale {r = r} {ps = ps} h) = let e : None ≡ Some ps = sym l ∙ after_word-word_at r W.Locale ps in cc
 
 -- between parentheses
-pub is_enclosed : (d more : ℕ) (e : Term) (old ps mid rest : List Piece) → d ≡ suc more → after OpenParen old ≡ Some ps → IsExpression more e ps mid → after CloseParen mid ≡ Some rest → IsEnclosed d e old rest
+pub is_enclosed : (d more : ℕ) (e : Term) (old ps mid rest : List Piece) → d ≡ suc more → after OpenParen old ≡ Some ps
+    → IsExpression more e ps mid → after CloseParen mid ≡ Some rest → IsEnclosed d e old rest
 is_enclosed d more e old ps mid rest left opened h shut =
     let s = after-Some OpenParen old ps opened in
     let t = after-Some CloseParen mid rest shut in
     subst (λ d. IsEnclosed d e old rest) (sym left) (subst (λ ps. IsEnclosed (suc more) e ps rest) (sym s.1) (enclosed (subst (IsExpression more e ps) t.1 h)))
 
-pub enclosed_only : (d more : ℕ) (e : Term) (old ps rest : List Piece) → d ≡ suc more → after OpenParen old ≡ Some ps → IsEnclosed d e old rest → (q : Position) × IsExpression more e ps (symbol_at q CloseParen ∷ rest)
+pub enclosed_only : (d more : ℕ) (e : Term) (old ps rest : List Piece) → d ≡ suc more → after OpenParen old ≡ Some ps
+    → IsEnclosed d e old rest → (q : Position) × IsExpression more e ps (symbol_at q CloseParen ∷ rest)
 enclosed_only d more e old ps rest left opened (enclosed {d = m} {r = r} {q = q} {ps = qs} h) =
     let same : m ≡ more = cc in
     let f : Some qs ≡ Some ps = sym (after-symbol_at r OpenParen qs) ∙ opened in
@@ -149,22 +153,26 @@ onto-none [] = refl
 onto-none (t ∷ ts) = ap (term t) (onto-none ts)
 
 -- all operands up to what is no operator
-pub all_chained : (d n : ℕ) (s : Symbol) (ts : List Term) (first here : List Piece) → HaveRead term (IsChained d s 31) (IsChained d s n) ts first here → infix_next here ≡ None → IsChained d s 31 (terms_of ts) first here
+pub all_chained : (d n : ℕ) (s : Symbol) (ts : List Term) (first here : List Piece)
+    → HaveRead term (IsChained d s 31) (IsChained d s n) ts first here → infix_next here ≡ None → IsChained d s 31 (terms_of ts) first here
 all_chained d n s ts first here so_far none = subst (λ es. IsChained d s 31 es first here) (onto-none ts) (so_far.found no_terms here (chained none))
 
 -- one operand more, where there is room for it
-pub chain_goes_on : (d n more : ℕ) (s : Symbol) (e : Term) (here mid next : List Piece) → n ≡ suc more → true ≡ is_some (after s here) → mid ≡ tail here → IsOperand d e mid next → (es : Terms) (rest : List Piece) → IsChained d s more es next rest → IsChained d s n (term e es) here rest
+pub chain_goes_on : (d n more : ℕ) (s : Symbol) (e : Term) (here mid next : List Piece) → n ≡ suc more → true ≡ is_some (after s here)
+    → mid ≡ tail here → IsOperand d e mid next → (es : Terms) (rest : List Piece) → IsChained d s more es next rest → IsChained d s n (term e es) here rest
 chain_goes_on d n more s e here mid next room at ahead h es rest k =
     let f = stands_in_front s here at in
     subst (λ n. IsChained d s n (term e es) here rest) (sym room)
     (subst (λ ps. IsChained d s (suc more) (term e es) ps rest) (sym f.1) (E.IsChained.and_then (subst (λ ps. IsOperand d e ps next) ahead h) k))
 
 -- what goes on where an operator is next
-next_operand : {d n : ℕ} {s : Symbol} {es : Terms} {here rest : List Piece} → true ≡ is_some (infix_next here) → IsChained d s n es here rest → (more : ℕ) × (e : Term) × (fs : Terms) × (r : Position) × (ps : List Piece) × (qs : List Piece) × (n ≡ suc more) × (here ≡ symbol_at r s ∷ ps) × IsOperand d e ps qs × IsChained d s more fs qs rest
+next_operand : {d n : ℕ} {s : Symbol} {es : Terms} {here rest : List Piece} → true ≡ is_some (infix_next here) → IsChained d s n es here rest
+    → (more : ℕ) × (e : Term) × (fs : Terms) × (r : Position) × (ps : List Piece) × (qs : List Piece) × (n ≡ suc more) × (here ≡ symbol_at r s ∷ ps) × IsOperand d e ps qs × IsChained d s more fs qs rest
 next_operand some (chained none) = cc
 next_operand some (E.IsChained.and_then {n = n} {r = r} {e = e} {es = es} {ps = ps} {qs = qs} h k) = (n, e, es, r, ps, qs, refl, refl, h, k)
 
-pub chain_goes_only : (d n more : ℕ) (s : Symbol) (e : Term) (here mid next : List Piece) → n ≡ suc more → true ≡ is_some (infix_next here) → mid ≡ tail here → IsOperand d e mid next → (all : Terms) (rest : List Piece) → IsChained d s n all here rest → (es : Terms) × IsChained d s more es next rest
+pub chain_goes_only : (d n more : ℕ) (s : Symbol) (e : Term) (here mid next : List Piece) → n ≡ suc more → true ≡ is_some (infix_next here) → mid ≡ tail here
+    → IsOperand d e mid next → (all : Terms) (rest : List Piece) → IsChained d s n all here rest → (es : Terms) × IsChained d s more es next rest
 chain_goes_only d n more s e here mid next room some ahead h all rest k =
     let p = next_operand some k in
     let same : p.0 ≡ more = let f = p.6 in cc in
@@ -183,7 +191,8 @@ pub not_longer : (d n : ℕ) (s : Symbol) (all : Terms) (here rest : List Piece)
 not_longer d n s all here rest some full k = let p = next_operand some k in let e = p.6 in absurd (omega (arith, e, full))
 
 -- and an operand is what goes on
-pub operand_follows : (d n : ℕ) (s : Symbol) (all : Terms) (here mid rest : List Piece) → true ≡ is_some (infix_next here) → mid ≡ tail here → IsChained d s n all here rest → (e : Term) × (qs : List Piece) × IsOperand d e mid qs
+pub operand_follows : (d n : ℕ) (s : Symbol) (all : Terms) (here mid rest : List Piece) → true ≡ is_some (infix_next here)
+    → mid ≡ tail here → IsChained d s n all here rest → (e : Term) × (qs : List Piece) × IsOperand d e mid qs
 operand_follows d n s all here mid rest some ahead k =
     let p = next_operand some k in
     (p.1, p.5, subst (λ ps. IsOperand d p.1 ps p.5) (sym (ahead ∙ ap tail p.7)) p.8)
@@ -202,17 +211,20 @@ infix_first s i (text_at r t ∷ ps) h = cc
 infix_first s i (word_at r w ∷ ps) h = cc
 infix_first s i (bad_at r fault ∷ ps) h = cc
 
-pub is_chain : (d : ℕ) (s : Symbol) (op : Operator) (e : Term) (es : Terms) (old mid rest : List Piece) → infix_next mid ≡ Some (s, Chain op) → IsOperand d e old mid → IsChained d s 31 es mid rest → IsExpression d (chain op e es) old rest
+pub is_chain : (d : ℕ) (s : Symbol) (op : Operator) (e : Term) (es : Terms) (old mid rest : List Piece)
+    → infix_next mid ≡ Some (s, Chain op) → IsOperand d e old mid → IsChained d s 31 es mid rest → IsExpression d (chain op e es) old rest
 is_chain d s op e es old mid rest next h k =
     let f = infix_first s (Chain op) mid next in
     a_chain f.1 (subst (IsOperand d e old) f.2 h) (subst (λ ps. IsChained d s 31 es ps rest) f.2 k)
 
-pub is_comparison : (d : ℕ) (s : Symbol) (c : Comparison) (e f : Term) (old mid ps rest : List Piece) → infix_next mid ≡ Some (s, Compare c) → IsOperand d e old mid → ps ≡ tail mid → IsOperand d f ps rest → infix_next rest ≡ None → IsExpression d (compare c e f) old rest
+pub is_comparison : (d : ℕ) (s : Symbol) (c : Comparison) (e f : Term) (old mid ps rest : List Piece) → infix_next mid ≡ Some (s, Compare c)
+    → IsOperand d e old mid → ps ≡ tail mid → IsOperand d f ps rest → infix_next rest ≡ None → IsExpression d (compare c e f) old rest
 is_comparison d s c e f old mid ps rest next h ahead k none =
     let g = infix_first s (Compare c) mid next in
     a_comparison g.1 (subst (IsOperand d e old) g.2 h) (subst (λ ps. IsOperand d f ps rest) ahead k) none
 
-pub chain_only : (d : ℕ) (s : Symbol) (op : Operator) (e f : Term) (old mid rest : List Piece) → infix_next mid ≡ Some (s, Chain op) → IsOperand d e old mid → IsExpression d f old rest → (es : Terms) × IsChained d s 31 es mid rest
+pub chain_only : (d : ℕ) (s : Symbol) (op : Operator) (e f : Term) (old mid rest : List Piece) → infix_next mid ≡ Some (s, Chain op)
+    → IsOperand d e old mid → IsExpression d f old rest → (es : Terms) × IsChained d s 31 es mid rest
 chain_only d s op e f old mid rest next h (an_operand k none) = let u = one_operand h k in let n : infix_next mid ≡ None = ap infix_next u.1 ∙ none in cc
 chain_only d s op e f old mid rest next h (a_chain {r = r} {s = t} {es = es} {qs = qs} is k ks) =
     let u = one_operand h k in
@@ -226,7 +238,8 @@ chain_only d s op e f old mid rest next h (a_comparison {s = t} is k j none) =
     let i = g.1 in
     cc
 
-pub comparison_only : (d : ℕ) (s : Symbol) (c : Comparison) (e f : Term) (old mid ps rest : List Piece) → infix_next mid ≡ Some (s, Compare c) → IsOperand d e old mid → ps ≡ tail mid → IsExpression d f old rest → (x : Term) × IsOperand d x ps rest × (infix_next rest ≡ None)
+pub comparison_only : (d : ℕ) (s : Symbol) (c : Comparison) (e f : Term) (old mid ps rest : List Piece) → infix_next mid ≡ Some (s, Compare c)
+    → IsOperand d e old mid → ps ≡ tail mid → IsExpression d f old rest → (x : Term) × IsOperand d x ps rest × (infix_next rest ≡ None)
 comparison_only d s c e f old mid ps rest next h ahead (an_operand k none) = let u = one_operand h k in let n : infix_next mid ≡ None = ap infix_next u.1 ∙ none in cc
 comparison_only d s c e f old mid ps rest next h ahead (a_comparison {f = x} is k j none) =
     let u = one_operand h k in

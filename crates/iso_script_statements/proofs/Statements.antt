@@ -11,6 +11,7 @@ use Rattle.iso_script_lexer.specs.declared.word.Word.{Word}
 use Rattle.iso_script_lexer.specs.declared.word.Word.TheVariants as W
 use Rattle.iso_script_lexer.proofs.Afters.{after-Some, after-symbol_at, after_word-Some, after_word-word_at}
 use Rattle.iso_model.specs.declared.limits.TheConstants.{BODY_DEPTH, PARENTHESES}
+use Rattle.iso_model.specs.declared.tree.TwoOperands.{TwoOperands}
 use Rattle.iso_model.specs.Syntax.{Term, assign, assume, fail, Act, plain, Acts, no_acts, act}
 use Rattle.iso_model.specs.SyntaxView.{acts_of}
 use Rattle.iso_script_statements.specs.Expressions.{IsExpression, IsBefore}
@@ -18,7 +19,6 @@ use Rattle.iso_script_statements.specs.Pieces.{name_next, row_in, text_next}
 use Rattle.iso_script_statements.specs.Statements.{simple_of, simple_next, is_display, IsDisplay, a_display, IsBinding, a_binding, IsSimple, of_two, an_assumption, a_fail, IsStatement, a_simple, an_assignment, an_if, a_repeat, IsElse, no_else, an_else, IsStatements, closed, and_then, IsBody, a_body, IsBlock, a_block}
 use Rattle.iso_script_statements.specs.declared.simple.Simple.{Simple}
 use Rattle.iso_script_statements.specs.declared.simple.Simple.TheVariants.{Two, Assume, Fail}
-use Rattle.iso_script_statements.specs.declared.simple.TwoOperands.{TwoOperands}
 use Rattle.iso_script_statements.proofs.Repetitions.{onto, HaveRead}
 use Rattle.iso_script_statements.proofs.Taken.{name_is}
 use Rattle.iso_script_statements.proofs.Unique.{one_before, one_body, one_display, one_expression, one_statement}
@@ -53,25 +53,29 @@ simple_only d above k a old mid rest next ahead h =
 pub is_assignment : (d above : ℕ) (b : List ℕ × Term) (old rest : List Piece) → IsBinding b old rest → IsStatement d above (plain (assign b.0 b.1)) old rest
 is_assignment d above b old rest (a_binding h) = an_assignment (a_binding h)
 
-pub assignment_only : (d above : ℕ) (a : Act) (old rest : List Piece) → simple_next old ≡ None → after_word W.If old ≡ None → after_word W.Repeat old ≡ None → IsStatement d above a old rest → (b : List ℕ × Term) × IsBinding b old rest
+pub assignment_only : (d above : ℕ) (a : Act) (old rest : List Piece) → simple_next old ≡ None → after_word W.If old ≡ None
+    → after_word W.Repeat old ≡ None → IsStatement d above a old rest → (b : List ℕ × Term) × IsBinding b old rest
 assignment_only d above a old rest s i r (a_simple is h) = cc
 assignment_only d above a old rest s i r (an_assignment {b = b} h) = (b, h)
 assignment_only d above a old rest s i r (an_if {r = q} {ps = ps} h k l) = let e : None ≡ Some ps = sym i ∙ after_word-word_at q W.If ps in cc
 assignment_only d above a old rest s i r (a_repeat {r = q} {ps = ps} h k) = let e : None ≡ Some ps = sym r ∙ after_word-word_at q W.Repeat ps in cc
 
 -- the parts of an `if` after its condition, and after its first body
-pub if_body : (d above : ℕ) (r : Position) (e : Term) (a : Act) (ps mid rest : List Piece) → IsExpression PARENTHESES e ps mid → IsStatement d above a (word_at r W.If ∷ ps) rest → (b : Acts) × (c : Acts) × (qs : List Piece) × IsBody d above b mid qs × IsElse d above c qs rest
+pub if_body : (d above : ℕ) (r : Position) (e : Term) (a : Act) (ps mid rest : List Piece) → IsExpression PARENTHESES e ps mid
+    → IsStatement d above a (word_at r W.If ∷ ps) rest → (b : Acts) × (c : Acts) × (qs : List Piece) × IsBody d above b mid qs × IsElse d above c qs rest
 if_body d above r e a ps mid rest h (a_simple is k) = cc
 if_body d above r e a ps mid rest h (an_if {a = b} {b = c} {rs = qs} k i j) = let u = one_expression h k in (b, c, qs, subst (λ ps. IsBody d above b ps qs) (sym u.1) i, j)
 
-pub if_else : (d above : ℕ) (r : Position) (e : Term) (b : Acts) (a : Act) (ps mid next rest : List Piece) → IsExpression PARENTHESES e ps mid → IsBody d above b mid next → IsStatement d above a (word_at r W.If ∷ ps) rest → (c : Acts) × IsElse d above c next rest
+pub if_else : (d above : ℕ) (r : Position) (e : Term) (b : Acts) (a : Act) (ps mid next rest : List Piece) → IsExpression PARENTHESES e ps mid
+    → IsBody d above b mid next → IsStatement d above a (word_at r W.If ∷ ps) rest → (c : Acts) × IsElse d above c next rest
 if_else d above r e b a ps mid next rest h k s =
     let p = if_body d above r e a ps mid rest h s in
     let u = one_body k p.3 in
     (p.1, subst (λ ps. IsElse d above p.1 ps rest) (sym u.1) p.4)
 
 -- the body of a `repeat`
-pub repeat_body : (d above : ℕ) (r : Position) (e : Term) (a : Act) (ps mid rest : List Piece) → IsExpression PARENTHESES e ps mid → IsStatement d above a (word_at r W.Repeat ∷ ps) rest → (b : Acts) × IsBody d above b mid rest
+pub repeat_body : (d above : ℕ) (r : Position) (e : Term) (a : Act) (ps mid rest : List Piece) → IsExpression PARENTHESES e ps mid
+    → IsStatement d above a (word_at r W.Repeat ∷ ps) rest → (b : Acts) × IsBody d above b mid rest
 repeat_body d above r e a ps mid rest h (a_simple is k) = cc
 repeat_body d above r e a ps mid rest h (a_repeat {a = b} k i) = let u = one_expression h k in (b, subst (λ ps. IsBody d above b ps rest) (sym u.1) i)
 
@@ -101,7 +105,8 @@ reason_closes e t a ps mid next rest h k none s =
     let e : None ≡ Some rest = sym none ∙ ap (after Semicolon) u.1 ∙ after-symbol_at p.1 Semicolon rest in
     cc
 
-pub is_assumption : (e : Term) (t : List ℕ) (ps mid next rest : List Piece) → IsBefore Comma e ps mid → IsDisplay t mid next → after Semicolon next ≡ Some rest → IsSimple Assume (plain (assume e t)) ps rest
+pub is_assumption : (e : Term) (t : List ℕ) (ps mid next rest : List Piece) → IsBefore Comma e ps mid
+    → IsDisplay t mid next → after Semicolon next ≡ Some rest → IsSimple Assume (plain (assume e t)) ps rest
 is_assumption e t ps mid next rest h k taken = let s = after-Some Semicolon next rest taken in an_assumption h (subst (IsDisplay t mid) s.1 k)
 
 -- a text that is next stands in front
@@ -146,7 +151,8 @@ binding_equals n b old ps rest next none (a_binding {q = q} {n = m} {ps = qs} h)
     let e : None ≡ Some qs = sym none ∙ ap (after Equals) (sym p.1) ∙ after-symbol_at q Equals qs in
     cc
 
-pub binding_value : (n : List ℕ) (b : List ℕ × Term) (old ps mid rest : List Piece) → name_next old ≡ Some (n, ps) → after Equals ps ≡ Some mid → IsBinding b old rest → (e : Term) × IsBefore Semicolon e mid rest
+pub binding_value : (n : List ℕ) (b : List ℕ × Term) (old ps mid rest : List Piece) → name_next old ≡ Some (n, ps)
+    → after Equals ps ≡ Some mid → IsBinding b old rest → (e : Term) × IsBefore Semicolon e mid rest
 binding_value n b old ps mid rest next taken (a_binding {q = q} {n = m} {e = e} {ps = qs} h) =
     let p = some_pair_parts m n (symbol_at q Equals ∷ qs) ps next in
     let f : Some qs ≡ Some mid = sym (after-symbol_at q Equals qs) ∙ ap (after Equals) p.1 ∙ taken in
@@ -173,15 +179,18 @@ onto-none [] = refl
 onto-none (s ∷ ss) = ap (act s.0 s.1) (onto-none ss)
 
 -- one statement more
-pub goes_on : (d above row : ℕ) (a : Act) (here next : List Piece) → row ≡ row_in above here → IsStatement d above a here next → (more : Acts) (rest : List Piece) → IsStatements d above more next rest → IsStatements d above (also (row, a) more) here rest
+pub goes_on : (d above row : ℕ) (a : Act) (here next : List Piece) → row ≡ row_in above here → IsStatement d above a here next
+    → (more : Acts) (rest : List Piece) → IsStatements d above more next rest → IsStatements d above (also (row, a) more) here rest
 goes_on d above row a here next at found more rest h = subst (λ r. IsStatements d above (act r a more) here rest) (sym at) (and_then found h)
 
 -- whatever is read where no brace closes begins with a statement
-pub next_statement : {d above : ℕ} {all : Acts} {ps rest : List Piece} → IsStatements d above all ps rest → after CloseBrace ps ≡ None → (a : Act) × (more : Acts) × (qs : List Piece) × IsStatement d above a ps qs × IsStatements d above more qs rest
+pub next_statement : {d above : ℕ} {all : Acts} {ps rest : List Piece} → IsStatements d above all ps rest → after CloseBrace ps ≡ None
+    → (a : Act) × (more : Acts) × (qs : List Piece) × IsStatement d above a ps qs × IsStatements d above more qs rest
 next_statement closed h = cc
 next_statement (and_then {a = a} {body = more} {qs = qs} s ss) h = (a, more, qs, s, ss)
 
-pub goes_only : (d above : ℕ) (a : Act) (here next : List Piece) → after CloseBrace here ≡ None → IsStatement d above a here next → (all : Acts) (rest : List Piece) → IsStatements d above all here rest → (more : Acts) × IsStatements d above more next rest
+pub goes_only : (d above : ℕ) (a : Act) (here next : List Piece) → after CloseBrace here ≡ None → IsStatement d above a here next
+    → (all : Acts) (rest : List Piece) → IsStatements d above all here rest → (more : Acts) × IsStatements d above more next rest
 goes_only d above a here next unclosed found all rest h =
     let n = next_statement h unclosed in
     (n.1, subst (λ ps. IsStatements d above n.1 ps rest) (sym (one_statement found n.3).1) n.4)
@@ -190,7 +199,8 @@ is_closed : (d above : ℕ) (here rest : List Piece) → after CloseBrace here �
 is_closed d above here rest taken = let s = after-Some CloseBrace here rest taken in subst (λ ps. IsStatements d above no_acts ps rest) (sym s.1) closed
 
 -- all statements up to the brace
-pub all_read : (d above : ℕ) (ss : List (ℕ × Act)) (first here rest : List Piece) → HaveRead also (IsStatements d above) (IsStatements d above) ss first here → after CloseBrace here ≡ Some rest → IsStatements d above (acts_of ss) first rest
+pub all_read : (d above : ℕ) (ss : List (ℕ × Act)) (first here rest : List Piece) → HaveRead also (IsStatements d above) (IsStatements d above) ss first here
+    → after CloseBrace here ≡ Some rest → IsStatements d above (acts_of ss) first rest
 all_read d above ss first here rest so_far taken = subst (λ all. IsStatements d above all first rest) (onto-none ss) (so_far.found no_acts rest (is_closed d above here rest taken))
 
 pub is_body : (d more above : ℕ) (body : Acts) (old ps new : List Piece) → d ≡ suc more → after OpenBrace old ≡ Some ps → IsStatements more above body ps new → IsBody d above body old new
@@ -225,14 +235,16 @@ position_of-front r q T.End s ps qs h = cc
 position_of-front r q (T.Bad fault) s ps qs h = cc
 
 -- a body whose rows count from its own line is a block
-pub is_block : (r : Position) (above : ℕ) (t : Token) (body : Acts) (old new : List Piece) → above ≡ r.line - 1 → old ≡ front r t (tail old) → IsBody BODY_DEPTH above body old new → IsBlock body old new
+pub is_block : (r : Position) (above : ℕ) (t : Token) (body : Acts) (old new : List Piece) → above ≡ r.line - 1
+    → old ≡ front r t (tail old) → IsBody BODY_DEPTH above body old new → IsBlock body old new
 is_block r above t body old new from next h =
     let s = brace_first h in
     let e = position_of-front r s.0 t OpenBrace (tail old) s.1 (sym next ∙ s.2) in
     let rows : above ≡ s.0.line - 1 = from ∙ ap (λ (p : Position). p.line - 1) e in
     subst (λ qs. IsBlock body qs new) (sym s.2) (a_block (subst (λ n. IsBody BODY_DEPTH n body (symbol_at s.0 OpenBrace ∷ s.1) new) rows (subst (λ qs. IsBody BODY_DEPTH above body qs new) s.2 h)))
 
-pub block_inner : (r : Position) (above : ℕ) (t : Token) (body : Acts) (old new : List Piece) → above ≡ r.line - 1 → old ≡ front r t (tail old) → IsBlock body old new → IsBody BODY_DEPTH above body old new
+pub block_inner : (r : Position) (above : ℕ) (t : Token) (body : Acts) (old new : List Piece)
+    → above ≡ r.line - 1 → old ≡ front r t (tail old) → IsBlock body old new → IsBody BODY_DEPTH above body old new
 block_inner r above t body old new from next (a_block {r = q} {ps = ps} h) =
     let e = position_of-front r q t OpenBrace (tail old) ps (sym next) in
     subst (λ n. IsBody BODY_DEPTH n body old new) (sym (from ∙ ap (λ (p : Position). p.line - 1) e)) h

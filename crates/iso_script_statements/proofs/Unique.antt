@@ -8,11 +8,12 @@ use Rattle.iso_script_lexer.specs.declared.word.Word.TheVariants as W
 use Rattle.iso_model.specs.declared.data.Data.{Data}
 use Rattle.iso_model.specs.declared.tree.Function.{Function}
 use Rattle.iso_model.specs.Syntax.{Term, Terms, literal, chain, compare, call, term, let_name, assign, assume, Act, plain, choice, repeat, Acts}
+use Rattle.iso_model.specs.SyntaxView.{with_one, with_two}
 use Rattle.iso_script_statements.specs.Expressions as E
 use Rattle.iso_script_statements.specs.Expressions.{IsLiteral, a_number, a_negative, a_text, a_true, a_false, infix_of, infix_next, function_of, IsLocale, no_argument, IsOperand, a_literal, a_name, in_parentheses, a_call, the_locale, IsEnclosed, enclosed, IsChained, chained, IsExpression, an_operand, a_chain, a_comparison, IsBefore, before}
 use Rattle.iso_script_statements.specs.declared.expression.Infix.{Infix}
 use Rattle.iso_script_statements.specs.declared.simple.Simple.{Simple}
-use Rattle.iso_script_statements.specs.Statements.{with_one, with_two, IsDisplay, a_display, IsBinding, a_binding, IsSimple, of_one, of_two, a_let, an_assumption, a_fail, IsStatement, a_simple, an_assignment, an_if, a_repeat, IsElse, no_else, an_else, IsStatements, closed, and_then, IsBody, a_body, IsBlock, a_block}
+use Rattle.iso_script_statements.specs.Statements.{IsDisplay, a_display, IsBinding, a_binding, IsSimple, of_one, of_two, a_let, an_assumption, a_fail, IsStatement, a_simple, an_assignment, an_if, a_repeat, IsElse, no_else, an_else, IsStatements, closed, and_then, IsBody, a_body, IsBlock, a_block}
 use Rattle.iso_script_lexer.specs.declared.token.Position.{Position}
 
 pub one_literal : {x y : Data} {ps qs rs : List Piece} → IsLiteral x ps qs → IsLiteral y ps rs → (x ≡ y) × (qs ≡ rs)
@@ -72,7 +73,8 @@ mutual
   one_enclosed : {d : ℕ} {e f : Term} {ps qs rs : List Piece} → IsEnclosed d e ps qs → IsEnclosed d f ps rs → (e ≡ f) × (qs ≡ rs)
   one_enclosed (enclosed h) (enclosed k) = let u = one_expression h k in (u.0, (same_front u.1).1)
 
-  one_chained : {d n : ℕ} {s t : Symbol} {i j : Infix} {es fs : Terms} {ps qs rs : List Piece} → infix_of s ≡ Some i → infix_of t ≡ Some j → IsChained d s n es ps qs → IsChained d t n fs ps rs → (es ≡ fs) × (qs ≡ rs)
+  one_chained : {d n : ℕ} {s t : Symbol} {i j : Infix} {es fs : Terms} {ps qs rs : List Piece} → infix_of s ≡ Some i
+      → infix_of t ≡ Some j → IsChained d s n es ps qs → IsChained d t n fs ps rs → (es ≡ fs) × (qs ≡ rs)
   one_chained is also (chained none) (chained none_too) = (refl, refl)
   one_chained {d = d} is also (E.IsChained.and_then {e = e} h hs) (E.IsChained.and_then {n = n} {s = t} {es = more} {rs = rs} k ks) =
       let u = one_operand h k in

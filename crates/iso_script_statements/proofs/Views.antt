@@ -1,12 +1,14 @@
 -- Variants of the tree, as they are seen.
 use Rattle.std.proofs.Common.{◌≡◌, ℕ, List, Box, Vec, Global, rules}
-use Rattle.iso_model.specs.Syntax.{literal, name, chain, compare, call, locale, let_name, assign, print, assert, assert_equal, assume, fail, set_prop, clear_prop, set_locale, write_file, append_file, delete_file, plain, choice, repeat}
+use Rattle.iso_model.specs.Syntax.{literal, name, chain, compare, call, locale, let_name, assign, assume, fail, plain, choice, repeat}
 use Rattle.iso_model.specs.declared.tree.Comparison.{Comparison}
 use Rattle.iso_model.specs.declared.tree.Function.{Function}
 use Rattle.iso_model.specs.declared.tree.Operator.{Operator}
 use Rattle.iso_script_statements.specs.Expressions.{terms_in}
-use Rattle.iso_model.specs.SyntaxView.{term_of, form_of, stmt_of}
+use Rattle.iso_model.specs.SyntaxView.{term_of, form_of, stmt_of, with_one, with_two}
 use Rattle.iso_model.specs.declared.tree.Form.{Form}
+use Rattle.iso_model.specs.declared.tree.OneOperand.{OneOperand}
+use Rattle.iso_model.specs.declared.tree.TwoOperands.{TwoOperands}
 use Rattle.iso_model.specs.declared.tree.Stmt.{Stmt, roll-Stmt}
 use Rattle.iso_script_statements.specs.Statements.{body_of}
 use Rattle.iso_model.specs.declared.data.Data.{Data}
@@ -17,32 +19,11 @@ use Rattle.iso_model.specs.declared.tree.Form as F
 pub term_of-literal : (x : Data) → term_of (E.Literal x) ≡ literal x
 term_of-literal x = search (rules, E.the_lemmas)
 
-pub form_of-print : (e : Expr) → form_of (F.Print e) ≡ plain (print (term_of e))
-form_of-print e = search (rules, F.the_lemmas)
+pub form_of-one : (what : OneOperand) (e : Expr) → form_of (F.One what e) ≡ plain (with_one what (term_of e))
+form_of-one what e = search (rules, F.the_lemmas)
 
-pub form_of-assert : (e : Expr) → form_of (F.Assert e) ≡ plain (assert (term_of e))
-form_of-assert e = search (rules, F.the_lemmas)
-
-pub form_of-clear_prop : (e : Expr) → form_of (F.ClearProp e) ≡ plain (clear_prop (term_of e))
-form_of-clear_prop e = search (rules, F.the_lemmas)
-
-pub form_of-set_locale : (e : Expr) → form_of (F.SetLocale e) ≡ plain (set_locale (term_of e))
-form_of-set_locale e = search (rules, F.the_lemmas)
-
-pub form_of-delete_file : (e : Expr) → form_of (F.DeleteFile e) ≡ plain (delete_file (term_of e))
-form_of-delete_file e = search (rules, F.the_lemmas)
-
-pub form_of-assert_equal : (e f : Expr) → form_of (F.AssertEqual e f) ≡ plain (assert_equal (term_of e) (term_of f))
-form_of-assert_equal e f = search (rules, F.the_lemmas)
-
-pub form_of-set_prop : (e f : Expr) → form_of (F.SetProp e f) ≡ plain (set_prop (term_of e) (term_of f))
-form_of-set_prop e f = search (rules, F.the_lemmas)
-
-pub form_of-write_file : (e f : Expr) → form_of (F.WriteFile e f) ≡ plain (write_file (term_of e) (term_of f))
-form_of-write_file e f = search (rules, F.the_lemmas)
-
-pub form_of-append_file : (e f : Expr) → form_of (F.AppendFile e f) ≡ plain (append_file (term_of e) (term_of f))
-form_of-append_file e f = search (rules, F.the_lemmas)
+pub form_of-two : (what : TwoOperands) (e f : Expr) → form_of (F.Two what e f) ≡ plain (with_two what (term_of e) (term_of f))
+form_of-two what e f = search (rules, F.the_lemmas)
 
 pub form_of-let : (n : List ℕ) (e : Expr) → form_of (F.Let n e) ≡ plain (let_name n (term_of e))
 form_of-let n e = search (rules, F.the_lemmas)

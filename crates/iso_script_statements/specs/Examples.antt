@@ -7,14 +7,15 @@ use Rattle.iso_model.specs.Examples.Words.{body, fail, number, print}
 use Rattle.iso_model.specs.Syntax.{Term, Act, repeat, Acts}
 use Rattle.iso_model.specs.SyntaxView.{acts_of}
 use Rattle.iso_model.specs.declared.limits.TheConstants.{PARENTHESES}
-use Rattle.iso_script_lexer.specs.Lexical.{ArePiecesOf}
+use Rattle.iso_script_lexer.specs.LexicalGrammar.{ArePiecesOf}
 use Rattle.iso_script_lexer.specs.Piece.{Piece}
 use Rattle.iso_script_statements.specs.Expressions.{IsExpression}
 use Rattle.iso_script_statements.specs.Statements.{IsBlock}
 
 -- a text is an expression, and nothing more
 abbrev pub IsExpressionText : String → Term → Type 0
-IsExpressionText text e = (ps : List Piece) × ArePiecesOf (codes text) ps × IsExpression PARENTHESES e ps []
+IsExpressionText text e = (ps : List Piece) × ArePiecesOf (codes text) ps
+    × IsExpression PARENTHESES e ps []
 
 -- lines, each with its line feed
 abbrev pub text_of : List String → List ℕ
@@ -38,4 +39,5 @@ rows_text = "" ∷ "{ print 1; print" ∷ "2; repeat 3 {" ∷ "fail \"\"; } }" �
 
 -- each of them has the row of its first token, counted from the line of the brace
 abbrev pub rows_acts : Acts
-rows_acts = acts_of ((1, print (number 1)) ∷ (1, print (number 2)) ∷ (2, repeat (number 3) (on 3 (fail ""))) ∷ [])
+rows_acts = acts_of ((1, print (number 1)) ∷ (1, print (number 2))
+    ∷ (2, repeat (number 3) (on 3 (fail ""))) ∷ [])

@@ -5,10 +5,15 @@ use Rattle.iso_script_lexer.specs.declared.token.TokenFault as T
 use Rattle.iso_script_lexer.specs.declared.token.TokenFault.TheVariants as V
 use Rattle.iso_script_lexer.specs.declared.symbol.Symbol.{Symbol}
 use Rattle.iso_script_lexer.specs.Tokens.{after}
+use Rattle.iso_script_statements.specs.declared.fault.ScriptFault.{ScriptFault}
 use Rattle.iso_script_statements.specs.declared.fault.ScriptFaultKind.{ScriptFaultKind}
 use Rattle.iso_script_statements.specs.declared.fault.ScriptFaultKind.TheVariants.{BadByte, BadToken, NumberTooBig, OpenText, Expected, TooDeep, TooLong, EndOfInput}
-use Rattle.iso_script_statements.specs.declared.fault.ScriptError.{ScriptError}
-use Rattle.iso_script_statements.specs.declared.fault.ScriptError.TheVariants.{Fault, OutOfMemory}
+use Rattle.iso_model.specs.declared.input_error.InputError.{InputError}
+use Rattle.iso_model.specs.declared.input_error.InputError.TheVariants.{Fault, OutOfMemory}
+
+-- why a script could not be read
+abbrev pub ScriptError : Type 0
+ScriptError = InputError ScriptFault
 
 -- memory ran out
 abbrev pub IsMemory : ScriptError → Type 0
@@ -38,7 +43,8 @@ IsMemoryOr kind (Fault fault) = fault.kind ≡ kind
 abbrev pub IsUnexpected : List Piece → ScriptFaultKind → Type 0
 IsUnexpected [] kind = kind ≡ EndOfInput
 IsUnexpected (bad_at r fault ∷ ps) kind = kind ≡ kind_of fault
-IsUnexpected (number_at r n ∷ ps) kind = kind ≡ (if nat_lt n (2 ^ 63) then Expected else NumberTooBig)
+IsUnexpected (number_at r n ∷ ps) kind =
+    kind ≡ (if nat_lt n (2 ^ 63) then Expected else NumberTooBig)
 IsUnexpected (_ ∷ ps) kind = kind ≡ Expected
 
 -- the kind of the fault where a symbol isn't next, and where it is and no more of them may be

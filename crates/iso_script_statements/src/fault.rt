@@ -1,5 +1,5 @@
+use iso_model::input_error::InputError;
 use iso_script_lexer::token::{Position, TokenFault};
-use std::alloc::{AllocError, AllocFailed};
 use std::fmt;
 use thiserror::Error;
 
@@ -83,37 +83,31 @@ impl fmt::Display for ScriptFaultKind {
 
 /// A fault of a script, and where it lies. Lines and columns count from 1, and a column counts
 /// bytes.
-#[derive(Clone, Copy, Debug, PartialEq, Eq)]
+#[derive(Clone, Copy, Debug, PartialEq, Eq, Error)]
+#[error("{kind} at line {line}, column {column}")]
 pub struct ScriptFault {
     pub kind: ScriptFaultKind,
     pub line: u32,
     pub column: u32,
 }
 
-/// Why a script could not be read.
-#[derive(Clone, Copy, Debug, PartialEq, Eq, Error)]
-pub enum ScriptError {
-    #[error("{} at line {}, column {}", .0.kind, .0.line, .0.column)]
-    Fault(ScriptFault),
-    #[error("out of memory")]
-    OutOfMemory,
-}
-
-impl ScriptError {
+impl ScriptFault {
     ghost use Rattle.std.specs.Prelude.{◌≡◌};
 
     /// A fault at this position.
-    pub fn fault(kind: ScriptFaultKind, position: Position) -> ScriptError
-        ensures { result
-            ≡ ScriptError.Fault (record { kind = kind; line = position.line; column = position.column }) }
+    pub fn at(kind: ScriptFaultKind, position: Position) -> ScriptFault
+        ensures { result ≡ record { kind = kind; line = position.line; column = position.column } }
     {
-        ScriptError::Fault(ScriptFault {
+        ScriptFault {
             kind,
             line: position.line,
             column: position.column,
-        })
+        }
     }
 }
+
+/// Why a script could not be read.
+pub type ScriptError = InputError<ScriptFault>;
 
 impl From<TokenFault> for ScriptFaultKind {
     ghost use Rattle.std.specs.Prelude.{◌≡◌};
@@ -129,27 +123,5 @@ impl From<TokenFault> for ScriptFaultKind {
             TokenFault::OpenText => ScriptFaultKind::OpenText,
             TokenFault::TooLong => ScriptFaultKind::TooLong,
         }
-    }
-}
-
-impl From<AllocError> for ScriptError {
-    ghost use Rattle.std.specs.Prelude.{◌≡◌};
-    ghost use Rattle.iso_script_statements.specs.declared.fault.ScriptError.TheVariants.{OutOfMemory};
-
-    ghost from_gives = { λ _ e. e ≡ OutOfMemory };
-
-    fn from(_error: AllocError) -> ScriptError {
-        ScriptError::OutOfMemory
-    }
-}
-
-impl<T: Drop> From<AllocFailed<T>> for ScriptError {
-    ghost use Rattle.std.specs.Prelude.{◌≡◌};
-    ghost use Rattle.iso_script_statements.specs.declared.fault.ScriptError.TheVariants.{OutOfMemory};
-
-    ghost from_gives = { λ _ e. e ≡ OutOfMemory };
-
-    fn from(_error: AllocFailed<T>) -> ScriptError {
-        ScriptError::OutOfMemory
     }
 }

@@ -1,5 +1,5 @@
 ghost use Rattle.std.specs.Prelude.{ℕ, suc, ◌≡◌, ◌≢◌, ◌≤◌, ◌↔◌, List, [], Some, None, IsTrue, MatchResult, IfErr, is_some, length, option_map};
-ghost use Rattle.iso_script_lexer.specs.Lexical.{ArePiecesOf};
+ghost use Rattle.iso_script_lexer.specs.LexicalGrammar.{ArePiecesOf};
 ghost use Rattle.iso_script_lexer.specs.Piece.{Piece, tail};
 ghost use Rattle.iso_script_lexer.specs.Tokens.{after, after_word, text_of};
 ghost use Rattle.iso_model.specs.declared.limits.TheConstants.{FILE_BYTES};
@@ -10,7 +10,7 @@ ghost use Rattle.iso_script_statements.specs.Wanted.{IsUnmet};
 ghost use Rattle.iso_script_statements.specs.declared.reason.Reason.TheVariants.{Beyond};
 ghost use Rattle.iso_script_statements.specs.declared.wanted.Wanted.TheVariants as W;
 
-use crate::fault::{ScriptError, ScriptFaultKind};
+use crate::fault::{ScriptError, ScriptFault, ScriptFaultKind};
 use crate::reason::{Limit, Reason};
 use crate::unmet::Unmet;
 use crate::wanted::{Operators, Wanted};
@@ -65,7 +65,7 @@ impl<'a> Parser<'a> {
             Token::End => ScriptFaultKind::EndOfInput,
             _ => ScriptFaultKind::Expected,
         };
-        ScriptError::fault(kind, place)
+        ScriptError::Fault(ScriptFault::at(kind, place))
     }
 
     /// A fault of this kind at the token that is next, which would go beyond this limit.
@@ -81,7 +81,7 @@ impl<'a> Parser<'a> {
     pub fn fault_here(&self, kind: ScriptFaultKind) -> ScriptError
         ensures { IsFaultOf (λ k. k ≡ kind) result }
     {
-        ScriptError::fault(kind, self.lexer.peek().1)
+        ScriptError::Fault(ScriptFault::at(kind, self.lexer.peek().1))
     }
 
     /// Goes past a symbol, which has to be next.
@@ -113,7 +113,8 @@ impl<'a> Parser<'a> {
     pub fn expect_word(&mut self, word: Word) -> Result<(), ScriptError>
         ensures { MatchResult result
             (λ _. after_word word self.old.lexer ≡ Some self.new.lexer)
-            (λ e. (after_word word self.old.lexer ≡ None) × IsFaultOf (IsUnexpected self.old.lexer) e
+            (λ e. (after_word word self.old.lexer ≡ None)
+            × IsFaultOf (IsUnexpected self.old.lexer) e
             × Tells (W.Word word) self.new.reason) }
     {
         if self.lexer.takes_word(word) {
@@ -191,7 +192,8 @@ impl<'a> Parser<'a> {
             (λ more. (left ≡ suc more) × (after symbol self.old.lexer ≡ Some self.new.lexer))
             (λ e. (more : ℕ) → left ≡ suc more → after symbol self.old.lexer ≡ None) }
         ensures fault { IfErr result (IsFaultOf (IsUnopened symbol self.old.lexer)) }
-        ensures told { IfErr result (λ _. (after symbol self.old.lexer ≡ None → Tells wanted self.new.reason)
+        ensures told { IfErr result
+            (λ _. (after symbol self.old.lexer ≡ None → Tells wanted self.new.reason)
             × (after symbol self.old.lexer ≢ None → self.new.reason ≡ Beyond limit)) }
     {
         if !self.is_at(symbol) {

@@ -1,11 +1,11 @@
 //! Statements without bodies.
 ghost use Rattle.std.specs.Prelude.{◌≡◌, List, ℕ, MatchResult, None};
-ghost use Rattle.iso_model.specs.Syntax.{Term, plain};
+ghost use Rattle.iso_model.specs.Syntax.{Term};
 ghost use Rattle.iso_model.specs.SyntaxView.{form_of, term_of};
 ghost use Rattle.iso_script_statements.specs.Faults.{IsMemory};
 ghost use Rattle.iso_script_statements.specs.Parsing.{Parses};
 ghost use Rattle.iso_script_statements.specs.Pieces.{name_next};
-ghost use Rattle.iso_script_statements.specs.Statements.{IsBinding, IsDisplay, IsSimple, binding_of, is_display, simple_next, simple_of, with_one, with_two};
+ghost use Rattle.iso_script_statements.specs.Statements.{IsBinding, IsDisplay, IsSimple, binding_of, is_display, simple_next, simple_of};
 ghost use Rattle.iso_script_statements.specs.Wanted.{IsUnmet};
 ghost use Rattle.iso_script_statements.specs.declared.simple.Simple.TheVariants.{Assume, Fail, Let, One, Two};
 
@@ -14,59 +14,11 @@ use crate::parser::Parser;
 use crate::wanted::Wanted;
 use iso_model::limits::DISPLAY_BYTES;
 use iso_model::text::Text;
-use iso_model::tree::{Expr, Form};
+use iso_model::tree::{Expr, Form, OneOperand, TwoOperands};
 use iso_script_lexer::symbol::Symbol;
 use iso_script_lexer::token::Token;
 use iso_script_lexer::word::Word;
 use std::alloc::Global;
-
-/// A statement of one expression.
-#[derive(Clone, Copy)]
-pub enum OneOperand {
-    Print,
-    Assert,
-    ClearProp,
-    SetLocale,
-    DeleteFile,
-}
-
-impl OneOperand {
-    /// The statement of this expression.
-    fn form(self, value: Expr) -> Form
-        ensures { form_of result ≡ plain (with_one self (term_of value)) }
-    {
-        match self {
-            OneOperand::Print => Form::Print(value),
-            OneOperand::Assert => Form::Assert(value),
-            OneOperand::ClearProp => Form::ClearProp(value),
-            OneOperand::SetLocale => Form::SetLocale(value),
-            OneOperand::DeleteFile => Form::DeleteFile(value),
-        }
-    }
-}
-
-/// A statement of two expressions.
-#[derive(Clone, Copy)]
-pub enum TwoOperands {
-    AssertEqual,
-    SetProp,
-    WriteFile,
-    AppendFile,
-}
-
-impl TwoOperands {
-    /// The statement of these expressions.
-    fn form(self, first: Expr, second: Expr) -> Form
-        ensures { form_of result ≡ plain (with_two self (term_of first) (term_of second)) }
-    {
-        match self {
-            TwoOperands::AssertEqual => Form::AssertEqual(first, second),
-            TwoOperands::SetProp => Form::SetProp(first, second),
-            TwoOperands::WriteFile => Form::WriteFile(first, second),
-            TwoOperands::AppendFile => Form::AppendFile(first, second),
-        }
-    }
-}
 
 /// A statement that begins with a word of its own and has no body.
 #[derive(Clone, Copy)]
@@ -146,7 +98,7 @@ impl Parser<'_> {
         ensures { Parses form_of (IsSimple (One operand)) result self.old.lexer self.new.lexer }
     {
         let value = self.expression_before(Symbol::Semicolon)?;
-        Ok(operand.form(value))
+        Ok(Form::One(operand, value))
     }
 
     /// The expressions of a statement of two.
@@ -155,7 +107,7 @@ impl Parser<'_> {
     {
         let first = self.expression_before(Symbol::Comma)?;
         let second = self.expression_before(Symbol::Semicolon)?;
-        Ok(operands.form(first, second))
+        Ok(Form::Two(operands, first, second))
     }
 
     /// What follows `let`.

@@ -9,7 +9,7 @@ use Rattle.iso_model.proofs.Untouched.{block-kinds}
 use Rattle.iso_model.specs.Bodies.{body_finished}
 use Rattle.iso_model.specs.Changes.{kind_at}
 use Rattle.iso_model.specs.Chains.{ClassHead, class_rights}
-use Rattle.iso_model.specs.Keys.{file_prefix, locale_key, properties_key}
+use Rattle.iso_model.specs.ResourceKeys.{file_prefix, locale_key, properties_key}
 use Rattle.iso_model.specs.Openings.{Opening, before_all, opened, opening, statics_of, words_of}
 use Rattle.iso_model.specs.Disabled.{block_unless}
 use Rattle.iso_model.specs.Environments.{Environment, environment}
@@ -100,7 +100,8 @@ opened-whole plan world n is =
     ∙ ap (λ b. b.resources) (opening-finish is.head cs o)
     ∙ sym (ap (λ (p : Opening). p.resources) is.is)
 
-start-by : (world : Start) (k : List ℕ) (a b c : Bool) → bytes_eq k properties_key ≡ a → bytes_eq k locale_key ≡ b → starts_with nat_eq k file_prefix ≡ c → kind_of_value (starting_value_in world k) ≡ kind_of_key k
+start-by : (world : Start) (k : List ℕ) (a b c : Bool) → bytes_eq k properties_key ≡ a → bytes_eq k locale_key ≡ b
+    → starts_with nat_eq k file_prefix ≡ c → kind_of_value (starting_value_in world k) ≡ kind_of_key k
 start-by world k true b c ea eb ec = rw ea refl
 start-by world k false true c ea eb ec = rw (ea, eb) refl
 start-by world k false false true ea eb ec = rw (ea, eb, ec) refl

@@ -5,7 +5,7 @@ use Rattle.iso_lifecycle.specs.Subjects.{begun, begun_closing, begun_opening, be
 use Rattle.iso_lifecycle.specs.WholeBodies.{IsReadyFor}
 use Rattle.iso_lifecycle.specs.declared.kind.BodyKind.TheVariants.{BeforeAll, Test, AfterAll}
 use Rattle.iso_locks.specs.Trays.{TrayView, content, has_value, is_lent}
-use Rattle.iso_model.specs.Agreement.{EqualAt}
+use Rattle.iso_model.specs.ChainAgreement.{EqualAt}
 use Rattle.iso_model.specs.Chains.{ClassHead, TestHead}
 use Rattle.iso_model.specs.Openings.{Opening, opening}
 use Rattle.iso_model.specs.Resources.{Resources}

@@ -12,7 +12,7 @@ use Rattle.iso_locks.specs.Moves.{is_written}
 use Rattle.iso_locks.specs.Slots.{slot}
 use Rattle.iso_locks.specs.Trays.{TrayView, content, has_at, has_value, holds_read, is_lent, is_open, is_read, key_at, number_of, reads, resources, seen, seen_at}
 use Rattle.iso_locks.specs.Vaults.{IsLentTo, value_in}
-use Rattle.iso_model.specs.Agreement.{EqualAt}
+use Rattle.iso_model.specs.ChainAgreement.{EqualAt}
 use Rattle.iso_model.specs.Resources.{Resources}
 use Rattle.iso_model.specs.Rights.{is_readable, is_writable}
 use Rattle.iso_model.specs.declared.access.Access.{Access}
@@ -80,7 +80,8 @@ unreadable-locked a unread = elim (true-or-false (is_writable a)) [
 ]
 
 -- what a body does to a tray, it does to it with other frames
-pub frames-apart : (plan : Planned) (world : Start) (kind : BodyKind) (n : ℕ) (old new : TrayView) (fs : List Subject) → IsTrayAfter plan world kind n (record old { frames = fs }) new → IsTrayAfter plan world kind n old new
+pub frames-apart : (plan : Planned) (world : Start) (kind : BodyKind) (n : ℕ) (old new : TrayView) (fs : List Subject)
+    → IsTrayAfter plan world kind n (record old { frames = fs }) new → IsTrayAfter plan world kind n old new
 frames-apart plan world kind n old new fs d = record {
   plan_is = d.plan_is;
   world_is = d.world_is;
@@ -161,7 +162,8 @@ module _ (plan : Planned) (world : Start) (t : IsTree (tree_of plan)) where
   no-clash n i pos on w = no-conflict on.node n pos on.above (written-conflict tr on.node n i on.writes w)
 
   -- what stands at its start in the opening of a node's parent: a key that no node of its path has, and a key that the node takes
-  pub start-absent : (u : TrayView) (p : ℕ) (k : List ℕ) (i : ℕ) → p < length tr → is_test (row_at tr p).kind ≡ false → HoldsAlong plan world p u → number_of tr k ≡ Some i → slot u.values i ≡ None → left p k ≡ Some (start k)
+  pub start-absent : (u : TrayView) (p : ℕ) (k : List ℕ) (i : ℕ) → p < length tr → is_test (row_at tr p).kind ≡ false
+      → HoldsAlong plan world p u → number_of tr k ≡ Some i → slot u.values i ≡ None → left p k ≡ Some (start k)
   start-absent u p k i within e h num none = elim (true-or-false (is_writable (node_rights tr p k))) [
     | inl w ↦ let wrong : false ≡ true = sym (ap is_some none) ∙ h.there i (write-above p k i within w num) in absurd (cc)
     | inr locked ↦ opening-start plan world p k e locked
@@ -183,7 +185,8 @@ module _ (plan : Planned) (world : Start) (t : IsTree (tree_of plan)) where
       (or-true (reads tr (Some n) k) (reads tr (locking_node tr n) k) (ap (λ (o : Option ℕ). reads tr o k) locking ∙ read-alone (taken tr taker k) r w))
 
   -- what a node may look at is there
-  covered-held : (u : TrayView) (n : ℕ) (k : List ℕ) → 0 < n → n < length tr → is_lent u.lent n ≡ true → HoldsAlong plan world n u → is_readable (node_rights tr n k) ≡ true → is_some (held plan world u k) ≡ true
+  covered-held : (u : TrayView) (n : ℕ) (k : List ℕ) → 0 < n → n < length tr → is_lent u.lent n ≡ true
+      → HoldsAlong plan world n u → is_readable (node_rights tr n k) ≡ true → is_some (held plan world u k) ≡ true
   covered-held u n k pos within lent h r =
       let c = covered tr t n k pos within r in
       let num = has-number tr t c.taker k c.reads in
@@ -201,12 +204,14 @@ module _ (plan : Planned) (world : Start) (t : IsTree (tree_of plan)) where
   content-is u p h = ap₂ (λ (pl : Planned) (w : Start). resources (tree_of pl) w u.lent u.values) h.plan_is h.world_is
 
   -- a body of n finds its keys, as the opening of p has left them
-  pub tray-equal : (u : TrayView) (n p : ℕ) → 0 < n → n < length tr → is_lent u.lent n ≡ true → StandsAsOpened plan world n p u → EqualAt (rights_of_subject (subject plan world n)) (content u) (left p)
+  pub tray-equal : (u : TrayView) (n p : ℕ) → 0 < n → n < length tr → is_lent u.lent n ≡ true
+      → StandsAsOpened plan world n p u → EqualAt (rights_of_subject (subject plan world n)) (content u) (left p)
   tray-equal u n p pos within lent s = record {
     same = λ k r. ap (λ (m : Resources). m k) (content-is u n s.holds) ∙ s.values k (covered-held u n k pos within lent s.holds r);
   }
 
-  pub tray-keys : (u : TrayView) (n p : ℕ) → 0 < n → n < length tr → is_lent u.lent n ≡ true → StandsAsOpened plan world n p u → HasKeys (rights_of_subject (subject plan world n)) (content u) (has_value u)
+  pub tray-keys : (u : TrayView) (n p : ℕ) → 0 < n → n < length tr → is_lent u.lent n ≡ true
+      → StandsAsOpened plan world n p u → HasKeys (rights_of_subject (subject plan world n)) (content u) (has_value u)
   tray-keys u n p pos within lent s = record {
     looks = λ k r. ap (option_map kind_of_value) ((tray-equal u n p pos within lent s).same k r) ∙ opening-kind plan world p k;
     changes = λ k w.

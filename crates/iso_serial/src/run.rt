@@ -22,8 +22,9 @@ use iso_settings::world::World;
 use std::alloc::{AllocError, Global};
 use std::snapshot::Snapshot;
 
-/// Runs every class and test of a plan on one thread, depth first, and answers their results: that
-/// of each node is the one of the node run alone. Out of memory is the only error.
+/// For a runner of one's own: runs every class and test of a plan on one thread, depth first, and
+/// answers their results. That of each node is the one of the node run alone. Out of memory is the
+/// only error.
 pub fn run<'a>(alloc: Global, plan: &'a Plan, world: &'a World) -> Result<Results<'a>, AllocError>
     ensures plan { IfOk result (λ r. r.plan ≡ plan.now) }
     ensures start { IfOk result (λ r. r.start ≡ world.now) }
@@ -78,9 +79,11 @@ pub struct Walk<'a> {
 impl<'g, 'a, G: Gate> Serial<'g, 'a, G> {
     /// A run before its first node: every value is home, nothing is lent, and nothing has a result.
     pub fn begin(&self) -> Result<Walk<'a>, AllocError>
-        ensures vault { IfOk result (λ w. w.vault ≡ whole_vault self.now.plan.now self.now.world.now) }
+        ensures vault { IfOk result (λ w. w.vault
+            ≡ whole_vault self.now.plan.now self.now.world.now) }
         ensures tray { IfOk result (λ w. w.tray ≡ empty_tray self.now.plan.now self.now.world.now) }
-        ensures results { IfOk result (λ w. w.results ≡ no_results self.now.plan.now self.now.world.now) }
+        ensures results { IfOk result (λ w. w.results
+            ≡ no_results self.now.plan.now self.now.world.now) }
         ensures between { IfOk result (λ w. BetweenNodes self.now.plan.now self.now.world.now 0 w) }
     {
         nodes_are_a_tree(self.plan);
@@ -94,7 +97,8 @@ impl<'g, 'a, G: Gate> Serial<'g, 'a, G> {
     /// A whole run: every class and test, depth first. At its end every value is home, and the tray
     /// has none.
     pub fn to_end(&self) -> Result<Walk<'a>, AllocError>
-        ensures vault { IfOk result (λ w. w.vault ≡ whole_vault self.now.plan.now self.now.world.now) }
+        ensures vault { IfOk result (λ w. w.vault
+            ≡ whole_vault self.now.plan.now self.now.world.now) }
         ensures lent { IfOk result (λ w. (n : ℕ) → is_lent w.tray.lent n ≡ false) }
         ensures empty { IfOk result (λ w. (i : ℕ) → slot w.tray.values i ≡ None) }
         ensures plan { IfOk result (λ w. w.results.plan ≡ self.now.plan.now) }
@@ -111,7 +115,8 @@ impl<'g, 'a, G: Gate> Serial<'g, 'a, G> {
     #[cycle(depth)]
     fn children(&self, walk: &mut Walk<'a>, class: u32) -> Result<(), AllocError>
         requires { BetweenNodes self.now.plan.now self.now.world.now class walk.old }
-        ensures between { OnOk result (BetweenNodes self.now.plan.now self.now.world.now class walk.new) }
+        ensures between { OnOk result
+            (BetweenNodes self.now.plan.now self.now.world.now class walk.new) }
         ensures done { OnOk result (AreDone self.now.plan.now class walk.new.results) }
         ensures further { OnOk result (GoesFurther walk.old walk.new) }
     {
@@ -131,10 +136,12 @@ impl<'g, 'a, G: Gate> Serial<'g, 'a, G> {
     pub fn node(&self, walk: &mut Walk<'a>, node: u32) -> Result<(), AllocError>
         requires positive { 0 < node }
         requires within { node < length self.now.plan.now.rows }
-        requires between { BetweenNodes self.now.plan.now self.now.world.now (parent (tree_of self.now.plan.now) node) walk.old }
+        requires between { BetweenNodes self.now.plan.now self.now.world.now
+            (parent (tree_of self.now.plan.now) node) walk.old }
         requires waits { has_result walk.old.results node ≡ false }
         ensures vault { OnOk result (walk.new.vault ≡ walk.old.vault) }
-        ensures between { OnOk result (BetweenNodes self.now.plan.now self.now.world.now (parent (tree_of self.now.plan.now) node) walk.new) }
+        ensures between { OnOk result (BetweenNodes self.now.plan.now self.now.world.now
+            (parent (tree_of self.now.plan.now) node) walk.new) }
         ensures done { OnOk result (has_result walk.new.results node ≡ true) }
         ensures further { OnOk result (GoesFurther walk.old walk.new) }
     {
@@ -187,7 +194,8 @@ impl<'g, 'a, G: Gate> Serial<'g, 'a, G> {
     fn open(&self, walk: &mut Walk<'a>, node: u32) -> Result<(), AllocError>
         requires entry { AtEntry self.now.plan.now self.now.world.now node walk.old }
         requires class { is_test (row_at (tree_of self.now.plan.now) node).kind ≡ false }
-        ensures between { OnOk result (BetweenNodes self.now.plan.now self.now.world.now node walk.new) }
+        ensures between { OnOk result
+            (BetweenNodes self.now.plan.now self.now.world.now node walk.new) }
         ensures further { OnOk result (GoesFurther walk.old walk.new) }
     {
         self.perform(walk, node, BodyKind::BeforeAll)
@@ -211,7 +219,8 @@ impl<'g, 'a, G: Gate> Serial<'g, 'a, G> {
         requires { CanPerform self.now.plan.now self.now.world.now kind node walk.old }
         ensures vault { walk.new.vault ≡ walk.old.vault }
         ensures results { OnOk result (walk.new.results ≡ with_done_of kind node walk.old.results) }
-        ensures values { OnOk result (IsTrayAfter self.now.plan.now self.now.world.now kind node walk.old.tray walk.new.tray) }
+        ensures values { OnOk result (IsTrayAfter self.now.plan.now self.now.world.now kind node
+            walk.old.tray walk.new.tray) }
     {
         let class = self.innermost(node, kind);
         walk.tray.hand_path(&walk.results, class)?;

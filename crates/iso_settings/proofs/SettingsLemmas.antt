@@ -1,8 +1,7 @@
 -- Settings, key by key.
 use Rattle.std.proofs.Common.{◌≡◌, Ok, Err, ap, ◌∙◌}
-use Rattle.iso_settings.specs.Readings.{Reading, ◌>>=◌, Gives}
-use Rattle.iso_settings.specs.declared.fault.SettingsError.{SettingsError}
-use Rattle.iso_settings.specs.declared.fault.SettingsError.TheVariants.{Fault, OutOfMemory}
+use Rattle.iso_settings.specs.Readings.{Reading, ◌>>=◌, Gives, SettingsError}
+use Rattle.iso_model.specs.declared.input_error.InputError.TheVariants.{Fault, OutOfMemory}
 
 -- past a reading that gives a value, the rest is left
 pub past : {A B : Type 0} {whole : Reading B} (r : Reading A) (f : A → Reading B) {x : A} → whole ≡ r >>= f → r ≡ Ok x → whole ≡ f x

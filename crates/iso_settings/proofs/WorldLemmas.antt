@@ -4,10 +4,9 @@ use Rattle.std.proofs.lemmas.Str.{IsCharBoundary-at_seam}
 use Rattle.std.specs.Str.{IsUtf8}
 use Rattle.iso_model.specs.Properties.{Map}
 use Rattle.iso_settings.specs.Leaves.{Leaf}
-use Rattle.iso_settings.specs.Readings.{Reading, ◌>>=◌, GivesAs}
+use Rattle.iso_settings.specs.Readings.{Reading, ◌>>=◌, GivesAs, SettingsError}
 use Rattle.iso_settings.specs.Worlds.{texts_of, with_text}
-use Rattle.iso_settings.specs.declared.fault.SettingsError.{SettingsError}
-use Rattle.iso_settings.specs.declared.fault.SettingsError.TheVariants.{Fault, OutOfMemory}
+use Rattle.iso_model.specs.declared.input_error.InputError.TheVariants.{Fault, OutOfMemory}
 
 -- a text may be cut where another text was put behind it
 pub seam : (bs xs ys : List ℕ) (n : ℕ) → bs ≡ xs ++ ys → IsUtf8 ys → n ≡ length xs → (n ≤ length bs) × (0 < n → n < length bs → 128 ≤ slice_index bs n → 192 ≤ slice_index bs n)
@@ -25,6 +24,7 @@ texts_of-append top [] ys before = refl
 texts_of-append top (x ∷ xs) ys before = bind-same (with_text top before x.0 x.1) _ _ _ (λ texts. texts_of-append top xs ys texts)
 
 -- a fault of the first part is one of the whole
-pub fault_first : {A B C D : Type 0} (s : A → B) (t : C → D) (whole : Reading D) (r : Reading B) (f : B → Reading D) (e : SettingsError) → whole ≡ r >>= f → GivesAs s r (Err e) → GivesAs t whole (Err e)
+pub fault_first : {A B C D : Type 0} (s : A → B) (t : C → D) (whole : Reading D) (r : Reading B) (f : B → Reading D) (e : SettingsError)
+    → whole ≡ r >>= f → GivesAs s r (Err e) → GivesAs t whole (Err e)
 fault_first s t whole r f (Fault fault) parts is = parts ∙ ap (λ x. x >>= f) is
 fault_first s t whole r f OutOfMemory parts is = tt

@@ -4,7 +4,7 @@ use Prim.Native.String.{String}
 use Rattle.std.specs.Prelude.{◌≡◌, ℕ, pos, true, false, List, [], ◌∷◌, codes, Option, Some, None, Ok, Err}
 use Rattle.std.specs.FinMap.{get}
 use Rattle.toml.specs.Data.{Data, string, integer, boolean, array, no_items, table, Members, no_members, member}
-use Rattle.iso_model.specs.Keys.{file_key, properties_key}
+use Rattle.iso_model.specs.ResourceKeys.{file_key, properties_key}
 use Rattle.iso_model.specs.declared.resource.Resource.{Resource}
 use Rattle.iso_model.specs.declared.resource.Resource.TheVariants.{Props}
 use Rattle.iso_settings.specs.Readings.{Reading, ◌>>=◌}
@@ -86,11 +86,13 @@ world_of entries = world_in (document entries)
 
 -- how many workers settings give
 abbrev pub workers_in : List Entry → (processors : ℕ) → Reading ℕ
-workers_in entries processors = settings_in (document entries) processors >>= (λ settings. Ok settings.worker_count)
+workers_in entries processors =
+    settings_in (document entries) processors >>= (λ settings. Ok settings.worker_count)
 
 -- of two settings with wrong values, the first is answered, though the second stands before it
 abbrev pub ComesFirst : String → String → Type 0
-ComesFirst first second = workers_in (set second wrong ∷ set first wrong ∷ []) 1 ≡ Err (WrongValue (jupiter first))
+ComesFirst first second = workers_in (set second wrong ∷ set first wrong ∷ []) 1
+    ≡ Err (WrongValue (jupiter first))
 
 -- what a key starts with in a world, and the file at a path
 abbrev pub start_in : List Entry → List ℕ → Reading Resource

@@ -1,8 +1,12 @@
 -- What a text is read as: a value, or the first fault.
 use Rattle.std.specs.Prelude.{◌≡◌, Result, Ok, Err}
-use Rattle.iso_settings.specs.declared.fault.SettingsError.{SettingsError}
-use Rattle.iso_settings.specs.declared.fault.SettingsError.TheVariants.{Fault, OutOfMemory}
+use Rattle.iso_model.specs.declared.input_error.InputError.{InputError}
+use Rattle.iso_model.specs.declared.input_error.InputError.TheVariants.{Fault, OutOfMemory}
 use Rattle.iso_settings.specs.declared.fault.SettingsFault.{SettingsFault}
+
+-- why settings or a world could not be read
+abbrev pub SettingsError : Type 0
+SettingsError = InputError SettingsFault
 
 -- a value, or the first fault
 abbrev pub Reading : Type 0 → Type 0

@@ -4,7 +4,7 @@ use Rattle.std.specs.List.{starts_with, list_all}
 use Rattle.std.specs.FinMap.{code, empty, get, insert}
 use Rattle.std.specs.Coded.{Coded, code_by, coded×, coded_list, coded_ℕ}
 use Rattle.toml.specs.Data.{Data, string, table, Members, no_members, member}
-use Rattle.iso_model.specs.Keys.{properties_key, locale_key, file_prefix}
+use Rattle.iso_model.specs.ResourceKeys.{properties_key, locale_key, file_prefix}
 use Rattle.iso_model.specs.Properties.{Map}
 use Rattle.iso_model.specs.Resources.{default_locale}
 use Rattle.iso_model.specs.declared.limits.TheConstants.{TEXT_BYTES}
@@ -35,7 +35,8 @@ abbrev with_parts : Parts → Start
 with_parts p = record { files = p.0; locale = p.1.0; properties = p.1.1 }
 
 abbrev pub start_code : Coded Start
-start_code = code_by Parts (coded× map_code (coded× (coded_list coded_ℕ) map_code)) parts with_parts (λ _. refl)
+start_code = code_by Parts (coded× map_code (coded× (coded_list coded_ℕ) map_code)) parts
+    with_parts (λ _. refl)
 
 -- the start of a world that says nothing
 abbrev pub empty_start : Start
@@ -46,7 +47,8 @@ abbrev pub starting_value_in : Start → List ℕ → Resource
 starting_value_in start key =
     cond (bytes_eq key properties_key) (Props start.properties)
     (cond (bytes_eq key locale_key) (Locale start.locale)
-    (cond (starts_with nat_eq key file_prefix) (File (get start.files (drop (length file_prefix) key))) Plain))
+    (cond (starts_with nat_eq key file_prefix)
+    (File (get start.files (drop (length file_prefix) key))) Plain))
 
 -- the bytes are printable ASCII
 abbrev pub is_printable : List ℕ → Bool
@@ -58,7 +60,8 @@ is_long text = nat_lt TEXT_BYTES (length text)
 
 -- a text, if it is neither wrong nor out of range, which is tested in this order
 abbrev pub checked : (key : List ℕ) → (is_wrong is_out : Bool) → List ℕ → Reading (List ℕ)
-checked key is_wrong is_out text = if is_wrong then Err (WrongValue key) else if is_out then Err (OutOfRange key) else Ok text
+checked key is_wrong is_out text =
+    if is_wrong then Err (WrongValue key) else if is_out then Err (OutOfRange key) else Ok text
 
 -- the locale
 abbrev pub locale_of : List ℕ → Data → Reading (List ℕ)
@@ -68,17 +71,20 @@ locale_of key _ = Err (WrongValue key)
 -- the text of a leaf of the table `top`, whose joined key is none of those read before it
 abbrev pub text_of : (top : List ℕ) → (before : Map) → (key : List ℕ) → Data → Reading (List ℕ)
 text_of top before key (string text) =
-    checked (top ++ codes "." ++ key) (not (is_printable key && is_printable text) || is_some (get before key)) (is_long key || is_long text) text
+    checked (top ++ codes "." ++ key) (not (is_printable key && is_printable text)
+    || is_some (get before key)) (is_long key || is_long text) text
 text_of top before key _ = Err (WrongValue (top ++ codes "." ++ key))
 
 -- the texts read before a leaf, and its own
 abbrev pub with_text : (top : List ℕ) → (before : Map) → (key : List ℕ) → Data → Reading Map
-with_text top before key value = text_of top before key value >>= (λ text. Ok (insert before key text))
+with_text top before key value =
+    text_of top before key value >>= (λ text. Ok (insert before key text))
 
 -- the texts read before some leaves, and theirs
 abbrev pub texts_of : (top : List ℕ) → (before : Map) → List Leaf → Reading Map
 texts_of top before [] = Ok before
-texts_of top before (leaf ∷ rest) = with_text top before leaf.0 leaf.1 >>= (λ texts. texts_of top texts rest)
+texts_of top before (leaf ∷ rest) =
+    with_text top before leaf.0 leaf.1 >>= (λ texts. texts_of top texts rest)
 
 -- a table of texts
 abbrev pub table_of : List ℕ → Data → Reading Map
@@ -88,15 +94,19 @@ table_of top _ = Err (WrongValue top)
 -- what one top-level key says besides
 abbrev pub with_entry : Start → List ℕ → Data → Reading Start
 with_entry start key value =
-    if bytes_eq key (codes "files") then table_of key value >>= (λ texts. Ok (record start { files = texts }))
-    else if bytes_eq key (codes "locale") then locale_of key value >>= (λ text. Ok (record start { locale = text }))
-    else if bytes_eq key (codes "properties") then table_of key value >>= (λ texts. Ok (record start { properties = texts }))
+    if bytes_eq key (codes "files") then table_of key value >>=
+    (λ texts. Ok (record start { files = texts }))
+    else if bytes_eq key (codes "locale") then locale_of key value >>=
+    (λ text. Ok (record start { locale = text }))
+    else if bytes_eq key (codes "properties") then table_of key value >>=
+    (λ texts. Ok (record start { properties = texts }))
     else Err (WrongValue key)
 
 -- what top-level keys say, one after another
 abbrev pub with_entries : Start → Members → Reading Start
 with_entries start no_members = Ok start
-with_entries start (member key value rest) = with_entry start key value >>= (λ more. with_entries more rest)
+with_entries start (member key value rest) =
+    with_entry start key value >>= (λ more. with_entries more rest)
 
 -- the world of a document: of the table that it is, where it is TOML
 abbrev pub world_in : Option Members → Reading Start

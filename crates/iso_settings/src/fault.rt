@@ -1,5 +1,9 @@
+ghost use Rattle.iso_settings.specs.Readings.{IsFault};
+ghost use Rattle.iso_settings.specs.declared.fault.SettingsFault.TheVariants.{WrongValue, Unsupported, OutOfRange};
+
+use iso_model::input_error::InputError;
 use iso_model::text::Text;
-use std::alloc::{AllocError, AllocFailed, Global};
+use std::alloc::Global;
 use std::fmt;
 use thiserror::Error;
 
@@ -33,67 +37,34 @@ impl fmt::Debug for SettingsFault {
 }
 
 /// Why settings or a world could not be read.
-#[derive(Debug, Drop, Error)]
-pub enum SettingsError {
-    #[error("{0}")]
-    Fault(SettingsFault),
-    #[error("out of memory")]
-    OutOfMemory,
-}
+pub type SettingsError = InputError<SettingsFault>;
 
-impl SettingsError {
-    ghost use Rattle.iso_settings.specs.Readings.{IsFault};
-    ghost use Rattle.iso_settings.specs.declared.fault.SettingsFault.TheVariants.{WrongValue, Unsupported, OutOfRange};
-
-    /// The fault `WrongValue` at a key.
-    pub(crate) fn wrong_value(alloc: Global, key: &str) -> SettingsError
-        ensures { IsFault (WrongValue key.now) result }
-    {
-        match Text::copied(alloc, key) {
-            Ok(key) => SettingsError::Fault(SettingsFault::WrongValue(key)),
-            Err(_) => SettingsError::OutOfMemory,
-        }
-    }
-
-    /// The fault `Unsupported` at a key.
-    pub(crate) fn unsupported(alloc: Global, key: &str) -> SettingsError
-        ensures { IsFault (Unsupported key.now) result }
-    {
-        match Text::copied(alloc, key) {
-            Ok(key) => SettingsError::Fault(SettingsFault::Unsupported(key)),
-            Err(_) => SettingsError::OutOfMemory,
-        }
-    }
-
-    /// The fault `OutOfRange` at a key.
-    pub(crate) fn out_of_range(alloc: Global, key: &str) -> SettingsError
-        ensures { IsFault (OutOfRange key.now) result }
-    {
-        match Text::copied(alloc, key) {
-            Ok(key) => SettingsError::Fault(SettingsFault::OutOfRange(key)),
-            Err(_) => SettingsError::OutOfMemory,
-        }
+/// The fault `WrongValue` at a key.
+pub(crate) fn wrong_value(alloc: Global, key: &str) -> SettingsError
+    ensures { IsFault (WrongValue key.now) result }
+{
+    match Text::copied(alloc, key) {
+        Ok(key) => SettingsError::Fault(SettingsFault::WrongValue(key)),
+        Err(_) => SettingsError::OutOfMemory,
     }
 }
 
-impl From<AllocError> for SettingsError {
-    ghost use Rattle.std.specs.Prelude.{◌≡◌};
-    ghost use Rattle.iso_settings.specs.declared.fault.SettingsError.TheVariants.{OutOfMemory};
-
-    ghost from_gives = { λ _ e. e ≡ OutOfMemory };
-
-    fn from(_error: AllocError) -> SettingsError {
-        SettingsError::OutOfMemory
+/// The fault `Unsupported` at a key.
+pub(crate) fn unsupported(alloc: Global, key: &str) -> SettingsError
+    ensures { IsFault (Unsupported key.now) result }
+{
+    match Text::copied(alloc, key) {
+        Ok(key) => SettingsError::Fault(SettingsFault::Unsupported(key)),
+        Err(_) => SettingsError::OutOfMemory,
     }
 }
 
-impl<T: Drop> From<AllocFailed<T>> for SettingsError {
-    ghost use Rattle.std.specs.Prelude.{◌≡◌};
-    ghost use Rattle.iso_settings.specs.declared.fault.SettingsError.TheVariants.{OutOfMemory};
-
-    ghost from_gives = { λ _ e. e ≡ OutOfMemory };
-
-    fn from(_error: AllocFailed<T>) -> SettingsError {
-        SettingsError::OutOfMemory
+/// The fault `OutOfRange` at a key.
+pub(crate) fn out_of_range(alloc: Global, key: &str) -> SettingsError
+    ensures { IsFault (OutOfRange key.now) result }
+{
+    match Text::copied(alloc, key) {
+        Ok(key) => SettingsError::Fault(SettingsFault::OutOfRange(key)),
+        Err(_) => SettingsError::OutOfMemory,
     }
 }

@@ -9,7 +9,7 @@ use toml::{Table, Value};
 
 /// What stands at a joined key.
 #[derive(Clone, Copy)]
-pub(crate) enum Found<'a> {
+pub enum Found<'a> {
     Nothing,
     One(&'a Value),
     /// The key is reached by two spellings or more.
@@ -31,7 +31,7 @@ impl<'a> Found<'a> {
 
 /// What stands at a joined key of a table.
 #[cycle(find)]
-pub(crate) fn find<'a>(table: &'a Table, key: &str) -> Found<'a>
+pub fn find<'a>(table: &'a Table, key: &str) -> Found<'a>
     ensures { IsFound result (values_at key.now (leaves (table_view table.now))) }
 {
     let mut found = Found::Nothing;

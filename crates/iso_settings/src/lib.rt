@@ -4,7 +4,7 @@
 
 pub mod examples;
 pub mod fault;
-mod find;
+pub mod find;
 mod rules;
 pub mod settings;
 mod starts;

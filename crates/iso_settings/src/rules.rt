@@ -9,7 +9,7 @@ ghost use Rattle.iso_settings.specs.Leaves.{leaves, values_at};
 ghost use Rattle.iso_settings.specs.Readings.{Gives, GivesAs};
 ghost use Rattle.iso_settings.specs.Settings.{setting, only_value, flag, mode, strategy, count, lifecycle, in_range, is_numeral};
 
-use crate::fault::SettingsError;
+use crate::fault::{SettingsError, out_of_range, unsupported, wrong_value};
 use crate::find::{Found, find};
 use crate::settings::Strategy;
 use iso_model::script::Mode;
@@ -22,12 +22,13 @@ fn value_at<'a>(
     table: &'a Table,
     key: &str,
 ) -> Result<Option<&'a Value>, SettingsError>
-    ensures { GivesAs (option_map (λ v. view v.now)) (only_value key.now (values_at key.now (leaves (table_view table.now)))) result }
+    ensures { GivesAs (option_map (λ v. view v.now))
+        (only_value key.now (values_at key.now (leaves (table_view table.now)))) result }
 {
     match find(table, key) {
         Found::Nothing => Ok(None),
         Found::One(value) => Ok(Some(value)),
-        Found::Several => Err(SettingsError::wrong_value(alloc, key)),
+        Found::Several => Err(wrong_value(alloc, key)),
     }
 }
 
@@ -40,7 +41,7 @@ pub(crate) fn flag(alloc: Global, table: &Table, key: &str) -> Result<Option<boo
         Some(Value::Boolean(value)) => Ok(Some(*value)),
         Some(Value::String(text)) if text.eq_ignore_ascii_case("true") => Ok(Some(true)),
         Some(Value::String(text)) if text.eq_ignore_ascii_case("false") => Ok(Some(false)),
-        Some(_) => Err(SettingsError::wrong_value(alloc, key)),
+        Some(_) => Err(wrong_value(alloc, key)),
     }
 }
 
@@ -56,7 +57,7 @@ pub(crate) fn mode(alloc: Global, table: &Table, key: &str) -> Result<Option<Mod
         Some(Value::String(text)) if text.eq_ignore_ascii_case("concurrent") => Ok(Some(
             Mode::Concurrent,
         )),
-        Some(_) => Err(SettingsError::wrong_value(alloc, key)),
+        Some(_) => Err(wrong_value(alloc, key)),
     }
 }
 
@@ -71,7 +72,7 @@ pub(crate) fn strategy(
     match value_at(alloc, table, key)? {
         None => Ok(None),
         Some(Value::String(text)) => Ok(Some(strategy_named(alloc, key, text)?)),
-        Some(_) => Err(SettingsError::wrong_value(alloc, key)),
+        Some(_) => Err(wrong_value(alloc, key)),
     }
 }
 
@@ -84,9 +85,9 @@ fn strategy_named(alloc: Global, key: &str, name: &str) -> Result<Strategy, Sett
     } else if name.eq_ignore_ascii_case("fixed") {
         Ok(Strategy::Fixed)
     } else if name.eq_ignore_ascii_case("custom") {
-        Err(SettingsError::unsupported(alloc, key))
+        Err(unsupported(alloc, key))
     } else {
-        Err(SettingsError::wrong_value(alloc, key))
+        Err(wrong_value(alloc, key))
     }
 }
 
@@ -125,7 +126,7 @@ fn in_range(alloc: Global, key: &str, number: i64) -> Result<u32, SettingsError>
     ensures within { IfOk result (IsInRange 1 64) }
 {
     if number < 1 || number > 64 {
-        return Err(SettingsError::out_of_range(alloc, key));
+        return Err(out_of_range(alloc, key));
     }
     Ok(number as u32)
 }
@@ -140,9 +141,9 @@ pub(crate) fn count(alloc: Global, table: &Table, key: &str) -> Result<Option<u3
         Some(Value::Integer(number)) => *number,
         Some(Value::String(text)) => match numeral(text) {
             Some(number) => i64::from(number),
-            None => return Err(SettingsError::wrong_value(alloc, key)),
+            None => return Err(wrong_value(alloc, key)),
         },
-        Some(_) => return Err(SettingsError::wrong_value(alloc, key)),
+        Some(_) => return Err(wrong_value(alloc, key)),
     };
     Ok(Some(in_range(alloc, key, number)?))
 }
@@ -158,7 +159,7 @@ pub(crate) fn lifecycle(
     match value_at(alloc, table, key)? {
         None => Ok(None),
         Some(Value::String(text)) if text.eq_ignore_ascii_case("per_method") => Ok(Some(())),
-        Some(Value::String(_)) => Err(SettingsError::unsupported(alloc, key)),
-        Some(_) => Err(SettingsError::wrong_value(alloc, key)),
+        Some(Value::String(_)) => Err(unsupported(alloc, key)),
+        Some(_) => Err(wrong_value(alloc, key)),
     }
 }

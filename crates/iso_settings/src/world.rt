@@ -6,7 +6,7 @@ ghost use Rattle.iso_settings.specs.Readings.{Gives, GivesAs, IsFault};
 ghost use Rattle.iso_settings.specs.Worlds.{is_long, is_printable, locale_of, table_of, text_of, texts_of, with_text, world_in};
 ghost use Rattle.iso_settings.specs.declared.fault.SettingsFault.TheVariants.{OutOfRange, WrongValue};
 
-use crate::fault::SettingsError;
+use crate::fault::{SettingsError, out_of_range, wrong_value};
 use crate::starts::{FileStarts, LocaleStart, PropertiesStart};
 use crate::table::read_table;
 use crate::texts::Texts;
@@ -93,7 +93,7 @@ impl World {
             let properties = table_of(alloc, key, value)?.into_properties(alloc)?;
             self.properties = PropertiesStart::new(alloc, properties)?;
         } else {
-            return Err(SettingsError::wrong_value(alloc, key));
+            return Err(wrong_value(alloc, key));
         }
         Ok(())
     }
@@ -178,10 +178,10 @@ fn locale_of(alloc: Global, key: &str, value: &Value) -> Result<Text, SettingsEr
     ensures { Gives (locale_of key.now (view value.now)) result }
 {
     match value {
-        Value::String(text) if !is_printable(text) => Err(SettingsError::wrong_value(alloc, key)),
-        Value::String(text) if is_long(text) => Err(SettingsError::out_of_range(alloc, key)),
+        Value::String(text) if !is_printable(text) => Err(wrong_value(alloc, key)),
+        Value::String(text) if is_long(text) => Err(out_of_range(alloc, key)),
         Value::String(text) => Ok(Text::copied(alloc, text)?),
-        _ => Err(SettingsError::wrong_value(alloc, key)),
+        _ => Err(wrong_value(alloc, key)),
     }
 }
 
@@ -196,7 +196,7 @@ fn table_of(alloc: Global, top: &str, value: &Value) -> Result<Texts, SettingsEr
             add_texts(alloc, top, &mut path, table, &mut texts)?;
             Ok(texts)
         }
-        _ => Err(SettingsError::wrong_value(alloc, top)),
+        _ => Err(wrong_value(alloc, top)),
     }
 }
 
@@ -211,7 +211,8 @@ fn add_texts(
     texts: &mut Texts,
 ) -> Result<(), SettingsError>
     ensures texts { GivesAs (λ _. texts.new)
-        (texts_of top.now texts.old (leaves_behind (string_bytes path.old) (table_view table.now))) result }
+        (texts_of top.now texts.old (leaves_behind (string_bytes path.old) (table_view table.now)))
+        result }
     ensures path { OnOk result (string_bytes path.new ≡ string_bytes path.old) }
 {
     let start = path.as_str().len();
@@ -258,7 +259,8 @@ fn add_text(
     value: &Value,
     texts: &mut Texts,
 ) -> Result<(), SettingsError>
-    ensures { GivesAs (λ _. texts.new) (with_text top.now texts.old key.now (view value.now)) result }
+    ensures { GivesAs (λ _. texts.new)
+        (with_text top.now texts.old key.now (view value.now)) result }
 {
     let text = text_of(alloc, top, texts, key, value)?;
     texts.set(String::from_str(alloc, key)?, text)?;
@@ -292,7 +294,7 @@ fn wrong_value_in(alloc: Global, top: &str, key: &str) -> SettingsError
     ensures { IsFault (WrongValue (top.now ++ codes "." ++ key.now)) result }
 {
     match full_key(alloc, top, key) {
-        Ok(full) => SettingsError::wrong_value(alloc, &full),
+        Ok(full) => wrong_value(alloc, &full),
         Err(_) => SettingsError::OutOfMemory,
     }
 }
@@ -302,7 +304,7 @@ fn out_of_range_in(alloc: Global, top: &str, key: &str) -> SettingsError
     ensures { IsFault (OutOfRange (top.now ++ codes "." ++ key.now)) result }
 {
     match full_key(alloc, top, key) {
-        Ok(full) => SettingsError::out_of_range(alloc, &full),
+        Ok(full) => out_of_range(alloc, &full),
         Err(_) => SettingsError::OutOfMemory,
     }
 }

@@ -121,7 +121,7 @@ impl Held {
         self.value.look(ask)
     }
 
-    /// The value, which stands where it started. Takes no memory.
+    /// For a runner of one's own: the value, which stands where it started. Takes no memory.
     pub fn into_resource(self) -> Resource
         requires { self.now ≡ start_of self }
         ensures { result ≡ self.now }

@@ -10,7 +10,7 @@ use Rattle.iso_isolation.proofs.Rights.{isolation}
 use Rattle.iso_isolation.specs.Alone.{run_alone}
 use Rattle.iso_isolation.specs.Suites.{SuiteLaws}
 use Rattle.iso_model.proofs.ChainRuns.{tests-agree, classes-agree}
-use Rattle.iso_model.specs.Agreement.{TestsAgree, ClassesAgree}
+use Rattle.iso_model.specs.ChainAgreement.{TestsAgree, ClassesAgree}
 use Rattle.iso_model.specs.Alone.{test_alone, class_alone}
 use Rattle.iso_model.specs.Chains.{ClassHead, TestHead}
 use Rattle.iso_model.specs.declared.outcome.Outcome.{Outcome}

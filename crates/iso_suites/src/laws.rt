@@ -14,7 +14,7 @@ ghost use Rattle.iso_isolation.specs.Refusals as Why;
 ghost use Rattle.iso_isolation.specs.Runs.{after_all_of, is_accepted, result_of};
 ghost use Rattle.iso_isolation.specs.States.{first};
 ghost use Rattle.iso_isolation.specs.Suites.{SuiteLaws};
-ghost use Rattle.iso_model.specs.Agreement.{ClassesAgree, TestsAgree};
+ghost use Rattle.iso_model.specs.ChainAgreement.{ClassesAgree, TestsAgree};
 ghost use Rattle.iso_model.specs.Alone.{class_alone, test_alone};
 ghost use Rattle.iso_model.specs.Chains.{ClassHead, TestHead, class_rights, test_rights};
 ghost use Rattle.iso_model.specs.Resources.{Resources, restricted};
@@ -42,8 +42,10 @@ pub fn outcomes_are_those_of_tests_and_classes_run_alone()
 /// The suite of a plan with the nodes that some paths keep of scripts, as
 /// `iso_plan::plan::build_only` answers it, is that of their launch.
 pub fn plan_of_scripts_has_the_suite_of_their_launch(plan: &Plan)
-    ensures { (written : List Script) (only : List (List ℕ)) (start : Resources) → tree_of plan.now ≡ plan_tree written only
-        → suite_of (tree_of plan.now) plan.now.settings start ≡ launched (launch written only plan.now.settings start) }
+    ensures { (written : List Script) (only : List (List ℕ)) (start : Resources) → tree_of plan.now
+        ≡ plan_tree written only
+        → suite_of (tree_of plan.now) plan.now.settings start
+        ≡ launched (launch written only plan.now.settings start) }
 {}
 
 /// Running a few tests gives what they give in the whole run: a node that some paths keep of a plan
@@ -64,17 +66,22 @@ pub fn selected_nodes_have_the_results_of_the_whole_run(whole: &Plan, selected: 
 /// starting values of the keys that these are marked with have equal outcomes, whatever else is run
 /// beside them, under whatever settings and in whatever order.
 pub fn what_agrees_has_equal_outcomes()
-    ensures tests { (l m : Launch) (i j : ℕ) (t u : TestHead) (cs ds : List ClassHead) (r q : Outcome)
-        → IsTestAt l i t cs → IsTestAt m j u ds → TestsAgree t cs l.start u ds m.start → MayEnd l i r → MayEnd m j q → r ≡ q }
-    ensures classes { (l m : Launch) (i j : ℕ) (c d : ClassHead) (cs ds : List ClassHead) (r q : Outcome)
-        → IsClassAt l i c cs → IsClassAt m j d ds → ClassesAgree c cs l.start d ds m.start → MayEnd l i r → MayEnd m j q → r ≡ q }
+    ensures tests { (l m : Launch) (i j : ℕ) (t u : TestHead) (cs ds : List ClassHead)
+        (r q : Outcome)
+        → IsTestAt l i t cs → IsTestAt m j u ds → TestsAgree t cs l.start u ds m.start
+        → MayEnd l i r → MayEnd m j q → r ≡ q }
+    ensures classes { (l m : Launch) (i j : ℕ) (c d : ClassHead) (cs ds : List ClassHead)
+        (r q : Outcome)
+        → IsClassAt l i c cs → IsClassAt m j d ds → ClassesAgree c cs l.start d ds m.start
+        → MayEnd l i r → MayEnd m j q → r ≡ q }
 {}
 
 /// Tests, and classes, agree though their starting values differ at keys that neither they nor the
 /// classes around them are marked with: each start agrees with what it says of the marked keys
 /// alone.
 pub fn agreement_is_at_marked_keys_alone()
-    ensures tests { (t : TestHead) (cs : List ClassHead) (start : Resources) → TestsAgree t cs start t cs (restricted (test_rights t cs) start) }
+    ensures tests { (t : TestHead) (cs : List ClassHead) (start : Resources)
+        → TestsAgree t cs start t cs (restricted (test_rights t cs) start) }
     ensures classes { (c : ClassHead) (cs : List ClassHead) (start : Resources)
         → ClassesAgree c cs start c cs (restricted (class_rights (c ∷ cs)) start) }
 {}
@@ -84,17 +91,22 @@ pub fn agreement_is_at_marked_keys_alone()
 pub fn histories_go_on()
     ensures accepted { (l : Launch) (workers : ℕ) (h : List Event) (e : Event)
         → IsHistory scripts (launched l) workers h → has_no_step (e ∷ []) ≡ true
-        → is_accepted scripts (launched l) workers (state_of scripts (launched l) h) e ≡ true → GoesOn scripts (launched l) workers h e }
-    ensures leaves { (l : Launch) (workers : ℕ) (h : List Event) (w : ℕ) → IsHistory scripts (launched l) workers h
-        → refusal scripts (launched l) workers (state_of scripts (launched l) h) (Leave w) ≡ Some Why.BodyNotEnded
+        → is_accepted scripts (launched l) workers (state_of scripts (launched l) h) e ≡ true
+        → GoesOn scripts (launched l) workers h e }
+    ensures leaves { (l : Launch) (workers : ℕ) (h : List Event) (w : ℕ)
+        → IsHistory scripts (launched l) workers h
+        → refusal scripts (launched l) workers (state_of scripts (launched l) h) (Leave w)
+        ≡ Some Why.BodyNotEnded
         → GoesOn scripts (launched l) workers h (Leave w) }
 {}
 
 /// A history of a plan goes on by each Leave against which nothing stands but the steps that its
 /// body still needs: those are made, and the body has ended.
 pub fn histories_go_on_by_leaves(plan: &Plan)
-    ensures { (world : Start) (workers : ℕ) (h : List Event) (w : ℕ) → IsHistory scripts (suite_at plan.now world) workers h
-        → booking_refusal (suite_at plan.now world) workers (state_of scripts (suite_at plan.now world) h) w ≡ None
+    ensures { (world : Start) (workers : ℕ) (h : List Event) (w : ℕ)
+        → IsHistory scripts (suite_at plan.now world) workers h
+        → booking_refusal (suite_at plan.now world) workers
+        (state_of scripts (suite_at plan.now world) h) w ≡ None
         → GoesOnByLeave plan.now world workers h w }
 {
     nodes_are_a_tree(plan);
@@ -104,9 +116,12 @@ pub fn histories_go_on_by_leaves(plan: &Plan)
 /// isn't finished and that may change the key, or at its start where there is none; so a key that
 /// no unfinished node takes for READ_WRITE stands at its start.
 pub fn resources_stand_where_histories_tell()
-    ensures value { (l : Launch) (workers : ℕ) (h : List Event) (k : List ℕ) → IsHistory scripts (launched l) workers h
-        → (state_of scripts (launched l) h).nodes.flat k ≡ standing_value scripts (launched l) (state_of scripts (launched l) h) k }
-    ensures home { (l : Launch) (workers : ℕ) (h : List Event) (k : List ℕ) → IsHistory scripts (launched l) workers h
+    ensures value { (l : Launch) (workers : ℕ) (h : List Event) (k : List ℕ)
+        → IsHistory scripts (launched l) workers h
+        → (state_of scripts (launched l) h).nodes.flat k
+        ≡ standing_value scripts (launched l) (state_of scripts (launched l) h) k }
+    ensures home { (l : Launch) (workers : ℕ) (h : List Event) (k : List ℕ)
+        → IsHistory scripts (launched l) workers h
         → is_being_written scripts (launched l) (state_of scripts (launched l) h) k ≡ false
         → (state_of scripts (launched l) h).nodes.flat k ≡ l.start k }
 {}
@@ -114,7 +129,8 @@ pub fn resources_stand_where_histories_tell()
 /// Two runs with the same Enters, Leaves and Shuts in the same order give every node the same
 /// outcome, wherever their Steps stand.
 pub fn steps_may_stand_anywhere()
-    ensures { (l : Launch) (workers : ℕ) (es fs : List Event) → SameHistory scripts (launched l) workers es fs
+    ensures { (l : Launch) (workers : ℕ) (es fs : List Event)
+        → SameHistory scripts (launched l) workers es fs
         → (n : ℕ) → result_of (after_all_of scripts (launched l) (first scripts (launched l)) es) n
         ≡ result_of (after_all_of scripts (launched l) (first scripts (launched l)) fs) n }
 {}

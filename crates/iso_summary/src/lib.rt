@@ -12,4 +12,4 @@ mod part;
 pub mod source;
 pub mod summary;
 pub mod unseen;
-mod word;
+pub mod word;

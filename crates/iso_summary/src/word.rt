@@ -10,7 +10,7 @@ use iso_tap::sink::{Sink, SinkFailed};
 const PLAIN: &[u8] = b"_./:=@%+,-";
 
 /// Writes a file's name as a word of a command, which takes it for no option.
-pub(crate) fn file<W: Sink>(printer: &mut Printer<'_, W>, file: &str) -> Result<(), SinkFailed>
+pub fn file<W: Sink>(printer: &mut Printer<'_, W>, file: &str) -> Result<(), SinkFailed>
     ensures { Prints printer.old printer.new (file_word file.now) result }
 {
     printer.bytes(folder(file.as_bytes()))?;
@@ -29,7 +29,7 @@ fn folder(file: &[u8]) -> &'static [u8]
 }
 
 /// Writes a word, in quotes where it needs them.
-fn word<W: Sink>(printer: &mut Printer<'_, W>, word: &[u8]) -> Result<(), SinkFailed>
+pub fn word<W: Sink>(printer: &mut Printer<'_, W>, word: &[u8]) -> Result<(), SinkFailed>
     ensures { Prints printer.old printer.new (shell_word word.now) result }
 {
     if is_plain_word(word) {

@@ -7,8 +7,8 @@ use crate::fault::TapFault;
 use crate::printer::{Piece, Printer};
 use crate::sink::{Sink, SinkFailed};
 
-/// Writes a text as it stands in a title or a reason (TAP version 14): with a backslash before each
-/// backslash and each hash. Takes no memory.
+/// For a runner of one's own: writes a text as it stands in a title or a reason (TAP version 14),
+/// with a backslash before each backslash and each hash. Takes no memory.
 ///
 /// The sink is asked again where it takes only some bytes, and no more once it has failed.
 pub fn escape<W: Sink>(text: &str, sink: &mut W) -> Result<(), TapFault>

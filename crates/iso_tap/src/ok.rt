@@ -29,7 +29,8 @@ fn children_are_ok(plan: &Plan, results: &Results<'_>, node: u32) -> bool
     requires plan { results.now.plan ≡ plan.now }
     requires complete { AreComplete results.now }
     requires within { node < length plan.now.rows }
-    ensures { result ≡ list_all (is_ok (tree_of plan.now) (outcome_in results.now)) (children (tree_of plan.now) node) }
+    ensures { result ≡ list_all (is_ok (tree_of plan.now) (outcome_in results.now))
+        (children (tree_of plan.now) node) }
 {
     laws::nodes_are_a_tree(plan);
     'children: for child in plan.children(node) {
@@ -42,7 +43,7 @@ fn children_are_ok(plan: &Plan, results: &Results<'_>, node: u32) -> bool
 
 /// Whether the point of a node is ok.
 #[cycle(being_ok)]
-pub(crate) fn is_ok(plan: &Plan, results: &Results<'_>, node: u32) -> bool
+pub fn is_ok(plan: &Plan, results: &Results<'_>, node: u32) -> bool
     requires plan { results.now.plan ≡ plan.now }
     requires complete { AreComplete results.now }
     requires above { 0 < node }

@@ -71,7 +71,8 @@ impl<'a> Waits<'a> {
         requires above { 0 < node }
         requires within { node < length self.old.plan.rows }
         ensures same { self.new ≡ self.old }
-        ensures waits { IfOk result (λ v. v.items ≡ waits (tree_of self.old.plan) self.old.plan.settings self.old.bodies node) }
+        ensures waits { IfOk result (λ v. v.items
+            ≡ waits (tree_of self.old.plan) self.old.plan.settings self.old.bodies node) }
     {
         let Some(from) = ready::ready(self.plan, self.times, node) else {
             return Ok(Vec::new(alloc));
@@ -93,22 +94,23 @@ impl<'a> Waits<'a> {
         self.keys.key(self.plan, node, other)
     }
 
-    /// When a node was entered and hadn't finished. None where its first body has no time: it
-    /// didn't run, or a clock failed. A class whose `after_all` has none, since a clock failed,
-    /// counts as finished when its `before_all` had ended.
+    /// For a runner of one's own: when a node was entered and hadn't finished. None where its first
+    /// body has no time: it didn't run, or a clock failed. A class whose `after_all` has none,
+    /// since a clock failed, counts as finished when its `before_all` had ended.
     pub fn stay(&self, node: u32) -> Option<Stay>
         ensures { result ≡ stayed self.now.bodies node }
     {
         stayed(self.times, node)
     }
 
-    /// When a node other than the root was ready: its class was open and, where it is SAME_THREAD,
-    /// its earlier SAME_THREAD sibling had finished. None where its class's `before_all` has no
-    /// time.
+    /// For a runner of one's own: when a node other than the root was ready. Its class was open
+    /// then and, where it is SAME_THREAD, its earlier SAME_THREAD sibling had finished. None where
+    /// its class's `before_all` has no time.
     pub fn ready(&self, node: u32) -> Option<u64>
         requires above { 0 < node }
         requires within { node < length self.now.plan.rows }
-        ensures { result ≡ ready (tree_of self.now.plan) self.now.plan.settings self.now.bodies node }
+        ensures { result ≡ ready (tree_of self.now.plan) self.now.plan.settings
+            self.now.bodies node }
     {
         ready::ready(self.plan, self.times, node)
     }
@@ -118,7 +120,8 @@ impl<'a> Waits<'a> {
     pub fn earlier(&self, node: u32) -> Option<u32>
         requires above { 0 < node }
         requires within { node < length self.now.plan.rows }
-        ensures { result ≡ earlier (tree_of self.now.plan) self.now.plan.settings self.now.bodies node }
+        ensures { result ≡ earlier (tree_of self.now.plan) self.now.plan.settings
+            self.now.bodies node }
     {
         ready::earlier(self.plan, self.times, node)
     }

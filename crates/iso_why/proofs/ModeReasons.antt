@@ -12,12 +12,13 @@ use Rattle.iso_plan.specs.Paths.{is_on, is_root, is_top, is_under, parent, path,
 use Rattle.iso_plan.specs.Tree.{Row}
 use Rattle.iso_plan.specs.declared.lock.Lock.{Lock}
 use Rattle.iso_settings.specs.declared.settings.Settings.{Settings}
-use Rattle.iso_why.specs.GivesMode.{GivesMode, IsDefault, IsForcing, IsFree, IsMarking, writes_key}
-use Rattle.iso_why.specs.Reasons.{chosen_by, first_written, forced_by, forced_or, marked_by, reason}
+use Rattle.iso_why.specs.ReasonLaws.{GivesMode, IsDefault, IsForcing, IsFree, IsMarking, writes_key}
+use Rattle.iso_why.specs.ModeReasons.{chosen_by, first_written, forced_by, forced_or, marked_by, reason}
 use Rattle.iso_why.specs.declared.why.Cause.{Cause}
 use Rattle.iso_why.specs.declared.why.Cause.TheVariants.{Off, Forced, Marked, Default}
 
-none_written_by : (l : Lock) (ls : List Lock) (t : Bool) → cond t (Some l.key) (first_written ls) ≡ None → (first_written ls ≡ None → list_any is_write ls ≡ false) → (t || list_any is_write ls) ≡ false
+none_written_by : (l : Lock) (ls : List Lock) (t : Bool) → cond t (Some l.key) (first_written ls) ≡ None
+    → (first_written ls ≡ None → list_any is_write ls ≡ false) → (t || list_any is_write ls) ≡ false
 none_written_by l ls true e ih = let no : Some l.key ≡ None = e in absurd (cc)
 none_written_by l ls false e ih = ih e
 
@@ -29,7 +30,8 @@ or_last : (a b : Bool) → b ≡ true → (a || b) ≡ true
 or_last true b e = refl
 or_last false b e = e
 
-written_by : (l : Lock) (ls : List Lock) (key : ℕ) (t : Bool) → is_write l ≡ t → cond t (Some l.key) (first_written ls) ≡ Some key → (first_written ls ≡ Some key → list_any (λ (m : Lock). m.key == key && is_write m) ls ≡ true) → ((l.key == key && is_write l) || list_any (λ (m : Lock). m.key == key && is_write m) ls) ≡ true
+written_by : (l : Lock) (ls : List Lock) (key : ℕ) (t : Bool) → is_write l ≡ t → cond t (Some l.key) (first_written ls) ≡ Some key
+    → (first_written ls ≡ Some key → list_any (λ (m : Lock). m.key == key && is_write m) ls ≡ true) → ((l.key == key && is_write l) || list_any (λ (m : Lock). m.key == key && is_write m) ls) ≡ true
 written_by l ls key true w e ih =
     let whole : Some l.key ≡ Some key = e in
     let same : l.key ≡ key = cc in
@@ -41,7 +43,8 @@ first_is : (ls : List Lock) (key : ℕ) → first_written ls ≡ Some key → li
 first_is [] key e = absurd (cc)
 first_is (l ∷ ls) key e = written_by l ls key (is_write l) refl e (first_is ls key)
 
-none_forced_by : (tree : List Row) (n : ℕ) (ns : List ℕ) (o : Option ℕ) → first_written (locks tree n) ≡ o → option_or (option_map (λ k. Forced n k) o) (forced_by tree ns) ≡ None → (forced_by tree ns ≡ None → list_any (takes_write tree) ns ≡ false) → (takes_write tree n || list_any (takes_write tree) ns) ≡ false
+none_forced_by : (tree : List Row) (n : ℕ) (ns : List ℕ) (o : Option ℕ) → first_written (locks tree n) ≡ o → option_or (option_map (λ k. Forced n k) o) (forced_by tree ns) ≡ None
+    → (forced_by tree ns ≡ None → list_any (takes_write tree) ns ≡ false) → (takes_write tree n || list_any (takes_write tree) ns) ≡ false
 none_forced_by tree n ns (Some k) w e ih = let no : Some (Forced n k) ≡ None = e in absurd (cc)
 none_forced_by tree n ns None w e ih = ap (λ b. b || list_any (takes_write tree) ns) (none_written (locks tree n) w) ∙ ih e
 
@@ -68,7 +71,8 @@ writes_any : (ls : List Lock) (key : ℕ) → list_any (λ (m : Lock). m.key == 
 writes_any [] key e = e
 writes_any (l ∷ ls) key e = any_by (l.key == key) (is_write l) (list_any (λ (m : Lock). m.key == key && is_write m) ls) (list_any is_write ls) e (writes_any ls key)
 
-force_by : (tree : List Row) (n : ℕ) (ns : List ℕ) (w : Cause) (o : Option ℕ) → first_written (locks tree n) ≡ o → option_or (option_map (λ k. Forced n k) o) (forced_by tree ns) ≡ Some w → (forced_by tree ns ≡ Some w → Force tree ns w) → Force tree (n ∷ ns) w
+force_by : (tree : List Row) (n : ℕ) (ns : List ℕ) (w : Cause) (o : Option ℕ) → first_written (locks tree n) ≡ o
+    → option_or (option_map (λ k. Forced n k) o) (forced_by tree ns) ≡ Some w → (forced_by tree ns ≡ Some w → Force tree ns w) → Force tree (n ∷ ns) w
 force_by tree n ns w (Some k) is e ih =
     let writes = first_is (locks tree n) k is in
     record {
@@ -94,7 +98,8 @@ force : (tree : List Row) (ns : List ℕ) (w : Cause) → forced_by tree ns ≡ 
 force tree [] w e = absurd (cc)
 force tree (n ∷ ns) w e = force_by tree n ns w (first_written (locks tree n)) refl e (force tree ns w)
 
-none_marked_by : (tree : List Row) (n : ℕ) (ns : List ℕ) (m : Option Mode) → cond (is_some m) (Some n) (marked_by tree ns) ≡ None → (marked_by tree ns ≡ None → nearest_mode tree ns ≡ None) → option_or m (nearest_mode tree ns) ≡ None
+none_marked_by : (tree : List Row) (n : ℕ) (ns : List ℕ) (m : Option Mode) → cond (is_some m) (Some n) (marked_by tree ns) ≡ None
+    → (marked_by tree ns ≡ None → nearest_mode tree ns ≡ None) → option_or m (nearest_mode tree ns) ≡ None
 none_marked_by tree n ns (Some m) e ih = let no : Some n ≡ None = e in absurd (cc)
 none_marked_by tree n ns None e ih = ih e
 
@@ -110,7 +115,8 @@ record Marking (tree : List Row) (ns : List ℕ) (m : ℕ) : Type 0 where
   nearest : nearest_mode tree ns ≡ Some found
   on : is_on ns m ≡ true
 
-mark_by : (tree : List Row) (n : ℕ) (ns : List ℕ) (m : ℕ) (o : Option Mode) → (row_at tree n).mode ≡ o → cond (is_some o) (Some n) (marked_by tree ns) ≡ Some m → (marked_by tree ns ≡ Some m → Marking tree ns m) → Marking tree (n ∷ ns) m
+mark_by : (tree : List Row) (n : ℕ) (ns : List ℕ) (m : ℕ) (o : Option Mode) → (row_at tree n).mode ≡ o
+    → cond (is_some o) (Some n) (marked_by tree ns) ≡ Some m → (marked_by tree ns ≡ Some m → Marking tree ns m) → Marking tree (n ∷ ns) m
 mark_by tree n ns m (Some own) is e ih =
     let same : n ≡ m = (let whole : Some n ≡ Some m = e in cc) in
     record {
@@ -184,12 +190,14 @@ forcing tree s n pos on w f =
     } in
     subst (GivesMode tree s n) (sym f.told) r
 
-with_force : (tree : List Row) (s : Settings) (n : ℕ) → 0 < n → s.parallel ≡ true → (o : Option Cause) → forced_by tree (path tree (parent tree n)) ≡ o → GivesMode tree s n (forced_or o (chosen_by (marked_by tree (path tree n)) (is_root (parent tree n))))
+with_force : (tree : List Row) (s : Settings) (n : ℕ) → 0 < n → s.parallel ≡ true → (o : Option Cause) → forced_by tree (path tree (parent tree n)) ≡ o
+    → GivesMode tree s n (forced_or o (chosen_by (marked_by tree (path tree n)) (is_root (parent tree n))))
 with_force tree s n pos on (Some w) e = forcing tree s n pos on w (force tree (path tree (parent tree n)) w e)
 with_force tree s n pos on None e =
     chosen tree s n pos (free tree s n pos on (none_forced tree (path tree (parent tree n)) e)) (marked_by tree (path tree n)) refl
 
-by_parallel : (tree : List Row) (s : Settings) (n : ℕ) → 0 < n → (t : Bool) → s.parallel ≡ t → GivesMode tree s n (cond t (forced_or (forced_by tree (path tree (parent tree n))) (chosen_by (marked_by tree (path tree n)) (is_root (parent tree n)))) Off)
+by_parallel : (tree : List Row) (s : Settings) (n : ℕ) → 0 < n → (t : Bool) → s.parallel ≡ t
+    → GivesMode tree s n (cond t (forced_or (forced_by tree (path tree (parent tree n))) (chosen_by (marked_by tree (path tree n)) (is_root (parent tree n)))) Off)
 by_parallel tree s n pos true e = with_force tree s n pos e (forced_by tree (path tree (parent tree n))) refl
 by_parallel tree s n pos false e = (e, by_rule tree s n pos ∙ off_mode s.parallel (is_forced tree n) (chosen_mode tree s n) e)
 

@@ -9,7 +9,7 @@ use Rattle.iso_plan.specs.Paths.{is_root, parent, path, row_at}
 use Rattle.iso_plan.specs.Tree.{Row}
 use Rattle.iso_plan.specs.declared.lock.Lock.{Lock}
 use Rattle.iso_settings.specs.declared.settings.Settings.{Settings}
-use Rattle.iso_why.specs.Reasons.{chosen_by, first_written, forced_by, forced_or, marked_by, reason}
+use Rattle.iso_why.specs.ModeReasons.{chosen_by, first_written, forced_by, forced_or, marked_by, reason}
 use Rattle.iso_why.specs.declared.why.Cause.{Cause}
 use Rattle.iso_why.specs.declared.why.Cause.TheVariants.{Forced, Off}
 
@@ -59,7 +59,8 @@ reason-forced tree s n class w on e f =
     ∙ sym (ap (λ (p : Bool). cond p (forced_or (forced_by tree (path tree (parent tree n))) other) Off) on)
 
 -- and of one that isn't
-pub reason-chosen : (tree : List Row) (s : Settings) (n class : ℕ) (w : Cause) → s.parallel ≡ true → class ≡ parent tree n → None ≡ forced_by tree (path tree class) → w ≡ chosen_by (marked_by tree (path tree n)) (class == 0) → w ≡ reason tree s n
+pub reason-chosen : (tree : List Row) (s : Settings) (n class : ℕ) (w : Cause) → s.parallel ≡ true → class ≡ parent tree n
+    → None ≡ forced_by tree (path tree class) → w ≡ chosen_by (marked_by tree (path tree n)) (class == 0) → w ≡ reason tree s n
 reason-chosen tree s n class w on e f h =
     let other = chosen_by (marked_by tree (path tree n)) (is_root (parent tree n)) in
     h ∙ ap (chosen_by (marked_by tree (path tree n))) (root-eq class ∙ ap is_root e)

@@ -1,8 +1,8 @@
 pub mod Examples
 pub mod Givers
-pub mod GivesMode
+pub mod ModeReasons
 pub mod Next
 pub mod PlanWhy
 pub mod Reach
-pub mod Reasons
+pub mod ReasonLaws
 pub mod WhyText

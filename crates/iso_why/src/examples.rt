@@ -3,7 +3,7 @@ ghost use Rattle.std.specs.Prelude.{◌≡◌, [], ◌∷◌, codes, false, true
 ghost use Rattle.iso_plan.specs.Examples.{cart_and_desk, concurrent_by_default, isolated_with_keys, loose, nested, one_thread, read_lock, reading_children, write_lock, writing_children};
 ghost use Rattle.iso_why.specs.Examples.{lines};
 ghost use Rattle.iso_why.specs.Givers.{givers};
-ghost use Rattle.iso_why.specs.Reasons.{reason};
+ghost use Rattle.iso_why.specs.ModeReasons.{reason};
 ghost use Rattle.iso_why.specs.PlanWhy.{plan_why, tests_why};
 ghost use Rattle.iso_why.specs.declared.why.Cause.TheVariants.{Default, Forced, Marked, Off};
 

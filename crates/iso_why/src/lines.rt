@@ -9,7 +9,7 @@ ghost use Rattle.iso_tap.specs.PlanText.{access_word};
 ghost use Rattle.iso_tap.specs.Printers.{Prints};
 ghost use Rattle.iso_why.specs.Givers.{givers};
 ghost use Rattle.iso_why.specs.Reach.{IsReach};
-ghost use Rattle.iso_why.specs.Reasons.{IsKnown};
+ghost use Rattle.iso_why.specs.ModeReasons.{IsKnown};
 ghost use Rattle.iso_why.specs.declared.why.Cause.TheVariants.{Marked};
 ghost use Rattle.iso_why.specs.WhyText.{from_text, lock_line, mode_line, paths_text, why_text};
 
@@ -30,7 +30,8 @@ pub(crate) fn mode_line<W: Sink>(
 ) -> Result<(), SinkFailed>
     requires above { 0 < node }
     requires within { node < length plan.now.rows }
-    ensures { Prints printer.old printer.new (mode_line (tree_of plan.now) plan.now.settings node) result }
+    ensures { Prints printer.old printer.new
+        (mode_line (tree_of plan.now) plan.now.settings node) result }
 {
     printer.bytes(b"    mode: ")?;
     reason(printer, plan, node, why(plan, node))?;
@@ -71,7 +72,8 @@ fn marked_on<W: Sink>(
 ) -> Result<(), SinkFailed>
     requires above { 0 < marked }
     requires within { marked < length plan.now.rows }
-    ensures { Prints printer.old printer.new (why_text (tree_of plan.now) node (Marked marked)) result }
+    ensures { Prints printer.old printer.new
+        (why_text (tree_of plan.now) node (Marked marked)) result }
 {
     if marked == node {
         return printer.bytes(b"marked");
@@ -179,7 +181,8 @@ fn givers<W: Sink>(
     requires above { 0 < node }
     requires within { node < length plan.now.rows }
     requires key { lock.key < length (keys (tree_of plan.now)) }
-    ensures { Prints printer.old printer.new (paths_text (tree_of plan.now) (givers (tree_of plan.now) node lock)) result }
+    ensures { Prints printer.old printer.new
+        (paths_text (tree_of plan.now) (givers (tree_of plan.now) node lock)) result }
 {
     laws::parents_come_first(plan);
     let end = end_of(plan, reach, node);
@@ -200,7 +203,8 @@ fn end_of(plan: &Plan, reach: &[u32], node: u32) -> u32
     requires reach { IsReach (tree_of plan.now) reach.now }
     requires within { node < length plan.now.rows }
     ensures within { result ≤ length plan.now.rows }
-    ensures past { (m : ℕ) → m < length plan.now.rows → is_under (tree_of plan.now) node m ≡ true → m < result }
+    ensures past { (m : ℕ) → m < length plan.now.rows → is_under (tree_of plan.now) node m ≡ true
+        → m < result }
 {
     reach[node as usize].min(plan.len())
 }

@@ -2,7 +2,7 @@
 ghost use Rattle.std.specs.Prelude.{◌≡◌, ◌<◌, IfSome, length};
 ghost use Rattle.iso_plan.specs.Paths.{path};
 ghost use Rattle.iso_plan.specs.RowView.{tree_of};
-ghost use Rattle.iso_why.specs.Reasons.{IsKnown, chosen_by, first_written, forced_by, marked_by, reason};
+ghost use Rattle.iso_why.specs.ModeReasons.{IsKnown, chosen_by, first_written, forced_by, marked_by, reason};
 
 use crate::reach::class_of;
 use iso_model::access::Access;
@@ -76,7 +76,8 @@ fn first_written(locks: &[Lock]) -> Option<u32>
 /// Why a node that isn't forced has its mode.
 fn chosen_by(plan: &Plan, node: u32, top: bool) -> Cause
     requires { node < length plan.now.rows }
-    ensures chosen { result ≡ chosen_by (marked_by (tree_of plan.now) (path (tree_of plan.now) node)) top }
+    ensures chosen { result ≡ chosen_by
+        (marked_by (tree_of plan.now) (path (tree_of plan.now) node)) top }
     ensures known { IsKnown (tree_of plan.now) result }
 {
     match marked_by(plan, node) {

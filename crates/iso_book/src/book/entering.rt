@@ -21,12 +21,15 @@ use iso_standing::refused::Refused;
 use std::alloc::AllocError;
 
 impl<'a> Book<'a> {
-    /// Enters a node with any tray. It asks by value whether the tray is of this plan and these
-    /// starting values, which takes time by what these say, and is then as `enter_own`: a tray of
-    /// others is refused as a stranger's where no other kind applies.
+    /// For a runner of one's own: enters a node with any tray. It asks by value whether the tray is
+    /// of this plan and these starting values, which takes time by what these say, and is then as
+    /// `enter_own`: a tray of others is refused as a stranger's where no other kind applies.
     pub fn enter(&mut self, worker: u32, node: u32, tray: &mut Tray<'_>) -> Result<(), CoreFault>
-        ensures event { MatchResult result (λ _. IsTaken (Event.Enter worker node) (MayEnterWith self.old node tray.old) self.old self.new)
-            (λ fault. IsNotTaken fault (Event.Enter worker node) (MayEnterWith self.old node tray.old) self.old self.new tray.old tray.new) }
+        ensures event { MatchResult result
+            (λ _. IsTaken (Event.Enter worker node)
+            (MayEnterWith self.old node tray.old) self.old self.new)
+            (λ fault. IsNotTaken fault (Event.Enter worker node)
+            (MayEnterWith self.old node tray.old) self.old self.new tray.old tray.new) }
         ensures tray { OnOk result (IsEntered node tray.old tray.new) }
         ensures held { OnOk result (HoldAlike node self.old self.new) }
     {
@@ -52,8 +55,11 @@ impl<'a> Book<'a> {
     ) -> Result<(), CoreFault>
         requires plan { tray.old.plan ≡ self.old.plan }
         requires world { tray.old.world ≡ self.old.world }
-        ensures event { MatchResult result (λ _. IsTaken (Event.Enter worker node) (MayEnterWith self.old node tray.old) self.old self.new)
-            (λ fault. IsNotTaken fault (Event.Enter worker node) (MayEnterWith self.old node tray.old) self.old self.new tray.old tray.new) }
+        ensures event { MatchResult result
+            (λ _. IsTaken (Event.Enter worker node)
+            (MayEnterWith self.old node tray.old) self.old self.new)
+            (λ fault. IsNotTaken fault (Event.Enter worker node)
+            (MayEnterWith self.old node tray.old) self.old self.new tray.old tray.new) }
         ensures tray { OnOk result (IsEntered node tray.old tray.new) }
         ensures held { OnOk result (HoldAlike node self.old self.new) }
     {
@@ -70,8 +76,10 @@ impl<'a> Book<'a> {
     fn refusal_of_enter(&self, worker: u32, node: u32, tray: &Tray<'_>) -> Option<Refused>
         requires plan { tray.now.plan ≡ self.now.plan }
         requires world { tray.now.world ≡ self.now.world }
-        ensures kind { MatchOption result (IsAllowed (refusal_in self.now (Event.Enter worker node)) (MayEnterWith self.now node tray.now))
-            (λ why. IsRefusedBy (refusal_in self.now (Event.Enter worker node)) (MayEnterWith self.now node tray.now) (refused_of why)) }
+        ensures kind { MatchOption result (IsAllowed (refusal_in self.now (Event.Enter worker node))
+            (MayEnterWith self.now node tray.now))
+            (λ why. IsRefusedBy (refusal_in self.now (Event.Enter worker node))
+            (MayEnterWith self.now node tray.now) (refused_of why)) }
         ensures inner { result ≡ None → 0 < node }
         ensures node { result ≡ None → node < length self.now.plan.rows }
     {
@@ -86,7 +94,8 @@ impl<'a> Book<'a> {
 
     /// Why an Enter is refused whatever tray comes with it, if it is. Takes no memory.
     pub(super) fn kind_of_enter(&self, worker: u32, node: u32) -> Option<Refused>
-        ensures kind { option_map refused_of result ≡ refusal_in self.now (Event.Enter worker node) }
+        ensures kind { option_map refused_of result
+            ≡ refusal_in self.now (Event.Enter worker node) }
         ensures inner { result ≡ None → 0 < node }
         ensures node { result ≡ None → node < length self.now.plan.rows }
     {
@@ -98,7 +107,8 @@ impl<'a> Book<'a> {
         requires allowed { refusal_in self.now (Event.Enter worker node) ≡ None }
         requires plan { tray.old.plan ≡ self.now.plan }
         requires world { tray.old.world ≡ self.now.world }
-        ensures handed { OnOk result (tray.new ≡ handed tray.old (parent (tree_of tray.old.plan) node)) }
+        ensures handed { OnOk result (tray.new
+            ≡ handed tray.old (parent (tree_of tray.old.plan) node)) }
         ensures begins { OnOk result (BeginsIn node tray.new) }
         ensures unchanged { OnErr result (tray.new ≡ tray.old) }
     {

@@ -38,8 +38,8 @@ fn bring_home(vault: &mut Vault<'_>, node: u32, kind: BodyKind, tray: &mut Tray<
 }
 
 impl<'a> Book<'a> {
-    /// Books what a worker's body came to, with any tray: it asks by value, as `enter` does, and is
-    /// then as `leave_own`.
+    /// For a runner of one's own: books what a worker's body came to, with any tray. It asks by
+    /// value, as `enter` does, and is then as `leave_own`.
     pub fn leave(
         &mut self,
         worker: u32,
@@ -47,10 +47,13 @@ impl<'a> Book<'a> {
         tray: &mut Tray<'_>,
     ) -> Result<Receipt, (Refused, Done)>
         requires { MayBring done tray.old }
-        ensures event { MatchResult result (λ receipt. IsLeft worker done receipt self.old self.new tray.old)
-            (λ refusal. IsNotLeft (refused_of refusal.0) refusal.1 worker done self.old self.new tray.old tray.new) }
+        ensures event { MatchResult result
+            (λ receipt. IsLeft worker done receipt self.old self.new tray.old)
+            (λ refusal. IsNotLeft (refused_of refusal.0) refusal.1 worker done self.old self.new
+            tray.old tray.new) }
         ensures tray { OnOk result (tray.new ≡ after_leave done.kind done.subject.node tray.old) }
-        ensures reads { OnOk result ((n : ℕ) → is_lent tray.new.lent n ≡ true → ReadsStart n tray.new) }
+        ensures reads { OnOk result ((n : ℕ) → is_lent tray.new.lent n ≡ true
+            → ReadsStart n tray.new) }
         ensures held { OnOk result (HoldAfter done.kind done.subject.node self.old self.new) }
     {
         if !self.is_made_for(tray) {
@@ -79,10 +82,13 @@ impl<'a> Book<'a> {
         requires plan { tray.old.plan ≡ self.old.plan }
         requires world { tray.old.world ≡ self.old.world }
         requires brought { MayBring done tray.old }
-        ensures event { MatchResult result (λ receipt. IsLeft worker done receipt self.old self.new tray.old)
-            (λ refusal. IsNotLeft (refused_of refusal.0) refusal.1 worker done self.old self.new tray.old tray.new) }
+        ensures event { MatchResult result
+            (λ receipt. IsLeft worker done receipt self.old self.new tray.old)
+            (λ refusal. IsNotLeft (refused_of refusal.0) refusal.1 worker done self.old self.new
+            tray.old tray.new) }
         ensures tray { OnOk result (tray.new ≡ after_leave done.kind done.subject.node tray.old) }
-        ensures reads { OnOk result ((n : ℕ) → is_lent tray.new.lent n ≡ true → ReadsStart n tray.new) }
+        ensures reads { OnOk result ((n : ℕ) → is_lent tray.new.lent n ≡ true
+            → ReadsStart n tray.new) }
         ensures held { OnOk result (HoldAfter done.kind done.subject.node self.old self.new) }
     {
         if let Some(refused) = self.refusal_of_leave(worker, &done, tray) {
@@ -96,8 +102,10 @@ impl<'a> Book<'a> {
     fn refusal_of_leave(&self, worker: u32, done: &Done, tray: &Tray<'_>) -> Option<Refused>
         requires plan { tray.now.plan ≡ self.now.plan }
         requires world { tray.now.world ≡ self.now.world }
-        ensures { MatchOption result (IsAllowed (leave_refusal_in self.now worker done.now) (GoesOnWith self.now done.now.subject.node tray.now))
-            (λ why. IsRefusedBy (leave_refusal_in self.now worker done.now) (GoesOnWith self.now done.now.subject.node tray.now) (refused_of why)) }
+        ensures { MatchOption result (IsAllowed (leave_refusal_in self.now worker done.now)
+            (GoesOnWith self.now done.now.subject.node tray.now))
+            (λ why. IsRefusedBy (leave_refusal_in self.now worker done.now)
+            (GoesOnWith self.now done.now.subject.node tray.now) (refused_of why)) }
     {
         if let Some(refused) = self.kind_of_leave(worker, done) {
             return Some(refused);
@@ -163,7 +171,11 @@ impl<'a> Book<'a> {
         requires own { GoesOnWith self.old done.subject.node tray.old }
         requires brought { MayBring done tray.old }
         ensures book { self.new ≡ with_event self.old (Event.Leave worker) }
-        ensures receipt { result ≡ record { number = length self.old.history; worker = worker; node = done.subject.node } }
+        ensures receipt { result ≡ record {
+          number = length self.old.history;
+          worker = worker;
+          node = done.subject.node;
+        } }
         ensures tray { tray.new ≡ after_leave done.kind done.subject.node tray.old }
         ensures reads { (n : ℕ) → is_lent tray.new.lent n ≡ true → ReadsStart n tray.new }
         ensures held { HoldAfter done.kind done.subject.node self.old self.new }

@@ -20,10 +20,14 @@ use iso_standing::refused::Refused;
 use std::alloc::AllocError;
 
 impl<'a> Book<'a> {
-    /// Shuts a class with any tray: it asks by value, as `enter` does, and is then as `shut_own`.
+    /// For a runner of one's own: shuts a class with any tray. It asks by value, as `enter` does,
+    /// and is then as `shut_own`.
     pub fn shut(&mut self, worker: u32, node: u32, tray: &mut Tray<'_>) -> Result<(), CoreFault>
-        ensures event { MatchResult result (λ _. IsTaken (Event.Shut worker node) (GoesOnWith self.old node tray.old) self.old self.new)
-            (λ fault. IsNotTaken fault (Event.Shut worker node) (GoesOnWith self.old node tray.old) self.old self.new tray.old tray.new) }
+        ensures event { MatchResult result
+            (λ _. IsTaken (Event.Shut worker node)
+            (GoesOnWith self.old node tray.old) self.old self.new)
+            (λ fault. IsNotTaken fault (Event.Shut worker node)
+            (GoesOnWith self.old node tray.old) self.old self.new tray.old tray.new) }
         ensures tray { OnOk result (IsShut node tray.old tray.new) }
         ensures held { OnOk result (HoldSame self.old self.new) }
     {
@@ -40,8 +44,11 @@ impl<'a> Book<'a> {
     pub fn shut_own(&mut self, worker: u32, node: u32, tray: &mut Tray<'_>) -> Result<(), CoreFault>
         requires plan { tray.old.plan ≡ self.old.plan }
         requires world { tray.old.world ≡ self.old.world }
-        ensures event { MatchResult result (λ _. IsTaken (Event.Shut worker node) (GoesOnWith self.old node tray.old) self.old self.new)
-            (λ fault. IsNotTaken fault (Event.Shut worker node) (GoesOnWith self.old node tray.old) self.old self.new tray.old tray.new) }
+        ensures event { MatchResult result
+            (λ _. IsTaken (Event.Shut worker node)
+            (GoesOnWith self.old node tray.old) self.old self.new)
+            (λ fault. IsNotTaken fault (Event.Shut worker node)
+            (GoesOnWith self.old node tray.old) self.old self.new tray.old tray.new) }
         ensures tray { OnOk result (IsShut node tray.old tray.new) }
         ensures held { OnOk result (HoldSame self.old self.new) }
     {
@@ -58,8 +65,10 @@ impl<'a> Book<'a> {
     fn refusal_of_shut(&self, worker: u32, node: u32, tray: &Tray<'_>) -> Option<Refused>
         requires plan { tray.now.plan ≡ self.now.plan }
         requires world { tray.now.world ≡ self.now.world }
-        ensures { MatchOption result (IsAllowed (refusal_in self.now (Event.Shut worker node)) (GoesOnWith self.now node tray.now))
-            (λ why. IsRefusedBy (refusal_in self.now (Event.Shut worker node)) (GoesOnWith self.now node tray.now) (refused_of why)) }
+        ensures { MatchOption result (IsAllowed (refusal_in self.now (Event.Shut worker node))
+            (GoesOnWith self.now node tray.now))
+            (λ why. IsRefusedBy (refusal_in self.now (Event.Shut worker node))
+            (GoesOnWith self.now node tray.now) (refused_of why)) }
     {
         if let Some(refused) = self.kind_of_shut(worker, node) {
             return Some(refused);
@@ -85,7 +94,8 @@ impl<'a> Book<'a> {
         requires plan { tray.old.plan ≡ self.now.plan }
         requires world { tray.old.world ≡ self.now.world }
         ensures handed { OnOk result (tray.new ≡ handed tray.old node) }
-        ensures begins { OnOk result (CanBegin (subject tray.new.plan tray.new.world node) BodyKind.AfterAll tray.new.frames) }
+        ensures begins { OnOk result (CanBegin
+            (subject tray.new.plan tray.new.world node) BodyKind.AfterAll tray.new.frames) }
         ensures unchanged { OnErr result (tray.new ≡ tray.old) }
     {
         nodes_are_a_tree(self.plan);

@@ -10,7 +10,6 @@ ghost use Rattle.iso_interp.specs.Runs.{Begins, SameBlock, local_of, machine_of,
 ghost use Rattle.iso_interp.specs.declared.run.Pending.TheVariants.{Rest, Turning};
 
 use crate::block::Block;
-use crate::run::resources::{ByText, ByTwoTexts};
 use crate::run::{BlockRun, Pending};
 use iso_model::touch::Touch;
 use iso_model::tree::{Expr, Form, Stmt};
@@ -25,9 +24,12 @@ impl<'a> BlockRun<'a> {
         first: &'a Stmt,
         rest: Block<'a>,
     ) -> Result<(), AllocError>
-        requires top { self.old.top ≡ Some (Rest names (act (stmt_of first.now).0 (stmt_of first.now).1 rest)) }
+        requires top { self.old.top ≡ Some
+            (Rest names (act (stmt_of first.now).0 (stmt_of first.now).1 rest)) }
         requires keys { HasKeys (run_rights self.old) (T.content touch.old) (T.writes touch.old) }
-        ensures done { OnOk result (machine_of self.new (T.content touch.new) ≡ step_at (run_rights self.old) (pieces_of self.old) (local_of self.old).env.steps (state_of self.old (T.content touch.old))) }
+        ensures done { OnOk result (machine_of self.new (T.content touch.new)
+            ≡ step_at (run_rights self.old) (pieces_of self.old) (local_of self.old).env.steps
+            (state_of self.old (T.content touch.old))) }
         ensures block { SameBlock self.old self.new }
         ensures goes_on { T.goes_on touch.old touch.new }
     {
@@ -73,23 +75,10 @@ impl<'a> BlockRun<'a> {
         match &statement.form {
             Form::Let(name, value) => self.let_name(touch, row, name, value),
             Form::Assign(name, value) => self.assign(touch, row, name, value),
-            Form::Print(value) => self.print(touch, row, value),
-            Form::Assert(condition) => self.assert(touch, row, condition),
-            Form::AssertEqual(expected, actual) => self.assert_equal(touch, row, expected, actual),
+            Form::One(what, operand) => self.perform_one(touch, row, *what, operand),
+            Form::Two(what, first, second) => self.perform_two(touch, row, *what, first, second),
             Form::Assume(condition, reason) => self.assume(touch, row, condition, reason),
             Form::Fail(message) => self.fail_with(row, message),
-            Form::SetProp(name, text) => {
-                self.change_by_two(touch, row, ByTwoTexts::SetProp, name, text)
-            }
-            Form::ClearProp(name) => self.change_by(touch, row, ByText::ClearProp, name),
-            Form::SetLocale(text) => self.change_by(touch, row, ByText::SetLocale, text),
-            Form::WriteFile(path, text) => {
-                self.change_by_two(touch, row, ByTwoTexts::WriteFile, path, text)
-            }
-            Form::AppendFile(path, text) => {
-                self.change_by_two(touch, row, ByTwoTexts::AppendFile, path, text)
-            }
-            Form::DeleteFile(path) => self.change_by(touch, row, ByText::DeleteFile, path),
             Form::If(condition, first, second) => {
                 self.choose(touch, row, condition, Block::of(first), Block::of(second))
             }
@@ -147,7 +136,8 @@ impl<'a> BlockRun<'a> {
         body: Block<'a>,
     ) -> Result<(), AllocError>
         requires top { self.old.top ≡ Some (Turning row turns body) }
-        ensures done { OnOk result ((r : Rights) (m : Resources) → machine_of self.new m ≡ step_at r (pieces_of self.old) (local_of self.old).env.steps (state_of self.old m)) }
+        ensures done { OnOk result ((r : Rights) (m : Resources) → machine_of self.new m
+            ≡ step_at r (pieces_of self.old) (local_of self.old).env.steps (state_of self.old m)) }
         ensures block { SameBlock self.old self.new }
     {
         if turns == 0 {
@@ -162,7 +152,8 @@ impl<'a> BlockRun<'a> {
     /// Does a turn whose step is taken: its body, and behind it the turns that are left.
     fn turn(&mut self, row: u32, left: u64, body: Block<'a>) -> Result<(), AllocError>
         ensures done { OnOk result (point_of_run self.new ≡ next_point
-            (rest_of (length self.old.names.names) body.entry ∷ turning row left body.entry ∷ pieces_in None self.old.below.items)
+            (rest_of (length self.old.names.names) body.entry ∷ turning row left body.entry
+            ∷ pieces_in None self.old.below.items)
             (local_of self.old)) }
         ensures block { SameBlock self.old self.new }
     {

@@ -36,18 +36,11 @@ impl<'a> BlockRun<'a> {
 fn left_after_form(form: &Form, looks: u32) -> u32 {
     match form {
         Form::Let(_, value) | Form::Assign(_, value) => left_after(value, looks.saturating_sub(1)),
-        Form::Print(value)
-        | Form::Assert(value)
+        Form::One(_, value)
         | Form::Assume(value, _)
-        | Form::ClearProp(value)
-        | Form::SetLocale(value)
-        | Form::DeleteFile(value)
         | Form::If(value, _, _)
         | Form::Repeat(value, _) => left_after(value, looks),
-        Form::AssertEqual(first, second)
-        | Form::SetProp(first, second)
-        | Form::WriteFile(first, second)
-        | Form::AppendFile(first, second) => left_after(second, left_after(first, looks)),
+        Form::Two(_, first, second) => left_after(second, left_after(first, looks)),
         Form::Fail(_) => looks,
     }
 }

@@ -2,7 +2,7 @@
 -- `java.util.Locale.default`.
 use Rattle.std.specs.Prelude.{[], ◌∷◌, None}
 use Rattle.iso_model.specs.Chains.{ClassHead, TestHead, empty_head}
-use Rattle.iso_model.specs.Keys.{properties_key, locale_key}
+use Rattle.iso_model.specs.ResourceKeys.{properties_key, locale_key}
 use Rattle.iso_model.specs.Syntax.{locale}
 use Rattle.iso_model.specs.Examples.Words.{body, a_test, reads, writes, file_a, quoted, number, name, join, text, prop, has_prop, file, has_file, variable, let_name, assign, print, assert_equal, fail, set_prop, clear_prop, set_locale, write_file, append_file, delete_file}
 
@@ -10,7 +10,10 @@ use Rattle.iso_model.specs.Examples.Words.{body, a_test, reads, writes, file_a, 
 -- assert_equal "x", prop("a"); } } A test sees what `before_all` left, and nothing that another
 -- test changed.
 abbrev pub sets_x_first : ClassHead
-sets_x_first = record empty_head { marks = writes properties_key ∷ []; before_all = body (set_prop (quoted "a") (quoted "x") ∷ []) }
+sets_x_first = record empty_head {
+  marks = writes properties_key ∷ [];
+  before_all = body (set_prop (quoted "a") (quoted "x") ∷ []);
+}
 
 abbrev pub sets_y : TestHead
 sets_y = a_test (set_prop (quoted "a") (quoted "y") ∷ [])
@@ -31,7 +34,8 @@ marks_locale =
       statics = variable "s" 1 ∷ [];
       fields = variable "f" 2 ∷ [];
       before_all = body (assign "s" (number 3) ∷ set_locale (join locale (quoted "-A" ∷ [])) ∷ []);
-      before_each = body (let_name "x" (number 4) ∷ set_locale (join locale (quoted "-B" ∷ [])) ∷ []);
+      before_each =
+          body (let_name "x" (number 4) ∷ set_locale (join locale (quoted "-B" ∷ [])) ∷ []);
     }
 
 abbrev pub marks_locale_inside : ClassHead
@@ -43,7 +47,9 @@ marks_locale_inside =
     }
 
 abbrev pub prints_all : TestHead
-prints_all = a_test (print (join (text (name "s")) (text (name "f") ∷ text (name "g") ∷ locale ∷ [])) ∷ print (name "x") ∷ [])
+prints_all =
+    a_test (print (join (text (name "s")) (text (name "f") ∷ text (name "g") ∷ locale ∷ []))
+    ∷ print (name "x") ∷ [])
 
 -- class Out { .. write "file:a" class In { static n = 1; before_all { print "in"; write_file "a",
 -- "m"; n = 2; } after_all { append_file "a", "n"; print file("a") ++ text(n) ++ text(s); n = 3; }
@@ -55,8 +61,12 @@ closes_file =
       marks = writes file_a ∷ [];
       disabled = None;
       statics = variable "n" 1 ∷ [];
-      before_all = body (print (quoted "in") ∷ write_file (quoted "a") (quoted "m") ∷ assign "n" (number 2) ∷ []);
-      after_all = body (append_file (quoted "a") (quoted "n") ∷ print (join (file (quoted "a")) (text (name "n") ∷ text (name "s") ∷ [])) ∷ assign "n" (number 3) ∷ []);
+      before_all = body (print (quoted "in") ∷ write_file (quoted "a") (quoted "m")
+          ∷ assign "n" (number 2) ∷ []);
+      after_all =
+          body (append_file (quoted "a") (quoted "n")
+          ∷ print (join (file (quoted "a")) (text (name "n") ∷ text (name "s") ∷ []))
+          ∷ assign "n" (number 3) ∷ []);
     }
 
 -- write "file:a" class C { before_all { write_file "a", "m"; fail "no db"; } after_all { print
@@ -72,7 +82,13 @@ fails_with_a_file =
 -- class Env { write "P" test one { assert_equal "1", prop("a"); set_prop "a", "2"; } .. }
 -- A test's own mark gives it rights.
 abbrev pub sets_2 : TestHead
-sets_2 = record { marks = writes properties_key ∷ []; disabled = None; body = body (assert_equal (quoted "1") (prop (quoted "a")) ∷ set_prop (quoted "a") (quoted "2") ∷ []) }
+sets_2 = record {
+  marks = writes properties_key ∷ [];
+  disabled = None;
+  body =
+      body (assert_equal (quoted "1") (prop (quoted "a"))
+      ∷ set_prop (quoted "a") (quoted "2") ∷ []);
+}
 
 -- write "P" class Out { class In { test t { set_prop "a", "1"; } } }, and the same with read "P"
 -- before the test The marks of all enclosing classes count, and of two on one key the stronger.
@@ -96,7 +112,10 @@ reads_and_prints_a = record prints_a { marks = reads properties_key ∷ [] }
 -- class C { before_each { print has_prop("a"); } after_each { print has_prop("a"); } read "P" test
 -- t { print prop("a"); } } The blocks around a test have its rights.
 abbrev pub looks_around : ClassHead
-looks_around = record empty_head { before_each = body (print (has_prop (quoted "a")) ∷ []); after_each = body (print (has_prop (quoted "a")) ∷ []) }
+looks_around = record empty_head {
+  before_each = body (print (has_prop (quoted "a")) ∷ []);
+  after_each = body (print (has_prop (quoted "a")) ∷ []);
+}
 
 -- read "P" class C { test t { set_prop "a", "1"; } }
 -- A `read` lets nothing be changed.
@@ -106,12 +125,14 @@ reads_properties = record empty_head { marks = reads properties_key ∷ [] }
 -- write "P" class C { test t { print has_prop("a"); clear_prop "a"; clear_prop "a"; print
 -- has_prop("a"); } } An absent property stays absent when it is cleared.
 abbrev pub clears_a : TestHead
-clears_a = a_test (print (has_prop (quoted "a")) ∷ clear_prop (quoted "a") ∷ clear_prop (quoted "a") ∷ print (has_prop (quoted "a")) ∷ [])
+clears_a = a_test (print (has_prop (quoted "a")) ∷ clear_prop (quoted "a") ∷ clear_prop (quoted "a")
+    ∷ print (has_prop (quoted "a")) ∷ [])
 
 -- write "P" class C { test t { set_prop "b", "2"; clear_prop "b"; print prop("a"); } }
 -- A change of one property leaves the others as they are.
 abbrev pub changes_b : TestHead
-changes_b = a_test (set_prop (quoted "b") (quoted "2") ∷ clear_prop (quoted "b") ∷ print (prop (quoted "a")) ∷ [])
+changes_b = a_test (set_prop (quoted "b") (quoted "2") ∷ clear_prop (quoted "b")
+    ∷ print (prop (quoted "a")) ∷ [])
 
 -- write "file:a" test t { write_file "a", "m"; append_file "a", "n"; print file("a"); print
 -- has_file("a"); delete_file "a"; print has_file("a"); } A file is written, grows, and is missing
@@ -121,11 +142,14 @@ writes_and_deletes =
     record {
       marks = writes file_a ∷ [];
       disabled = None;
-      body = body (write_file (quoted "a") (quoted "m") ∷ append_file (quoted "a") (quoted "n") ∷ print (file (quoted "a")) ∷
-          print (has_file (quoted "a")) ∷ delete_file (quoted "a") ∷ print (has_file (quoted "a")) ∷ []);
+      body = body (write_file (quoted "a") (quoted "m") ∷ append_file (quoted "a") (quoted "n")
+          ∷ print (file (quoted "a")) ∷
+          print (has_file (quoted "a")) ∷ delete_file (quoted "a")
+          ∷ print (has_file (quoted "a")) ∷ []);
     }
 
 -- class C { read "L" test t { print locale(); } }
 -- The locale starts as "en".
 abbrev pub prints_locale : TestHead
-prints_locale = record { marks = reads locale_key ∷ []; disabled = None; body = body (print locale ∷ []) }
+prints_locale =
+    record { marks = reads locale_key ∷ []; disabled = None; body = body (print locale ∷ []) }

@@ -8,7 +8,7 @@ use Rattle.iso_model.specs.Chains.{TestHead}
 use Rattle.iso_model.specs.Blocks.{begun, block}
 use Rattle.iso_model.specs.Environments.{Environment, environment}
 use Rattle.iso_model.specs.Evaluation.{Given, evaluated}
-use Rattle.iso_model.specs.Keys.{properties_key, file_key}
+use Rattle.iso_model.specs.ResourceKeys.{properties_key, file_key}
 use Rattle.iso_model.specs.Names.{bound}
 use Rattle.iso_model.specs.Resources.{Resources, empty_world, changed_at}
 use Rattle.iso_model.specs.Statements.{State, ran, with_steps}
@@ -195,7 +195,8 @@ a_test acts = record { marks = []; disabled = None; body = body acts }
 
 -- the starting resources of a world that says that property a is "1"
 abbrev pub property_a_is_1 : Resources
-property_a_is_1 k = cond (bytes_eq k properties_key) (Some (Props (insert empty (codes "a") (codes "1")))) (empty_world k)
+property_a_is_1 k = cond (bytes_eq k properties_key)
+    (Some (Props (insert empty (codes "a") (codes "1")))) (empty_world k)
 
 -- expressions by themselves, with the rights of no mark: what each gives where no name is visible
 abbrev pub values_of : List Term → List Given
@@ -204,14 +205,16 @@ values_of = map (evaluated [] empty_world (rights_of []))
 -- a body as the block of a test, by itself: with the rights of these marks, where no name is
 -- visible and `printed` bytes were printed before it
 abbrev pub block_with : List Mark → ℕ → Acts → State
-block_with marks printed acts = block (rights_of marks) acts (environment [] printed Test) empty_world
+block_with marks printed acts =
+    block (rights_of marks) acts (environment [] printed Test) empty_world
 
 abbrev pub by_itself : List Act → State
 by_itself acts = block_with [] 0 (body acts)
 
 -- the same where the marks let it look at file a, which has 4,096 bytes
 abbrev pub beside_a_long_file : List Act → State
-beside_a_long_file acts = block (rights_of (reads file_a ∷ [])) (body acts) (environment [] 0 Test) (changed_at empty_world file_a (WriteFile (replicate 4096 97)))
+beside_a_long_file acts = block (rights_of (reads file_a ∷ [])) (body acts) (environment [] 0 Test)
+    (changed_at empty_world file_a (WriteFile (replicate 4096 97)))
 
 -- statements by themselves: how each ends
 abbrev pub endings_of : List Act → List Ending
@@ -222,7 +225,8 @@ endings_of = map (λ a. (by_itself (a ∷ [])).here.ending)
 abbrev pub crowded : Environment
 crowded =
     let one : Data = Whole (pos 1) in
-    environment (bound Frozen (codes "n") one ∷ bound Field (codes "f") one ∷ bound Local (codes "x") one ∷ []) 65536 Test
+    environment (bound Frozen (codes "n") one ∷ bound Field (codes "f") one
+    ∷ bound Local (codes "x") one ∷ []) 65536 Test
 
 -- the same where no step is left either
 abbrev pub without_steps : State
@@ -237,11 +241,14 @@ endings_without_steps = map (λ a. (ran (rights_of []) 1 a without_steps).here.e
 
 -- how a statement on row 3 ends, in an `if` on row 2 in a `repeat` on row 1
 abbrev pub ending_on_row_3 : Act → Ending
-ending_on_row_3 a = (block_with [] 0 (on_row 1 (S.repeat (number 1) (on_row 2 (choice (flag true) (on_row 3 (a ∷ [])) no_acts ∷ [])) ∷ []))).here.ending
+ending_on_row_3 a =
+    (block_with [] 0 (on_row 1 (S.repeat (number 1)
+    (on_row 2 (choice (flag true) (on_row 3 (a ∷ [])) no_acts ∷ [])) ∷ []))).here.ending
 
 -- a block after `n` single steps
 abbrev pub by_single_steps : ℕ → List Act → Machine
-by_single_steps n acts = steps (rights_of []) n (machine_at (first_point (body acts) (environment [] 0 Test)) empty_world)
+by_single_steps n acts = steps (rights_of []) n
+    (machine_at (first_point (body acts) (environment [] 0 Test)) empty_world)
 
 -- the steps that a block has left
 abbrev pub steps_left : State → ℕ
@@ -265,16 +272,20 @@ abbrev pub passed : List String → Outcome
 passed output = record { verdict = V.Pass; output = lines output }
 
 abbrev pub failed : String → Place → List String → Outcome
-failed message place output = record { verdict = V.Fail (note message place); output = lines output }
+failed message place output =
+    record { verdict = V.Fail (note message place); output = lines output }
 
 abbrev pub faulted : FaultKind → String → Place → List String → Outcome
-faulted kind message place output = record { verdict = V.Fault kind (note message place); output = lines output }
+faulted kind message place output =
+    record { verdict = V.Fault kind (note message place); output = lines output }
 
 abbrev pub skipped : String → Place → List String → Outcome
-skipped message place output = record { verdict = V.Skipped (note message place); output = lines output }
+skipped message place output =
+    record { verdict = V.Skipped (note message place); output = lines output }
 
 abbrev pub blocked : String → Place → List String → Outcome
-blocked message place output = record { verdict = V.Blocked (note message place); output = lines output }
+blocked message place output =
+    record { verdict = V.Blocked (note message place); output = lines output }
 
 -- the ending of a test's block by a fault, at its first row
 abbrev pub fault_here : FaultKind → String → Ending

@@ -2,7 +2,21 @@ ghost use Rattle.std.specs.Prelude.{◌≡◌, ◌↔◌, IsTrue, map};
 ghost use Rattle.iso_model.specs.SyntaxView.{block_of, form_of, stmt_of};
 
 use crate::same::expressions::same_expr;
-use crate::tree::{Form, Stmt};
+use crate::tree::{Form, OneOperand, Stmt, TwoOperands};
+
+/// Whether two statements of one expression have one form.
+fn same_one(a: OneOperand, b: OneOperand) -> bool
+    ensures { IsTrue result ↔ (a ≡ b) }
+{
+    a as u8 == b as u8
+}
+
+/// Whether two statements of two expressions have one form.
+fn same_two(a: TwoOperands, b: TwoOperands) -> bool
+    ensures { IsTrue result ↔ (a ≡ b) }
+{
+    a as u8 == b as u8
+}
 
 /// Whether two statements do the same.
 #[cycle(statement)]
@@ -13,15 +27,10 @@ fn same_form(a: &Form, b: &Form) -> bool
         (Form::Let(x, e), Form::Let(y, f))
         | (Form::Assign(x, e), Form::Assign(y, f))
         | (Form::Assume(e, x), Form::Assume(f, y)) => x.as_str() == y.as_str() && same_expr(e, f),
-        (Form::Print(e), Form::Print(f))
-        | (Form::Assert(e), Form::Assert(f))
-        | (Form::ClearProp(e), Form::ClearProp(f))
-        | (Form::SetLocale(e), Form::SetLocale(f))
-        | (Form::DeleteFile(e), Form::DeleteFile(f)) => same_expr(e, f),
-        (Form::AssertEqual(c, e), Form::AssertEqual(d, f))
-        | (Form::SetProp(c, e), Form::SetProp(d, f))
-        | (Form::WriteFile(c, e), Form::WriteFile(d, f))
-        | (Form::AppendFile(c, e), Form::AppendFile(d, f)) => same_expr(c, d) && same_expr(e, f),
+        (Form::One(p, e), Form::One(q, f)) => same_one(*p, *q) && same_expr(e, f),
+        (Form::Two(p, c, e), Form::Two(q, d, f)) => {
+            same_two(*p, *q) && same_expr(c, d) && same_expr(e, f)
+        }
         (Form::Fail(x), Form::Fail(y)) => x.as_str() == y.as_str(),
         (Form::If(e, xs, us), Form::If(f, ys, vs)) => {
             same_expr(e, f) && same_stmts(xs, ys) && same_stmts(us, vs)

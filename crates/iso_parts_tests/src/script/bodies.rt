@@ -2,7 +2,7 @@
 use crate::script::made::check_script;
 use crate::shared::made;
 use iso_model::script::{Member, Script};
-use iso_model::tree::{Expr, Form, Operator, Stmt};
+use iso_model::tree::{Expr, Form, OneOperand, Operator, Stmt};
 use iso_script::fault::ScriptError;
 
 /// What stands before a body that begins at line 2, column 20, and after it.
@@ -58,7 +58,7 @@ class C {
 /// Whether a form prints a first operand less two others.
 fn is_subtraction_of_three(form: &Form) -> bool {
     match form {
-        Form::Print(Expr::Chain(Operator::Subtract, _, rest)) => rest.len() == 2,
+        Form::One(OneOperand::Print, Expr::Chain(Operator::Subtract, _, rest)) => rest.len() == 2,
         _ => false,
     }
 }

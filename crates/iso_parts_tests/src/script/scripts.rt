@@ -2,7 +2,7 @@
 use crate::script::made::check_script;
 use iso_model::data::Data;
 use iso_model::script::{Class, Member, Script, Test};
-use iso_model::tree::{Expr, Form};
+use iso_model::tree::{Expr, Form, OneOperand, TwoOperands};
 use iso_script::fault::ScriptError;
 use iso_script::reader::read_script;
 use std::alloc::{AllocError, Global};
@@ -37,7 +37,7 @@ fn statement(test: &Test, index: usize, row: u32) -> Option<&Form> {
 /// The literal that a statement at this row prints.
 fn printed(test: &Test, index: usize, row: u32) -> Option<&Data> {
     match statement(test, index, row)? {
-        Form::Print(Expr::Literal(data)) => Some(data),
+        Form::One(OneOperand::Print, Expr::Literal(data)) => Some(data),
         _ => None,
     }
 }
@@ -53,8 +53,11 @@ fn is_text(data: Option<&Data>, expected: &str) -> bool {
 /// Whether a form compares `true` with the least number.
 fn compares(form: &Form) -> bool {
     match form {
-        Form::AssertEqual(Expr::Literal(Data::Flag(true)), Expr::Literal(Data::Whole(least))) =>
-            *least == i64::MIN,
+        Form::Two(
+            TwoOperands::AssertEqual,
+            Expr::Literal(Data::Flag(true)),
+            Expr::Literal(Data::Whole(least)),
+        ) => *least == i64::MIN,
         _ => false,
     }
 }

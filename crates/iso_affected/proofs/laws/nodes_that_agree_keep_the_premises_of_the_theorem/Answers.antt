@@ -1,7 +1,7 @@
 use Rattle.std.proofs.Common.{◌≡◌, ◌∷◌, Some, ap, sym, ◌∙◌, subst}
 use Rattle.iso_affected.proofs.HeadLemmas.{class-kind-rights, test-kind-rights}
 use Rattle.iso_lifecycle.specs.Subjects.{started}
-use Rattle.iso_model.specs.Agreement.{EqualAt}
+use Rattle.iso_model.specs.ChainAgreement.{EqualAt}
 use Rattle.iso_model.specs.Chains.{class_rights, test_rights}
 use Rattle.iso_model.specs.Rights.{Rights}
 use Rattle.iso_plan.specs.NodeChains.{chain_classes, node_rights}

@@ -6,14 +6,13 @@ use Rattle.iso_model.specs.Scripts.{Script}
 use Rattle.iso_model.specs.declared.limits.TheConstants.{NODES}
 use Rattle.iso_plan.proofs.FaultLemmas.{full-none, full-refused, later, none-of, sooner}
 use Rattle.iso_plan.proofs.SelectFirst.{count-first, left-earlier, select-first, written-rooted, written-unknown}
-use Rattle.iso_plan.specs.Faults.{IsFaultOf, full_fault, nodes_fault, not_selected}
+use Rattle.iso_plan.specs.Faults.{IsFaultOf, full_fault, nodes_fault, not_selected, PlanError}
 use Rattle.iso_plan.specs.Paths.{IsRooted, StandEarlier}
 use Rattle.iso_plan.specs.RowView.{row_of}
 use Rattle.iso_plan.specs.Selections.{first_unknown, plan_tree, selection, texts_of}
 use Rattle.iso_plan.specs.Tree as T
 use Rattle.iso_plan.specs.Tree.{effective_row, tree, written_tree}
-use Rattle.iso_plan.specs.declared.fault.PlanError.{PlanError}
-use Rattle.iso_plan.specs.declared.fault.PlanError.TheVariants.{Fault}
+use Rattle.iso_model.specs.declared.input_error.InputError.TheVariants.{Fault}
 use Rattle.iso_plan.specs.declared.fault.PlanFault.TheVariants.{TooManyNodes}
 use Rattle.iso_plan.proofs.nodes.kept_rows.Goals as goal
 
@@ -32,7 +31,8 @@ unknown_written ss only rows is = sym (ap (λ (rs : List T.Row). first_unknown r
 known_written : (ss : List Script) (only : List (List ℕ)) (rows : List T.Row) → rows ≡ written_tree ss → first_unknown rows only ≡ None → not_selected (first_unknown (tree ss) only) ≡ None
 known_written ss only rows is known = ap not_selected (unknown_written ss only rows is ∙ known)
 
-refused_by : (ss : List Script) (only : List (List ℕ)) (rows : List T.Row) (e : PlanError) → rows ≡ written_tree ss → IsFaultOf (not_selected (first_unknown rows only)) e → IsFaultOf (nodes_fault ss only) e
+refused_by : (ss : List Script) (only : List (List ℕ)) (rows : List T.Row) (e : PlanError) → rows ≡ written_tree ss
+    → IsFaultOf (not_selected (first_unknown rows only)) e → IsFaultOf (nodes_fault ss only) e
 refused_by ss only rows e is why =
     sooner (not_selected (first_unknown (tree ss) only)) (full_fault (plan_tree ss only)) e
     (subst (λ o. IsFaultOf (not_selected o) e) (sym (unknown_written ss only rows is)) why)

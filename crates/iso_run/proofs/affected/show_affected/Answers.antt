@@ -6,7 +6,7 @@ use Rattle.iso_run.proofs.affected.show_affected.Goals as goal
 use Rattle.iso_run.specs.Alterations.{AreBelow}
 use Rattle.iso_run.proofs.Flushing.{told-early}
 use Rattle.iso_run.specs.Commands.{IsComparedIn, IsToldFor}
-use Rattle.iso_run.specs.Ends.{Answers}
+use Rattle.iso_run.specs.ExitStatuses.{Answers}
 use Rattle.iso_run.specs.declared.command_fault.CommandFault.{CommandFault}
 
 pub returns-in_err-names : goal.returns-in_err-names

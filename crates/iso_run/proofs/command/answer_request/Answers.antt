@@ -2,12 +2,12 @@ use Rattle.std.proofs.Common.{◌∙◌, Bool, subst, sym}
 use Rattle.std.specs.Bool.{⊤}
 use Rattle.iso_run.proofs.Answering.{Lacking, answered-as, files-named, no-file, run-answered, run-refused}
 use Rattle.iso_run.proofs.Late.{late-so}
-use Rattle.iso_arguments.specs.Requests.{IsPlainRun}
+use Rattle.iso_arguments.specs.RequestBounds.{IsPlainRun}
 use Rattle.iso_run.proofs.command.answer_request.Goals as goal
 use Rattle.iso_run.specs.Commands.{ArePlaces, IsPrintedFor, IsWrittenFor, WereRead, plan_of, way_of}
 use Rattle.iso_plan.specs.Selections.{texts_of}
 use Rattle.iso_run.specs.Besides.{files_of}
-use Rattle.iso_run.specs.Ends.{NamesFile, end_of, run_end}
+use Rattle.iso_run.specs.ExitStatuses.{NamesFile, end_of, run_end}
 use Rattle.iso_run.specs.Runs.{suite_conflicts, suite_report}
 use Rattle.iso_run.specs.declared.command.Printed.{Printed}
 use Rattle.iso_run.specs.declared.report.Summary.{Summary}

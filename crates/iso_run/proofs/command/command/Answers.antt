@@ -2,7 +2,7 @@ use Rattle.std.proofs.Common.{◌≡◌, ◌≤◌, true, false, refl, subst, sy
 use Rattle.iso_run.proofs.Ending.{at-least-two, never-low, refuses, without-words}
 use Rattle.iso_run.proofs.command.command.Goals as goal
 use Rattle.iso_run.specs.Commands.{Answered, RanOn}
-use Rattle.iso_run.specs.Ends.{Whole, command_end}
+use Rattle.iso_run.specs.ExitStatuses.{Whole, command_end}
 
 pub returns-in-Ok-true-clause-ended : goal.returns-in-Ok-true-clause-ended
 returns-in-Ok-true-clause-ended g c =

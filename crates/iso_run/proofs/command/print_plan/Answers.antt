@@ -5,7 +5,7 @@ use Rattle.iso_run.proofs.Late.{late-so}
 use Rattle.iso_run.proofs.Printing.{prints-all, prints-places, prints-tests, prints-why}
 use Rattle.iso_run.proofs.command.print_plan.Goals as goal
 use Rattle.iso_run.specs.Commands.{ArePlaces}
-use Rattle.iso_run.specs.Ends.{IfLate, end_of, run_end}
+use Rattle.iso_run.specs.ExitStatuses.{IfLate, end_of, run_end}
 use Rattle.iso_run.specs.Runs.{Product, Writes}
 use Rattle.iso_run.specs.Suites.{Suite}
 use Rattle.iso_run.specs.declared.way.Way.TheVariants.{Serial}

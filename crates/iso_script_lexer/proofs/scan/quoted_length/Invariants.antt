@@ -1,5 +1,5 @@
 use Rattle.std.proofs.Common.{◌≡◌, ◌≤◌, ◌-◌, length, false}
-use Rattle.iso_script_lexer.specs.Misspellings.{text_fault}
+use Rattle.iso_script_lexer.specs.TokenFaults.{text_fault}
 use Rattle.iso_script_lexer.specs.Scan.{quoted_length}
 use Rattle.iso_script_lexer.proofs.Texts.{later}
 use Rattle.iso_script_lexer.proofs.scan.quoted_length.Given as goal

@@ -1,6 +1,6 @@
 use Rattle.std.proofs.Common.{◌≡◌, ◌∙◌, sym, arith, ap, min, drop, []}
 use Rattle.std.proofs.Math.ListN.{drop_of_length-le}
-use Rattle.iso_script_lexer.specs.Lexical.{decimal_value}
+use Rattle.iso_script_lexer.specs.LexicalGrammar.{decimal_value}
 use Rattle.iso_script_lexer.proofs.Numbers.{one_digit, value_from}
 use Rattle.iso_script_lexer.proofs.scan.saturated_value.Goals as goal
 

@@ -1,5 +1,5 @@
 use Rattle.std.proofs.Common.{◌≡◌, ◌^◌, ◌-◌, ◌≤◌, min, drop}
-use Rattle.iso_script_lexer.specs.Lexical.{decimal_value}
+use Rattle.iso_script_lexer.specs.LexicalGrammar.{decimal_value}
 use Rattle.iso_script_lexer.proofs.Numbers.{value_from}
 use Rattle.iso_script_lexer.proofs.scan.saturated_value.Given as goal
 

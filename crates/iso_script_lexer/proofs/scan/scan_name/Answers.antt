@@ -2,7 +2,7 @@ use Rattle.std.proofs.Common.{◌≡◌, arith, take, ℕ, List, ap, sym, ◌∙
 use Rattle.std.specs.List.{prefix_len}
 use Rattle.std.proofs.lemmas.List.Sums.{prefix_len-le-length}
 use Rattle.iso_script_lexer.specs.Spelling.{in_name}
-use Rattle.iso_script_lexer.specs.Lexical.{IsIdentifier}
+use Rattle.iso_script_lexer.specs.LexicalGrammar.{IsIdentifier}
 use Rattle.iso_script_lexer.specs.Tokens.{IsToken}
 use Rattle.iso_script_lexer.proofs.NameLemmas.{begins-identifier}
 use Rattle.iso_script_lexer.proofs.Words.{not_reserved}

@@ -3,7 +3,7 @@ use Rattle.std.specs.Cmp.Lexicographic.{slice_cmp}
 use Rattle.std.specs.FinMap.{empty, get-empty}
 use Rattle.std.specs.List.{starts_with}
 use Rattle.std.specs.Ordering.{nat_cmp}
-use Rattle.iso_model.specs.Keys.{properties_key, locale_key, file_prefix}
+use Rattle.iso_model.specs.ResourceKeys.{properties_key, locale_key, file_prefix}
 use Rattle.iso_model.specs.Resources.{default_locale}
 use Rattle.iso_model.specs.declared.resource.Resource.TheVariants.{Props, Locale, File, Plain}
 use Rattle.iso_settings.proofs.examples.empty_world_starts_as_the_language_says.Goals as goal

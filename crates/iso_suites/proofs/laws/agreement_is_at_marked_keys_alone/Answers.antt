@@ -1,5 +1,5 @@
 use Rattle.std.proofs.Common.{◌∷◌, Bool, None, cond, refl, sym, ap}
-use Rattle.iso_model.specs.Agreement.{EqualAt}
+use Rattle.iso_model.specs.ChainAgreement.{EqualAt}
 use Rattle.iso_model.specs.Chains.{class_rights, test_rights}
 use Rattle.iso_model.specs.Resources.{Resources, restricted}
 use Rattle.iso_model.specs.Rights.{Rights}

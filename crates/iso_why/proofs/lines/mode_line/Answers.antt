@@ -1,7 +1,7 @@
 use Rattle.std.proofs.Common.{◌++◌, Ok, List, ℕ, codes, ap}
 use Rattle.iso_plan.specs.RowView.{tree_of}
 use Rattle.iso_tap.proofs.PrinterLemmas.{prints_as, prints_cut, prints_stopped, prints_then}
-use Rattle.iso_why.specs.Reasons.{reason}
+use Rattle.iso_why.specs.ModeReasons.{reason}
 use Rattle.iso_why.specs.WhyText.{why_text}
 use Rattle.iso_why.proofs.lines.mode_line.Goals as goal
 

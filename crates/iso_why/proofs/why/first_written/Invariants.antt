@@ -1,5 +1,5 @@
 use Rattle.std.proofs.Common.{◌≡◌, drop}
-use Rattle.iso_why.specs.Reasons.{first_written}
+use Rattle.iso_why.specs.ModeReasons.{first_written}
 use Rattle.iso_why.proofs.why.first_written.Given as goal
 
 abbrev pub invariant-locks : goal.invariant-locks

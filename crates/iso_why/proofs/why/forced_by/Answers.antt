@@ -7,7 +7,7 @@ use Rattle.iso_plan.specs.Paths.{parent, path}
 use Rattle.iso_plan.specs.RowView.{tree_of}
 use Rattle.iso_plan.specs.declared.lock.Lock.{Lock}
 use Rattle.iso_why.proofs.ReasonLemmas.{forced-above, forced-here, forced-root, written-known}
-use Rattle.iso_why.specs.Reasons.{first_written, forced_by}
+use Rattle.iso_why.specs.ModeReasons.{first_written, forced_by}
 use Rattle.iso_why.proofs.why.forced_by.Goals as goal
 
 pub returns-in-Some : goal.returns-in-Some

@@ -3,7 +3,7 @@ use Rattle.std.specs.Option.{is_some}
 use Rattle.iso_plan.specs.Paths.{parent, path, row_at}
 use Rattle.iso_plan.specs.RowView.{tree_of}
 use Rattle.iso_why.proofs.ReasonLemmas.{marked-above, marked-here, marked-root}
-use Rattle.iso_why.specs.Reasons.{marked_by}
+use Rattle.iso_why.specs.ModeReasons.{marked_by}
 use Rattle.iso_why.proofs.why.marked_by.Goals as goal
 
 pub returns-then-is_some : goal.returns-then-is_some

@@ -1,7 +1,7 @@
 use Rattle.std.proofs.Common.{◌≡◌, ◌≤◌}
 use Rattle.iso_plan.specs.Paths.{path}
 use Rattle.iso_plan.specs.RowView.{tree_of}
-use Rattle.iso_why.specs.Reasons.{marked_by}
+use Rattle.iso_why.specs.ModeReasons.{marked_by}
 use Rattle.iso_why.proofs.why.marked_by.Given as goal
 
 abbrev pub invariant-up : goal.invariant-up

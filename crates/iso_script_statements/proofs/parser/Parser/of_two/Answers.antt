@@ -1,10 +1,11 @@
 use Rattle.std.proofs.lemmas.Result.{err_from_is_err_and}
 use Rattle.iso_script_statements.specs.Statements.{of_two}
 use Rattle.iso_script_statements.proofs.Statements.{second_only}
+use Rattle.iso_script_statements.proofs.Views.{form_of-two}
 use Rattle.iso_script_statements.proofs.parser.Parser.of_two.Goals as goal
 
 pub returns : goal.returns
-returns c = rw c.form.ensures (of_two c.in_ok-first.ensures c.in_ok-second.ensures)
+returns c = rw form_of-two (of_two c.in_ok-first.ensures c.in_ok-second.ensures)
 
 pub returns-in_err-second : goal.returns-in_err-second
 returns-in_err-second c =
