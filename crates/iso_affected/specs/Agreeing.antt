@@ -1,4 +1,9 @@
 -- Where two nodes, each of a plan on starting values, agree.
+--
+-- agreement of nodes: Two nodes, each of a plan on starting values, agree where their class chains
+-- are equal and the keys that these are marked with start with equal values (`NodesAgree`); the
+-- same of what they have themselves (`OwnAgree`); that a node has an outcome in some run
+-- (`MayComeTo`).
 use Rattle.std.specs.Prelude.{◌≡◌, ℕ, Option}
 use Rattle.iso_isolation.specs.Isolation.{Gives}
 use Rattle.iso_lifecycle.specs.Subjects.{Subject, classes_of, rights_of_subject, started}

@@ -1,4 +1,10 @@
 -- What a change makes of the nodes of two suites.
+--
+-- fate of a node: What a change makes of a node: it agrees with its namesake in the old suite, it
+-- doesn't, or it has none (`IsFate`, `AreFates`); the nodes of the old suite that have none in the
+-- new one (`gone`). Told of are tests, and classes with a statement in their `before_all` or
+-- `after_all` (`is_listed`).
+-- Also in: `Listed`.
 use Rattle.std.specs.Prelude.{◌≡◌, ℕ, ◌<◌, List, Some, None, Bool, is_none, length, slice_index_or}
 use Rattle.iso_affected.specs.Agreeing.{NodesAgree}
 use Rattle.iso_affected.specs.Namesakes.{namesake}

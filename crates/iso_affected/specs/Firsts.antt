@@ -1,4 +1,7 @@
 -- Where two lists differ first.
+--
+-- first place that differs: Two lists are alike before a place, and not with what stands at it
+-- (`ApartAt`, `IsFirst`); of two blocks the rows of what stands there (`AreRowsApart`).
 use Rattle.std.specs.Prelude.{◌≡◌, ℕ, ◌+◌, List, Option, Some, None, take}
 use Rattle.std.specs.List.{slice_get}
 use Rattle.std.specs.Option.{option_map}

@@ -1,4 +1,7 @@
 -- Tables of nodes by their names.
+--
+-- table of names: For each node of a plan its children, by their names: of several with one name
+-- the first (`FindChildren`).
 use Rattle.std.specs.BTreeMap.{BTreeMap, get_by}
 use Rattle.std.specs.Borrow.{Bor}
 use Rattle.std.specs.Cmp.Lexicographic.{slice_cmp}

@@ -1,5 +1,8 @@
 -- The namesake of a node in another plan: the node that is found there by the same names, from the
 -- top-level class down.
+--
+-- namesake: The node that is found in another plan by the same names, from the top-level class
+-- down; of several children with one name the first (`namesake`).
 use Rattle.std.specs.Prelude.{ℕ, List, [], ◌∷◌, Option, Some, None, bytes_eq, cond}
 use Rattle.iso_plan.specs.Paths.{children, path, row_at}
 use Rattle.iso_plan.specs.Tree.{Row}

@@ -1,4 +1,10 @@
 -- The parts of a head. What a class or a test doesn't have is empty.
+--
+-- parts of a head: Of a class or a test its statics, its fields, why it is disabled, its lifecycle
+-- blocks and its body, which are empty where it has none (`statics_on`, `fields_on`, `disabled_on`,
+-- `lifecycle_on`, `body_on`); the statements of a block with their rows (`statements`); the head
+-- that is lent (`lent_head`).
+-- Also in: `OwnHeads`.
 use Rattle.std.specs.Prelude.{ℕ, List, [], ◌∷◌, Option}
 use Rattle.iso_model.specs.Syntax.{Act, Acts, no_acts, act}
 use Rattle.iso_model.specs.declared.heads.Variable.{Variable}

@@ -1,4 +1,11 @@
 -- Why two nodes don't agree: what differs of what each node on their path has itself.
+--
+-- reasons of a change: What a node on the path of a changed one has otherwise than its namesake:
+-- whether one is a test and the other a class, what they declare (`AreDeclaredApart`), their blocks
+-- (`AreBlocksApart`), the first of its marks whose key starts with another value (`IsFirstApart`),
+-- all of it together (`IsDifference`), and where nothing is (`is_nothing`); a node agrees with its
+-- namesake where all on its path agree with theirs on what they have themselves (`AgreesItself`,
+-- `AllAgree`).
 use Rattle.std.specs.Prelude.{◌≡◌, ◌↔◌, ℕ, ◌<◌, IsFalse, List, Bool, ◌&&◌, not, is_none, Option, Some, None, true, length, slice_index_or, take}
 use Rattle.iso_affected.specs.Agreeing.{OwnAgree}
 use Rattle.iso_affected.specs.Fates.{Suites}

@@ -1,4 +1,7 @@
 -- Starting values of two worlds, compared key by key.
+--
+-- starting values of two worlds: The starting values before a change and after it (`StartsView`);
+-- what is kept of keys of which they were compared (`AreKept`).
 use Rattle.std.specs.Prelude.{◌≡◌, ◌↔◌, ℕ, List, Bool, Some, true, refl}
 use Rattle.std.specs.Coded.{Coded, code_by, coded×}
 use Rattle.iso_model.specs.KeyMaps.{value_in}

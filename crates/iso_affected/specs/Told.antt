@@ -1,4 +1,9 @@
 -- What is told of the nodes of a new suite.
+--
+-- what is told of nodes: What differs of each changed node and its namesake, by the node's number
+-- (`AreDifferences`), and whether something does (`tells`); the first of some names of properties
+-- that start with another value (`IsFirstName`); how many tests have which fate (`counts`).
+-- Also in: `PropertyStarts`, `Counting`.
 use Rattle.std.specs.Prelude.{◌≡◌, ℕ, ◌<◌, List, Option, Some, None, Bool, false, not, length, slice_index_or}
 use Rattle.iso_affected.specs.Fates.{Suites}
 use Rattle.iso_affected.specs.Reasons.{IsDifference, is_nothing}

@@ -1,4 +1,10 @@
 -- The rows of all nodes that a change can alter.
+--
+-- rows of a change: What is told of what a change can alter (`affected_rows`): a row for each node
+-- that is changed or new, or gone, and below a changed one what differs of the nodes on its path
+-- (`reasons_on`, `difference_rows`), with the lines of blocks now and before (`spot_in`); what a
+-- row says of a node is so (`SaysSo`, `IsListedAt`).
+-- Also in: `PartRows`, `Spots`, `Rows`, `Changes`, `Meanings`.
 use Rattle.std.specs.Prelude.{ℕ, zero, suc, List, [], ◌∷◌, ◌++◌, Option, Some, None, cond, flat_map, length, slice_index_or}
 use Rattle.iso_affected.specs.Listed.{is_listed}
 use Rattle.iso_affected.specs.declared.affected.Fate.{Fate}

@@ -1,4 +1,8 @@
 -- What is told, as text.
+--
+-- text of a change: The line of a row (`row_text`), the last lines (`last_lines`), all of it
+-- (`affected_text`), and the paths alone (`paths_text`).
+-- Also in: `Words`.
 use Rattle.std.specs.Prelude.{ℕ, ◌+◌, List, [], ◌∷◌, ◌++◌, Option, Some, None, ◌==◌, cond, codes, flat_map, not}
 use Rattle.std.specs.Fmt.{decimal}
 use Rattle.iso_affected.specs.declared.counts.Counts.{Counts}

@@ -1,4 +1,8 @@
 -- What a request asks for.
+--
+-- plain run, number of processors: A run of all of one script from standard input, without settings
+-- or world, counting with one processor (`NamesNothing`, `IsPlainRun`); a request counts with 1 to
+-- 1024 (`IsCount`).
 use Rattle.std.specs.Prelude.{◌≡◌, ℕ, ◌≤◌, [], None, Option, IfSome, false, ⊤}
 use Rattle.iso_arguments.specs.declared.processors.Processors.{Processors}
 use Rattle.iso_arguments.specs.declared.processors.Processors.TheVariants.{Count, Auto}

@@ -1,4 +1,11 @@
 -- What contracts see of the book of a run, and what every book is.
+--
+-- book: The plan and world of a book, its workers, its history and whether it was stopped
+-- (`BookView`); the state that the history in full gives (`state_in`); why the state machine
+-- refuses an event there (`refusal_in`); how many events may still come (`weight`, `left_in`); what
+-- every book is (`IsBook`); which nodes are held in two books alike, but for one that was entered
+-- or left (`HoldSame`, `HoldAlike`, `HoldAfter`).
+-- Also in: `Holdings`.
 use Rattle.std.specs.Prelude.{◌≡◌, ◌≤◌, ◌<◌, ◌+◌, ◌*◌, ℕ, zero, suc, List, [], ◌∷◌, ◌++◌, Option, Bool, false, length, refl}
 use Rattle.std.specs.Coded.{Coded, code_by, coded×, coded_list, coded_bool, coded_ℕ}
 use Rattle.iso_isolation.specs.Histories.{IsHistory, state_of}

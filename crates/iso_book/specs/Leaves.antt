@@ -1,5 +1,11 @@
 -- What a Leave asks of the body and the tray that its worker brings, and how book, tray and receipt
 -- stand after it.
+--
+-- Leave of a book: What is brought to it (`MayBring`); whether the body that is brought is the
+-- worker's (`is_of_worker`), and why the Leave is refused but for its tray (`leave_refusal_in`);
+-- how book, tray and receipt stand after one that was taken, and after one that wasn't (`IsLeft`,
+-- `IsNotLeft`, `after_leave`); a worker's last event, and that it is the Enter or the Shut of a
+-- node (`last_of`, `Began`).
 use Rattle.std.specs.Prelude.{◌≡◌, ℕ, ◌<◌, List, [], ◌∷◌, Option, Some, None, Bool, true, false, ◌&&◌, ◌==◌, cond, eqb, is_some, length, not, refl}
 use Rattle.std.specs.Coded.{Coded, code_by, coded×, coded_ℕ}
 use Rattle.std.specs.Option.{option_or}

@@ -1,4 +1,8 @@
 -- What an event asks of the tray that its worker brings, and how book and tray stand after it.
+--
+-- what an event asks of a tray: That it is the book's (`IsOwn`), and that the node may be entered
+-- with it (`MayEnterWith`) or goes on with it (`GoesOnWith`); how book and tray stand after an
+-- event that was taken, and after one that wasn't (`IsTaken`, `IsNotTaken`, `IsEntered`, `IsShut`).
 use Rattle.std.specs.Prelude.{◌≡◌, ◌<◌, ℕ, List, [], ◌∷◌, length, map, reverse, Option, Some, None, Bool, true, false, ◌||◌, ◌&&◌, not}
 use Rattle.iso_book.specs.Books.{BookView, refusal_in, with_event}
 use Rattle.iso_isolation.specs.Refusals as Why

@@ -1,4 +1,10 @@
 -- The command that replays a recorded run.
+--
+-- command that replays a run: The words of a recorded run, as a shell reads them (`replay_line`),
+-- where that can be told (`can_be_told`): a script is named, nothing is read from standard input,
+-- and no word has a character that no reader sees (`has_unseen_option`, `has_unseen_word`); the
+-- line of one whose schedule is longer than what is replayed (`too_large_line`).
+-- Also in: `Parts`.
 use Rattle.std.specs.Prelude.{ℕ, List, [], ◌∷◌, ◌++◌, Option, None, Some, Bool, false, not, ◌&&◌, ◌||◌, ◌==◌, codes, length, option_map}
 use Rattle.std.specs.List.{list_any}
 use Rattle.iso_arguments.specs.declared.request.InputFiles.{InputFiles}

@@ -1,5 +1,10 @@
 -- Chains: tests that wait for one another, for a key that nodes take, or for the thread of the
 -- class of which they are children.
+--
+-- chain: Of a key the tests of all nodes that take it for READ_WRITE and of the largest that takes
+-- it for READ (`tests_in`, `key_chain`); of a class, or the root, those of its children on the same
+-- thread (`class_chain`); the longest of all, of several the first, a class's before a key's
+-- (`longest`).
 use Rattle.std.specs.Prelude.{ℕ, ◌+◌, ◌<◌, List, ◌++◌, Bool, true, false, cond, filter, length, map, nat_lt}
 use Rattle.std.specs.List.{count_by, fold, range_with_len, sum_by}
 use Rattle.iso_conflicts.specs.Takers.{takers}

@@ -1,5 +1,8 @@
 -- The keys of a plan as they are printed: of each the tests of its chain, and the nodes that take
 -- it.
+--
+-- keys with their takers: Of each key its chain and its takers, then the longest chain
+-- (`key_lines`, `last_line`, `conflicts_text`).
 use Rattle.std.specs.Prelude.{ℕ, List, [], ◌++◌, ◌==◌, cond, codes, length, slice_index_or}
 use Rattle.std.specs.Fmt.{decimal}
 use Rattle.std.specs.List.{flat_map, range_with_len}

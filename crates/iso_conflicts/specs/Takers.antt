@@ -1,4 +1,7 @@
 -- Which nodes take a key, by its number, and how.
+--
+-- takers of a key: The nodes whose locks have the key in an access, as they are written (`takes`,
+-- `takers`).
 use Rattle.std.specs.Prelude.{ℕ, ◌-◌, List, [], ◌∷◌, Option, Some, None, Bool, true, false, ◌==◌, cond, filter, length}
 use Rattle.std.specs.List.{range_with_len}
 use Rattle.iso_model.specs.declared.access.Access.{Access}

@@ -1,4 +1,10 @@
 -- What contracts see of the core of a run, and the state that it is in.
+--
+-- core: The plan and world of a core, its workers, the events that it has accepted and whether it
+-- was stopped (`CoreView`); the state after these events (`state_in`); why it refuses an event
+-- (`refusal_in`), and what it is after one that is accepted, refused or ran out of memory
+-- (`Accepted`, `NotAccepted`).
+-- Standard: JUnit 5 User Guide, parallel execution.
 use Rattle.std.specs.Prelude.{◌≡◌, ◌<◌, ◌^◌, ℕ, List, [], ◌∷◌, ◌++◌, Option, Some, None, Bool, true, false, length, refl}
 use Rattle.std.specs.Coded.{Coded, code_by, coded×, coded_list, coded_bool, coded_ℕ}
 use Rattle.iso_core.specs.FlatMaps.{FlatView, IsFlatOf}

@@ -1,4 +1,7 @@
 -- What a list of events comes to that a new core takes in turn.
+--
+-- a list of events: What a new core comes to that takes the events in turn, or where it ended
+-- (`Ran`, `StoppedAt`).
 use Rattle.std.specs.Prelude.{◌≡◌, ℕ, ◌<◌, List, Option, Some, None, true, take, slice_index_or, length}
 use Rattle.iso_standing.specs.CodeEvents.{events_of, refused_of}
 use Rattle.iso_core.specs.Cores.{CoreView, new_core, refusal_in, suite_in}

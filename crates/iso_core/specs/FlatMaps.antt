@@ -1,4 +1,9 @@
 -- The flat map of a run, with what each entered node saved, and the states that it is of.
+--
+-- parts of a core: A flat map of all values, with what each entered node saved, is that of a state
+-- (`IsFlatOf`); bodies are those under way at workers' nodes (`AreBodiesOf`); results are those of
+-- finished nodes (`AreResultsOf`).
+-- Also in: `UnderWay` of `iso_standing`, `ResultStates` of `iso_standing`.
 use Rattle.std.specs.Prelude.{◌≡◌, ℕ, ◌<◌, List, Option, Some, None, true, length, is_some, option_map, slice_index_or, refl}
 use Rattle.std.specs.Coded.{Coded, code_by, coded×, coded_list, coded_option}
 use Rattle.iso_suites.specs.SuiteStates.{RunNodes}

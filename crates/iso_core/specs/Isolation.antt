@@ -1,5 +1,8 @@
 -- The isolation theorem, in the words of a core: whatever events it has accepted, what its finished
 -- nodes came to is theirs alone.
+--
+-- isolation of a core: The outcome of each finished test and class is that of the node run alone
+-- (`IsIsolated`); two cores have equal outcomes of nodes that agree (`AreUnaffected`).
 use Rattle.std.specs.Prelude.{◌≡◌, ℕ, List, ◌∷◌, Some, None}
 use Rattle.iso_core.specs.Cores.{CoreView, outcome_in}
 use Rattle.iso_lifecycle.specs.Subjects.{started}

@@ -1,4 +1,8 @@
 -- The events by which a core may go on.
+--
+-- going on: That a core refuses an event for another reason than that memory ran out (`Refuses`);
+-- the Shut of a class by its owner, and the Enter of a node by the owner of its parent
+-- (`shut_by_owner`, `entered_by_owner`).
 use Rattle.std.specs.Prelude.{◌≡◌, ℕ, false, is_none}
 use Rattle.iso_core.specs.Cores.{CoreView, refusal_in, state_in}
 use Rattle.iso_plan.specs.Paths.{parent}

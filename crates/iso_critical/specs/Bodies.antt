@@ -1,5 +1,12 @@
 -- The bodies of a run, by their places: each node has two, of which the second is that of a class's
 -- `after_all`.
+--
+-- critical bodies: The bodies of a run, those that ended last first (`ran`, `latest_first`);
+-- whether one had to end before another (`had_to_end`, `ended_by`), because that one needs it
+-- (`is_needed`, `lets_in`, `last_holder`) or comes after it on its worker; of those the one that
+-- ended last (`previous`); and the way back from the end of the run, one after another
+-- (`critical`). Whether a node's body is on it (`is_among`).
+-- Also in: `Needs`, `Critical`.
 use Rattle.std.specs.Prelude.{ℕ, ◌<◌, ◌*◌, ◌/◌, ◌%◌, List, Option, None, Bool, ◌&&◌, ◌==◌, is_some, map, not, slice_index_or, unwrap_or}
 use Rattle.std.specs.Option.{option_map}
 use Rattle.iso_critical.specs.declared.body.Body.{Body}

@@ -1,4 +1,9 @@
 -- Who waits, who has nothing to wake for, and whom a call marks.
+--
+-- who has something to wake for: A worker with what it has seen has nothing (`HasNothing`); one
+-- that waits, wasn't called and has something (`IsToCall`), and that none below a number has
+-- (`HaveNothing`); what is kept of workers after a call (`idle_crew`, `waiting`, `looking`,
+-- `called`).
 use Rattle.std.specs.Prelude.{◌≡◌, ◌<◌, ℕ, List, replicate, Option, None, Some, Bool, false, true, ◌&&◌, not, slice_index_or, slice_set}
 use Rattle.iso_desk.specs.Offers.{NothingOffered}
 use Rattle.iso_desk.specs.Places.{IsEmpty}

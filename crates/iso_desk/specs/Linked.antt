@@ -1,4 +1,8 @@
 -- How the lines are kept: by the nodes themselves, each of which knows the one behind it.
+--
+-- how lines are kept: Along a line numbers rise, and none stands between two neighbours
+-- (`IsLinked`, `AreLinked`); a line in which somebody stands is marked (`AreFilled`, `IsTable`). No
+-- public clause cites it.
 use Rattle.std.specs.Prelude.{◌≡◌, ◌≤◌, ◌<◌, ◌≢◌, ℕ, ◌+◌, ◌*◌, List, Option, None, Some, MatchOption, length, cond, is_some, ◌==◌, slice_index, slice_index_or, slice_set}
 use Rattle.iso_desk.specs.Lines.{IsLineOf, line_number}
 use Rattle.iso_desk.specs.Marking.{has, room}

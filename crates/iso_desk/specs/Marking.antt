@@ -1,4 +1,9 @@
 -- Sets of numbers, as marks in words of 64 bits.
+--
+-- what is on offer: A set of keys (`has`, `room`); somebody stands in a line and its key doesn't
+-- exclude them (`IsOnOffer`, `excludes`); the lowest such key of a party (`IsLowestOffer`), and
+-- that there is none (`NothingOffered`).
+-- Also in: `Offers`.
 use Rattle.std.specs.Prelude.{ℕ, ◌*◌, ◌/◌, ◌%◌, ◌==◌, Bool, ◌&&◌, ◌||◌, not, length, slice_index}
 use Rattle.std.specs.Int.{bit_at}
 use Rattle.iso_desk.specs.declared.marks.Marks.{Marks}

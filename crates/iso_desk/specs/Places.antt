@@ -1,4 +1,10 @@
 -- The table: where each node stands. The lines are read off it.
+--
+-- places and lines: Where each node stands, and which numbers are given next (`TableView`); which
+-- line a node stands in, and by what number (`StandsIn`, `since_in`); the first of a line
+-- (`IsFirst`), and that nobody stands there (`IsEmpty`); a table after a call (`all_closed`,
+-- `moved`, `lined_up`, `headed`).
+-- Also in: `Lines`.
 use Rattle.std.specs.Prelude.{◌≡◌, ◌≤◌, ℕ, ◌+◌, ◌-◌, ◌^◌, List, replicate, Option, None, Some, slice_index_or, slice_set}
 use Rattle.iso_desk.specs.declared.line.Line.{Line}
 use Rattle.iso_desk.specs.declared.place.Place.{Place}

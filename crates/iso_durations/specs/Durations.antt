@@ -1,4 +1,10 @@
 -- The text that lists the slowest tests and classes of a run.
+--
+-- text of the slowest: How many are listed, of how many tests and classes, and how long all bodies
+-- took (`head_line`, `tally`), node by node (`with_node`); a line for each (`entry_line`,
+-- `durations_text`, `text_of`), of its entry (`entry`), made of parts (`part_text`), with times in
+-- seconds (`seconds`).
+-- Also in: `Tallies`, `Entries`, `Lines`, `Parts`, `Seconds`.
 use Rattle.std.specs.Prelude.{ℕ, List, [], ◌∷◌, ◌++◌, Option, codes, flat_map, length, map}
 use Rattle.std.specs.Fmt.{decimal}
 use Rattle.iso_plan.specs.Tree.{Row}

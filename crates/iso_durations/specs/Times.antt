@@ -1,4 +1,9 @@
 -- What was measured of a run's nodes.
+--
+-- slowest tests and classes: Which nodes were measured (`measured`); which of two comes before the
+-- other (`is_before`), nodes in that order (`slowest_first`), and the first `most`, or all
+-- (`first_of`, `listed`).
+-- Also in: `Orders`, `Listed`.
 use Rattle.std.specs.Prelude.{ℕ, List, Option, None, Bool, ◌&&◌, is_some, length, not, slice_index_or, unwrap_or}
 use Rattle.iso_plan.specs.Paths.{is_root}
 use Rattle.iso_plan.specs.Selections.{those_below}

@@ -1,4 +1,9 @@
 -- What stands behind the carets.
+--
+-- explanation of a script's fault: Its line with carets, what is wanted there or what is wrong
+-- (`wanted_text`, `kind_text`, `label_of`), and what else is told (`explanation`, `notes`); the
+-- word that was meant (`meant_by`).
+-- Also in: `Explanations`, `Notes`, `Meant`, `Bounds`, `Spots`, `Scripts`, `Printable`.
 use Rattle.std.specs.Prelude.{ℕ, List, ◌++◌, Bool, true, false, codes, cond}
 use Rattle.iso_script_lexer.specs.Spelling.{marks, spelling}
 use Rattle.iso_script_statements.specs.declared.fault.ScriptFaultKind.{ScriptFaultKind}

@@ -1,4 +1,14 @@
 -- The lines that mend a fault.
+--
+-- hint for a block's fault: The lines that mend a statement whose fault ended a block (`hints`,
+-- `lines_of_kind`), none twice and four at most (`with_line`), from what is known of the fault
+-- (`BlockFaultView`): what an operation takes and the kinds of its operands that are shown
+-- (`kind_of`, `chain_lines`, `pair_lines`, `single_lines`, `acts_lines`), the names that are
+-- visible (`lets`, `visible_names`, `name_lines`), the mark that is missing (`mark_text`), the
+-- property or file that was meant (`chain_names`, `meant_of`, `missing_lines`), a limit or a rule
+-- (`kind_rules`).
+-- Also in: `Views`, `Lines`, `Kinds`, `Rules`, `Operations`, `Expressions`, `Statements`, `Blocks`,
+-- `Lets`, `Variables`, `Unknown`, `Messages`, `Marks`, `Missing`, `Fixed`.
 use Rattle.std.specs.Prelude.{ℕ, List, []}
 use Rattle.iso_explain_block.specs.Blocks.{block_acts}
 use Rattle.iso_explain_block.specs.Fixed.{fixed_lines}

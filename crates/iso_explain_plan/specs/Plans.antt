@@ -1,4 +1,12 @@
 -- What mends a fault of a plan.
+--
+-- explanation of a plan's fault: What is told of each (`IsPlanText`): where two classes of one path
+-- stand, or which file is named twice (`double_notes`); how many there are of what there are too
+-- many of (`nodes_notes`, `keys_notes`, `scripts_note`), and of which classes most are
+-- (`all_sizes`, `by_size`); of a word that names nothing what was meant (`unselected_notes`,
+-- `first_of_team`, `named_so`, `near_paths`).
+-- Also in: `Doubles`, `Sizes`, `Largest`, `Unselected`, `Meant`, `Notes`, `Parts`, `Told`,
+-- `Printable`.
 use Rattle.std.specs.Prelude.{◌≡◌, ℕ, ◌-◌, List, [], ◌∷◌, ◌++◌, Option, None, Some, codes, drop, length, map, take}
 use Rattle.std.specs.Fmt.{decimal}
 use Rattle.iso_model.specs.Scripts.{Script}

@@ -1,4 +1,10 @@
 -- What mends a schedule.
+--
+-- explanation of a schedule's fault: The line with the fault and how an event is written, or how
+-- large a number or a schedule may be (`fault_text`); the line of an event that is refused
+-- (`event_line`) and why it is (`why_notes`, `refused_text`), with the key on which two nodes
+-- exclude one another (`first_clash`); what a schedule leaves (`unfinished_notes`).
+-- Also in: `ScheduleLines`, `Refusals`, `Reasons`, `RefusedEvents`, `Clashes`, `UnfinishedTexts`.
 use Rattle.std.specs.Prelude.{ℕ, ◌+◌, List, [], ◌∷◌, ◌++◌, ◌==◌, codes, cond, length, max, min}
 use Rattle.std.specs.Fmt.{decimal}
 use Rattle.std.specs.Str.Lines.{lines}

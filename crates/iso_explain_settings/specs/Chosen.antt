@@ -1,4 +1,10 @@
 -- What settings have at their keys, as it is told.
+--
+-- listing of settings: Each key with its value in the document, which may not be used, or by
+-- default (`setting_text`, `unused`), the unknown keys (`unknown_in`), and the workers and why
+-- (`why_text`, `listing_text`).
+-- Also in: `Unknown`, `Listing`.
+-- Standard: JUnit 5 User Guide, configuration parameters.
 use Rattle.std.specs.Prelude.{ℕ, ℤ, pos, negsuc, List, [], ◌∷◌, ◌++◌, Bool, false, ◌&&◌, ◌||◌, not, if◌then◌else◌, cond, bytes_eq, codes, nat_le, Option, None, Some, option_map}
 use Rattle.std.specs.Fmt.{decimal}
 use Rattle.std.specs.Str.Parse.{digits_value}

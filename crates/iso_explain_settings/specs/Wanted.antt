@@ -1,4 +1,9 @@
 -- What keys take.
+--
+-- explanation of a fault of settings or a world: What a key takes (`wanted_at`, `takes`), what is
+-- told of the values that stand there (`value_text`, `IsTold`, `IsExplained`), with what mends it
+-- (`near`, `hint`); where a document that is none stops (`refusal_text`, `IsRefusal`).
+-- Also in: `Values`, `Told`, `Explanations`, `Places`, `Refusals`, `Parts`, `Printable`.
 use Rattle.std.specs.Prelude.{ℕ, List, Bool, ◌||◌, if◌then◌else◌, bytes_eq, codes, map, nat_eq, slice_get, Option}
 use Rattle.std.specs.List.{starts_with}
 use Rattle.iso_hints.specs.Nearest.{near_words}

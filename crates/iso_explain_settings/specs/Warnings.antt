@@ -1,4 +1,8 @@
 -- Warnings, as lines.
+--
+-- warning: A line behind the name of a file, or a place in it (`warning_line`); the first ten, and
+-- how many there are more (`with_one`, `warnings_text`); those of settings (`warned`).
+-- Also in: `Warned`, `Unknown`.
 use Rattle.std.specs.Prelude.{ℕ, List, [], ◌∷◌, ◌++◌, ◌==◌, cond, codes, unwrap_or}
 use Rattle.std.specs.Fmt.{decimal}
 use Rattle.iso_summary.specs.Names.{shown_name}

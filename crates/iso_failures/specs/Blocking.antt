@@ -1,4 +1,9 @@
 -- Which failed class blocks a test: the nearest class around it that failed itself.
+--
+-- which class blocks a test: The nearest class around it that failed itself (`nearest_failure`,
+-- `is_blocked_by`); how many tests a class blocks (`blocked_by`), as they are counted child by
+-- child (`blocked_within`, `blocked_at`).
+-- Also in: `BlockedInside`.
 use Rattle.std.specs.Prelude.{ℕ, List, Option, Bool, ◌&&◌, length}
 use Rattle.std.specs.List.{find}
 use Rattle.iso_model.specs.declared.outcome.Outcome.{Outcome}

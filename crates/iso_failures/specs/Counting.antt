@@ -1,4 +1,9 @@
 -- How many tests and classes there are, and how many of them came to what.
+--
+-- counts of a run: How many tests there are, and how many of them passed, were skipped, failed and
+-- were blocked; how many classes, and how many of these failed by themselves (`counts`), node by
+-- node (`with_node`).
+-- Also in: `CountingSteps`.
 use Rattle.std.specs.Prelude.{ℕ, List, Bool, true, length}
 use Rattle.iso_model.specs.declared.outcome.Outcome.{Outcome}
 use Rattle.iso_plan.specs.Selections.{those_below}

@@ -1,4 +1,9 @@
 -- The nodes that failed, and their paths as a text.
+--
+-- what failed: Each node but the root whose own verdict is a fail or a fault (`has_failed`,
+-- `is_failure`), in the order in which they are written (`failures`); their paths, one a line
+-- (`failed_text`).
+-- Also in: `Nodes`.
 use Rattle.std.specs.Prelude.{ℕ, List, ◌++◌, Bool, ◌&&◌, codes, length, not}
 use Rattle.std.specs.List.{flat_map}
 use Rattle.iso_model.specs.declared.outcome.Outcome.{Outcome}

@@ -1,5 +1,11 @@
 -- What a book under the lock of a floor has answered. Outside of the lock nobody can name that
 -- book: what is known is that there was one.
+--
+-- answer of a floor: That something is so of some book of a plan, start and workers, whose history
+-- in full is a run (`OfSomeBook`): it takes an event of a seat's worker, or doesn't, and why
+-- (`TakesEnter`, `RefusesEnter` and those of Shuts and Leaves); whether a seat has room for a
+-- receipt more (`HasRoom`, `IsFull`); whether a wait for a change ends, and what it answers
+-- (`has_changed`, `EndsWait`).
 use Rattle.std.specs.Prelude.{◌≡◌, ◌<◌, ◌≤◌, ℕ, Bool, ◌||◌, length, nat_lt, true}
 use Rattle.iso_book.specs.Books.{BookView, is_complete, refusal_in, suite_in}
 use Rattle.iso_book.specs.Leaves.{leave_refusal_in}

@@ -1,4 +1,11 @@
 -- When the receipts that seats hand in are those of a history.
+--
+-- receipts of a history: A receipt is of a history where a Leave of its worker stands at its
+-- number, whose last Enter or Shut before was of its node (`Stands`, `last_begun`); a number is
+-- lost where a receipt with it isn't of the history, stands after one that isn't lower, or is in
+-- two seats, or where it is a Leave's without a receipt (`IsLost`); the lowest such number
+-- (`IsLowest`), and how far a comparison has come (`IsAudited`).
+-- Also in: `Auditing`.
 use Rattle.std.specs.Prelude.{◌≡◌, ◌<◌, ◌≤◌, ◌≢◌, ℕ, List, [], ◌∷◌, take, Option, Some, None, cond, ◌==◌, slice_get, slice_index_or}
 use Rattle.std.specs.Option.{option_or}
 use Rattle.iso_book.specs.Leaves.{ReceiptView}

@@ -1,4 +1,9 @@
 -- What contracts see of a desk, and what its scheduler says truly of its book.
+--
+-- desk: A book with its scheduler (`DeskView`), of which the marks are those of the keys that the
+-- book's held nodes take (`held_nodes`, `AreMarksOf`), and each node in a line of a key takes that
+-- key with the line's access (`IsDesk`); that a worker could enter no node of its own lines or of
+-- everyone's (`CanEnterNone`). No public clause cites it.
 use Rattle.std.specs.Prelude.{◌≡◌, ◌≢◌, ◌<◌, ℕ, List, Bool, None, ◌||◌, length}
 use Rattle.iso_book.specs.Books.{BookView, refusal_in, state_in}
 use Rattle.iso_desk.specs.Marking.{has}

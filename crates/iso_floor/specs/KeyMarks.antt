@@ -1,4 +1,8 @@
 -- Which keys the held nodes take, as marks.
+--
+-- marks of keys: The keys that a held node takes, and those that one takes for READ_WRITE
+-- (`KeysView`, `AreMarks`); the marks of a node's keys made anew (`AreRenewed`); a lock that a held
+-- node excludes (`is_excluded`). No public clause cites it.
 use Rattle.std.specs.Prelude.{◌≡◌, ◌<◌, ◌≤◌, ℕ, List, Bool, true, ◌==◌, ◌||◌, ◌&&◌, not, cond}
 use Rattle.std.specs.List.{list_any}
 use Rattle.iso_desk.specs.Marking.{has, room}

@@ -1,4 +1,12 @@
 -- What contracts see of a scheduler, and what its steps do to the table.
+--
+-- scheduler: What is kept of a run beside its book (`SchedulerView`): its table, after a node was
+-- put or taken next (`put`, `next_taken`), the line in which a node waits (`waiting_line`), which
+-- node a worker attempts or shuts next, and that there is none (`IsNextNode`, `HasNone`); who has
+-- nothing to wake for (`HasNothingIn`); how many nodes are loose (`loose_in`); that each node in a
+-- line of a key takes that key with the line's access (`Takes`, `WaitRightly`). No public clause
+-- cites it.
+-- Also in: `Nexts`.
 use Rattle.std.specs.Prelude.{◌≡◌, ◌<◌, ◌==◌, ℕ, List, Option, None, Some, Bool, true, false, cond, is_some, length, not}
 use Rattle.iso_desk.specs.Crews.{HasNothing}
 use Rattle.iso_desk.specs.Places.{StandsIn, TableView, line_in, moved, place_of}

@@ -1,4 +1,10 @@
 -- What contracts see of a seat, and how it stands after a worker's call.
+--
+-- floor: A worker's number, its tray, its receipts and the room for them (`SeatView`), and how a
+-- seat stands after a Leave (`HasLeft`); trays and books of one plan and start (`IsTrayOf`,
+-- `IsBookOf`); a book that is whole beside the receipts of seats (`IsWhole`), and why none is
+-- handed out (`IsCloseFault`); why a worker gets no seat (`IsSeatFault`, `IsPlaceFault`).
+-- Also in: `Grounds`, `Closing`.
 use Rattle.std.specs.Prelude.{◌≡◌, ◌*◌, ℕ, Bool, List, [], ◌∷◌, ◌++◌, length, map, refl}
 use Rattle.std.proofs.Common.{◌∙◌}
 use Rattle.std.specs.Coded.{Coded, code_by, coded×, coded_list, coded_ℕ}

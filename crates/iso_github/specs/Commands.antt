@@ -1,5 +1,13 @@
 -- Commands that GitHub reads in the output of a workflow's step (GitHub Docs, workflow commands for
 -- GitHub Actions).
+--
+-- error for GitHub: The command that tells one at a line of a file, with a path as its title
+-- (`error_line`), or why a file is refused (`refusal_line`), made of parts (`part_text`); which
+-- texts are escaped how (`in_message`, `in_property`), and which text is read back, if any
+-- (`message_of`, `property_of`); the errors of a run: of each node that failed by itself
+-- (`error_of`, `errors_text`).
+-- Also in: `Readers`, `Errors`, `Parts`.
+-- Standard: GitHub Docs, workflow commands for GitHub Actions.
 use Rattle.std.specs.Prelude.{ℕ, List, [], ◌∷◌, ◌==◌, cond, codes, flat_map}
 use Rattle.std.specs.Fmt.{decimal}
 use Rattle.iso_junit.specs.Texts.{joined}

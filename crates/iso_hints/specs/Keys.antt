@@ -1,4 +1,11 @@
 -- Keys of settings.
+--
+-- unknown key: A key that begins as JUnit's do and is none of settings (`is_unknown`,
+-- `known_keys`), the one that was meant: the nearest by what both have behind the last dot up to
+-- which they are the same, or one with a segment more (`meant_key`, `rests`, `key_distance`), and
+-- the line that tells of it (`unknown_line`).
+-- Also in: `NearKeys`.
+-- Standard: JUnit 5 User Guide, configuration parameters.
 use Rattle.std.specs.Prelude.{ℕ, List, [], ◌++◌, Bool, ◌&&◌, not, Option, Some, None, codes, map, nat_eq, option_map}
 use Rattle.std.specs.List.{list_any, starts_with}
 use Rattle.std.specs.Str.{bytes_eq}

@@ -1,4 +1,8 @@
 -- Near words.
+--
+-- near words: How far a word is from another, by the least edits (`distance`); which candidates are
+-- near enough to be told (`is_near`), and these by their distance (`near_words`).
+-- Standard: Damerau-Levenshtein, as optimal string alignment.
 use Rattle.std.specs.Prelude.{ℕ, ◌*◌, ◌/◌, List, [], ◌∷◌, Bool, ◌&&◌, cond, filter, fold, length, max, nat_le, nat_lt}
 use Rattle.std.specs.Str.{chars}
 use Rattle.strsim.specs.Edits.{osa_table}

@@ -1,4 +1,7 @@
 -- Pictures of lines.
+--
+-- picture of a line: The line of a script with its number, at most 160 bytes of it, and carets
+-- below (`picture`, `first_shown`, `shown_rest`); a hint below it (`hint_line`).
 use Rattle.std.specs.Prelude.{ℕ, ◌+◌, ◌-◌, List, [], ◌++◌, Bool, ◌==◌, cond, codes, drop, length, map, max, min, nat_lt, replicate, take}
 use Rattle.std.specs.Fmt.{decimal}
 use Rattle.std.specs.Int.{is_in_range}

@@ -1,4 +1,9 @@
 -- Positions in a text.
+--
+-- hint: The place of a position (`place_at_position`), and a place in a script as patterns see it
+-- (`place_at`), which patterns there are (`lies`), when a row of the table fits (`fits`), and what
+-- is told of a place (`hint_in`, `hint_at`).
+-- Also in: `Places`, `Tokens`, `Patterns`, `Rows`, `Tables`, `Hints`.
 use Rattle.std.specs.Prelude.{ℕ, zero, suc, ◌+◌, ◌-◌, List, [], ◌∷◌, ◌==◌, cond}
 
 -- how many bytes the first lines of a text have, this number of them, with their line feeds

@@ -1,4 +1,8 @@
 -- Settings as they are told.
+--
+-- what settings come to: Each setting with its value and where this is from (`setting_line`), keys
+-- that are unknown and how many there are more, and the workers (`settings_text`).
+-- Also in: `SettingsTexts`.
 use Rattle.std.specs.Prelude.{ℕ, List, ◌++◌, Bool, ◌==◌, cond, codes, Option, Some, None}
 use Rattle.std.specs.Fmt.{decimal}
 use Rattle.iso_tap.specs.Pieces.{pieces_text}

@@ -1,4 +1,14 @@
 -- Where moments stand in the picture of a run, which is 1,000 pixels wide.
+--
+-- picture of a run: Where a moment stands (`at`, `width`, `pixel`). The bars of the bodies that a
+-- worker did (`lane_marks`), critical ones marked (`body_marks`, `critical_class`), and of the
+-- nodes that took a key, each from when it was entered until it had finished (`key_marks`). Wide
+-- bars stand by themselves, those thinner than a pixel as one by their pixel (`thin_groups`,
+-- `row_shapes`, `with_bar`); a lane for each worker, a row for each key that was waited for
+-- (`picture`), as SVG (`shape_text`). That of some lists each has something more behind it
+-- (`AreLonger`).
+-- Also in: `Groups`, `Bars`, `Lists`, `Pictures`, `PictureText`.
+-- Standard: SVG 2.
 use Rattle.std.specs.Prelude.{ℕ, ◌-◌, ◌*◌, ◌/◌, Bool, ◌==◌, cond, min, nat_lt}
 
 -- the place of a moment of a run that took so long, in hundredths of a pixel

@@ -1,4 +1,8 @@
 -- The commands that run nodes again, as the summary tells them.
+--
+-- command on the page: That of the summary, with the escapes of a page, where it can be told
+-- (`command_text`, `again_text`).
+-- Also in: `Parts`.
 use Rattle.std.specs.Prelude.{ℕ, List, [], ◌∷◌, ◌++◌, Bool, cond, codes}
 use Rattle.iso_junit.specs.Escapes.{escaped}
 use Rattle.iso_junit.specs.Runs.{PlacedView}

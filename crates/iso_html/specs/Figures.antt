@@ -1,4 +1,10 @@
 -- The figures of a run that was measured.
+--
+-- measured part of a page: The workers, wall time, busy part and bound (`measured_figures`); the
+-- picture; of each key its readers and writers, how long these were entered, and how many nodes
+-- waited for it and how long (`usage_of`, `usages`, `key_line`); the longest chain (`chain_text`);
+-- the ten slowest (`slowest`).
+-- Also in: `KeyUses`, `Slowest`, `Measured`, `Sections`.
 use Rattle.std.specs.Prelude.{ℕ, ◌/◌, List, [], ◌∷◌, ◌++◌, Option, Some, None, codes}
 use Rattle.std.specs.Fmt.{decimal}
 use Rattle.iso_junit.specs.Texts.{joined}

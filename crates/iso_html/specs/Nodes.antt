@@ -1,4 +1,13 @@
 -- What the page tells of a node.
+--
+-- page of a run: What the page tells of a node: its line (`name_text`, `time_text`), path and place
+-- (`place_text`), mode and locks (`mode_text`, `lock_text`), why it didn't pass (`message_text`)
+-- and what it printed (`printed_text`); what went wrong in it (`entry_text`, `wrong_text`) with
+-- lines of its script (`quote_text`); the tree (`node_text`, `tree_text`); the page (`head_text`,
+-- `body_text`, `page_text`). Signs and words of verdicts, modes and locks (`sign`, `mode_word`,
+-- `access_verb`), and which bytes are no markup (`is_no_markup`).
+-- Also in: `Modes`, `Trees`, `Heads`, `Pages`, `Quotes`, `Signs`, `Styles`, `Markup`.
+-- Standard: HTML, the living standard; Content Security Policy 3.
 use Rattle.std.specs.Prelude.{ℕ, ◌/◌, ◌%◌, List, [], ◌∷◌, ◌++◌, Option, None, Some, Bool, false, ◌==◌, cond, codes, length}
 use Rattle.std.specs.Fmt.{decimal}
 use Rattle.iso_model.specs.declared.outcome.Verdict.{Verdict}

@@ -1,4 +1,6 @@
 -- What contracts see of a lent block.
+--
+-- block without statements: Whether a lent block has no statement (`is_empty`).
 use Rattle.std.specs.Prelude.{Bool, true, false}
 use Rattle.iso_model.specs.Syntax.{Acts, no_acts, act}
 

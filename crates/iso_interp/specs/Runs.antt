@@ -1,4 +1,8 @@
 -- Where a block run stands.
+--
+-- where a run stands: The point of the block (pieces and local state), and the machine with the
+-- resources. What a statement does of a run: without a body all that it means (`Performs`), else
+-- what its step does, and the pieces that it puts before the others (`Begins`).
 use Rattle.std.specs.Prelude.{◌≡◌, ℕ, List, [], ◌∷◌, ◌++◌, map, reverse, Option, Some, None, Result, OnOk}
 use Rattle.std.specs.Option.{option_to_list}
 use Rattle.iso_model.specs.Resources.{Resources}

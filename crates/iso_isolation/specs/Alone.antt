@@ -1,5 +1,9 @@
 -- What a chain comes to when it is run alone (JUnit 5 User Guide, test lifecycle).
 -- No other test, no worker, no lock and no order of events appears here.
+--
+-- run alone: What the innermost of a chain comes to on the values of the keys of its rights, and on
+-- nothing else (`opening`, `run_alone`).
+-- Standard: JUnit 5 User Guide, test lifecycle.
 use Rattle.std.specs.Prelude.{Bool, true, cond, List, [], ◌∷◌, None}
 use Rattle.iso_isolation.specs.Languages.{Content, Progress, Language}
 

@@ -1,5 +1,8 @@
 -- The events of a run, and the state after each (JUnit 5 User Guide: test lifecycle, parallel
 -- execution).
+--
+-- transition: Enter, Step, Leave and Shut, and the state after each (`after`).
+-- Standard: JUnit 5 User Guide, parallel execution.
 use Rattle.std.specs.Prelude.{ℕ, Bool, true, false, cond, eqb, ◌&&◌, List, [], ◌∷◌, Option, Some, None}
 use Rattle.iso_isolation.specs.Languages.{Language}
 use Rattle.iso_isolation.specs.Suites.{Suite, chain, may_write}

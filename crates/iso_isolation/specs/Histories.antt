@@ -1,5 +1,11 @@
 -- Histories: what a run is by its Enters, Leaves and Shuts alone. For running workers, whose steps
 -- stand in no list.
+--
+-- history: A list of Enters, Leaves and Shuts that in full is a run (`IsHistory`, `state_of`); how
+-- it goes on (`GoesOn`); where each key stands after it: as the innermost unfinished class left it
+-- that may change it and whose `before_all` was left, or at its start (`last_opened`,
+-- `standing_value`), and whether an unfinished node takes it for READ_WRITE (`is_being_written`);
+-- two runs with one history (`SameHistory`). That bodies end is a law of its own (`EndLaws`).
 use Rattle.std.specs.Prelude.{◌≡◌, ℕ, zero, suc, ◌<◌, Bool, true, false, cond, ◌&&◌, List, [], ◌∷◌, ◌++◌, Option, Some, None, is_some}
 use Rattle.iso_isolation.specs.Languages.{Content, Language}
 use Rattle.iso_isolation.specs.Suites.{Suite, chain, may_write}

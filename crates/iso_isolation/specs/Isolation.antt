@@ -1,4 +1,8 @@
 -- The isolation theorem.
+--
+-- isolation theorem: The result of each finished node is that of its chain run alone; suites that
+-- agree on a chain and the values of its rights' keys give equal results (`Isolated`,
+-- `Unaffected`).
 use Rattle.std.specs.Prelude.{◌≡◌, ℕ, ◌<◌, true, List, Some}
 use Rattle.iso_isolation.specs.Languages.{Language}
 use Rattle.iso_isolation.specs.Suites.{Suite, chain, may_read}

@@ -1,4 +1,8 @@
 -- What a run asks of the bodies of classes and tests, and the laws that they keep.
+--
+-- language, body laws: What a run asks of bodies over any heads, keys, values and results: a body
+-- begins on frames, does a step, has ended, done to its end; frames and results; and what steps and
+-- ends keep (`Language`, `BodyLaws`).
 use Rattle.std.specs.Prelude.{◌≡◌, ℕ, List, ◌∷◌, Option, Bool, true, false}
 
 -- the content of all resources: the value of each key, if it has one

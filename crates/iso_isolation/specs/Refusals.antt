@@ -1,4 +1,7 @@
 -- Which events are refused: of the kinds of refusal, the first that applies.
+--
+-- refusal: Of the kinds that an event tests, in their order, the first that applies (`kinds`,
+-- `refusal`); one definition a kind.
 use Rattle.std.specs.Prelude.{ℕ, zero, suc, Bool, false, cond, not, eqb, leb, ◌&&◌, ◌||◌, List, [], ◌∷◌, Option, Some, None, is_some}
 use Rattle.std.specs.Option.{option_or, option_map}
 use Rattle.iso_isolation.specs.Languages.{Language}

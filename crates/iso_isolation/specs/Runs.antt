@@ -1,5 +1,8 @@
 -- Runs: lists of events of which each is accepted in the state that the earlier ones give; and
 -- histories.
+--
+-- legal run, full history: Each event is accepted in the state that the earlier ones give
+-- (`is_run`); a history with the steps that each body still needs before its Leave (`full`).
 use Rattle.std.specs.Prelude.{ℕ, zero, suc, Bool, true, cond, not, ◌&&◌, List, [], ◌∷◌, ◌++◌, replicate, Option, is_none}
 use Rattle.iso_isolation.specs.Languages.{Content, Language}
 use Rattle.iso_isolation.specs.Suites.{Suite, chain}

@@ -1,4 +1,8 @@
 -- The state of a run.
+--
+-- state of a run: One flat map; the status of each node (waiting, first body begun, open, barred,
+-- closing, finished), its owner, the values at its Enter; the node of each worker's body; whether
+-- the run was stopped (`State`).
 use Rattle.std.specs.Prelude.{ℕ, Bool, true, false, cond, eqb, List, [], Option, Some, None}
 use Rattle.iso_isolation.specs.Languages.{Content, Language}
 use Rattle.iso_isolation.specs.Suites.{Suite}

@@ -1,5 +1,9 @@
 -- What a run asks of a suite, its tree of classes and tests with their locks and the starting
 -- values, and the laws that it keeps.
+--
+-- suite, suite laws: What a run asks of a plan with its starting values: parents, paths, heads,
+-- modes, locks, conflict; and that locks cover the rights and force modes (`Suite`, `SuiteLaws`).
+-- Standard: JUnit 5 User Guide, parallel execution.
 use Rattle.std.specs.Prelude.{◌≡◌, ℕ, ◌<◌, Bool, true, List, [], ◌∷◌, map, ◌⊎◌}
 use Rattle.iso_isolation.specs.Languages.{Content, Language}
 

@@ -1,4 +1,10 @@
 -- Which nodes have a testcase, and in which testsuite.
+--
+-- testcase and testsuite: The testcases of a class: one for each test that stands directly in it,
+-- and one of its own where its own blocks failed (`cases`, `all_cases`); which classes have a
+-- testsuite (`suites`). Their counts, a blocked test as an error, and the sum of their times
+-- (`tally`, `time_of`), testcase by testcase (`with_case`).
+-- Also in: `Tallies`, `Times`, `TallySteps`.
 use Rattle.std.specs.Prelude.{ℕ, List, [], ◌∷◌, ◌++◌, Bool, ◌&&◌, ◌||◌, ◌==◌, filter, length, not}
 use Rattle.iso_failures.specs.Nodes.{has_failed}
 use Rattle.iso_plan.specs.Paths.{children, is_root, is_test, row_at}

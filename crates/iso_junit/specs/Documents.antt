@@ -1,5 +1,12 @@
 -- The document: a testsuite for each class that has one, and in it its testcases (JUnit XML as
 -- Surefire writes and Jenkins reads it).
+--
+-- JUnit XML: Of a testcase its name, class, place and time, what it came to (`case_text`,
+-- `result_text`, `problem`) and its output (`output_text`); a testsuite (`suite_text`), and the
+-- document (`junit_text`), made of parts (`joined`, `part_text`); what contracts see of a run
+-- (`RunView`, `run_of`).
+-- Also in: `Elements`, `Parts`, `Runs`, `Texts`.
+-- Standard: JUnit XML as Maven Surefire writes it and Jenkins reads it.
 use Rattle.std.specs.Prelude.{ℕ, List, [], ◌∷◌, ◌++◌, Option, Bool, ◌&&◌, cond, codes, flat_map}
 use Rattle.std.specs.Fmt.{decimal}
 use Rattle.iso_failures.specs.Nodes.{has_passed}

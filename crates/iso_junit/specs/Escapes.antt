@@ -1,4 +1,11 @@
 -- Texts as they stand in XML, in an attribute or in an element (XML 1.0, sections 2.4 and 4.1).
+--
+-- text in XML: `<`, `>`, `&` and `"` by their names, control characters by their numbers, each
+-- other byte as it is (`escaped`); the text that a reader reads of bytes, if there is one
+-- (`unescaped`). A file's name, whose characters that no reader sees and U+FFFE, U+FFFF are escaped
+-- before (`file_name`); which characters XML allows (`is_allowed`).
+-- Also in: `Readers`, `Files`.
+-- Standard: XML 1.0, sections 2.2, 2.4, 4.1, 4.6.
 use Rattle.std.specs.Prelude.{ℕ, suc, List, [], ◌∷◌, ◌++◌, Bool, ◌||◌, ◌==◌, cond, codes, flat_map}
 use Rattle.std.specs.Char.{is_ascii_control}
 use Rattle.std.specs.Fmt.{decimal}

@@ -1,4 +1,7 @@
 -- What a body is for, and where it stands.
+--
+-- a body that stands: Body and resources stand, at the keys of its rights, where `steps` steps of
+-- it alone have left them (`Stands`).
 use Rattle.std.specs.Prelude.{◌≡◌, ℕ}
 use Rattle.iso_model.specs.ChainAgreement.{EqualAt}
 use Rattle.iso_model.specs.Bodies.{Stage}

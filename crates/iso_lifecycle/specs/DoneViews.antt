@@ -1,4 +1,9 @@
 -- What contracts see of the end of a body.
+--
+-- end of a body: Which body of which subject has ended; what its type keeps of it: of a
+-- `before_all` the class's frame, of a test its outcome, of an `after_all` its ending and the rest
+-- of its class's outcome (`IsDone`); whether it ended well (`ends_well`, `is_unfailed`).
+-- Also in: `Ends`.
 use Rattle.std.specs.Prelude.{refl}
 use Rattle.std.specs.Coded.{Coded, code_by, coded×}
 use Rattle.iso_lifecycle.specs.Subjects.{Subject, subject_code}

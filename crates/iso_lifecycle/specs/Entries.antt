@@ -1,4 +1,7 @@
 -- What results keep of each node, and what the definitions say of that.
+--
+-- what results keep: An entry for each node, each with what the definitions say of the node
+-- (`IsKept`, `AreKept`), and what contracts see of them (`seen`). No public clause cites it.
 use Rattle.std.specs.Prelude.{◌≡◌, ℕ, List, Bool, true, false, length, map, slice_index_or}
 use Rattle.iso_model.specs.declared.outcome.Outcome.{Outcome}
 use Rattle.iso_plan.specs.Paths.{row_at}

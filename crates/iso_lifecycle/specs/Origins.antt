@@ -1,4 +1,7 @@
 -- What a body is of, and what it comes to.
+--
+-- body done whole: What all steps of a body come to, and that an ended body has come to it and has
+-- left its frame (`done_whole`, `HasCome`, `HasLeft`).
 use Rattle.std.specs.Prelude.{◌≡◌, ℕ, List, length, Option, Some, refl}
 use Rattle.std.specs.Coded.{Coded, Coded-set, code_by, coded×, coded_list, coded_option, coded_ℕ, Unit-prop, Π_prop}
 use Rattle.iso_model.specs.Bodies.{Account, Stage, account_of, body_finished, during, ended}

@@ -1,5 +1,11 @@
 -- What contracts see of results: the plan and the start that they are of, and which bodies have
 -- been put.
+--
+-- results: By node, which bodies' ends were put; a node has a result once its end was put, or where
+-- it is a descendant of a class whose `before_all` was put and didn't end well (`has_result`,
+-- `is_barred`); its result is the outcome of the node run alone (`result_in`). What may be put, and
+-- when: `is_due`, `AreOpen`, `CanPut`.
+-- Standard: JUnit 5 User Guide, test lifecycle, assumptions.
 use Rattle.std.specs.Prelude.{◌≡◌, ℕ, ◌<◌, List, [], ◌∷◌, ◌++◌, length, replicate, Option, Some, None, Bool, true, false, ◌||◌, ◌&&◌, not, cond, slice_index_or, slice_set, refl}
 use Rattle.std.specs.Coded.{Coded, code_by, coded×, coded_list, coded_bool}
 use Rattle.iso_model.specs.LinesView.{lines_in}

@@ -1,5 +1,19 @@
 -- What a frame, a body or a done is for: a node of a plan, on starting values; and what the
 -- definitions say of it.
+--
+-- subject: A node of a plan on starting values; what the definitions say of it: its classes, their
+-- opening (`opening_of`), the frame of its own `before_all` (`own_frame`), its outcome run alone
+-- (`outcome_alone`), where each of its bodies stands after `n` steps (`reached`).
+-- Also in: `BodyViews`.
+-- Standard: JUnit 5 User Guide, test lifecycle.
+--
+-- body of a subject: Where each of its bodies begins, where `n` steps of it alone lead, and whose
+-- frames it begins with (`begun`, `reached`, `framed`, `is_kind_of`); with which body a node begins
+-- (`first_kind`).
+-- Standard: JUnit 5 User Guide, test lifecycle.
+--
+-- frame: The statics that a class's `before_all` left, frozen, where the enclosing classes were
+-- opened well (`IsFrame`, `own_frame`).
 use Rattle.std.specs.Prelude.{◌≡◌, ℕ, List, [], ◌∷◌, ◌++◌, cond, map, reverse, Option, Some, None, Bool, true, false, refl}
 use Rattle.std.specs.Coded.{Coded, code_by, coded×, coded_ℕ}
 use Rattle.iso_model.specs.Alone.{class_alone, test_alone}

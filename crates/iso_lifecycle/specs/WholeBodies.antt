@@ -1,4 +1,7 @@
 -- When a body can begin, and what it leaves when it is done to its end.
+--
+-- a body can begin, and is done: With which frames a body can begin (`CanBegin`), on which
+-- resources (`IsReadyFor`), and how these stand when it is done (`IsAfterBody`).
 use Rattle.std.specs.Prelude.{◌≡◌, ℕ, ◌<◌, List, length, map, Bool, true, false}
 use Rattle.iso_model.specs.ChainAgreement.{EqualAt}
 use Rattle.iso_model.specs.Bodies.{body_finished}

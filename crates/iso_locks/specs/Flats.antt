@@ -1,4 +1,7 @@
 -- A flat map: a tray that has every value of its plan.
+--
+-- flat map: A tray that has the value of each key that a node declares (`IsFlat`), and its
+-- resources: the starting value at every other key (`flat`).
 use Rattle.std.specs.Prelude.{◌≡◌, ℕ, List, cond, is_some}
 use Rattle.std.specs.Option.{option_or}
 use Rattle.iso_lifecycle.specs.Subjects.{started}

@@ -1,4 +1,9 @@
 -- The nodes that are lent, and beside them their locking nodes.
+--
+-- lent nodes and their locking nodes: No two lent nodes clash (`AreApart`), or a node clashes with
+-- none of them (`IsBeside`). Of how many lent nodes each node is the locking node (`lent_under`,
+-- `under_it`), and whether one that is it of none conflicts with one that is (`is_kept_out`).
+-- Also in: `Lockers`.
 use Rattle.std.specs.Prelude.{◌≡◌, ◌≢◌, ◌<◌, ◌&&◌, ℕ, List, length, Bool, true, false}
 use Rattle.iso_locks.specs.Clashes.{clash}
 use Rattle.iso_locks.specs.Lockers.{LockersView, under_it}

@@ -1,4 +1,8 @@
 -- Which nodes own the values that a tray holds.
+--
+-- owners of values: Which lent node owns a value of a tray (`IsOwned`, `AreOwned`), and which nodes
+-- no tray holds together (`clash`).
+-- Also in: `Clashes`.
 use Rattle.std.specs.Prelude.{◌≡◌, ◌≢◌, ◌≤◌, ℕ, List, [], length, map, Bool, true, false, is_some}
 use Rattle.iso_locks.specs.Clashes.{clash}
 use Rattle.iso_locks.specs.Moves.{is_written}

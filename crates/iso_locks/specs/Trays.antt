@@ -1,5 +1,17 @@
 -- What contracts see of a tray, and the resources that it holds: the values that nodes lent to it
 -- may change, and the starting values that they may look at.
+--
+-- content of a tray: The value at a key: what was moved in, or else the starting value where a node
+-- that is lent holds the key for READ, itself or by its locking node (`resources`, `is_open`).
+-- Also in: `Slots`.
+--
+-- mark of a tray: The values that a node's rights let it change (`kept`), and values gone back to
+-- them, all others as they are (`restored`).
+--
+-- a tray goes on: A tray after changes of its values alone: of the same plan and world, with the
+-- same nodes lent to it, the same values there, each only changed further, and the same frames
+-- (`IsOnward`, `GoesOn`).
+-- Also in: `Onward`.
 use Rattle.std.specs.Prelude.{◌≡◌, ℕ, zero, suc, List, [], length, map, replicate, reverse, Option, Some, None, Bool, true, false, ◌||◌, ◌&&◌, cond, bytes_eq, is_some, slice_index_or, refl, option_map, slice_set}
 use Rattle.std.specs.Option.{option_or}
 use Rattle.std.specs.Coded.{Coded, code_by, coded×, coded_list, coded_option, coded_bool, coded_ℕ}

@@ -1,4 +1,9 @@
 -- What contracts see of a vault, and what moves when a node is lent and taken back.
+--
+-- what is home, lent and taken back: Which values are home; the lowest lent node that conflicts
+-- (`busy`); what moves when a node is lent (`lending`, `IsLentTo`) and taken back (`regaining`,
+-- `giving_back`).
+-- Also in: `Moves`.
 use Rattle.std.specs.Prelude.{◌≡◌, ℕ, ◌<◌, List, length, replicate, Option, Some, None, Bool, true, false, ◌||◌, ◌&&◌, not, option_map, slice_index_or, slice_set, refl}
 use Rattle.std.specs.Coded.{Coded, code_by, coded×, coded_list, coded_bool}
 use Rattle.iso_model.specs.declared.resource.Resource.{Resource}

@@ -1,5 +1,10 @@
 -- A test and a class run alone: what their chain comes to on the starting values of the resources
 -- that it declares, and on nothing else. A chain is a list of class heads, innermost first.
+--
+-- a test run alone: Its outcome on the starting values of the keys of its rights, and on nothing
+-- else (`test_alone`).
+--
+-- a class run alone: The same of `before_all` and then `after_all` (`class_alone`).
 use Rattle.std.specs.Prelude.{List, [], ◌∷◌, ◌++◌, cond}
 use Rattle.iso_model.specs.Resources.{Resources, restricted}
 use Rattle.iso_model.specs.Statements.{State}

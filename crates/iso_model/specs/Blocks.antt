@@ -1,4 +1,7 @@
 -- Execution of a block: its statements, with its locals dropped at the end.
+--
+-- execution of a block: Its statements with 10,000 steps, whatever its environment had; its locals
+-- are dropped at the end (`block`).
 use Rattle.std.specs.Prelude.{[], length}
 use Rattle.iso_model.specs.Environments.{Environment}
 use Rattle.iso_model.specs.Rights.{Rights}

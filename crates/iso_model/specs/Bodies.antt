@@ -1,5 +1,11 @@
 -- Bodies, one step at a time: the block under way, the jobs after it, and the step that does what
 -- is left first. A chain is a list of class heads, innermost first.
+--
+-- single steps of a body: A block under way with what the body has beside it, and the jobs after it
+-- (`Stage`); a step is the block's own, after which the next block begins that has something to do
+-- (`body_step`); what doing all that is left comes to (`body_finish`). Absent and empty blocks take
+-- no step. The body of a disabled test, and of a disabled class's `before_all`, has ended where it
+-- begins (`stage_unless`, `disabled_account`). An ended body stays as it is.
 use Rattle.std.specs.Prelude.{◌≡◌, ℕ, zero, suc, ◌+◌, List, [], ◌∷◌, ◌++◌, length, take, drop, Option, Some, None, Bool, true, false}
 use Rattle.iso_model.specs.Rights.{Rights}
 use Rattle.iso_model.specs.Resources.{Resources}

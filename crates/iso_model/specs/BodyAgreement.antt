@@ -1,4 +1,7 @@
 -- Bodies that do the same over resources that are equal at the keys of their rights.
+--
+-- bodies that are alike: Two bodies at equal points, over resources that are equal at the keys of
+-- their rights (`AlikeGoing`).
 use Rattle.std.specs.Prelude.{◌≡◌}
 use Rattle.iso_model.specs.ChainAgreement.{EqualAt}
 use Rattle.iso_model.specs.Bodies.{Going}

@@ -1,5 +1,11 @@
 -- Agreement of chains: two tests, or two classes, of equal chains on starts that are equal at the keys of
 -- their rights.
+--
+-- agreement: Two tests, or two classes, agree where their chains are equal and their starts are
+-- equal at the keys of the chain's rights (`TestsAgree`, `ClassesAgree`).
+--
+-- equal at the keys of rights: Two resource maps have the same value at each key that the rights
+-- let look at (`EqualAt`).
 use Rattle.std.specs.Prelude.{◌≡◌, ℕ, List, ◌∷◌, true}
 use Rattle.iso_model.specs.Chains.{ClassHead, TestHead, class_rights, test_rights}
 use Rattle.iso_model.specs.Rights.{Rights, is_readable}

@@ -1,4 +1,9 @@
 -- The class chain of a test or a class, and the access rights that it gives.
+--
+-- class chain: The heads of the enclosing classes and the test's own: statics, fields, marks (in a
+-- plan the effective ones), reasons why they are disabled, blocks; no names, modes, siblings or
+-- descendants. A class in which nothing but members is written has the `empty_head`.
+-- Also in: `ChainView`.
 use Rattle.std.specs.Prelude.{ℕ, List, [], ◌∷◌, ◌++◌, Option, None}
 use Rattle.iso_model.specs.Rights.{Rights, rights_of}
 use Rattle.iso_model.specs.Syntax.{Acts, no_acts}

@@ -1,4 +1,7 @@
 -- What blocks may do to the resources, the output and the names: the words of the laws.
+--
+-- one change: A step leaves the resources as they are, or makes one change of one key that the
+-- rights let change (`OneChange`).
 use Rattle.std.specs.Prelude.{◌≡◌, ℕ, ◌+◌, List, [], ◌∷◌, ◌++◌, length, Option, Some, None, true, cond, option_map}
 use Rattle.iso_model.specs.Rights.{Rights, is_writable}
 use Rattle.iso_model.specs.Resources.{Resources, changed_at}

@@ -1,5 +1,11 @@
 -- Disabled nodes (JUnit 5 User Guide, `@Disabled`): none of their blocks runs, and they end as by a
 -- false assumption.
+--
+-- disabled node: None of its blocks runs, and it ends as by a false assumption of its reason, at
+-- the place `disabled` (`disabled_ending`): its test, or its class's `before_all`, is left out
+-- (`blocks_unless` of `Tests`, `block_unless`, `left_out`), and its class's `after_all` has nothing
+-- to do (`acts_unless`).
+-- Standard: JUnit 5 User Guide, `@Disabled`.
 use Rattle.std.specs.Prelude.{ℕ, List, Option, Some, None}
 use Rattle.iso_model.specs.Blocks.{begun, block}
 use Rattle.iso_model.specs.Environments.{Environment}

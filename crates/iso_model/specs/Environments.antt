@@ -1,4 +1,8 @@
 -- The environment of a block.
+--
+-- environment: The visible names, each with a value and a sort, the steps left in the block, the
+-- bytes that the body has printed, the words that name the block.
+-- Also in: `Names`.
 use Rattle.std.specs.Prelude.{ℕ, List}
 use Rattle.iso_model.specs.declared.limits.TheConstants.{BLOCK_STEPS}
 use Rattle.iso_model.specs.declared.names.Binding.{Binding}

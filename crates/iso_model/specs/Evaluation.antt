@@ -1,4 +1,8 @@
 -- Evaluation: what an expression gives over the visible names, the resources and the access rights.
+--
+-- evaluation: What an expression gives over names, resources and rights: a value or a fault
+-- (`evaluated`). All operands come from the left, before a pair of them is checked; the pairs of a
+-- chain are checked one after another.
 use Rattle.std.specs.Prelude.{ℕ, List, [], ◌∷◌, ◌++◌, length, Option, Some, None, Result, Ok, Err, Bool, true, false, cond, not, ◌&&◌, ℤ, pos, negsuc, ◌+ℤ◌, ◌-ℤ◌, ◌*ℤ◌, nat_le, bytes_eq, is_some, option_map, int_lt, unwrap_or}
 use Rattle.std.specs.Ordering.{int_eq}
 use Rattle.iso_model.specs.ResourceKeys.{properties_key, locale_key, file_key}

@@ -1,5 +1,11 @@
 -- A body as a list of jobs: its blocks, in the order in which they are done (JUnit 5, test
 -- lifecycle). A chain is a list of class heads, innermost first.
+--
+-- jobs of a body: A body as a list of jobs: a block with its words, how many of the body's names it
+-- sees, and whether it is done only where all blocks before it ended well. Doing them from the left
+-- is the test, the `before_all` or the `after_all` (`test_jobs`, `before_all_jobs`,
+-- `after_all_jobs`, `with_jobs`).
+-- Standard: JUnit 5 User Guide, test lifecycle.
 use Rattle.std.specs.Prelude.{ℕ, List, [], ◌∷◌, ◌++◌, length, take, drop, Bool, true, false, ◌||◌, not, cond}
 use Rattle.std.specs.List.{list_all}
 use Rattle.iso_model.specs.Rights.{Rights}

@@ -1,4 +1,8 @@
 -- Values by key: what the value of a key is in a list of pairs, and how pairs stand in order.
+--
+-- values by key: The value of a key in a list of pairs is the one that it first stands with
+-- (`value_in`). Pairs in the order of their keys by bytes, each key once (`Rise`, `Follow`), and
+-- where a key stands among them, or would stand (`IsPlace`).
 use Rattle.std.specs.Prelude.{◌≡◌, ℕ, ◌<◌, ◌≤◌, List, [], ◌∷◌, length, Option, Some, None, Result, cond, bytes_eq}
 use Rattle.std.specs.List.{HoldsAt}
 use Rattle.std.specs.List.Sorted.{IsPartitionPoint}

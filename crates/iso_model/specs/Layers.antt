@@ -1,4 +1,7 @@
 -- What layers of rights declare together: of a key that stands in several the innermost counts.
+--
+-- layers of rights: The keys of layers with their accesses, the innermost layer's first: of a key
+-- that stands in several the innermost counts (`declared_in`).
 use Rattle.std.specs.Prelude.{ℕ, List}
 use Rattle.std.specs.Arc.{arc_value}
 use Rattle.std.specs.List.{flat_map}

@@ -1,4 +1,9 @@
 -- Lines that stand one after another in a list of bytes, each followed by a byte that no text has.
+--
+-- printed lines: Lines one after another in a list of bytes, each followed by a byte that no text
+-- has (`lines_of`), so that the last has its end too (`IsEnded`); what lent lines stand for
+-- (`lines_in`).
+-- Also in: `LinesView`.
 use Rattle.std.specs.Prelude.{◌≡◌, ℕ, List, [], ◌∷◌, cond, nat_eq}
 use Rattle.std.specs.List.{onto_first}
 

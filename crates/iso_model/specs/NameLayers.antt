@@ -1,4 +1,7 @@
 -- Shared names, some of which were given other values, and layers of them.
+--
+-- layers of names: Shared names with the values that some were given since (`given_from`), and the
+-- names of layers, the outermost layer's first (`in_layers`); in which layer a place is (`IsAt`).
 use Rattle.std.specs.Prelude.{◌≡◌, ℕ, suc, ◌+◌, ◌<◌, ◌≤◌, List, [], ◌∷◌, length, take, Option, Some, None}
 use Rattle.std.specs.BTreeMap.{BTreeMap, get}
 use Rattle.std.specs.List.{flat_map, slice_get}

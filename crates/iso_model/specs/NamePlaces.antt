@@ -1,4 +1,7 @@
 -- Where the visible names stand, as a map from their texts.
+--
+-- places of names: Whether a map has at each visible name the place where it stands first among
+-- them (`Tells`); what it has at other names doesn't count.
 use Rattle.std.specs.Prelude.{◌≡◌, ℕ, ◌<◌, Box, List, length, Option, Some, None}
 use Rattle.std.specs.BTreeMap.{BTreeMap, get_by_text}
 use Rattle.std.specs.Box.{box_value}

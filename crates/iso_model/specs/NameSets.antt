@@ -1,4 +1,6 @@
 -- Names seen so far, as a set keeps them.
+--
+-- names seen so far: Whether a set of names has a name (`is_among`, `Knows`).
 use Rattle.std.specs.Prelude.{ℕ, List, Bool, ◌≡◌}
 use Rattle.std.specs.Borrow.{Bor}
 use Rattle.std.specs.BTreeSet.{BTreeSet, contains_by}

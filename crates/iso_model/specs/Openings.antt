@@ -1,5 +1,10 @@
 -- The opening of a class chain: each `before_all`, outermost first, until one doesn't end well
 -- (JUnit 5, test lifecycle). A chain is a list of class heads, innermost first.
+--
+-- opening of a class chain: Each `before_all`, outermost first, until one doesn't end well; it
+-- leaves a frame for each class: its statics, frozen, its ending and its lines (`opening`). A
+-- disabled class's is left out, which doesn't end well.
+-- Standard: JUnit 5 User Guide, test lifecycle.
 use Rattle.std.specs.Prelude.{ℕ, List, [], ◌∷◌, ◌++◌, length, drop, Bool, true, cond}
 use Rattle.iso_model.specs.Resources.{Resources}
 use Rattle.iso_model.specs.Names.{at_literals, frozen}

@@ -1,4 +1,8 @@
 -- The keys of resources and locks, as they are spelled.
+--
+-- keys: The properties, the locale and each virtual file have a key; any other key is a lock
+-- without a value.
+-- Standard: JUnit 5 User Guide, parallel execution (`Resources`).
 use Rattle.std.specs.Prelude.{ℕ, List, ◌++◌, codes}
 use Rattle.iso_model.specs.declared.resource_key.ResourceKey.{ResourceKey}
 use Rattle.iso_model.specs.declared.resource_key.ResourceKey.TheVariants.{Properties, Locale, File}

@@ -1,4 +1,11 @@
 -- Resource values: what they hold, what a change makes of one, and where each starts.
+--
+-- resource value: A map of texts, a text, a text or missing, or nothing; a change acts on one value
+-- of its kind (`changed`).
+--
+-- starting value: What a key starts with in a world that says nothing of it: no properties, the
+-- locale `en` (`default_locale`), a missing file, nothing (`starting_value`; `empty_world` for
+-- every key).
 use Rattle.std.specs.Prelude.{ℕ, List, Option, Some, None, cond, bytes_eq, codes, option_map, nat_eq}
 use Rattle.std.specs.List.{starts_with}
 use Rattle.std.specs.FinMap.{empty, get, insert, remove}

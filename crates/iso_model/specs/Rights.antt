@@ -1,4 +1,8 @@
 -- Access rights: what a block may look at and change. Held locks play no part in them.
+--
+-- access rights: Each key that is marked anywhere on the chain, with the strongest access of its
+-- marks (`rights_of`, `class_rights`, `test_rights`). Held locks play no part.
+-- Also in: `Chains`.
 use Rattle.std.specs.Prelude.{ℕ, List, [], ◌∷◌, Option, Some, None, Bool, true, false, cond, bytes_eq}
 use Rattle.iso_model.specs.declared.access.Access.{Access}
 use Rattle.iso_model.specs.declared.access.Access.TheVariants.{Read, Write}

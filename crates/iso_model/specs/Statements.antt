@@ -1,5 +1,9 @@
 -- Statements: the whole meaning of a body, from a state to the state at its end.
 -- A state in which the block has ended stays as it is.
+--
+-- execution of statements: The whole meaning of a body, from a state to the state at its end
+-- (`run`, and `performed` for one statement). A statement takes its step, then evaluates all its
+-- operands, and then checks what it has to check.
 use Rattle.std.specs.Prelude.{ℕ, zero, suc, ◌+◌, List, [], ◌∷◌, ◌++◌, length, take, Option, Some, None, Result, Ok, Err, Bool, true, false, cond, nat_le, is_some}
 use Rattle.iso_model.specs.ResourceKeys.{properties_key, locale_key, file_key}
 use Rattle.iso_model.specs.Rights.{Rights, is_writable}

@@ -1,5 +1,9 @@
 -- Statements, one step at a time: the pieces that are still to be done, and the step that does the
 -- first.
+--
+-- single steps: The pieces that are still to be done, and the step that does the first (`step`); a
+-- point of a block is its pieces with all that it has but the resources (`Point`); what doing all
+-- pieces comes to (`finish`). An ended block stays as it is under a step.
 use Rattle.std.specs.Prelude.{◌≡◌, ℕ, zero, suc, ◌+◌, ◌-◌, List, [], ◌∷◌, ◌++◌, length, take, Result, Ok, Err, Bool, true, false, cond}
 use Rattle.iso_model.specs.Rights.{Rights}
 use Rattle.iso_model.specs.Resources.{Resources}

@@ -1,4 +1,7 @@
 -- Expressions and statements, as contracts see them.
+--
+-- script: A script as contracts see it, and what the code's tree stands for.
+-- Also in: `SyntaxView`, `Scripts`, `ScriptView`.
 use Rattle.std.specs.Prelude.{ℕ, List}
 use Rattle.iso_model.specs.declared.data.Data.{Data}
 use Rattle.iso_model.specs.declared.tree.Operator.{Operator}

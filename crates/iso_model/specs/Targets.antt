@@ -1,4 +1,11 @@
 -- Marks of a class for itself and for its children (JUnit 5 User Guide, `ResourceLockTarget`).
+--
+-- effective marks: Those that count for a node: of the marks that are written on it the ones for
+-- itself, and of those on its parent class the ones for that class's children, each as a mark of
+-- the node itself (`effective`, `marks_for`, `is_for_children`). Of marks of one key and target on
+-- one node the stronger counts, and 513 are kept (`merged`), which no node of a plan has.
+-- Also in: `Merged` of `iso_plan`.
+-- Standard: JUnit 5 User Guide, parallel execution (`ResourceLockTarget`).
 use Rattle.std.specs.Prelude.{List, ◌++◌, Bool, true, false, filter, map}
 use Rattle.iso_model.specs.declared.heads.Mark.{Mark}
 use Rattle.iso_model.specs.declared.heads.Target.{Target}

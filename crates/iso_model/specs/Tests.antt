@@ -1,5 +1,11 @@
 -- Test execution: the `before_each` blocks outermost first, the test, the `after_each` blocks
 -- innermost first (JUnit 5, test lifecycle). A chain is a list of class heads, innermost first.
+--
+-- test execution: All fields at their literals; the `before_each` blocks outermost first until one
+-- doesn't end well; the test if all did; every `after_each` innermost first (`test`); nothing of it
+-- where the test is disabled. A block sees the names of its own class and the enclosing ones
+-- (`seen_from`).
+-- Standard: JUnit 5 User Guide, test lifecycle.
 use Rattle.std.specs.Prelude.{ℕ, ◌+◌, List, [], ◌∷◌, ◌++◌, length, take, drop, Option, Some, None, cond}
 use Rattle.std.specs.List.{list_all}
 use Rattle.iso_model.specs.Rights.{Rights}

@@ -1,4 +1,8 @@
 -- What is written of a value, of a fault and of a place.
+--
+-- text of a value, messages, places: What is written of a value, of a fault or a fail, and of a
+-- place.
+-- Standard: JUnit 5 (`assertEquals`' message).
 use Rattle.std.specs.Prelude.{ℕ, List, ◌++◌, true, false, codes}
 use Rattle.std.specs.Fmt.{decimal, signed_decimal}
 use Rattle.iso_model.specs.declared.access.Access.{Access}

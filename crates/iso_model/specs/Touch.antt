@@ -1,4 +1,11 @@
 -- What a resource answers, of which kind it is, and what a touch has to hold for a block.
+--
+-- touch: What holds resources as a block touches them: what a value answers to an ask, which kind
+-- of value an ask and a change are for, and what a touch has to hold for a block's rights
+-- (`answered`, `HasKind`, `HasKeys`). What stays of a touch while its values change is one relation
+-- of the trait (`goes_on`), which each step of a block and of a body keeps, also where memory ran
+-- out.
+-- Also in: `Resources`.
 use Rattle.std.specs.Prelude.{◌≡◌, ℕ, List, Option, Some, Bool, true, option_map}
 use Rattle.iso_model.specs.Resources.{Resources, property_in, text_in, locale_in, starting_value}
 use Rattle.iso_model.specs.Rights.{Rights, is_readable, is_writable}

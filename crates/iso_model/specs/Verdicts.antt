@@ -1,4 +1,8 @@
 -- The combined verdict of the endings of a body's blocks, in the order of their execution.
+--
+-- combined verdict: The first fail or fault; else Skipped by the first false assumption; else Pass
+-- (`verdict`).
+-- Standard: JUnit 5 User Guide, assumptions.
 use Rattle.std.specs.Prelude.{List, [], ◌∷◌, Option, Some, None, unwrap_or}
 use Rattle.iso_model.specs.declared.outcome.Ending.{Ending}
 use Rattle.iso_model.specs.declared.outcome.Ending.TheVariants as E

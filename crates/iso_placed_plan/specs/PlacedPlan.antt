@@ -1,4 +1,9 @@
 -- The plan as it is printed, with the place of each node's name as a last field of its line.
+--
+-- plan with places: A place is the name of the script as a printed plan has it, or `stdin` where it
+-- has none, and line and column of the node's name (`place_text`, `script_name`). Each line of the
+-- plan has it as its last field (`placed_line`, `placed_plan_text`), and so have those of tests
+-- alone (`placed_tests_text`).
 use Rattle.std.specs.Prelude.{ℕ, zero, suc, ◌-◌, List, [], ◌++◌, Option, None, Some, cond, codes, length, slice_index_or}
 use Rattle.std.specs.Fmt.{decimal}
 use Rattle.iso_places.specs.Sites.{site_at}

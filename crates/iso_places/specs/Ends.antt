@@ -1,4 +1,9 @@
 -- The lines where bodies end.
+--
+-- line of what a report says: Of row R of a block the line R - 1 below that of its opening brace,
+-- of a disabled node that of its name (`end_line`, `line_of_row`, `line_of_name`). A block of a
+-- class is that of the node at its depth on the path, 1 for the top-level class (`node_of_block`,
+-- `node_at_depth`); there is no line where it has no such block (`brace_line`, `lifecycle_line`).
 use Rattle.std.specs.Prelude.{ℕ, zero, suc, ◌+◌, ◌-◌, List, Option, Some, None, reverse}
 use Rattle.std.specs.List.{slice_get}
 use Rattle.std.specs.Option.{option_and_then, option_map}

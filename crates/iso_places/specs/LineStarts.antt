@@ -1,4 +1,7 @@
 -- Where the lines of a text start.
+--
+-- starts of lines: Where the lines of a text start: at its beginning, and behind each line feed
+-- (`line_starts`, `starts_from`).
 use Rattle.std.specs.Prelude.{ℕ, ◌+◌, List, [], ◌∷◌, ◌==◌, cond}
 
 -- the places behind the line feeds of a text that begins at a place

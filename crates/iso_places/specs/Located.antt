@@ -1,4 +1,9 @@
 -- The sites of a plan's nodes, among those of all nodes of scripts.
+--
+-- sites of a plan's nodes: Each node stands where the first node of all scripts stands that has its
+-- path (`site_by_path`, `AreSites`). None are answered where a node has the path of no node with a
+-- place, or where no plan is of the scripts (`HasStranger`, `IsRefusal`). Scripts that were read,
+-- with the places of each (`WereRead`).
 use Rattle.std.specs.Borrow.{Bor}
 use Rattle.std.specs.BTreeMap.{BTreeMap, get_by}
 use Rattle.std.specs.Cmp.Lexicographic.{slice_cmp}

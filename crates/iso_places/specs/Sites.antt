@@ -1,4 +1,8 @@
 -- The sites of nodes.
+--
+-- site of a node: In which script it stands, by number from 0, and its place there (`Site`,
+-- `site_in`). Of all nodes of scripts each script's places, one script after the other
+-- (`all_sites`, `sites_from`). The root has none (`site_at`).
 use Rattle.std.specs.Global.{Global}
 use Rattle.std.specs.Prelude.{ℕ, zero, suc, ◌+◌, List, [], ◌∷◌, ◌++◌, Option, None, Vec, map}
 use Rattle.std.specs.List.{slice_get}

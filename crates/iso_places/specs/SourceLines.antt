@@ -1,4 +1,7 @@
 -- Lines of a script.
+--
+-- line of a script: By its number from 1 on, without its line end, LF or CR LF; one that isn't
+-- there is empty (`source_line`).
 use Rattle.std.specs.Prelude.{ℕ, zero, suc, List, [], slice_index_or}
 use Rattle.std.specs.Str.Lines.{lines}
 

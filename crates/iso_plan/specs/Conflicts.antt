@@ -1,4 +1,7 @@
 -- Locks that exclude each other, and the lowest held node that is in a node's way.
+--
+-- lowest node in the way: The lowest of the held nodes that conflict with a node
+-- (`lowest_in_the_way`).
 use Rattle.std.specs.Prelude.{ℕ, zero, suc, List, [], ◌∷◌, length, Option, Some, None, Bool, false, ◌||◌, ◌&&◌, ◌==◌, cond}
 use Rattle.std.specs.Option.{option_or}
 use Rattle.iso_plan.specs.Locks.{conflict, is_write}

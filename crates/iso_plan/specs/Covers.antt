@@ -1,4 +1,7 @@
 -- That the rights of a node are covered by locks.
+--
+-- covered rights: The locking node, which stands at or above, takes the key, for READ_WRITE where
+-- it may be changed (`IsCovered`).
 use Rattle.std.specs.Prelude.{◌≡◌, ℕ, List, Some, true}
 use Rattle.iso_model.specs.Rights.{is_readable, is_writable}
 use Rattle.iso_plan.specs.Locks.{locking_node, taken}

@@ -1,4 +1,8 @@
 -- What makes scripts no plan.
+--
+-- faults of a plan: In their order; two top-level classes of one team and name are names that are
+-- not all distinct (`has_double`); nodes and keys are counted of what is kept (`plan_fault`). Why
+-- there is no plan is a fault or out of memory (`PlanError`).
 use Rattle.std.specs.Prelude.{◌≡◌, ℕ, ◌+◌, ◌<◌, List, [], ◌∷◌, ◌++◌, ◌||◌, map, length, Bool, false, cond, nat_lt, Option, Some, None, ⊤}
 use Rattle.std.specs.List.{list_any}
 use Rattle.std.specs.Option.{option_or}

@@ -1,4 +1,8 @@
 -- The held nodes of a plan, as contracts see them, and how many of them read and write each key.
+--
+-- held nodes: A plan and the nodes of it that are held (`HeldView`); one more or less of them
+-- (`holding`, `releasing`). Of each key it is counted how many of them read and write it
+-- (`takers`).
 use Rattle.std.specs.Prelude.{◌≡◌, ℕ, zero, suc, ◌+◌, ◌-◌, ◌^◌, ◌<◌, List, [], ◌∷◌, length, replicate, Bool, true, false, ◌||◌, ◌&&◌, ◌==◌, not, cond, slice_index_or, slice_set, refl}
 use Rattle.std.specs.Coded.{Coded, code_by, coded×, coded_list, coded_bool}
 use Rattle.iso_model.specs.declared.access.Access.{Access}

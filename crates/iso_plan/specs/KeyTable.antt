@@ -1,4 +1,10 @@
 -- The keys of a tree, numbered in the order in which they are first marked, the global key first.
+--
+-- keys: The first of each of the global key and all keys that are marked, in preorder and as the
+-- marks are written, whatever they are for (`keys`, `firsts`). The number of a key is its place
+-- among them, if it is one (`number_below`); whether pairs have the number of each key
+-- (`AreNumbers`).
+-- Also in: `KeyNumbers`.
 use Rattle.std.specs.Prelude.{ℕ, List, [], ◌∷◌, filter, map, not}
 use Rattle.std.specs.List.{flat_map}
 use Rattle.std.specs.Str.{bytes_eq}

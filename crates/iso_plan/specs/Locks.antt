@@ -1,4 +1,12 @@
 -- The locks that a node takes: its own and its descendants' marks, gathered at the locking node.
+--
+-- locks: The outermost declaring node of a path is its locking node (`locking_node`); it takes what
+-- is marked on it and below it (`nodes_under`, `gathered`), each key in the strongest access, and a
+-- top-level class the global key besides (`taken`, `locks`); nodes conflict where they take one key
+-- and one of them for READ_WRITE (`conflict`). A node's marks are asked for through one word,
+-- `effective_marks`.
+-- Standard: JUnit 5 User Guide, parallel execution (`@ResourceLock`, `@Isolated`); the gathering is
+-- this project's.
 use Rattle.std.specs.Prelude.{ℕ, suc, List, [], ◌∷◌, ◌++◌, length, map, Option, Some, None, Bool, false, ◌||◌, ◌&&◌, ◌==◌, not, cond}
 use Rattle.std.specs.List.{flat_map, list_any}
 use Rattle.std.specs.Str.{bytes_eq}

@@ -1,4 +1,9 @@
 -- The execution mode of a node (JUnit 5 User Guide, parallel execution).
+--
+-- execution mode: Same thread for all without parallel execution, for the root, and for the
+-- descendants of a node that takes a key for READ_WRITE; else own mark; the nearest enclosing
+-- class's; the default for top-level classes or that for all other nodes (`mode`).
+-- Standard: JUnit 5 User Guide, parallel execution.
 use Rattle.std.specs.Prelude.{ℕ, List, [], ◌∷◌, Option, None, Bool, ◌&&◌, not, cond, unwrap_or}
 use Rattle.std.specs.List.{list_any}
 use Rattle.std.specs.Option.{option_or}

@@ -1,4 +1,9 @@
 -- The class chain of a node: the heads of the classes on its path, and a test's own head.
+--
+-- class chain of a node: The heads on its path; its rights are those of all marks on that chain
+-- (`node_rights`).
+--
+-- depth of a plan: How many classes the longest class chain has (`depth`).
 use Rattle.std.specs.Prelude.{ℕ, List, [], ◌∷◌, ◌++◌, Option, Some, None, length, max}
 use Rattle.iso_model.specs.Chains.{ClassHead, TestHead, class_rights, test_rights}
 use Rattle.iso_model.specs.Rights.{Rights}

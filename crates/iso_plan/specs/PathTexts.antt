@@ -1,4 +1,7 @@
 -- The paths of nodes as texts, as `jtap plan` prints them.
+--
+-- path of a node, as a text: The names on it from the top-level class down, with dots between them
+-- (`path_text`); the first node with a path (`found`).
 use Rattle.std.specs.Prelude.{ℕ, List, Option, Bool, ◌&&◌, codes, length, not, reverse}
 use Rattle.std.specs.List.{join_by, position_from, range_with_len}
 use Rattle.std.specs.Str.{bytes_eq}

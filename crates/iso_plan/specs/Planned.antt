@@ -1,4 +1,6 @@
 -- What contracts see of a plan.
+--
+-- a plan as contracts see it: What its nodes say, in preorder, and the settings (`Planned`).
 use Rattle.std.specs.Prelude.{List}
 use Rattle.iso_plan.specs.Tree.{Row}
 use Rattle.iso_settings.specs.declared.settings.Settings.{Settings}

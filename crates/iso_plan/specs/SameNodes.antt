@@ -1,4 +1,7 @@
 -- A node of one tree as a node of another.
+--
+-- a node of two trees: It has one path, one class chain and one set of rights in both
+-- (`IsSameNode`), as each kept node has (`KeepsChains`).
 use Rattle.std.specs.Prelude.{◌≡◌, ℕ, ◌<◌, List, true, length}
 use Rattle.iso_plan.specs.NodeChains.{chain_classes, chain_test, node_rights}
 use Rattle.iso_plan.specs.PathTexts.{path_text}

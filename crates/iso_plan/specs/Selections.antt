@@ -1,5 +1,10 @@
 -- Selection: the nodes that are kept where some are named by their paths, and what stands in their
 -- place in a tree.
+--
+-- selection: Which nodes some paths name, choose with the descendants of these, and keep with the
+-- classes around (`is_named`, `is_chosen`, `is_kept`); the tree of the kept nodes, numbered anew
+-- (`selection`, `number_among`; of scripts `plan_tree`); the first path that names no node
+-- (`first_unknown`).
 use Rattle.std.specs.Prelude.{ℕ, zero, suc, List, [], ◌∷◌, ◌++◌, Option, Bool, true, ◌||◌, ◌&&◌, ◌-◌, cond, length, map, not}
 use Rattle.std.specs.Borrow.{Bor}
 use Rattle.std.specs.List.{list_any, position_from, range_with_len}

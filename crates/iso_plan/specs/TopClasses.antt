@@ -1,4 +1,7 @@
 -- The top-level class of each node.
+--
+-- top-level class of a node: The outermost node of its path, the root's is the root (`top_class`);
+-- of all nodes by number, with their paths (`all_top_classes`, `all_paths`).
 use Rattle.std.specs.Prelude.{ℕ, List, true, length, unwrap_or}
 use Rattle.iso_plan.specs.Paths.{column, outermost, path}
 use Rattle.iso_plan.specs.PathTexts.{path_text}

@@ -1,5 +1,13 @@
 -- The tree of scripts, as a list of its nodes in preorder: a node's number is its place in the
 -- list.
+--
+-- the tree in preorder: Each node's row: its parent's number, what it is with its head, the marks
+-- that are written on it (`merged`), name, title, mode. As it is written a head has the marks
+-- written on its node (`written_tree`); the tree has each node's effective marks there (`tree`,
+-- `effective_row`), and no later definition looks at a target. The path of a node, its children
+-- (`Paths`); what paths alone ask of rows, that parents come first (`IsRooted`). The descendants of
+-- a node follow it without a gap (`IsPreorder`).
+-- Also in: `Paths`, `Preorder`.
 use Rattle.std.specs.Prelude.{ℕ, ◌+◌, List, [], ◌∷◌, ◌++◌, Option, None, Bool, length, map, codes, slice_index_or, unwrap_or}
 use Rattle.iso_model.specs.Chains.{ClassHead, TestHead}
 use Rattle.iso_model.specs.Scripts.{Test, ClassTitle, Class, class, Member, class_member, test_member, Members, no_members, member, Script}

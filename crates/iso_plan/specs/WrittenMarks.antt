@@ -1,4 +1,7 @@
 -- A tree by the marks as they are written on its nodes, each as often as it is written.
+--
+-- the tree by the marks as they are written: The same nodes, each with marks of which those of its
+-- row are merged (`tree_with`, `AreWritten`).
 use Rattle.std.specs.Prelude.{◌≡◌, ◌<◌, ℕ, List, length, map}
 use Rattle.iso_model.specs.declared.heads.Mark.{Mark}
 use Rattle.iso_plan.specs.Merged.{merged}

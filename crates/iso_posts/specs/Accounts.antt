@@ -1,4 +1,9 @@
 -- The account of a deque: what was posted was taken or stolen, or lies in it, each node as often.
+--
+-- account of a deque: Each node was posted as often as its owner took it, its thieves stole it, a
+-- list for each, and it lies in the deque (`IsAccount`, `times`); of an owner, with some list for
+-- each thief that is out, where `count` nodes lie there (`AddsUp`); what a steal adds to a thief's
+-- list (`HasStolen`).
 use Rattle.std.specs.Prelude.{◌≡◌, ℕ, ◌+◌, ◌==◌, List, [], ◌∷◌, ◌++◌, if◌then◌else◌, length}
 use Rattle.iso_posts.specs.declared.thief.Stolen.{Stolen}
 use Rattle.iso_posts.specs.declared.thief.Stolen.TheVariants.{Node, Empty, Again}

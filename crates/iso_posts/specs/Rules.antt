@@ -1,4 +1,8 @@
 -- The rule of a deque: over what lies in it and what all passes know.
+--
+-- rule of a deque: One pass is its owner's and knows how many are thieves'; the account holds over
+-- all passes, and one that was joined counts for nothing (`IsFair`); what a pass does to what it
+-- knows, and what every owner's end is (`IsOwnersEnd`). No public clause cites it.
 use Rattle.std.specs.Prelude.{◌≡◌, ◌≤◌, ℕ, ◌+◌, ◌-◌, List, [], ◌∷◌, ◌++◌, length}
 use Rattle.iso_posts.specs.Accounts.{DequeId, IsAccount, OwnerView, ThiefView, times}
 use Rattle.iso_posts.specs.declared.rule.Hand.{Hand}

@@ -1,4 +1,7 @@
 -- The seats of a pool.
+--
+-- seats of a pool: A seat for each worker, none of whom did anything, with a thief of every other
+-- worker's deque in the order of the workers (`ArePosts`).
 use Rattle.std.specs.Prelude.{◌≡◌, ℕ, suc, ◌-◌, List, ◌++◌, length, map, take, drop, slice_get, Some}
 use Rattle.iso_posts.specs.Accounts.{DequeId, new_owner, new_thief}
 use Rattle.iso_posts.specs.declared.posts.PostSeat.{PostSeat}

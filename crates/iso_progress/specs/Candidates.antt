@@ -1,4 +1,9 @@
 -- The events by which a run may go on, as a search over workers and nodes finds them.
+--
+-- candidate: The event that a search finds: the lowest worker's body goes on by a Leave or a Step;
+-- else the lowest class that is barred, or open with all children finished, is shut by its owner;
+-- else the lowest node that waits in an open class with nothing in its way is entered by that
+-- class's owner (`candidate`).
 use Rattle.std.specs.Prelude.{◌≡◌, ℕ, ◌<◌, Bool, false, cond, not, ◌&&◌, Option, None, is_some, is_none}
 use Rattle.std.specs.Option.{option_or, option_map}
 use Rattle.iso_isolation.specs.Languages.{Language}

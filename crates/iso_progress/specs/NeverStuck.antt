@@ -1,4 +1,8 @@
 -- Never stuck: while a node but the root is unfinished, an event is accepted.
+--
+-- never stuck: In every state that a run reaches an event is accepted while a node but the root is
+-- unfinished (`NeverStuck`); what a search may rely on (`SearchServes`), and what the candidate is
+-- (`CandidateServes`).
 use Rattle.std.specs.Prelude.{◌≡◌, ℕ, ◌<◌, true, false, List, Some, None}
 use Rattle.iso_isolation.specs.Languages.{Language}
 use Rattle.iso_isolation.specs.Suites.{Suite}

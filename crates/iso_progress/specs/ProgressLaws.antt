@@ -1,4 +1,8 @@
 -- What a suite keeps beside `SuiteLaws`, so that no run of it is ever stuck.
+--
+-- laws of waiting: What a suite keeps beside its other laws so that no run of it is stuck: the root
+-- is in no node's way; the descendants of a node that is in the way of one that isn't a top-level
+-- class wait for none; no node is a child of a test (`ProgressLaws`).
 use Rattle.std.specs.Prelude.{◌≡◌, ℕ, true, false}
 use Rattle.iso_isolation.specs.Languages.{Language}
 use Rattle.iso_isolation.specs.Suites.{Suite, On}

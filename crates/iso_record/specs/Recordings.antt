@@ -1,4 +1,7 @@
 -- Records of runs: histories with the steps of each body before its Leave.
+--
+-- record of a run: Events that are a history in full, each accepted after those before it, with as
+-- many nodes finished at the end (`AreRecordOf`).
 use Rattle.std.specs.Prelude.{◌≡◌, ℕ, Bool, List, [], ◌∷◌, ◌++◌, replicate, Some, true, false}
 use Rattle.iso_core.specs.Cores.{CoreView, IsRefused, is_complete, state_in, suite_in}
 use Rattle.iso_core.specs.EventRuns.{AreAccepted, core_after}

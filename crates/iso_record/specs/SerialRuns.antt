@@ -1,4 +1,7 @@
 -- Runs by worker 0 alone, node by node in the order in which they are written.
+--
+-- run by worker 0 alone: Node by node in the order in which they are written, the descendants of a
+-- class between its `before_all` and its Shut (`IsNodeHistory`, `AreHistories`, `IsSerialHistory`).
 use Rattle.std.specs.Prelude.{◌≡◌, ℕ, ◌<◌, List, [], ◌∷◌, ◌++◌, Bool, true, length, take, slice_index_or, ◌≤◌}
 use Rattle.iso_isolation.specs.Events.{Event, Enter, Leave, Shut}
 use Rattle.std.specs.List.{AllByRecursion}

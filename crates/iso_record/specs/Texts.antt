@@ -1,4 +1,7 @@
 -- The text of a schedule: a line for each event.
+--
+-- text of a schedule: A line for each event, with its word, its worker and its node (`event_line`,
+-- `schedule_text`); that its numbers have at most nine digits (`IsShort`).
 use Rattle.std.specs.Prelude.{ℕ, ◌<◌, ◌^◌, List, ◌++◌, codes, flat_map}
 use Rattle.std.specs.Fmt.{decimal}
 use Rattle.iso_standing.specs.declared.event.Event.{Event}

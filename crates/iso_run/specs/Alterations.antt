@@ -1,4 +1,12 @@
 -- What a change of scripts and a world can alter.
+--
+-- what a change can alter is told: Two suites, that of the request's files and that of files of the
+-- same names below a folder (`below`, `AreBelow`), as they stand in the bytes of their scripts
+-- (`IsSideOf`); the fates, the differences and what is gone are those of their nodes
+-- (`IsAlteration`, `IsChangeOf`, `both`), and a property that is told starts with another value
+-- (`StartsOtherwise`); all of it, or the paths alone (`change_text`), was written, whole
+-- (`IsToldFor`). The same of two states that were read (`IsStateOf`, `IsReady`, `IsComparedIn`).
+-- Also in: `Commands`.
 use Rattle.std.specs.Prelude.{◌≡◌, ℕ, List, [], ◌++◌, Bool, Option, None, IfSome, codes, cond, length, map}
 use Rattle.std.specs.Option.{option_copied, option_map}
 use Rattle.iso_affected.specs.Counting.{counts}

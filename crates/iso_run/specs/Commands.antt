@@ -1,4 +1,9 @@
 -- What a command does for what its words ask, and how it ends.
+--
+-- how a command ends: What the program did for what its words ask (`Did`, `Answered`), of inputs
+-- that were read for its files, with the paths and the number of processors that they ask for
+-- (`IsWrittenFor`), and what it left of its output, by its exit status (`Ended`); the report of
+-- just this script (`RanOn`).
 use Rattle.std.specs.Prelude.{◌≡◌, ⊤, ℕ, ◌+◌, List, [], ◌∷◌, length, map, take, Bool, true, false, cond, Option, None, Some, IfOk, IfSome, Result, Ok, Vec, is_some, option_map, codes, string_bytes, not, ◌==◌}
 use Rattle.std.specs.Option.{option_copied}
 use Rattle.std.specs.Borrow.{Bor}

@@ -1,4 +1,9 @@
 -- What a run tells of its course: its events, when each body ran, and what was waited for.
+--
+-- what a run tells of its course: Of each text that is asked for that it was told, and of no other
+-- (`IsCourse`, `TellsCourse`): lines of events (`IsScheduled`) that are a whole run of the suite
+-- and can be replayed (`AreWhole`, `AreInOrder`, `AreRecord`), the trace of a run that was observed
+-- (`ObservedView`, `IsRunOf`, `trace_of`), and its figures (`AreFigures`, `IsCounted`).
 use Rattle.std.specs.Borrow.{Bor}
 use Rattle.std.specs.List.{AllByRecursion}
 use Rattle.std.specs.Prelude.{◌≡◌, ⊤, ℕ, ◌≤◌, List, Bool, true, Option, None, Some, ◌||◌, is_some, length}

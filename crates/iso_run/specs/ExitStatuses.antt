@@ -1,4 +1,8 @@
 -- How a run and a command end: with which exit status, and what that leaves of the output.
+--
+-- end of a run and of a command: All was written, a file besides is lacking, the input is refused,
+-- it gives up, or the output broke off (`End`): which fault ends it how (`run_end`, `command_end`),
+-- with which exit status (`exit_status`), and what that leaves of the output (`Leaves`, `Answers`).
 use Rattle.std.specs.Borrow.{Bor}
 use Rattle.std.specs.Prelude.{◌≡◌, ◌≢◌, ◌⊎◌, ⊤, ℕ, List, [], ◌∷◌, Bool, cond, Option, None, Some, Result, Ok, Err}
 use Rattle.iso_arguments.specs.declared.request.WordsFault.{WordsFault}

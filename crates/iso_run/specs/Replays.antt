@@ -1,4 +1,12 @@
 -- What ways of running a suite come to, and why one has no whole report.
+--
+-- way of a run: On one thread, by workers, or by a recorded schedule (`Way`), and what it came to
+-- (`IsPlayed`): a schedule is accepted to its end (`IsAccepted`); by workers only that there is a
+-- suite.
+--
+-- cause of a fault: Why a text of a suite wasn't written: the inputs are none; of a replay the
+-- first fault of its lines and events (`Cause`); of workers that the inputs are a suite, and for a
+-- thread that wasn't started that it has two of them (`IsOfWorkers`).
 use Rattle.std.specs.Prelude.{◌≡◌, ℕ, ◌≤◌, List, Bool, true, false, ⊤, Some, Ok, Err}
 use Rattle.iso_standing.specs.CodeEvents.{refused_of}
 use Rattle.iso_core.specs.Cores.{is_complete}

@@ -1,4 +1,12 @@
 -- What a run, a replay and a printed plan write, whole, or why not.
+--
+-- results of a suite: Of each node the outcome of its own class chain run alone on the start
+-- (`suite_outcome`, `outcome_alone`); what is written of them: the report, and whether all its
+-- top-level points are ok (`suite_report`), or the plan (`suite_plan`), with reasons (`suite_why`),
+-- or its keys (`suite_conflicts`).
+--
+-- what a run answers: The report of a suite, or its plan, written whole (`IsWritten`); or why not,
+-- and what was written until then (`Writes`, `IsCutOff`).
 use Rattle.std.specs.Borrow.{Bor}
 use Rattle.std.specs.Int.{IsInRange}
 use Rattle.std.specs.Prelude.{◌≡◌, ℕ, ◌<◌, List, Bool, true, cond, length, map, take, Option, Result, IfErr}

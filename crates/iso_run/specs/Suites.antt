@@ -1,4 +1,9 @@
 -- The suite that inputs are, and why they are none.
+--
+-- the suite of inputs: What bytes of scripts, settings and a world are, with the paths of what is
+-- kept (`IsSuite`, `suite_tree`, `planned`); that something is so of the suite that they are
+-- (`OfSuite`); why they are none: the first fault in the order settings, world, scripts in turn,
+-- plan (`NoSuite`, `FirstUnread`).
 use Rattle.std.specs.Prelude.{◌≡◌, ⊤, ℕ, ◌<◌, if◌then◌else◌, List, [], ◌∷◌, map, take, length, get_or, Option, None, Some, Ok, Err, IsOk, Bool, cond, is_none, ◌==◌, ◌&&◌}
 use Rattle.std.specs.Borrow.{Bor}
 use Rattle.std.specs.Option.{option_copied}

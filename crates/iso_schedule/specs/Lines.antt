@@ -1,4 +1,8 @@
 -- The lines of a schedule, each of which writes an event.
+--
+-- line of a schedule: Which line writes which event: a word, and after one or more spaces each
+-- number in decimal digits (`Writes`, `event`); a line that is an event has numbers of at most nine
+-- digits (`IsEvent`); a line is wrong where it writes no event, or a longer number (`IsWrong`).
 use Rattle.std.specs.Prelude.{ℕ, ◌≤◌, List, [], ◌++◌, ◌≡◌, ◌≢◌, true, length, codes}
 use Rattle.std.specs.List.{AllByRecursion}
 use Rattle.std.specs.Str.{all_ascii_digits}

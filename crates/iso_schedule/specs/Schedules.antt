@@ -1,4 +1,8 @@
 -- What the bytes of a schedule are read as: the events of its lines, or its first fault.
+--
+-- reading of a schedule: The lines of the bytes by `str::lines`; their events in order, empty lines
+-- left out (`HaveEvents`), or the first wrong line (`HaveFault`); above the limit one fault
+-- (`AreRead`); a reader's error is a fault or out of memory (`ScheduleError`).
 use Rattle.std.specs.Global.{Global}
 use Rattle.std.specs.Prelude.{ℕ, ◌+◌, ◌<◌, ◌≤◌, List, [], ◌∷◌, Result, Ok, Err, Vec, length}
 use Rattle.std.specs.Str.Lines.{lines}

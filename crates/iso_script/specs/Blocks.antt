@@ -1,5 +1,9 @@
 -- The lifecycle blocks of a class, by rules. `IsX x ps qs` says that the pieces ps are those of x,
 -- and then the pieces qs.
+--
+-- lifecycle blocks: Of each kind one at most, with the line of its opening brace; none differs from
+-- an empty one (`IsBlocks`, `Block`).
+-- Standard: JUnit 5, `@BeforeAll`, `@AfterAll`, `@BeforeEach`, `@AfterEach`.
 use Rattle.std.specs.Prelude.{ℕ, List, ◌∷◌, ◌≡◌, Bool, true, false, Option, Some, None, if◌then◌else◌}
 use Rattle.std.specs.List.{filter_map}
 use Rattle.std.specs.Option.{option_to_list}

@@ -1,4 +1,7 @@
 -- What stands before a place of a script.
+--
+-- open brace: The innermost of the braces that are opened and not closed among the pieces before a
+-- position (`IsOpenAt`, `open_after`).
 use Rattle.std.specs.Prelude.{ℕ, ◌-◌, List, [], ◌∷◌, ◌++◌, ◌≡◌, Option, None, length, fold, take}
 use Rattle.std.specs.Option.{option_to_list}
 use Rattle.iso_script_lexer.specs.LexicalGrammar.{ArePiecesOf}

@@ -1,4 +1,7 @@
 -- Why bytes are no script.
+--
+-- fault of a script: That the bytes are no script, and what is known of the kind and place
+-- (`HasScriptFault`, `too_long`).
 use Rattle.std.specs.Prelude.{◌≡◌, ◌<◌, ◌≤◌, ℕ, List, None, Some, length}
 use Rattle.iso_model.specs.Scripts.{Script}
 use Rattle.iso_model.specs.declared.limits.TheConstants.{FILE_BYTES}

@@ -2,6 +2,19 @@
 -- and then the pieces qs, and that these are the places of the nodes of x, as they are written, a
 -- class before its members. A number d among the arguments says how many more classes may be
 -- opened, and taken are the names of the statics and fields of the enclosing classes.
+--
+-- grammar of classes and tests: Which tokens are a test, a class after its name, the members of a
+-- class, and which places their nodes have, a class before its members: one member at least, no two
+-- of one name, no test that is isolated or has a mark for children (`IsTest`, `IsClass`,
+-- `HasMembers`, `IsMember`, `fits_test`).
+-- Standard: JUnit 5, `@Nested`.
+--
+-- grammar of scripts: A relation between pieces, a script and the places of its nodes, by rules
+-- (`IsScript` and what it is made of).
+--
+-- reading of a script: The bytes are no more than the limit, they have pieces from line 1 on, and
+-- of these the script is read, with the places of its nodes (`ReadsPlaced`; `Reads`, whatever these
+-- are).
 use Rattle.std.specs.Global.{Global}
 use Rattle.std.specs.Prelude.{ℕ, suc, ◌≤◌, List, [], ◌∷◌, ◌++◌, ◌≡◌, ◌≢◌, Option, Some, None, Vec, true, false, length, map}
 use Rattle.std.specs.List.{IsDistinct}

@@ -1,5 +1,14 @@
 -- The marks of a class or test, by rules. `IsX x ps qs` says that the pieces ps are those of x, and
 -- then the pieces qs.
+--
+-- marks: The marks of a class or test as they are written, until none is next; they name one mode
+-- at most and `isolated` and `disabled` once at most each, and all keys are kept, each with its
+-- target (`IsMarks`, `ComeTo`, `IsTarget`).
+-- Standard: JUnit 5, parallel execution (`@Execution`, `@ResourceLock` and its `target`,
+-- `@Isolated`); `@Disabled`.
+--
+-- key that may be declared: Not empty, at most 255 bytes, and not that of the global lock
+-- (`key_fault`).
 use Rattle.std.specs.Prelude.{ℕ, List, [], ◌∷◌, ◌++◌, ◌≡◌, Bool, true, false, not, ◌&&◌, Option, Some, None, length, nat_eq, nat_lt, if◌then◌else◌}
 use Rattle.std.specs.List.{filter_map, list_any}
 use Rattle.std.specs.Str.{bytes_eq}

@@ -1,4 +1,12 @@
 -- The places of nodes, and what the reader answers of what has places.
+--
+-- place of a node: Where its name begins, and the lines of its blocks' opening braces: of a test's
+-- body (`test_place`), and of each lifecycle block of a class that is written (`class_place`,
+-- `line_at`).
+--
+-- answer with places: What is answered is there, with places that are added to those that are kept,
+-- and what is there is answered unless memory runs out (`Finds`; of pieces `ParsesPlaced`). Where
+-- none are kept, none are added (`kept`, `with_places`).
 use Rattle.std.specs.Prelude.{ℕ, List, ◌++◌, ◌≡◌, Option, Some, None, nat_eq, if◌then◌else◌, Result, MatchResult}
 use Rattle.iso_model.specs.declared.place.Lifecycle.TheVariants.{BeforeAll, AfterAll, BeforeEach, AfterEach}
 use Rattle.iso_script.specs.Blocks.{Block, Blocks}

@@ -1,5 +1,8 @@
 -- The statics and fields of a class, by rules. `IsX x ps qs` says that the pieces ps are those of
 -- x, and then the pieces qs.
+--
+-- statics and fields: Of a class whose enclosing classes have some names: each with a name that is
+-- neither among these nor another's of the class (`IsVariables`).
 use Rattle.std.specs.Prelude.{ℕ, List, [], ◌∷◌, ◌++◌, ◌≡◌, Bool, false, Option, Some, None, map, ◌||◌}
 use Rattle.std.specs.Borrow.{Bor}
 use Rattle.std.specs.BTreeSet.{BTreeSet, contains_by}

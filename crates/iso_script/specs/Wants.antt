@@ -1,4 +1,8 @@
 -- What is wanted in a class, and before and after its members.
+--
+-- what is wanted in a class: After marks, lifecycle blocks, a display text and the word of an
+-- access, by whether these are written (`after_marks`, `after_blocks`, `after_display`,
+-- `after_target`); where a member is, that none of it is next unless a member is (`IsPlace`).
 use Rattle.std.specs.Prelude.{ℕ, List, [], ◌∷◌, ◌≡◌, Bool, true, false, not, ◌&&◌, Option, Some, None, is_some, if◌then◌else◌}
 use Rattle.iso_model.specs.declared.heads.Mark.{Mark}
 use Rattle.iso_model.specs.declared.heads.Target.{Target}

@@ -1,4 +1,8 @@
 -- The lexical grammar: which bytes are which pieces.
+--
+-- lexical grammar: A relation between bytes and pieces (`HasPieces`, of a whole text
+-- `ArePiecesOf`): gaps and comments left out, the longest token first. The functions that the code
+-- computes (`Scan`, `Scanned`) are proved to agree with it, and no public clause cites them.
 use Rattle.std.specs.Prelude.{ℕ, ◌+◌, ◌-◌, ◌*◌, ◌^◌, ◌≤◌, List, [], ◌∷◌, ◌++◌, ◌≡◌, ◌≢◌, Bool, true, false, length, fold}
 use Rattle.std.specs.List.{AllByRecursion}
 use Rattle.iso_model.specs.declared.limits.TheConstants.{NAME_BYTES}

@@ -1,4 +1,7 @@
 -- The pieces of a script: its tokens, each with the position of its first byte.
+--
+-- pieces of a script: Its tokens in order, each with the position of its first byte; what is no
+-- token is a piece too, with its line (`Piece`).
 use Rattle.std.specs.Prelude.{ℕ, List, [], ◌∷◌}
 use Rattle.iso_script_lexer.specs.declared.symbol.Symbol.{Symbol}
 use Rattle.iso_script_lexer.specs.declared.token.Position.{Position}

@@ -1,4 +1,7 @@
 -- Positions in a text: a line, and a column that counts bytes, both from 1.
+--
+-- position of a token: Its line, and a column that is one more than the number of the line's bytes
+-- before it; a line feed ends its line, and the next begins at column 1 (`position`, `line_after`).
 use Rattle.std.specs.Prelude.{ℕ, ◌+◌, ◌-◌, List, length}
 use Rattle.iso_script_lexer.specs.declared.token.Position.{Position}
 

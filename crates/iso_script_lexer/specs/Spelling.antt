@@ -1,5 +1,8 @@
 -- How symbols and reserved words are written, and which bytes stand where. A byte is its ASCII
 -- code.
+--
+-- spelling: Which bytes a symbol and a reserved word are, and which bytes may stand in a name, a
+-- gap, a comment.
 use Rattle.std.specs.Prelude.{ℕ, List, [], ◌∷◌, Bool, false, Option, nat_eq, nat_le, ◌&&◌, ◌||◌, codes}
 use Rattle.std.specs.List.{find}
 use Rattle.std.specs.Str.{bytes_eq}

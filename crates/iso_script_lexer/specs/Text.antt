@@ -1,4 +1,6 @@
 -- Texts between quotes.
+--
+-- quoted text: What stands between quotes, and the text that it means (`written`, `decoded`).
 use Rattle.iso_model.specs.declared.limits.TheConstants.{TEXT_BYTES}
 use Rattle.std.specs.Prelude.{ℕ, ◌≤◌, ◌≡◌, List, [], ◌∷◌, Bool, true, false, nat_eq, ◌&&◌, not, IsTrue, length, if◌then◌else◌}
 use Rattle.std.specs.List.{AllByRecursion}

@@ -1,4 +1,8 @@
 -- Which fault bytes have that begin neither a gap nor a token.
+--
+-- fault of bytes that are no token: A name or text that is too long, a number that is too big or
+-- that a letter follows, a text that its line leaves open, a wrong escape, any other printable
+-- byte, a byte that isn't allowed (`fault_of`).
 use Rattle.std.specs.Prelude.{ℕ, ◌-◌, List, [], ◌∷◌, Bool, true, false, nat_eq, ◌&&◌, if◌then◌else◌, drop}
 use Rattle.std.specs.List.{prefix_len}
 use Rattle.iso_model.specs.declared.limits.TheConstants.{TEXT_BYTES}

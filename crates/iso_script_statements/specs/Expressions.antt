@@ -1,5 +1,8 @@
 -- The grammar of expressions, by rules. `IsX x ps qs` says that the pieces ps are those of x, and
 -- then the pieces qs. A number d among the arguments says how many more parentheses may be opened.
+--
+-- grammar of expressions: Which tokens are a literal, an operand, a chain or a comparison; chains
+-- group to the left and never mix operators.
 use Rattle.std.specs.Global.{Global}
 use Rattle.std.specs.Prelude.{ℕ, suc, ◌-◌, ◌<◌, ◌≤◌, ◌^◌, pos, neg_ℤ, List, ◌∷◌, ◌≡◌, true, false, Option, Some, None, Vec, option_map}
 use Rattle.iso_script_lexer.specs.Piece.{Piece, name_at, number_at, text_at, word_at, symbol_at}

@@ -1,4 +1,6 @@
 -- The names of faults.
+--
+-- name of a fault: How a kind of fault is called, as a fault's line prints it (`fault_name`).
 use Rattle.std.specs.Prelude.{ℕ, List, codes}
 use Rattle.iso_script_statements.specs.declared.fault.ScriptFaultKind.{ScriptFaultKind}
 use Rattle.iso_script_statements.specs.declared.fault.ScriptFaultKind.TheVariants as K

@@ -1,4 +1,7 @@
 -- Why there is no script.
+--
+-- why there is no script: The kind of the fault at a piece that the grammar does not allow
+-- (`IsUnexpected`), and out of memory (`IsMemory`), of a reader's error (`ScriptError`).
 use Rattle.std.specs.Prelude.{◌≡◌, ◌≢◌, List, [], ◌∷◌, ◌^◌, nat_lt, if◌then◌else◌, None}
 use Rattle.iso_script_lexer.specs.Piece.{Piece, number_at, bad_at}
 use Rattle.iso_script_lexer.specs.declared.token.TokenFault as T

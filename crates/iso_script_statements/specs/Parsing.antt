@@ -1,4 +1,7 @@
 -- What the parser answers.
+--
+-- parses: What is answered is read, and what can be read is answered unless memory runs out
+-- (`Parses`).
 use Rattle.std.specs.Prelude.{List, Result, MatchResult}
 use Rattle.iso_script_lexer.specs.Piece.{Piece}
 use Rattle.iso_script_statements.specs.Faults.{IsMemory, ScriptError}

@@ -2,6 +2,15 @@
 -- of x, and then the pieces qs. A number d among the arguments says how many more bodies may be
 -- opened, and above is how many lines stand above that of the block's opening brace, on which row 1
 -- is.
+--
+-- grammar of statements: Which tokens are a statement, a body or a block, with the row of each
+-- statement.
+--
+-- display text: A text that a report shows in place of a name, and a reason: 1 to 200 bytes, no
+-- space at either end (`is_display`); before a class's brace and a test's body it may be absent
+-- (`IsDisplayed`).
+-- Also in: `Displays` of `iso_script`.
+-- Standard: JUnit 5, `@DisplayName`.
 use Rattle.std.specs.Global.{Global}
 use Rattle.std.specs.Prelude.{ℕ, suc, ◌-◌, List, [], ◌∷◌, ◌≡◌, Bool, true, false, not, ◌&&◌, nat_le, nat_eq, length, get_or, Option, Some, None, Vec}
 use Rattle.iso_script_lexer.specs.Piece.{Piece, name_at, text_at, word_at, symbol_at}

@@ -1,4 +1,9 @@
 -- What is wanted where a fault is answered, and whether what is next is it.
+--
+-- what is wanted: What could stand at a place, and whether what is next is it (`takes`); where it
+-- isn't, a fault tells it (`IsUnmet`, `Tells`). After an expression it is what `after_operand`
+-- gives.
+-- Also in: `Reasons`.
 use Rattle.std.specs.Prelude.{◌≡◌, ℕ, ◌^◌, List, [], ◌∷◌, Bool, true, false, ◌||◌, ◌&&◌, nat_lt, nat_le, is_some}
 use Rattle.iso_script_lexer.specs.Piece.{Piece, name_at, number_at, text_at, word_at, symbol_at, bad_at}
 use Rattle.iso_script_lexer.specs.Spelling.{same_symbol, same_word}

@@ -1,4 +1,6 @@
 -- Files that list paths.
+--
+-- paths that a file lists: Its lines but the empty ones (`listed`).
 use Rattle.std.specs.Prelude.{ℕ, List, Bool, ◌==◌, filter, length, not}
 use Rattle.std.specs.Str.Lines.{lines}
 

@@ -1,4 +1,7 @@
 -- Patterns of paths: a star stands for any bytes, and each other byte for itself.
+--
+-- pattern: A star stands for any bytes, each other byte for itself, and the whole path has to match
+-- (`is_match`): what stands after a star takes in some end of the path (`some_end`).
 use Rattle.std.specs.Prelude.{ℕ, List, [], ◌∷◌, Bool, false, ◌||◌, ◌&&◌, ◌==◌, cond, length}
 
 -- the byte that stands for any bytes

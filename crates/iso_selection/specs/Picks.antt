@@ -1,4 +1,10 @@
 -- What is kept of scripts, as paths for the plan, and what is wrong with what was asked for.
+--
+-- what is picked: The named nodes whose top-level class is in the shard (`is_picked`), their paths
+-- in the nodes' order (`picked`), what these keep (`kept_tree`), and what is wrong with what is
+-- asked for (`pick_fault`); that no two nodes have one path (`HaveOwnPaths`). Of scripts its tree
+-- and the first fault of its plan (`picked_tree`, `picked_plan_fault`).
+-- Also in: `PickedPlans`.
 use Rattle.std.specs.Prelude.{◌≡◌, ℕ, List, [], Option, None, Some, Bool, ◌&&◌, ◌<◌, ⊤, length, map}
 use Rattle.std.specs.Option.{option_or}
 use Rattle.iso_model.specs.Scripts.{Script}

@@ -1,4 +1,7 @@
 -- Shards: which of the top-level classes that hold a named node are kept.
+--
+-- shard: Top-level classes that hold a named node (`holds`) go to the shards in turn, in the order
+-- in which they are written (`shard_of`); whether a node's is in one (`is_in`).
 use Rattle.std.specs.Prelude.{ℕ, ◌+◌, ◌%◌, List, Option, None, Some, Bool, true, ◌&&◌, ◌==◌, length}
 use Rattle.std.specs.List.{list_any, range_with_len}
 use Rattle.iso_plan.specs.Selections.{number_among}

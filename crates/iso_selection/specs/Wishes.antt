@@ -1,4 +1,8 @@
 -- What is asked for, in the order in which it is looked for.
+--
+-- what is asked for: Paths, then patterns, then the paths of a file (`Wish`, `all_wishes`); the
+-- nodes that it names (`is_named_by`, `grants`), where nothing is asked for the top-level classes;
+-- the first thing that names no node (`first_in_vain`).
 use Rattle.std.specs.Prelude.{ℕ, List, [], ◌∷◌, ◌++◌, Option, None, Some, Bool, false, ◌&&◌, map, not}
 use Rattle.std.specs.Borrow.{Bor}
 use Rattle.std.specs.List.{list_any, position_from}

@@ -1,5 +1,8 @@
 -- A tray alone, beside the nodes on one path: which of their values it has, and which opening left
 -- what it holds. Nothing here speaks of vault, results or frames.
+--
+-- a tray on one path: Which nodes are lent to a tray, which values it holds, and which opening has
+-- left them (`StandsAsOpened`), or all but what a node may change (`StandsApart`).
 use Rattle.std.specs.Prelude.{◌≡◌, ℕ, List, Bool, true, false, length, is_some}
 use Rattle.iso_lifecycle.specs.Subjects.{opening_of, rights_of_subject, subject}
 use Rattle.iso_lifecycle.specs.WholeBodies.{IsAfterBody}

@@ -1,5 +1,11 @@
 -- A run depth first: how its vault, its tray and its results stand between two nodes, and at a
 -- node's entry and exit.
+--
+-- a serial run between two nodes: What holds of vault, tray and results between two nodes
+-- (`BetweenNodes`): the nodes on the path are lent, what they take for READ_WRITE is away
+-- (`IsLentAlong`, `AreAwayAlong`), and all stands as the opening has left it. That values were only
+-- changed further and results stay (`GoesFurther`). When a node was lent (`AtEntry`) and when it
+-- has its result (`AtExit`), which no public clause cites.
 use Rattle.std.specs.Prelude.{◌≡◌, ℕ, ◌<◌, List, Bool, true, false, length, slice_index_or}
 use Rattle.iso_lifecycle.specs.ResultViews.{AreOpen, AreOpened, CanPut, ResultsView, has_result, is_ended, is_opened}
 use Rattle.iso_lifecycle.specs.Subjects.{opening_of, subject}

@@ -1,5 +1,10 @@
 -- The leaves of a TOML table: its values that are no tables, each under the path of its keys joined
 -- by dots.
+--
+-- leaves of a table: The values that are no tables, each under the path of its keys joined by dots,
+-- depth first in the table's order (`leaves`); the values at a joined key are two where two
+-- spellings reach it (`values_at`).
+-- Standard: TOML, dotted keys.
 use Rattle.std.specs.Prelude.{◌≡◌, ◌≤◌, ℕ, List, [], ◌∷◌, ◌++◌, cond, bytes_eq, codes, length}
 use Rattle.toml.specs.Data.{Data, table, Members, no_members, member}
 use Rattle.toml.specs.View.{view}

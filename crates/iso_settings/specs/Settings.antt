@@ -1,5 +1,11 @@
 -- Settings of a run, as a function of a TOML table. The keys and their values are JUnit 5's
 -- configuration parameters (User Guide, parallel execution and test instance lifecycle).
+--
+-- settings of a table: Each key of JUnit's read by its rule in the stated order, its default where
+-- it is absent; then the number of workers (`settings_of`, `workers`); a reader's error is a fault
+-- or out of memory (`SettingsError`).
+-- Also in: `Readings`.
+-- Standard: JUnit 5 User Guide, parallel execution, test instance lifecycle.
 use Prim.Native.String.{String}
 use Rattle.std.specs.Prelude.{ℕ, ◌*◌, ℤ, pos, negsuc, Bool, true, false, ◌&&◌, nat_le, min, if◌then◌else◌, List, [], ◌∷◌, ◌++◌, codes, length, Option, Some, None, unwrap_or, Ok, Err}
 use Rattle.std.specs.Str.{str_eq_ignore_ascii_case, all_ascii_digits}

@@ -1,4 +1,7 @@
 -- What a starting value says, where it is one of its kind.
+--
+-- what a starting value says: The text of a file that is there, the locale, the properties, where
+-- the value is of that kind (`file_in`, `locale_in`, `properties_in`).
 use Rattle.std.specs.Prelude.{ℕ, List, [], Some}
 use Rattle.std.specs.FinMap.{empty}
 use Rattle.iso_model.specs.Properties.{Map}

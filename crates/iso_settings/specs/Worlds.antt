@@ -1,4 +1,8 @@
 -- The values that resources start with, as a function of a TOML table.
+--
+-- world of a table: Top-level keys and leaves in the table's order, each text checked for
+-- WrongValue before OutOfRange (`world_in`, `texts_of`, `with_text`, `text_of`); the value that a
+-- key starts with in it (`starting_value_in`).
 use Rattle.std.specs.Prelude.{ℕ, Bool, ◌&&◌, ◌||◌, not, nat_le, nat_lt, nat_eq, if◌then◌else◌, cond, bytes_eq, List, [], ◌∷◌, ◌++◌, codes, length, drop, Option, Some, None, is_some, Ok, Err, refl}
 use Rattle.std.specs.List.{starts_with, list_all}
 use Rattle.std.specs.FinMap.{code, empty, get, insert}

@@ -1,5 +1,9 @@
 -- How many of each node's first children are passed: the search for a child that is due goes on
 -- after them.
+--
+-- passed children: How many of a node's first children are passed (`ArePassed`, `KeepsPassed`):
+-- none of them is SAME_THREAD and unfinished (`is_due`), so that a search for an unfinished sibling
+-- begins after them.
 use Rattle.std.specs.Prelude.{◌≡◌, ℕ, ◌<◌, ◌≤◌, List, Bool, false, ◌&&◌, not, length, slice_index_or}
 use Rattle.iso_standing.specs.Phases.{bare}
 use Rattle.iso_standing.specs.declared.phase.Phase.{Phase}

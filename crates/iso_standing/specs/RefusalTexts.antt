@@ -1,4 +1,8 @@
 -- How the kinds of refusal are called, and how they show.
+--
+-- a refusal's text: How each kind of refusal shows: its name, and the node where it names one
+-- (`refused_text`); and how a fault of an event does (`fault_text`).
+-- Also in: `FaultTexts`.
 use Rattle.std.specs.Prelude.{ℕ, List, [], ◌∷◌, ◌++◌, Option, Some, None, codes, decimal}
 use Rattle.iso_standing.specs.declared.refused.Refused.{Refused}
 use Rattle.iso_standing.specs.declared.refused.Refused.TheVariants.{Stopped, NoWorker, NoNode, WorkerBusy, ParentClosed, AlreadyEntered, NotOwner, EarlierSibling, LockHeld, NoBody, BodyEnded, BodyNotEnded, ChildrenLeft, NotClass, NotOpen, OtherBody, Stranger}

@@ -1,4 +1,8 @@
 -- Where all nodes and workers stand, and the states of the core that look so.
+--
+-- standing: What tells of a state's phases, owners and workers (`Standing`), and the states that
+-- look so (`LooksLike`).
+-- Also in: `Phases`.
 use Rattle.std.specs.Prelude.{◌≡◌, ℕ, ◌<◌, List, [], Option, Some, None, Bool, true, false, cond, eqb, is_some, ◌&&◌, length, slice_index_or, slice_set, refl}
 use Rattle.std.specs.Coded.{Coded, code_by, coded×, coded_list, coded_option, coded_bool, coded_ℕ}
 use Rattle.iso_suites.specs.PlanSuites.{suite_of}

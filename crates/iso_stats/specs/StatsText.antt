@@ -1,4 +1,10 @@
 -- What is told of a run, in lines.
+--
+-- statistics: The lines that are told of a run (`stats_text`), times in the largest unit of which
+-- there is one (`time`), the part of it that workers were busy (`percent`), how fast it is at best
+-- (`at_best`); how many tests it had, how long its bodies took and when the last one ended
+-- (`test_count`, `work`, `span`).
+-- Also in: `Times`, `Shares`, `Measures`.
 use Rattle.std.specs.Prelude.{ℕ, List, [], ◌∷◌, Option, Some, None, codes}
 use Rattle.std.specs.Fmt.{decimal}
 use Rattle.iso_plan.specs.Tree.{Row}

@@ -1,4 +1,7 @@
 -- Histories: the value that a resource has now, and those that it had before.
+--
+-- history of a value: The value now and each that it had before a change which wasn't taken back;
+-- after a change, its start, an earlier history.
 use Rattle.std.specs.Prelude.{◌≡◌, List, [], ◌∷◌, ◌++◌, refl}
 use Rattle.std.specs.Coded.{Coded, code_by, coded×, coded_list}
 use Rattle.iso_model.specs.contracts.resource.Resource.{the_row}

@@ -1,4 +1,12 @@
 -- Values as they are kept: what they started as, and over it what was changed.
+--
+-- a value as it is kept: What it started as, and over it layers of what was changed between two
+-- marks, the newest first (`resource_of`, `over`): of properties by name, of the locale and of a
+-- file in one place (`place_in`, `properties_over`, `locale_over`, `nameless`). A layer has a
+-- name's text, or none where it was cleared (`Places`, `overlaid`). Its history is that of the
+-- values before each change (`history`); layers and a number of changes that are those of a mark
+-- (`IsMoment`).
+-- Also in: `Layers`, `Places`.
 use Rattle.std.specs.Prelude.{◌≡◌, ℕ, List, length, map, reverse}
 use Rattle.std.specs.declared.snapshot.Snapshot.{Snapshot}
 use Rattle.iso_model.specs.declared.resource.Resource.{Resource}

@@ -1,5 +1,10 @@
 -- The suite of a plan: its tree with its paths, modes and locks, and the starting values of a
 -- world; and what its runs may end with.
+--
+-- suite of a plan: A tree with its paths, modes and locks, and the starting values (`suite_of`);
+-- what is run, with the paths of what is kept (`Launch`, `launched`); that a node is a test or a
+-- class with these heads (`IsTestAt`, `IsClassAt`), and has this outcome in some run (`MayEnd`).
+-- Standard: JUnit 5 User Guide, parallel execution.
 use Rattle.std.specs.Prelude.{◌≡◌, ℕ, List, ◌∷◌, Some, None, Bool, true, false, length}
 use Rattle.iso_suites.specs.ScriptLanguage.{Head, of_class, of_test, scripts}
 use Rattle.iso_isolation.specs.Isolation.{Gives}

@@ -1,5 +1,10 @@
 -- The language of scripts: what a run asks of the bodies of classes and tests, made of their
 -- definitions.
+--
+-- language of scripts: The model's bodies as a `Language`: heads of classes and tests, rights by
+-- the marks of a chain, bodies by their stages, outcomes by their ended bodies and frames (`Head`,
+-- `scripts`).
+-- Standard: JUnit 5 User Guide, test lifecycle.
 use Rattle.std.specs.Prelude.{ℕ, List, [], ◌∷◌, ◌++◌, None, Bool, true, false}
 use Rattle.iso_isolation.specs.Languages.{Language, Progress}
 use Rattle.iso_model.specs.Alone.{barred, test_outcome}

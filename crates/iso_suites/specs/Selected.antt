@@ -1,5 +1,9 @@
 -- What a node comes to in a run of a whole plan, and in one of the plan of what some paths keep of
 -- it.
+--
+-- results of a selection: That a kept node has finished in some run of a whole plan and in some of
+-- the selected one, on resources that start alike where its rights reach (`IsRunInBoth`), and has
+-- one outcome in both (`KeepsResults`).
 use Rattle.std.specs.Prelude.{◌≡◌, ℕ, ◌<◌, List, true, length}
 use Rattle.iso_suites.specs.PlanSuites.{suite_of}
 use Rattle.iso_suites.specs.ScriptLanguage.{scripts}

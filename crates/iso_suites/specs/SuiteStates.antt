@@ -1,4 +1,7 @@
 -- The suite of a plan on the values of a world, and the nodes of its states.
+--
+-- states of a plan's runs: The suite of a plan on the values of a world, and the states of its runs
+-- (`suite_at`, `RunState`); how a history of it goes on by a Leave (`GoesOnByLeave`).
 use Rattle.std.specs.Prelude.{◌≡◌, ℕ, List, [], ◌∷◌, ◌++◌, Option, Some, Bool, true, replicate}
 use Rattle.iso_suites.specs.PlanSuites.{suite_of}
 use Rattle.iso_suites.specs.ScriptLanguage.{Head, scripts}

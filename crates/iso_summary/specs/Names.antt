@@ -1,4 +1,11 @@
 -- Names of files as they are shown.
+--
+-- names and lines as they are shown: A file's name whose characters that no reader sees are
+-- escaped, with four digits or with eight (`shown_name`, `shown_char`, `escape`), and as a printed
+-- plan has it, where control characters alone are (`planned_name`); the first 160 bytes of a line
+-- in printable ASCII (`shown_source`, `shown_bytes`, `cut_end`).
+-- Also in: `Sources`.
+-- Standard: TOML 1.0.0, basic strings.
 use Rattle.std.specs.Prelude.{ℕ, ◌+◌, ◌/◌, ◌%◌, List, [], ◌∷◌, Bool, ◌==◌, cond, nat_lt, codes, chars, flat_map}
 use Rattle.std.specs.Char.{encode_utf8, is_ascii_control, is_control}
 use Rattle.std.specs.List.{list_any}

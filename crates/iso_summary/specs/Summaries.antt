@@ -1,4 +1,10 @@
 -- The summary of a run.
+--
+-- summary: What failed, as a text for people: of each node that is told its path, place, message,
+-- the line of the script, what mends it (`hint_lines`), how many tests it blocks and the command
+-- that runs it again (`failure_text`, `skipped_text`, `entry_text`), and a last line with the
+-- counts (`counts_line`, `summary_text`).
+-- Also in: `Entries`, `Lines`, `Parts`, `Views`.
 use Rattle.std.specs.Prelude.{ℕ, ◌<◌, List, [], ◌∷◌, ◌++◌, codes, length, zip}
 use Rattle.std.specs.Fmt.{decimal}
 use Rattle.std.specs.List.{flat_map}

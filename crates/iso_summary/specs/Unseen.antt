@@ -1,4 +1,10 @@
 -- Characters that no reader sees, or that change how others are seen.
+--
+-- character that no reader sees: One of the general categories Cc, Cf, Zl and Zp (`is_unseen`,
+-- `is_unseen_category`), which are those of 23 ranges (`unseen_ranges`); whether a text has one
+-- (`has_unseen`).
+-- Also in: `GeneralCategory` of `ucd_category`, a crate of the kit.
+-- Standard: The Unicode Standard, version 18.0.0, section 4.5, General Category.
 use Rattle.std.specs.Prelude.{ℕ, List, [], ◌∷◌, Bool, true, false, chars}
 use Rattle.std.specs.List.{list_any}
 use Rattle.ucd_category.specs.GeneralCategory.{general_category, general_category_eq}

@@ -1,4 +1,11 @@
 -- Words of a command as a shell reads them.
+--
+-- word of a command: As it is where its bytes mean nothing to a shell, else in single quotes
+-- (`shell_word`, `file_word`); the words that a shell reads of a command (`read_words`), and those
+-- that it is to read (`command_words`). No command is told that has a word with a character that no
+-- reader sees (`can_be_told`).
+-- Also in: `Shells`, `Entries`.
+-- Standard: POSIX.1-2017, Shell Command Language, quoting.
 use Rattle.std.specs.Prelude.{ℕ, List, [], ◌∷◌, ◌++◌, Bool, false, not, ◌&&◌, ◌||◌, ◌==◌, cond, codes, flat_map, length, nat_eq}
 use Rattle.std.specs.Char.{is_ascii_alphanumeric}
 use Rattle.std.specs.List.{list_all, list_any}

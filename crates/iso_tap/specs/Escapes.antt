@@ -1,4 +1,7 @@
 -- Texts as they stand in a title, in a reason and in quotes.
+--
+-- escaped and quoted texts: A text as it stands in a title or a reason, and in quotes (`escaped`).
+-- Standard: Test Anything Protocol, version 14; YAML 1.2.
 use Rattle.std.specs.Prelude.{ℕ, suc, List, [], ◌∷◌, ◌++◌, cond, ◌||◌, nat_eq, codes}
 
 -- a text with a backslash before each backslash and before each of one other byte

@@ -1,5 +1,8 @@
 -- The plan as it is printed: the number of workers, then a line for each node: its number, its
 -- kind, its execution mode, the locks that it takes, and its path.
+--
+-- the printed plan: The number of workers, then for each node but the root its number, kind,
+-- execution mode, locks and path (`plan_text`, `node_line`, `node_fields`).
 use Rattle.std.specs.Prelude.{ℕ, zero, suc, ◌-◌, List, [], ◌++◌, cond, codes, length, slice_index_or}
 use Rattle.std.specs.Fmt.{decimal}
 use Rattle.std.specs.List.{join_by}

@@ -1,4 +1,8 @@
 -- Printers: what they wrote of a text.
+--
+-- a printer's answer: A text written whole, or its beginning where the sink failed, once (`Writes`,
+-- `Prints`).
+-- Also in: `Pieces`.
 use Rattle.std.specs.Prelude.{◌≡◌, ℕ, ◌+◌, ◌<◌, List, length, take, Result, OnOk, OnErr, IfErr}
 use Rattle.iso_tap.specs.Sinks.{Account, Took, Wrote, CutOff, HasFailed}
 use Rattle.iso_tap.specs.declared.printer.Printer.{Printer}

@@ -1,5 +1,12 @@
 -- The report of a suite's outcomes (TAP version 14, subtests): the version, and then the level of
 -- the root.
+--
+-- report: The text of outcomes by node: version, plans, points, subtests, diagnostics (`report`,
+-- `reported`, `point_line`, `block_lines`); which points are ok (`is_ok`), and whether all are
+-- (`all_ok`).
+-- Also in: `ReportBlocks`, `ReportLines`.
+-- Standard: Test Anything Protocol, version 14: version, plan, test points, directives, subtests,
+-- YAML diagnostics; YAML 1.2, double-quoted style.
 use Rattle.std.specs.Prelude.{ℕ, zero, suc, ◌+◌, List, [], ◌∷◌, ◌++◌, Bool, cond, length}
 use Rattle.std.specs.List.{filter, list_all, range_with_len}
 use Rattle.iso_model.specs.declared.outcome.Outcome.{Outcome}

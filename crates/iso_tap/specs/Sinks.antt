@@ -1,4 +1,7 @@
 -- Sinks of bytes: what they took, and whether they failed.
+--
+-- account of a sink: What a sink took, as far as it tells, how many bytes that were, and how often
+-- it failed; a text written whole (`Wrote`) or cut off (`CutOff`).
 use Rattle.std.specs.Prelude.{◌≡◌, ℕ, ◌+◌, ◌-◌, ◌<◌, ◌≤◌, suc, zero, min, List, [], ◌∷◌, ◌++◌, length, take, Bool, true, false, Option, None, Some, Result, Ok, Err}
 
 -- what a sink tells of itself: the bytes that it took so far, where it tells them, their number,

@@ -1,4 +1,11 @@
 -- The page of a run.
+--
+-- page that is told of a run: It has what was watched of the run, where it was: the times of its
+-- bodies, its figures, waits and critical bodies (`WatchedView`, `measured`, `page_of`), and was
+-- told where it is asked for (`IsPaged`, `AddsPage`); of a run that is so watched (`IsWatched`,
+-- `WasWatched`, `TellsRun`). The lines that it shows of a node that failed: the one that is told of
+-- it, with two before and two after it (`failed_line`, `around`, `excerpts`).
+-- Also in: `Excerpts`, `Watches` of `iso_run`.
 use Rattle.std.specs.Prelude.{◌≡◌, ℕ, List, Option, None, Some}
 use Rattle.std.specs.Option.{option_map}
 use Rattle.iso_critical.specs.declared.body.Body.{Body}

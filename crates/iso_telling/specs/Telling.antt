@@ -1,4 +1,10 @@
 -- What a run tells besides its report.
+--
+-- what a run tells besides: Of each text that is asked for that it was told, and of no other
+-- (`nothing_yet`, `told_nothing`, `IsTold`, `IsSummarized`, `HasTold`); which text is the summary
+-- of a suite as it is written (`IsSummary`), and that it was added (`AddsSummary`); of the suite of
+-- inputs (`TellsOf`).
+-- Also in: `Runs` of `iso_run`.
 use Rattle.std.specs.Prelude.{◌≡◌, ℕ, List, [], Bool, true, false, Option, None, Some, ◌||◌, is_some, map}
 use Rattle.iso_durations.specs.Durations.{durations_text}
 use Rattle.iso_failures.specs.Failures.{failed_text}

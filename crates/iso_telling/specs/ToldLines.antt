@@ -1,4 +1,10 @@
 -- The line that is told of a node.
+--
+-- line that is told of a node: That of what its verdict tells (`place_of`, `line_of_what_ended`),
+-- else that of its name (`name_line`, `line_told`); with its script's name, or `stdin`, and its
+-- text (`located`); and what mends the fault that ended it, where that is asked for (`hints_told`,
+-- `told`, `located_told`).
+-- Also in: `ToldPlaces`, `Explained`.
 use Rattle.std.specs.Prelude.{ℕ, List, Option, None, Some, option_and_then, option_map, unwrap_or}
 use Rattle.iso_model.specs.declared.outcome.Outcome.{Outcome}
 use Rattle.iso_model.specs.declared.outcome.Verdict.{Verdict}

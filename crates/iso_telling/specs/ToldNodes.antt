@@ -1,4 +1,7 @@
 -- Which nodes a summary tells of.
+--
+-- node that is told of: It failed, or it is a test that was skipped, where these are asked for, in
+-- the order in which they are written (`is_told`, `told_nodes`).
 use Rattle.std.specs.Prelude.{ℕ, List, Bool, ◌&&◌, ◌||◌, length}
 use Rattle.iso_failures.specs.Failures.{is_failure}
 use Rattle.iso_failures.specs.Nodes.{is_test_with, was_skipped}

@@ -1,4 +1,7 @@
 -- Suites as they are written.
+--
+-- suite as it is written: Its scripts, the places of each one's nodes, and the bytes of each
+-- (`WrittenView`, `written_of`); that they belong together (`ArePlaced`).
 use Rattle.std.specs.Borrow.{Bor}
 use Rattle.std.specs.Prelude.{ℕ, List, [], ◌∷◌, map}
 use Rattle.iso_model.specs.ScriptView.{script_of}

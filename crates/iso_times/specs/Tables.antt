@@ -1,4 +1,8 @@
 -- What the table of a run's bodies has, and what is answered of it.
+--
+-- times of bodies: Where a body stands among those of all nodes (`slot_of`), and its time, if it
+-- has one (`time_in`); the first begin of all (`first_begin`), a time counted from it (`since`),
+-- and the whole microseconds that a node's bodies took (`took`, `micros_of`).
 use Rattle.std.specs.Prelude.{◌||◌, cond, is_some, ℕ, ◌+◌, ◌-◌, ◌*◌, ◌/◌, List, [], ◌∷◌, map, min, Option, Some, None, slice_index_or}
 use Rattle.std.specs.List.{range_with_len}
 use Rattle.iso_lifecycle.specs.declared.kind.BodyKind.{BodyKind}

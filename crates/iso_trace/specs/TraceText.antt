@@ -1,5 +1,11 @@
 -- A trace in the format of Chrome (Trace Event Format): what each worker did, and what nodes waited
 -- for.
+--
+-- trace: The events of a run: a lane for each worker, a body from its begin until its end, critical
+-- or not, and each wait of a node for a key from its begin until its end (`trace_text`), with keys
+-- as JSON strings (`key_names`).
+-- Also in: `Names`.
+-- Standard: Trace Event Format (Chrome).
 use Rattle.std.specs.Prelude.{ℕ, zero, suc, ◌-◌, List, [], ◌∷◌, ◌++◌, Option, Some, None, Bool, cond, codes, length}
 use Rattle.std.specs.Fmt.{decimal}
 use Rattle.iso_critical.specs.Critical.{is_among}

@@ -1,4 +1,16 @@
 -- Who is in the way at each moment, and what waits that makes.
+--
+-- waits: Who is in a node's way at a moment: the lowest node that is entered, hasn't finished and
+-- conflicts with it (`holder`; `stayed`, `is_entered`). When a node is ready: its class is open,
+-- and the SAME_THREAD sibling that it has to let finish has finished (`ready`, `opened`,
+-- `earlier`). What it waits for from then until it is entered, moment by moment (`waited`): a
+-- single wait for each node and each time that it is in the way without a break (`waits`). Each is
+-- for the lowest key on which the two conflict (`key_of`, `contended_key`). What those of a node
+-- for one key add up to (`wait_for`, `added_up`), and so the waits of all nodes, one for each node
+-- and key that it waited for (`all_waits`). Whether single waits stand in turn (`AreInTurn`), who
+-- is waited for at a moment (`waited_for`), and what a wait for a key says of its single waits
+-- (`Covers`, `AddUpTo`).
+-- Also in: `Stays`, `Waits`, `ContendedKeys`, `AllWaits`, `Covers`, `Turns`.
 use Rattle.std.specs.Prelude.{ℕ, zero, suc, ◌+◌, ◌-◌, List, [], ◌∷◌, ◌++◌, Option, Some, None, Bool, ◌&&◌, ◌==◌, cond, min, nat_le, nat_lt}
 use Rattle.iso_waits.specs.declared.stay.Stay.{Stay}
 use Rattle.iso_waits.specs.declared.wait.Wait.{Wait}

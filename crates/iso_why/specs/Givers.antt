@@ -1,4 +1,7 @@
 -- Which nodes gave a node its locks.
+--
+-- who gave a lock: The nodes at or under the one that takes it whose effective marks declare the
+-- key in that access; the global key, those that ask for isolation (`gives`, `givers`).
 use Rattle.std.specs.Prelude.{ℕ, List, [], Option, Some, None, Bool, true, false, ◌==◌, cond, filter, slice_index_or}
 use Rattle.iso_model.specs.declared.access.Access.{Access}
 use Rattle.iso_model.specs.declared.access.Access.TheVariants.{Read, Write}

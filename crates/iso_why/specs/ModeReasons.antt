@@ -1,4 +1,9 @@
 -- Why a node has its execution mode, by the definition of modes (`iso_plan`).
+--
+-- reason for a mode: Parallel execution is off; else the nearest class around the node that takes a
+-- key for READ_WRITE, with the first such key (`forced_by`, `first_written`); else the nearest mark
+-- (`marked_by`); else the default (`reason`). What holds of each (`GivesMode`).
+-- Also in: `ReasonLaws`.
 use Rattle.std.specs.Prelude.{ℕ, ◌<◌, List, [], ◌∷◌, Option, Some, None, Bool, cond, length, ⊤}
 use Rattle.std.specs.Option.{is_some, option_map, option_or}
 use Rattle.iso_plan.specs.KeyTable.{keys}

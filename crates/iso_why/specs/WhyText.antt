@@ -1,4 +1,8 @@
 -- The lines of reasons below that of a node.
+--
+-- plan with reasons: Below the line of each node that of its mode and those of its locks
+-- (`why_text`, `mode_line`; `from_text`, `lock_line`; `plan_why`, `tests_why`).
+-- Also in: `PlanWhy`.
 use Rattle.std.specs.Prelude.{ℕ, List, [], ◌++◌, ◌==◌, cond, codes, slice_index_or}
 use Rattle.std.specs.List.{join_by}
 use Rattle.iso_plan.specs.KeyTable.{keys}
