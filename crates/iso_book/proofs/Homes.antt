@@ -27,7 +27,8 @@ module _ (t : TrayView) (tree : IsTree (tree_of t.plan)) (node : ℕ) where
   pub begins : (m : ℕ) → 0 < node → node < length t.plan.rows → m ≡ unwrap_or (parent_of (tree_of t.plan) node) 0 → IsOnWay t node m
   begins m pos h e = let a = above node m pos h e in record { within = a.1; rest = ap (λ (j : ℕ). holds_writers t (path (tree_of t.plan) j)) a.0 }
 
-  here : (at : ℕ) → 0 < at → holds_writers t (path (tree_of t.plan) at) ≡ ((not (takes_write (tree_of t.plan) at) || is_lent t.lent at) && holds_writers t (path (tree_of t.plan) (parent (tree_of t.plan) at)))
+  here : (at : ℕ) → 0 < at → holds_writers t (path (tree_of t.plan) at) ≡
+      ((not (takes_write (tree_of t.plan) at) || is_lent t.lent at) && holds_writers t (path (tree_of t.plan) (parent (tree_of t.plan) at)))
   here at pos = ap (holds_writers t) (path-step (tree_of t.plan) tree.below at pos)
 
   passed : (a b c : Bool) → (a && not b) ≡ false → ((not a || b) && c) ≡ c

@@ -119,7 +119,8 @@ module _ (plan : Planned) (world : Start) (n : ℕ) (s : RunNodes) where
   last-left kind b last fits (Begun a) e same =
       let test : is_of_test (x.head n) ≡ true = test-kind kind (row_at (tree_of plan) n).kind fits same last in
       subst (λ (t : Bool). IsFinishedBy (cond t (finishing scripts x n (scripts.test_result a) s)
-      (cond (ended_well scripts x n a s) (opening_left scripts x n a s) (barring scripts x n (frames_left scripts x n a s) (opening_left scripts x n a s))))) (sym test) (finished (scripts.test_result a))
+      (cond (ended_well scripts x n a s) (opening_left scripts x n a s) (barring scripts x n (frames_left scripts x n a s) (opening_left scripts x n a s))))) (sym test)
+      (finished (scripts.test_result a))
   last-left kind b last fits (Open fs) e same = absurd cc
   last-left kind b last fits (Barred fs) e same = absurd cc
   last-left kind b last fits (Closing fs a) e same = finished (scripts.class_result fs a)
@@ -132,11 +133,13 @@ module _ (plan : Planned) (world : Start) (n : ℕ) (s : RunNodes) where
     opened : IsOpenedBy o
     opened =
         let now : NodeStatus = open_or_barred (ended_well scripts x n b s) (frames_left scripts x n b s) in
-        let here : weight (phase_of (o.status n)) ≡ 2 = ap (λ (q : NodeStatus). weight (phase_of q)) (put_here n now s.status) ∙ open-weight (ended_well scripts x n b s) (frames_left scripts x n b s) in
+        let here : weight (phase_of (o.status n)) ≡ 2 = ap (λ (q : NodeStatus). weight (phase_of q)) (put_here n now s.status)
+        ∙ open-weight (ended_well scripts x n b s) (frames_left scripts x n b s) in
         record {
           held = λ m. unmoved is_held n now s.status (open-held (ended_well scripts x n b s) (frames_left scripts x n b s) ∙ sym held) m;
           weight_here = omega arith;
-          no_more = λ m ne. let same : weight (phase_of (o.status m)) ≡ weight (phase_of (s.status m)) = ap (λ (q : NodeStatus). weight (phase_of q)) (put_elsewhere m n now s.status ne) in omega arith;
+          no_more = λ m ne. let same : weight (phase_of (o.status m)) ≡ weight (phase_of (s.status m)) = ap (λ (q : NodeStatus). weight (phase_of q))
+              (put_elsewhere m n now s.status ne) in omega arith;
         }
 
     barred : IsOpenedBy (barring scripts x n (frames_left scripts x n b s) o)
@@ -160,7 +163,8 @@ module _ (plan : Planned) (world : Start) (n : ℕ) (s : RunNodes) where
   first-left b fits held (Begun a) e same =
       let class : is_of_test (x.head n) ≡ false = class-kind (row_at (tree_of plan) n).kind fits in
       subst (λ (t : Bool). IsOpenedBy (cond t (finishing scripts x n (scripts.test_result a) s)
-      (cond (ended_well scripts x n a s) (opening_left scripts x n a s) (barring scripts x n (frames_left scripts x n a s) (opening_left scripts x n a s))))) (sym class) (either a held (ended_well scripts x n a s))
+      (cond (ended_well scripts x n a s) (opening_left scripts x n a s) (barring scripts x n (frames_left scripts x n a s) (opening_left scripts x n a s))))) (sym class)
+      (either a held (ended_well scripts x n a s))
   first-left b fits held (Open fs) e same = absurd cc
   first-left b fits held (Barred fs) e same = absurd cc
   first-left b fits held (Closing fs a) e same = absurd cc

@@ -17,8 +17,16 @@ use Rattle.iso_standing.specs.contracts.standing.Standing.TheInside as standing_
 ruleset held = (plan_shared, world.the_sync, phase.the_send, event.the_send, as_row_send, crosses, sendable)
 
 pub standing_sent : (a : NamedLft) → IsSend (standing.the_row a)
-standing_sent a = search (declared_send (standing_inside.the_type a) (search held, (search held, (search held, (search held depth 12, (search held, (search held, (search (held_sent, held), tt))))))), sendable)
+standing_sent a = search (
+  declared_send (standing_inside.the_type a)
+      (search held, (search held, (search held, (search held depth 12, (search held, (search held, (search (held_sent, held), tt))))))),
+  sendable,
+)
 
 pub book_sent : (a : NamedLft) → IsSend (book.the_row a)
 book_sent a =
-    search (declared_send (book_inside.the_type a) (search held, (search held, (search held, (search (standing_sent, held), (search (vault_sent, held), (search (results_sent, held), (search held, tt))))))), sendable)
+    search (
+      declared_send (book_inside.the_type a)
+          (search held, (search held, (search held, (search (standing_sent, held), (search (vault_sent, held), (search (results_sent, held), (search held, tt))))))),
+      sendable,
+    )

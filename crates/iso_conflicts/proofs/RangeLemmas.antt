@@ -99,7 +99,8 @@ pub largest-step : (p : ℕ → Bool) (f : ℕ → ℕ) (len n : ℕ) → n < le
     → max most (largest (map f (filter p (range_with_len n (len - n))))) ≡ whole → max new (largest (map f (filter p (range_with_len (n + 1) (len - (n + 1)))))) ≡ whole
 largest-step p f len n h most add new whole e m k =
     let rest = range_with_len (n + 1) (len - (n + 1)) in
-    let next : largest (map f (filter p (range_with_len n (len - n)))) ≡ max (cond (p n) (f n) 0) (largest (map f (filter p rest))) = ap (λ ns. largest (map f (filter p ns))) (range-next len n h) ∙ largest-next p f n rest in
+    let next : largest (map f (filter p (range_with_len n (len - n)))) ≡ max (cond (p n) (f n) 0) (largest (map f (filter p rest))) = ap (λ ns. largest (map f (filter p ns)))
+    (range-next len n h) ∙ largest-next p f n rest in
     raised most add (cond (p n) (f n) 0) new (largest (map f (filter p (range_with_len n (len - n))))) (largest (map f (filter p rest))) whole e (m ∙ max-is most add) next k
 
 everywhere : (P : ℕ → Type 0) → ((n : ℕ) → P n) → (ns : List ℕ) → AllByRecursion P ns

@@ -168,7 +168,8 @@ module _ (c : CoreView) (v : Standing) (flat : FlatView) (bodies : List (Option 
   -- the body of a Step has not ended, that of a Leave has
   told-body : (w : ℕ) → c.stopped ≡ false → Why.no_worker scripts (suite_in c) c.workers state w ≡ None → Why.no_body scripts (suite_in c) c.workers state w ≡ None → BodyTold c bodies w (ended_at w)
   told-body w on less some =
-      body-by on w (state.busy w) refl (worker-of w less) (un-not (is_some (body_of scripts (suite_in c) c.workers state w)) (not_refused (not (is_some (body_of scripts (suite_in c) c.workers state w))) Why.NoBody some))
+      body-by on w (state.busy w) refl (worker-of w less)
+      (un-not (is_some (body_of scripts (suite_in c) c.workers state w)) (not_refused (not (is_some (body_of scripts (suite_in c) c.workers state w))) Why.NoBody some))
 
   found : (w : ℕ) (e : Bool) (t : BodyTold c bodies w e) → body_of scripts (suite_in c) c.workers state w ≡ Some (stage_of_body t.under.body)
   found w e t = ap (λ (o : Option ℕ). where_some o None (λ n. body_in (state.nodes.status n))) t.busy ∙ t.under.is.stage
@@ -180,7 +181,8 @@ module _ (c : CoreView) (v : Standing) (flat : FlatView) (bodies : List (Option 
   step-told w h =
       let t = none_applies (kinds scripts (suite_in c) c.workers state (E.Step w)) (accepted c (Code.Step w) h) in
       let b = told-body w (unstopped c (Code.Step w) h) t.1.0 t.1.1.0 in
-      with-end w false b (sym (ap (λ (o : Option Stage). where_some o false is_ended) (found w (ended_at w) b)) ∙ not_refused (where_some (body_of scripts (suite_in c) c.workers state w) false is_ended) Why.BodyEnded t.1.1.1.0)
+      with-end w false b (sym (ap (λ (o : Option Stage). where_some o false is_ended) (found w (ended_at w) b))
+      ∙ not_refused (where_some (body_of scripts (suite_in c) c.workers state w) false is_ended) Why.BodyEnded t.1.1.1.0)
 
   pub leave-told : (w : ℕ) → refusal_in c (Code.Leave w) ≡ None → BodyTold c bodies w true
   leave-told w h =

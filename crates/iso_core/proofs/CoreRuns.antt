@@ -54,10 +54,13 @@ module _ (c : CoreView) where
 
   -- what was stopped refuses every event
   pub refuses-all : (e : Event) → c.stopped ≡ true → refusal_in c e ≡ Some Why.Stopped
-  refuses-all (Code.Enter w n) h = first-is Why.Stopped (refuse c.stopped Why.Stopped) (tail-of (kinds scripts (suite_in c) c.workers (state_in c) (E.Enter w n))) (ap (λ (t : Bool). refuse t Why.Stopped) h)
+  refuses-all (Code.Enter w n) h = first-is Why.Stopped (refuse c.stopped Why.Stopped) (tail-of (kinds scripts (suite_in c) c.workers (state_in c) (E.Enter w n)))
+      (ap (λ (t : Bool). refuse t Why.Stopped) h)
   refuses-all (Code.Step w) h = first-is Why.Stopped (refuse c.stopped Why.Stopped) (tail-of (kinds scripts (suite_in c) c.workers (state_in c) (E.Step w))) (ap (λ (t : Bool). refuse t Why.Stopped) h)
-  refuses-all (Code.Leave w) h = first-is Why.Stopped (refuse c.stopped Why.Stopped) (tail-of (kinds scripts (suite_in c) c.workers (state_in c) (E.Leave w))) (ap (λ (t : Bool). refuse t Why.Stopped) h)
-  refuses-all (Code.Shut w n) h = first-is Why.Stopped (refuse c.stopped Why.Stopped) (tail-of (kinds scripts (suite_in c) c.workers (state_in c) (E.Shut w n))) (ap (λ (t : Bool). refuse t Why.Stopped) h)
+  refuses-all (Code.Leave w) h = first-is Why.Stopped (refuse c.stopped Why.Stopped) (tail-of (kinds scripts (suite_in c) c.workers (state_in c) (E.Leave w)))
+      (ap (λ (t : Bool). refuse t Why.Stopped) h)
+  refuses-all (Code.Shut w n) h = first-is Why.Stopped (refuse c.stopped Why.Stopped) (tail-of (kinds scripts (suite_in c) c.workers (state_in c) (E.Shut w n)))
+      (ap (λ (t : Bool). refuse t Why.Stopped) h)
 
   unstopped-by : (e : Event) → refusal_in c e ≡ None → (b : Bool) → c.stopped ≡ b → c.stopped ≡ false
   unstopped-by e h true t = let r = refuses-all e t in absurd cc

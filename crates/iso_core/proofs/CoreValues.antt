@@ -77,7 +77,8 @@ module _ (plan : Planned) (world : Start) where
   flat-last v n s kind b last fits values (Begun a) e same =
       let test : is_of_test (x.head n) ≡ true = test-kind kind (row_at (tree_of plan) n).kind fits same last in
       subst (λ (t : Bool). IsFlatOf v (cond t (finishing scripts x n (scripts.test_result a) s)
-      (cond (ended_well scripts x n a s) (opening_left scripts x n a s) (barring scripts x n (frames_left scripts x n a s) (opening_left scripts x n a s))))) (sym test) (values (scripts.test_result a))
+      (cond (ended_well scripts x n a s) (opening_left scripts x n a s) (barring scripts x n (frames_left scripts x n a s) (opening_left scripts x n a s))))) (sym test)
+      (values (scripts.test_result a))
   flat-last v n s kind b last fits values (Open fs) e same = absurd cc
   flat-last v n s kind b last fits values (Barred fs) e same = absurd cc
   flat-last v n s kind b last fits values (Closing fs a) e same = values (scripts.class_result fs a)
@@ -116,7 +117,8 @@ module _ (plan : Planned) (world : Start) where
   flat-first v n s b fits is held (Begun a) e same =
       let class : is_of_test (x.head n) ≡ false = class-kind (row_at (tree_of plan) n).kind fits in
       subst (λ (t : Bool). IsFlatOf v (cond t (finishing scripts x n (scripts.test_result a) s)
-      (cond (ended_well scripts x n a s) (opening_left scripts x n a s) (barring scripts x n (frames_left scripts x n a s) (opening_left scripts x n a s))))) (sym class) (flat-opening v n s a is held (ended_well scripts x n a s))
+      (cond (ended_well scripts x n a s) (opening_left scripts x n a s) (barring scripts x n (frames_left scripts x n a s) (opening_left scripts x n a s))))) (sym class)
+      (flat-opening v n s a is held (ended_well scripts x n a s))
   flat-first v n s b fits is held (Open fs) e same = absurd cc
   flat-first v n s b fits is held (Barred fs) e same = absurd cc
   flat-first v n s b fits is held (Closing fs a) e same = absurd cc

@@ -272,8 +272,14 @@ module _ (v : FlatView) (is : IsFlatMap v) (node : ℕ) (mark : SavepointView) (
   later-back inner n m apart e i g has (Some h) is_o =
       let old = (is.undoable n m e).later i g has in
       let within = within-of v.tray.values i old.now old.there in
-      let lower : n < node = inner n (ap is_some e) apart (record { key = key_at now_tree i; left = mark-writes v.tray n m i g (is.made n m e) has; right = mark-writes v.tray node mark i h made is_o }) in
-      record { now = h; there = restored-at mark.values v.tray.values i within ∙ ap (λ (o : Option History). option_or o (slot v.tray.values i)) is_o; later = is.nested n node m mark lower e at i g h has is_o }
+      let lower : n < node = inner n (ap is_some e) apart
+      (record { key = key_at now_tree i; left = mark-writes v.tray n m i g (is.made n m e) has; right = mark-writes v.tray node mark i h made is_o }) in
+      record {
+        now = h;
+        there = restored-at mark.values v.tray.values i within
+            ∙ ap (λ (o : Option History). option_or o (slot v.tray.values i)) is_o;
+        later = is.nested n node m mark lower e at i g h has is_o;
+      }
 
   other-undoable : IsInnermost v node → (n : ℕ) (m : SavepointView) → (n ≡ node → ⊥) → mark_at v.marks n ≡ Some m → CanUndo m (undone mark v.tray)
   other-undoable inner n m apart e = record {
@@ -315,7 +321,8 @@ module _ (v : FlatView) (is : IsFlatMap v) (node : ℕ) (mark : SavepointView) (
         ap (λ (p : Planned). is_writable (node_rights (tree_of p) node k)) made.plan ∙ sym (ap is_writable (chain-rights now_tree t v.tray.plan.settings (started v.tray.world) k node)) in
         ap (λ (x : SavepointView). flat (undone x v.tray) k) made.is
         ∙ ap (λ (m : Resources). m k) (back made.then v.tray node made.flat is.flat (sym made.plan) (sym made.world))
-        ∙ cond-same (is_writable (node_rights (tree_of made.then.plan) node k)) (may_write scripts (suite_at v.tray.plan v.tray.world) node k) (flat made.then k) (flat v.tray k) (s.saved node k) (s.flat k) right (saved-then k) (of.now k)
+        ∙ cond-same (is_writable (node_rights (tree_of made.then.plan) node k)) (may_write scripts (suite_at v.tray.plan v.tray.world) node k) (flat made.then k) (flat v.tray k)
+        (s.saved node k) (s.flat k) right (saved-then k) (of.now k)
 
     pub state-left : IsFlatOf (record { tray = undone mark v.tray; marks = less }) (E.finishing scripts (suite_at v.tray.plan v.tray.world) node r s)
     state-left =

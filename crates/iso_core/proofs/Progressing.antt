@@ -51,7 +51,8 @@ module _ (c : CoreView) (t : IsTree (tree_of c.plan)) (run : IsRun c) (off : c.s
       absurd (cc)
 
   pub rests : (w : ℕ) → w < c.workers → Refuses c (Code.Step w) → Refuses c (Code.Leave w) → is_at_work scripts (suite_in c) c.workers (state_in c) w ≡ false
-  rests w h step leave = rests_by w h step leave (where_some (body_of scripts (suite_in c) c.workers (state_in c) w) false is_ended) refl (is_at_work scripts (suite_in c) c.workers (state_in c) w) refl
+  rests w h step leave = rests_by w h step leave (where_some (body_of scripts (suite_in c) c.workers (state_in c) w) false is_ended) refl
+      (is_at_work scripts (suite_in c) c.workers (state_in c) w) refl
 
   module _ (none : NoneAtWork scripts (suite_in c) c.workers (state_in c)) where
     not_shut_by : (n : ℕ) → n < (suite_in c).nodes → (0 < n → Refuses c (shut_by_owner c n)) → (b : Bool) → may_be_shut scripts (suite_in c) c.workers (state_in c) n ≡ b → b ≡ false

@@ -119,7 +119,8 @@ module _ (i : Inside) (is : AreCore i) (seen : CoreView) (same : view_of i ≡ s
         let t = shut-told c i.standing i.flat i.bodies.items i.results is w n here in
         let less : w < length i.bodies.items = let fit = is.bodies_fit in let below = t.worker in omega arith in
         took (Code.Shut w n) h u i.flat given i.results
-        (shut c i.standing i.flat i.bodies.items i.results is w n u given here of taken (flat-shut i.plan.now i.world.now i.flat n state.nodes t.rests (is.flat_is on)) (length-set i.bodies.items w (Some b))
+        (shut c i.standing i.flat i.bodies.items i.results is w n u given here of taken (flat-shut i.plan.now i.world.now i.flat n state.nodes t.rests (is.flat_is on))
+        (length-set i.bodies.items w (Some b))
         (bodies (is.bodies_are on) less t.free t.rests
         (subst (λ (v : CoreView). IsUnderWay v.plan v.world n b (E.shutting scripts (suite_in v) n (state_in v).nodes)) (sym same) under))
         (results is.results_are t.rests))

@@ -54,7 +54,8 @@ by_looked true looked P d f = d.1 (f refl)
 by_looked false looked P d f = refl
 
 pub idle_by : (places : List Place) (held written : Marks) (over loose : Bool) (rounds w : ℕ) (seen : Option ℕ) (own alone others looked : Bool)
-    → Decides own (IsEmpty places (Own w)) → Decides alone (NothingOffered places held written (Worker w)) → Decides others (NothingOffered places held written Everyone) → Decides looked (seen ≡ Some rounds)
+    → Decides own (IsEmpty places (Own w)) → Decides alone (NothingOffered places held written (Worker w)) → Decides others (NothingOffered places held written Everyone)
+    → Decides looked (seen ≡ Some rounds)
     → Decides (not over && (own && (alone && (others && (not loose || looked))))) (HasNothing places held written over loose rounds w seen)
 idle_by places held written over loose rounds w seen own alone others looked down da dother dl = (
   λ e.

@@ -83,11 +83,13 @@ within workers places next ends clock i a m h = subst (λ (x : ℕ). m < x) (sym
 
 pub last_below : (workers : ℕ) (places : List Place) (next : List ℕ) (ends : List (Option Ends)) (clock i : ℕ)
     → AreLinked workers places next ends clock → i < length ends → LastBelow (get_or ends i None) (length next)
-last_below workers places next ends clock i a h = last_by places (mark places) (since places) (λ k. get_or next k 0) (i + 1) (length next) (get_or ends i None) (within workers places next ends clock i a) (a.kept i h)
+last_below workers places next ends clock i a h = last_by places (mark places) (since places) (λ k. get_or next k 0) (i + 1) (length next) (get_or ends i None)
+    (within workers places next ends clock i a) (a.kept i h)
 
 pub first_below : (workers : ℕ) (places : List Place) (next : List ℕ) (ends : List (Option Ends)) (clock i : ℕ)
     → AreLinked workers places next ends clock → i < length ends → FirstBelow (get_or ends i None) (length next)
-first_below workers places next ends clock i a h = first_by places (mark places) (since places) (λ k. get_or next k 0) (i + 1) (length next) (get_or ends i None) (within workers places next ends clock i a) (a.kept i h)
+first_below workers places next ends clock i a h = first_by places (mark places) (since places) (λ k. get_or next k 0) (i + 1) (length next) (get_or ends i None)
+    (within workers places next ends clock i a) (a.kept i h)
 
 pub stands_marked : (places : List Place) (l : Line) (n : ℕ) → StandsIn places l n → mark places n ≢ 0
 stands_marked places l n h z = let w : line_number l + 1 ≡ 0 = sym (ap mark_of h) ∙ z in omega arith

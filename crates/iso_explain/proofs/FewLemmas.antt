@@ -103,7 +103,8 @@ feeds-append [] t = omega arith
 feeds-append (b ∷ s) t = by (b == 10) (feeds-append s t)
   where
     by : (u : Bool) → length (filter (λ c. c == 10) (s ++ t)) ≡ length (filter (λ c. c == 10) s) + length (filter (λ c. c == 10) t)
-        → length (cond u (b ∷ filter (λ c. c == 10) (s ++ t)) (filter (λ c. c == 10) (s ++ t))) ≡ length (cond u (b ∷ filter (λ c. c == 10) s) (filter (λ c. c == 10) s)) + length (filter (λ c. c == 10) t)
+        → length (cond u (b ∷ filter (λ c. c == 10) (s ++ t)) (filter (λ c. c == 10) (s ++ t))) ≡ length (cond u (b ∷ filter (λ c. c == 10) s) (filter (λ c. c == 10) s)) + length
+        (filter (λ c. c == 10) t)
     by true h = omega (arith, h)
     by false h = h
 

@@ -423,7 +423,8 @@ notes_are_safe bytes told meant h k =
     let mend = mending_note (hint_of bytes told) meant (other_of bytes told) in
     safe-append (mend ++ first_note told.first ++ brace_note told) (bound_note told.fault.kind told.reason)
     (safe-append (mend ++ first_note told.first) (brace_note told)
-    (safe-append mend (first_note told.first) (mending_is_safe (hint_of bytes told) meant (other_of bytes told) (hint_is_safe bytes told) k (other_is_safe bytes told)) (first_is_safe told.first h.first))
+    (safe-append mend (first_note told.first) (mending_is_safe (hint_of bytes told) meant (other_of bytes told) (hint_is_safe bytes told) k (other_is_safe bytes told))
+    (first_is_safe told.first h.first))
     (brace_is_safe told h.brace))
     (bound_is_safe told.fault.kind told.reason)
 

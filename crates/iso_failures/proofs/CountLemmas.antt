@@ -86,5 +86,6 @@ module _ (tree : List Row) (outcome : ℕ → Outcome) where
   -- each test is one of four
   pub tests-of-four : (n : ℕ) → let all = counts_below tree outcome n in all.ok + all.skipped + all.not_ok + all.blocked ≡ all.tests
   tests-of-four n =
-      many-four (is_test_with tree outcome has_passed) (is_test_with tree outcome was_skipped) (is_test_with tree outcome has_failed) (is_test_with tree outcome was_blocked) (is_test_with tree outcome (λ v. true)) n
+      many-four (is_test_with tree outcome has_passed) (is_test_with tree outcome was_skipped) (is_test_with tree outcome has_failed) (is_test_with tree outcome was_blocked)
+      (is_test_with tree outcome (λ v. true)) n
       (λ m. four_of (is_test (row_at tree m).kind) (outcome m).verdict)

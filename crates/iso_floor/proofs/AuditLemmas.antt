@@ -266,11 +266,13 @@ pub list_marked : (h : List Event) (marks_before : List Bool) (before : Option �
 list_marked h marks_before before xs marks lowest highest r on high room next lists a =
     let within : r.number < length h = slice_get_within h r.number (Leave r.worker) next.0.0 in
     let inside : r.number < length marks = omega arith in
-    step_marked h (lists ++ xs ∷ []) (lists ++ (xs ++ r ∷ []) ∷ []) marks lowest (length lists) (length xs) r (one_more lists xs r) (on lists a) next.0 next.2 inside (highs lists xs highest r.number high next.1)
+    step_marked h (lists ++ xs ∷ []) (lists ++ (xs ++ r ∷ []) ∷ []) marks lowest (length lists) (length xs) r (one_more lists xs r) (on lists a) next.0 next.2 inside
+    (highs lists xs highest r.number high next.1)
 
 late : (h : List Event) (lists : List (List ReceiptView)) (xs : List ReceiptView) (r : ReceiptView) → HasAtLeast xs r.number → IsAstray h (lists ++ (xs ++ r ∷ []) ∷ []) r.number
 late h lists xs r a =
-    Late (length lists) a.place (length xs) a.receipt r (get_before xs a.place a.receipt a.there) (last_list lists (xs ++ r ∷ []) a.place ∙ get_push xs r a.place a.receipt a.there) (one_more lists xs r).added refl a.high
+    Late (length lists) a.place (length xs) a.receipt r (get_before xs a.place a.receipt a.there) (last_list lists (xs ++ r ∷ []) a.place ∙ get_push xs r a.place a.receipt a.there)
+    (one_more lists xs r).added refl a.high
 
 twice : (h : List Event) (lists : List (List ReceiptView)) (xs : List ReceiptView) (highest : Option ℕ) (r : ReceiptView) → IsHighest xs highest
     → IsAbove r.number highest → IsReceipted (lists ++ xs ∷ []) r.number → IsAstray h (lists ++ (xs ++ r ∷ []) ∷ []) r.number
@@ -301,7 +303,8 @@ astray_by h lists xs marks lowest highest r a high no_next =
 pub list_refused : (h : List Event) (marks_before : List Bool) (before : Option ℕ) (xs : List ReceiptView) (marks : List Bool) (lowest highest : Option ℕ) (r : ReceiptView)
     → GoesOnBy h marks_before before xs marks lowest → IsHighest xs highest → (IsNext h r highest marks → ⊥) → GoesOnBy h marks_before before (xs ++ r ∷ []) marks (Some (lower_of r.number lowest))
 list_refused h marks_before before xs marks lowest highest r on high no_next lists a =
-    step_lost h (lists ++ xs ∷ []) (lists ++ (xs ++ r ∷ []) ∷ []) marks lowest (length lists) (length xs) r (one_more lists xs r) (on lists a) (astray_by h lists xs marks lowest highest r (on lists a) high no_next)
+    step_lost h (lists ++ xs ∷ []) (lists ++ (xs ++ r ∷ []) ∷ []) marks lowest (length lists) (length xs) r (one_more lists xs r) (on lists a)
+    (astray_by h lists xs marks lowest highest r (on lists a) high no_next)
 
 nowhere : (s p : ℕ) (r : ReceiptView) → receipt_at [] s p ≡ Some r → ⊥
 nowhere s p r e = cc
@@ -369,7 +372,8 @@ lowest_is h lists marks (Some m) None a every = (Astray a.astray, λ n lt. in_or
 lowest_is h lists marks None (Some u) a first = (Missing first.0.0 first.0.1 (missing h lists marks None u a tt first.1), λ n lt. in_order h lists marks None n a tt (λ w e. first.2 n w lt e))
 lowest_is h lists marks (Some m) (Some u) a first =
     elim (cases_lt u m) [
-      | inl lt ↦ (let e : min u m ≡ u = omega arith in rw e (Missing first.0.0 first.0.1 (missing h lists marks (Some m) u a lt first.1), λ n l. in_order h lists marks (Some m) n a (omega arith) (λ w k. first.2 n w l k)))
+      | inl lt ↦ (let e : min u m ≡ u = omega arith in rw e
+          (Missing first.0.0 first.0.1 (missing h lists marks (Some m) u a lt first.1), λ n l. in_order h lists marks (Some m) n a (omega arith) (λ w k. first.2 n w l k)))
       | inr ge ↦ (let e : min u m ≡ m = omega arith in rw e (Astray a.astray, λ n l. in_order h lists marks (Some m) n a l (λ w k. first.2 n w (omega arith) k)))
     ]
 

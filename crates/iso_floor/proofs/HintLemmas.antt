@@ -87,7 +87,8 @@ module _ (tree : List Row) (held : List Bool) where
       }
 
   takers-same : (a : Access) (k : ℕ) → takers tree nodes a k ≡ takers tree held a k
-  takers-same a k = same-count (λ m. is_held nodes m && takes_in a k (locks tree m)) (λ m. is_held held m && takes_in a k (locks tree m)) (length tree) (λ m h. ap (λ (b : Bool). b && takes_in a k (locks tree m)) (held-at m h))
+  takers-same a k = same-count (λ m. is_held nodes m && takes_in a k (locks tree m)) (λ m. is_held held m && takes_in a k (locks tree m)) (length tree)
+      (λ m h. ap (λ (b : Bool). b && takes_in a k (locks tree m)) (held-at m h))
 
   excluded-same : (l : Lock) → l.key < length (keys tree) → excluded (use_of uses l.key) l ≡ is_excluded tree held l
   excluded-same l h =

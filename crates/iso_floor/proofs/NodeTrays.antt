@@ -173,7 +173,8 @@ module _ (plan : Planned) (start : Start) where
         record {
           tree = e.tree;
           within = omega (arith, below, less);
-          tray = subst (λ (x : TrayView). StandsAsOpened plan start (parent tr n) (parent tr n) x) (sym (home-is m b h d is be last he)) (home-stands plan start e.tree v w n e.inner e.within at.tray on aw);
+          tray = subst (λ (x : TrayView). StandsAsOpened plan start (parent tr n) (parent tr n) x) (sym (home-is m b h d is be last he))
+              (home-stands plan start e.tree v w n e.inner e.within at.tray on aw);
         }
 
     pub left-further : (m : SavepointView) (b h : TrayView) (d : DoneView) → m ≡ marked v n → b ≡ undone m w

@@ -34,8 +34,16 @@ module _ (a : NamedLft) (T : RattleType) (ground : Ghosts T.Denot) (sent : IsSen
   work_end_sent = declared_send (work_end.the_type a T ground) (search (as_row_send, seat_sent), (search parts, tt))
 
   pub desk_sent : IsSend (desk.the_row a T ground)
-  desk_sent = search (declared_send (desk_inside.the_type a T ground) (search parts, (search (option.the_send, parts) depth 12, (search parts, (search parts, (search parts, (search parts, tt)))))), sendable)
+  desk_sent = search (
+    declared_send (desk_inside.the_type a T ground)
+        (search parts, (search (option.the_send, parts) depth 12, (search parts, (search parts, (search parts, (search parts, tt)))))),
+    sendable,
+  )
 
   pub floor_shared : IsSync (floor.the_row a T ground)
   floor_shared =
-      search (declared_sync (floor_inside.the_type a T ground) (search parts, (search parts, (search parts, (search (desk_sent, parts), (search parts, (search parts depth 12, (search parts, tt))))))), sendable)
+      search (
+        declared_sync (floor_inside.the_type a T ground)
+            (search parts, (search parts, (search parts, (search (desk_sent, parts), (search parts, (search parts depth 12, (search parts, tt))))))),
+        sendable,
+      )

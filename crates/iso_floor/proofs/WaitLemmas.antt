@@ -118,7 +118,8 @@ refused-held b w n some none =
     (not_owner_of_parent scripts x v s w n) (earlier_sibling scripts x v s n) (lock_held scripts x v s n) none in
     let in_the_way = lowest_below (length b.plan.rows) (λ m. States.is_held (s.nodes.status m) && conflict (tree_of b.plan) m n) in
     let wrong : true ≡ false =
-    sym some ∙ ap is_some (sym (lowest-same (λ m. States.is_held (s.nodes.status m) && conflict (tree_of b.plan) m n) (is_in_the_way (tree_of b.plan) (is_held (held_nodes b)) n) (length b.plan.rows) at))
+    sym some ∙ ap is_some (sym (lowest-same (λ m. States.is_held (s.nodes.status m) && conflict (tree_of b.plan) m n) (is_in_the_way (tree_of b.plan) (is_held (held_nodes b)) n)
+    (length b.plan.rows) at))
     ∙ unmapped in_the_way held in
     absurd (cc)
 

@@ -33,7 +33,8 @@ put-words word (x ∷ xs) new e all =
     by (nat_lt new.distance x.distance) (nat_lt (distance word new.word.now) (distance word x.word.now)) (ap₂ nat_lt e all.0) (put-words word xs new e all.1)
   where
     by : (b d : Bool) → b ≡ d → map (λ n. n.word.now) (put_near xs new) ≡ put_by_distance word (map (λ n. n.word.now) xs) new.word.now
-        → map (λ n. n.word.now) (cond b (new ∷ x ∷ xs) (x ∷ put_near xs new)) ≡ cond d (new.word.now ∷ x.word.now ∷ map (λ n. n.word.now) xs) (x.word.now ∷ put_by_distance word (map (λ n. n.word.now) xs) new.word.now)
+        → map (λ n. n.word.now) (cond b (new ∷ x ∷ xs) (x ∷ put_near xs new)) ≡ cond d (new.word.now ∷ x.word.now ∷ map (λ n. n.word.now) xs)
+        (x.word.now ∷ put_by_distance word (map (λ n. n.word.now) xs) new.word.now)
     by true true same more = refl
     by false false same more = ap (λ (ws : List (List ℕ)). x.word.now ∷ ws) more
     by true false same more = absurd (cc)

@@ -159,7 +159,8 @@ module _ {H K V B F R : Type 0} (l : Language H K V B F R) (x : Suite H K V) (wo
         rests = is_true (is_at_rest (s.nodes.status n)) rests;
         class = class.1;
         children = λ o m lt nz p.
-            let none = no_number (lowest_below x.nodes (is_unfinished_child l x workers s n)) (second_false (is_open (s.nodes.status n)) (any_below x.nodes (is_unfinished_child l x workers s n)) left o) in
+            let none = no_number (lowest_below x.nodes (is_unfinished_child l x workers s n))
+            (second_false (is_open (s.nodes.status n)) (any_below x.nodes (is_unfinished_child l x workers s n)) left o) in
             last_of_three (not (is_root m)) (eqb (x.parent m) n) (is_finished (s.nodes.status m))
             (none_below x.nodes (is_unfinished_child l x workers s n) none m lt) (ap not (root_false m nz)) (eq-eqb (x.parent m) n p);
       }

@@ -201,7 +201,15 @@ forced m n k w = each (λ n. On shop m n → (m ≡ n → ⊥) → shop.is_same_
     (λ n on ne. refl) n
 
 pub shop_laws : SuiteLaws counting shop
-shop_laws = record { root = refl; path = path_of; below = below; write_takes = λ n k w. second_of_two (row_at n).is_writer (is_key (row_at n).lock k) w; conflicts = meet; covered = covered; forced = forced }
+shop_laws = record {
+  root = refl;
+  path = path_of;
+  below = below;
+  write_takes = λ n k w. second_of_two (row_at n).is_writer (is_key (row_at n).lock k) w;
+  conflicts = meet;
+  covered = covered;
+  forced = forced;
+}
 
 nearer : (hs : List Head) (b : Counter) (m : Content ℕ ℕ) → is_zero (turns_left b) ≡ false → turns_left (turn hs b m).body < turns_left b
 nearer hs (counter zero key seen w) m e = absurd cc

@@ -107,7 +107,8 @@ module _ {H K V B F R : Type 0} (l : Language H K V B F R) (x : Suite H K V) (pl
         (λ e. let now : l.begin (chain x n) (frames_of (s.nodes.status (x.parent n))) ≡ c = cc in ap ends.is_ready (sym now) ∙ ends.begins (chain x n) (frames_of (s.nodes.status (x.parent n))))
         (λ ne e. ready m c e)
     ready_event (Shut w n) ok ready m c =
-        on_put (λ (j : ℕ) (v : Status B F R). body_in v ≡ Some c → ends.is_ready c ≡ true) n (S.Closing (frames_of (s.nodes.status n)) (l.begin_closing (chain x n) (frames_of (s.nodes.status n)))) s.nodes.status m
+        on_put (λ (j : ℕ) (v : Status B F R). body_in v ≡ Some c → ends.is_ready c ≡ true) n
+        (S.Closing (frames_of (s.nodes.status n)) (l.begin_closing (chain x n) (frames_of (s.nodes.status n)))) s.nodes.status m
         (λ e. let now : l.begin_closing (chain x n) (frames_of (s.nodes.status n)) ≡ c = cc in ap ends.is_ready (sym now) ∙ ends.begins_closing (chain x n) (frames_of (s.nodes.status n)))
         (λ ne e. ready m c e)
     ready_event (Step w) ok ready m c = ready_step w (step_told l x workers s w ok) ready m c

@@ -107,7 +107,8 @@ root_unopened tree m f fs h =
     absurd (cc)
 
 opened_inner : (s : Subject) (o : Opened) → IsOpening s o → (n : ℕ) → n ≡ s.node → 0 < n
-opened_inner s o is zero e = absurd (root_unopened (tree_of s.plan) (started s.start) (own_frame s) (opening_of (enclosing s)).frames (ap (λ (i : ℕ). (opening (chain_classes (tree_of s.plan) i) (started s.start)).frames) e ∙ is.frames))
+opened_inner s o is zero e = absurd (root_unopened (tree_of s.plan) (started s.start) (own_frame s) (opening_of (enclosing s)).frames
+    (ap (λ (i : ℕ). (opening (chain_classes (tree_of s.plan) i) (started s.start)).frames) e ∙ is.frames))
 opened_inner s o is (suc n) e = omega arith
 
 -- a class that bars was opened ill

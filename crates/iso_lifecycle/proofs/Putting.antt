@@ -108,7 +108,8 @@ seen_with plan start es n (W.Tested o) k d due =
 seen_with plan start es n (W.Closed c) k d due =
     let e = entry_at es n in
     let x = entry_closed c e in
-    let here : (has_opened e && not (has_ended e)) ≡ true = ap (λ (b : Bool). b && not (has_ended e)) (sym (due_at has_opened es n)) ∙ ap (λ (b : Bool). slice_index_or (map has_opened es) n false && not b) (sym (due_at has_ended es n)) ∙ due in
+    let here : (has_opened e && not (has_ended e)) ≡ true = ap (λ (b : Bool). b && not (has_ended e)) (sym (due_at has_opened es n))
+    ∙ ap (λ (b : Bool). slice_index_or (map has_opened es) n false && not b) (sym (due_at has_ended es n)) ∙ due in
     same_view plan start (map has_opened (slice_set es n x)) (map has_ended (slice_set es n x)) (map has_opened es) (slice_set (map has_ended es) n true)
     (flag_left has_opened es n x (closed_opens c e))
     (flag_set has_ended es n x true (closed_ends c e here))
@@ -158,4 +159,5 @@ flags_none f (suc count) h = cc (flags_none f count h)
 -- nothing is seen of empty entries
 pub none-seen : (plan : Planned) (start : Start) (count : ℕ)
     → seen plan start (replicate count Empty) ≡ record { plan = plan; start = start; opened = replicate count false; ended = replicate count false }
-none-seen plan start count = same_view plan start (map has_opened (replicate count Empty)) (map has_ended (replicate count Empty)) (replicate count false) (replicate count false) (flags_none has_opened count refl) (flags_none has_ended count refl)
+none-seen plan start count = same_view plan start (map has_opened (replicate count Empty)) (map has_ended (replicate count Empty)) (replicate count false) (replicate count false)
+    (flags_none has_opened count refl) (flags_none has_ended count refl)

@@ -80,7 +80,8 @@ reader : (tree : List Row) (o : Option ℕ) (k : List ℕ) → reads tree o k �
 reader tree None k r = absurd (cc)
 reader tree (Some n) k r = record { node = n; is = refl; reads = r }
 
-module _ (tree : List Row) (b : IsBelow tree) (lent : List Bool) (values : Slots) (own : AreOwned tree false lent values) (n : ℕ) (k : List ℕ) (l : is_lent lent n ≡ true) (num : HasNumber tree k) where
+module _ (tree : List Row) (b : IsBelow tree) (lent : List Bool) (values : Slots) (own : AreOwned tree false lent values) (n : ℕ) (k : List ℕ) (l : is_lent lent n ≡ true)
+    (num : HasNumber tree k) where
   conflicts : (m j : ℕ) → is_writable (taken tree m k) ≡ true → is_read (taken tree j k) ≡ true → conflict tree m j ≡ true
   conflicts m j w r =
       let here : exclude (taken tree m (key_at tree num.number)) (taken tree j (key_at tree num.number)) ≡ true =

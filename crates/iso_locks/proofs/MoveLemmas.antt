@@ -40,9 +40,11 @@ pub moving-all : (there0 here0 : Slots) (ls : List Lock) (n : ℕ) (there here :
 moving-all there0 here0 ls n there here all m =
     let whole : take n ls ≡ ls = take_all n ls all in (
       column-from (λ i. cond (is_written ls i) None (slot there0 i)) there (length there0) m.there_fits
-          (λ i d h. let within : i < length there = rw m.there_fits h in get_or_default there i d None within ∙ m.there_is i ∙ ap (λ (xs : List Lock). cond (is_written xs i) None (slot there0 i)) whole),
+          (λ i d h. let within : i < length there = rw m.there_fits h in get_or_default there i d None within ∙ m.there_is i
+          ∙ ap (λ (xs : List Lock). cond (is_written xs i) None (slot there0 i)) whole),
       column-from (λ i. cond (is_written ls i) (option_or (slot there0 i) (slot here0 i)) (slot here0 i)) here (length here0) m.here_fits
-          (λ i d h. let within : i < length here = rw m.here_fits h in get_or_default here i d None within ∙ m.here_is i ∙ ap (λ (xs : List Lock). cond (is_written xs i) (option_or (slot there0 i) (slot here0 i)) (slot here0 i)) whole),
+          (λ i d h. let within : i < length here = rw m.here_fits h in get_or_default here i d None within ∙ m.here_is i
+          ∙ ap (λ (xs : List Lock). cond (is_written xs i) (option_or (slot there0 i) (slot here0 i)) (slot here0 i)) whole),
     )
 
 there_by : (e p b : Bool) (t0 now next : Option History) → now ≡ cond b None t0 → (p ≡ true → e ≡ true → next ≡ None)
@@ -86,13 +88,15 @@ moving-more there0 here0 ls n there here next_there next_here l within at in_the
       here_fits = ap length new_here ∙ cond-fits (is_write l) (set here l.key value) here (length-set here l.key value) ∙ m.here_fits;
       there_is = λ i.
           there_by (l.key == i) (is_write l) (is_written (take n ls) i) (slot there0 i) (slot there i) (slot next_there i) (m.there_is i)
-          (λ p e. ap (λ (xs : Slots). slot xs i) (new_there ∙ ap (λ (b : Bool). cond b (set there l.key None) there) p) ∙ ap (slot (set there l.key None)) (sym (eq_from l.key i e)) ∙ get_or-set_same there l.key None None in_there)
+          (λ p e. ap (λ (xs : Slots). slot xs i) (new_there ∙ ap (λ (b : Bool). cond b (set there l.key None) there) p) ∙ ap (slot (set there l.key None)) (sym (eq_from l.key i e))
+          ∙ get_or-set_same there l.key None None in_there)
           (λ p e. ap (λ (xs : Slots). slot xs i) (new_there ∙ ap (λ (b : Bool). cond b (set there l.key None) there) p) ∙ get_or-set_other there l.key i None None (apart l.key i e))
           (λ p. ap (λ (xs : Slots). slot xs i) (new_there ∙ ap (λ (b : Bool). cond b (set there l.key None) there) p))
           ∙ ap (λ (b : Bool). cond b None (slot there0 i)) (sym (written i));
       here_is = λ i.
           here_by (l.key == i) (is_write l) (is_written (take n ls) i) (slot there0 i) (slot here0 i) (slot there i) (slot here i) (slot next_here i) (m.there_is i) (m.here_is i)
-          (λ p e. ap (λ (xs : Slots). slot xs i) (new_here ∙ ap (λ (b : Bool). cond b (set here l.key value) here) p) ∙ ap (slot (set here l.key value)) (sym (eq_from l.key i e)) ∙ get_or-set_same here l.key value None in_here
+          (λ p e. ap (λ (xs : Slots). slot xs i) (new_here ∙ ap (λ (b : Bool). cond b (set here l.key value) here) p) ∙ ap (slot (set here l.key value)) (sym (eq_from l.key i e))
+          ∙ get_or-set_same here l.key value None in_here
           ∙ ap (λ j. option_or (slot there j) (slot here j)) (eq_from l.key i e))
           (λ p e. ap (λ (xs : Slots). slot xs i) (new_here ∙ ap (λ (b : Bool). cond b (set here l.key value) here) p) ∙ get_or-set_other here l.key i value None (apart l.key i e))
           (λ p. ap (λ (xs : Slots). slot xs i) (new_here ∙ ap (λ (b : Bool). cond b (set here l.key value) here) p))

@@ -48,11 +48,13 @@ look-value tree world lent values k i h ask e is =
 -- what is looked at where the tray has no value
 pub look-start : (tree : List Row) (world : Start) (lent : List Bool) (values : Slots) (starts : List Starting) (k : List ℕ) (i : ℕ) (s : Starting) (ask : Ask) (kind : Kind)
     → starts ≡ map (start_at world) (keys tree)
-    → number_of tree k ≡ Some i → slot values i ≡ None → s ≡ get_or starts i s → HasKind (resources tree world lent values k) kind → answered (Some s.value) ask ≡ answered (resources tree world lent values k) ask
+    → number_of tree k ≡ Some i → slot values i ≡ None → s ≡ get_or starts i s → HasKind (resources tree world lent values k) kind
+    → answered (Some s.value) ask ≡ answered (resources tree world lent values k) ask
 look-start tree world lent values starts k i s ask kind all e none is has =
     let all_keys = keys tree in
     let within : i < length all_keys = number-within all_keys k (length all_keys) i e in
-    let at : resources tree world lent values k ≡ seen None (is_open tree lent k) (starting_value_in world k) = ap (seen_at tree world lent values k) e ∙ ap (λ (o : Option History). seen o (is_open tree lent k) (starting_value_in world k)) none in
+    let at : resources tree world lent values k ≡ seen None (is_open tree lent k) (starting_value_in world k) = ap (seen_at tree world lent values k) e
+    ∙ ap (λ (o : Option History). seen o (is_open tree lent k) (starting_value_in world k)) none in
     let P : Option Resource → Type 0 = λ v. HasKind v kind in
     let start : resources tree world lent values k ≡ Some (starting_value_in world k) = at ∙ open_by (is_open tree lent k) (starting_value_in world k) kind (subst P at has) in
     let key : get_or all_keys i [] ≡ k = number-spells all_keys k (length all_keys) i e in
@@ -102,7 +104,8 @@ content-at tree world lent values next k q i h change (Some j) at at_q is within
     let text : q ≡ k = (bytes_eq-Decides q k).0 same in
     let number : Some j ≡ Some i = sym at_q ∙ ap (number_of tree) text ∙ at in
     let place : j ≡ i = cc in
-    let written : slot next j ≡ Some (after change h) = ap (λ (vs : Slots). slot vs j) new ∙ ap (λ n. get_or (set values i (Some (after change h))) n None) place ∙ get_or-set_same values i (Some (after change h)) None within in
+    let written : slot next j ≡ Some (after change h) = ap (λ (vs : Slots). slot vs j) new ∙ ap (λ n. get_or (set values i (Some (after change h))) n None) place
+    ∙ get_or-set_same values i (Some (after change h)) None within in
     let before : slot values j ≡ Some h = ap (slot values) place ∙ is in
     ap (λ (x : Option History). seen x shown start) written ∙ sym (ap (λ (x : Option History). option_map (changed change) (seen x shown start)) before))
     (λ apart.

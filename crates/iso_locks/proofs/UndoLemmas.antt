@@ -27,7 +27,8 @@ undoing-none marks slots e = record {
 
 pub undoing-all : (marks0 slots0 slots : Slots) → Undoing marks0 slots0 [] slots → slots ≡ column (λ i. option_or (slot marks0 i) (slot slots0 i)) (length slots0)
 undoing-all marks0 slots0 slots u =
-    column-from (λ i. option_or (slot marks0 i) (slot slots0 i)) slots (length slots0) u.fits (λ i d h. let within : i < length slots = rw u.fits h in get_or_default slots i d None within ∙ u.after i (omega arith) h)
+    column-from (λ i. option_or (slot marks0 i) (slot slots0 i)) slots (length slots0) u.fits
+    (λ i d h. let within : i < length slots = rw u.fits h in get_or_default slots i d None within ∙ u.after i (omega arith) h)
 
 -- the mark that is taken from the end is the one of its slot
 pub popped-mark : (marks0 slots0 marks slots rest : Slots) (x : Option History) → Undoing marks0 slots0 marks slots → marks ≡ rest ++ x ∷ [] → slot marks0 (length rest) ≡ x

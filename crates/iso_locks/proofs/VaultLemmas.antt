@@ -153,7 +153,8 @@ lent-to t given home values n kept free count holds fresh =
           let stored : i < length values = omega arith in
           let held = some_if (slot values i) (home-for (record { plan = t.plan; world = t.world; lent = given; home = home }) values n i kept free w stored) in
           let is : slot (column f (length t.values)) i ≡ Some held.0 =
-          column_slot f (length t.values) i inside ∙ ap (λ (b : Bool). cond b (option_or (slot values i) (slot t.values i)) (slot t.values i)) w ∙ ap (λ (o : Option History). option_or o (slot t.values i)) held.1 in
+          column_slot f (length t.values) i inside ∙ ap (λ (b : Bool). cond b (option_or (slot values i) (slot t.values i)) (slot t.values i)) w
+          ∙ ap (λ (o : Option History). option_or o (slot t.values i)) held.1 in
           ap (option_map (λ (g : History). g.now)) is ∙ ap (λ (r : Resource). Some r) (kept.at_start i held.0 held.1);
       others = λ i w. elim (cases_lt i (length t.values)) [
         | inl inside ↦ column_slot f (length t.values) i inside ∙ ap (λ (b : Bool). cond b (option_or (slot values i) (slot t.values i)) (slot t.values i)) w
@@ -197,13 +198,15 @@ back-vault plan world given values there n kept starts =
       at_start = λ i h e. elim (cases_lt i (length values)) [
         | inl inside ↦
             let within : i < length (keys tree) = omega arith in
-            back_by (is_written ls i) (slot there i) (slot values i) h (starting_value_in world (key_at tree i)) (sym (column_slot f (length values) i inside) ∙ e) (starts i within) (λ w at. kept.at_start i h at)
+            back_by (is_written ls i) (slot there i) (slot values i) h (starting_value_in world (key_at tree i)) (sym (column_slot f (length values) i inside) ∙ e) (starts i within)
+            (λ w at. kept.at_start i h at)
         | inr past ↦ absurd (let nothing : None ≡ Some h = sym (past_slot f (length values) i past) ∙ e in cc)
       ];
       away = λ i less e.
           let inside : i < length values = omega arith in
           let within : i < length (keys tree) = omega arith in
-          let parts = none_back (is_written ls i) (slot there i) (slot values i) (sym (column_slot f (length values) i inside) ∙ e) (λ w. some_of_value (slot there i) (starting_value_in world (key_at tree i)) (starts i within w)) in
+          let parts = none_back (is_written ls i) (slot there i) (slot values i) (sym (column_slot f (length values) i inside) ∙ e)
+          (λ w. some_of_value (slot there i) (starting_value_in world (key_at tree i)) (starts i within w)) in
           let old = kept.away i inside parts.1 in
           let other : old.node ≢ n = λ same.
           let clash : true ≡ false = sym old.writes ∙ ap (λ m. is_written (locks tree m) i) same ∙ parts.0 in

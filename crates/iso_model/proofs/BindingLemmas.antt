@@ -158,11 +158,13 @@ take-in-own ls own outer n counted h = sym (take-behind (in_layers ls) own n (n 
 pub take-layers : (ls : Layers) (own : Bindings) (n i : ℕ) → length (in_layers (take i ls)) + 0 ≡ n → in_layers (take i ls) ++ [] ≡ take n (in_layers ls ++ own)
 take-layers ls own n i at =
     append-nil (in_layers (take i ls))
-    ∙ sym (ap (take n) (ap (λ (bs : Bindings). bs ++ own) (split-layers ls i) ∙ append_assoc (in_layers (take i ls)) (in_layers (drop i ls)) own) ∙ take_at (in_layers (take i ls)) (in_layers (drop i ls) ++ own) n (omega (arith, at)))
+    ∙ sym (ap (take n) (ap (λ (bs : Bindings). bs ++ own) (split-layers ls i) ∙ append_assoc (in_layers (take i ls)) (in_layers (drop i ls)) own)
+    ∙ take_at (in_layers (take i ls)) (in_layers (drop i ls) ++ own) n (omega (arith, at)))
 
 pub drop-layers : (ls : Layers) (own : Bindings) (n i : ℕ) → length (in_layers (take i ls)) + 0 ≡ n → in_layers (drop i ls) ++ own ≡ drop n (in_layers ls ++ own)
 drop-layers ls own n i at =
-    sym (ap (drop n) (ap (λ (bs : Bindings). bs ++ own) (split-layers ls i) ∙ append_assoc (in_layers (take i ls)) (in_layers (drop i ls)) own) ∙ drop_at (in_layers (take i ls)) (in_layers (drop i ls) ++ own) n (omega (arith, at)))
+    sym (ap (drop n) (ap (λ (bs : Bindings). bs ++ own) (split-layers ls i) ∙ append_assoc (in_layers (take i ls)) (in_layers (drop i ls)) own)
+    ∙ drop_at (in_layers (take i ls)) (in_layers (drop i ls) ++ own) n (omega (arith, at)))
 
 pub length-layers : (ls : Layers) (i : ℕ) → length (in_layers ls) ≡ length (in_layers (take i ls)) + length (in_layers (drop i ls))
 length-layers ls i = ap (λ (bs : Bindings). length bs) (split-layers ls i) ∙ length-append (in_layers (take i ls)) (in_layers (drop i ls))

@@ -37,7 +37,8 @@ job-done : (r : Rights) (j : Job) (a : Account) (m : Resources)
 job-done r j a m =
     let env = job_environment j a in
     let b = beside_job j a in
-    ap (λ (s : State). body_at (record { names = s.here.env.names ++ b.unseen; printed = s.here.env.printed; lines = b.lines ++ s.here.lines; endings = b.endings ++ s.here.ending ∷ [] }) s.resources) (block-finished r j.acts env m)
+    ap (λ (s : State). body_at (record { names = s.here.env.names ++ b.unseen; printed = s.here.env.printed; lines = b.lines ++ s.here.lines; endings = b.endings ++ s.here.ending ∷ [] })
+    s.resources) (block-finished r j.acts env m)
 
 -- jobs that begin with an account come to these jobs
 abbrev Come : Rights → List Job → Type 0

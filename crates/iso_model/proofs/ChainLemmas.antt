@@ -30,7 +30,8 @@ marks_of-outermost c cs k known =
 
 -- one class of a list, outermost first
 pub marks_of-next : (cs : List (Arc ClassHead Global)) (i : ℕ) (c : Arc ClassHead Global) (k : List ℕ) (known : Option Access) → i < length cs → c ≡ slice_index_or cs i c
-    → strongest (rights_of (marks_of (innermost_first (drop (i + 1) cs))) k) (strongest (rights_of (arc_value c).marks.items k) known) ≡ strongest (rights_of (marks_of (innermost_first (drop i cs))) k) known
+    → strongest (rights_of (marks_of (innermost_first (drop (i + 1) cs))) k) (strongest (rights_of (arc_value c).marks.items k) known) ≡ strongest
+    (rights_of (marks_of (innermost_first (drop i cs))) k) known
 marks_of-next cs i c k known h e =
     let next : drop i cs ≡ c ∷ drop (i + 1) cs = rw add-one (drop-cons cs i c h ∙ ap (λ (d : Arc ClassHead Global). d ∷ drop (suc i) cs) (sym e)) in
     sym (marks_of-outermost c (drop (i + 1) cs) k known) ∙ ap (λ (ds : List (Arc ClassHead Global)). strongest (rights_of (marks_of (innermost_first ds)) k) known) (sym next)

@@ -84,7 +84,8 @@ module _ (k : List ℕ) where
     before_each-untouched : (cs : List ClassHead) (b : Body) → (before_each r cs b).resources k ≡ b.resources k
     before_each-untouched [] b = refl
     before_each-untouched (c ∷ cs) b =
-        where_well-untouched (block_of_test r (words_of (c ∷ cs) BeforeEach) (c ∷ cs) c.before_each) (block_of_test-untouched (words_of (c ∷ cs) BeforeEach) (c ∷ cs) c.before_each) (before_each r cs b)
+        where_well-untouched (block_of_test r (words_of (c ∷ cs) BeforeEach) (c ∷ cs) c.before_each) (block_of_test-untouched (words_of (c ∷ cs) BeforeEach) (c ∷ cs) c.before_each)
+        (before_each r cs b)
         ∙ before_each-untouched cs b
 
     after_each-untouched : (cs : List ClassHead) (b : Body) → (after_each r cs b).resources k ≡ b.resources k
@@ -112,14 +113,16 @@ module _ (r : Rights) where
   lifecycle-alike : (d : Option (List ℕ)) (q : Rights) → LooksWithin q r → (acts : Acts) (env : List Frame → Environment) (o p : Opening)
       → AlikeOpenings r o p → Alike r (block_unless d q acts (env o.frames) o.resources) (block_unless d q acts (env p.frames) p.resources)
   lifecycle-alike d q within acts env o p both =
-      subst (λ (fs : List Frame). Alike r (block_unless d q acts (env o.frames) o.resources) (block_unless d q acts (env fs) p.resources)) both.frames (unless-within d q r within acts (env o.frames) o.resources p.resources both.resources)
+      subst (λ (fs : List Frame). Alike r (block_unless d q acts (env o.frames) o.resources) (block_unless d q acts (env fs) p.resources)) both.frames
+      (unless-within d q r within acts (env o.frames) o.resources p.resources both.resources)
 
   pub before_all-alike : (c : ClassHead) (cs : List ClassHead) → LooksWithin (class_rights (c ∷ cs)) r → (o p : Opening) → AlikeOpenings r o p → Alike r (before_all c cs o) (before_all c cs p)
   before_all-alike c cs within o p both =
       lifecycle-alike c.disabled (class_rights (c ∷ cs)) within c.before_all (λ fs. environment (statics_of fs ++ at_literals Static c.statics) 0 (words_of (c ∷ cs) BeforeAll)) o p both
 
   pub after_all-alike : (c : ClassHead) (cs : List ClassHead) → LooksWithin (class_rights (c ∷ cs)) r → (o p : Opening) → AlikeOpenings r o p → Alike r (after_all c cs o) (after_all c cs p)
-  after_all-alike c cs within o p both = lifecycle-alike None (class_rights (c ∷ cs)) within (acts_unless c.disabled c.after_all) (λ fs. environment (statics_of fs) 0 (words_of (c ∷ cs) AfterAll)) o p both
+  after_all-alike c cs within o p both = lifecycle-alike None (class_rights (c ∷ cs)) within (acts_unless c.disabled c.after_all)
+      (λ fs. environment (statics_of fs) 0 (words_of (c ∷ cs) AfterAll)) o p both
 
   pub opened-alike : (o p : Opening) (s t : State) → AlikeOpenings r o p → Alike r s t → AlikeOpenings r (opened o s) (opened p t)
   opened-alike o p s t both after = record {
@@ -160,7 +163,8 @@ module _ (r : Rights) where
 
   where_well-alike : (f : Body → Body) → ((b d : Body) → AlikeBodies r b d → AlikeBodies r (f b) (f d)) → (b d : Body) → AlikeBodies r b d → AlikeBodies r (where_well f b) (where_well f d)
   where_well-alike f each b d both =
-      subst (λ (t : Bool). AlikeBodies r (cond (list_all is_well b.endings) (f b) b) (cond t (f d) d)) (ap (list_all is_well) both.endings) (choice-alike (list_all is_well b.endings) (f b) (f d) b d (each b d both) both)
+      subst (λ (t : Bool). AlikeBodies r (cond (list_all is_well b.endings) (f b) b) (cond t (f d) d)) (ap (list_all is_well) both.endings)
+      (choice-alike (list_all is_well b.endings) (f b) (f d) b d (each b d both) both)
 
   before_each-alike : (cs : List ClassHead) (b d : Body) → AlikeBodies r b d → AlikeBodies r (before_each r cs b) (before_each r cs d)
   before_each-alike [] b d both = both
@@ -184,7 +188,8 @@ blocks_unless-alike r (Some reason) f b d both each = record { names = both.name
 pub test-alike : (t : TestHead) (cs : List ClassHead) (o p : Opening) → AlikeOpenings (test_rights t cs) o p → AlikeBodies (test_rights t cs) (test t cs o) (test t cs p)
 test-alike t cs o p both =
     let r = test_rights t cs in
-    let begun : AlikeBodies r (begun_test cs o) (begun_test cs p) = record { names = ap (λ (fs : List Frame). (begun_test cs (record o { frames = fs })).names) both.frames; resources = both.resources; printed = refl; lines = refl; endings = refl } in
+    let begun : AlikeBodies r (begun_test cs o) (begun_test cs p) =
+    record { names = ap (λ (fs : List Frame). (begun_test cs (record o { frames = fs })).names) both.frames; resources = both.resources; printed = refl; lines = refl; endings = refl } in
     blocks_unless-alike r t.disabled (blocks_of_test t cs) _ _ begun (blocks-alike t cs _ _ begun)
 
 -- the outcomes are equal

@@ -124,8 +124,11 @@ module _ (r : Rights) where
   count : (k : ℕ) (ps : List Piece) (s : State) → s.here.env.steps ≡ k → is_live s ≡ true → is_ready ps ≡ true → (t : ℕ) × Counted (machine ps s) t
   count k [] s e live ready = (0, counted_none s (live-past s.here.ending live))
   count k (rest j no_acts ∷ ps) s e live ready = absurd (true≢false (sym ready))
-  count zero (rest j (act row a acts) ∷ ps) s e live ready =
-      (1, counted_past (machine (rest j (act row a acts) ∷ ps) s) row live refl e (step-live r (machine (rest j (act row a acts) ∷ ps) s) live ∙ ap (λ n. step_at r (rest j (act row a acts) ∷ ps) n s) e))
+  count zero (rest j (act row a acts) ∷ ps) s e live ready = (
+    1,
+    counted_past (machine (rest j (act row a acts) ∷ ps) s) row live refl e
+        (step-live r (machine (rest j (act row a acts) ∷ ps) s) live ∙ ap (λ n. step_at r (rest j (act row a acts) ∷ ps) n s) e),
+  )
   count (suc k) (rest j (act row a acts) ∷ ps) s e live ready =
       let m : Machine = machine (rest j (act row a acts) ∷ ps) s in
       let here : step_at r (rest j (act row a acts) ∷ ps) (suc k) s ≡ step r m = ap (λ n. step_at r (rest j (act row a acts) ∷ ps) n s) (sym e) ∙ sym (step-live r m live) in

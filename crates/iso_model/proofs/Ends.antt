@@ -93,7 +93,12 @@ step_at-less r (rest k (act row a acts) ∷ ps) (suc n) s e first some =
 step_at-less r (turning row zero a ∷ ps) n s e first some = absurd (true≢false (sym first))
 step_at-less r (turning row (suc t) a ∷ ps) zero s e first some = omega arith
 step_at-less r (turning row (suc t) a ∷ ps) (suc n) s e first some =
-    omega (arith, next-steps (rest (length s.here.env.names) a ∷ turning row t a ∷ ps) (with_steps n s.here), some_left-le (next_point (rest (length s.here.env.names) a ∷ turning row t a ∷ ps) (with_steps n s.here)).pieces)
+    omega (
+      arith,
+      next-steps (rest (length s.here.env.names) a ∷ turning row t a ∷ ps) (with_steps n s.here),
+      some_left-le
+          (next_point (rest (length s.here.env.names) a ∷ turning row t a ∷ ps) (with_steps n s.here)).pieces,
+    )
 
 -- where the block goes on, a step does the first piece
 pub step-live : (r : Rights) (m : Machine) → is_live m.state ≡ true → step r m ≡ step_at r m.pieces m.state.here.env.steps m.state

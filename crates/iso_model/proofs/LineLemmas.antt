@@ -124,7 +124,8 @@ first_line : (bs : List ℕ) → first_end bs < length bs → lines_of bs ≡ ta
 first_line [] h = absurd (omega (arith, h))
 first_line (b ∷ bs) h =
     let n = first_end bs in
-    elim (is_end b) as (λ x. cond x 0 (suc n) < suc (length bs) → cond x ([] ∷ lines_of bs) (onto_first b (lines_of bs)) ≡ take (cond x 0 (suc n)) (b ∷ bs) ∷ lines_of (drop (suc (cond x 0 (suc n))) (b ∷ bs))) [
+    elim (is_end b) as (λ x. cond x 0 (suc n) < suc (length bs)
+    → cond x ([] ∷ lines_of bs) (onto_first b (lines_of bs)) ≡ take (cond x 0 (suc n)) (b ∷ bs) ∷ lines_of (drop (suc (cond x 0 (suc n))) (b ∷ bs))) [
       | true ↦ λ k. refl
       | false ↦ λ k. let less : n < length bs = omega arith in ap (onto_first b) (first_line bs less)
     ] h

@@ -47,13 +47,15 @@ later c v o false false apart = refl
 -- the slot's value changed, at a first slot that may have the key
 changed_in : (e : List ℕ × Resource) (es : Slots) (k : List ℕ) (c : Change) (d : List ℕ × Resource) (q : List ℕ) (b : Bool) → bytes_eq k e.0 ≡ b
     → value_at (slice_set es (slot_of es k) ((slice_index_or es (slot_of es k) d).0, changed c (slice_index_or es (slot_of es k) d).1)) q ≡ changed_at (value_at es) k c q
-    → value_at (slice_set (e ∷ es) (cond b 0 (suc (slot_of es k))) ((slice_index_or (e ∷ es) (cond b 0 (suc (slot_of es k))) d).0, changed c (slice_index_or (e ∷ es) (cond b 0 (suc (slot_of es k))) d).1)) q ≡ changed_at (value_at (e ∷ es)) k c q
+    → value_at (slice_set (e ∷ es) (cond b 0 (suc (slot_of es k)))
+    ((slice_index_or (e ∷ es) (cond b 0 (suc (slot_of es k))) d).0, changed c (slice_index_or (e ∷ es) (cond b 0 (suc (slot_of es k))) d).1)) q ≡ changed_at (value_at (e ∷ es)) k c q
 changed_in e es k c d q true is rest =
     here c e.1 (value_at es q) (bytes_eq q e.0)
     ∙ ap (λ (x : List ℕ). cond (bytes_eq q x) (option_map (changed c) (value_at (e ∷ es) q)) (value_at (e ∷ es) q)) (sym (same_text k e.0 is))
 changed_in e es k c d q false is rest =
     ap (λ (o : Option Resource). cond (bytes_eq q e.0) (Some e.1) o) rest
-    ∙ later c e.1 (value_at es q) (bytes_eq q e.0) (bytes_eq q k) (λ is_e is_k. true≢false (sym (text_same k) ∙ ap (λ (x : List ℕ). bytes_eq k x) (sym (same_text q k is_k) ∙ same_text q e.0 is_e) ∙ is))
+    ∙ later c e.1 (value_at es q) (bytes_eq q e.0) (bytes_eq q k)
+    (λ is_e is_k. true≢false (sym (text_same k) ∙ ap (λ (x : List ℕ). bytes_eq k x) (sym (same_text q k is_k) ∙ same_text q e.0 is_e) ∙ is))
 
 pub changed_slot : (es : Slots) (k : List ℕ) (c : Change) (d : List ℕ × Resource) (q : List ℕ)
     → value_at (slice_set es (slot_of es k) ((slice_index_or es (slot_of es k) d).0, changed c (slice_index_or es (slot_of es k) d).1)) q ≡ changed_at (value_at es) k c q

@@ -72,12 +72,14 @@ module _ (r : Rights) where
   appending-alike : (row : ℕ) (p t : List ℕ) (l : Local) (m n : Resources) → EqualAt r m n → is_writable (r (file_key p)) ≡ true
       → Alike r (appending row p t (text_in (m (file_key p))) (at l m)) (appending row p t (text_in (n (file_key p))) (at l n))
   appending-alike row p t l m n agree writable =
-      subst (λ (o : Option (List ℕ)). Alike r (appending row p t (text_in (m (file_key p))) (at l m)) (appending row p t o (at l n))) (same_text m n agree p writable) (appending-alike_at row p t (text_in (m (file_key p))) l m n agree)
+      subst (λ (o : Option (List ℕ)). Alike r (appending row p t (text_in (m (file_key p))) (at l m)) (appending row p t o (at l n))) (same_text m n agree p writable)
+      (appending-alike_at row p t (text_in (m (file_key p))) l m n agree)
 
   deleting-alike : (row : ℕ) (p : List ℕ) (l : Local) (m n : Resources) → EqualAt r m n → is_writable (r (file_key p)) ≡ true
       → Alike r (deleting row p (text_in (m (file_key p))) (at l m)) (deleting row p (text_in (n (file_key p))) (at l n))
   deleting-alike row p l m n agree writable =
-      subst (λ (o : Option (List ℕ)). Alike r (deleting row p (text_in (m (file_key p))) (at l m)) (deleting row p o (at l n))) (same_text m n agree p writable) (deleting-alike_at row p (text_in (m (file_key p))) l m n agree)
+      subst (λ (o : Option (List ℕ)). Alike r (deleting row p (text_in (m (file_key p))) (at l m)) (deleting row p o (at l n))) (same_text m n agree p writable)
+      (deleting-alike_at row p (text_in (m (file_key p))) l m n agree)
 
   two_texts : (names : List _) (m n : Resources) → EqualAt r m n → (a b : Term)
       → then (evaluated names m r a) (λ x. then (evaluated names m r b) (as_texts x)) ≡ then (evaluated names n r a) (λ x. then (evaluated names n r b) (as_texts x))
@@ -85,19 +87,57 @@ module _ (r : Rights) where
 
   -- a statement without a body does the same over both
   pub performed-same : (row : ℕ) (p : Plain) → Same (performed r row p) (performed r row p)
-  performed-same row (let_name x e) = record { from = λ l m n agree. upon-alike row _ _ (evaluated-agree l.env.names r m n agree e) l m n agree _ _ (λ d. cond-alike (is_some (binding_of l.env.names x)) _ _ _ _ (record { here = refl; resources = agree }) (record { here = refl; resources = agree })) }
-  performed-same row (assign x e) = record { from = λ l m n agree. upon-alike row _ _ (ap (λ z. then z (assigned l.env.names x)) (evaluated-agree l.env.names r m n agree e)) l m n agree _ _ (λ names. record { here = refl; resources = agree }) }
-  performed-same row (print e) = record { from = λ l m n agree. upon-alike row _ _ (evaluated-agree l.env.names r m n agree e) l m n agree _ _ (λ d. cond-alike (has_room l (text_of d)) _ _ _ _ (record { here = refl; resources = agree }) (record { here = refl; resources = agree })) }
-  performed-same row (assert e) = record { from = λ l m n agree. upon-alike row _ _ (ap (λ z. then z as_flag) (evaluated-agree l.env.names r m n agree e)) l m n agree _ _ (λ holds. cond-alike holds _ _ _ _ (record { here = refl; resources = agree }) (record { here = refl; resources = agree })) }
-  performed-same row (assert_equal a b) = record { from = λ l m n agree. upon-alike row _ _ (evaluated-agree l.env.names r m n agree a) l m n agree _ _ (λ x. upon-alike row _ _ (evaluated-agree l.env.names r m n agree b) l m n agree _ _ (λ y. upon-alike row (is_equal x y) (is_equal x y) refl l m n agree _ _ (λ holds. cond-alike holds _ _ _ _ (record { here = refl; resources = agree }) (record { here = refl; resources = agree })))) }
-  performed-same row (assume e reason) = record { from = λ l m n agree. upon-alike row _ _ (ap (λ z. then z as_flag) (evaluated-agree l.env.names r m n agree e)) l m n agree _ _ (λ holds. cond-alike holds _ _ _ _ (record { here = refl; resources = agree }) (record { here = refl; resources = agree })) }
+  performed-same row (let_name x e) = record {
+    from = λ l m n agree. upon-alike row _ _ (evaluated-agree l.env.names r m n agree e) l m n agree _ _
+        (λ d. cond-alike (is_some (binding_of l.env.names x)) _ _ _ _ (record { here = refl; resources = agree }) (record { here = refl; resources = agree }));
+  }
+  performed-same row (assign x e) = record {
+    from = λ l m n agree. upon-alike row _ _ (ap (λ z. then z (assigned l.env.names x)) (evaluated-agree l.env.names r m n agree e)) l m n agree _ _
+        (λ names. record { here = refl; resources = agree });
+  }
+  performed-same row (print e) = record {
+    from = λ l m n agree. upon-alike row _ _ (evaluated-agree l.env.names r m n agree e) l m n agree _ _
+        (λ d. cond-alike (has_room l (text_of d)) _ _ _ _ (record { here = refl; resources = agree }) (record { here = refl; resources = agree }));
+  }
+  performed-same row (assert e) = record {
+    from = λ l m n agree. upon-alike row _ _ (ap (λ z. then z as_flag) (evaluated-agree l.env.names r m n agree e)) l m n agree _ _
+        (λ holds. cond-alike holds _ _ _ _ (record { here = refl; resources = agree }) (record { here = refl; resources = agree }));
+  }
+  performed-same row (assert_equal a b) = record {
+    from = λ l m n agree. upon-alike row _ _ (evaluated-agree l.env.names r m n agree a) l m n agree _ _
+        (λ x. upon-alike row _ _ (evaluated-agree l.env.names r m n agree b) l m n agree _ _
+        (λ y. upon-alike row (is_equal x y) (is_equal x y) refl l m n agree _ _
+        (λ holds. cond-alike holds _ _ _ _ (record { here = refl; resources = agree }) (record { here = refl; resources = agree }))));
+  }
+  performed-same row (assume e reason) = record {
+    from = λ l m n agree. upon-alike row _ _ (ap (λ z. then z as_flag) (evaluated-agree l.env.names r m n agree e)) l m n agree _ _
+        (λ holds. cond-alike holds _ _ _ _ (record { here = refl; resources = agree }) (record { here = refl; resources = agree }));
+  }
   performed-same row (fail message) = record { from = λ l m n agree. record { here = refl; resources = agree } }
-  performed-same row (set_prop a b) = record { from = λ l m n agree. upon-alike row _ _ (two_texts l.env.names m n agree a b) l m n agree _ _ (λ xt. allowed-alike properties_key row l m n agree _ _ (λ w. changing-alike l m n agree properties_key (C.SetProp xt.0 xt.1))) }
-  performed-same row (clear_prop e) = record { from = λ l m n agree. upon-alike row _ _ (ap (λ z. then z as_text) (evaluated-agree l.env.names r m n agree e)) l m n agree _ _ (λ x. allowed-alike properties_key row l m n agree _ _ (λ w. changing-alike l m n agree properties_key (C.ClearProp x))) }
-  performed-same row (set_locale e) = record { from = λ l m n agree. upon-alike row _ _ (ap (λ z. then z as_text) (evaluated-agree l.env.names r m n agree e)) l m n agree _ _ (λ t. allowed-alike locale_key row l m n agree _ _ (λ w. changing-alike l m n agree locale_key (C.SetLocale t))) }
-  performed-same row (write_file a b) = record { from = λ l m n agree. upon-alike row _ _ (two_texts l.env.names m n agree a b) l m n agree _ _ (λ pt. allowed-alike (file_key pt.0) row l m n agree _ _ (λ w. changing-alike l m n agree (file_key pt.0) (C.WriteFile pt.1))) }
-  performed-same row (append_file a b) = record { from = λ l m n agree. upon-alike row _ _ (two_texts l.env.names m n agree a b) l m n agree _ _ (λ pt. allowed-alike (file_key pt.0) row l m n agree _ _ (λ w. appending-alike row pt.0 pt.1 l m n agree w)) }
-  performed-same row (delete_file e) = record { from = λ l m n agree. upon-alike row _ _ (ap (λ z. then z as_text) (evaluated-agree l.env.names r m n agree e)) l m n agree _ _ (λ p. allowed-alike (file_key p) row l m n agree _ _ (λ w. deleting-alike row p l m n agree w)) }
+  performed-same row (set_prop a b) = record {
+    from = λ l m n agree. upon-alike row _ _ (two_texts l.env.names m n agree a b) l m n agree _ _
+        (λ xt. allowed-alike properties_key row l m n agree _ _ (λ w. changing-alike l m n agree properties_key (C.SetProp xt.0 xt.1)));
+  }
+  performed-same row (clear_prop e) = record {
+    from = λ l m n agree. upon-alike row _ _ (ap (λ z. then z as_text) (evaluated-agree l.env.names r m n agree e)) l m n agree _ _
+        (λ x. allowed-alike properties_key row l m n agree _ _ (λ w. changing-alike l m n agree properties_key (C.ClearProp x)));
+  }
+  performed-same row (set_locale e) = record {
+    from = λ l m n agree. upon-alike row _ _ (ap (λ z. then z as_text) (evaluated-agree l.env.names r m n agree e)) l m n agree _ _
+        (λ t. allowed-alike locale_key row l m n agree _ _ (λ w. changing-alike l m n agree locale_key (C.SetLocale t)));
+  }
+  performed-same row (write_file a b) = record {
+    from = λ l m n agree. upon-alike row _ _ (two_texts l.env.names m n agree a b) l m n agree _ _
+        (λ pt. allowed-alike (file_key pt.0) row l m n agree _ _ (λ w. changing-alike l m n agree (file_key pt.0) (C.WriteFile pt.1)));
+  }
+  performed-same row (append_file a b) = record {
+    from = λ l m n agree. upon-alike row _ _ (two_texts l.env.names m n agree a b) l m n agree _ _
+        (λ pt. allowed-alike (file_key pt.0) row l m n agree _ _ (λ w. appending-alike row pt.0 pt.1 l m n agree w));
+  }
+  performed-same row (delete_file e) = record {
+    from = λ l m n agree. upon-alike row _ _ (ap (λ z. then z as_text) (evaluated-agree l.env.names r m n agree e)) l m n agree _ _
+        (λ p. allowed-alike (file_key p) row l m n agree _ _ (λ w. deleting-alike row p l m n agree w));
+  }
 
   taking-alike_at : (row k : ℕ) (l : Local) (m n : Resources) → EqualAt r m n → (f g : State → State) → Same f g → Alike r (step_or_end row k (at l m) f) (step_or_end row k (at l n) g)
   taking-alike_at row zero l m n agree f g same = record { here = refl; resources = agree }
@@ -110,7 +150,10 @@ module _ (r : Rights) where
   keeping-same k = record { from = λ l m n agree. cond-alike (is_well l.ending) _ _ _ _ (record { here = refl; resources = agree }) (alike l m n agree) }
 
   scoped-same : (f g : State → State) → Same f g → Same (scoped f) (scoped g)
-  scoped-same f g same = record { from = λ l m n agree. same-at (keeping (length l.env.names)) (keeping (length l.env.names)) (keeping-same (length l.env.names)) (f (at l m)) (g (at l n)) (same.from l m n agree) }
+  scoped-same f g same = record {
+    from = λ l m n agree. same-at (keeping (length l.env.names)) (keeping (length l.env.names)) (keeping-same (length l.env.names)) (f (at l m)) (g (at l n))
+        (same.from l m n agree);
+  }
 
   turns-alike : (row k : ℕ) (f g : State → State) → Same f g → (s t : State) → Alike r s t → Alike r (turns row k f s) (turns row k g t)
   turns-alike row zero f g same s t both = both
@@ -124,8 +167,16 @@ module _ (r : Rights) where
 
     pub ran-same : (row : ℕ) (a : Act) → Same (ran r row a) (ran r row a)
     ran-same row (plain p) = taking-same row _ _ (performed-same row p)
-    ran-same row (choice e a b) = taking-same row _ _ (record { from = λ l m n agree. upon-alike row _ _ (ap (λ z. then z as_flag) (evaluated-agree l.env.names r m n agree e)) l m n agree _ _ (λ holds. cond-alike holds _ _ _ _ ((scoped-same _ _ (run-same a)).from l m n agree) ((scoped-same _ _ (run-same b)).from l m n agree)) })
-    ran-same row (repeat e a) = taking-same row _ _ (record { from = λ l m n agree. upon-alike row _ _ (ap (λ z. then z as_count) (evaluated-agree l.env.names r m n agree e)) l m n agree _ _ (λ k. turns-alike row k _ _ (scoped-same _ _ (run-same a)) (at l m) (at l n) (alike l m n agree)) })
+    ran-same row (choice e a b) = taking-same row _ _
+        (record {
+          from = λ l m n agree. upon-alike row _ _ (ap (λ z. then z as_flag) (evaluated-agree l.env.names r m n agree e)) l m n agree _ _
+              (λ holds. cond-alike holds _ _ _ _ ((scoped-same _ _ (run-same a)).from l m n agree) ((scoped-same _ _ (run-same b)).from l m n agree));
+        })
+    ran-same row (repeat e a) = taking-same row _ _
+        (record {
+          from = λ l m n agree. upon-alike row _ _ (ap (λ z. then z as_count) (evaluated-agree l.env.names r m n agree e)) l m n agree _ _
+              (λ k. turns-alike row k _ _ (scoped-same _ _ (run-same a)) (at l m) (at l n) (alike l m n agree));
+        })
 
   -- all that is left
   pub finish-alike : (ps : List Piece) (s t : State) → Alike r s t → Alike r (finish r ps s) (finish r ps t)
@@ -169,7 +220,8 @@ module _ (r : Rights) where
   -- one step does the same over both
   pub step-alike : (p : Point) (m n : Resources) → EqualAt r m n → AlikeAt r (step r (machine_at p m)) (step r (machine_at p n))
   step-alike p m n agree =
-      elim (is_well p.here.ending) as (λ b. AlikeAt r (cond b (step_at r p.pieces p.here.env.steps (at p.here m)) (machine_at p m)) (cond b (step_at r p.pieces p.here.env.steps (at p.here n)) (machine_at p n))) [
+      elim (is_well p.here.ending) as (λ b. AlikeAt r (cond b (step_at r p.pieces p.here.env.steps (at p.here m)) (machine_at p m))
+      (cond b (step_at r p.pieces p.here.env.steps (at p.here n)) (machine_at p n))) [
         | true ↦ step_at-alike p.pieces p.here.env.steps p.here m n agree
         | false ↦ machine_at-alike p p m n refl agree
       ]

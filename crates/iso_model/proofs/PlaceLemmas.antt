@@ -45,7 +45,8 @@ place_of-take : (n : ℕ) (bs : List Binding) (x : List ℕ) → place_of (take 
 place_of-take zero bs x h = absurd (omega arith)
 place_of-take (suc n) [] x h = absurd (omega arith)
 place_of-take (suc n) (b ∷ bs) x h =
-    elim (bytes_eq x b.name) as (λ t. cond t 0 (suc (place_of (take n bs) x)) < suc (length (take n bs)) → (cond t 0 (suc (place_of bs x)) ≡ cond t 0 (suc (place_of (take n bs) x))) × (cond t 0 (suc (place_of bs x)) < suc (length bs))) [
+    elim (bytes_eq x b.name) as (λ t. cond t 0 (suc (place_of (take n bs) x)) < suc (length (take n bs)) → (cond t 0 (suc (place_of bs x)) ≡ cond t 0 (suc (place_of (take n bs) x)))
+    × (cond t 0 (suc (place_of bs x)) < suc (length bs))) [
       | true ↦ λ k. (refl, omega arith)
       | false ↦ λ k. let (same, within) = place_of-take n bs x (omega arith) in (ap suc same, omega (arith, within))
     ] h
@@ -138,7 +139,8 @@ tells-known m bs b x known e tells y within =
     ]
 
 -- one name more, whose place was put into the map
-module _ (m n : Places) (bs : List Binding) (x : List ℕ) (new : place_of bs x ≡ length bs) (updates : UpdatesBy string_cmp (λ k. slice_cmp nat_cmp x (string_bytes k)) m n (Some (length bs))) (tells : Tells m bs) where
+module _ (m n : Places) (bs : List Binding) (x : List ℕ) (new : place_of bs x ≡ length bs) (updates : UpdatesBy string_cmp (λ k. slice_cmp nat_cmp x (string_bytes k)) m n (Some (length bs)))
+    (tells : Tells m bs) where
   stays : (y : List ℕ) → place_of bs y < length bs → get_by_text n y ≡ Some (place_of bs y)
   stays y within =
       let now = btree_map_updates_text x m n (Some (length bs)) updates y in

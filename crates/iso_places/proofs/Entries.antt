@@ -29,7 +29,8 @@ module _ (paths : List (List ℕ)) (sites : List Site) where
 
   -- an entry before the others is found first
   pub table-more : (table new : BTreeMap (Bor (List ℕ)) Site) (j : ℕ) (key e : List ℕ) (site d : Site) → j < length paths → j < length sites → key ≡ get_or paths j e → site ≡ get_or sites j d
-      → UpdatesBy (λ x y. slice_cmp nat_cmp x.now y.now) (λ k. slice_cmp nat_cmp key k.now) table new (Some site) → FindsBy table (drop (suc j) (zip paths sites)) → FindsBy new (drop j (zip paths sites))
+      → UpdatesBy (λ x y. slice_cmp nat_cmp x.now y.now) (λ k. slice_cmp nat_cmp key k.now) table new (Some site) → FindsBy table (drop (suc j) (zip paths sites))
+      → FindsBy new (drop j (zip paths sites))
   table-more table new j key e site d h k own its updates finds path =
       let long : j < length (zip paths sites) = omega (arith, length-zip paths sites) in
       let its_site : get_or sites j site ≡ site = get_or_default sites j site d k ∙ sym its in

@@ -238,7 +238,8 @@ pub none-left-out : (scripts : List Script) (only : List (List ℕ)) → plan_fa
 none-left-out scripts only well n =
     let rows = plan_tree scripts only in
     let written = (row_at rows n).written in
-    let few : length (keys rows) ≤ KEYS + 1 = few_by (nat_lt (KEYS + 1) (length (keys rows))) (length (keys rows)) refl (last_none (scripts_fault scripts) (nodes_fault scripts only) (keys_fault rows) well) in
+    let few : length (keys rows) ≤ KEYS + 1 = few_by (nat_lt (KEYS + 1) (length (keys rows))) (length (keys rows)) refl
+    (last_none (scripts_fault scripts) (nodes_fault scripts only) (keys_fault rows) well) in
     let most : length written ≤ length (keys rows) + length (keys rows) =
     two-of-each written (keys rows) (row_apart rows n (selection_apart (tree scripts) only (tree_apart scripts)))
     (λ k h. all_have (marked_keys rows) (global_key ∷ []) k (row_keys rows n k h)) in
@@ -249,7 +250,8 @@ with_bound : (most : ℕ) (ns : List Mark) (m : Mark) → length (with_mark most
 with_bound zero ns m h = absurd (omega arith)
 with_bound (suc most) [] m h = refl
 with_bound (suc most) (n ∷ ns) m h =
-    elim (is_same_key n m) as (λ t. length (cond t (as_one n m ∷ ns) (n ∷ with_mark most ns m)) < suc most → cond t (as_one n m ∷ ns) (n ∷ with_mark most ns m) ≡ cond t (as_one n m ∷ ns) (n ∷ with_any_mark ns m)) [
+    elim (is_same_key n m) as (λ t. length (cond t (as_one n m ∷ ns) (n ∷ with_mark most ns m)) < suc most
+    → cond t (as_one n m ∷ ns) (n ∷ with_mark most ns m) ≡ cond t (as_one n m ∷ ns) (n ∷ with_any_mark ns m)) [
       | true ↦ λ k. refl
       | false ↦ λ k. ap (λ (xs : List Mark). n ∷ xs) (with_bound most ns m (omega (arith, k)))
     ] h

@@ -51,7 +51,8 @@ first j (Some a) (Some b) ls ms above past =
 conflicts-by : (j : ℕ) (f g : List ℕ → Option Access) (ks : List (List ℕ)) → conflicts (locks_from j (map f ks)) (locks_from j (map g ks)) ≡ list_any (λ k. exclude (f k) (g k)) ks
 conflicts-by j f g [] = refl
 conflicts-by j f g (k ∷ ks) =
-    first j (f k) (g k) (locks_from (suc j) (map f ks)) (locks_from (suc j) (map g ks)) (λ x. shares-above (record { key = j; access = x }) (suc j) (map g ks) (omega arith)) (passed j (suc j) (map f ks) (g k) (locks_from (suc j) (map g ks)) (omega arith))
+    first j (f k) (g k) (locks_from (suc j) (map f ks)) (locks_from (suc j) (map g ks)) (λ x. shares-above (record { key = j; access = x }) (suc j) (map g ks) (omega arith))
+    (passed j (suc j) (map f ks) (g k) (locks_from (suc j) (map g ks)) (omega arith))
     ∙ ap (λ (b : Bool). exclude (f k) (g k) || b) (conflicts-by (suc j) f g ks)
 
 pub conflicts-is : (tree : List Row) (m n : ℕ) → conflicts (locks tree m) (locks tree n) ≡ conflict tree m n

@@ -12,7 +12,8 @@ use Rattle.iso_plan.specs.Tree.{Kind, Row, root_row, effective_row, with_marks}
 -- of one list of marks after another
 pub marks_for-next : (t : Target) (m : Mark) (ms : List Mark) → marks_for t (m ∷ ms) ≡ marks_for t (m ∷ []) ++ marks_for t ms
 marks_for-next t m ms =
-    elim (is_target t m.target) as (λ (b : Bool). let some = filter (λ n. is_target t n.target) ms in map for_itself (cond b (m ∷ some) some) ≡ map for_itself (cond b (m ∷ []) []) ++ map for_itself some) [ true ↦ refl | false ↦ refl ]
+    elim (is_target t m.target) as (λ (b : Bool). let some = filter (λ n. is_target t n.target) ms in map for_itself (cond b (m ∷ some) some) ≡ map for_itself (cond b (m ∷ []) []) ++ map
+    for_itself some) [ true ↦ refl | false ↦ refl ]
 
 -- the first n of these nodes have their effective marks, and the others those that are written on them
 pub record IsPartly (old new : List Row) (n : ℕ) : Type 0 where
@@ -63,7 +64,8 @@ next-effective old new n k r p s less is kind =
           elim (m == n) as (λ t. (m == n) ≡ t → row_at (set new n (record r { kind = k })) m ≡ effective_row old (row_at old m)) [
             | true ↦ λ e.
                 let same = same-number m n e in
-                ap (row_at (set new n (record r { kind = k }))) same ∙ get_or-set_same new n (record r { kind = k }) root_row (omega arith) ∙ value ∙ ap (λ (j : ℕ). effective_row old (row_at old j)) (sym same)
+                ap (row_at (set new n (record r { kind = k }))) same ∙ get_or-set_same new n (record r { kind = k }) root_row (omega arith) ∙ value
+                ∙ ap (λ (j : ℕ). effective_row old (row_at old j)) (sym same)
             | false ↦ λ e.
                 get_or-set_other new n m (record r { kind = k }) root_row (λ same. let yes : (m == n) ≡ true = ap (λ j. m == j) (sym same) ∙ eq_same m in absurd (cc))
                 ∙ p.done m (grind (arith, nat_tests)) within

@@ -56,7 +56,8 @@ one_more seen k xs =
 
 inserted_by : (seen : List (List ℕ)) (k : List ℕ) (ks : List (List ℕ))
     → ((s : List (List ℕ)) → insert_all bytes_eq s ks ≡ s ++ filter (is_new s) (firsts ks)) → (t : Bool) → list_any (bytes_eq k) seen ≡ t
-    → insert_all bytes_eq (if t then seen else seen ++ k ∷ []) ks ≡ seen ++ cond (not t) (k ∷ filter (is_new seen) (filter (differs k) (firsts ks))) (filter (is_new seen) (filter (differs k) (firsts ks)))
+    → insert_all bytes_eq (if t then seen else seen ++ k ∷ []) ks ≡ seen ++ cond (not t) (k ∷ filter (is_new seen) (filter (differs k) (firsts ks)))
+    (filter (is_new seen) (filter (differs k) (firsts ks)))
 inserted_by seen k ks ih true e = ih seen ∙ ap (λ xs. seen ++ xs) (sym (known_too seen k (firsts ks) e))
 inserted_by seen k ks ih false e =
     ih (seen ++ k ∷ []) ∙ append_assoc seen (k ∷ []) (filter (is_new (seen ++ k ∷ [])) (firsts ks)) ∙ ap (λ xs. seen ++ k ∷ xs) (one_more seen k (firsts ks))
@@ -74,4 +75,5 @@ inserted-firsts ks = inserted ks [] ∙ all_new (firsts ks)
 
 -- the keys of a tree are the first of each of the global key and all marked keys
 pub keys-firsts : (tree : List Row) → keys tree ≡ firsts (global_key ∷ marked_keys tree)
-keys-firsts tree = inserted (marked_keys tree) (global_key ∷ []) ∙ ap (λ ks. global_key ∷ ks) (one_more [] global_key (firsts (marked_keys tree)) ∙ all_new (filter (differs global_key) (firsts (marked_keys tree))))
+keys-firsts tree = inserted (marked_keys tree) (global_key ∷ [])
+    ∙ ap (λ ks. global_key ∷ ks) (one_more [] global_key (firsts (marked_keys tree)) ∙ all_new (filter (differs global_key) (firsts (marked_keys tree))))

@@ -63,7 +63,8 @@ pub full-rest : {A : Type 0} (most : ℕ) (r : Result A PlanError) (y : T.Row) (
 full-rest most r y p n n1 ms ms' number next members full =
     let count : ℕ → ℕ → List Member → ℕ = λ q m xs. length (members_rows q m (members_of (map member_of xs))) in
     let same : count p n1 ms ≡ count n (n + 1) ms' = ap₂ (λ (q m : ℕ). count q m ms) number next ∙ ap (count n (n + 1)) members in
-    IfErr-weaker r (IsFull most (n1 + count p n1 ms)) (IsFull most (n + length (y ∷ members_rows n (n + 1) (members_of (map member_of ms'))))) (λ e f. full-more most (n1 + count p n1 ms) (n + length (y ∷ members_rows n (n + 1) (members_of (map member_of ms')))) e (omega arith) f) full
+    IfErr-weaker r (IsFull most (n1 + count p n1 ms)) (IsFull most (n + length (y ∷ members_rows n (n + 1) (members_of (map member_of ms')))))
+    (λ e f. full-more most (n1 + count p n1 ms) (n + length (y ∷ members_rows n (n + 1) (members_of (map member_of ms')))) e (omega arith) f) full
 
 -- a node that there is no room for is refused, and so is what begins with it
 pub full-first : (most n : ℕ) (y : T.Row) (rest : List T.Row) (e : PlanError) → IsFull most (n + 1) e → IsFull most (n + length (y ∷ rest)) e

@@ -92,7 +92,8 @@ has_by tree m n l k h u ih true e =
     let same : l ≡ n = eq_from l n e in
     let d = declared tree n k in
     let g = gathered_below tree m k l in
-    let here : gathered_below tree m k (suc l) ≡ strongest d g = ap (λ (j : ℕ). strongest (cond (is_under tree m j) (declared tree j k) None) g) same ∙ ap (λ (b : Bool). strongest (cond b d None) g) u in
+    let here : gathered_below tree m k (suc l) ≡ strongest d g = ap (λ (j : ℕ). strongest (cond (is_under tree m j) (declared tree j k) None) g) same
+    ∙ ap (λ (b : Bool). strongest (cond b d None) g) u in
     ap (strongest d) here ∙ sym (strongest-assoc d d g) ∙ ap (λ (x : Option Access). strongest x g) (strongest_same d) ∙ sym here
 has_by tree m n l k h u ih false e =
     swap (declared tree n k) (cond (is_under tree m l) (declared tree l k) None) (gathered_below tree m k l)
@@ -146,11 +147,13 @@ gathers_at tree t n k pos up m h own (Some j) e c =
     let same : j ≡ m = let whole : Some j ≡ Some m = c in cc in
     let g = gathered_below tree m k (length tree) in
     let below : parent tree n < n = t.below n pos in
-    let here : strongest (declared tree n k) g ≡ g = gathered_has tree m n (length tree) k h (under-locking tree t.below m n (locking-locks tree t.below m n own) ∙ that-self (locking_node tree n) m own) in
+    let here : strongest (declared tree n k) g ≡ g = gathered_has tree m n (length tree) k h
+    (under-locking tree t.below m n (locking-locks tree t.below m n own) ∙ that-self (locking_node tree n) m own) in
     ap (λ (r : Option Access). strongest r g) (rights-step tree t n k pos) ∙ absorbed (declared tree n k) (node_rights tree (parent tree n) k) g here (up.at m (omega arith) (e ∙ ap Some same))
 gathers_at tree t n k pos up m h own None e c =
     let g = gathered_below tree m k (length tree) in
-    let here : strongest (declared tree n k) g ≡ g = gathered_has tree m n (length tree) k h (under-locking tree t.below m n (locking-locks tree t.below m n own) ∙ that-self (locking_node tree n) m own) in
+    let here : strongest (declared tree n k) g ≡ g = gathered_has tree m n (length tree) k h
+    (under-locking tree t.below m n (locking-locks tree t.below m n own) ∙ that-self (locking_node tree n) m own) in
     ap (λ (r : Option Access). strongest r g) (rights-step tree t n k pos ∙ ap (strongest (declared tree n k)) (up.nowhere e) ∙ strongest-none (declared tree n k)) ∙ here
 
 none_declares : (n : ℕ) (b : Bool) → cond b (Some n) None ≡ None → b ≡ false
@@ -291,7 +294,8 @@ keys_have tree t zero k less h =
 keys_have tree t (suc j) k less h =
     let above = (row_at tree (parent tree (suc j))).written in
     let own = (row_at tree (suc j)).written in
-    let both = ap is_readable (sym (rights_of-append (marks_for Itself own) (marks_for Children above) k)) ∙ ap (λ (ms : List Mark). is_readable (rights_of ms k)) (sym (t.marked (suc j) (omega arith) less)) ∙ h in
+    let both = ap is_readable (sym (rights_of-append (marks_for Itself own) (marks_for Children above) k))
+    ∙ ap (λ (ms : List Mark). is_readable (rights_of ms k)) (sym (t.marked (suc j) (omega arith) less)) ∙ h in
     ⊎_elim (λ g. known_by tree k (rows_name tree (suc j) k (written_for Itself own k g)))
     (λ g. known_by tree k (rows_name tree (parent tree (suc j)) k (written_for Children above k g)))
     (readable_cases (rights_of (marks_for Itself own) k) (rights_of (marks_for Children above) k) both)
@@ -369,7 +373,8 @@ writes_by : (f : List ℕ → Option Access) (x : List ℕ) (ks : List (List ℕ
     → (list_any (bytes_eq k) ks ≡ true → list_any is_write (locks_from (suc i) (map f ks)) ≡ true) → list_any is_write (lock_of i (f x) ++ locks_from (suc i) (map f ks)) ≡ true
 writes_by f x ks k i w true e h ih =
     let same : k ≡ x = (bytes_decides k x).0 e in
-    list_any-append is_write (lock_of i (f x)) (locks_from (suc i) (map f ks)) ∙ or_left (list_any is_write (lock_of i (f x))) (list_any is_write (locks_from (suc i) (map f ks))) (lock_writes i (f x) (ap (λ (j : List ℕ). is_writable (f j)) (sym same) ∙ w))
+    list_any-append is_write (lock_of i (f x)) (locks_from (suc i) (map f ks))
+    ∙ or_left (list_any is_write (lock_of i (f x))) (list_any is_write (locks_from (suc i) (map f ks))) (lock_writes i (f x) (ap (λ (j : List ℕ). is_writable (f j)) (sym same) ∙ w))
 writes_by f x ks k i w false e h ih =
     list_any-append is_write (lock_of i (f x)) (locks_from (suc i) (map f ks)) ∙ or_last (list_any is_write (lock_of i (f x))) (list_any is_write (locks_from (suc i) (map f ks))) (ih h)
 
@@ -434,7 +439,8 @@ isolates_has tree t j (suc l) h u i = isolates_by tree t j l h u i (λ less. iso
 -- a top-level class that holds an isolated class is a locking node
 isolated_locks : (tree : List Row) → IsBelow tree → (t : ℕ) → is_top tree t ≡ true → holds_isolated tree t ≡ true → is_locking tree t ≡ true
 isolated_locks tree b t top h =
-    that-self (locking_node tree t) t (ap (outermost (declares tree)) (own-path tree b t top) ∙ ap (λ (d : Bool). option_or None (cond d (Some t) None)) (or_left (holds_isolated tree t) (is_marked tree t) h))
+    that-self (locking_node tree t) t (ap (outermost (declares tree)) (own-path tree b t top)
+    ∙ ap (λ (d : Bool). option_or None (cond d (Some t) None)) (or_left (holds_isolated tree t) (is_marked tree t) h))
 
 global_top : (tree : List Row) → IsBelow tree → (n j t : ℕ) → j < length tree → is_locking tree n ≡ true
     → is_under tree n j ≡ true → isolates tree j ≡ true → top tree j ≡ Some t → is_top tree n ≡ true

@@ -44,7 +44,8 @@ other_by : (tree : List Row) → IsBelow tree → (m n : ℕ) (k : List ℕ) →
 other_by tree b m n k apart true l =
     ap (λ (u : Bool). strongest (global_access tree m k) (cond (is_locking tree m) (strongest (cond u (declared tree n k) None) (gathered_below tree m k n)) None)) (under-locking tree b m n l ∙ apart)
 other_by tree b m n k apart false l =
-    ap (λ (u : Bool). strongest (global_access tree m k) (cond u (gathered_below tree m k (suc n)) None)) l ∙ sym (ap (λ (u : Bool). strongest (global_access tree m k) (cond u (gathered_below tree m k n) None)) l)
+    ap (λ (u : Bool). strongest (global_access tree m k) (cond u (gathered_below tree m k (suc n)) None)) l
+    ∙ sym (ap (λ (u : Bool). strongest (global_access tree m k) (cond u (gathered_below tree m k n) None)) l)
 
 pub taken-other : (tree : List Row) → IsBelow tree → (m n : ℕ) (k : List ℕ) → is_that (locking_node tree n) m ≡ false → taken_below tree m k (suc n) ≡ taken_below tree m k n
 taken-other tree b m n k apart = other_by tree b m n k apart (is_locking tree m) refl

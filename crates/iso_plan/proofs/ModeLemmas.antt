@@ -13,7 +13,9 @@ mode-root tree s =
     elim s.parallel as (λ p. cond (p && not true && not (is_forced tree 0)) (chosen_mode tree s 0) SameThread ≡ SameThread) [ true ↦ refl | false ↦ refl ]
 
 pub mode-step : (tree : List Row) (s : Settings) (n : ℕ) → 0 < n
-    → mode tree s n ≡ cond (s.parallel && not (list_any (takes_write tree) (path tree (parent tree n)))) (unwrap_or (nearest_mode tree (path tree n)) (cond (is_root (parent tree n)) s.classes_default_mode s.default_mode)) SameThread
+    → mode tree s n ≡ cond (s.parallel && not (list_any (takes_write tree) (path tree (parent tree n))))
+    (unwrap_or (nearest_mode tree (path tree n)) (cond (is_root (parent tree n)) s.classes_default_mode s.default_mode)) SameThread
 mode-step tree s zero h = absurd (omega arith)
 mode-step tree s (suc n) h =
-    elim s.parallel as (λ p. cond (p && not false && not (is_forced tree (suc n))) (chosen_mode tree s (suc n)) SameThread ≡ cond (p && not (is_forced tree (suc n))) (chosen_mode tree s (suc n)) SameThread) [ true ↦ refl | false ↦ refl ]
+    elim s.parallel as (λ p. cond (p && not false && not (is_forced tree (suc n))) (chosen_mode tree s (suc n)) SameThread ≡ cond (p && not (is_forced tree (suc n)))
+    (chosen_mode tree s (suc n)) SameThread) [ true ↦ refl | false ↦ refl ]

@@ -210,7 +210,8 @@ up_kept tree b only n zero is pos e = refl
 up_kept tree b only n (suc p) is pos e =
     let some : list_any (is_chosen tree only) (nodes_under tree n) ≡ true = rw (not-root n pos) at e in
     let above : 0 < parent tree n = omega arith in
-    any-more (is_chosen tree only) (is_under tree n) (is_under tree (suc p)) (λ m h. subst (λ (q : ℕ). is_under tree q m ≡ true) is (under-up tree b n pos above m h)) (range_with_len 0 (length tree)) some
+    any-more (is_chosen tree only) (is_under tree n) (is_under tree (suc p)) (λ m h. subst (λ (q : ℕ). is_under tree q m ≡ true) is (under-up tree b n pos above m h))
+    (range_with_len 0 (length tree)) some
 
 pub closed-below : (tree : List Row) → IsBelow tree → (only : List (List ℕ)) → AreClosed tree (is_kept_by tree only)
 closed-below tree b only = record { root = refl; up = λ n pos e. up_kept tree b only n (parent tree n) refl pos e }

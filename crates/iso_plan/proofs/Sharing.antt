@@ -55,7 +55,27 @@ stmt_sent = as_row_send stmt.the_field (form.send-Stmt text.the_send expr_sent o
 pub stmt_shared : IsSync stmt.the_row
 stmt_shared = as_row_sync stmt.the_field (form.sync-Stmt text.the_sync expr_shared one.the_field_sync two.the_field_sync Vec-sync (search sendable))
 
-ruleset parts = (as_row_send, as_row_sync, option_sent, option_shared, stmt_sent, stmt_shared, marks.the_send, marks.the_sync, variables.the_send, variables.the_sync, rights.the_sync, key_map.the_sync, mode.the_sync, text.the_send, text.the_sync, lock.the_sync, settings.the_sync, crosses, sendable)
+ruleset parts = (
+  as_row_send,
+  as_row_sync,
+  option_sent,
+  option_shared,
+  stmt_sent,
+  stmt_shared,
+  marks.the_send,
+  marks.the_sync,
+  variables.the_send,
+  variables.the_sync,
+  rights.the_sync,
+  key_map.the_sync,
+  mode.the_sync,
+  text.the_send,
+  text.the_sync,
+  lock.the_sync,
+  settings.the_sync,
+  crosses,
+  sendable,
+)
 
 pub class_contents_sent : IsSend class_contents.the_row
 class_contents_sent = declared_send class_contents.the_type (search parts, (search parts, (search parts, (search parts, (search parts, (search parts, (search parts, tt)))))))
@@ -95,7 +115,13 @@ ruleset rows = (row_shared, heads)
 
 pub plan_shared : IsSync plan.the_row
 plan_shared =
-    search (declared_sync inside.the_type (search rows, (search rows, (search rows, (search rows, (search rows, (search rows, (search rows, (search rows, (search rows, (search rows, tt)))))))))), sendable)
+    search (
+      declared_sync inside.the_type (
+        search rows,
+        (search rows, (search rows, (search rows, (search rows, (search rows, (search rows, (search rows, (search rows, (search rows, tt))))))))),
+      ),
+      sendable,
+    )
 
 ruleset held = (plan_shared, key_use.the_send, as_row_send, crosses, sendable)
 

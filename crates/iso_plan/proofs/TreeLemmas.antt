@@ -72,14 +72,16 @@ mutual
       let r = class_row p c in
       let count : length (rows ++ r ∷ []) ≡ length rows + 1 = length-append rows (r ∷ []) in
       let own : row_at (rows ++ r ∷ []) n ≡ r = get_or_push rows r root_row n (sym l) in
-      rw (← append_assoc rows (r ∷ []) (members_rows n (n + 1) ms)) (fine_members ms (rows ++ r ∷ []) n (n + 1) (omega arith) (fine_push rows r fine low here) (omega arith) (ap (λ (x : Row). is_test x.kind) own))
+      rw (← append_assoc rows (r ∷ []) (members_rows n (n + 1) ms))
+      (fine_members ms (rows ++ r ∷ []) n (n + 1) (omega arith) (fine_push rows r fine low here) (omega arith) (ap (λ (x : Row). is_test x.kind) own))
 
 fine_top : (team : List ℕ) (c : Class) (rows : List Row) (n : ℕ) → n ≡ length rows → Fine rows → 0 < length rows → is_test (row_at rows 0).kind ≡ false → Fine (rows ++ top_rows team n c)
 fine_top team (class c ms) rows n l fine low root_is =
     let r = top_row team c in
     let count : length (rows ++ r ∷ []) ≡ length rows + 1 = length-append rows (r ∷ []) in
     let own : row_at (rows ++ r ∷ []) n ≡ r = get_or_push rows r root_row n (sym l) in
-    rw (← append_assoc rows (r ∷ []) (members_rows n (n + 1) ms)) (fine_members ms (rows ++ r ∷ []) n (n + 1) (omega arith) (fine_push rows r fine low root_is) (omega arith) (ap (λ (x : Row). is_test x.kind) own))
+    rw (← append_assoc rows (r ∷ []) (members_rows n (n + 1) ms))
+    (fine_members ms (rows ++ r ∷ []) n (n + 1) (omega arith) (fine_push rows r fine low root_is) (omega arith) (ap (λ (x : Row). is_test x.kind) own))
 
 fine_team : (team : List ℕ) (cs : List Class) (rows : List Row) (n : ℕ) → n ≡ length rows → Fine rows → 0 < length rows → is_test (row_at rows 0).kind ≡ false → Fine (rows ++ team_rows team n cs)
 fine_team team [] rows n l fine low root_is = rw append-nil fine
@@ -99,7 +101,8 @@ fine_tree : (ss : List Script) → Fine (written_tree ss)
 fine_tree ss = fine_scripts ss (root_row ∷ []) 1 refl (λ n pos h. absurd (omega arith)) (omega arith) refl
 
 below_by : (rows : List Row) → Fine rows → (n : ℕ) → 0 < n → (n < length rows → Placed rows n) → (length rows ≤ n → Placed rows n) → Placed rows n
-below_by rows fine n pos known unknown = elim (nat_lt n (length rows)) as (λ t. (nat_lt n (length rows)) ≡ t → Placed rows n) [ true ↦ λ e. known (grind (arith, nat_tests)) | false ↦ λ e. unknown (grind (arith, nat_tests)) ] refl
+below_by rows fine n pos known unknown = elim (nat_lt n (length rows)) as (λ t. (nat_lt n (length rows)) ≡ t → Placed rows n)
+    [ true ↦ λ e. known (grind (arith, nat_tests)) | false ↦ λ e. unknown (grind (arith, nat_tests)) ] refl
 
 placed : (ss : List Script) (n : ℕ) → 0 < n → Placed (written_tree ss) n
 placed ss n pos =

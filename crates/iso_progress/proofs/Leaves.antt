@@ -101,7 +101,8 @@ module _ {H K V B F R : Type 0} (l : Language H K V B F R) (x : Suite H K V) (pl
 
     first_ends : (test : Bool) → l.is_test (x.head n) ≡ test
         → (cond test (finishing l x n (l.test_result b) s) (cond (ended_well l x n b s) (opening_left l x n b s) (barring l x n (frames_left l x n b s) (opening_left l x n b s)))).status 0 ≡ S.Open []
-        → Standing l x workers (cond test (finishing l x n (l.test_result b) s) (cond (ended_well l x n b s) (opening_left l x n b s) (barring l x n (frames_left l x n b s) (opening_left l x n b s)))).status (put w None busy)
+        → Standing l x workers (cond test (finishing l x n (l.test_result b) s)
+        (cond (ended_well l x n b s) (opening_left l x n b s) (barring l x n (frames_left l x n b s) (opening_left l x n b s)))).status (put w None busy)
     first_ends true e root = finishes (l.test_result b) (λ m mz lt p h. childless e m mz p)
     first_ends false e root = ends e (ended_well l x n b s) refl root
 

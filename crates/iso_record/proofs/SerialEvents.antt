@@ -126,7 +126,8 @@ module _ (plan : Planned) (world : Start) (tree : IsTree (tree_of plan)) (worker
       apart : (m : ℕ) → On x m (parent (tree_of plan) n) → conflict (tree_of plan) m n ≡ true → ⊥
       apart zero on c = let free = (progress-laws (tree_of plan) tree plan.settings (started world)).root n in absurd cc
       apart (suc m) on c =
-          let e : suc m ≡ n = conflict-apart (tree_of plan) tree.below (suc m) n c (on-under (tree_of plan) tree plan.settings (started world) (suc m) (omega arith) (up (λ z. absurd (omega arith)) on)) in
+          let e : suc m ≡ n = conflict-apart (tree_of plan) tree.below (suc m) n c
+          (on-under (tree_of plan) tree plan.settings (started world) (suc m) (omega arith) (up (λ z. absurd (omega arith)) on)) in
           let le = on_le scripts x suite_laws on in
           let below = tree.below n pos in
           omega arith

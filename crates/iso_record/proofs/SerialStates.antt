@@ -37,7 +37,8 @@ module _ (x : Suite Head (List ℕ) Resource) where
   step_looks : (workers w : ℕ) (s t : RunState) → HasBody scripts x workers t w → SameLook s t → SameLook s (after scripts x t (E.Step w))
   step_looks workers w s t h look =
       record {
-        phases = λ m. ap (λ (q : RunNodes). phase_of (q.status m)) nodes ∙ unmoved phase_of h.node _ t.nodes.status (body_unseen phase_of (λ b c. refl) (λ fs b c. refl) (t.nodes.status h.node) _) m ∙ look.phases m;
+        phases = λ m. ap (λ (q : RunNodes). phase_of (q.status m)) nodes
+            ∙ unmoved phase_of h.node _ t.nodes.status (body_unseen phase_of (λ b c. refl) (λ fs b c. refl) (t.nodes.status h.node) _) m ∙ look.phases m;
         busy = look.busy;
         owner = look.owner;
       }
@@ -65,7 +66,8 @@ module _ (x : Suite Head (List ℕ) Resource) where
   pub left_test : (n : ℕ) (s : RunNodes) (st : NodeStatus) → phase_of st ≡ Begun → is_of_test (x.head n) ≡ true → IsFinished n s (leaving scripts x n s st)
   left_test n s (S.Begun b) e test =
       subst (λ (t : Bool). IsFinished n s (cond t (finishing scripts x n (scripts.test_result b) s)
-      (cond (ended_well scripts x n b s) (opening_left scripts x n b s) (barring scripts x n (frames_left scripts x n b s) (opening_left scripts x n b s))))) (sym test) (finished n (scripts.test_result b) s)
+      (cond (ended_well scripts x n b s) (opening_left scripts x n b s) (barring scripts x n (frames_left scripts x n b s) (opening_left scripts x n b s))))) (sym test)
+      (finished n (scripts.test_result b) s)
   left_test n s S.Waiting e test = absurd cc
   left_test n s (S.Open fs) e test = absurd cc
   left_test n s (S.Barred fs) e test = absurd cc

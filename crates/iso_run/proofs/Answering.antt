@@ -91,7 +91,8 @@ ended-after P file ok old mid new text wrote w (Err fault) (inr h) =
 -- what is told of a run is answered of its files
 pub run-answered : (X : Type 0) (P : Account → Bool → Type 0) (product : Suite → Product) (inputs : Inputs) (way : Way) (old mid : Account)
     → (X → (ok : Bool) → IsWritten product inputs way old mid ok → P mid ok)
-    → (file : List (Option (Bor (List ℕ)))) (new : Account) (ran : Result Summary RunFault) → IfLate (end_of (λ (s : Summary). s.all_ok) run_end ran) X → Writes (λ (s : Summary). s.all_ok) product inputs way old mid ran
+    → (file : List (Option (Bor (List ℕ)))) (new : Account) (ran : Result Summary RunFault) → IfLate (end_of (λ (s : Summary). s.all_ok) run_end ran) X
+    → Writes (λ (s : Summary). s.all_ok) product inputs way old mid ran
     → (result : Result Bool CommandFault)
     → MatchResult ran (λ s. IsEnded s.all_ok file mid new result) (λ fault. (new ≡ mid) × IsErrAnd result (λ told. command_end told ≡ run_end fault))
     → Answers (P new) (Lacking P file new) old new result

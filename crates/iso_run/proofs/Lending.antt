@@ -48,7 +48,8 @@ inputs-for files bytes shard = record {
 
 pub are-of-bytes : (files : InputFiles) (input : Option (List ℕ)) (bytes : InputBytes) (shard : Option Shard) → WereRead files input bytes → option_map shard_asked shard ≡ files.shard
     → AreFor files input (inputs-for files bytes shard)
-are-of-bytes files input bytes shard read asked = are-for files input bytes (inputs-for files bytes shard) read (texts-lent bytes.scripts.items) refl refl (listed-lent bytes.listed) refl refl asked refl
+are-of-bytes files input bytes shard read asked = are-for files input bytes (inputs-for files bytes shard) read (texts-lent bytes.scripts.items) refl refl (listed-lent bytes.listed) refl refl
+    asked refl
 
 pub out-of-memory : {A : Type 0} (ok_of : A → Bool) (product : Suite → Product) (inputs : Inputs) (way : Way) (a : Account) → Writes ok_of product inputs way a a (Err Memory)
 out-of-memory ok_of product inputs way a = record { cause = tt; leaves = refl }

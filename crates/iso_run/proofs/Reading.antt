@@ -29,7 +29,8 @@ one-script : (input : Option (List ℕ)) (v : Vec ℕ Global) (read : Result (Ve
     → IfSome input (λ bytes. v.items ∷ [] ≡ take (FILE_BYTES + 1) bytes ∷ [])
 one-script None v read is h = tt
 one-script (Some bytes) v read is h =
-    let whole : IfOk {E = CommandFault} (Ok v) (λ (v : Vec ℕ Global). v.items ≡ take (FILE_BYTES + 1) bytes) = subst (λ (r : Result (Vec ℕ Global) CommandFault). IfOk r (λ v. v.items ≡ take (FILE_BYTES + 1) bytes)) (sym is) h in
+    let whole : IfOk {E = CommandFault} (Ok v) (λ (v : Vec ℕ Global). v.items ≡ take (FILE_BYTES + 1) bytes) = subst
+    (λ (r : Result (Vec ℕ Global) CommandFault). IfOk r (λ v. v.items ≡ take (FILE_BYTES + 1) bytes)) (sym is) h in
     ap (λ (xs : List ℕ). xs ∷ []) whole
 
 pub scripts-of-one : (input : Option (List ℕ)) (vs : List (Vec ℕ Global)) (reads : List (Result (Vec ℕ Global) CommandFault)) → map Ok vs ≡ reads → IsOneRead input reads

@@ -30,7 +30,8 @@ cut-off ok_of product inputs way suite is played old new fault cut =
     let whole : IsCutOff (product suite).text old new (Write cut.written) = record { written = cut.written; is = refl; took = cut.took; within = cut.within; failed = cut.failed } in
     subst (λ (f : RunFault). Writes ok_of product inputs way old new (Err f)) (sym cut.is) (record { cause = played; leaves = (suite, is, whole) })
 
-module _ (inputs : Inputs) (old new : Account) (suite : Suite) (plan : Planned) (v : ResultsView) (is : IsSuite inputs suite) (made : plan ≡ planned suite) (of : v.plan ≡ plan) (on : v.start ≡ suite.start) where
+module _ (inputs : Inputs) (old new : Account) (suite : Suite) (plan : Planned) (v : ResultsView) (is : IsSuite inputs suite) (made : plan ≡ planned suite) (of : v.plan ≡ plan)
+    (on : v.start ≡ suite.start) where
   report-is : report (tree_of plan) (outcome_in v) ≡ (suite_report suite).text
   report-is =
       ap₂ (λ (p : Planned) (s : Start). report (tree_of plan) (outcome_alone (tree_of p) (started s))) of on

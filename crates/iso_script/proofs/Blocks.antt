@@ -128,7 +128,8 @@ no_second ws first here j blocks read next some come all rest h = go (blocks j) 
         let is : block_in j n.0 ≡ Some n.0.block = rw (n.4, same_self j) refl in
         let both = gives_more (block_in j) ws n.0 (x ∷ []) (x ∷ n.0.block ∷ []) (come j ∙ ap option_to_list e) (ap (λ o. x ∷ option_to_list o) is) in
         two_listed x n.0.block (filter_map (block_in j) n.1) (all j)
-        (ap (λ xs. xs ++ filter_map (block_in j) n.1) (sym both) ∙ sym (filter_map-append (block_in j) (ws ++ n.0 ∷ []) n.1) ∙ ap (filter_map (block_in j)) (append_assoc ws (n.0 ∷ []) n.1 ∙ sym n.3) ∙ h.each j)
+        (ap (λ xs. xs ++ filter_map (block_in j) n.1) (sym both) ∙ sym (filter_map-append (block_in j) (ws ++ n.0 ∷ []) n.1)
+        ∙ ap (filter_map (block_in j)) (append_assoc ws (n.0 ∷ []) n.1 ∙ sym n.3) ∙ h.each j)
 
 option_is : {A : Type 0} (o p : Option A) → option_to_list o ≡ option_to_list p → o ≡ p
 option_is None None h = refl

@@ -137,10 +137,12 @@ members_next {d = d} {taken = taken} {variables = variables} {rest = rest} i h k
     let v = one_blocks _ _ _ _ _ (subst (λ ps. IsBlocks i.blocks ps i.after_blocks) u.1 i.blocks_read) k in (
       i.members,
       i.places,
-      subst (λ ps. HasMembers d (V.names_of variables ++ taken) i.members i.places ps rest) v.1 (subst (λ (x : Variables). HasMembers d (V.names_of x ++ taken) i.members i.places i.after_blocks rest) u.0 i.members_read),
+      subst (λ ps. HasMembers d (V.names_of variables ++ taken) i.members i.places ps rest) v.1
+          (subst (λ (x : Variables). HasMembers d (V.names_of x ++ taken) i.members i.places i.after_blocks rest) u.0 i.members_read),
     )
 
-pub is_class : {d : ℕ} {taken : List (List ℕ)} {marks : Marks} {n : List ℕ} {at : Position} {display : Option (List ℕ)} {variables : Variables} {blocks : Blocks} {ms : Members} {places : List NodePlace} {old mid qs rs ss new : List Piece}
+pub is_class : {d : ℕ} {taken : List (List ℕ)} {marks : Marks} {n : List ℕ} {at : Position} {display : Option (List ℕ)} {variables : Variables} {blocks : Blocks} {ms : Members}
+    {places : List NodePlace} {old mid qs rs ss new : List Piece}
     → IsDisplayed display old mid → after OpenBrace mid ≡ Some qs → IsVariables taken variables qs rs → IsBlocks blocks rs ss → HasMembers d (V.names_of variables ++ taken) ms places ss new
     → IsClass d taken marks n at (class (title marks n display variables blocks) ms) (class_place at blocks ∷ places) old new
 is_class {display = display} {old = old} {mid = mid} {qs = qs} h taken_is k l m =

@@ -110,14 +110,31 @@ not_isolated false h = refl
 not_isolated true h = cc
 
 pub adds_mode : (m : ExecutionMode) (old : Marks) → is_some old.mode ≡ false → Adds (runs m) old (record { mode = Some m; isolated = old.isolated; disabled = old.disabled; keys = old.keys })
-adds_mode m old h = record { mode = ap (λ xs. xs ++ m ∷ []) (none_listed old.mode h); isolated = append-nil (isolation old.isolated); disabled = append-nil (option_to_list old.disabled); keys = append-nil old.keys }
+adds_mode m old h = record {
+  mode = ap (λ xs. xs ++ m ∷ []) (none_listed old.mode h);
+  isolated = append-nil (isolation old.isolated);
+  disabled = append-nil (option_to_list old.disabled);
+  keys = append-nil old.keys;
+}
 
 pub adds_isolation : (old : Marks) → old.isolated ≡ false → Adds isolates old (record { mode = old.mode; isolated = true; disabled = old.disabled; keys = old.keys })
-adds_isolation old h = record { mode = append-nil (option_to_list old.mode); isolated = ap (λ xs. xs ++ isolates ∷ []) (not_isolated old.isolated h); disabled = append-nil (option_to_list old.disabled); keys = append-nil old.keys }
+adds_isolation old h = record {
+  mode = append-nil (option_to_list old.mode);
+  isolated = ap (λ xs. xs ++ isolates ∷ []) (not_isolated old.isolated h);
+  disabled = append-nil
+      (option_to_list old.disabled);
+  keys = append-nil old.keys;
+}
 
 pub adds_reason : (reason : List ℕ) (old : Marks) → is_some old.disabled ≡ false
     → Adds (disables reason) old (record { mode = old.mode; isolated = old.isolated; disabled = Some reason; keys = old.keys })
-adds_reason reason old h = record { mode = append-nil (option_to_list old.mode); isolated = append-nil (isolation old.isolated); disabled = ap (λ xs. xs ++ reason ∷ []) (none_listed old.disabled h); keys = append-nil old.keys }
+adds_reason reason old h = record {
+  mode = append-nil (option_to_list old.mode);
+  isolated = append-nil (isolation old.isolated);
+  disabled = ap (λ xs. xs ++ reason ∷ [])
+      (none_listed old.disabled h);
+  keys = append-nil old.keys;
+}
 
 pub adds_key : (k : Mark) (old : Marks) → Adds (declares k) old (record { mode = old.mode; isolated = old.isolated; disabled = old.disabled; keys = old.keys ++ k ∷ [] })
 adds_key k old = record { mode = append-nil (option_to_list old.mode); isolated = append-nil (isolation old.isolated); disabled = append-nil (option_to_list old.disabled); keys = refl }
@@ -156,8 +173,10 @@ has_room ws more x old all h k =
     let d = split reason_in ws more x _ _ h.disabled k.disabled in
     let mode = front_of_option _ m.0 all.mode m.1 in
     let isolated = front_of_isolation _ i.0 all.isolated i.1 in
-    let disabled = front_of_option _ d.0 all.disabled d.1 in
-    (record { mode = mode.0; isolated = isolated.0; disabled = disabled.0; keys = old.keys ++ option_to_list (key_in x) }, record { mode = mode.1; isolated = isolated.1; disabled = disabled.1; keys = refl })
+    let disabled = front_of_option _ d.0 all.disabled d.1 in (
+      record { mode = mode.0; isolated = isolated.0; disabled = disabled.0; keys = old.keys ++ option_to_list (key_in x) },
+      record { mode = mode.1; isolated = isolated.1; disabled = disabled.1; keys = refl },
+    )
 
 some_is : (meant : MarkWord) → None ≡ Some meant → ⊥
 some_is meant h = cc

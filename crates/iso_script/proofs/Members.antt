@@ -60,7 +60,8 @@ pub all_read : (d : ℕ) (taken : List (List ℕ)) (ms : List Member) (places : 
 all_read d taken [] places first here rest h brace =
     let s = after-Some CloseBrace here rest brace in
     subst (λ ls. IsMembers d taken no_members ls first rest) (sym h.0) (subst (λ ps. IsMembers d taken no_members [] ps rest) (sym (h.1 ∙ s.1)) closed)
-all_read d taken (m ∷ ms) places first here rest h brace = subst (λ ls. IsMembers d taken (member m (members_of ms)) ls first rest) (sym h.3) (and_then h.4 (all_read d taken ms h.1 h.2 here rest h.5 brace))
+all_read d taken (m ∷ ms) places first here rest h brace = subst (λ ls. IsMembers d taken (member m (members_of ms)) ls first rest) (sym h.3)
+    (and_then h.4 (all_read d taken ms h.1 h.2 here rest h.5 brace))
 
 as_read : {d : ℕ} {taken : List (List ℕ)} {ms : Members} {places : List NodePlace} {ps rest : List Piece}
     → IsMembers d taken ms places ps rest → (r : Position) × AreRead (Somewhere (IsMember d taken)) (list_of ms) ps (symbol_at r CloseBrace ∷ rest)
@@ -77,7 +78,8 @@ pub next_member : (d : ℕ) (taken : List (List ℕ)) (ms : List Member) (places
 next_member d taken ms places first here read unended all others rest (has_members h some distinct) =
     let p = as_read h in
     let ends : unclosed (symbol_at p.0 CloseBrace ∷ rest) ≡ None = ap (λ o. if_none o (symbol_at p.0 CloseBrace ∷ rest)) (after-symbol_at p.0 CloseBrace rest) in
-    let g = goes_on (Somewhere (IsMember d taken)) unclosed (one_somewhere d taken) (is_unclosed d taken) ms (list_of all) first here _ (read_somewhere (IsMember d taken) ms places first here read) p.1 ends (λ e. none_some here (ap (λ o. if_none o here) (sym unended) ∙ e)) in
+    let g = goes_on (Somewhere (IsMember d taken)) unclosed (one_somewhere d taken) (is_unclosed d taken) ms (list_of all) first here _
+    (read_somewhere (IsMember d taken) ms places first here read) p.1 ends (λ e. none_some here (ap (λ o. if_none o here) (sym unended) ∙ e)) in
     let names : names_of all ≡ map name_of ms ++ name_of g.0 ∷ map name_of g.1 = names_of-list all ∙ ap (map name_of) g.3 ∙ map-append name_of ms (g.0 ∷ g.1) in
     (g.0, g.4.0, g.2, (g.4.1, is_among-before (map name_of ms) (map name_of g.1) (name_of g.0) (subst (IsDistinct bytes_eq) names distinct)))
 

@@ -27,8 +27,10 @@ pub kept_after : (old : Option (List NodePlace)) {mid new : Option (List NodePla
 kept_after old place other more is h k = kept_more old (place ∷ []) more h k ∙ ap (λ p. with_places old (p ∷ more)) is
 
 -- what was read of the pieces that were left is read of all of them
-pub placed_from : {X A : Type 0} (view : X → A) (Was Is : A → List NodePlace → List Piece → List Piece → Type 0) (result : Result X ScriptError) (old mid new : List Piece) (before after : Option (List NodePlace))
-    → ((x : A) (places : List NodePlace) (rest : List Piece) → Was x places mid rest → Is x places old rest) → ((x : A) (places : List NodePlace) (rest : List Piece) → Is x places old rest → Was x places mid rest)
+pub placed_from : {X A : Type 0} (view : X → A) (Was Is : A → List NodePlace → List Piece → List Piece → Type 0) (result : Result X ScriptError) (old mid new : List Piece)
+    (before after : Option (List NodePlace))
+    → ((x : A) (places : List NodePlace) (rest : List Piece) → Was x places mid rest → Is x places old rest)
+    → ((x : A) (places : List NodePlace) (rest : List Piece) → Is x places old rest → Was x places mid rest)
     → ParsesPlaced view Was result mid new before after → ParsesPlaced view Is result old new before after
 placed_from view Was Is (Ok x) old mid new before after whole left h = (h.0, whole (view x) h.0 new h.1, h.2)
 placed_from view Was Is (Err e) old mid new before after whole left h = λ rest x places k. h rest x places (left x places rest k)

@@ -99,11 +99,13 @@ mutual
   pub one_class : {d : ℕ} {taken : List (List ℕ)} {marks : Marks} {n : List ℕ} {at : Position} {c b : Class} {own other : List NodePlace} {ps qs rs : List Piece}
       → IsClass d taken marks n at c own ps qs → IsClass d taken marks n at b other ps rs
       → (c ≡ b) × (own ≡ other) × (qs ≡ rs)
-  one_class {d = d} {taken = taken} {marks = marks} {n = n} {at = at} (a_class {variables = variables} {blocks = blocks} {ms = ms} {places = places} h k l m) (a_class {display = t} {variables = vs} {blocks = bs} {ms = ns} {places = others} {rs = rs} {ss = ss} {ts = ts} a b c e) =
+  one_class {d = d} {taken = taken} {marks = marks} {n = n} {at = at} (a_class {variables = variables} {blocks = blocks} {ms = ms} {places = places} h k l m)
+      (a_class {display = t} {variables = vs} {blocks = bs} {ms = ns} {places = others} {rs = rs} {ss = ss} {ts = ts} a b c e) =
       let u = one_display h a in
       let v = one_variables taken _ _ _ _ _ k (subst (λ ps. IsVariables taken vs ps rs) (sym (same_symbol u.1)) b) in
       let w = one_blocks _ _ _ _ _ l (subst (λ ps. IsBlocks bs ps ss) (sym v.1) c) in
-      let x = one_content m (subst (λ ps. HasMembers d (V.names_of variables ++ taken) ns others ps ts) (sym w.1) (subst (λ (x : Variables). HasMembers d (V.names_of x ++ taken) ns others ss ts) (sym v.0) e)) in (
+      let x = one_content m (subst (λ ps. HasMembers d (V.names_of variables ++ taken) ns others ps ts) (sym w.1)
+      (subst (λ (x : Variables). HasMembers d (V.names_of x ++ taken) ns others ss ts) (sym v.0) e)) in (
         ap (λ o. class (title marks n o variables blocks) ms) u.0 ∙ ap (λ (x : Variables). class (title marks n t x blocks) ms) v.0
             ∙ ap (λ o. class (title marks n t vs o) ms) w.0 ∙ ap (class (title marks n t vs bs)) x.0,
         ap (λ o. class_place at o ∷ places) w.0 ∙ ap (λ ls. class_place at bs ∷ ls) x.1,

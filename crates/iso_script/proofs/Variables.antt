@@ -107,7 +107,8 @@ among_statics_first n (x ∷ xs) ys m = ap (λ b. bytes_eq x n || b) (among_stat
 
 among_next : (w : VariableWord) (x : Variable) (ds : List Declared) (n : List ℕ)
     → is_among (map name_in ds) n ≡ is_among (names_of (record { statics = filter_map static_in ds; fields = filter_map field_in ds })) n
-    → is_among (map name_in (record { word = w; variable = x } ∷ ds)) n ≡ is_among (names_of (record { statics = filter_map static_in (record { word = w; variable = x } ∷ ds); fields = filter_map field_in (record { word = w; variable = x } ∷ ds) })) n
+    → is_among (map name_in (record { word = w; variable = x } ∷ ds)) n ≡ is_among
+    (names_of (record { statics = filter_map static_in (record { word = w; variable = x } ∷ ds); fields = filter_map field_in (record { word = w; variable = x } ∷ ds) })) n
 among_next Static x ds n h = ap (λ b. bytes_eq x.name n || b) h
 among_next Field x ds n h =
     ap (λ b. bytes_eq x.name n || b) h
@@ -157,11 +158,13 @@ comes_to_field ws w x old is come fresh =
 
 -- the set that knows all names knows those of the statics and fields
 pub knows_both : (set : BTreeSet (Bor (List ℕ))) (ws : List Declared) (v : Variables) → ComeTo ws v → Knows set (map name_in ws) → Knows set (names_of v)
-knows_both set ws v come knows = λ n. knows n ∙ among_both ws n ∙ ap (λ (xs : List Variable). is_among (names_of (record { statics = xs; fields = filter_map field_in ws })) n) come.statics ∙ ap (λ (ys : List Variable). is_among (names_of (record { statics = v.statics; fields = ys })) n) come.fields
+knows_both set ws v come knows = λ n. knows n ∙ among_both ws n ∙ ap (λ (xs : List Variable). is_among (names_of (record { statics = xs; fields = filter_map field_in ws })) n) come.statics
+    ∙ ap (λ (ys : List Variable). is_among (names_of (record { statics = v.statics; fields = ys })) n) come.fields
 
 -- what the next static or field is, where one is: its name is new
 pub next_declared : (taken : List (List ℕ)) (ws : List Declared) (first here : List Piece) (word : VariableWord) → AreRead IsDeclared ws first here → variable_next here ≡ Some word
-    → (all : Variables) (rest : List Piece) → IsVariables taken all first rest → (d : Declared) × (qs : List Piece) × IsDeclared d here qs × (d.word ≡ word) × IsNew taken (map name_in ws) d.variable.name
+    → (all : Variables) (rest : List Piece) → IsVariables taken all first rest → (d : Declared) × (qs : List Piece) × IsDeclared d here qs × (d.word ≡ word)
+    × IsNew taken (map name_in ws) d.variable.name
 next_declared taken ws first here word read next all rest h =
     let g = goes_on IsDeclared variable_next one_declared some_declared ws h.written first here rest read h.read h.ends (λ e. none_some word (sym e ∙ next)) in
     let p = declared_parts word next g.4 in

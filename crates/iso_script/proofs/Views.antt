@@ -18,5 +18,6 @@ pub member_of-class : (c : Class) → member_of (M.Class c) ≡ class_member (cl
 member_of-class c = search (rules, M.the_lemmas)
 
 pub class_of-parts : (name : List ℕ) (display : Option (List ℕ)) (mode : Option Mode) (isolated : Bool) (head : Arc ClassHead Global) (members : Vec M.Member Global)
-    → class_of (roll-Class (record { name = name; display = display; mode = mode; isolated = isolated; head = head; members = members })) ≡ class (record { name = name; display = display; mode = mode; isolated = isolated; head = class_head_of (arc_value head) }) (members_in members)
+    → class_of (roll-Class (record { name = name; display = display; mode = mode; isolated = isolated; head = head; members = members })) ≡ class
+    (record { name = name; display = display; mode = mode; isolated = isolated; head = class_head_of (arc_value head) }) (members_in members)
 class_of-parts name display mode isolated head members = search (rules, M.the_lemmas)

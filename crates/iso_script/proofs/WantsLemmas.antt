@@ -136,7 +136,8 @@ pub unmet_after_marks : {marks : Marks} {ps qs : List Piece} (place : Wanted) �
     → false ≡ (fits_test marks && is_some (after_word W.Test qs)) → after_word W.Class qs ≡ None → IsUnmet (after_marks marks place) qs
 unmet_after_marks {marks = marks} {ps = ps} {qs = qs} place h is test class =
     by_test (λ w. IsUnmet w qs) (is_unmarked marks) _ _
-    (λ none. subst (IsPlace place) (unmarked_same h none) is h.ends (no_test (fits_test marks) (after_word W.Test qs) test (unmarked_fits marks.mode marks.isolated marks.disabled marks.keys none)) class)
+    (λ none. subst (IsPlace place) (unmarked_same h none) is h.ends
+    (no_test (fits_test marks) (after_word W.Test qs) test (unmarked_fits marks.mode marks.isolated marks.disabled marks.keys none)) class)
     (λ _. by_test (λ w. IsUnmet w qs) (fits_test marks) _ _
     (λ fits. unmet_marked_member qs h.ends (no_test (fits_test marks) (after_word W.Test qs) test fits) class)
     (λ _. unmet_marked_class qs h.ends class))

@@ -73,12 +73,15 @@ front_shorter row (b ∷ bs) =
     other : Shorter (suc (length bs)) (cond (nat_eq b 34) (text_piece row (quoted_length false 4096 bs) bs) (symbol_piece row b (symbol_front (b ∷ bs))))
     other = either (Shorter (suc (length bs))) (nat_eq b 34) _ _ (text_shorter row (quoted_length false 4096 bs) bs) (symbol_shorter row b (double_symbol b bs) (single_symbol b) bs)
 
-    digit : (t : Bool) → is_digit b ≡ t → Shorter (suc (length bs)) (cond t (number_piece row (prefix_len is_digit (b ∷ bs)) (b ∷ bs)) (cond (nat_eq b 34) (text_piece row (quoted_length false 4096 bs) bs) (symbol_piece row b (symbol_front (b ∷ bs)))))
+    digit : (t : Bool) → is_digit b ≡ t → Shorter (suc (length bs))
+        (cond t (number_piece row (prefix_len is_digit (b ∷ bs)) (b ∷ bs)) (cond (nat_eq b 34) (text_piece row (quoted_length false 4096 bs) bs) (symbol_piece row b (symbol_front (b ∷ bs)))))
     digit true e = number_shorter row b bs e
     digit false e = other
 
     letter : (t : Bool) → is_letter b ≡ t
-        → Shorter (suc (length bs)) (cond t (name_piece row (prefix_len in_name (b ∷ bs)) (b ∷ bs)) (cond (is_digit b) (number_piece row (prefix_len is_digit (b ∷ bs)) (b ∷ bs)) (cond (nat_eq b 34) (text_piece row (quoted_length false 4096 bs) bs) (symbol_piece row b (symbol_front (b ∷ bs))))))
+        → Shorter (suc (length bs)) (cond t (name_piece row (prefix_len in_name (b ∷ bs)) (b ∷ bs))
+        (cond (is_digit b) (number_piece row (prefix_len is_digit (b ∷ bs)) (b ∷ bs))
+        (cond (nat_eq b 34) (text_piece row (quoted_length false 4096 bs) bs) (symbol_piece row b (symbol_front (b ∷ bs))))))
     letter true e = name_shorter row b bs e
     letter false e = digit (is_digit b) refl
 

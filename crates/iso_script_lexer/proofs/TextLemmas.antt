@@ -154,5 +154,6 @@ text_front r bs = go (quoted_length false 4096 bs) refl
     go (Some n) e =
         let t = quoted false 4096 n bs e in
         a_token (spells_text
-        (ap (λ ds. 34 ∷ ds) (sym (take-append-drop n bs) ∙ ap (λ ds. take n bs ++ ds) (closes false 4096 n bs e) ∙ ap (λ raw. raw ++ (34 ∷ drop (n + 1) bs)) (sym (written-decoded false (take n bs) t.plain))))
+        (ap (λ ds. 34 ∷ ds) (sym (take-append-drop n bs) ∙ ap (λ ds. take n bs ++ ds) (closes false 4096 n bs e)
+        ∙ ap (λ raw. raw ++ (34 ∷ drop (n + 1) bs)) (sym (written-decoded false (take n bs) t.plain))))
         record { printable = decoded-AllPrintable false (take n bs) t.plain; short = t.short })

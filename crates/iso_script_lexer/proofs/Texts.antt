@@ -38,7 +38,8 @@ quoted false room n (b ∷ bs) h =
             subst (λ n. IsTextRest false room n (b ∷ bs)) (sym m.2) record { inside = let i = t.inside in omega arith; plain = rw w.0 t.plain; short = rw w.0 t.short }
         | inr s ↦ elim (chosen (is_printable b) _ _ _ s.1) [
           | inl w ↦ let m = after_counted n room (λ r. quoted_length false r bs) w.1 in let t = quoted false (room - 1) m.0 bs m.1 in
-              subst (λ n. IsTextRest false room n (b ∷ bs)) (sym m.2) record { inside = let i = t.inside in omega arith; plain = rw (s.0, q.0, w.0) t.plain; short = rw s.0 (let i = t.short in let j = m.3 in omega arith) }
+              subst (λ n. IsTextRest false room n (b ∷ bs)) (sym m.2)
+              record { inside = let i = t.inside in omega arith; plain = rw (s.0, q.0, w.0) t.plain; short = rw s.0 (let i = t.short in let j = m.3 in omega arith) }
           | inr w ↦ let e = w.1 in cc
         ]
       ]

@@ -167,7 +167,8 @@ chain_goes_on d n more s e here mid next room at ahead h es rest k =
 
 -- what goes on where an operator is next
 next_operand : {d n : ℕ} {s : Symbol} {es : Terms} {here rest : List Piece} → true ≡ is_some (infix_next here) → IsChained d s n es here rest
-    → (more : ℕ) × (e : Term) × (fs : Terms) × (r : Position) × (ps : List Piece) × (qs : List Piece) × (n ≡ suc more) × (here ≡ symbol_at r s ∷ ps) × IsOperand d e ps qs × IsChained d s more fs qs rest
+    → (more : ℕ) × (e : Term) × (fs : Terms) × (r : Position) × (ps : List Piece) × (qs : List Piece) × (n ≡ suc more) × (here ≡ symbol_at r s ∷ ps) × IsOperand d e ps qs
+    × IsChained d s more fs qs rest
 next_operand some (chained none) = cc
 next_operand some (E.IsChained.and_then {n = n} {r = r} {e = e} {es = es} {ps = ps} {qs = qs} h k) = (n, e, es, r, ps, qs, refl, refl, h, k)
 

@@ -258,11 +258,13 @@ all-named tree wishes =
 
 -- a node is kept by the shard that its top-level class goes to, and by no other
 pub shard-kept : (tree : List Row) → IsTree tree → HaveOwnPaths tree → (wishes : Option (List Wish)) (shard : Shard) (m : ℕ) → 0 < m
-    → is_kept_by tree (picked_paths tree wishes (Some shard)) m ≡ (is_kept_by tree (picked_paths tree wishes None) m && (shard_of tree (is_named_by tree wishes) shard.count (top_class tree m) == shard.index))
+    → is_kept_by tree (picked_paths tree wishes (Some shard)) m ≡
+    (is_kept_by tree (picked_paths tree wishes None) m && (shard_of tree (is_named_by tree wishes) shard.count (top_class tree m) == shard.index))
 shard-kept tree t own wishes shard m pos =
     let named = is_named_by tree wishes in
     let turn : ℕ → Bool = λ class. shard_of tree named shard.count class == shard.index in
-    kept-by-class tree t.below named turn (own-paths tree own named (named-root tree wishes)) (own-paths tree own (λ n. named n && turn (top_class tree n)) (picked-root tree wishes (Some shard))) m pos
+    kept-by-class tree t.below named turn (own-paths tree own named (named-root tree wishes))
+    (own-paths tree own (λ n. named n && turn (top_class tree n)) (picked-root tree wishes (Some shard))) m pos
     ∙ sym (ap (λ (ps : List (List ℕ)). is_kept_by tree ps m && turn (top_class tree m)) (all-named tree wishes))
 
 pub shard-within : (tree : List Row) (passes : ℕ → Bool) (count class : ℕ) → 1 ≤ count → (1 ≤ shard_of tree passes count class) × (shard_of tree passes count class ≤ count)
@@ -282,7 +284,8 @@ none-any f (x ∷ xs) none = ap₂ (λ (a b : Bool). a || b) (none x) (none-any 
 pub none-kept : (tree : List Row) (n : ℕ) → 0 < n → is_kept_by tree [] n ≡ false
 none-kept tree n pos =
     ap (λ (r : Bool). r || list_any (is_chosen tree []) (nodes_under tree n)) (not-root n pos)
-    ∙ none-any (is_chosen tree []) (nodes_under tree n) (λ d. none-any (is_named tree []) (path tree d) (λ x. elim (is_root x) as (λ (b : Bool). (not b && false) ≡ false) [ true ↦ refl | false ↦ refl ]))
+    ∙ none-any (is_chosen tree []) (nodes_under tree n)
+    (λ d. none-any (is_named tree []) (path tree d) (λ x. elim (is_root x) as (λ (b : Bool). (not b && false) ≡ false) [ true ↦ refl | false ↦ refl ]))
 
 root_alone : (tree : List Row) (n : ℕ) → those_below (is_kept_by tree []) (suc n) ≡ 0 ∷ []
 root_alone tree zero = refl

@@ -165,7 +165,8 @@ module _ (plan : Planned) (world : Start) (t : IsTree (tree_of plan)) (v w : Tra
   home-there : (i : ℕ) → IsWrittenOn (tree_of plan) p i → is_some (slot home.values i) ≡ true
   home-there i a =
       let apart = not-own i a in
-      ap is_some (stays i apart) ∙ back-holds.there i (record { node = a.node; above = above-parent (tree_of plan) t.below a.node n pos (another i a.node a.writes apart) ∙ a.above; writes = a.writes })
+      ap is_some (stays i apart) ∙ back-holds.there i
+      (record { node = a.node; above = above-parent (tree_of plan) t.below a.node n pos (another i a.node a.writes apart) ∙ a.above; writes = a.writes })
 
   home-holds : HoldsAlong plan world p home
   home-holds = record {
@@ -204,7 +205,8 @@ module _ (plan : Planned) (world : Start) (t : IsTree (tree_of plan)) (v w : Tra
   -- what was there before the node was lent was only changed further
   pub home-further : (u : TrayView) → StandsAsOpened plan world p p u → IsLentTo n u v → GoesOn u home
   home-further u su l = record {
-    fits = length-column (λ j. cond (is_written (locks (tree_of w.plan) n) j) None (slot back.values j)) (length back.values) ∙ length-column (λ j. option_or (slot (marked v n).values j) (slot w.values j)) (length w.values) ∙ on.fits ∙ l.fits;
+    fits = length-column (λ j. cond (is_written (locks (tree_of w.plan) n) j) None (slot back.values j)) (length back.values)
+        ∙ length-column (λ j. option_or (slot (marked v n).values j) (slot w.values j)) (length w.values) ∙ on.fits ∙ l.fits;
     only = λ i none. elim (some-or-none (slot home.values i)) [
       | inl x ↦ let wrong : false ≡ true = sym (ap is_some none) ∙ su.holds.there i (home-only i (ap is_some x.is)) in absurd (cc)
       | inr gone ↦ gone

@@ -132,7 +132,8 @@ module _ (plan : Planned) (world : Start) where
         entered = s.entered;
         vault = subst (λ z. IsLentAlong plan world (parent tr n) z) (sym xe) (vault-back plan world s.entered.tree end.vault n pos within at.vault);
         lent = subst (λ (z : TrayView). AreLentAlong plan (parent tr n) z.lent) (sym (tray-is w y e f)) (lent-less plan world s.entered.tree end.tray.lent n pos within at.lent);
-        tray = subst (λ (z : TrayView). StandsAsOpened plan world (parent tr n) (parent tr n) z) (sym (tray-is w y e f)) (home-stands plan world s.entered.tree u end.tray n pos within entered on at.tray);
+        tray = subst (λ (z : TrayView). StandsAsOpened plan world (parent tr n) (parent tr n) z) (sym (tray-is w y e f))
+            (home-stands plan world s.entered.tree u end.tray n pos within entered on at.tray);
         results = at.results;
       }
 

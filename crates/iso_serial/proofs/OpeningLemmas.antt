@@ -49,7 +49,8 @@ pub record IsOpened (plan : Planned) (world : Start) (n : ℕ) : Type 0 where
   pub chain : chain_classes (tree_of plan) n ≡ head ∷ chain_classes (tree_of plan) (parent (tree_of plan) n)
   pub rights : rights_of_subject (subject plan world n) ≡ class_rights (head ∷ chain_classes (tree_of plan) (parent (tree_of plan) n))
   pub is : opening_of (subject plan world n)
-      ≡ opened (opening_of (subject plan world (parent (tree_of plan) n))) (before_all head (chain_classes (tree_of plan) (parent (tree_of plan) n)) (opening_of (subject plan world (parent (tree_of plan) n))))
+      ≡ opened (opening_of (subject plan world (parent (tree_of plan) n)))
+      (before_all head (chain_classes (tree_of plan) (parent (tree_of plan) n)) (opening_of (subject plan world (parent (tree_of plan) n))))
 
 record HasHead (kind : T.Kind) : Type 0 where
   pub head : ClassHead
@@ -122,7 +123,8 @@ opening-kinds world k (c ∷ cs) =
     let o = opening cs (started world) in
     let ih = opening-kinds world k cs in
     elim o.well as (λ b. kind_at (cond b (opened o (before_all c cs o)) o).resources k ≡ Some (kind_of_key k)) [
-      | true ↦ kinds-unless c.disabled (class_rights (c ∷ cs)) k c.before_all (environment (statics_of o.frames ++ at_literals Static c.statics) 0 (words_of (c ∷ cs) Lifecycle.BeforeAll)) o.resources ∙ ih
+      | true ↦ kinds-unless c.disabled (class_rights (c ∷ cs)) k c.before_all (environment (statics_of o.frames ++ at_literals Static c.statics) 0 (words_of (c ∷ cs) Lifecycle.BeforeAll))
+          o.resources ∙ ih
       | false ↦ ih
     ]
 

@@ -49,10 +49,12 @@ module _ (plan : Planned) (world : Start) (t : IsTree (tree_of plan)) (n : ℕ) 
   pub test-ready : is_test (row_at tr n).kind ≡ true → StandsAsOpened plan world n (parent tr n) u → IsReadyFor (subject plan world n) Test (content u) (has_value u)
   test-ready e st =
       let s = subject plan world n in
-      let above : chain_classes tr n ≡ chain_classes tr (parent tr n) = chain-step tr t.below n pos ∙ ap (λ (hs : List ClassHead). hs ++ chain_classes tr (parent tr n)) (no-heads (row_at tr n).kind e) in
+      let above : chain_classes tr n ≡ chain_classes tr (parent tr n) = chain-step tr t.below n pos
+      ∙ ap (λ (hs : List ClassHead). hs ++ chain_classes tr (parent tr n)) (no-heads (row_at tr n).kind e) in
       record {
         keys = tray-keys plan world t u n (parent tr n) pos within lent st;
-        stands = equal-to (rights_of_subject s) (content u) (opening_of (subject plan world (parent tr n))).resources (begun Test s).resources (tray-equal plan world t u n (parent tr n) pos within lent st)
+        stands = equal-to (rights_of_subject s) (content u) (opening_of (subject plan world (parent tr n))).resources (begun Test s).resources
+            (tray-equal plan world t u n (parent tr n) pos within lent st)
             (testing-resources (chain_test tr n) (classes_of s) (opening_of s) ∙ ap (λ (hs : List ClassHead). (opening hs (started world)).resources) above);
       }
 

@@ -157,7 +157,8 @@ module _ (plan : Planned) (world : Start) where
         lent = subst (λ (ls : List Bool). AreLentAlong plan n ls) (sym d.lent) s.lent;
         tray = tested-apart plan world t old.tray new.tray n s.tray d;
         results = subst (λ (x : ResultsView). AreResultsAlong plan world (parent tr n) x) (sym re)
-            (put-test plan world v (tree-at v u.plan_is t) (parent tr n) n (parent-at v n u.plan_is) s.positive within (ap (λ (pl : Planned). is_test (row_at (tree_of pl) n).kind) u.plan_is ∙ test) u);
+            (put-test plan world v (tree-at v u.plan_is t) (parent tr n) n (parent-at v n u.plan_is) s.positive within
+            (ap (λ (pl : Planned). is_test (row_at (tree_of pl) n).kind) u.plan_is ∙ test) u);
         done = has-ended n v new.results re (omega arith);
       }
 

@@ -75,11 +75,18 @@ one-child : (tree : List Row) (m n : ℕ) (ns : List ℕ) (t : Bool) → (not (P
     → All (IsChild tree m (suc n)) ns → All (IsChild tree m (suc n)) (cond t (ns ++ n ∷ []) ns)
 one-child tree m n ns false e all = all
 one-child tree m n ns true e all = All-append (IsChild tree m (suc n)) ns (n ∷ []) all
-    (All-cons (IsChild tree m (suc n)) n [] (record { below = omega arith; root = sym (roots n) ∙ not-true (Paths.is_root n) (and-left (not (Paths.is_root n)) (eqb (parent tree n) m) e); parent = and-right (not (Paths.is_root n)) (eqb (parent tree n) m) e }) (All-nil (IsChild tree m (suc n))))
+    (All-cons (IsChild tree m (suc n)) n [] (record {
+      below = omega arith;
+      root = sym (roots n)
+          ∙ not-true (Paths.is_root n) (and-left (not (Paths.is_root n)) (eqb (parent tree n) m) e);
+      parent = and-right (not (Paths.is_root n)) (eqb (parent tree n) m) e;
+    })
+    (All-nil (IsChild tree m (suc n))))
 
 pub children-known : (tree : List Row) (m n : ℕ) → All (IsChild tree m n) (children_below tree m n)
 children-known tree m zero = All-nil (IsChild tree m zero)
-children-known tree m (suc n) = one-child tree m n (children_below tree m n) (not (Paths.is_root n) && eqb (parent tree n) m) refl (All-weaker (IsChild tree m n) (IsChild tree m (suc n)) (child-more tree m n) (children_below tree m n) (children-known tree m n))
+children-known tree m (suc n) = one-child tree m n (children_below tree m n) (not (Paths.is_root n) && eqb (parent tree n) m) refl
+    (All-weaker (IsChild tree m n) (IsChild tree m (suc n)) (child-more tree m n) (children_below tree m n) (children-known tree m n))
 
 -- numbers from n on that pass no test change nothing
 pub any-cut : (n k : ℕ) (p : ℕ → Bool) → any_below (n + k) (λ i. leb (suc i) n && p i) ≡ any_below n p
@@ -88,7 +95,8 @@ any-cut n zero p =
     ap (λ j. any_below j (λ i. leb (suc i) n && p i)) e ∙ any-alike n (λ i. leb (suc i) n && p i) p (λ m h. ap (λ (b : Bool). b && p m) (le-leb (suc m) n (omega arith)))
 any-cut n (suc k) p =
     let e : n + suc k ≡ suc (n + k) = omega arith in
-    ap (λ j. any_below j (λ i. leb (suc i) n && p i)) e ∙ any-step (n + k) (λ i. leb (suc i) n && p i) ∙ ap₂ (λ (a b : Bool). a || (b && p (n + k))) (any-cut n k p) (lt-leb (suc (n + k)) n (omega arith)) ∙ or-false (any_below n p)
+    ap (λ j. any_below j (λ i. leb (suc i) n && p i)) e ∙ any-step (n + k) (λ i. leb (suc i) n && p i)
+    ∙ ap₂ (λ (a b : Bool). a || (b && p (n + k))) (any-cut n k p) (lt-leb (suc (n + k)) n (omega arith)) ∙ or-false (any_below n p)
 
 -- a loop over a list that has come to its end
 pub at-end : (p : ℕ → Bool) (xs : List ℕ) (i : ℕ) → list_any p (drop i xs) ≡ list_any p xs → length xs ≤ i → list_any p xs ≡ false

@@ -173,7 +173,8 @@ module _ (v : Standing) (start : Resources) (s : RunState) (like : LooksLike v s
       barred-by n test (s.nodes.status n) (ap (λ (p : Phase). is_some (body_in (bare p))) (like.phases n h) ∙ body) (ap (λ (p : Phase). is_closing (bare p)) (like.phases n h) ∙ last)
 
 -- a Leave, told of the values of a standing that contracts see as v
-module _ (u v : Standing) (same : u ≡ v) (is : IsStanding u) (w n : ℕ) (has : HasBody v w) (found : w < length u.busy → get_or u.busy w None ≡ Some n) (start : Resources) (s : RunState) (like : LooksLike v s) where
+module _ (u v : Standing) (same : u ≡ v) (is : IsStanding u) (w n : ℕ) (has : HasBody v w) (found : w < length u.busy → get_or u.busy w None ≡ Some n) (start : Resources) (s : RunState)
+    (like : LooksLike v s) where
   known : NodeLeft v w n
   known = node-left u v w n same is has found
 

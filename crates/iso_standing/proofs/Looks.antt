@@ -248,4 +248,5 @@ module _ (v : Standing) (start : Resources) (s : RunState) (like : LooksLike v s
   pub complete-is : is_complete_in v start s ≡ not (any_below (nodes_in v) (λ m. not (is_root m) && is_left_at m))
   complete-is =
       ap (λ j. not (any_below j (λ m. not (is_root m) && not (is_finished (s.nodes.status m))))) (nodes-are v.plan)
-      ∙ ap not (any-alike (nodes_in v) (λ m. not (is_root m) && not (is_finished (s.nodes.status m))) (λ m. not (is_root m) && is_left_at m) (λ m h. ap (λ (b : Bool). not (is_root m) && b) (unfinished m h)))
+      ∙ ap not (any-alike (nodes_in v) (λ m. not (is_root m) && not (is_finished (s.nodes.status m))) (λ m. not (is_root m) && is_left_at m)
+      (λ m h. ap (λ (b : Bool). not (is_root m) && b) (unfinished m h)))

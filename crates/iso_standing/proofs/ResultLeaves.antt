@@ -184,7 +184,8 @@ module _ (r : ResultsView) (t : IsTree (tree_of r.plan)) (s : RunState) (reached
       empty m e = unheld (at m) (λ held.
           elim (equal_or_not m 0) [
             | inl zeroth ↦
-                let none : is_in n (path tree (parent tree m)) ≡ false = ap (λ (j : ℕ). is_in n (path tree (parent tree j))) zeroth ∙ ap (λ (row : Row). is_in n (path tree row.parent)) t.root_is ∙ ap (is_in n) (path-root tree) in
+                let none : is_in n (path tree (parent tree m)) ≡ false = ap (λ (j : ℕ). is_in n (path tree (parent tree j))) zeroth
+                ∙ ap (λ (row : Row). is_in n (path tree row.parent)) t.root_is ∙ ap (is_in n) (path-root tree) in
                 cc
             | inr other ↦
                 let less = t.below m (omega (arith, other)) in
@@ -199,10 +200,13 @@ module _ (r : ResultsView) (t : IsTree (tree_of r.plan)) (s : RunState) (reached
           → AreResultsOf after (cond w (opening_left scripts x n b s.nodes) (barring scripts x n (frames_left scripts x n b s.nodes) (opening_left scripts x n b s.nodes)))
       opening-left true w =
           subst (λ (v : Bool). AreResultsOf after (record { flat = s.nodes.flat; status = S.put n (open_or_barred v (frames_left scripts x n b s.nodes)) at; saved = s.nodes.saved })) (sym w)
-          (put-opened r s.nodes n s.nodes.flat s.nodes.saved are inside (closing-frames (at n) b here ∙ ap is_closing begun) (body-unfinished (at n) b here) (S.Open (frames_left scripts x n b s.nodes)) refl refl (bars-ill ∙ ap not w))
+          (put-opened r s.nodes n s.nodes.flat s.nodes.saved are inside (closing-frames (at n) b here ∙ ap is_closing begun) (body-unfinished (at n) b here)
+          (S.Open (frames_left scripts x n b s.nodes)) refl refl (bars-ill ∙ ap not w))
       opening-left false w =
-          subst (λ (v : Bool). AreResultsOf after (barring scripts x n (frames_left scripts x n b s.nodes) (record { flat = s.nodes.flat; status = S.put n (open_or_barred v (frames_left scripts x n b s.nodes)) at; saved = s.nodes.saved }))) (sym w)
-          (put-barred r s.nodes n s.nodes.flat s.nodes.saved are inside (closing-frames (at n) b here ∙ ap is_closing begun) (body-unfinished (at n) b here) (S.Barred (frames_left scripts x n b s.nodes)) refl refl
+          subst (λ (v : Bool). AreResultsOf after (barring scripts x n (frames_left scripts x n b s.nodes)
+          (record { flat = s.nodes.flat; status = S.put n (open_or_barred v (frames_left scripts x n b s.nodes)) at; saved = s.nodes.saved }))) (sym w)
+          (put-barred r s.nodes n s.nodes.flat s.nodes.saved are inside (closing-frames (at n) b here ∙ ap is_closing begun) (body-unfinished (at n) b here)
+          (S.Barred (frames_left scripts x n b s.nodes)) refl refl
           (scripts.blocked (frames_left scripts x n b s.nodes)) (bars-ill ∙ ap not w) (not-inside tree t.below (parent tree n) n (t.below n pos)) empty)
 
     abbrev Follows : BodyKind → NodeStatus → Type 0

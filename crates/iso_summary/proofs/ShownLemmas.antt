@@ -41,7 +41,8 @@ plain_has_none c h = by (nat_lt c 128) (nat_lt c 2048) (nat_lt c 65536) refl
     next n = beyond (128 + n % 64) (omega arith)
 
     by : (s t u : Bool) → nat_lt c 128 ≡ s
-        → has_ascii_control (cond s (c ∷ []) (cond t ((192 + c / 64) ∷ (128 + c % 64) ∷ []) (cond u ((224 + c / 4096) ∷ (128 + (c / 64) % 64) ∷ (128 + c % 64) ∷ []) ((240 + c / 262144) ∷ (128 + (c / 4096) % 64) ∷ (128 + (c / 64) % 64) ∷ (128 + c % 64) ∷ [])))) ≡ false
+        → has_ascii_control (cond s (c ∷ []) (cond t ((192 + c / 64) ∷ (128 + c % 64) ∷ [])
+        (cond u ((224 + c / 4096) ∷ (128 + (c / 64) % 64) ∷ (128 + c % 64) ∷ []) ((240 + c / 262144) ∷ (128 + (c / 4096) % 64) ∷ (128 + (c / 64) % 64) ∷ (128 + c % 64) ∷ [])))) ≡ false
     by true t u e = let low : is_ascii_control c ≡ false = grind (arith, nat_tests) in rw low refl
     by false true u e = rw (beyond (192 + c / 64) (omega arith), next c) refl
     by false false true e = rw (beyond (224 + c / 4096) (omega arith), next (c / 64), next c) refl

@@ -18,7 +18,8 @@ with_escapes-plain other (b ∷ bs) h =
 pub with_escapes-next : (other n : ℕ) (t : List ℕ) → n ≡ plain_len other t → n < length t → with_escapes other t ≡ take n t ++ (92 ∷ get_or (drop n t) 0 0 ∷ with_escapes other (drop 1 (drop n t)))
 with_escapes-next other n [] e h = absurd (omega arith)
 with_escapes-next other n (b ∷ bs) e h =
-    elim (is_special other b) as (λ x. n ≡ cond x 0 (suc (plain_len other bs)) → cond x (92 ∷ b ∷ with_escapes other bs) (b ∷ with_escapes other bs) ≡ take n (b ∷ bs) ++ (92 ∷ get_or (drop n (b ∷ bs)) 0 0 ∷ with_escapes other (drop 1 (drop n (b ∷ bs))))) [
+    elim (is_special other b) as (λ x. n ≡ cond x 0 (suc (plain_len other bs))
+    → cond x (92 ∷ b ∷ with_escapes other bs) (b ∷ with_escapes other bs) ≡ take n (b ∷ bs) ++ (92 ∷ get_or (drop n (b ∷ bs)) 0 0 ∷ with_escapes other (drop 1 (drop n (b ∷ bs))))) [
       | true ↦ λ k. rw k refl
       | false ↦ λ k. let less : plain_len other bs < length bs = omega arith in rw k (ap (λ t. b ∷ t) (with_escapes-next other (plain_len other bs) bs refl less))
     ] e

@@ -39,7 +39,8 @@ module _ (tree : List Row) (outcome : ℕ → Outcome) (t : IsTree tree) where
 
   shown_same : (indent number n : ℕ) (f g : ℕ → ℕ → List ℕ) → ((i c : ℕ) → IsChild tree n c → f i c ≡ g i c) → shown indent f number n ≡ shown indent g number n
   shown_same indent number n f g same =
-      ap (λ (s : List ℕ). cond (is_test (row_at tree n).kind) [] (subtest_line indent (row_at tree n).title ++ (plan_line (indent + 4) (length (children tree n)) ++ s)) ++ point indent number (is_ok tree outcome n) (row_at tree n).title (outcome n))
+      ap (λ (s : List ℕ). cond (is_test (row_at tree n).kind) [] (subtest_line indent (row_at tree n).title ++ (plan_line (indent + 4) (length (children tree n)) ++ s)) ++ point indent number
+      (is_ok tree outcome n) (row_at tree n).title (outcome n))
       (numbered_same tree n f g same 1 (children tree n) (recursion_from_All (IsChild tree n) (children tree n) (children-are tree n t)))
 
   text_enough : (d e indent number n : ℕ) → n < length tree → length tree ≤ n + d → length tree ≤ n + e

@@ -177,11 +177,13 @@ module _ (tree : List Row) (n : ℕ) where
       let k = key_of tree n w in
       let has : has_key tree n k w ≡ true = eq_same k in
       let some : is_some (wait_for tree n ws k) ≡ true = some-if n k (has_key tree n k) ws ∙ any-of (has_key tree n k) ws i d h has in
-      let each = of-passing (λ v. IfSome (wait_for tree n ws k) (λ sum. Covers k sum v)) (has_key tree n k) ws (covered n k (filter (has_key tree n k) ws) from until (turn-filter (has_key tree n k) from until ws turn)) in
+      let each = of-passing (λ v. IfSome (wait_for tree n ws k) (λ sum. Covers k sum v)) (has_key tree n k) ws
+      (covered n k (filter (has_key tree n k) ws) from until (turn-filter (has_key tree n k) from until ws turn)) in
       let at = All-from_recursion (λ v. has_key tree n k v ≡ true → IfSome (wait_for tree n ws k) (λ sum. Covers k sum v)) ws each i d h has in
       let l = lock-of w (are i d h) in
       let same : wait_for tree n ws k ≡ wait_for tree n ws l.1.key = ap (wait_for tree n ws) (sym l.4) in
-      told-at (λ sum. Covers k sum w) (λ l. wait_for tree n ws l.key) (locks tree n) l.0 l.1 l.2 l.3 (ap is_some (sym same) ∙ some) (subst (λ (o : Option NodeWait). IfSome o (λ sum. Covers k sum w)) same at)
+      told-at (λ sum. Covers k sum w) (λ l. wait_for tree n ws l.key) (locks tree n) l.0 l.1 l.2 l.3 (ap is_some (sym same) ∙ some)
+      (subst (λ (o : Option NodeWait). IfSome o (λ sum. Covers k sum w)) same at)
 
 until-turn : (h : ℕ → Option ℕ) (r : Option ℕ) (s : Option Stay) → (from : ℕ) × (until : ℕ) × AreInTurn from until (waits_until h r s)
 until-turn h None s = (0, 0, tt)

@@ -17,7 +17,8 @@ returns-then-not-same_stmt c =
     let within : i < length c.args.was.now = omega arith in
     let inside : i < length c.args.now.now = omega arith in
     apart-here (map stmt_of c.args.was.now) (map stmt_of c.args.now.now) i was
-    (λ same. true≢false (sym (c.same_stmt.ensures.1 (sym (read c.args.was.now i _ was within c.index-was-place.is) ∙ same ∙ read c.args.now.now i _ was inside c.index-now-place.is)) ∙ c.if-not-same_stmt.true))
+    (λ same. true≢false (sym (c.same_stmt.ensures.1 (sym (read c.args.was.now i _ was within c.index-was-place.is) ∙ same ∙ read c.args.now.now i _ was inside c.index-now-place.is))
+    ∙ c.if-not-same_stmt.true))
     c.statements.invariant
 
 pub statements-preserved : goal.statements-preserved

@@ -16,7 +16,8 @@ returns-then-not-branch-clause-first c =
       apart = λ d same.
           let at : get_or ms i d ≡ get_or ms i c.index-marks-i.result = get_or_default ms i d c.index-marks-i.result within in
           let here = ap (λ (m : Mark). starting_value_in c.args.starts.now.before m.key) (sym at) ∙ same ∙ ap (λ (m : Mark). starting_value_in c.args.starts.now.after m.key) at in
-          let now = subst (λ (s : StartsView). starting_value_in s.before (get_or ms i c.index-marks-i.result).key ≡ starting_value_in s.after (get_or ms i c.index-marks-i.result).key) (sym c.marks.invariant.starts) here in
+          let now = subst (λ (s : StartsView). starting_value_in s.before (get_or ms i c.index-marks-i.result).key ≡ starting_value_in s.after (get_or ms i c.index-marks-i.result).key)
+          (sym c.marks.invariant.starts) here in
           true≢false (sym (c.in_ok-alike.ensures.alike.1 now) ∙ c.if-not-branch.true);
       first = c.marks.invariant.alike;
     }

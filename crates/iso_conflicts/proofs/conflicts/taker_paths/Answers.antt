@@ -15,7 +15,8 @@ returns-in_err-taker_path g c =
     let here : c.nodes.node < length plan.rows = omega arith in
     let p = takes tree c.args.access c.args.key in
     let text : ℕ → List ℕ = λ n. codes " " ++ path_text tree n in
-    let next = ap (λ ns. flat_map text (filter p ns)) (range-next (length plan.rows) c.nodes.node here) ∙ texts-next p text c.nodes.node (range_with_len (c.nodes.node + 1) (length plan.rows - (c.nodes.node + 1))) in
+    let next = ap (λ ns. flat_map text (filter p ns)) (range-next (length plan.rows) c.nodes.node here)
+    ∙ texts-next p text c.nodes.node (range_with_len (c.nodes.node + 1) (length plan.rows - (c.nodes.node + 1))) in
     let e = err_from_is_err_and c.from_residual.result c.from_residual.ensures.1 in
     rw e.1 (left_cut _ _ e.0 next c.nodes.invariant c.in_err-taker_path.ensures)
 
@@ -26,5 +27,6 @@ nodes-preserved g c =
     let here : c.nodes.node < length plan.rows = omega arith in
     let p = takes tree c.args.access c.args.key in
     let text : ℕ → List ℕ = λ n. codes " " ++ path_text tree n in
-    let next = ap (λ ns. flat_map text (filter p ns)) (range-next (length plan.rows) c.nodes.node here) ∙ texts-next p text c.nodes.node (range_with_len (c.nodes.node + 1) (length plan.rows - (c.nodes.node + 1))) in
+    let next = ap (λ ns. flat_map text (filter p ns)) (range-next (length plan.rows) c.nodes.node here)
+    ∙ texts-next p text c.nodes.node (range_with_len (c.nodes.node + 1) (length plan.rows - (c.nodes.node + 1))) in
     left_next next c.nodes.invariant c.in_ok-taker_path.ensures

@@ -9,6 +9,7 @@ use Rattle.iso_conflicts.proofs.longest.longest_class.Given as goal
 abbrev pub invariant-nodes : goal.invariant-nodes
 invariant-nodes l =
     record {
-      so_far : fold longer l.best (class_chains (tree_of l.plan) l.plan.settings (length l.plan.rows - l.node) l.node) ≡ fold longer no_chain (class_chains (tree_of l.plan) l.plan.settings (length l.plan.rows) 0);
+      so_far : fold longer l.best (class_chains (tree_of l.plan) l.plan.settings (length l.plan.rows - l.node) l.node) ≡ fold longer no_chain
+          (class_chains (tree_of l.plan) l.plan.settings (length l.plan.rows) 0);
       known : IsOf (tree_of l.plan) l.best.shared;
     }

@@ -9,6 +9,7 @@ use Rattle.iso_conflicts.proofs.longest.longest_key.Given as goal
 abbrev pub invariant-keys : goal.invariant-keys
 invariant-keys l =
     record {
-      so_far : fold longer l.best (key_chains (tree_of l.plan) (length (keys (tree_of l.plan)) - l.key) l.key) ≡ fold longer l.fn.class (key_chains (tree_of l.plan) (length (keys (tree_of l.plan))) 0);
+      so_far : fold longer l.best (key_chains (tree_of l.plan) (length (keys (tree_of l.plan)) - l.key) l.key) ≡ fold longer l.fn.class
+          (key_chains (tree_of l.plan) (length (keys (tree_of l.plan))) 0);
       known : IsOf (tree_of l.plan) l.best.shared;
     }

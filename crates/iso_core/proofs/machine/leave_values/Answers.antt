@@ -25,4 +25,5 @@ pub returns-in-AfterAll-clause-state : goal.returns-in-AfterAll-clause-state
 returns-in-AfterAll-clause-state c = λ s b is here same.
     let v = c.args.flat.now in
     let n = c.args.node in
-    flat-last v.tray.plan v.tray.world c.leave-in-AfterAll.new.self n s c.args.kind b (λ e. let t = c.in-AfterAll.is in cc) c.requires.fits (λ r. c.leave-in-AfterAll.ensures.state s r is) (s.status n) here same
+    flat-last v.tray.plan v.tray.world c.leave-in-AfterAll.new.self n s c.args.kind b (λ e. let t = c.in-AfterAll.is in cc) c.requires.fits (λ r. c.leave-in-AfterAll.ensures.state s r is)
+    (s.status n) here same

@@ -7,5 +7,6 @@ use Rattle.iso_explain_settings.proofs.listing.all_settings.Given as goal
 
 abbrev pub invariant-loop-key : goal.invariant-loop-key
 invariant-loop-key l =
-    flat_map setting_line l.all.items ++ flat_map (λ (key : List ℕ). setting_text key (leaves (table_view l.table)) l.settings.parallel l.settings.default_mode) (map (λ k. k.now) (drop l.key-index l.keys))
+    flat_map setting_line l.all.items ++ flat_map (λ (key : List ℕ). setting_text key (leaves (table_view l.table)) l.settings.parallel l.settings.default_mode)
+    (map (λ k. k.now) (drop l.key-index l.keys))
     ≡ flat_map (λ (key : List ℕ). setting_text key (leaves (table_view l.table)) l.settings.parallel l.settings.default_mode) (map (λ k. k.now) l.keys)

@@ -8,4 +8,5 @@ abbrev pub invariant-add_keys-members : goal.invariant-add_keys-members
 invariant-add_keys-members l =
     (goal.iterator-add_keys-members).can_next l.name-iterator × (goal.iterator-add_keys-members).is_finite l.name-iterator
     × (string_bytes l.path ≡ string_bytes l.fn.path)
-    × (with_keys (kept_of l.unknown) (leaves_behind (string_bytes l.fn.path) (members_view l.name-iterator)) ≡ with_keys (kept_of l.fn.unknown) (leaves_behind (string_bytes l.fn.path) (members_view l.table.entries)))
+    × (with_keys (kept_of l.unknown) (leaves_behind (string_bytes l.fn.path) (members_view l.name-iterator)) ≡ with_keys (kept_of l.fn.unknown)
+    (leaves_behind (string_bytes l.fn.path) (members_view l.table.entries)))

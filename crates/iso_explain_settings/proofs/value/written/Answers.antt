@@ -7,5 +7,6 @@ returns-in-Ok c =
     let ok : IsOk c.fmt.result = search rules in
     let (text, written, is) = c.fmt.ensures.text c.new-f.ensures.plain ok in
     let same : string_bytes c.into_inner.result ≡ text =
-    ap string_bytes c.into_inner.ensures ∙ contents_after_writes _ string_bytes (λ w l v t. t) _ text _ written.wrote ∙ ap (λ l. l ++ text) (ap string_bytes c.new-f.ensures.writer ∙ c.new.ensures.bytes) in
+    ap string_bytes c.into_inner.ensures ∙ contents_after_writes _ string_bytes (λ w l v t. t) _ text _ written.wrote
+    ∙ ap (λ l. l ++ text) (ap string_bytes c.new-f.ensures.writer ∙ c.new.ensures.bytes) in
     rw same is

@@ -27,11 +27,13 @@ loop-receipt-preserved c =
             let refused : IsNext h r c.loop-receipt.highest c.loop-receipt.marks → ⊥ = OnFalse_at w.if-not-mark.true c.mark.ensures.refused in
             let same : c.mark.new.marks ≡ c.loop-receipt.marks = OnFalse_at w.if-not-mark.true c.mark.ensures.same in
             let low : c.if-not-mark.lost ≡ Some (lower_of r.number c.loop-receipt.lost) = rw (← is) (w.lost-is ∙ ap Some w.lower.ensures) in
-            rw (same, low) (list_refused h c.args.marks.now c.args.lost xs c.loop-receipt.marks c.loop-receipt.lost c.loop-receipt.highest r c.loop-receipt.invariant.on c.loop-receipt.invariant.high refused)
+            rw (same, low) (list_refused h c.args.marks.now c.args.lost xs c.loop-receipt.marks c.loop-receipt.lost c.loop-receipt.highest r c.loop-receipt.invariant.on
+            c.loop-receipt.invariant.high refused)
         | else-not-mark w ↦
             let next : IsNext h r c.loop-receipt.highest c.loop-receipt.marks = OnTrue_at w.if-not-mark.false c.mark.ensures.taken in
             let marked : c.mark.new.marks ≡ set c.loop-receipt.marks r.number true = OnTrue_at w.if-not-mark.false c.mark.ensures.marked in
-            rw (marked, w.lost-is) (list_marked h c.args.marks.now c.args.lost xs c.loop-receipt.marks c.loop-receipt.lost c.loop-receipt.highest r c.loop-receipt.invariant.on c.loop-receipt.invariant.high c.loop-receipt.invariant.room next)
+            rw (marked, w.lost-is) (list_marked h c.args.marks.now c.args.lost xs c.loop-receipt.marks c.loop-receipt.lost c.loop-receipt.highest r c.loop-receipt.invariant.on
+            c.loop-receipt.invariant.high c.loop-receipt.invariant.room next)
       ]);
       high = rw (more, high) (highest_next xs c.loop-receipt.highest r c.loop-receipt.invariant.high);
     }

@@ -30,7 +30,8 @@ locks-preserved c =
                 renewed-on writes ls i _ k _ (has c.locks.written k) (has c.if-key-lt-KEYS.written k) next w-is (ap (λ (m : Marks). has m k) w.written-is ∙ w.mark.ensures.written k)
                 ∙ c.locks.invariant.written k h;
             held = λ k h.
-                renewed-on takes ls i _ k _ (has c.locks.held k) (has c.if-key-lt-KEYS.held k) next (ap₂ (λ (a b : Bool). a || b) w-is r-is) (ap (λ (m : Marks). has m k) w.held-is ∙ w.mark.ensures.held k)
+                renewed-on takes ls i _ k _ (has c.locks.held k) (has c.if-key-lt-KEYS.held k) next (ap₂ (λ (a b : Bool). a || b) w-is r-is)
+                (ap (λ (m : Marks). has m k) w.held-is ∙ w.mark.ensures.held k)
                 ∙ c.locks.invariant.held k h;
           }
       | else-key-lt-KEYS w ↦
@@ -39,7 +40,8 @@ locks-preserved c =
                 subst (λ (m : Marks). AreMarks (record { held = m; written = c.if-key-lt-KEYS.written })) (sym w.held-is)
                 (subst (λ (m : Marks). AreMarks (record { held = c.locks.held; written = m })) (sym w.written-is) c.locks.invariant.marks);
             written = λ k h.
-                renewed-past writes ls i _ k (has c.locks.written k) (has c.if-key-lt-KEYS.written k) next h w.if-key-lt-KEYS.false (ap (λ (m : Marks). has m k) w.written-is) ∙ c.locks.invariant.written k h;
+                renewed-past writes ls i _ k (has c.locks.written k) (has c.if-key-lt-KEYS.written k) next h w.if-key-lt-KEYS.false (ap (λ (m : Marks). has m k) w.written-is)
+                ∙ c.locks.invariant.written k h;
             held = λ k h.
                 renewed-past takes ls i _ k (has c.locks.held k) (has c.if-key-lt-KEYS.held k) next h w.if-key-lt-KEYS.false (ap (λ (m : Marks). has m k) w.held-is) ∙ c.locks.invariant.held k h;
           }

@@ -15,5 +15,6 @@ returns g c = λ _.
     let tree : IsTree (tree_of t.plan) = subst (λ (x : Planned). IsTree (tree_of x)) same c.nodes_are_a_tree.ensures in
     let count : length p.rows ≡ length t.plan.rows = ap (λ (x : Planned). length x.rows) same in
     let flat : t.flat ≡ false = sym c.is_flat.ensures ∙ c.if-is_flat.false in
-    let none : (n : ℕ) → n < length t.plan.rows → is_lent t.lent n ≡ false = λ n less. ap (λ (x : TrayView). is_lent x.lent n) c.tray-tray.ensures.tray ∙ c.nodes.invariant n (omega (arith, c.nodes-test.false, c.len-node-end.ensures, count, less)) in
+    let none : (n : ℕ) → n < length t.plan.rows → is_lent t.lent n ≡ false = λ n less. ap (λ (x : TrayView). is_lent x.lent n) c.tray-tray.ensures.tray
+    ∙ c.nodes.invariant n (omega (arith, c.nodes-test.false, c.len-node-end.ensures, count, less)) in
     subst IsFree c.tray-tray.ensures.tray (nothing-lent t tree (c.values_are_of_lent_nodes.ensures flat) none)

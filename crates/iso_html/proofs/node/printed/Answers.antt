@@ -29,7 +29,8 @@ returns-in_err-all_lines-2 g c =
     let ms = lines_in c.args.view.more in
     let apart = printed-apart ls ms (sym c.printed_nothing.ensures ∙ c.if-printed_nothing.false) in
     prints_as
-    (prints_stopped (codes "</pre>\n") _ c.from_residual-in_err-all_lines-2.ensures.0 (prints_then _ (prints_then (Ok tt) c.in_ok-bytes.ensures c.in_ok-all_lines.ensures) c.in_err-all_lines-2.ensures))
+    (prints_stopped (codes "</pre>\n") _ c.from_residual-in_err-all_lines-2.ensures.0
+    (prints_then _ (prints_then (Ok tt) c.in_ok-bytes.ensures c.in_ok-all_lines.ensures) c.in_err-all_lines-2.ensures))
     _ (sym apart)
 
 pub returns : goal.returns

@@ -15,15 +15,18 @@ nodes-init g c = prints_nothing c.args.printer.now
 pub nodes-preserved : goal.nodes-preserved
 nodes-preserved g c =
     let r = run_of c.args.run.now in
-    prints_as (prints_then (Ok tt) c.nodes.invariant c.in_ok-failure.ensures) _ (sym (lines-next (failure_text r (map excerpt_of c.args.quotes.now) (commands_of c.args.commands.now)) (is_failure r.outcome) c.nodes.node))
+    prints_as (prints_then (Ok tt) c.nodes.invariant c.in_ok-failure.ensures) _
+    (sym (lines-next (failure_text r (map excerpt_of c.args.quotes.now) (commands_of c.args.commands.now)) (is_failure r.outcome) c.nodes.node))
 
 pub returns-in_err-failure : goal.returns-in_err-failure
 returns-in_err-failure g c =
     let r = run_of c.args.run.now in
     let n = c.nodes.node in
     let p = err_from_is_err_and c.from_residual.result c.from_residual.ensures.1 in
-    let rest = lines-rest (failure_text r (map excerpt_of c.args.quotes.now) (commands_of c.args.commands.now)) (is_failure r.outcome) (n + 1) (length r.tree) (omega (arith, c.len-node-end.ensures)) in
-    let here = prints_as (prints_then (Err p.0) c.nodes.invariant c.in_err-failure.ensures) _ (sym (lines-next (failure_text r (map excerpt_of c.args.quotes.now) (commands_of c.args.commands.now)) (is_failure r.outcome) n)) in
+    let rest = lines-rest (failure_text r (map excerpt_of c.args.quotes.now) (commands_of c.args.commands.now)) (is_failure r.outcome) (n + 1) (length r.tree)
+    (omega (arith, c.len-node-end.ensures)) in
+    let here = prints_as (prints_then (Err p.0) c.nodes.invariant c.in_err-failure.ensures) _
+    (sym (lines-next (failure_text r (map excerpt_of c.args.quotes.now) (commands_of c.args.commands.now)) (is_failure r.outcome) n)) in
     rw p.1 (prints_as (prints_cut rest.rest p.0 p.0 here) _ (sym rest.is))
 
 pub returns : goal.returns

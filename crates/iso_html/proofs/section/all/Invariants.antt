@@ -6,4 +6,5 @@ use Rattle.iso_tap.proofs.PrinterLemmas.{LeftToPrint}
 use Rattle.iso_html.proofs.section.all.Given as goal
 
 abbrev pub invariant-loop-section : goal.invariant-loop-section
-invariant-loop-section g l = LeftToPrint l.fn.printer l.printer (joined (map (section_text (run_of l.run) l.measured) l.sections)) (joined (map (section_text (run_of l.run) l.measured) (drop l.section-index l.sections)))
+invariant-loop-section g l = LeftToPrint l.fn.printer l.printer (joined (map (section_text (run_of l.run) l.measured) l.sections))
+    (joined (map (section_text (run_of l.run) l.measured) (drop l.section-index l.sections)))

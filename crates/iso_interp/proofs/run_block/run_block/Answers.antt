@@ -28,7 +28,8 @@ pub loop-run-preserved : goal.loop-run-preserved
 loop-run-preserved g c =
     let i = c.loop-run.invariant in
     let content = g.T.Touch.content in
-    let done : machine_at (point_of_run c.step.new.self) (content c.step.new.touch) ≡ step (access_in c.args.rights.now) (machine_at (point_of_run c.loop-run.run) (content c.loop-run.touch)) = c.in_ok-step.ensures.step ∙ ap (λ (r : Rights). step r (machine_of c.loop-run.run (content c.loop-run.touch))) i.rights in
+    let done : machine_at (point_of_run c.step.new.self) (content c.step.new.touch) ≡ step (access_in c.args.rights.now) (machine_at (point_of_run c.loop-run.run) (content c.loop-run.touch)) =
+    c.in_ok-step.ensures.step ∙ ap (λ (r : Rights). step r (machine_of c.loop-run.run (content c.loop-run.touch))) i.rights in
     record {
       goes = goes-step _ _ (point_of_run c.loop-run.run) (content c.loop-run.touch) i.goes (point_of_run c.step.new.self) (content c.step.new.touch) done;
       rights = c.in_ok-step.ensures.rights ∙ i.rights;
@@ -42,7 +43,8 @@ loop-run-smaller g c =
     let i = c.loop-run.invariant in
     let content = g.T.Touch.content in
     let on : is_done (pieces_of c.loop-run.run) ≡ false = search rules in
-    let done : machine_at (point_of_run c.step.new.self) (content c.step.new.touch) ≡ step (access_in c.args.rights.now) (machine_at (point_of_run c.loop-run.run) (content c.loop-run.touch)) = c.in_ok-step.ensures.step ∙ ap (λ (r : Rights). step r (machine_of c.loop-run.run (content c.loop-run.touch))) i.rights in
+    let done : machine_at (point_of_run c.step.new.self) (content c.step.new.touch) ≡ step (access_in c.args.rights.now) (machine_at (point_of_run c.loop-run.run) (content c.loop-run.touch)) =
+    c.in_ok-step.ensures.step ∙ ap (λ (r : Rights). step r (machine_of c.loop-run.run (content c.loop-run.touch))) i.rights in
     goes-less _ _ (point_of_run c.loop-run.run) (content c.loop-run.touch) i.goes on (point_of_run c.step.new.self) (content c.step.new.touch) done
 
 pub returns-clause-whole : goal.returns-clause-whole

@@ -38,7 +38,8 @@ locks-preserved c =
     let same = c.requires.fits in
     let in_there : l.key < length c.locks.there = omega arith in
     let in_here : l.key < length c.locks.here = omega arith in
-    moving-more c.args.there.now c.args.here.now ls c.locks.n c.locks.there c.locks.here c.move_locked.new.there c.move_locked.new.here l inside (get_or_default ls c.locks.n no_lock l inside) in_there in_here
+    moving-more c.args.there.now c.args.here.now ls c.locks.n c.locks.there c.locks.here c.move_locked.new.there c.move_locked.new.here l inside (get_or_default ls c.locks.n no_lock l inside)
+    in_there in_here
     c.move_locked.ensures.there c.move_locked.ensures.here c.locks.invariant
 
 pub returns-clause-here : goal.returns-clause-here

@@ -13,7 +13,8 @@ scripts-preserved c =
     let script = c.scripts.script in
     let own = c.index-places-script.result in
     let here : c.deref.result.now ≡ get_or lists script [] =
-    c.deref.ensures.value ∙ ap (λ (v : Vec NodePlace Global). v.items) c.index-places-script.is ∙ sym (get_or-map (λ (v : Vec NodePlace Global). v.items) c.args.places.now script own [] (omega arith)) in
+    c.deref.ensures.value ∙ ap (λ (v : Vec NodePlace Global). v.items) c.index-places-script.is
+    ∙ sym (get_or-map (λ (v : Vec NodePlace Global). v.items) c.args.places.now script own [] (omega arith)) in
     ap (λ (sites : List Site). sites ++ sites_from (script + 1) (drop (script + 1) lists))
     (c.in_ok-add_sites.ensures ∙ ap₂ (λ (n : ℕ) (places : List NodePlace). c.scripts.sites.items ++ map (site_in n) places) c.in-Ok.ensures.1 here)
     ∙ sites-more c.scripts.sites.items lists script (omega (arith, length-map c.args.places.now (λ (v : Vec NodePlace Global). v.items))) ∙ c.scripts.invariant

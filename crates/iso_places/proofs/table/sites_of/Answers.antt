@@ -16,4 +16,5 @@ paths-preserved c = λ entries finds.
 pub returns-clause-found : goal.returns-clause-found
 returns-clause-found c = λ entries finds.
     let last : c.paths.path-index ≡ length c.args.paths.now = omega arith in
-    ap (map Some) c.new.ensures ∙ c.paths.invariant entries finds ∙ ap (map (λ (path : List ℕ). lookup (bytes_eq path) entries)) (ap (λ (n : ℕ). take n c.args.paths.now) last ∙ take-length c.args.paths.now)
+    ap (map Some) c.new.ensures ∙ c.paths.invariant entries finds
+    ∙ ap (map (λ (path : List ℕ). lookup (bytes_eq path) entries)) (ap (λ (n : ℕ). take n c.args.paths.now) last ∙ take-length c.args.paths.now)

@@ -38,7 +38,8 @@ nodes-preserved c =
     let at = row-at rows n r (omega arith) in
     let this : innermost_first c.if-n-eq0.chain.items ≡ chain_classes (map row_of rows) n =
     elim c.if-n-eq0.branch [
-      | then-n-eq0 w ↦ ap (λ x. innermost_first x.items) w.chain-is ∙ ap innermost_first w.new-chain.ensures.items ∙ sym (ap (chain_classes (map row_of rows)) w.if-n-eq0.true ∙ ap (heads_on (map row_of rows)) (path-root (map row_of rows)))
+      | then-n-eq0 w ↦ ap (λ x. innermost_first x.items) w.chain-is ∙ ap innermost_first w.new-chain.ensures.items
+          ∙ sym (ap (chain_classes (map row_of rows)) w.if-n-eq0.true ∙ ap (heads_on (map row_of rows)) (path-root (map row_of rows)))
       | else-n-eq0+in_ok-chain w ↦ let pos : 0 < n = omega arith in
           let p = r.parent in
           let up : p ≡ parent tree n = ap (λ (x : Row). x.parent) c.index-rows-n.is ∙ sym (ap (λ (x : T.Row). x.parent) at) in
@@ -47,7 +48,8 @@ nodes-preserved c =
           let stored : p < length v.items = omega arith in
           let kind : kind_of r.kind ≡ (row_at tree n).kind = ap (λ (x : Row). kind_of x.kind) c.index-rows-n.is ∙ sym (ap (λ (x : T.Row). x.kind) at) in
           let above : innermost_first w.deref.result.now ≡ chain_classes tree (parent tree n) =
-          ap innermost_first w.deref.ensures.value ∙ ap f w.index.ensures ∙ sym (get_or-map f v.items p w.index.result.now [] stored) ∙ column-read (chain_classes tree) (map f v.items) n p [] c.nodes.invariant (omega arith) ∙ ap (chain_classes tree) up in
+          ap innermost_first w.deref.ensures.value ∙ ap f w.index.ensures ∙ sym (get_or-map f v.items p w.index.result.now [] stored)
+          ∙ column-read (chain_classes tree) (map f v.items) n p [] c.nodes.invariant (omega arith) ∙ ap (chain_classes tree) up in
           ap f w.chain-is ∙ w.in_ok-chain.ensures ∙ ap₂ (λ k hs. class_heads k ++ hs) kind above ∙ sym (chain-step tree c.requires.below n pos)
     ] in
     ap (map (λ c'. innermost_first c'.items)) c.in_ok-push.ensures.items ∙ map_push (λ c'. innermost_first c'.items) v.items c.if-n-eq0.chain

@@ -31,7 +31,8 @@ nodes-preserved c =
     let below : parent (map row_of rows) n < n = c.requires.tree.below n (omega arith) in
     let stored : p < length v.items = omega (arith, v.ok.0) in
     let within : p < length xs = rw (length-map v.items (λ c'. c'.items)) stored in
-    let was : c.index_mut-siblings.result.now.items ≡ get_or xs p [] = ap (λ w. w.items) c.index_mut-siblings.ensures.value ∙ sym (get_or-map (λ w. w.items) v.items p c.index_mut-siblings.result.now [] stored) in
+    let was : c.index_mut-siblings.result.now.items ≡ get_or xs p [] = ap (λ w. w.items) c.index_mut-siblings.ensures.value
+    ∙ sym (get_or-map (λ w. w.items) v.items p c.index_mut-siblings.result.now [] stored) in
     let more = c.in_ok-push.ensures.items ∙ ap (λ ns. ns ++ n ∷ []) was in
     record {
       each = c.nodes.invariant.each;

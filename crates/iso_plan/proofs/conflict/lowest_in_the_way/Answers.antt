@@ -37,7 +37,8 @@ returns-then-conflicts g c =
     let m = c.nodes.m in
     let n = c.args.node in
     let test : ℕ → Bool = is_in_the_way tree (g.H.Holders.held c.args.holders.now) n in
-    let clash : conflict tree m n ≡ true = told tree m n c.locks.result.now c.locks-taken.result.now c.conflicts.result true c.locks.ensures.locks c.locks-taken.ensures.locks c.conflicts.ensures c.if-conflicts.true in
+    let clash : conflict tree m n ≡ true = told tree m n c.locks.result.now c.locks-taken.result.now c.conflicts.result true c.locks.ensures.locks c.locks-taken.ensures.locks
+    c.conflicts.ensures c.if-conflicts.true in
     let passes : test m ≡ true = ap₂ (λ (p q : Bool). p && q) (sym c.is_held.ensures ∙ c.if-is_held.true) clash in
     let within : m + 1 < length tree + 1 = omega (arith, c.len-m-end.ensures) in
     sym (lowest-stays test (m + 1) (length tree) m (lowest-here test m c.nodes.invariant passes) within)
@@ -50,7 +51,8 @@ nodes-preserved g c =
     let held : ℕ → Bool = g.H.Holders.held c.args.holders.now in
     let fails : is_in_the_way tree held n m ≡ false = elim c.else-is_held.branch [
       | else-is_held-via-then-is_held+else-conflicts w ↦
-          ap (λ (q : Bool). held m && q) (told tree m n w.locks.result.now c.locks-taken.result.now w.conflicts.result false w.locks.ensures.locks c.locks-taken.ensures.locks w.conflicts.ensures w.if-conflicts.false) ∙ and-false (held m)
+          ap (λ (q : Bool). held m && q) (told tree m n w.locks.result.now c.locks-taken.result.now w.conflicts.result false w.locks.ensures.locks c.locks-taken.ensures.locks
+          w.conflicts.ensures w.if-conflicts.false) ∙ and-false (held m)
       | else-is_held-via-else-is_held w ↦ ap (λ (p : Bool). p && conflict tree m n) (sym c.is_held.ensures ∙ w.if-is_held.false)
     ] in
     lowest-pass (is_in_the_way tree held n) m c.nodes.invariant fails

@@ -28,8 +28,10 @@ keys-preserved c =
     let old = c.keys.locks.items in
     let items : Vec Lock Global → List Lock = λ v. v.items in
     elim c.match-table-number.branch [
-      | in-Some+in_ok-push w ↦ listed-next table old c.match-table-number.locks.items (locks_from 0 table) i (Some w.in-Some.access) (omega arith) (sym w.in-Some.is) (ap items w.locks-is ∙ w.in_ok-push.ensures.items) c.keys.invariant
-      | in_default w ↦ listed-next table old c.match-table-number.locks.items (locks_from 0 table) i None (omega arith) (none_by (get_or table i None) w.in_default.not-Some) (ap items w.locks-is ∙ sym (append-nil old)) c.keys.invariant
+      | in-Some+in_ok-push w ↦ listed-next table old c.match-table-number.locks.items (locks_from 0 table) i (Some w.in-Some.access) (omega arith) (sym w.in-Some.is)
+          (ap items w.locks-is ∙ w.in_ok-push.ensures.items) c.keys.invariant
+      | in_default w ↦ listed-next table old c.match-table-number.locks.items (locks_from 0 table) i None (omega arith) (none_by (get_or table i None) w.in_default.not-Some)
+          (ap items w.locks-is ∙ sym (append-nil old)) c.keys.invariant
     ]
 
 pub returns : goal.returns

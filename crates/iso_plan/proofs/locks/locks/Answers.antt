@@ -98,7 +98,8 @@ nodes-preserved c =
           ∙ ap₂ (λ (ms : List Mark) (ks : List (List ℕ)). strongest (rights_of ms (get_or ks i [])) (get_or w.index_mut.result.now.items i None)) marks c.requires.keys
           ∙ ap (λ (t : List (Option Access)). strongest (declared tree n (get_or (keys tree) i [])) (get_or t i None)) old) in
           subst Holds (sym w.tables-is) (subst (λ (ts : List (List (Option Access))). TablesAre tree (length rows) ts (n + 1)) (sym (map-set accesses v.items m w.gather.new.table)) done)
-      | in_default w ↦ subst Holds (sym w.tables-is) (tables-skip tree c.requires.tree.below (length rows) (map accesses v.items) n c.nodes.invariant (none_from (locking_node tree n) (λ m e. w.in_default.not-Some m (read ∙ e))))
+      | in_default w ↦ subst Holds (sym w.tables-is)
+          (tables-skip tree c.requires.tree.below (length rows) (map accesses v.items) n c.nodes.invariant (none_from (locking_node tree n) (λ m e. w.in_default.not-Some m (read ∙ e))))
     ]
 
 pub listed_tables-requires : goal.listed_tables-requires
@@ -109,7 +110,8 @@ listed_tables-requires c = λ m h.
     let same : c.deref.result.now ≡ v.items = c.deref.ensures.value in
     let count : length c.deref.result.now ≡ length v.items = ap length same in
     let each : length v.items ≡ length rows = sym (length-map v.items accesses) ∙ c.nodes.invariant.each in
-    let size : length (get_or (map accesses c.deref.result.now) m []) ≡ length (get_or (map accesses v.items) m []) = ap (λ (ts : List (Vec (Option Access) Global)). length (get_or (map accesses ts) m [])) same in
+    let size : length (get_or (map accesses c.deref.result.now) m []) ≡ length (get_or (map accesses v.items) m []) = ap
+    (λ (ts : List (Vec (Option Access) Global)). length (get_or (map accesses ts) m [])) same in
     let fits : length (get_or (map accesses v.items) m []) ≤ length (keys tree) = table-fits tree (length rows) (map accesses v.items) c.nodes.n m c.nodes.invariant (omega arith) in
     let few : length (keys tree) ≤ 256 = c.requires.few in
     omega arith

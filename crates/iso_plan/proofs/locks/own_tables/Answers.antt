@@ -36,7 +36,8 @@ nodes-preserved c =
     let made : Bool → Bool → Bool → List (Option Access) = λ t i l. with_first (cond t (Some (cond i Write Read)) None) (replicate (cond (t || l) k 0) None) in
     let top : c.is_top-top.result ≡ is_top tree n = c.is_top-top.ensures ∙ ap (λ (p : ℕ). not (is_root n) && is_root p) (sym (parent-at rows n c.index-rows-n.result (omega arith))) in
     let isolated = column-read (holds_isolated tree) c.args.isolated.now (length rows) n false c.requires.isolated (omega arith) in
-    let locking : c.is_that-locks.result ≡ is_locking tree n = c.is_that-locks.ensures ∙ ap (λ (o : Option ℕ). is_that o n) (column-read (locking_node tree) c.args.locking.now (length rows) n None c.requires.locking (omega arith)) in
+    let locking : c.is_that-locks.result ≡ is_locking tree n = c.is_that-locks.ensures
+    ∙ ap (λ (o : Option ℕ). is_that o n) (column-read (locking_node tree) c.args.locking.now (length rows) n None c.requires.locking (omega arith)) in
     let this : accesses c.in_ok-table.table ≡ own_table tree k n =
     c.in_ok-table.ensures ∙ ap₂ (λ (t i : Bool). made t i c.is_that-locks.result) top isolated ∙ ap (made (is_top tree n) (holds_isolated tree n)) locking in
     ap (map accesses) c.in_ok-push.ensures.items ∙ map_push accesses v.items c.in_ok-table.table

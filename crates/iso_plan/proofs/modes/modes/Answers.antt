@@ -48,8 +48,10 @@ nodes-preserved c =
     let below : parent tree n < n = c.requires.tree.below n (omega arith) in
     let w : ℕ → Bool = λ m. list_any (takes_write tree) (path tree m) in
     let near : ℕ → Option Mode = λ m. nearest_mode tree (path tree m) in
-    let forced : c.index.result.now ≡ w (parent tree n) = c.index.ensures ∙ column-read w c.in_ok-writing.writing.items (length rows) p c.index.result.now c.in_ok-writing.ensures (omega arith) ∙ ap w (sym at) in
-    let marked : c.index-in-nodes.result.now ≡ near n = c.index-in-nodes.ensures ∙ column-read near c.in_ok-marked.marked.items (length rows) n c.index-in-nodes.result.now c.in_ok-marked.ensures (omega arith) in
+    let forced : c.index.result.now ≡ w (parent tree n) = c.index.ensures ∙ column-read w c.in_ok-writing.writing.items (length rows) p c.index.result.now c.in_ok-writing.ensures (omega arith)
+    ∙ ap w (sym at) in
+    let marked : c.index-in-nodes.result.now ≡ near n = c.index-in-nodes.ensures
+    ∙ column-read near c.in_ok-marked.marked.items (length rows) n c.index-in-nodes.result.now c.in_ok-marked.ensures (omega arith) in
     let top : (p == 0) ≡ is_root (parent tree n) = root-eq p ∙ ap is_root (sym at) in
     let this : c.mode_of.result ≡ mode tree s n =
     c.mode_of.ensures

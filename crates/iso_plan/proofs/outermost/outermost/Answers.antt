@@ -10,7 +10,8 @@ use Rattle.iso_plan.proofs.outermost.outermost.Goals as goal
 pub nodes-init : goal.nodes-init
 nodes-init c = record {
   each = ap length (c.in_ok-push.ensures.items ∙ ap (λ (os : List (Option ℕ)). os ++ None ∷ []) c.in_ok-found.ensures.items);
-  found_are = λ test e. c.in_ok-push.ensures.items ∙ ap (λ (os : List (Option ℕ)). os ++ None ∷ []) c.in_ok-found.ensures.items ∙ sym (ap (λ (ns : List ℕ). outermost test ns ∷ []) (path-root (map row_of c.args.rows.now)));
+  found_are = λ test e. c.in_ok-push.ensures.items ∙ ap (λ (os : List (Option ℕ)). os ++ None ∷ []) c.in_ok-found.ensures.items
+      ∙ sym (ap (λ (ns : List ℕ). outermost test ns ∷ []) (path-root (map row_of c.args.rows.now)));
 }
 
 pub index-above-requires : goal.index-above-requires

@@ -27,6 +27,7 @@ returns-clause-chains c =
     let ss = map script_of c.args.scripts.now in
     let only = texts_of c.args.only.now in
     elim c.plan_of.result as (λ r. IfOk r (λ p. tree_of p ≡ map row_of c.in_ok-rows.rows.items) → IfOk r (KeepsChains (tree ss) only)) [
-      | Ok p ↦ λ same. λ m h e. subst (λ (rs : List T.Row). IsSameNode (tree ss) m rs (number_among (is_kept (tree ss) only) m)) (sym (same ∙ c.in_ok-rows.ensures.tree)) (selection-same (tree ss) (tree-is ss) only m h e)
+      | Ok p ↦ λ same. λ m h e. subst (λ (rs : List T.Row). IsSameNode (tree ss) m rs (number_among (is_kept (tree ss) only) m)) (sym (same ∙ c.in_ok-rows.ensures.tree))
+          (selection-same (tree ss) (tree-is ss) only m h e)
       | Err e ↦ λ same. same
     ] c.plan_of.ensures.tree

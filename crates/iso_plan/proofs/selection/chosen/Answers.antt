@@ -42,7 +42,8 @@ nodes-preserved c =
     let below : parent tree n < n = c.requires.tree.below n (omega arith) in
     let p = (get_or rows n c.index-rows-n.result).parent in
     let above : c.index-above.result.now ≡ f (parent tree n) = c.index-above.ensures ∙ column-read f v.items n p c.index-above.result.now c.nodes.invariant (omega arith) ∙ ap f (sym at) in
-    let own : c.as_str.result.now ≡ path_text tree n = c.as_str.ensures ∙ c.index-paths-n.is ∙ column-read (path_text tree) c.args.paths.now (length rows) n c.index-paths-n.result c.requires.paths (omega arith) in
+    let own : c.as_str.result.now ≡ path_text tree n = c.as_str.ensures ∙ c.index-paths-n.is
+    ∙ column-read (path_text tree) c.args.paths.now (length rows) n c.index-paths-n.result c.requires.paths (omega arith) in
     let named : c.contains.result ≡ is_among only (path_text tree n) = c.contains.ensures ∙ c.in_ok-wanted.ensures c.as_str.result.now ∙ ap (is_among only) own in
     let step = chosen-step tree c.requires.tree.below only n (omega arith) in
     let this : c.if-contains.push ≡ f n = elim c.if-contains.branch [

@@ -11,7 +11,8 @@ use Rattle.iso_plan.proofs.selection.selection.Goals as goal
 pub those_of-requires-clause-each : goal.those_of-requires-clause-each
 those_of-requires-clause-each c =
     let tree = map row_of c.args.rows.items in
-    ap length (c.deref-2.ensures.value ∙ c.in_ok-kept.ensures.kept) ∙ length-column (is_kept_by (map row_of c.deref.result.now) (texts_of c.args.only.now)) (length c.deref.result.now) ∙ ap length c.deref.ensures.value
+    ap length (c.deref-2.ensures.value ∙ c.in_ok-kept.ensures.kept) ∙ length-column (is_kept_by (map row_of c.deref.result.now) (texts_of c.args.only.now)) (length c.deref.result.now)
+    ∙ ap length c.deref.ensures.value
 
 pub returns-clause-kept : goal.returns-clause-kept
 returns-clause-kept c =

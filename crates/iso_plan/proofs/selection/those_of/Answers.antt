@@ -116,7 +116,8 @@ nodes-preserved-in-Continue-branch-3 c =
       within = omega arith;
       rest = left-rest c.in-Some.row _ rows i at ∙ sym (ap (λ (k : ℕ). drop k rows) more);
       numbers_are = now;
-      left_are = ap (map row_of) c.in_ok-push-2.ensures.items ∙ left_more rows c.nodes.left.items kept i c.renumbered.result there c.nodes.invariant.left_are this ∙ sym (ap (first_left rows kept) more);
+      left_are = ap (map row_of) c.in_ok-push-2.ensures.items ∙ left_more rows c.nodes.left.items kept i c.renumbered.result there c.nodes.invariant.left_are this
+          ∙ sym (ap (first_left rows kept) more);
     }
 
 pub nodes-preserved : goal.nodes-preserved

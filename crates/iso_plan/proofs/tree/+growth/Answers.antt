@@ -32,7 +32,9 @@ add_members-returns-in_err-add_member-clause-full t c =
     let all = members_rows c.args.parent (vec_len c.args.rows.now) (members_of (map member_of ms)) in
     let p = err_from_is_err_and c.from_residual.result c.from_residual.ensures.1 in
     rw (p.1, p.2)
-    (full-more c.args.most _ _ c.in_err-add_member.field-0.0 (bounded old c.args.rows.now more (members_rows c.args.parent (vec_len old + length more) (members_of (map member_of (drop (i + 1) ms)))) all (rw next at c.members.invariant.grown)) c.in_err-add_member.ensures.full)
+    (full-more c.args.most _ _ c.in_err-add_member.field-0.0
+    (bounded old c.args.rows.now more (members_rows c.args.parent (vec_len old + length more) (members_of (map member_of (drop (i + 1) ms)))) all (rw next at c.members.invariant.grown))
+    c.in_err-add_member.ensures.full)
 
 pub add_class-returns-in_err-add-clause-full : goal.add_class-returns-in_err-add-clause-full
 add_class-returns-in_err-add-clause-full t c =
@@ -51,7 +53,8 @@ add_class-returns-clause-ok t c =
     let first = c.in_ok-add.ensures.ok in
     rw (class-is class)
     (on_ok_weaker c.add_members.result
-    (grown-first (map row_of old.items) (map row_of mid.items) (map row_of c.add_members.new.rows.items) row (class_row c.args.parent (title_of class)) c.len-number.result (vec_len old) (vec_len mid) c.deref.result.now class.members.items first c.in_ok-class_row.ensures c.len-number.ensures (counted old mid (row ∷ []) first) c.deref.ensures.value)
+    (grown-first (map row_of old.items) (map row_of mid.items) (map row_of c.add_members.new.rows.items) row (class_row c.args.parent (title_of class)) c.len-number.result (vec_len old)
+    (vec_len mid) c.deref.result.now class.members.items first c.in_ok-class_row.ensures c.len-number.ensures (counted old mid (row ∷ []) first) c.deref.ensures.value)
     c.add_members.ensures.ok)
 
 pub add_class-returns-clause-full : goal.add_class-returns-clause-full
@@ -61,4 +64,5 @@ add_class-returns-clause-full t c =
     let class = c.args.class.now in
     let row = row_of c.in_ok-class_row.field-0 in
     rw (class-is class)
-    (full-rest c.args.most c.add_members.result (class_row c.args.parent (title_of class)) c.len-number.result (vec_len old) (vec_len mid) c.deref.result.now class.members.items c.len-number.ensures (counted old mid (row ∷ []) c.in_ok-add.ensures.ok) c.deref.ensures.value c.add_members.ensures.full)
+    (full-rest c.args.most c.add_members.result (class_row c.args.parent (title_of class)) c.len-number.result (vec_len old) (vec_len mid) c.deref.result.now class.members.items
+    c.len-number.ensures (counted old mid (row ∷ []) c.in_ok-add.ensures.ok) c.deref.ensures.value c.add_members.ensures.full)

@@ -36,7 +36,8 @@ returns-in_err-add_top-clause-full c =
     let all = team_rows team (vec_len c.args.rows.now) (map class_of cs) in
     let p = err_from_is_err_and c.from_residual.result c.from_residual.ensures.1 in
     rw (p.1, p.2, ← c.deref-class-items.ensures.value)
-    (full-more c.args.most _ _ c.in_err-add_top.field-0.0 (bounded old c.args.rows.now more (team_rows team (vec_len old + length more) (map class_of (drop (i + 1) cs))) all (rw next at c.classes.invariant.grown)) c.in_err-add_top.ensures.full)
+    (full-more c.args.most _ _ c.in_err-add_top.field-0.0
+    (bounded old c.args.rows.now more (team_rows team (vec_len old + length more) (map class_of (drop (i + 1) cs))) all (rw next at c.classes.invariant.grown)) c.in_err-add_top.ensures.full)
 
 pub returns-clause-ok : goal.returns-clause-ok
 returns-clause-ok c =

@@ -23,7 +23,8 @@ returns-clause-ok c =
     let first = c.in_ok-add.ensures.ok in
     rw (class-is class)
     (on_ok_weaker c.add_members.result
-    (grown-first (map row_of old.items) (map row_of mid.items) (map row_of c.add_members.new.rows.items) row (top_row c.args.team.now (title_of class)) c.len-number.result (vec_len old) (vec_len mid) c.deref.result.now class.members.items first c.in_ok-top_row.ensures c.len-number.ensures (counted old mid (row ∷ []) first) c.deref.ensures.value)
+    (grown-first (map row_of old.items) (map row_of mid.items) (map row_of c.add_members.new.rows.items) row (top_row c.args.team.now (title_of class)) c.len-number.result (vec_len old)
+    (vec_len mid) c.deref.result.now class.members.items first c.in_ok-top_row.ensures c.len-number.ensures (counted old mid (row ∷ []) first) c.deref.ensures.value)
     c.add_members.ensures.ok)
 
 pub returns-clause-full : goal.returns-clause-full
@@ -33,4 +34,5 @@ returns-clause-full c =
     let class = c.args.class.now in
     let row = row_of c.in_ok-top_row.field-0 in
     rw (class-is class)
-    (full-rest c.args.most c.add_members.result (top_row c.args.team.now (title_of class)) c.len-number.result (vec_len old) (vec_len mid) c.deref.result.now class.members.items c.len-number.ensures (counted old mid (row ∷ []) c.in_ok-add.ensures.ok) c.deref.ensures.value c.add_members.ensures.full)
+    (full-rest c.args.most c.add_members.result (top_row c.args.team.now (title_of class)) c.len-number.result (vec_len old) (vec_len mid) c.deref.result.now class.members.items
+    c.len-number.ensures (counted old mid (row ∷ []) c.in_ok-add.ensures.ok) c.deref.ensures.value c.add_members.ensures.full)

@@ -38,7 +38,8 @@ history-preserved c =
       world = same.world ∙ i.world;
       workers = same.workers ∙ i.workers;
       taken = on.taken;
-      history = on.history ∙ ap (λ (g : List E.Event). g ++ event_of (event_at c.args.history.now c.history.index) ∷ []) i.history ∙ next_taken c.args.history.now c.history.index (Code.Step 0) c.history-test.true;
+      history = on.history ∙ ap (λ (g : List E.Event). g ++ event_of (event_at c.args.history.now c.history.index) ∷ []) i.history
+          ∙ next_taken c.args.history.now c.history.index (Code.Step 0) c.history-test.true;
     }
 
 pub returns : goal.returns

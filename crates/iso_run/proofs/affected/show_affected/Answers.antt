@@ -41,7 +41,11 @@ returns-in-Ok g c =
     let before = c.in-Ok.ensures.read lent.all.2 lent.whole.1 in
     let was = c.in-Ok.was in
     let told : (ok : Bool) → (ok ≡ true) × IsComparedIn asked was.state c.in_ok-now.now c.deref.result.now was.missing old new → (ok ≡ true) × IsToldFor asked files input old new =
-    λ ok h. (h.0, told-for asked files older input before.0 after.0 was.state c.in_ok-now.now c.deref.result.now was.missing old new below before.1 after.1 before.2 after.2 c.deref.ensures.value h.1) in
+    λ ok h. (
+      h.0,
+      told-for asked files older input before.0 after.0 was.state c.in_ok-now.now c.deref.result.now was.missing old new below before.1 after.1 before.2 after.2
+          c.deref.ensures.value h.1,
+    ) in
     answered-as _ _ told ⊥ ⊥ (λ h. h) old new c.show_change.result c.show_change.ensures
 
 pub returns : goal.returns

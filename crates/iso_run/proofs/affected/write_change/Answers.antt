@@ -19,6 +19,7 @@ returns-in-Ok g c =
     let rows = affected_rows (change_of c.args.change.now) in
     let same = ap (map row_of) c.deref.ensures.value ∙ c.in_ok-rows.ensures in
     let told = subst (λ (rs : List RowView). Wrote old mid (cond paths (paths_text rs) (affected_text rs (last_of last)))) same c.in-Ok.ensures.wrote in
-    let counted = subst (λ (k : Counts). Wrote old mid (cond paths (paths_text rows) (affected_text rows (record { counts = k; folder = last.folder.now; missing = last.missing })))) c.requires.counts told in
+    let counted = subst (λ (k : Counts). Wrote old mid (cond paths (paths_text rows) (affected_text rows (record { counts = k; folder = last.folder.now; missing = last.missing }))))
+    c.requires.counts told in
     let text = change_text paths (change_of c.args.change.now) last.folder.now last.missing in
     flushed-after (λ a. Wrote old a text) old mid new text counted counted c.flushed.result c.flushed.ensures

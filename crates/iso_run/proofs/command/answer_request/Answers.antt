@@ -58,7 +58,14 @@ returns-in_ok-bytes-in-Run-clause-answers g c =
     (late-so ⊤ (end_of (λ (s : Summary). s.all_ok) run_end c.run_shown-ran.result) tt) made.2 c.told-in-Run.result c.told-in-Run.ensures.answer in
     let asked : (ok : Bool) → P new ok → IsWrittenFor suite_report files input (way_of c.in-Run.serial) old new ok =
     λ ok h. subst (λ (w : Way). IsWrittenFor suite_report files input w old new ok) c.asked_way.ensures h in
-    rw c.in-Run.is (answered-as (P new) _ asked (Lacking P file new) _ (λ h. (h.0, asked h.0 h.1, subst NamesFile (files-named c.new-besides.result c.in-Run.extras c.new-besides.ensures.failed_file c.new-besides.ensures.junit_file c.new-besides.ensures.html_file c.new-besides.ensures.schedule_file c.new-besides.ensures.trace_file) h.2)) old new c.told-in-Run.result answered)
+    rw c.in-Run.is (answered-as (P new) _ asked (Lacking P file new) _
+    (λ h. (
+      h.0,
+      asked h.0 h.1,
+      subst NamesFile
+          (files-named c.new-besides.result c.in-Run.extras c.new-besides.ensures.failed_file c.new-besides.ensures.junit_file c.new-besides.ensures.html_file c.new-besides.ensures.schedule_file
+          c.new-besides.ensures.trace_file) h.2,
+    )) old new c.told-in-Run.result answered)
 
 pub returns-in_ok-bytes-in-Replay-clause-answers : goal.returns-in_ok-bytes-in-Replay-clause-answers
 returns-in_ok-bytes-in-Replay-clause-answers g c =
@@ -72,17 +79,26 @@ returns-in_ok-bytes-in-Replay-clause-answers g c =
     let file = files_of c.new-besides-in-Replay.result in
     let answered = run-answered ⊤ P suite_report made.0 way old (g.W.Sink.account c.run-ran.new.output) (λ late ok w. (made.0, made.1, w)) file new c.run-ran.result
     (late-so ⊤ (end_of (λ (s : Summary). s.all_ok) run_end c.run-ran.result) tt) made.2 c.told-in-Replay.result c.told-in-Replay.ensures.answer in
-    rw c.in-Replay.is (answered-as (P new) _ (λ ok h. (c.deref.result, h)) (Lacking P file new) _ (λ h. (h.0, (c.deref.result, h.1), subst NamesFile (files-named c.new-besides-in-Replay.result c.in-Replay.extras c.new-besides-in-Replay.ensures.failed_file c.new-besides-in-Replay.ensures.junit_file c.new-besides-in-Replay.ensures.html_file c.new-besides-in-Replay.ensures.schedule_file c.new-besides-in-Replay.ensures.trace_file) h.2)) old new c.told-in-Replay.result answered)
+    rw c.in-Replay.is (answered-as (P new) _ (λ ok h. (c.deref.result, h)) (Lacking P file new) _
+    (λ h. (
+      h.0,
+      (c.deref.result, h.1),
+      subst NamesFile
+          (files-named c.new-besides-in-Replay.result c.in-Replay.extras c.new-besides-in-Replay.ensures.failed_file c.new-besides-in-Replay.ensures.junit_file
+          c.new-besides-in-Replay.ensures.html_file c.new-besides-in-Replay.ensures.schedule_file c.new-besides-in-Replay.ensures.trace_file) h.2,
+    )) old new c.told-in-Replay.result answered)
 
 pub returns-in_ok-bytes-in-Run-clause-refused : goal.returns-in_ok-bytes-in-Run-clause-refused
 returns-in_ok-bytes-in-Run-clause-refused g c = λ plain.
     let input = g.R.Read.remaining c.args.input.now in
     let made = c.run_shown-ran.ensures.report input (subst (WereRead c.in-Run.files input) (sym c.in_ok-bytes-in-Run.ensures.same) c.in_ok-read-in-Run.ensures.read) in
     run-refused c.in-Run.files input made.0 c.in-Run.serial c.asked_way.result (subst IsPlainRun c.in-Run.is plain).0 made.1 c.asked_way.ensures (files_of c.new-besides.result)
-    (g.W.Sink.account c.args.output.now) (g.W.Sink.account c.run_shown-ran.new.output) (g.W.Sink.account c.told-in-Run.new.output) c.run_shown-ran.result made.2 c.told-in-Run.result c.told-in-Run.ensures.answer
+    (g.W.Sink.account c.args.output.now) (g.W.Sink.account c.run_shown-ran.new.output) (g.W.Sink.account c.told-in-Run.new.output) c.run_shown-ran.result made.2 c.told-in-Run.result
+    c.told-in-Run.ensures.answer
 
 pub returns-in_ok-bytes-in-Run-clause-quiet : goal.returns-in_ok-bytes-in-Run-clause-quiet
 returns-in_ok-bytes-in-Run-clause-quiet g c = λ plain.
     let asks = subst IsPlainRun c.in-Run.is plain in
     let plain = c.new-besides.ensures.plain asks.1 in
-    c.told-in-Run.ensures.quiet (c.run_shown-ran.ensures.quiet plain.0) (c.run_shown-ran.ensures.unasked (c.asked-course.ensures.plain asks.1)) plain.2 ∙ c.looked_over-in-Run.ensures.quiet asks.0.explain
+    c.told-in-Run.ensures.quiet (c.run_shown-ran.ensures.quiet plain.0) (c.run_shown-ran.ensures.unasked (c.asked-course.ensures.plain asks.1)) plain.2
+    ∙ c.looked_over-in-Run.ensures.quiet asks.0.explain

@@ -14,8 +14,12 @@ returns-in_err-scripts g c = λ input read.
     let files = c.args.files.now in
     let bytes = c.args.bytes.now in
     let shard = c.shard_of-shard in
-    let inputs = inputs-for files bytes shard.result in
-    (inputs, are-of-bytes files input bytes shard.result read shard.ensures, rw (p.1, p.2) ([], tt, out-of-memory (λ (s : Summary). s.all_ok) (plan_of c.args.printed (texts_of files.scripts.items) []) inputs Serial (g.W.Sink.account c.args.output.now)))
+    let inputs = inputs-for files bytes shard.result in (
+      inputs,
+      are-of-bytes files input bytes shard.result read shard.ensures,
+      rw (p.1, p.2)
+          ([], tt, out-of-memory (λ (s : Summary). s.all_ok) (plan_of c.args.printed (texts_of files.scripts.items) []) inputs Serial (g.W.Sink.account c.args.output.now)),
+    )
 
 pub returns-in-Ok : goal.returns-in-Ok
 returns-in-Ok g c = λ input read.
@@ -24,7 +28,8 @@ returns-in-Ok g c = λ input read.
     let made = c.in-Ok.ensures in
     let writes = rw c.deref-3.ensures.value at made.2 in (
       c.inputs_of-inputs.result,
-      are-for c.args.files.now input c.args.bytes.now c.inputs_of-inputs.result read scripts is.settings is.world is.listed is.only is.patterns (ap (option_map shard_asked) is.shard ∙ c.shard_of-shard.ensures) is.processors,
+      are-for c.args.files.now input c.args.bytes.now c.inputs_of-inputs.result read scripts is.settings is.world is.listed is.only is.patterns
+          (ap (option_map shard_asked) is.shard ∙ c.shard_of-shard.ensures) is.processors,
       (made.0, made.1, record { cause = tt; leaves = writes.leaves }),
     )
 
@@ -35,6 +40,7 @@ returns g c = λ input read.
     let made = c.in-Err.ensures in
     let writes = rw c.deref-3.ensures.value at made.2 in (
       c.inputs_of-inputs.result,
-      are-for c.args.files.now input c.args.bytes.now c.inputs_of-inputs.result read scripts is.settings is.world is.listed is.only is.patterns (ap (option_map shard_asked) is.shard ∙ c.shard_of-shard.ensures) is.processors,
+      are-for c.args.files.now input c.args.bytes.now c.inputs_of-inputs.result read scripts is.settings is.world is.listed is.only is.patterns
+          (ap (option_map shard_asked) is.shard ∙ c.shard_of-shard.ensures) is.processors,
       (made.0, made.1, record { cause = writes.cause; leaves = writes.leaves }),
     )

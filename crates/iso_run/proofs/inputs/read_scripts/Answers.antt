@@ -21,7 +21,8 @@ returns-in-Err-Fault-clause-scripts c =
       record {
         within = c.loop-index-test.true;
         earlier = (map script_of c.loop-index.read.scripts.items, c.loop-index.invariant.0);
-        unread = rw c.in-Err-Fault.field-0-is (subst (λ (t : List ℕ). HasScriptFault t c.in-Err-Fault.fault) (sym (get_or-map (λ (b : Bor (List ℕ)). b.now) c.args.inputs.scripts.now c.loop-index.index none [] c.loop-index-test.true)) here);
+        unread = rw c.in-Err-Fault.field-0-is (subst (λ (t : List ℕ). HasScriptFault t c.in-Err-Fault.fault)
+            (sym (get_or-map (λ (b : Bor (List ℕ)). b.now) c.args.inputs.scripts.now c.loop-index.index none [] c.loop-index-test.true)) here);
       },
     )
 

@@ -35,14 +35,17 @@ fault inputs ss w more is =
 pub returns-in-Some-clause-nodes : goal.returns-in-Some-clause-nodes
 returns-in-Some-clause-nodes c =
     let given = wishes c.args.inputs c.in_ok-wanted.field-0 c.in-Some.wanted c.as_slice.result.now c.in-Some.is c.as_slice.ensures.value c.in_ok-wanted.ensures in
-    subst (λ (rows : List Row). IfOk c.build_picked.result (λ p. tree_of p ≡ rows)) (nodes c.args.inputs (map script_of c.args.scripts.now) _ c.if-asks_for_paths.ensures given) c.build_picked.ensures.tree
+    subst (λ (rows : List Row). IfOk c.build_picked.result (λ p. tree_of p ≡ rows)) (nodes c.args.inputs (map script_of c.args.scripts.now) _ c.if-asks_for_paths.ensures given)
+    c.build_picked.ensures.tree
 
 pub returns-in-Some-clause-accepted : goal.returns-in-Some-clause-accepted
 returns-in-Some-clause-accepted c =
     let given = wishes c.args.inputs c.in_ok-wanted.field-0 c.in-Some.wanted c.as_slice.result.now c.in-Some.is c.as_slice.ensures.value c.in_ok-wanted.ensures in
-    subst (λ (f : Option PlanFault). IfOk c.build_picked.result (λ p. f ≡ None)) (fault c.args.inputs (map script_of c.args.scripts.now) _ c.if-asks_for_paths.ensures given) c.build_picked.ensures.accepted
+    subst (λ (f : Option PlanFault). IfOk c.build_picked.result (λ p. f ≡ None)) (fault c.args.inputs (map script_of c.args.scripts.now) _ c.if-asks_for_paths.ensures given)
+    c.build_picked.ensures.accepted
 
 pub returns-in-Some-clause-refused : goal.returns-in-Some-clause-refused
 returns-in-Some-clause-refused c =
     let given = wishes c.args.inputs c.in_ok-wanted.field-0 c.in-Some.wanted c.as_slice.result.now c.in-Some.is c.as_slice.ensures.value c.in_ok-wanted.ensures in
-    subst (λ (f : Option PlanFault). IfErr c.build_picked.result (IsFaultOf f)) (fault c.args.inputs (map script_of c.args.scripts.now) _ c.if-asks_for_paths.ensures given) c.build_picked.ensures.refused
+    subst (λ (f : Option PlanFault). IfErr c.build_picked.result (IsFaultOf f)) (fault c.args.inputs (map script_of c.args.scripts.now) _ c.if-asks_for_paths.ensures given)
+    c.build_picked.ensures.refused

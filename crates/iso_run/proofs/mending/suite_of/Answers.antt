@@ -20,7 +20,8 @@ returns-in-Ok-clause-read c = λ input read.
     let is = c.inputs_of-inputs.ensures in
     let scripts = ap texts (is.scripts ∙ c.deref-2.ensures.value) ∙ c.in_ok-scripts.ensures ∙ ap (map (λ v. v.items)) c.deref.ensures.value in (
       c.inputs_of-inputs.result,
-      are-for c.args.files.now input c.args.bytes.now c.inputs_of-inputs.result read scripts is.settings is.world is.listed is.only is.patterns (ap (option_map shard_asked) is.shard ∙ c.shard_of-shard.ensures) is.processors,
+      are-for c.args.files.now input c.args.bytes.now c.inputs_of-inputs.result read scripts is.settings is.world is.listed is.only is.patterns
+          (ap (option_map shard_asked) is.shard ∙ c.shard_of-shard.ensures) is.processors,
       scripts,
       c.in-Ok.ensures,
     )
@@ -30,7 +31,8 @@ returns-clause-read c = λ input read.
     let is = c.inputs_of-inputs.ensures in
     let scripts = ap texts (is.scripts ∙ c.deref-2.ensures.value) ∙ c.in_ok-scripts.ensures ∙ ap (map (λ v. v.items)) c.deref.ensures.value in (
       c.inputs_of-inputs.result,
-      are-for c.args.files.now input c.args.bytes.now c.inputs_of-inputs.result read scripts is.settings is.world is.listed is.only is.patterns (ap (option_map shard_asked) is.shard ∙ c.shard_of-shard.ensures) is.processors,
+      are-for c.args.files.now input c.args.bytes.now c.inputs_of-inputs.result read scripts is.settings is.world is.listed is.only is.patterns
+          (ap (option_map shard_asked) is.shard ∙ c.shard_of-shard.ensures) is.processors,
       scripts,
       c.in-Err.ensures,
     )

@@ -29,5 +29,6 @@ returns g c =
     let is = c.in_ok-suite.ensures in
     let took = rw (is.planned_as, c.workers.ensures) at c.in-Err.ensures.took in
     let cut = rw (is.planned_as, c.workers.ensures) at c.in-Err.ensures.cut in
-    cut-off (λ _. true) suite_conflicts c.args.inputs Serial (suite_of c.args.inputs c.in_ok-suite.suite) is.is_suite refl (g.W.Sink.account c.args.sink.now) (g.W.Sink.account c.write_conflicts.new.sink) _
+    cut-off (λ _. true) suite_conflicts c.args.inputs Serial (suite_of c.args.inputs c.in_ok-suite.suite) is.is_suite refl (g.W.Sink.account c.args.sink.now)
+    (g.W.Sink.account c.write_conflicts.new.sink) _
     (record { written = c.in-Err.fault.written; is = refl; took = took; within = cut; failed = c.in-Err.ensures.failed })

@@ -64,6 +64,7 @@ returns g c =
           are = rw is.planned_as at c.in_ok-sites.ensures.found;
         },
       ),
-      cut-off (λ _. true) (suite_places c.args.tests (texts_of c.args.names.now) c.in_ok-sites.sites) inputs Serial (suite_of inputs suite) is.is_suite refl (g.W.Sink.account c.args.sink.now) (g.W.Sink.account c.write_places.new.sink) _
+      cut-off (λ _. true) (suite_places c.args.tests (texts_of c.args.names.now) c.in_ok-sites.sites) inputs Serial (suite_of inputs suite) is.is_suite refl (g.W.Sink.account c.args.sink.now)
+          (g.W.Sink.account c.write_places.new.sink) _
           (record { written = c.in-Err.fault.written; is = refl; took = took; within = cut; failed = c.in-Err.ensures.failed }),
     )

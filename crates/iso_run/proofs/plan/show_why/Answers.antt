@@ -53,6 +53,7 @@ returns g c =
     let cut = rw is.planned_as at c.in-Err.ensures.cut in (
       sites,
       are-places c.args.places inputs suite sites is c.in_ok-sites.ensures.found c.in_ok-sites.ensures.none,
-      cut-off (λ _. true) (suite_why c.args.tests (texts_of c.args.names.now) sites) inputs Serial (suite_of inputs suite) is.is_suite refl (g.W.Sink.account c.args.sink.now) (g.W.Sink.account c.write_why.new.sink) _
+      cut-off (λ _. true) (suite_why c.args.tests (texts_of c.args.names.now) sites) inputs Serial (suite_of inputs suite) is.is_suite refl (g.W.Sink.account c.args.sink.now)
+          (g.W.Sink.account c.write_why.new.sink) _
           (record { written = c.in-Err.fault.written; is = refl; took = took; within = cut; failed = c.in-Err.ensures.failed }),
     )

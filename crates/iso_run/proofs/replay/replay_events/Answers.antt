@@ -15,7 +15,8 @@ returns-in_err-core-clause-report g c = λ schedule read.
     let is = c.requires in
     let keeps = wants_places c.args.tells.now in
     let p = err_from_is_err_and c.from_residual.result c.from_residual.ensures.1 in
-    rw (p.1, p.2) (stopped inputs schedule c.args.suite.now c.args.events.now keeps is read (g.W.Sink.account c.args.sink.now) c.in_err-core.field-0.0.index c.in_err-core.field-0.0.fault (rw c.workers-workers.ensures at c.in_err-core.ensures))
+    rw (p.1, p.2) (stopped inputs schedule c.args.suite.now c.args.events.now keeps is read (g.W.Sink.account c.args.sink.now) c.in_err-core.field-0.0.index c.in_err-core.field-0.0.fault
+    (rw c.workers-workers.ensures at c.in_err-core.ensures))
 
 pub returns-then-not-is_complete-clause-report : goal.returns-then-not-is_complete-clause-report
 returns-then-not-is_complete-clause-report g c = λ schedule read.

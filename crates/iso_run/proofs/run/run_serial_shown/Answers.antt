@@ -19,7 +19,8 @@ returns-in_err-suite-clause-report g c =
 pub returns-in-Ok-clause-report : goal.returns-in-Ok-clause-report
 returns-in-Ok-clause-report g c =
     let is = c.in_ok-suite.ensures in
-    reported c.args.inputs (g.W.Sink.account c.args.sink.now) (g.W.Sink.account c.write_results-written.new.sink) (suite_of c.args.inputs c.in_ok-suite.suite) c.in_ok-suite.suite.plan c.in-Ok.ran.results
+    reported c.args.inputs (g.W.Sink.account c.args.sink.now) (g.W.Sink.account c.write_results-written.new.sink) (suite_of c.args.inputs c.in_ok-suite.suite) c.in_ok-suite.suite.plan
+    c.in-Ok.ran.results
     is.is_suite is.planned_as c.in-Ok.ensures.plan c.in-Ok.ensures.start Serial refl c.write_results-written.result c.write_results-written.ensures.report
 
 pub returns-in-Ok-clause-told : goal.returns-in-Ok-clause-told
@@ -28,8 +29,10 @@ returns-in-Ok-clause-told g c =
     let seen = option_map watched_of c.watched.result in
     let asked = is_some c.args.tells.now.html in
     let of = watched-of c.args.inputs _ c.in_ok-suite.suite c.in_ok-suite.ensures Serial asked seen
-    (subst (λ (w : Option WatchedView). WasWatched Serial c.in_ok-suite.suite.plan c.in_ok-suite.suite.world c.in_ok-suite.suite.settings.worker_count asked w) (sym c.watched.ensures) c.in-Ok.ensures.watched) in
-    told-run c.args.inputs (g.W.Sink.account c.args.sink.now) (g.W.Sink.account c.write_results-written.new.sink) (suite_of c.args.inputs c.in_ok-suite.suite) c.in_ok-suite.suite.plan c.in-Ok.ran.results
+    (subst (λ (w : Option WatchedView). WasWatched Serial c.in_ok-suite.suite.plan c.in_ok-suite.suite.world c.in_ok-suite.suite.settings.worker_count asked w) (sym c.watched.ensures)
+    c.in-Ok.ensures.watched) in
+    told-run c.args.inputs (g.W.Sink.account c.args.sink.now) (g.W.Sink.account c.write_results-written.new.sink) (suite_of c.args.inputs c.in_ok-suite.suite) c.in_ok-suite.suite.plan
+    c.in-Ok.ran.results
     is.is_suite is.planned_as c.in-Ok.ensures.plan c.in-Ok.ensures.start Serial (as_written c.in_ok-suite.suite c.args.inputs.scripts.now) c.deref.result.now
     seen c.args.tells.now c.write_results-written.new.tells
     of refl (λ wants. is.placed (c.wants_places.ensures ∙ wants)) c.write_results-written.result c.write_results-written.ensures.told

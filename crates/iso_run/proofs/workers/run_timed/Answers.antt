@@ -14,7 +14,14 @@ returns-clause-course g c =
     let ground = g.L.Ground in
     let book = c.in_ok-book.field-0.book in
     let on = c.in_ok-book.ensures.book in
-    let run : ObservedView = record { plan = c.args.suite.now.plan; results = c.results.result.now; times = c.into_times-times.result; started = c.in_ok-book.field-0.started; of = c.workers.result } in
+    let run : ObservedView = record {
+      plan = c.args.suite.now.plan;
+      results = c.results.result.now;
+      times = c.into_times-times.result;
+      started = c.in_ok-book.field-0.started;
+      of =
+          c.workers.result;
+    } in
     let is : IsRunOf ByWorkers ground.plan ground.start ground.workers run = record {
       plan_is = c.requires.plan;
       results_plan = c.results.ensures.plan ∙ on.plan_is;
@@ -29,13 +36,21 @@ returns-clause-course g c =
     let planned = subst (λ (p : Planned). IsScheduled (AreEvents ByWorkers p book.world book.workers) seen.schedule asked) on.plan_is c.in_ok-tell_book.ensures in
     let started = subst (λ (s : Start). IsScheduled (AreEvents ByWorkers ground.plan s book.workers) seen.schedule asked) on.world_is planned in
     let manned = subst (λ (n : ℕ). IsScheduled (AreEvents ByWorkers ground.plan ground.start n) seen.schedule asked) on.workers_are started in
-    course-of (AreEvents ByWorkers ground.plan ground.start ground.workers) ByWorkers ground.plan ground.start ground.workers run is c.args.course.now seen new c.in_ok-watch.ensures.course refl refl manned
+    course-of (AreEvents ByWorkers ground.plan ground.start ground.workers) ByWorkers ground.plan ground.start ground.workers run is c.args.course.now seen new c.in_ok-watch.ensures.course
+    refl refl manned
 
 pub returns-clause-watched : goal.returns-clause-watched
 returns-clause-watched g c =
     let ground = g.L.Ground in
     let on = c.in_ok-book.ensures.book in
-    let run : ObservedView = record { plan = c.args.suite.now.plan; results = c.results.result.now; times = c.into_times-times.result; started = c.in_ok-book.field-0.started; of = c.workers.result } in
+    let run : ObservedView = record {
+      plan = c.args.suite.now.plan;
+      results = c.results.result.now;
+      times = c.into_times-times.result;
+      started = c.in_ok-book.field-0.started;
+      of =
+          c.workers.result;
+    } in
     let is : IsRunOf ByWorkers ground.plan ground.start ground.workers run = record {
       plan_is = c.requires.plan;
       results_plan = c.results.ensures.plan ∙ on.plan_is;

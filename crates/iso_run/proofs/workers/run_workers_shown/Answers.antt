@@ -31,7 +31,8 @@ returns-clause-report g c =
     let suite = c.in_ok-suite.suite in
     let is = c.in_ok-suite.ensures in
     let on = c.in_ok-ran.ensures.book in
-    reported c.args.inputs (g.W.Sink.account c.args.sink.now) (g.W.Sink.account c.write_results-written.new.sink) (suite_of c.args.inputs suite) suite.plan c.results.result.now is.is_suite is.planned_as
+    reported c.args.inputs (g.W.Sink.account c.args.sink.now) (g.W.Sink.account c.write_results-written.new.sink) (suite_of c.args.inputs suite) suite.plan c.results.result.now is.is_suite
+    is.planned_as
     (c.results.ensures.plan ∙ on.plan_is) (c.results.ensures.start ∙ on.world_is) ByWorkers (suite_of c.args.inputs suite, is.is_suite, tt)
     c.write_results-written.result c.write_results-written.ensures.report
 
@@ -43,8 +44,10 @@ returns-clause-told g c =
     let seen = option_map watched_of c.watched.result in
     let asked = is_some c.args.tells.now.html in
     let of = watched-of c.args.inputs _ c.in_ok-suite.suite c.in_ok-suite.ensures ByWorkers asked seen
-    (subst (λ (w : Option WatchedView). WasWatched ByWorkers c.in_ok-suite.suite.plan c.in_ok-suite.suite.world c.in_ok-suite.suite.settings.worker_count asked w) (sym c.watched.ensures) c.in_ok-ran.ensures.watched) in
-    told-run c.args.inputs (g.W.Sink.account c.args.sink.now) (g.W.Sink.account c.write_results-written.new.sink) (suite_of c.args.inputs suite) suite.plan c.results.result.now is.is_suite is.planned_as
+    (subst (λ (w : Option WatchedView). WasWatched ByWorkers c.in_ok-suite.suite.plan c.in_ok-suite.suite.world c.in_ok-suite.suite.settings.worker_count asked w) (sym c.watched.ensures)
+    c.in_ok-ran.ensures.watched) in
+    told-run c.args.inputs (g.W.Sink.account c.args.sink.now) (g.W.Sink.account c.write_results-written.new.sink) (suite_of c.args.inputs suite) suite.plan c.results.result.now is.is_suite
+    is.planned_as
     (c.results.ensures.plan ∙ on.plan_is) (c.results.ensures.start ∙ on.world_is) ByWorkers (as_written suite c.args.inputs.scripts.now) c.deref.result.now
     seen c.args.tells.now c.write_results-written.new.tells
     of refl (λ wants. is.placed (c.wants_places.ensures ∙ wants)) c.write_results-written.result c.write_results-written.ensures.told

@@ -76,12 +76,14 @@ read_class-returns-in_err-members-clause-read t c = λ taken all.
     let i = opened c.in_ok-display.ensures c.in_ok-expect_or.ensures h in
     let v = c.in_ok-variables.ensures in
     let m = members_next i (v.read taken (rw c.as_slice.ensures.value all)) c.in_ok-blocks.ensures in
-    c.in_err-members.ensures.read (names_of (variables_of c.in_ok-variables.variables) ++ taken) (rw c.in_ok-push.ensures.items (know_more c.args.scopes.now.items c.in_ok-variables.variables.names taken _ all v.names)) rest m.0 m.1 m.2)
+    c.in_err-members.ensures.read (names_of (variables_of c.in_ok-variables.variables) ++ taken)
+    (rw c.in_ok-push.ensures.items (know_more c.args.scopes.now.items c.in_ok-variables.variables.names taken _ all v.names)) rest m.0 m.1 m.2)
 
 pub read_class-returns-clause-read : goal.read_class-returns-clause-read
 read_class-returns-clause-read t c = λ taken all.
     let v = c.in_ok-variables.ensures in
-    let m = c.in_ok-members.ensures.read (names_of (variables_of c.in_ok-variables.variables) ++ taken) (rw c.in_ok-push.ensures.items (know_more c.args.scopes.now.items c.in_ok-variables.variables.names taken _ all v.names)) in
+    let m = c.in_ok-members.ensures.read (names_of (variables_of c.in_ok-variables.variables) ++ taken)
+    (rw c.in_ok-push.ensures.items (know_more c.args.scopes.now.items c.in_ok-variables.variables.names taken _ all v.names)) in
     rw (class_of-parts, c.in_ok-name.ensures, c.in_ok-head-2.ensures.ok, c.in_ok-head.ensures) (
       _,
       is_class c.in_ok-display.ensures c.in_ok-expect_or.ensures (v.read taken (rw c.as_slice.ensures.value all)) c.in_ok-blocks.ensures m.1,
@@ -142,7 +144,8 @@ pub read_member-returns-in_err-read_class-clause-read : goal.read_member-returns
 read_member-returns-in_err-read_class-clause-read t c = λ taken names all knows.
     let p = err_from_is_err_and c.from_residual-in_err-read_class.result c.from_residual-in_err-read_class.ensures.1 in
     rw (p.1, p.2) (λ rest m places h.
-    let k = class_left c.in_ok-more.ensures.0 c.in_ok-more.ensures.1 (name_stands _ _ _ _ _ c.peek-2.ensures.next c.in_ok-name-2.ensures.found) (class_next c.in_ok-marks.ensures (no_test _ _ c.if-is_at_test.ensures) h.0) in
+    let k = class_left c.in_ok-more.ensures.0 c.in_ok-more.ensures.1 (name_stands _ _ _ _ _ c.peek-2.ensures.next c.in_ok-name-2.ensures.found)
+    (class_next c.in_ok-marks.ensures (no_test _ _ c.if-is_at_test.ensures) h.0) in
     c.in_err-read_class.ensures.read taken all rest k.0 places k.2)
 
 pub read_member-returns-clause-read : goal.read_member-returns-clause-read

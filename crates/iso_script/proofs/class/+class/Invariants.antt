@@ -23,7 +23,8 @@ abbrev pub invariant-read_members-members : goal.invariant-read_members-members
 invariant-read_members-members l =
     record {
       read : (taken : List (List ℕ)) → KnowAll l.fn.scopes.items taken
-          → (places : List NodePlace) × ArePlaced (IsMember l.classes taken) (map member_of l.members.items) places l.fn.parser.lexer l.parser.lexer × (kept l.places ≡ with_places (kept l.fn.places) places);
+          → (places : List NodePlace) × ArePlaced (IsMember l.classes taken) (map member_of l.members.items) places l.fn.parser.lexer l.parser.lexer
+          × (kept l.places ≡ with_places (kept l.fn.places) places);
       names : Knows l.seen (map name_of (map member_of l.members.items));
       distinct : IsDistinct bytes_eq (map name_of (map member_of l.members.items));
       kept : l.scopes.items ≡ l.fn.scopes.items;

@@ -26,10 +26,12 @@ returns-in_err-value-clause-only c = λ taken names all knows.
 pub returns-in_err-expect-2-clause-only : goal.returns-in_err-expect-2-clause-only
 returns-in_err-expect-2-clause-only c = λ taken names all knows.
     let p = err_from_is_err_and c.from_residual-in_err-expect-2.result c.from_residual-in_err-expect-2.ensures.1 in
-    rw (p.1, p.2) (λ v rest h new. absurd (no_semicolon _ _ _ _ _ _ _ _ _ rest c.advance.ensures c.in_ok-name.ensures.found c.requires c.in_ok-expect.ensures c.in_ok-value.ensures c.in_err-expect-2.ensures.0 h))
+    rw (p.1, p.2) (λ v rest h new. absurd (no_semicolon _ _ _ _ _ _ _ _ _ rest c.advance.ensures c.in_ok-name.ensures.found c.requires c.in_ok-expect.ensures c.in_ok-value.ensures
+    c.in_err-expect-2.ensures.0 h))
 
 pub returns-clause-found : goal.returns-clause-found
-returns-clause-found c = is_declared _ _ _ _ _ _ _ _ _ _ c.in_ok-copied.ensures c.requires c.advance.ensures c.in_ok-name.ensures.found c.in_ok-expect.ensures c.in_ok-value.ensures c.in_ok-expect-2.ensures
+returns-clause-found c = is_declared _ _ _ _ _ _ _ _ _ _ c.in_ok-copied.ensures c.requires c.advance.ensures c.in_ok-name.ensures.found c.in_ok-expect.ensures c.in_ok-value.ensures
+    c.in_ok-expect-2.ensures
 
 pub returns-clause-free : goal.returns-clause-free
 returns-clause-free c = λ taken all. rw c.in_ok-copied.ensures (c.in_ok-name.ensures.free taken all)

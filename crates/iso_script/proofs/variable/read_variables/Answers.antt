@@ -25,8 +25,14 @@ written-preserved-in-Continue-branch-2 c =
     let v = c.in_ok-variable.ensures in
     let fresh = v.fresh _ i.2 in
     let d : Declared = record { word = c.in-Some.word; variable = c.in_ok-variable.variable } in
-    rw c.in_ok-push-in-Static.ensures.items
-    (i.0 ++ d ∷ [], read_push IsDeclared _ _ _ _ _ i.1 v.found, knows_more _ i.0 d fresh.1, comes_to_static i.0 _ _ _ c.in-Static.is i.3 fresh.0, λ taken all. stays_free taken i.0 d (i.4 taken all) (v.free taken all))
+    rw c.in_ok-push-in-Static.ensures.items (
+      i.0 ++ d ∷ [],
+      read_push IsDeclared _ _ _ _ _ i.1 v.found,
+      knows_more _ i.0 d fresh.1,
+      comes_to_static i.0 _ _ _ c.in-Static.is i.3 fresh.0,
+      λ taken all. stays_free taken i.0 d
+          (i.4 taken all) (v.free taken all),
+    )
 
 pub written-smaller : goal.written-smaller
 written-smaller c = omega (arith, declared_shorter c.in_ok-variable.ensures.found)
@@ -37,8 +43,14 @@ written-preserved c =
     let v = c.in_ok-variable.ensures in
     let fresh = v.fresh _ i.2 in
     let d : Declared = record { word = c.in-Some.word; variable = c.in_ok-variable.variable } in
-    rw c.in_ok-push-in-Field.ensures.items
-    (i.0 ++ d ∷ [], read_push IsDeclared _ _ _ _ _ i.1 v.found, knows_more _ i.0 d fresh.1, comes_to_field i.0 _ _ _ c.in-Field.is i.3 fresh.0, λ taken all. stays_free taken i.0 d (i.4 taken all) (v.free taken all))
+    rw c.in_ok-push-in-Field.ensures.items (
+      i.0 ++ d ∷ [],
+      read_push IsDeclared _ _ _ _ _ i.1 v.found,
+      knows_more _ i.0 d fresh.1,
+      comes_to_field i.0 _ _ _ c.in-Field.is i.3 fresh.0,
+      λ taken all. stays_free taken i.0 d
+          (i.4 taken all) (v.free taken all),
+    )
 
 pub returns-clause-names : goal.returns-clause-names
 returns-clause-names c = let i = c.written.invariant in knows_both _ i.0 _ i.3 i.2

@@ -7,7 +7,8 @@ use Rattle.iso_script.proofs.Variables.{ComeTo}
 use Rattle.iso_script.proofs.variable.read_variables.Given as goal
 
 abbrev pub invariant-written : goal.invariant-written
-invariant-written l = (written : List Declared) × AreRead IsDeclared written l.fn.parser.lexer l.parser.lexer × Knows l.variables.names (map name_in written) × ComeTo written (variables_of l.variables)
+invariant-written l = (written : List Declared) × AreRead IsDeclared written l.fn.parser.lexer l.parser.lexer × Knows l.variables.names (map name_in written)
+    × ComeTo written (variables_of l.variables)
     × ((taken : List (List ℕ)) → KnowAll l.enclosing taken → AllByRecursion (λ n. is_among taken n ≡ false) (map name_in written))
 
 abbrev pub decreases-written : goal.decreases-written

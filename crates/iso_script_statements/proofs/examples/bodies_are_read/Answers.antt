@@ -15,15 +15,32 @@ returns-clause-none c = (_, pieces_of-HasPieces _ (text_of ("{ }" ∷ [])), a_bl
 
 pub returns-clause-inner_else : goal.returns-clause-inner_else
 unfolding pieces_of pieces gap_from front_of symbol_front quoted_length decoded word_of
-returns-clause-inner_else c = (_, pieces_of-HasPieces _ (text_of ("{ if x { if y { } else { fail \"\"; } } }" ∷ [])), a_block (a_body (on_row refl (an_if (an_operand a_name refl) (a_body (on_row refl (an_if (an_operand a_name refl) (a_body closed) (an_else (a_body (on_row refl (a_simple refl a_fail) closed)))) closed)) (no_else refl)) closed)))
+returns-clause-inner_else c = (
+  _,
+  pieces_of-HasPieces _ (text_of ("{ if x { if y { } else { fail \"\"; } } }" ∷ [])),
+  a_block
+      (a_body (on_row refl (an_if (an_operand a_name refl)
+      (a_body (on_row refl (an_if (an_operand a_name refl) (a_body closed) (an_else (a_body (on_row refl (a_simple refl a_fail) closed)))) closed)) (no_else refl)) closed)),
+)
 
 pub returns-clause-outer_else : goal.returns-clause-outer_else
 unfolding pieces_of pieces gap_from front_of symbol_front quoted_length decoded word_of
-returns-clause-outer_else c = (_, pieces_of-HasPieces _ (text_of ("{ if x { if y { fail \"\"; } } else { print z; } }" ∷ [])), a_block (a_body (on_row refl (an_if (an_operand a_name refl) (a_body (on_row refl (an_if (an_operand a_name refl) (a_body (on_row refl (a_simple refl a_fail) closed)) (no_else refl)) closed)) (an_else (a_body (on_row refl (a_simple refl (of_one (alone a_name refl))) closed)))) closed)))
+returns-clause-outer_else c = (
+  _,
+  pieces_of-HasPieces _ (text_of ("{ if x { if y { fail \"\"; } } else { print z; } }" ∷ [])),
+  a_block
+      (a_body (on_row refl (an_if (an_operand a_name refl) (a_body (on_row refl (an_if (an_operand a_name refl) (a_body (on_row refl (a_simple refl a_fail) closed)) (no_else refl)) closed))
+      (an_else (a_body (on_row refl (a_simple refl (of_one (alone a_name refl))) closed)))) closed)),
+)
 
 pub returns-clause-turns : goal.returns-clause-turns
 unfolding pieces_of pieces gap_from front_of symbol_front quoted_length decoded word_of
-returns-clause-turns c = (_, pieces_of-HasPieces _ (text_of ("{ repeat x { repeat y { } } }" ∷ [])), a_block (a_body (on_row refl (a_repeat (an_operand a_name refl) (a_body (on_row refl (a_repeat (an_operand a_name refl) (a_body closed)) closed))) closed)))
+returns-clause-turns c = (
+  _,
+  pieces_of-HasPieces _ (text_of ("{ repeat x { repeat y { } } }" ∷ [])),
+  a_block
+      (a_body (on_row refl (a_repeat (an_operand a_name refl) (a_body (on_row refl (a_repeat (an_operand a_name refl) (a_body closed)) closed))) closed)),
+)
 
 pub returns-clause-rows : goal.returns-clause-rows
 unfolding pieces_of pieces gap_from front_of symbol_front quoted_length decoded word_of

@@ -11,7 +11,12 @@ use Rattle.iso_script_statements.proofs.examples.statements_are_read.Goals as go
 
 pub returns-clause-let_name : goal.returns-clause-let_name
 unfolding pieces_of pieces gap_from front_of symbol_front quoted_length decoded word_of
-returns-clause-let_name c = (_, pieces_of-HasPieces _ (text_of ("{ let x = 1; }" ∷ [])), a_block (a_body (on_row refl (a_simple refl (a_let (a_binding (alone (a_literal (a_number (omega arith))) refl)))) closed)))
+returns-clause-let_name c = (
+  _,
+  pieces_of-HasPieces _ (text_of ("{ let x = 1; }" ∷ [])),
+  a_block
+      (a_body (on_row refl (a_simple refl (a_let (a_binding (alone (a_literal (a_number (omega arith))) refl)))) closed)),
+)
 
 pub returns-clause-assign : goal.returns-clause-assign
 unfolding pieces_of pieces gap_from front_of symbol_front quoted_length decoded word_of
@@ -27,11 +32,21 @@ returns-clause-assert c = (_, pieces_of-HasPieces _ (text_of ("{ assert true; }"
 
 pub returns-clause-assert_equal : goal.returns-clause-assert_equal
 unfolding pieces_of pieces gap_from front_of symbol_front quoted_length decoded word_of
-returns-clause-assert_equal c = (_, pieces_of-HasPieces _ (text_of ("{ assert_equal 1, x; }" ∷ [])), a_block (a_body (on_row refl (a_simple refl (of_two (alone (a_literal (a_number (omega arith))) refl) (alone a_name refl))) closed)))
+returns-clause-assert_equal c = (
+  _,
+  pieces_of-HasPieces _ (text_of ("{ assert_equal 1, x; }" ∷ [])),
+  a_block
+      (a_body (on_row refl (a_simple refl (of_two (alone (a_literal (a_number (omega arith))) refl) (alone a_name refl))) closed)),
+)
 
 pub returns-clause-assume : goal.returns-clause-assume
 unfolding pieces_of pieces gap_from front_of symbol_front quoted_length decoded word_of
-returns-clause-assume c = (_, pieces_of-HasPieces _ (text_of ("{ assume x, \"not now\"; }" ∷ [])), a_block (a_body (on_row refl (a_simple refl (an_assumption (alone a_name refl) (a_display refl))) closed)))
+returns-clause-assume c = (
+  _,
+  pieces_of-HasPieces _ (text_of ("{ assume x, \"not now\"; }" ∷ [])),
+  a_block
+      (a_body (on_row refl (a_simple refl (an_assumption (alone a_name refl) (a_display refl))) closed)),
+)
 
 pub returns-clause-fail : goal.returns-clause-fail
 unfolding pieces_of pieces gap_from front_of symbol_front quoted_length decoded word_of
@@ -55,7 +70,12 @@ returns-clause-write_file c = (_, pieces_of-HasPieces _ (text_of ("{ write_file 
 
 pub returns-clause-append_file : goal.returns-clause-append_file
 unfolding pieces_of pieces gap_from front_of symbol_front quoted_length decoded word_of
-returns-clause-append_file c = (_, pieces_of-HasPieces _ (text_of ("{ append_file x, y; }" ∷ [])), a_block (a_body (on_row refl (a_simple refl (of_two (alone a_name refl) (alone a_name refl))) closed)))
+returns-clause-append_file c = (
+  _,
+  pieces_of-HasPieces _ (text_of ("{ append_file x, y; }" ∷ [])),
+  a_block
+      (a_body (on_row refl (a_simple refl (of_two (alone a_name refl) (alone a_name refl))) closed)),
+)
 
 pub returns-clause-delete_file : goal.returns-clause-delete_file
 unfolding pieces_of pieces gap_from front_of symbol_front quoted_length decoded word_of

@@ -44,7 +44,8 @@ text-preserved-then-pattern-at c =
       from_in = omega arith;
       on = subst (λ (m : ℕ). GoesOn (is_match (drop c.text.after p)) (is_match (drop (c.text.at + 1) p)) m) (omega arith) (goes-more p c.text.after c.text.at n 0 c.if-at-pattern-2.true plain i.on);
       same =
-          sym (ap (λ (b : Bool). b || some_later (is_match (drop c.text.after p)) (drop c.text.from t)) (step-byte p t c.text.at c.text.place 0 0 c.if-at-pattern-2.true c.text-test.true plain c.if-pattern-at.true))
+          sym (ap (λ (b : Bool). b || some_later (is_match (drop c.text.after p)) (drop c.text.from t))
+          (step-byte p t c.text.at c.text.place 0 0 c.if-at-pattern-2.true c.text-test.true plain c.if-pattern-at.true))
           ∙ i.same;
     }
 

@@ -65,7 +65,8 @@ returns-clause-picked c =
       | else-is_none-via-else-is_none w ↦ picked-wanted nodes c.args.wanted shard (c.is_none.ensures ∙ ap not w.if-is_none.false)
     ] in
     c.these.ensures.paths
-    ∙ ap Some (c.in_ok-kept_paths.ensures ∙ picked-by nodes (is_picked nodes wishes shard) c.deref-2.result.now c.deref-3.result.now (c.deref-2.ensures.value ∙ c.in_ok-nodes.ensures.paths) (c.deref-3.ensures.value ∙ kept))
+    ∙ ap Some (c.in_ok-kept_paths.ensures ∙ picked-by nodes (is_picked nodes wishes shard) c.deref-2.result.now c.deref-3.result.now (c.deref-2.ensures.value ∙ c.in_ok-nodes.ensures.paths)
+    (c.deref-3.ensures.value ∙ kept))
     ∙ sym some
 
 pub returns-clause-accepted : goal.returns-clause-accepted

@@ -19,7 +19,8 @@ nodes-preserved c =
     elim c.if-named-n.branch [
       | then-named-n w ↦ record {
         each = rw w.held-is (length-set old (get_or classes n 0) true ∙ i.each);
-        so_far = λ m. rw w.held-is (set-true old (get_or classes n 0) m (omega arith) ∙ marked-more (λ k. get_or named k false) (λ k. get_or classes k 0) m n (get_or old m false) w.if-named-n.true (i.so_far m));
+        so_far = λ m. rw w.held-is (set-true old (get_or classes n 0) m (omega arith)
+            ∙ marked-more (λ k. get_or named k false) (λ k. get_or classes k 0) m n (get_or old m false) w.if-named-n.true (i.so_far m));
       }
       | else-named-n w ↦ record {
         each = rw w.held-is i.each;

@@ -21,9 +21,11 @@ returns-in_err-strategy-clause-exact c =
 pub returns-in_err-count-clause-exact : goal.returns-in_err-count-clause-exact
 returns-in_err-count-clause-exact c =
     let p = err_from_is_err_and c.from_residual-in_err-count.result c.from_residual-in_err-count.ensures.1 in
-    rw (p.1, p.2) (fault_next _ _ _ (past _ _ (past _ _ (past _ _ (past _ _ refl c.in_ok-flag.ensures) c.in_ok-mode.ensures) c.in_ok-mode-2.ensures) c.in_ok-strategy.ensures) c.in_err-count.ensures.exact)
+    rw (p.1, p.2) (fault_next _ _ _ (past _ _ (past _ _ (past _ _ (past _ _ refl c.in_ok-flag.ensures) c.in_ok-mode.ensures) c.in_ok-mode-2.ensures) c.in_ok-strategy.ensures)
+    c.in_err-count.ensures.exact)
 
 pub returns-in_err-parallelism-clause-exact : goal.returns-in_err-parallelism-clause-exact
 returns-in_err-parallelism-clause-exact c =
     let p = err_from_is_err_and c.from_residual-in_err-parallelism.result c.from_residual-in_err-parallelism.ensures.1 in
-    rw (p.1, p.2) (fault_next _ _ _ (past _ _ (past _ _ (past _ _ (past _ _ (past _ _ refl c.in_ok-flag.ensures) c.in_ok-mode.ensures) c.in_ok-mode-2.ensures) c.in_ok-strategy.ensures) c.in_ok-count.ensures.exact) c.in_err-parallelism.ensures.exact)
+    rw (p.1, p.2) (fault_next _ _ _ (past _ _ (past _ _ (past _ _ (past _ _ (past _ _ refl c.in_ok-flag.ensures) c.in_ok-mode.ensures) c.in_ok-mode-2.ensures) c.in_ok-strategy.ensures)
+    c.in_ok-count.ensures.exact) c.in_err-parallelism.ensures.exact)

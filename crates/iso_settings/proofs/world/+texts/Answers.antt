@@ -26,7 +26,8 @@ add_texts-returns-in_err-add_value-clause-texts t c =
     let rest : Map → Reading Map = λ m. texts_of c.args.top.now m more in
     let whole : texts_of c.args.top.now c.args.texts.now (leaves_behind (string_bytes c.args.path.now) (table_view c.args.table.now)) ≡ read (string_bytes c.push_str.new.self) >>= rest =
     sym (rw iter at all) ∙ texts_of-append c.args.top.now here more c.members.texts ∙ ap (λ (k : List ℕ). read k >>= rest) (sym pushed) in
-    rw (p.1, p.2) (fault_first (λ (x : Unit {0}). c.add_value.new.texts) (λ (x : Unit {0}). c.add_value.new.texts) _ (read (string_bytes c.push_str.new.self)) rest _ whole c.in_err-add_value.ensures.texts)
+    rw (p.1, p.2) (fault_first (λ (x : Unit {0}). c.add_value.new.texts) (λ (x : Unit {0}). c.add_value.new.texts) _ (read (string_bytes c.push_str.new.self)) rest _ whole
+    c.in_err-add_value.ensures.texts)
 
 pub add_texts-truncate-requires : goal.add_texts-truncate-requires
 add_texts-truncate-requires t c =

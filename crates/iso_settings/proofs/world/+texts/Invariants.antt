@@ -8,4 +8,5 @@ abbrev pub invariant-add_texts-members : goal.invariant-add_texts-members
 invariant-add_texts-members l =
     (goal.iterator-add_texts-members).can_next l.name-iterator × (goal.iterator-add_texts-members).is_finite l.name-iterator
     × (string_bytes l.path ≡ string_bytes l.fn.path)
-    × (texts_of l.top l.texts (leaves_behind (string_bytes l.fn.path) (members_view l.name-iterator)) ≡ texts_of l.top l.fn.texts (leaves_behind (string_bytes l.fn.path) (members_view l.table.entries)))
+    × (texts_of l.top l.texts (leaves_behind (string_bytes l.fn.path) (members_view l.name-iterator)) ≡ texts_of l.top l.fn.texts
+    (leaves_behind (string_bytes l.fn.path) (members_view l.table.entries)))

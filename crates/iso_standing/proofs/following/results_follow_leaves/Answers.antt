@@ -30,7 +30,8 @@ returns c = record {
   well = λ world r s n b a over.
       of (λ p v. IsTree (tree_of p) → IsReached p v s → n < length p.rows → is_kind_of BeforeAll (row_at (tree_of p) n).kind ≡ true
       → ended_well scripts (suite_at p v) n b s.nodes ≡ not (is_barring (with_done_of BeforeAll n r) n)) r c.args.plan.now world a.of_plan a.of_world
-      (λ t reached inside fits. ends-well r t s reached a.results n a.inner inside b a.body (begun-is (s.nodes.status n) b a.body (sym a.closing)) over fits) c.nodes_are_a_tree.ensures a.reached a.within a.fits;
+      (λ t reached inside fits. ends-well r t s reached a.results n a.inner inside b a.body (begun-is (s.nodes.status n) b a.body (sym a.closing)) over fits) c.nodes_are_a_tree.ensures
+      a.reached a.within a.fits;
   outcomes = λ world r s n reached are e f inside.
       of (λ p v. IsTree (tree_of p) → IsReached p v s → n < length p.rows → result_in r n ≡ result_of s n) r c.args.plan.now world e f
       (λ t reached inside. result-is r t s reached are n inside) c.nodes_are_a_tree.ensures reached inside;

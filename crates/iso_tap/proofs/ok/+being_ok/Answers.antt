@@ -24,7 +24,8 @@ is_ok-returns-then-is_ok_verdict t c =
     let n = c.args.node in
     let within : n < length (tree_of plan) = c.requires.within in
     c.children_are_ok.ensures
-    ∙ sym (ok-by (tree_of plan) (outcome_in c.args.results.now) c.nodes_are_a_tree.ensures n (outcome_of_view c.outcome.result) true c.outcome.ensures (sym c.if-is_ok_verdict.true ∙ c.is_ok_verdict.ensures) c.requires.above within)
+    ∙ sym (ok-by (tree_of plan) (outcome_in c.args.results.now) c.nodes_are_a_tree.ensures n (outcome_of_view c.outcome.result) true c.outcome.ensures
+    (sym c.if-is_ok_verdict.true ∙ c.is_ok_verdict.ensures) c.requires.above within)
 
 pub is_ok-returns-else-is_ok_verdict : goal.is_ok-returns-else-is_ok_verdict
 is_ok-returns-else-is_ok_verdict t c =
@@ -32,4 +33,5 @@ is_ok-returns-else-is_ok_verdict t c =
     let n = c.args.node in
     let within : n < length (tree_of plan) = c.requires.within in
     c.if-is_ok_verdict.false
-    ∙ sym (ok-by (tree_of plan) (outcome_in c.args.results.now) c.nodes_are_a_tree.ensures n (outcome_of_view c.outcome.result) false c.outcome.ensures (sym c.if-is_ok_verdict.false ∙ c.is_ok_verdict.ensures) c.requires.above within)
+    ∙ sym (ok-by (tree_of plan) (outcome_in c.args.results.now) c.nodes_are_a_tree.ensures n (outcome_of_view c.outcome.result) false c.outcome.ensures
+    (sym c.if-is_ok_verdict.false ∙ c.is_ok_verdict.ensures) c.requires.above within)

@@ -10,7 +10,8 @@ returns-in_err-node_events g c =
     let run = c.args.run.now in
     let here : c.nodes.node < length run.plan.now.rows = omega arith in
     let p = err_from_is_err_and c.from_residual.result c.from_residual.ensures.1 in
-    rw p.1 (left_cut _ _ p.0 (bodies-next (tree_of run.plan.now) run.times.now run.results.now run.critical.now (length run.plan.now.rows) c.nodes.node here) c.nodes.invariant c.in_err-node_events.ensures)
+    rw p.1 (left_cut _ _ p.0 (bodies-next (tree_of run.plan.now) run.times.now run.results.now run.critical.now (length run.plan.now.rows) c.nodes.node here) c.nodes.invariant
+    c.in_err-node_events.ensures)
 
 pub nodes-preserved : goal.nodes-preserved
 nodes-preserved g c =

@@ -25,7 +25,8 @@ merge-preserved c =
     record {
       place = c.merge.invariant.place;
       other = omega (arith, c.if-other_place-others.true);
-      left = pass-beside some others c.merge.place c.merge.other_place _ _ rise c.merge-test.true c.if-other_place-others.true (omega (arith, c.if-lock-other_lock.false)) (sym c.excludes.ensures ∙ c.if-excludes.false) ∙ c.merge.invariant.left;
+      left = pass-beside some others c.merge.place c.merge.other_place _ _ rise c.merge-test.true c.if-other_place-others.true (omega (arith, c.if-lock-other_lock.false))
+          (sym c.excludes.ensures ∙ c.if-excludes.false) ∙ c.merge.invariant.left;
     }
 
 pub returns-else-other_place-others-clause-key : goal.returns-else-other_place-others-clause-key

@@ -27,7 +27,8 @@ loop-stay-preserved c =
     elim c.if-conflict.branch [
       | then-conflict+in_ok-push w ↦
           record {
-            found = rw w.found-is (rivals-more tree stays found _ n i _ c.loop-stay-test.true (sym c.conflict.ensures.conflict ∙ w.if-conflict.true) c.loop-stay.invariant.found w.in_ok-push.ensures.items);
+            found = rw w.found-is (rivals-more tree stays found _ n i _ c.loop-stay-test.true (sym c.conflict.ensures.conflict ∙ w.if-conflict.true) c.loop-stay.invariant.found
+                w.in_ok-push.ensures.items);
             keys = c.conflict.ensures.known;
           }
       | else-conflict w ↦

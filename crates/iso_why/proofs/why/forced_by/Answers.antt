@@ -18,7 +18,12 @@ returns-in-Some c =
     let within : n < length c.args.plan.now.rows = let h = c.requires in let k = c.up.invariant.within in omega arith in
     record {
       forced = sym (forced-here tree c.parents_come_first.ensures n c.in-Some.key c.up-test.true e) ∙ c.up.invariant.same;
-      known = (c.up-test.true, within, written-known (locks tree n) (length (keys tree)) c.in-Some.key (recursion_from_All (λ (l : Lock). l.key < length (keys tree)) (locks tree n) (locks-known tree n)) e);
+      known = (
+        c.up-test.true,
+        within,
+        written-known (locks tree n) (length (keys tree)) c.in-Some.key
+            (recursion_from_All (λ (l : Lock). l.key < length (keys tree)) (locks tree n) (locks-known tree n)) e,
+      );
     }
 
 pub up-preserved : goal.up-preserved

@@ -11,7 +11,8 @@ use Rattle.iso_book.proofs.book.Book.enter_own.Goals as goal
 pub take_enter-requires-clause-own : goal.take_enter-requires-clause-own
 take_enter-requires-clause-own c =
     let t = c.args.tray.now in
-    still-enters c.args.self.now c.args.node t c.requires.plan c.requires.world (parent (tree_of t.plan) c.args.node) c.hand_around.new.tray c.in_ok-hand_around.ensures.handed c.in_default.ensures.kind.tray
+    still-enters c.args.self.now c.args.node t c.requires.plan c.requires.world (parent (tree_of t.plan) c.args.node) c.hand_around.new.tray c.in_ok-hand_around.ensures.handed
+    c.in_default.ensures.kind.tray
 
 pub returns-clause-tray : goal.returns-clause-tray
 returns-clause-tray c =

@@ -26,7 +26,8 @@ hand_path-requires-clause-opened c =
     let h : refusal_in b (Code.Enter w n) ≡ None = ap (λ (v : BookView). refusal_in v (Code.Enter w n)) c.self.view_is ∙ c.requires.allowed in
     let pos = inner b i.standing i.vault i.results room is tree w n h in
     let inside = within b i.standing i.vault i.results room is tree w n h in
-    let class : c.unwrap_or-class.result ≡ parent (tree_of i.plan.now) n = parent-is (tree_of i.plan.now) n c.unwrap_or-class.result pos (c.unwrap_or-class.ensures ∙ ap (λ o. unwrap_or o 0) c.parent.ensures) in
+    let class : c.unwrap_or-class.result ≡ parent (tree_of i.plan.now) n = parent-is (tree_of i.plan.now) n c.unwrap_or-class.result pos
+    (c.unwrap_or-class.ensures ∙ ap (λ o. unwrap_or o 0) c.parent.ensures) in
     let less = tree.below n pos in
     subst (λ (m : ℕ). AreOpened i.results (path (tree_of c.args.tray.now.plan) m)) (sym class)
     (subst (λ (p : Planned). AreOpened i.results (path (tree_of p) (parent (tree_of i.plan.now) n))) (sym (c.requires.plan ∙ sym (ap (λ (v : BookView). v.plan) c.self.view_is)))

@@ -64,7 +64,8 @@ module _ (c : After-lent_nodes_find_their_values) where
   h : refusal_in b (Code.Enter w n) ≡ None
   h = ap (λ (v : BookView). refusal_in v (Code.Enter w n)) c.self.view_is ∙ c.requires.allowed
 
-  on : StandsAfter b c.self.inside.standing c.self.inside.vault c.self.inside.results room c.self.invariant (after scripts (suite_in b) (state_in b) (E.Enter w n)) c.enter.new.self (lending n c.self.inside.vault) c.self.inside.results
+  on : StandsAfter b c.self.inside.standing c.self.inside.vault c.self.inside.results room c.self.invariant (after scripts (suite_in b) (state_in b) (E.Enter w n)) c.enter.new.self
+      (lending n c.self.inside.vault) c.self.inside.results
   on =
       let i = c.self.inside in
       let is = c.self.invariant in
@@ -78,7 +79,8 @@ module _ (c : After-lent_nodes_find_their_values) where
   vault-is : c.lend_free.new.self ≡ lending n c.self.inside.vault
   vault-is = c.lend_free.ensures.vault
 
-  book-is : IsBook (book_of c.self.inside.plan.now c.self.inside.world.now c.self.inside.workers c.enter.new.self.stopped c.push_reserved.new.self.items) c.enter.new.self c.lend_free.new.self c.self.inside.results (vec_capacity c.push_reserved.new.self)
+  book-is : IsBook (book_of c.self.inside.plan.now c.self.inside.world.now c.self.inside.workers c.enter.new.self.stopped c.push_reserved.new.self.items) c.enter.new.self c.lend_free.new.self
+      c.self.inside.results (vec_capacity c.push_reserved.new.self)
   book-is =
       let i = c.self.inside in
       let seen = book_of i.plan.now i.world.now i.workers c.enter.new.self.stopped c.push_reserved.new.self.items in

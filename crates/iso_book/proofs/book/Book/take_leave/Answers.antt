@@ -109,7 +109,8 @@ looks c =
 vault-is : (c : After-new) → c.bring_home.new.vault ≡ home_after c.args.done.kind c.args.done.subject.node c.self.inside.vault
 vault-is c = c.bring_home.ensures.vault ∙ ap₂ (λ (k : BodyKind) (m : ℕ). home_after k m c.self.inside.vault) c.kind-kind.ensures c.node-node.ensures
 
-book-is : (c : After-new) → IsBook (book_of c.self.inside.plan.now c.self.inside.world.now c.self.inside.workers c.leave.new.self.stopped c.push_reserved.new.self.items) c.leave.new.self c.bring_home.new.vault c.put.new.self
+book-is : (c : After-new) → IsBook (book_of c.self.inside.plan.now c.self.inside.world.now c.self.inside.workers c.leave.new.self.stopped c.push_reserved.new.self.items) c.leave.new.self
+    c.bring_home.new.vault c.put.new.self
     (vec_capacity c.push_reserved.new.self)
 book-is c =
     let i = c.self.inside in

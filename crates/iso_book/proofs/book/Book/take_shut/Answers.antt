@@ -41,7 +41,8 @@ module _ (c : After-push_reserved) where
   h : refusal_in b (Code.Shut w n) ≡ None
   h = ap (λ (v : BookView). refusal_in v (Code.Shut w n)) c.self.view_is ∙ c.requires
 
-  on : StandsAfter b c.self.inside.standing c.self.inside.vault c.self.inside.results room c.self.invariant (after scripts (suite_in b) (state_in b) (E.Shut w n)) c.shut.new.self c.self.inside.vault c.self.inside.results
+  on : StandsAfter b c.self.inside.standing c.self.inside.vault c.self.inside.results room c.self.invariant (after scripts (suite_in b) (state_in b) (E.Shut w n)) c.shut.new.self
+      c.self.inside.vault c.self.inside.results
   on =
       let i = c.self.inside in
       let is = c.self.invariant in
@@ -52,7 +53,8 @@ module _ (c : After-push_reserved) where
   next : state_in (with_event b (Code.Shut w n)) ≡ after scripts (suite_in b) (state_in b) (E.Shut w n)
   next = let i = c.self.inside in state-shut b i.standing i.vault i.results room c.self.invariant c.nodes_are_a_tree.ensures w n h
 
-  book-is : IsBook (book_of c.self.inside.plan.now c.self.inside.world.now c.self.inside.workers c.shut.new.self.stopped c.push_reserved.new.self.items) c.shut.new.self c.self.inside.vault c.self.inside.results (vec_capacity c.push_reserved.new.self)
+  book-is : IsBook (book_of c.self.inside.plan.now c.self.inside.world.now c.self.inside.workers c.shut.new.self.stopped c.push_reserved.new.self.items) c.shut.new.self c.self.inside.vault
+      c.self.inside.results (vec_capacity c.push_reserved.new.self)
   book-is =
       let i = c.self.inside in
       let seen = book_of i.plan.now i.world.now i.workers c.shut.new.self.stopped c.push_reserved.new.self.items in

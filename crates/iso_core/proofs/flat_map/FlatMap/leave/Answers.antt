@@ -34,6 +34,7 @@ returns-in-Some-clause-state c = λ s r of.
     let tree : IsTree (tree_of v.tray.plan) = subst (λ (p : Planned). IsTree (tree_of p)) c.plan.ensures c.nodes_are_a_tree.ensures in
     let before : IsFlatOf v s = subst (λ (u : FlatView). IsFlatOf u s) (sym c.self.view_is) of in
     subst (λ (u : FlatView). IsFlatOf (record { tray = c.undo.new.self; marks = set v.marks n c.take.new.self }) (E.finishing scripts (suite_at u.tray.plan u.tray.world) n r s)) c.self.view_is
-    (subst (λ (o : Option SavepointView). IsFlatOf (record { tray = c.undo.new.self; marks = set v.marks n o }) (E.finishing scripts (suite_at v.tray.plan v.tray.world) n r s)) (sym c.in-Some.ensures.after)
+    (subst (λ (o : Option SavepointView). IsFlatOf (record { tray = c.undo.new.self; marks = set v.marks n o }) (E.finishing scripts (suite_at v.tray.plan v.tray.world) n r s))
+    (sym c.in-Some.ensures.after)
     (subst (λ (t : TrayView). IsFlatOf (record { tray = t; marks = set v.marks n None }) (E.finishing scripts (suite_at v.tray.plan v.tray.world) n r s)) (sym c.undo.ensures)
     (state-left v c.self.invariant n c.in-Some.mark at tree s before r)))

@@ -25,14 +25,17 @@ enter-requires c =
 taken : (c : After-push_reserved) → Took c.self.inside c.args.self.now (Code.Enter c.args.worker c.args.node) c.enter.new.self c.enter_values.new.flat
     (set c.self.inside.bodies.items c.args.worker (Some c.in_ok-body.body)) c.self.inside.results c.push_reserved.new.self.items
 taken c =
-    took-enter c.self.inside c.self.invariant c.args.self.now c.self.view_is c.args.worker c.args.node c.enter.new.self c.in_ok-body.body c.requires c.enter_values.new.flat c.enter_values.new.events.items c.push_reserved.new.self.items
+    took-enter c.self.inside c.self.invariant c.args.self.now c.self.view_is c.args.worker c.args.node c.enter.new.self c.in_ok-body.body c.requires c.enter_values.new.flat
+    c.enter_values.new.events.items c.push_reserved.new.self.items
     c.enter.ensures.same c.enter.ensures.state c.enter_values.ensures.same c.in_ok-enter_values.ensures.state c.in_ok-body.ensures
-    (c.bodies_follow_events.ensures.enter c.self.inside.world.now _ _ _ _ _) (c.results_follow_nodes.ensures.enter c.self.inside.world.now _ _ _) c.enter_values.ensures.events c.push_reserved.ensures.items
+    (c.bodies_follow_events.ensures.enter c.self.inside.world.now _ _ _ _ _) (c.results_follow_nodes.ensures.enter c.self.inside.world.now _ _ _) c.enter_values.ensures.events
+    c.push_reserved.ensures.items
 
 pub invariant_of-self-2 : goal.invariant_of-self-2
 invariant_of-self-2 c =
     let i = c.self.inside in
-    subst (λ (bodies : List (Option Body)). IsCore (core_of i.plan.now i.world.now c.enter.new.self c.push_reserved.new.self.items) c.enter.new.self c.enter_values.new.flat bodies i.results) (sym c.give_body.ensures) (taken c).core
+    subst (λ (bodies : List (Option Body)). IsCore (core_of i.plan.now i.world.now c.enter.new.self c.push_reserved.new.self.items) c.enter.new.self c.enter_values.new.flat bodies i.results)
+    (sym c.give_body.ensures) (taken c).core
 
 pub returns-clause-taken : goal.returns-clause-taken
 returns-clause-taken c = (taken c).view

@@ -20,7 +20,8 @@ nodes-preserved c =
     let n = c.nodes.node in
     let w = c.owner-worker.result in
     let here : 0 < n → Refuses v (entered_by_owner v n) =
-    λ pos. let up : c.unwrap_or.result ≡ parent (tree_of v.plan) n = parent_is (tree_of v.plan) n c.unwrap_or.result pos (c.unwrap_or.ensures ∙ ap (λ o. unwrap_or o 0) (c.parent.ensures ∙ ap (λ (p : Planned). parent_of (tree_of p) n) c.plan-in-nodes.ensures)) in
+    λ pos. let up : c.unwrap_or.result ≡ parent (tree_of v.plan) n = parent_is (tree_of v.plan) n c.unwrap_or.result pos
+    (c.unwrap_or.ensures ∙ ap (λ o. unwrap_or o 0) (c.parent.ensures ∙ ap (λ (p : Planned). parent_of (tree_of p) n) c.plan-in-nodes.ensures)) in
     ap (λ (u : ℕ). is_none (refusal_in v (Enter u n))) (sym (c.owner-worker.ensures ∙ ap (λ (m : ℕ). (state_in v).owner m) up))
     ∙ refuses-by c.refusal.result (refusal_in v (Enter w n)) c.refusal.ensures (c.is_none.ensures ∙ ap not c.if-is_none.false) in
     λ m pos h. below-next (λ (j : ℕ). 0 < j → Refuses v (entered_by_owner v j)) n (λ j less p. c.nodes.invariant j p less) here m h pos

@@ -37,7 +37,8 @@ begin-requires c =
       fits = c.first_kind-kind.ensures.fits;
       frames = c.deref.ensures.value ∙ c.in_ok-frames.ensures
           ∙ ap (λ (s : Start). map (subject i.plan.now s) (reverse (path (tree_of i.plan.now) c.unwrap_or-class.result))) start
-          ∙ ap (λ (m : ℕ). map (subject i.plan.now c.of-start.result.value) (reverse (path (tree_of i.plan.now) m))) (parent_is (tree_of i.plan.now) n c.unwrap_or-class.result c.requires.inner (c.unwrap_or-class.ensures ∙ ap (λ o. unwrap_or o 0) c.parent.ensures))
+          ∙ ap (λ (m : ℕ). map (subject i.plan.now c.of-start.result.value) (reverse (path (tree_of i.plan.now) m)))
+          (parent_is (tree_of i.plan.now) n c.unwrap_or-class.result c.requires.inner (c.unwrap_or-class.ensures ∙ ap (λ o. unwrap_or o 0) c.parent.ensures))
           ∙ sym (ap (map (subject i.plan.now c.of-start.result.value)) (first_framed c.first_kind-kind.result (subject i.plan.now c.of-start.result.value n) c.first_kind-kind.ensures.first));
       well = subst (λ (s : Start). (opening_of (enclosing (subject i.plan.now s n))).well ≡ true) (sym c.of-start.ensures)
           (c.bodies_stand_as_alone.ensures.enclosed i.world.now (run_state (view_of i)) n (run-reached (view_of i) c.self.invariant.run) c.requires.inner within around);

@@ -26,5 +26,6 @@ begin-requires c =
       fits = closing-fits i.plan.now c.nodes_are_a_tree.ensures n c.requires.inner within class;
       frames = c.deref.ensures.value ∙ c.in_ok-frames.ensures ∙ ap (λ (s : Start). map (subject i.plan.now s) (framed AfterAll (subject i.plan.now s n))) start;
       well = subst (λ (s : Start). (opening_of (enclosing (subject i.plan.now s n))).well ≡ true) (sym c.of-start.ensures)
-          (c.bodies_stand_as_alone.ensures.enclosed i.world.now (run_state (view_of i)) n got c.requires.inner within (c.bodies_stand_as_alone.ensures.around i.world.now (run_state (view_of i)) n got c.requires.inner within rests));
+          (c.bodies_stand_as_alone.ensures.enclosed i.world.now (run_state (view_of i)) n got c.requires.inner within
+          (c.bodies_stand_as_alone.ensures.around i.world.now (run_state (view_of i)) n got c.requires.inner within rests));
     }

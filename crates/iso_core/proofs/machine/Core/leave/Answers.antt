@@ -51,13 +51,15 @@ unreachable-requires c =
 
 pub into_done-done-requires : goal.into_done-done-requires
 into_done-done-requires c =
-    (leave-finds c.self.inside c.self.invariant c.args.self.now c.self.view_is c.args.worker c.requires c.bodies_stand_as_alone.ensures.inside c.index_mut.result.now c.in-Some.body c.index_mut.ensures.value (sym c.take.ensures.value ∙ c.in-Some.is)).ended
+    (leave-finds c.self.inside c.self.invariant c.args.self.now c.self.view_is c.args.worker c.requires c.bodies_stand_as_alone.ensures.inside c.index_mut.result.now c.in-Some.body
+    c.index_mut.ensures.value (sym c.take.ensures.value ∙ c.in-Some.is)).ended
 
 pub put-requires : goal.put-requires
 put-requires c =
     let i = c.self.inside in
     let is = c.self.invariant in
-    let f = leave-finds i is c.args.self.now c.self.view_is c.args.worker c.requires c.bodies_stand_as_alone.ensures.inside c.index_mut.result.now c.in-Some.body c.index_mut.ensures.value (sym c.take.ensures.value ∙ c.in-Some.is) in
+    let f = leave-finds i is c.args.self.now c.self.view_is c.args.worker c.requires c.bodies_stand_as_alone.ensures.inside c.index_mut.result.now c.in-Some.body c.index_mut.ensures.value
+    (sym c.take.ensures.value ∙ c.in-Some.is) in
     subst (λ (s : Subject). CanPut (record { subject = s; kind = c.into_done-done.result.kind }) i.results) (sym (c.into_done-done.ensures.subject ∙ f.under.subject))
     (subst (λ (k : BodyKind). CanPut (record { subject = subject i.plan.now i.world.now f.node; kind = k }) i.results) (sym c.into_done-done.ensures.kind)
     (c.results_follow_leaves.ensures.put i.world.now i.results (state_in (view_of i)) f.node (stage_of_body c.in-Some.body) (kind_of_body c.in-Some.body)
@@ -67,7 +69,8 @@ pub leave_values-requires : goal.leave_values-requires
 leave_values-requires c =
     let i = c.self.inside in
     let is = c.self.invariant in
-    let f = leave-finds i is c.args.self.now c.self.view_is c.args.worker c.requires c.bodies_stand_as_alone.ensures.inside c.index_mut.result.now c.in-Some.body c.index_mut.ensures.value (sym c.take.ensures.value ∙ c.in-Some.is) in
+    let f = leave-finds i is c.args.self.now c.self.view_is c.args.worker c.requires c.bodies_stand_as_alone.ensures.inside c.index_mut.result.now c.in-Some.body c.index_mut.ensures.value
+    (sym c.take.ensures.value ∙ c.in-Some.is) in
     let kind : c.kind-kind.result ≡ kind_of_body c.in-Some.body = c.kind-kind.ensures ∙ c.into_done-done.ensures.kind in
     let node : c.node-node.result ≡ f.node = c.node-node.ensures ∙ ap (λ (j : Subject). j.node) (c.into_done-done.ensures.subject ∙ f.under.subject) in
     record {
@@ -88,24 +91,29 @@ pub bars-well-requires : goal.bars-well-requires
 bars-well-requires c =
     let i = c.self.inside in
     let is = c.self.invariant in
-    let f = leave-finds i is c.args.self.now c.self.view_is c.args.worker c.requires c.bodies_stand_as_alone.ensures.inside c.index_mut.result.now c.in-Some.body c.index_mut.ensures.value (sym c.take.ensures.value ∙ c.in-Some.is) in
+    let f = leave-finds i is c.args.self.now c.self.view_is c.args.worker c.requires c.bodies_stand_as_alone.ensures.inside c.index_mut.result.now c.in-Some.body c.index_mut.ensures.value
+    (sym c.take.ensures.value ∙ c.in-Some.is) in
     let node : c.node-node.result ≡ f.node = c.node-node.ensures ∙ ap (λ (j : Subject). j.node) (c.into_done-done.ensures.subject ∙ f.under.subject) in
-    let plan : c.put.new.self.plan ≡ i.plan.now = ap (λ (q : ResultsView). q.plan) c.put.ensures ∙ done-plan c.into_done-done.result.kind c.into_done-done.result.subject.node i.results ∙ is.results_plan in
+    let plan : c.put.new.self.plan ≡ i.plan.now = ap (λ (q : ResultsView). q.plan) c.put.ensures ∙ done-plan c.into_done-done.result.kind c.into_done-done.result.subject.node i.results
+    ∙ is.results_plan in
     subst (λ (m : ℕ). m < length c.put.new.self.plan.rows) (sym node) (subst (λ (p : Planned). f.node < length p.rows) (sym plan) f.within)
 
 pub leave-requires : goal.leave-requires
 leave-requires c =
     let i = c.self.inside in
     let is = c.self.invariant in
-    let f = leave-finds i is c.args.self.now c.self.view_is c.args.worker c.requires c.bodies_stand_as_alone.ensures.inside c.index_mut.result.now c.in-Some.body c.index_mut.ensures.value (sym c.take.ensures.value ∙ c.in-Some.is) in
+    let f = leave-finds i is c.args.self.now c.self.view_is c.args.worker c.requires c.bodies_stand_as_alone.ensures.inside c.index_mut.result.now c.in-Some.body c.index_mut.ensures.value
+    (sym c.take.ensures.value ∙ c.in-Some.is) in
     has-body (view_of i) i.standing i.flat i.bodies.items i.results is c.args.worker (told (view_of i) i.bodies.items c.args.worker c.in-Some.body true f) f.within
 
 stands : (c : After-push_reserved) → StandsAfter (view_of c.self.inside) c.self.inside.standing c.self.inside.flat c.self.inside.bodies.items c.self.inside.results c.self.invariant
-    (after scripts (suite_in (view_of c.self.inside)) (state_in (view_of c.self.inside)) (E.Leave c.args.worker)) c.leave.new.self c.leave_values.new.flat (set c.self.inside.bodies.items c.args.worker c.take.new.self) c.put.new.self
+    (after scripts (suite_in (view_of c.self.inside)) (state_in (view_of c.self.inside)) (E.Leave c.args.worker)) c.leave.new.self c.leave_values.new.flat
+    (set c.self.inside.bodies.items c.args.worker c.take.new.self) c.put.new.self
 stands c =
     let i = c.self.inside in
     let is = c.self.invariant in
-    let f = leave-finds i is c.args.self.now c.self.view_is c.args.worker c.requires c.bodies_stand_as_alone.ensures.inside c.index_mut.result.now c.in-Some.body c.index_mut.ensures.value (sym c.take.ensures.value ∙ c.in-Some.is) in
+    let f = leave-finds i is c.args.self.now c.self.view_is c.args.worker c.requires c.bodies_stand_as_alone.ensures.inside c.index_mut.result.now c.in-Some.body c.index_mut.ensures.value
+    (sym c.take.ensures.value ∙ c.in-Some.is) in
     let w = c.args.worker in
     let old = view_of i in
     let s = state_in old in
@@ -136,7 +144,8 @@ stands c =
     ∙ sym (ap not barred)) in
     let looks = c.leave.ensures.state (started i.world.now) s is.stands ends in
     let shown_at : body_in (s.nodes.status c.node-node.result) ≡ Some b = ap (λ (m : ℕ). body_in (s.nodes.status m)) node ∙ t.under.is.stage in
-    let closed_at : is_after_all c.kind-kind.result ≡ is_closing (s.nodes.status c.node-node.result) = ap is_after_all kind ∙ t.under.is.kind ∙ sym (ap (λ (m : ℕ). is_closing (s.nodes.status m)) node) in
+    let closed_at : is_after_all c.kind-kind.result ≡ is_closing (s.nodes.status c.node-node.result) = ap is_after_all kind ∙ t.under.is.kind
+    ∙ sym (ap (λ (m : ℕ). is_closing (s.nodes.status m)) node) in
     let values : IsFlatOf c.leave_values.new.flat (leaving scripts (suite_in old) t.node s.nodes (s.nodes.status t.node)) =
     subst (λ (m : ℕ). IsFlatOf c.leave_values.new.flat (leaving scripts (suite_in old) m s.nodes (s.nodes.status m))) node
     (subst (λ (x : Suite Head (List ℕ) Resource). IsFlatOf c.leave_values.new.flat (leaving scripts x c.node-node.result s.nodes (s.nodes.status c.node-node.result)))
@@ -148,7 +157,8 @@ stands c =
     let are : AreResultsOf c.put.new.self (leaving scripts (suite_in old) t.node s.nodes (s.nodes.status t.node)) =
     subst (λ (q : ResultsView). AreResultsOf q (leaving scripts (suite_in old) t.node s.nodes (s.nodes.status t.node))) (sym put_is)
     (c.results_follow_leaves.ensures.leave i.world.now i.results s t.node b k here_left t.ended) in
-    left old i.standing i.flat i.bodies.items i.results is w t c.leave.new.self c.leave_values.new.flat (set i.bodies.items w c.take.new.self) c.put.new.self (allowed i is c.args.self.now c.self.view_is (Code.Leave w) c.requires)
+    left old i.standing i.flat i.bodies.items i.results is w t c.leave.new.self c.leave_values.new.flat (set i.bodies.items w c.take.new.self) c.put.new.self
+    (allowed i is c.args.self.now c.self.view_is (Code.Leave w) c.requires)
     c.leave.ensures.same looks c.leave_values.ensures.same values (length-set i.bodies.items w c.take.new.self) under
     (ap (λ (q : ResultsView). q.plan) c.put.ensures ∙ done-plan d.kind d.subject.node i.results)
     (ap (λ (q : ResultsView). q.start) c.put.ensures ∙ done-start d.kind d.subject.node i.results)
@@ -157,7 +167,8 @@ stands c =
 taken : (c : After-push_reserved) → Took c.self.inside c.args.self.now (Code.Leave c.args.worker) c.leave.new.self c.leave_values.new.flat
     (set c.self.inside.bodies.items c.args.worker c.take.new.self) c.put.new.self c.push_reserved.new.self.items
 taken c =
-    took c.self.inside c.self.invariant c.args.self.now c.self.view_is (Code.Leave c.args.worker) c.requires c.leave.new.self c.leave_values.new.flat (set c.self.inside.bodies.items c.args.worker c.take.new.self) c.put.new.self
+    took c.self.inside c.self.invariant c.args.self.now c.self.view_is (Code.Leave c.args.worker) c.requires c.leave.new.self c.leave_values.new.flat
+    (set c.self.inside.bodies.items c.args.worker c.take.new.self) c.put.new.self
     (stands c) c.reserve.new.self.items c.push_reserved.new.self.items c.in_ok-reserve.ensures.items c.push_reserved.ensures.items
 
 pub invariant_of-self-2 : goal.invariant_of-self-2

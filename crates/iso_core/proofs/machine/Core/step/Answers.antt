@@ -26,7 +26,8 @@ pub step-requires : goal.step-requires
 step-requires c =
     let i = c.self.inside in
     let is = c.self.invariant in
-    let f = step-finds i is c.args.self.now c.self.view_is c.args.worker c.requires c.bodies_stand_as_alone.ensures.inside c.index_mut.result.now c.in-Some.body c.index_mut.ensures.value c.in-Some.is in
+    let f = step-finds i is c.args.self.now c.self.view_is c.args.worker c.requires c.bodies_stand_as_alone.ensures.inside c.index_mut.result.now c.in-Some.body c.index_mut.ensures.value
+    c.in-Some.is in
     record {
       under_way = f.ended;
       of_map = subject-at i.plan.now i.flat.tray.plan i.world.now i.flat.tray.world f.node (subject_of c.in-Some.body) f.under.subject is.flat_plan is.flat_world;
@@ -45,9 +46,11 @@ invariant_of-self c = (without_room c).core
 pub returns-in-Err-clause-stopped : goal.returns-in-Err-clause-stopped
 returns-in-Err-clause-stopped c = (without_room c).view
 
-in_step : (c : After-stop-in-Err-step) → Stopped c.self.inside c.args.self.now c.stop-in-Err-step.new.self c.step.new.self (set c.self.inside.bodies.items c.args.worker (Some c.step.new.body)) c.reserve.new.self.items
+in_step : (c : After-stop-in-Err-step) → Stopped c.self.inside c.args.self.now c.stop-in-Err-step.new.self c.step.new.self (set c.self.inside.bodies.items c.args.worker (Some c.step.new.body))
+    c.reserve.new.self.items
 in_step c =
-    took-stop c.self.inside c.self.invariant c.args.self.now c.self.view_is c.stop-in-Err-step.new.self c.step.new.self (set c.self.inside.bodies.items c.args.worker (Some c.step.new.body)) c.reserve.new.self.items
+    took-stop c.self.inside c.self.invariant c.args.self.now c.self.view_is c.stop-in-Err-step.new.self c.step.new.self (set c.self.inside.bodies.items c.args.worker (Some c.step.new.body))
+    c.reserve.new.self.items
     c.stop-in-Err-step.ensures.same c.stop-in-Err-step.ensures.state c.reserve.ensures.items c.step.ensures.same (length-set c.self.inside.bodies.items c.args.worker (Some c.step.new.body))
 
 pub invariant_of-self-in-Err-step : goal.invariant_of-self-in-Err-step
@@ -62,14 +65,16 @@ taken c =
     let i = c.self.inside in
     let is = c.self.invariant in
     let s = state_in (view_of i) in
-    let f = step-finds i is c.args.self.now c.self.view_is c.args.worker c.requires c.bodies_stand_as_alone.ensures.inside c.index_mut.result.now c.in-Some.body c.index_mut.ensures.value c.in-Some.is in
+    let f = step-finds i is c.args.self.now c.self.view_is c.args.worker c.requires c.bodies_stand_as_alone.ensures.inside c.index_mut.result.now c.in-Some.body c.index_mut.ensures.value
+    c.in-Some.is in
     let t = told (view_of i) i.bodies.items c.args.worker c.in-Some.body false f in
     let b = stage_of_body c.in-Some.body in
     let stage : stage_of_body c.step.new.body ≡ (scripts.step (chain (suite_in (view_of i)) t.node) b s.nodes.flat).body =
     c.in_default-step.ensures.stage
     ∙ ap (λ (j : Subject). (body_step (rights_of_subject j) (going b (flat i.flat.tray))).stage) t.under.is.subject
     ∙ same-step i.plan.now i.world.now c.nodes_are_a_tree.ensures t.node b (flat i.flat.tray) s.nodes.flat (is.flat_is f.on).now in
-    let bodies = c.bodies_follow_events.ensures.step i.world.now i.bodies.items s c.args.worker t.node c.in-Some.body c.step.new.body (is.bodies_are f.on) f.less t.busy f.at c.in_default-step.ensures.subject c.in_default-step.ensures.kind stage in
+    let bodies = c.bodies_follow_events.ensures.step i.world.now i.bodies.items s c.args.worker t.node c.in-Some.body c.step.new.body (is.bodies_are f.on) f.less t.busy f.at
+    c.in_default-step.ensures.subject c.in_default-step.ensures.kind stage in
     let results = c.results_follow_nodes.ensures.step i.world.now i.results s.nodes t.node b is.results_are t.under.is.stage in
     took i is c.args.self.now c.self.view_is (Code.Step c.args.worker) c.requires i.standing c.step.new.self (set i.bodies.items c.args.worker (Some c.step.new.body)) i.results
     (stepped (view_of i) i.standing i.flat i.bodies.items i.results is c.args.worker t c.step.new.self (set i.bodies.items c.args.worker (Some c.step.new.body)) c.nodes_are_a_tree.ensures

@@ -37,10 +37,13 @@ invariant_of-self c =
     let low : c.number-number.result < length c.self.inside.ends.items = omega arith in
     record {
       order = c.self.invariant.order;
-      young = young_set c.self.inside.places.items c.args.node c.self.inside.front c.args.place (in_table c.self.inside.places.items c.args.node (stands_marked c.self.inside.places.items c.args.line c.args.node first.0)) (λ h. absurd (h (ap mark_of c.requires.place))) c.self.invariant.young;
+      young = young_set c.self.inside.places.items c.args.node c.self.inside.front c.args.place
+          (in_table c.self.inside.places.items c.args.node (stands_marked c.self.inside.places.items c.args.line c.args.node first.0)) (λ h. absurd (h (ap mark_of c.requires.place)))
+          c.self.invariant.young;
       linked =
           leaves_at c.self.inside.workers c.self.inside.places.items c.self.inside.next.items c.self.inside.ends.items c.self.inside.clock c.args.line c.args.node c.args.place
           c.number-number.result c.index-ends.result.now c.shorter-left.result c.self.invariant.linked (ours d.After-index-ends) first c.requires.place
           (read d.After-index-ends) c.number-number.ensures (c.shorter-left.ensures ∙ ap (shorter c.index-ends.result.now) c.deref.ensures.value);
-      marked = filled_set c.self.inside.ends.items c.self.inside.filled c.set.new.self c.number-number.result c.shorter-left.result c.is_some.result c.self.invariant.marked low c.is_some.ensures c.set.ensures.room c.set.ensures.set;
+      marked = filled_set c.self.inside.ends.items c.self.inside.filled c.set.new.self c.number-number.result c.shorter-left.result c.is_some.result c.self.invariant.marked low
+          c.is_some.ensures c.set.ensures.room c.set.ensures.set;
     }

@@ -38,11 +38,13 @@ invariant_of-self c =
     let low : c.number-number.result < length c.self.inside.ends.items = omega arith in
     record {
       order = let o = c.self.invariant.order in omega arith;
-      young = young_set c.self.inside.places.items c.args.node c.self.inside.front (InLine (record { line = c.args.line; since = c.self.inside.clock })) here (λ h. c.self.invariant.order) c.self.invariant.young;
+      young = young_set c.self.inside.places.items c.args.node c.self.inside.front (InLine (record { line = c.args.line; since = c.self.inside.clock })) here (λ h. c.self.invariant.order)
+          c.self.invariant.young;
       linked =
           lined_up_at c.self.inside.workers c.self.inside.places.items c.self.inside.next.items c.self.inside.ends.items c.self.inside.clock c.args.line c.args.node c.link.new.next.items
           c.number-number.result c.in-Some.clock c.index-ends.result.now c.longer.result c.self.invariant.linked (ours d.After-index-ends) here
           (ap (λ (v : TableView). line_in (place_of v.places c.args.node)) c.self.view_is ∙ c.requires.free)
           (read d.After-index-ends) c.number-number.ensures c.link.ensures c.longer.ensures later;
-      marked = filled_set c.self.inside.ends.items c.self.inside.filled c.set.new.self c.number-number.result (Some c.longer.result) true c.self.invariant.marked low refl c.set.ensures.room c.set.ensures.set;
+      marked = filled_set c.self.inside.ends.items c.self.inside.filled c.set.new.self c.number-number.result (Some c.longer.result) true c.self.invariant.marked low refl c.set.ensures.room
+          c.set.ensures.set;
     }

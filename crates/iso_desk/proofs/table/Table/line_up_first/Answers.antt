@@ -51,5 +51,6 @@ invariant_of-self c =
           c.number-number.result c.index-ends.result.now c.wider.result c.self.invariant.linked (ours d.After-index-ends) there
           (ap (λ (v : TableView). line_in (place_of v.places c.args.node)) c.self.view_is ∙ c.requires.free) early young
           (read d.After-index-ends) c.number-number.ensures c.lead.ensures c.wider.ensures;
-      marked = filled_set c.self.inside.ends.items c.self.inside.filled c.set.new.self c.number-number.result (Some c.wider.result) true c.self.invariant.marked low refl c.set.ensures.room c.set.ensures.set;
+      marked = filled_set c.self.inside.ends.items c.self.inside.filled c.set.new.self c.number-number.result (Some c.wider.result) true c.self.invariant.marked low refl c.set.ensures.room
+          c.set.ensures.set;
     }

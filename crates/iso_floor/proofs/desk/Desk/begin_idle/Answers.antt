@@ -4,4 +4,8 @@ use Rattle.iso_floor.proofs.desk.Desk.begin_idle.Goals as goal
 pub invariant_of-self : goal.invariant_of-self
 invariant_of-self g c =
     let i = c.self.inside in
-    record { desk = desk-members g.G.Ground.plan g.G.Ground.start g.G.Ground.workers i.book i.scheduler c.begin_wait.new.self c.begin_wait.ensures.rest c.begin_wait.ensures.sizes c.self.invariant.desk; seats = c.self.invariant.seats }
+    record {
+      desk = desk-members g.G.Ground.plan g.G.Ground.start g.G.Ground.workers i.book i.scheduler c.begin_wait.new.self c.begin_wait.ensures.rest c.begin_wait.ensures.sizes
+          c.self.invariant.desk;
+      seats = c.self.invariant.seats;
+    }

@@ -4,4 +4,8 @@ use Rattle.iso_floor.proofs.desk.Desk.end_idle.Goals as goal
 pub invariant_of-self : goal.invariant_of-self
 invariant_of-self g c =
     let i = c.self.inside in
-    record { desk = desk-members g.G.Ground.plan g.G.Ground.start g.G.Ground.workers i.book i.scheduler c.end_wait.new.self c.end_wait.ensures.rest c.end_wait.ensures.sizes c.self.invariant.desk; seats = c.self.invariant.seats }
+    record {
+      desk = desk-members g.G.Ground.plan g.G.Ground.start g.G.Ground.workers i.book i.scheduler c.end_wait.new.self c.end_wait.ensures.rest c.end_wait.ensures.sizes
+          c.self.invariant.desk;
+      seats = c.self.invariant.seats;
+    }

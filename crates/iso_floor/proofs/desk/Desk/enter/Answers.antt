@@ -10,7 +10,8 @@ invariant_of-self-2 g c =
     let step = c.enter.ensures in
     record {
       desk =
-          desk-entered g.G.Ground.plan g.G.Ground.start g.G.Ground.workers i.book c.enter_own.new.self (Enter c.args.worker n) entered.event.book c.plan.result.now c.nodes_are_a_tree.ensures c.plan.ensures
+          desk-entered g.G.Ground.plan g.G.Ground.start g.G.Ground.workers i.book c.enter_own.new.self (Enter c.args.worker n) entered.event.book c.plan.result.now c.nodes_are_a_tree.ensures
+          c.plan.ensures
           i.scheduler c.enter.new.self n c.plan-2.result.now c.held.result.now.held entered.held c.plan-2.ensures c.held.ensures.held step.keys step.past step.sizes step.lines
           c.self.invariant.desk;
       seats = c.self.invariant.seats;

@@ -15,8 +15,10 @@ invariant_of-result-2 g c =
     record {
       desk =
           subst (λ (s : SchedulerView). IsDesk g.G.Ground.plan g.G.Ground.start g.G.Ground.workers b s) (sym c.scheduler.view_is)
-          (desk-new g.G.Ground.plan g.G.Ground.start g.G.Ground.workers p c.args.world.now c.args.workers b c.post_root.new.scheduler c.requires.plan c.requires.start c.requires.workers c.in_ok-new.ensures c.nodes_are_a_tree.ensures
-          (posted.sizes (length p.rows) c.args.workers new.sizes) (λ k. ap (λ (v : KeysView). has v.held k) posted.keys ∙ new.held k) (λ k. ap (λ (v : KeysView). has v.written k) posted.keys ∙ new.written k)
+          (desk-new g.G.Ground.plan g.G.Ground.start g.G.Ground.workers p c.args.world.now c.args.workers b c.post_root.new.scheduler c.requires.plan c.requires.start c.requires.workers
+          c.in_ok-new.ensures c.nodes_are_a_tree.ensures
+          (posted.sizes (length p.rows) c.args.workers new.sizes) (λ k. ap (λ (v : KeysView). has v.held k) posted.keys ∙ new.held k)
+          (λ k. ap (λ (v : KeysView). has v.written k) posted.keys ∙ new.written k)
           (posted.lines p.rows (new.lines p.rows)));
       seats = search rules;
     }

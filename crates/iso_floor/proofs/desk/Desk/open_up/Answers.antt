@@ -6,7 +6,8 @@ invariant_of-self g c =
     let i = c.self.inside in
     let posted = c.post_children in
     record {
-      desk = desk-step g.G.Ground.plan g.G.Ground.start g.G.Ground.workers i.book i.scheduler posted.new.scheduler posted.ensures.keys posted.ensures.sizes (posted.ensures.lines g.G.Ground.plan.rows) c.self.invariant.desk;
+      desk = desk-step g.G.Ground.plan g.G.Ground.start g.G.Ground.workers i.book i.scheduler posted.new.scheduler posted.ensures.keys posted.ensures.sizes
+          (posted.ensures.lines g.G.Ground.plan.rows) c.self.invariant.desk;
       seats = c.self.invariant.seats;
     }
 
@@ -19,6 +20,7 @@ invariant_of-self-2 g c =
     record {
       desk =
           desk-table g.G.Ground.plan g.G.Ground.start g.G.Ground.workers i.book posted.new.scheduler opened.new.self opened.ensures.rest opened.ensures.sizes (opened.ensures.lines rows)
-          (desk-step g.G.Ground.plan g.G.Ground.start g.G.Ground.workers i.book i.scheduler posted.new.scheduler posted.ensures.keys posted.ensures.sizes (posted.ensures.lines rows) c.self.invariant.desk);
+          (desk-step g.G.Ground.plan g.G.Ground.start g.G.Ground.workers i.book i.scheduler posted.new.scheduler posted.ensures.keys posted.ensures.sizes (posted.ensures.lines rows)
+          c.self.invariant.desk);
       seats = c.self.invariant.seats;
     }

@@ -5,7 +5,10 @@ use Rattle.iso_floor.proofs.desk.Desk.stays.Goals as goal
 pub invariant_of-self : goal.invariant_of-self
 invariant_of-self g c =
     let i = c.self.inside in
-    record { desk = desk-members g.G.Ground.plan g.G.Ground.start g.G.Ground.workers i.book i.scheduler c.stays.new.self c.stays.ensures.rest c.stays.ensures.sizes c.self.invariant.desk; seats = c.self.invariant.seats }
+    record {
+      desk = desk-members g.G.Ground.plan g.G.Ground.start g.G.Ground.workers i.book i.scheduler c.stays.new.self c.stays.ensures.rest c.stays.ensures.sizes c.self.invariant.desk;
+      seats = c.self.invariant.seats;
+    }
 
 pub returns-clause-nothing : goal.returns-clause-nothing
 returns-clause-nothing g c =
@@ -13,4 +16,5 @@ returns-clause-nothing g c =
     let d = c.self.invariant.desk in
     let w : ℕ = c.args.worker in
     rw (← c.self.view_is) (λ below yes.
-    desk-none g.G.Ground.plan g.G.Ground.start g.G.Ground.workers i.book i.scheduler w c.is_over-is_over.result _ d ((c.stays.ensures.nothing (subst (λ (n : ℕ). w < n) (sym d.scheduler.workers_are) below)).0 yes))
+    desk-none g.G.Ground.plan g.G.Ground.start g.G.Ground.workers i.book i.scheduler w c.is_over-is_over.result _ d
+    ((c.stays.ensures.nothing (subst (λ (n : ℕ). w < n) (sym d.scheduler.workers_are) below)).0 yes))

@@ -4,4 +4,8 @@ use Rattle.iso_floor.proofs.desk.Desk.take_opening.Goals as goal
 pub invariant_of-self : goal.invariant_of-self
 invariant_of-self g c =
     let i = c.self.inside in
-    record { desk = desk-same g.G.Ground.plan g.G.Ground.start g.G.Ground.workers i.book i.scheduler c.take_opening.new.self c.take_opening.ensures c.self.invariant.desk; seats = c.self.invariant.seats }
+    record {
+      desk = desk-same g.G.Ground.plan g.G.Ground.start g.G.Ground.workers i.book i.scheduler c.take_opening.new.self c.take_opening.ensures c.self.invariant.desk;
+      seats =
+          c.self.invariant.seats;
+    }

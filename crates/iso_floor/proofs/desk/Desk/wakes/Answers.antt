@@ -4,10 +4,14 @@ use Rattle.iso_floor.proofs.desk.Desk.wakes.Goals as goal
 pub invariant_of-self : goal.invariant_of-self
 invariant_of-self g c =
     let i = c.self.inside in
-    record { desk = desk-members g.G.Ground.plan g.G.Ground.start g.G.Ground.workers i.book i.scheduler c.call.new.self c.call.ensures.marked c.call.ensures.sizes c.self.invariant.desk; seats = c.self.invariant.seats }
+    record {
+      desk = desk-members g.G.Ground.plan g.G.Ground.start g.G.Ground.workers i.book i.scheduler c.call.new.self c.call.ensures.marked c.call.ensures.sizes c.self.invariant.desk;
+      seats = c.self.invariant.seats;
+    }
 
 pub returns-clause-nobody : goal.returns-clause-nobody
 returns-clause-nobody g c =
     let i = c.self.inside in
     rw (← c.self.view_is) (λ none w below waits.
-    desk-none g.G.Ground.plan g.G.Ground.start g.G.Ground.workers i.book i.scheduler w c.is_over-is_over.result _ c.self.invariant.desk (none-told c.call.result _ _ c.call.ensures.whom none w below waits))
+    desk-none g.G.Ground.plan g.G.Ground.start g.G.Ground.workers i.book i.scheduler w c.is_over-is_over.result _ c.self.invariant.desk
+    (none-told c.call.result _ _ c.call.ensures.whom none w below waits))

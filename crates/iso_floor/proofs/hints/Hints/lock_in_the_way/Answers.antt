@@ -20,6 +20,7 @@ returns-in_err-lock-clause-excluded c =
     subst (λ (p : Planned). list_any (is_excluded (tree_of p) held) (locks tree c.args.node) ≡ false) (sym c.requires.plan)
     (subst (λ (ls : List Lock). list_any (is_excluded (tree_of c.args.held.now.plan) held) ls ≡ false) c.locks-locks.ensures.locks c.in_err-lock.ensures.excluded) in
     let known : AllByRecursion (λ (l : Lock). l.key < length (keys tree)) (locks tree c.args.node) =
-    recursion_from_All (λ (l : Lock). l.key < length (keys tree)) (locks tree c.args.node) (subst (λ (ls : List Lock). All (λ (l : Lock). l.key < length (keys tree)) ls) c.locks-locks.ensures.locks c.locks-locks.ensures.known) in
+    recursion_from_All (λ (l : Lock). l.key < length (keys tree)) (locks tree c.args.node)
+    (subst (λ (ls : List Lock). All (λ (l : Lock). l.key < length (keys tree)) ls) c.locks-locks.ensures.locks c.locks-locks.ensures.known) in
     subst (λ (o : Option Lock). MatchOption o (is_some (lowest_in_the_way tree (is_held held) c.args.node) ≡ false) (λ l. is_excluded tree held l ≡ true)) (sym c.from_residual.ensures)
     (none-excluded tree held c.args.node known none)

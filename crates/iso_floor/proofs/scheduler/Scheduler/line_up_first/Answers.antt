@@ -18,7 +18,8 @@ invariant_of-self-2 c =
     record {
       crew = c.self.invariant.crew ∙ sym (ap (λ (t : TableView). t.workers) c.in_ok-line_up_first.ensures.stands);
       loose_are =
-          recount places c.args.node (InLine (record { line = c.args.line; since = c.self.inside.table.front - 1 })) c.self.inside.loose c.recounted-self-inside.result c.is_loose-was.result false f.within c.self.invariant.loose_are
+          recount places c.args.node (InLine (record { line = c.args.line; since = c.self.inside.table.front - 1 })) c.self.inside.loose c.recounted-self-inside.result c.is_loose-was.result
+          false f.within c.self.invariant.loose_are
           (c.is_loose-was.ensures ∙ ap is_loose c.place.ensures) refl c.recounted-self-inside.ensures
           ∙ sym (ap (λ (t : TableView). loose_in t.places) c.in_ok-line_up_first.ensures.stands);
     }

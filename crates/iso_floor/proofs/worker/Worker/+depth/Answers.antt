@@ -54,7 +54,8 @@ class-returns-clause-further g t c =
 
 pub finish-undo-requires : goal.finish-undo-requires
 finish-undo-requires g t c =
-    may-undo g.G.Ground.plan g.G.Ground.start c.args.node c.args.seat.now.tray c.bodies.new.seat.tray c.requires c.in_ok-last.ensures.apart c.in_ok-last.ensures.further c.in_ok-mark.mark c.in_ok-mark.ensures
+    may-undo g.G.Ground.plan g.G.Ground.start c.args.node c.args.seat.now.tray c.bodies.new.seat.tray c.requires c.in_ok-last.ensures.apart c.in_ok-last.ensures.further c.in_ok-mark.mark
+    c.in_ok-mark.ensures
 
 pub finish-leave-requires : goal.finish-leave-requires
 finish-leave-requires g t c =
@@ -63,12 +64,14 @@ finish-leave-requires g t c =
 
 pub finish-returns-clause-inside : goal.finish-returns-clause-inside
 finish-returns-clause-inside g t c =
-    on-one c.leave.result c.leave.ensures (λ e. left g.G.Ground.plan g.G.Ground.start c.args.node c.args.seat.now.tray c.bodies.new.seat.tray c.requires c.in_ok-last.ensures.apart c.in_ok-last.ensures.further
+    on-one c.leave.result c.leave.ensures (λ e. left g.G.Ground.plan g.G.Ground.start c.args.node c.args.seat.now.tray c.bodies.new.seat.tray c.requires c.in_ok-last.ensures.apart
+    c.in_ok-last.ensures.further
     c.in_ok-mark.mark c.undo.new.self.tray c.leave.new.seat.tray c.in_ok-last.last c.in_ok-mark.ensures (ap (λ (s : SeatView). s.tray) c.undo.ensures) c.in_ok-last.ensures.last e)
 
 pub finish-returns-clause-further : goal.finish-returns-clause-further
 finish-returns-clause-further g t c =
-    on-one c.leave.result c.leave.ensures (λ e. left-further g.G.Ground.plan g.G.Ground.start c.args.node c.args.seat.now.tray c.bodies.new.seat.tray c.requires c.in_ok-last.ensures.apart c.in_ok-last.ensures.further
+    on-one c.leave.result c.leave.ensures (λ e. left-further g.G.Ground.plan g.G.Ground.start c.args.node c.args.seat.now.tray c.bodies.new.seat.tray c.requires c.in_ok-last.ensures.apart
+    c.in_ok-last.ensures.further
     c.in_ok-mark.mark c.undo.new.self.tray c.leave.new.seat.tray c.in_ok-last.last c.in_ok-mark.ensures (ap (λ (s : SeatView). s.tray) c.undo.ensures) c.in_ok-last.ensures.last e)
 
 pub node-finish-requires : goal.node-finish-requires
@@ -87,7 +90,8 @@ node-returns-in-Ok-clause-further g t c =
     let new = c.finish.new.seat.tray in
     let e : IsEntered c.args.node old c.enter.new.seat.tray = c.in-Ok.ensures.entered in
     let fs = (handed old (parent (tree_of old.plan) c.args.node)).frames in
-    on-one c.finish.result c.finish.ensures.further (λ further. further-handed old new fs (further (record old { frames = fs }) (stands-handed plan g.G.Ground.start p p old fs c.requires.inside.tray) e.lent))
+    on-one c.finish.result c.finish.ensures.further
+    (λ further. further-handed old new fs (further (record old { frames = fs }) (stands-handed plan g.G.Ground.start p p old fs c.requires.inside.tray) e.lent))
 
 pub node-returns-in-Err-Refused-ParentClosed-clause-further : goal.node-returns-in-Err-Refused-ParentClosed-clause-further
 node-returns-in-Err-Refused-ParentClosed-clause-further g t c =

@@ -39,7 +39,8 @@ open-requires g c =
     let law = law-in c.tray.result.now c.args.seat.now.tray c.tray.ensures.tray c.lent_nodes_find_their_values.ensures.written in
     let ground = c.tray.ensures.ground in
     let within = free-within plan g.G.Ground.start tree c.args.node c.args.seat.now.tray ground.plan_is c.requires in
-    let reads = parts c.plan-plan.result.now plan c.args.node c.plan-plan.ensures (sym (c.is_done_whole.ensures (within-in c.plan-plan.result.now plan c.args.node c.plan-plan.ensures within)) ∙ c.if-is_done_whole.false) in
+    let reads = parts c.plan-plan.result.now plan c.args.node c.plan-plan.ensures
+    (sym (c.is_done_whole.ensures (within-in c.plan-plan.result.now plan c.args.node c.plan-plan.ensures within)) ∙ c.if-is_done_whole.false) in
     record {
       entry = free-entry plan g.G.Ground.start tree c.args.node c.args.seat.now.tray ground.plan_is ground.world_is c.requires law;
       class = reads.0;
@@ -60,5 +61,6 @@ returns-else-is_done_whole g c =
     let law = law-in c.tray.result.now c.args.seat.now.tray c.tray.ensures.tray c.lent_nodes_find_their_values.ensures.written in
     let ground = c.tray.ensures.ground in
     let within = free-within plan g.G.Ground.start tree c.args.node c.args.seat.now.tray ground.plan_is c.requires in
-    let reads = parts c.plan-plan.result.now plan c.args.node c.plan-plan.ensures (sym (c.is_done_whole.ensures (within-in c.plan-plan.result.now plan c.args.node c.plan-plan.ensures within)) ∙ c.if-is_done_whole.false) in
+    let reads = parts c.plan-plan.result.now plan c.args.node c.plan-plan.ensures
+    (sym (c.is_done_whole.ensures (within-in c.plan-plan.result.now plan c.args.node c.plan-plan.ensures within)) ∙ c.if-is_done_whole.false) in
     on-one c.open.result c.open.ensures.inside (λ inside. opened-free plan g.G.Ground.start tree c.args.node c.args.seat.now.tray c.open.new.seat.tray ground.plan_is c.requires law reads.1 inside)

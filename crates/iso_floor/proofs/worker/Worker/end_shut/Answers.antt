@@ -26,7 +26,8 @@ leave-requires g c =
     let u = c.perform.new.seat.tray in
     let ground = c.tray.ensures.ground in
     let after = c.in_ok-done.ensures.after in
-    let free = still-free t u (shut-free g.G.Ground.plan g.G.Ground.start (tree-in c.plan.result.now g.G.Ground.plan c.plan.ensures c.nodes_are_a_tree.ensures) c.args.class t c.requires) after.onward in
+    let free = still-free t u (shut-free g.G.Ground.plan g.G.Ground.start (tree-in c.plan.result.now g.G.Ground.plan c.plan.ensures c.nodes_are_a_tree.ensures) c.args.class t c.requires)
+    after.onward in
     brings-nothing d u
     (ap (λ (x : DoneView). x.subject.plan) c.in_ok-done.ensures.done ∙ sym (after.plan_is ∙ ground.plan_is))
     (ap (λ (x : DoneView). x.subject.start) c.in_ok-done.ensures.done ∙ sym (after.world_is ∙ ground.world_is)) free
@@ -37,5 +38,6 @@ returns g c =
     let t = c.args.seat.now.tray in
     let u = c.perform.new.seat.tray in
     let after = c.in_ok-done.ensures.after in
-    let free = still-free t u (shut-free g.G.Ground.plan g.G.Ground.start (tree-in c.plan.result.now g.G.Ground.plan c.plan.ensures c.nodes_are_a_tree.ensures) c.args.class t c.requires) after.onward in
+    let free = still-free t u (shut-free g.G.Ground.plan g.G.Ground.start (tree-in c.plan.result.now g.G.Ground.plan c.plan.ensures c.nodes_are_a_tree.ensures) c.args.class t c.requires)
+    after.onward in
     on-one c.leave.result c.leave.ensures (λ e. subst IsFree (sym e) (left-free d.kind d.subject.node u free))

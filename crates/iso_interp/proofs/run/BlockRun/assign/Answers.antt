@@ -15,4 +15,5 @@ returns-in-Ok-clause-done g c =
     let m = g.T.Touch.content c.args.touch.now in
     let s = state_of self m in
     let given : Ok c.in-Ok.value ≡ value (run_rights self) s (term_of c.args.expression.now) = sym c.in-Ok.is ∙ c.in_ok-value.ensures in
-    on_ok_weaker c.set.result (λ done. done m ∙ ap (λ (v : Result Data Fault). upon c.args.row (then v (assigned self.names.names c.args.name.now)) s (λ names. locally (with_names names) s)) given) c.set.ensures.done
+    on_ok_weaker c.set.result (λ done. done m
+    ∙ ap (λ (v : Result Data Fault). upon c.args.row (then v (assigned self.names.names c.args.name.now)) s (λ names. locally (with_names names) s)) given) c.set.ensures.done

@@ -8,4 +8,5 @@ pub returns-then-not-is_empty-clause-left : goal.returns-then-not-is_empty-claus
 returns-then-not-is_empty-clause-left c =
     let run = c.loop-self.self in
     let some : is_empty c.in-Some-Rest.statements ≡ false = search rules in
-    sym (leave-top_rest run.top _ c.in-Some-Rest.names c.in-Some-Rest.statements run.below.items (local_of run) c.in-Some-Rest.is (rw c.in-Some-Rest.is at c.in-Some-Rest.field-0-is) some) ∙ c.loop-self.invariant.left
+    sym (leave-top_rest run.top _ c.in-Some-Rest.names c.in-Some-Rest.statements run.below.items (local_of run) c.in-Some-Rest.is (rw c.in-Some-Rest.is at c.in-Some-Rest.field-0-is) some)
+    ∙ c.loop-self.invariant.left

@@ -16,6 +16,8 @@ returns-clause-keys g c =
     let now = g.T.Touch.content c.advance.new.touch in
     let live : is_live m.state ≡ true = sym c.is_live.ensures ∙ c.if-not-is_live.false in
     let done : machine_of c.advance.new.self now ≡ step r m = c.in_ok-advance.ensures.done ∙ sym (step-live r m live) in
-    let keys : HasKeys r now (g.T.Touch.writes c.args.touch.now) = subst (λ (x : Machine). HasKeys r x.state.resources (g.T.Touch.writes c.args.touch.now)) (sym done) (step-keys r m (g.T.Touch.writes c.args.touch.now) c.requires) in
+    let keys : HasKeys r now (g.T.Touch.writes c.args.touch.now) = subst (λ (x : Machine). HasKeys r x.state.resources (g.T.Touch.writes c.args.touch.now)) (sym done)
+    (step-keys r m (g.T.Touch.writes c.args.touch.now) c.requires) in
     let same : r ≡ run_rights c.advance.new.self = sym (ap (λ (rights : Bor (List (List ℕ × Access))). access_in rights.now) c.in_ok-advance.ensures.block.rights) in
-    subst (λ (q : Rights). HasKeys q now (g.T.Touch.writes c.advance.new.touch)) same (subst (λ (w : List ℕ → Bool). HasKeys r now w) (sym (g.met.T.Touch.same_writes _ _ c.in_ok-advance.ensures.goes_on)) keys)
+    subst (λ (q : Rights). HasKeys q now (g.T.Touch.writes c.advance.new.touch)) same
+    (subst (λ (w : List ℕ → Bool). HasKeys r now w) (sym (g.met.T.Touch.same_writes _ _ c.in_ok-advance.ensures.goes_on)) keys)

@@ -30,7 +30,8 @@ steps-smaller g c =
     let content = g.T.Touch.content in
     let old = c.steps.self in
     let on : is_ended (stage_of_body old) ≡ false = sym c.is_ended.ensures ∙ c.steps-test.true in
-    step-nearer (rights_of_subject (subject_of old)) (stage_of_body old) (stage_of_body c.step.new.self) (content c.steps.touch) (content c.step.new.touch) c.in_ok-step.ensures.step c.steps.invariant.ready on
+    step-nearer (rights_of_subject (subject_of old)) (stage_of_body old) (stage_of_body c.step.new.self) (content c.steps.touch) (content c.step.new.touch) c.in_ok-step.ensures.step
+    c.steps.invariant.ready on
 
 pub steps-preserved : goal.steps-preserved
 steps-preserved g c =

@@ -5,7 +5,10 @@ use Rattle.iso_lifecycle.proofs.RunLemmas.{idle-rights, settled}
 use Rattle.iso_lifecycle.proofs.body_run.BodyRun.reach_next_block.Goals as goal
 
 pub invariant_of-self-in-Break-1 : goal.invariant_of-self-in-Break-1
-invariant_of-self-in-Break-1 c = record { same = idle-rights c.replace-run.new.dest c.idle.result c.args.self.now.rest c.settle.new.self c.replace-run.ensures.after c.idle.ensures c.settle.ensures.chain.rights }
+invariant_of-self-in-Break-1 c = record {
+  same = idle-rights c.replace-run.new.dest c.idle.result c.args.self.now.rest c.settle.new.self c.replace-run.ensures.after c.idle.ensures
+      c.settle.ensures.chain.rights;
+}
 
 pub returns-clause-stage : goal.returns-clause-stage
 returns-clause-stage c =

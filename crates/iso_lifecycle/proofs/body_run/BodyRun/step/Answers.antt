@@ -20,7 +20,8 @@ returns-in-More-clause-step g c =
     let n = g.T.Touch.content c.step.new.touch in
     let rights = block-rights old.block c.in-Some.run' old.rest c.in-Some.is old.same in
     block-goes_on c.step.new.self old.rest n (sym c.in_ok-step.ensures.progress ∙ c.in-More.is)
-    ∙ block-stepped (access_in old.rest.rights.now) (run_rights c.in-Some.run') old.block c.in-Some.run' c.step.new.self old.rest m n c.in-Some.is rights c.in_ok-step.ensures.step c.in_ok-step.ensures.names
+    ∙ block-stepped (access_in old.rest.rights.now) (run_rights c.in-Some.run') old.block c.in-Some.run' c.step.new.self old.rest m n c.in-Some.is rights c.in_ok-step.ensures.step
+    c.in_ok-step.ensures.names
 
 pub returns-in-Ended-clause-step : goal.returns-in-Ended-clause-step
 returns-in-Ended-clause-step g c =
@@ -28,7 +29,8 @@ returns-in-Ended-clause-step g c =
     let m = g.T.Touch.content c.args.touch.now in
     let n = g.T.Touch.content c.step.new.touch in
     let rights = block-rights old.block c.in-Some.run' old.rest c.in-Some.is old.same in
-    let stepped = block-stepped (access_in old.rest.rights.now) (run_rights c.in-Some.run') old.block c.in-Some.run' c.step.new.self old.rest m n c.in-Some.is rights c.in_ok-step.ensures.step c.in_ok-step.ensures.names in
+    let stepped = block-stepped (access_in old.rest.rights.now) (run_rights c.in-Some.run') old.block c.in-Some.run' c.step.new.self old.rest m n c.in-Some.is rights c.in_ok-step.ensures.step
+    c.in_ok-step.ensures.names in
     on_ok_weaker c.reach_next_block.result (λ d. ap (λ (s : Stage). going s n) d ∙ stepped) c.reach_next_block.ensures.stage
 
 pub returns-in-Ended-clause-keys : goal.returns-in-Ended-clause-keys

@@ -28,5 +28,6 @@ with_frame-requires-clause-begun c =
     let block = c.closing_statements-block.ensures ∙ ap (λ (d : ClassContents). acts_unless d.disabled (block_of d.after_all.items)) c.deref.ensures in
     let names = c.in_ok-names.ensures ∙ ap (λ (k : BodyKind). statics_of (opened_before k s).frames) c.requires.kind in
     c.in_ok-run.ensures.stage
-    ∙ closing-begins s (class_head_of c.class-depth.result.0.now) (classes_of (enclosing s)) c.class-depth.result.1 (block_of c.closing_statements-block.result.now) c.in_ok-names.names chain count block names
+    ∙ closing-begins s (class_head_of c.class-depth.result.0.now) (classes_of (enclosing s)) c.class-depth.result.1 (block_of c.closing_statements-block.result.now) c.in_ok-names.names chain
+    count block names
     ∙ ap (λ (k : BodyKind). (begun k s).stage) (sym c.requires.kind)

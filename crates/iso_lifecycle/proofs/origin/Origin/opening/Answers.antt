@@ -38,6 +38,7 @@ with_frame-requires-clause-begun c =
     let before = c.in_ok-names.ensures ∙ ap (λ (k : BodyKind). statics_of (opened_before k s).frames) c.requires.kind in
     let names = c.in_ok-add_variables.ensures ∙ (λ i. before i ++ fields i) in
     c.in_ok-run.ensures.stage
-    ∙ opening-begins s (class_head_of c.class-depth.result.0.now) (classes_of (enclosing s)) c.class-depth.result.1 c.deref-contents.result.now.disabled (block_of c.deref-contents.result.now.before_all.items) c.add_variables.new.names chain count
+    ∙ opening-begins s (class_head_of c.class-depth.result.0.now) (classes_of (enclosing s)) c.class-depth.result.1 c.deref-contents.result.now.disabled
+    (block_of c.deref-contents.result.now.before_all.items) c.add_variables.new.names chain count
     (ap (λ (d : ClassContents). d.disabled) contents) (ap (λ (d : ClassContents). block_of d.before_all.items) contents) names
     ∙ ap (λ (k : BodyKind). (begun k s).stage) (sym c.requires.kind)

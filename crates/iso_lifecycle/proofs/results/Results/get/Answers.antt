@@ -10,4 +10,5 @@ returns-in-Closed c =
     let es = c.self.inside.entries.items in
     let within : c.args.node < length es = omega (arith, c.requires, c.self.invariant.fits, ap (λ (v : ResultsView). length v.plan.rows) c.self.view_is) in
     let here = sym (get_or_read es c.args.node c.index.result.now within c.index.ensures Empty) ∙ c.in-Closed.is in
-    closed-result c.args.self.now c.self.inside.plan.now c.self.inside.start.value es c.args.node c.in-Closed.opened c.in-Closed.closed (outcome_of_view c.of_class.result) c.self.view_is c.self.invariant here c.of_class.ensures
+    closed-result c.args.self.now c.self.inside.plan.now c.self.inside.start.value es c.args.node c.in-Closed.opened c.in-Closed.closed (outcome_of_view c.of_class.result) c.self.view_is
+    c.self.invariant here c.of_class.ensures

@@ -15,7 +15,8 @@ invariant_of-self c =
     let es = c.self.inside.entries.items in
     let p : Puts c.args.done c.args.self.now s c.done.inside.what plan start es =
     record { done_is = c.done.view_is; done = c.done.invariant; seen_is = c.self.view_is; kept = c.self.invariant; can = c.requires } in
-    let put : c.put.new.self ≡ entry_with c.done.inside.what (entry_at es c.done.inside.node) = c.put.ensures ∙ ap (entry_with c.done.inside.what) (get_or_read es c.done.inside.node _ (put-within c.args.done c.args.self.now s c.done.inside.what plan start es p) c.index_mut.ensures.value Empty) in
+    let put : c.put.new.self ≡ entry_with c.done.inside.what (entry_at es c.done.inside.node) = c.put.ensures
+    ∙ ap (entry_with c.done.inside.what) (get_or_read es c.done.inside.node _ (put-within c.args.done c.args.self.now s c.done.inside.what plan start es p) c.index_mut.ensures.value Empty) in
     subst (λ (x : Entry). AreKept plan start (slice_set es c.done.inside.node x)) (sym put) (put-kept c.args.done c.args.self.now s c.done.inside.what plan start es p)
 
 pub returns : goal.returns
@@ -26,5 +27,6 @@ returns c =
     let es = c.self.inside.entries.items in
     let p : Puts c.args.done c.args.self.now s c.done.inside.what plan start es =
     record { done_is = c.done.view_is; done = c.done.invariant; seen_is = c.self.view_is; kept = c.self.invariant; can = c.requires } in
-    let put : c.put.new.self ≡ entry_with c.done.inside.what (entry_at es c.done.inside.node) = c.put.ensures ∙ ap (entry_with c.done.inside.what) (get_or_read es c.done.inside.node _ (put-within c.args.done c.args.self.now s c.done.inside.what plan start es p) c.index_mut.ensures.value Empty) in
+    let put : c.put.new.self ≡ entry_with c.done.inside.what (entry_at es c.done.inside.node) = c.put.ensures
+    ∙ ap (entry_with c.done.inside.what) (get_or_read es c.done.inside.node _ (put-within c.args.done c.args.self.now s c.done.inside.what plan start es p) c.index_mut.ensures.value Empty) in
     ap (λ (x : Entry). seen plan start (slice_set es c.done.inside.node x)) put ∙ put-seen c.args.done c.args.self.now s c.done.inside.what plan start es p

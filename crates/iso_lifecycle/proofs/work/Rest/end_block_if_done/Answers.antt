@@ -14,4 +14,5 @@ returns-then-not-is_ended-clause-stage c =
 
 pub returns-clause-stage : goal.returns-clause-stage
 returns-clause-stage c =
-    left-ended c.args.run c.args.self.now c.end_block.new.self (sym c.is_ended.ensures ∙ c.if-not-is_ended.false) c.in_ok-end_block.ensures.chain c.in_ok-end_block.ensures.next c.in_ok-end_block.ensures.account
+    left-ended c.args.run c.args.self.now c.end_block.new.self (sym c.is_ended.ensures ∙ c.if-not-is_ended.false) c.in_ok-end_block.ensures.chain c.in_ok-end_block.ensures.next
+    c.in_ok-end_block.ensures.account

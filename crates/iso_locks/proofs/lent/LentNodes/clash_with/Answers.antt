@@ -41,7 +41,8 @@ returns-in-Some-clause-beside c e =
 pub returns-in-Some-clause-clashes : goal.returns-in-Some-clause-clashes
 returns-in-Some-clause-clashes c beside =
     c.keep_out.ensures
-    ∙ kept-in c.self.inside.plan.now c.self.inside.lent c.self.inside.lockers c.self.invariant c.args.node c.in-Some.locker (sym c.in-Some.ensures) (subst (Beside c.args.node) (sym c.self.view_is) beside)
+    ∙ kept-in c.self.inside.plan.now c.self.inside.lent c.self.inside.lockers c.self.invariant c.args.node c.in-Some.locker (sym c.in-Some.ensures)
+    (subst (Beside c.args.node) (sym c.self.view_is) beside)
 
 none-some : (o : Option ℕ) (a : ℕ) → o ≡ None → o ≡ Some a → ⊥
 none-some o a none is = let wrong : None ≡ Some a = sym none ∙ is in cc

@@ -25,7 +25,8 @@ move_values-requires-clause-within c =
 
 pub invariant_of-self : goal.invariant_of-self
 invariant_of-self c =
-    let Kept : HeldView → Type 0 = λ l. IsTray c.self.inside.plan.now c.self.inside.world.now c.self.inside.flat l c.move_values.new.there c.self.inside.starts.items (vec_capacity c.self.inside.frames) (vec_capacity c.self.inside.spare) c.self.inside.spare.items in
+    let Kept : HeldView → Type 0 = λ l. IsTray c.self.inside.plan.now c.self.inside.world.now c.self.inside.flat l c.move_values.new.there c.self.inside.starts.items
+    (vec_capacity c.self.inside.frames) (vec_capacity c.self.inside.spare) c.self.inside.spare.items in
     subst Kept (sym c.take_back.ensures) (record {
       lent_of = c.self.invariant.lent_of;
       lent_fits = length-set c.self.inside.lent.held c.args.node false ∙ c.self.invariant.lent_fits;

@@ -23,6 +23,7 @@ kept-is tree world starts found rights values n e same rights_are =
 pub returns : goal.returns
 returns c =
     let tree = tree_of c.self.inside.plan.now in
-    let is = kept-is tree c.self.inside.world.now c.self.inside.starts.items c.deref.result.now c.rights-rights.result.now c.self.inside.values c.args.node c.self.invariant.starts_are c.deref.ensures.value c.rights-rights.ensures in
+    let is = kept-is tree c.self.inside.world.now c.self.inside.starts.items c.deref.result.now c.rights-rights.result.now c.self.inside.values c.args.node c.self.invariant.starts_are
+    c.deref.ensures.value c.rights-rights.ensures in
     let marks : SavepointView = record { node = c.args.node; values = c.in_ok-values.values.items } in
     c.new.ensures ∙ ap (λ (vs : Slots). record { node = c.args.node; values = vs }) (c.in_ok-values.ensures ∙ is) ∙ ap (λ (t : TrayView). marked t c.args.node) c.self.view_is

@@ -21,12 +21,14 @@ pub move_values-requires-clause-within : goal.move_values-requires-clause-within
 move_values-requires-clause-within c =
     let P : List Lock → Type 0 = λ ls. AreWithin (length c.self.inside.values) ls in
     let Q : ℕ → Type 0 = λ n. AreWithin n (locks (tree_of c.args.self.now.plan) c.args.node) in
-    let same : length (keys (tree_of c.args.self.now.plan)) ≡ length c.self.inside.values = ap (λ (t : TrayView). length (keys (tree_of t.plan))) (sym c.self.view_is) ∙ sym c.self.invariant.values_fit in
+    let same : length (keys (tree_of c.args.self.now.plan)) ≡ length c.self.inside.values = ap (λ (t : TrayView). length (keys (tree_of t.plan))) (sym c.self.view_is)
+    ∙ sym c.self.invariant.values_fit in
     subst P (sym c.requires.taken) (subst Q same (locks-within (tree_of c.args.self.now.plan) c.args.node))
 
 pub invariant_of-self : goal.invariant_of-self
 invariant_of-self c =
-    let Kept : HeldView → Type 0 = λ l. IsTray c.self.inside.plan.now c.self.inside.world.now c.self.inside.flat l c.move_values.new.here c.self.inside.starts.items (vec_capacity c.self.inside.frames) (vec_capacity c.self.inside.spare) c.self.inside.spare.items in
+    let Kept : HeldView → Type 0 = λ l. IsTray c.self.inside.plan.now c.self.inside.world.now c.self.inside.flat l c.move_values.new.here c.self.inside.starts.items
+    (vec_capacity c.self.inside.frames) (vec_capacity c.self.inside.spare) c.self.inside.spare.items in
     subst Kept (sym c.lend.ensures) (record {
       lent_of = c.self.invariant.lent_of;
       lent_fits = length-set c.self.inside.lent.held c.args.node true ∙ c.self.invariant.lent_fits;
@@ -48,7 +50,8 @@ invariant_of-self c =
           c.move_values.ensures.here ∙ ap (λ (ls : List Lock). moved_here ls c.args.home.now c.self.inside.values) (c.requires.taken ∙ ap (λ (tr : List Row). locks tr n) same) in
           let Own : Slots → Type 0 = λ vs. AreOwned tree c.self.inside.flat (set lent n true) vs in
           subst Own (sym moved)
-          (owned-more tree c.self.inside.flat lent c.args.home.now c.self.inside.values n (omega arith) fits (subst There same c.requires.there) (subst Beside (sym c.self.view_is) c.requires.beside) c.self.invariant.are_owned);
+          (owned-more tree c.self.inside.flat lent c.args.home.now c.self.inside.values n (omega arith) fits (subst There same c.requires.there)
+          (subst Beside (sym c.self.view_is) c.requires.beside) c.self.invariant.are_owned);
     })
 
 pub returns-clause-holds : goal.returns-clause-holds

@@ -50,8 +50,16 @@ returns-in-Some-clause-goes_on c =
     let i = c.in-Some.number in
     let at : number_of tree k ≡ Some i = sym c.in-Some.ensures in
     let within = below tree k i c.self.inside.values at c.self.invariant.values_fit in
-    let t : TrayView = record { plan = c.self.inside.plan.now; world = c.self.inside.world.now; flat = c.self.inside.flat; lent = c.self.inside.lent.held; values = c.self.inside.values; frames = c.self.inside.frames.items } in
-    subst (λ (u : TrayView). IsOnward u (record t { values = c.apply.new.self })) c.self.view_is (on-apply c.apply.result t c.apply.new.self i c.args.change within c.apply.ensures.ok c.apply.ensures.err)
+    let t : TrayView = record {
+      plan = c.self.inside.plan.now;
+      world = c.self.inside.world.now;
+      flat = c.self.inside.flat;
+      lent = c.self.inside.lent.held;
+      values = c.self.inside.values;
+      frames = c.self.inside.frames.items;
+    } in
+    subst (λ (u : TrayView). IsOnward u (record t { values = c.apply.new.self })) c.self.view_is
+    (on-apply c.apply.result t c.apply.new.self i c.args.change within c.apply.ensures.ok c.apply.ensures.err)
 
 pub invariant_of-self : goal.invariant_of-self
 invariant_of-self c =
@@ -60,7 +68,14 @@ invariant_of-self c =
     let i = c.in-Some.number in
     let at : number_of tree k ≡ Some i = sym c.in-Some.ensures in
     let within = below tree k i c.self.inside.values at c.self.invariant.values_fit in
-    let t : TrayView = record { plan = c.self.inside.plan.now; world = c.self.inside.world.now; flat = c.self.inside.flat; lent = c.self.inside.lent.held; values = c.self.inside.values; frames = c.self.inside.frames.items } in
+    let t : TrayView = record {
+      plan = c.self.inside.plan.now;
+      world = c.self.inside.world.now;
+      flat = c.self.inside.flat;
+      lent = c.self.inside.lent.held;
+      values = c.self.inside.values;
+      frames = c.self.inside.frames.items;
+    } in
     let u : TrayView = record t { values = c.apply.new.self } in
     let on : IsOnward t u = on-apply c.apply.result t c.apply.new.self i c.args.change within c.apply.ensures.ok c.apply.ensures.err in
     record {

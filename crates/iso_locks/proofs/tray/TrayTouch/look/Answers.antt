@@ -47,7 +47,8 @@ returns-in-None-get c =
     let P : TrayView → Type 0 = λ t. HasKind (content t k) (kind_of_ask c.args.ask) in
     let has : HasKind (resources tree c.self.inside.world.now c.self.inside.lent.held c.self.inside.values k) (kind_of_ask c.args.ask) = subst P (sym c.self.view_is) c.requires in
     c.look-in-None-get.ensures
-    ∙ look-start tree c.self.inside.world.now c.self.inside.lent.held c.self.inside.values c.self.inside.starts.items k i c.index.result.now c.args.ask (kind_of_ask c.args.ask) c.self.invariant.starts_are at (sym c.in-None-get.ensures) c.index.ensures has
+    ∙ look-start tree c.self.inside.world.now c.self.inside.lent.held c.self.inside.values c.self.inside.starts.items k i c.index.result.now c.args.ask (kind_of_ask c.args.ask)
+    c.self.invariant.starts_are at (sym c.in-None-get.ensures) c.index.ensures has
     ∙ ap (λ (t : TrayView). answered (content t k) c.args.ask) c.self.view_is
 
 pub returns-in-None : goal.returns-in-None

@@ -16,7 +16,8 @@ pub invariant_of-self : goal.invariant_of-self
 invariant_of-self c =
     let plan : Planned = c.self.inside.plan.now in
     let same : c.args.tray.now.plan ≡ plan = c.requires.can.plan ∙ sym (ap (λ (v : VaultView). v.plan) c.self.view_is) in
-    let moved : c.receive.new.home ≡ moved_away (locks (tree_of plan) c.args.node) c.self.inside.values = c.receive.ensures.home ∙ ap (λ (p : Planned). moved_away (locks (tree_of p) c.args.node) c.self.inside.values) same in
+    let moved : c.receive.new.home ≡ moved_away (locks (tree_of plan) c.args.node) c.self.inside.values = c.receive.ensures.home
+    ∙ ap (λ (p : Planned). moved_away (locks (tree_of p) c.args.node) c.self.inside.values) same in
     let rows : length plan.rows ≡ length c.args.self.now.plan.rows = ap (λ (v : VaultView). length v.plan.rows) c.self.view_is in
     let req = c.requires.can.node in
     let node : c.args.node < length plan.rows = omega arith in
@@ -32,7 +33,8 @@ pub returns-clause-vault : goal.returns-clause-vault
 returns-clause-vault c =
     let plan : Planned = c.self.inside.plan.now in
     let same : c.args.tray.now.plan ≡ plan = c.requires.can.plan ∙ sym (ap (λ (v : VaultView). v.plan) c.self.view_is) in
-    let moved : c.receive.new.home ≡ moved_away (locks (tree_of plan) c.args.node) c.self.inside.values = c.receive.ensures.home ∙ ap (λ (p : Planned). moved_away (locks (tree_of p) c.args.node) c.self.inside.values) same in
+    let moved : c.receive.new.home ≡ moved_away (locks (tree_of plan) c.args.node) c.self.inside.values = c.receive.ensures.home
+    ∙ ap (λ (p : Planned). moved_away (locks (tree_of p) c.args.node) c.self.inside.values) same in
     let with_home : List Bool → VaultView = λ h. record { plan = plan; world = c.self.inside.world.now; lent = set c.self.inside.lent.held c.args.node true; home = h } in
     ap (λ (h : HeldView). record { plan = plan; world = c.self.inside.world.now; lent = h.held; home = map is_some c.receive.new.home }) c.hold.ensures
     ∙ ap with_home (ap (map is_some) moved ∙ home-lent (locks (tree_of plan) c.args.node) c.self.inside.values) ∙ ap (lending c.args.node) c.self.view_is
@@ -51,7 +53,8 @@ returns-clause-tray c =
     let F : Planned → Type 0 = λ p. lowest_in_the_way (tree_of p) (is_lent c.self.inside.lent.held) c.args.node ≡ None in
     let R : TrayView → Type 0 = λ u. IsLentTo c.args.node t u in
     let holds : is_lent (set t.lent c.args.node true) c.args.node ≡ true = ap (λ (u : TrayView). is_lent u.lent c.args.node) (sym c.receive.ensures.tray) ∙ c.receive.ensures.holds in
-    subst R (sym c.receive.ensures.tray) (lent-to t c.self.inside.lent.held (map is_some c.self.inside.values) c.self.inside.values c.args.node kept (subst F same free) c.receive.ensures.fits holds c.receive.ensures.fresh)
+    subst R (sym c.receive.ensures.tray) (lent-to t c.self.inside.lent.held (map is_some c.self.inside.values) c.self.inside.values c.args.node kept (subst F same free) c.receive.ensures.fits
+    holds c.receive.ensures.fresh)
 
 pub receive-requires-clause-there : goal.receive-requires-clause-there
 receive-requires-clause-there c =

@@ -43,7 +43,8 @@ returns-clause-vault c =
     let A : Planned → Type 0 = λ p. (i : ℕ) → i < length (keys (tree_of p)) → is_written (locks (tree_of p) n) i ≡ true → StandsAtStart t i in
     let starts : A plan = subst A (sym (ap (λ (v : VaultView). v.plan) c.self.view_is)) c.requires.at_start in
     let fits = c.self.invariant.lists.values_fit in
-    let moved : c.give_back.new.home ≡ moved_here (locks (tree_of plan) n) t.values c.self.inside.values = c.give_back.ensures.home ∙ ap (λ (p : Planned). moved_here (locks (tree_of p) n) t.values c.self.inside.values) same in
+    let moved : c.give_back.new.home ≡ moved_here (locks (tree_of plan) n) t.values c.self.inside.values = c.give_back.ensures.home
+    ∙ ap (λ (p : Planned). moved_here (locks (tree_of p) n) t.values c.self.inside.values) same in
     let with_home : List Bool → VaultView = λ h. record { plan = plan; world = c.self.inside.world.now; lent = set c.self.inside.lent.held n false; home = h } in
     ap (λ (h : HeldView). record { plan = plan; world = c.self.inside.world.now; lent = h.held; home = map is_some c.give_back.new.home }) c.release.ensures
     ∙ ap with_home (ap (map is_some) moved ∙ home-back (locks (tree_of plan) n) t.values c.self.inside.values

@@ -14,7 +14,8 @@ invariant_of-self c =
     let there : slice_get ls i ≡ Some l = index-is l ls i (omega (arith, c.len.ensures, c.if-layer-len.true, c.self.inside.layers.ok.0)) c.index_mut-layer.ensures.value in
     record {
       counted = c.self.invariant.counted
-          ∙ sym (length-set-layer ls i l c.set_value.new.self there (length-valued c.set_value.result c.set_value.new.self l c.layer_at-layer.result.1 c.args.value c.set_value.ensures.ok c.set_value.ensures.err));
+          ∙ sym (length-set-layer ls i l c.set_value.new.self there
+          (length-valued c.set_value.result c.set_value.new.self l c.layer_at-layer.result.1 c.args.value c.set_value.ensures.ok c.set_value.ensures.err));
       fits = c.self.invariant.fits;
     }
 
@@ -26,7 +27,8 @@ returns-then-layer-len-clause-ok c =
     let at = rw c.deref.ensures.value at c.layer_at-layer.ensures in
     let there : slice_get ls i ≡ Some l = index-is l ls i (omega (arith, c.len.ensures, c.if-layer-len.true, c.self.inside.layers.ok.0)) c.index_mut-layer.ensures.value in
     on_ok_weaker c.set_value.result
-    (λ is. rw (← c.self.view_is) (ap (λ (bs : Bindings). in_layers (slice_set ls i bs) ++ c.self.inside.own) is ∙ revalued-in-layer ls c.self.inside.own c.args.place i c.layer_at-layer.result.1 l c.args.value there (at.inside_is l there) at.before))
+    (λ is. rw (← c.self.view_is) (ap (λ (bs : Bindings). in_layers (slice_set ls i bs) ++ c.self.inside.own) is
+    ∙ revalued-in-layer ls c.self.inside.own c.args.place i c.layer_at-layer.result.1 l c.args.value there (at.inside_is l there) at.before))
     c.set_value.ensures.ok
 
 pub invariant_of-self-2 : goal.invariant_of-self-2

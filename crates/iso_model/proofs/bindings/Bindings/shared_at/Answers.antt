@@ -16,4 +16,5 @@ returns-in-Some c =
     let i = c.layer_at-layer.result.0 in
     let at = rw c.deref.ensures.value at c.layer_at-layer.ensures in
     let there : Some c.in-Some.layer.now ≡ slice_get ls i = get-is (Some c.in-Some.layer) ls i (rw c.deref-2.ensures.value at c.in-Some.ensures.lookup.3) in
-    rw (← c.self.view_is) (c.at-in-Some.ensures ∙ sym (get-in_layer ls c.self.inside.own c.args.place i c.layer_at-layer.result.1 c.in-Some.layer.now (sym there) (at.inside_is c.in-Some.layer.now (sym there)) at.before))
+    rw (← c.self.view_is) (c.at-in-Some.ensures
+    ∙ sym (get-in_layer ls c.self.inside.own c.args.place i c.layer_at-layer.result.1 c.in-Some.layer.now (sym there) (at.inside_is c.in-Some.layer.now (sym there)) at.before))

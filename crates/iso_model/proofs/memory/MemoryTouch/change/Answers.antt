@@ -24,4 +24,6 @@ returns-clause-ok c =
     let d = c.index_mut.result.now in
     let slot : c.slot_of-slot.result ≡ slot_of es k = c.slot_of-slot.ensures ∙ ap (λ (xs : List (List ℕ × Resource)). slot_of xs k) c.deref.ensures.value in
     let there : d ≡ slice_index_or es (slot_of es k) d = c.index_mut.ensures.value ∙ ap (λ (n : ℕ). slice_index_or es n d) slot in
-    on_ok_weaker c.change.result (λ is i q. (ap₂ (λ (n : ℕ) (e : List ℕ × Resource). value_at (slice_set es n e) q) slot (ap₂ (λ (key : List ℕ) (value : Resource). (key, value)) (ap (λ (e : List ℕ × Resource). e.0) there) (is ∙ ap (λ (e : List ℕ × Resource). changed c.args.change e.1) there)) ∙ changed_slot es k c.args.change d q) i) c.change.ensures.ok
+    on_ok_weaker c.change.result (λ is i q. (ap₂ (λ (n : ℕ) (e : List ℕ × Resource). value_at (slice_set es n e) q) slot
+    (ap₂ (λ (key : List ℕ) (value : Resource). (key, value)) (ap (λ (e : List ℕ × Resource). e.0) there) (is ∙ ap (λ (e : List ℕ × Resource). changed c.args.change e.1) there))
+    ∙ changed_slot es k c.args.change d q) i) c.change.ensures.ok

@@ -15,7 +15,8 @@ pub invariant_of-self : goal.invariant_of-self
 invariant_of-self c =
     let bs = c.self.inside.bindings.items in
     let all : length bs ≡ vec_len c.self.inside.bindings = sym c.self.inside.bindings.ok.0 in
-    made-set c.self.inside.places bs c.args.place c.index_mut-binding.result.now c.replace.new.dest (omega (arith, c.len.ensures, c.if-place-len.false)) c.index_mut-binding.ensures.value c.self.invariant
+    made-set c.self.inside.places bs c.args.place c.index_mut-binding.result.now c.replace.new.dest (omega (arith, c.len.ensures, c.if-place-len.false)) c.index_mut-binding.ensures.value
+    c.self.invariant
 
 pub returns : goal.returns
 returns c =

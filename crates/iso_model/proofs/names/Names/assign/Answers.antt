@@ -12,7 +12,8 @@ returns-in_default-clause-answer c =
 pub returns-then-is_frozen-clause-answer : goal.returns-then-is_frozen-clause-answer
 returns-then-is_frozen-clause-answer c =
     let bs = c.self.inside.bindings in
-    rw (← c.self.view_is) (assigned-frozen bs c.args.name.now c.args.value (lent c.in-Some.binding) (c.in-Some.ensures ∙ ap (slice_get bs) c.place_of-place.ensures) (sym c.is_frozen.ensures ∙ c.if-is_frozen.true))
+    rw (← c.self.view_is) (assigned-frozen bs c.args.name.now c.args.value (lent c.in-Some.binding) (c.in-Some.ensures ∙ ap (slice_get bs) c.place_of-place.ensures)
+    (sym c.is_frozen.ensures ∙ c.if-is_frozen.true))
 
 pub returns-clause-answer : goal.returns-clause-answer
 returns-clause-answer c =

@@ -15,9 +15,14 @@ entries-preserved c =
     let e : String Global × List ℕ = (c.in-Some.name.now, c.in-Some.text.now) in
     let iter : c.entries.name-iterator ≡ e ∷ c.next.new.self = grind (arith, common_steps) in
     let start : c.into_iter-name-iterator.result ≡ c.self.inside.entries.entries = grind (arith, common_steps) in
-    let there = turn c.entries.yielded c.into_iter-name-iterator.result c.entries.name-iterator c.next.new.self c.next.result (c.in-Some.name, c.in-Some.text) c.entries.yielded_by c.in-Some.is c.next.ensures.steps c.self.inside.entries start c.iter-name-items.ensures.ordered in
-    let set = c.in_ok-set.ensures.ok in
-    (tt, tt, rw (set, c.in_ok-from_str.ensures.ok, c.as_str.ensures.value, c.in_ok-copy.ensures) (Covers-more c.entries.copied e c.next.new.self c.args.self.now (rw iter at covers) (ap (λ m. get m (string_bytes c.in-Some.name.now)) (sym c.self.view_is) ∙ there)))
+    let there = turn c.entries.yielded c.into_iter-name-iterator.result c.entries.name-iterator c.next.new.self c.next.result (c.in-Some.name, c.in-Some.text) c.entries.yielded_by c.in-Some.is
+    c.next.ensures.steps c.self.inside.entries start c.iter-name-items.ensures.ordered in
+    let set = c.in_ok-set.ensures.ok in (
+      tt,
+      tt,
+      rw (set, c.in_ok-from_str.ensures.ok, c.as_str.ensures.value, c.in_ok-copy.ensures)
+          (Covers-more c.entries.copied e c.next.new.self c.args.self.now (rw iter at covers) (ap (λ m. get m (string_bytes c.in-Some.name.now)) (sym c.self.view_is) ∙ there)),
+    )
 
 pub returns : goal.returns
 returns c =

@@ -15,7 +15,8 @@ entries-preserved c =
     let e : String Global × List ℕ = (c.in-Some.name.now, c.in-Some.text.now) in
     let iter : c.entries.name-iterator ≡ e ∷ c.next.new.self = grind (arith, common_steps) in
     let start : c.into_iter-name-iterator.result ≡ c.self.inside.entries.entries = grind (arith, common_steps) in
-    let there = turn c.entries.yielded c.into_iter-name-iterator.result c.entries.name-iterator c.next.new.self c.next.result (c.in-Some.name, c.in-Some.text) c.entries.yielded_by c.in-Some.is c.next.ensures.steps c.self.inside.entries start c.iter-name-items.ensures.ordered in
+    let there = turn c.entries.yielded c.into_iter-name-iterator.result c.entries.name-iterator c.next.new.self c.next.result (c.in-Some.name, c.in-Some.text) c.entries.yielded_by c.in-Some.is
+    c.next.ensures.steps c.self.inside.entries start c.iter-name-items.ensures.ordered in
     let here = ap (λ m. get m (string_bytes c.in-Some.name.now)) (sym c.self.view_is) ∙ there in
     let equal : c.in-Some-get.found.now ≡ c.in-Some.text.now = sym c.as_str-in-entries.ensures ∙ told_equal _ _ _ c.ne.ensures c.if-ne.false ∙ c.as_str-in-entries-2.ensures in
     let found : Some c.in-Some-get.found.now ≡ get c.args.other.now (string_bytes c.in-Some.name.now) = rw c.as_str.ensures.value at c.in-Some-get.ensures in
@@ -24,7 +25,8 @@ entries-preserved c =
 pub returns-then-ne : goal.returns-then-ne
 returns-then-ne c =
     let start : c.into_iter-name-iterator.result ≡ c.self.inside.entries.entries = grind (arith, common_steps) in
-    let there = turn c.entries.yielded c.into_iter-name-iterator.result c.entries.name-iterator c.next.new.self c.next.result (c.in-Some.name, c.in-Some.text) c.entries.yielded_by c.in-Some.is c.next.ensures.steps c.self.inside.entries start c.iter-name-items.ensures.ordered in
+    let there = turn c.entries.yielded c.into_iter-name-iterator.result c.entries.name-iterator c.next.new.self c.next.result (c.in-Some.name, c.in-Some.text) c.entries.yielded_by c.in-Some.is
+    c.next.ensures.steps c.self.inside.entries start c.iter-name-items.ensures.ordered in
     let here = ap (λ m. get m (string_bytes c.in-Some.name.now)) (sym c.self.view_is) ∙ there in
     let found : Some c.in-Some-get.found.now ≡ get c.args.other.now (string_bytes c.in-Some.name.now) = rw c.as_str.ensures.value at c.in-Some-get.ensures in (
       λ yes_. absurd cc,
@@ -37,7 +39,8 @@ returns-then-ne c =
 pub returns-in_default : goal.returns-in_default
 returns-in_default c =
     let start : c.into_iter-name-iterator.result ≡ c.self.inside.entries.entries = grind (arith, common_steps) in
-    let there = turn c.entries.yielded c.into_iter-name-iterator.result c.entries.name-iterator c.next.new.self c.next.result (c.in-Some.name, c.in-Some.text) c.entries.yielded_by c.in-Some.is c.next.ensures.steps c.self.inside.entries start c.iter-name-items.ensures.ordered in
+    let there = turn c.entries.yielded c.into_iter-name-iterator.result c.entries.name-iterator c.next.new.self c.next.result (c.in-Some.name, c.in-Some.text) c.entries.yielded_by c.in-Some.is
+    c.next.ensures.steps c.self.inside.entries start c.iter-name-items.ensures.ordered in
     let here = ap (λ m. get m (string_bytes c.in-Some.name.now)) (sym c.self.view_is) ∙ there in
     let found : None ≡ get c.args.other.now (string_bytes c.in-Some.name.now) = rw c.as_str.ensures.value at c.in_default.ensures in (
       λ yes_. absurd cc,

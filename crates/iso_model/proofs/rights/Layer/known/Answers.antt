@@ -13,4 +13,5 @@ returns-in-Some c =
 pub returns-in-None : goal.returns-in-None
 returns-in-None c =
     let key = c.args.key.now in
-    c.access-in-None.ensures ∙ sym (access-both c.args.self.now.entries c.args.outer.now key ∙ ap (λ (o : Option Access). option_or o (access_in c.args.outer.now key)) (sym c.access.ensures ∙ c.in-None.is))
+    c.access-in-None.ensures ∙ sym (access-both c.args.self.now.entries c.args.outer.now key
+    ∙ ap (λ (o : Option Access). option_or o (access_in c.args.outer.now key)) (sym c.access.ensures ∙ c.in-None.is))

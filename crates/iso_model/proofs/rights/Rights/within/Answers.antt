@@ -17,7 +17,8 @@ outer-init c = sym (append-nil _)
 pub outer-preserved : goal.outer-preserved
 outer-preserved c =
     ap declared_in c.in_ok-push-2.ensures.items
-    ∙ layers-more c.deref-outer-items.result.now c.outer.layers.items c.outer.outer-index c.outer-item.result c.in_ok-clone.field-0 (declared_in c.if-not-is_empty.layers.items) (omega arith) c.outer-item.is c.in_ok-clone.ensures.cases c.outer.invariant
+    ∙ layers-more c.deref-outer-items.result.now c.outer.layers.items c.outer.outer-index c.outer-item.result c.in_ok-clone.field-0 (declared_in c.if-not-is_empty.layers.items) (omega arith)
+    c.outer-item.is c.in_ok-clone.ensures.cases c.outer.invariant
 
 pub returns : goal.returns
 returns c = λ k.

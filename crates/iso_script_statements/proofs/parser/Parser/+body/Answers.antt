@@ -75,7 +75,8 @@ form-returns-then-takes_word-2 t c =
     let kept = c.if-takes_word.ensures.kept refl in
     let s = after_word-Some W.Repeat _ _ (ap (after_word W.Repeat) (sym kept) ∙ c.if-takes_word-2.ensures.found) in
     parses_from form_of (λ a ps qs. IsStatement c.args.bodies c.args.above a (word_at s.0 W.Repeat ∷ ps) qs) (IsStatement c.args.bodies c.args.above) _ _ _ _
-    (λ x rest h. subst (λ ps. IsStatement c.args.bodies c.args.above x ps rest) (sym s.1) h) (λ x rest h. subst (λ ps. IsStatement c.args.bodies c.args.above x ps rest) s.1 h) (c.repetition.ensures s.0)
+    (λ x rest h. subst (λ ps. IsStatement c.args.bodies c.args.above x ps rest) (sym s.1) h) (λ x rest h. subst (λ ps. IsStatement c.args.bodies c.args.above x ps rest) s.1 h)
+    (c.repetition.ensures s.0)
 
 pub form-returns-in_err-name : goal.form-returns-in_err-name
 form-returns-in_err-name t c =

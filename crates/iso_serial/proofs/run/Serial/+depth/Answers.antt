@@ -71,7 +71,8 @@ children-children-preserved g t c =
     ] in
     record {
       between = elim c.if-is_none.branch [
-        | children-then-is_none+in_ok-node w ↦ subst (λ (x : Walk). BetweenNodes plan world c.args.class x) (sym w.walk-is) (subst (λ (j : ℕ). BetweenNodes plan world j w.node.new.walk) child.parent_is w.in_ok-node.ensures.between)
+        | children-then-is_none+in_ok-node w ↦ subst (λ (x : Walk). BetweenNodes plan world c.args.class x) (sym w.walk-is)
+            (subst (λ (j : ℕ). BetweenNodes plan world j w.node.new.walk) child.parent_is w.in_ok-node.ensures.between)
         | children-else-is_none w ↦ subst (λ (x : Walk). BetweenNodes plan world c.args.class x) (sym w.walk-is) i.between
       ];
       done = λ j h. elim (cases_eq j at) [
@@ -84,7 +85,8 @@ children-children-preserved g t c =
 pub class-returns-clause-further : goal.class-returns-clause-further
 class-returns-clause-further g t c =
     on-one c.close.result c.close.ensures.further
-    (λ last. further-on c.args.walk.now c.open.new.walk c.close.new.walk c.in_ok-open.ensures.further (further-on c.open.new.walk c.children.new.walk c.close.new.walk c.in_ok-children.ensures.further last))
+    (λ last. further-on c.args.walk.now c.open.new.walk c.close.new.walk c.in_ok-open.ensures.further
+    (further-on c.open.new.walk c.children.new.walk c.close.new.walk c.in_ok-children.ensures.further last))
 
 pub node-lend-requires : goal.node-lend-requires
 node-lend-requires g t c = may-lend c.args.self.now.plan.now c.args.self.now.world.now c.args.node c.args.walk.now c.requires.positive c.requires.within c.requires.between c.requires.waits
@@ -107,18 +109,21 @@ node-bodies-requires g t c κs inside = (
 pub node-undo-requires : goal.node-undo-requires
 node-undo-requires g t c =
     let lent = on-ok-is c.lend.result c.unwrap.result c.unwrap.ensures c.lend.ensures.tray in
-    may-undo c.args.self.now.plan.now c.args.self.now.world.now c.args.node c.args.walk.now c.requires.positive c.requires.within c.requires.between c.requires.waits c.lend.new.self c.lend.new.tray c.in_ok-mark.mark c.bodies.new.walk lent c.in_ok-mark.ensures c.in_ok-bodies.ensures.exit c.in_ok-bodies.ensures.further
+    may-undo c.args.self.now.plan.now c.args.self.now.world.now c.args.node c.args.walk.now c.requires.positive c.requires.within c.requires.between c.requires.waits c.lend.new.self
+    c.lend.new.tray c.in_ok-mark.mark c.bodies.new.walk lent c.in_ok-mark.ensures c.in_ok-bodies.ensures.exit c.in_ok-bodies.ensures.further
 
 pub node-take_back-requires : goal.node-take_back-requires
 node-take_back-requires g t c =
     let lent = on-ok-is c.lend.result c.unwrap.result c.unwrap.ensures c.lend.ensures.tray in
-    may-take c.args.self.now.plan.now c.args.self.now.world.now c.args.node c.args.walk.now c.requires.positive c.requires.within c.requires.between c.requires.waits c.lend.new.self c.lend.new.tray c.in_ok-mark.mark c.bodies.new.walk lent c.in_ok-mark.ensures c.in_ok-bodies.ensures.exit c.in_ok-bodies.ensures.further
+    may-take c.args.self.now.plan.now c.args.self.now.world.now c.args.node c.args.walk.now c.requires.positive c.requires.within c.requires.between c.requires.waits c.lend.new.self
+    c.lend.new.tray c.in_ok-mark.mark c.bodies.new.walk lent c.in_ok-mark.ensures c.in_ok-bodies.ensures.exit c.in_ok-bodies.ensures.further
     c.undo.new.self c.undo.ensures
 
 pub node-returns-clause-between : goal.node-returns-clause-between
 node-returns-clause-between g t c =
     let lent = on-ok-is c.lend.result c.unwrap.result c.unwrap.ensures c.lend.ensures.tray in
-    left-stands c.args.self.now.plan.now c.args.self.now.world.now c.args.node c.args.walk.now c.requires.positive c.requires.within c.requires.between c.requires.waits c.lend.new.self c.lend.new.tray c.in_ok-mark.mark c.bodies.new.walk lent c.in_ok-mark.ensures c.in_ok-bodies.ensures.exit c.in_ok-bodies.ensures.further
+    left-stands c.args.self.now.plan.now c.args.self.now.world.now c.args.node c.args.walk.now c.requires.positive c.requires.within c.requires.between c.requires.waits c.lend.new.self
+    c.lend.new.tray c.in_ok-mark.mark c.bodies.new.walk lent c.in_ok-mark.ensures c.in_ok-bodies.ensures.exit c.in_ok-bodies.ensures.further
     c.take_back.new.self c.undo.new.self c.take_back.new.tray c.take_back.ensures.vault c.undo.ensures c.take_back.ensures.tray
 
 pub node-returns-clause-vault : goal.node-returns-clause-vault
@@ -126,12 +131,14 @@ node-returns-clause-vault g t c =
     let plan : Planned = c.args.self.now.plan.now in
     let world : Start = c.args.self.now.world.now in
     let lent = on-ok-is c.lend.result c.unwrap.result c.unwrap.ensures c.lend.ensures.tray in
-    let between = left-stands plan world c.args.node c.args.walk.now c.requires.positive c.requires.within c.requires.between c.requires.waits c.lend.new.self c.lend.new.tray c.in_ok-mark.mark c.bodies.new.walk lent c.in_ok-mark.ensures c.in_ok-bodies.ensures.exit c.in_ok-bodies.ensures.further
+    let between = left-stands plan world c.args.node c.args.walk.now c.requires.positive c.requires.within c.requires.between c.requires.waits c.lend.new.self c.lend.new.tray c.in_ok-mark.mark
+    c.bodies.new.walk lent c.in_ok-mark.ensures c.in_ok-bodies.ensures.exit c.in_ok-bodies.ensures.further
     c.take_back.new.self c.undo.new.self c.take_back.new.tray c.take_back.ensures.vault c.undo.ensures c.take_back.ensures.tray in
     same-vault plan world (parent (tree_of plan) c.args.node) c.take_back.new.self c.args.walk.now.vault between.vault c.requires.between.vault
 
 pub node-returns-clause-further : goal.node-returns-clause-further
 node-returns-clause-further g t c =
     let lent = on-ok-is c.lend.result c.unwrap.result c.unwrap.ensures c.lend.ensures.tray in
-    left-further c.args.self.now.plan.now c.args.self.now.world.now c.args.node c.args.walk.now c.requires.positive c.requires.within c.requires.between c.requires.waits c.lend.new.self c.lend.new.tray c.in_ok-mark.mark c.bodies.new.walk lent c.in_ok-mark.ensures c.in_ok-bodies.ensures.exit c.in_ok-bodies.ensures.further
+    left-further c.args.self.now.plan.now c.args.self.now.world.now c.args.node c.args.walk.now c.requires.positive c.requires.within c.requires.between c.requires.waits c.lend.new.self
+    c.lend.new.tray c.in_ok-mark.mark c.bodies.new.walk lent c.in_ok-mark.ensures c.in_ok-bodies.ensures.exit c.in_ok-bodies.ensures.further
     c.take_back.new.self c.undo.new.self c.take_back.new.tray c.undo.ensures c.take_back.ensures.tray

@@ -16,8 +16,13 @@ entries-preserved c =
     let e : Entry = (c.in-Some.path, c.in-Some.text) in
     let iter : c.entries.path-iterator ≡ e ∷ c.next.new.self = grind (arith, common_steps) in
     let start : c.into_iter-path-iterator.result ≡ c.self.inside.entries.entries = grind (arith, common_steps) in
-    let there = owned-turn c.entries.yielded c.into_iter-path-iterator.result c.entries.path-iterator c.next.new.self c.next.result e c.entries.yielded_by c.in-Some.is c.next.ensures.steps c.self.inside.entries start c.len-count.ensures.ordered in
-    (tt, tt, rw (c.in_ok-put.ensures, c.in_ok-new.ensures) (Covers-more c.entries.files e c.next.new.self c.args.self (rw iter at covers) (ap (λ m. get m (string_bytes c.in-Some.path)) (sym c.self.view_is) ∙ there)))
+    let there = owned-turn c.entries.yielded c.into_iter-path-iterator.result c.entries.path-iterator c.next.new.self c.next.result e c.entries.yielded_by c.in-Some.is c.next.ensures.steps
+    c.self.inside.entries start c.len-count.ensures.ordered in (
+      tt,
+      tt,
+      rw (c.in_ok-put.ensures, c.in_ok-new.ensures)
+          (Covers-more c.entries.files e c.next.new.self c.args.self (rw iter at covers) (ap (λ m. get m (string_bytes c.in-Some.path)) (sym c.self.view_is) ∙ there)),
+    )
 
 pub returns : goal.returns
 returns c =

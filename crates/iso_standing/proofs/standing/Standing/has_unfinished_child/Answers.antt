@@ -19,8 +19,10 @@ phase-requires c =
     let tree = tree_of v.plan in
     let are : c.children-child-items.result.now ≡ children tree c.args.node = c.children-child-items.ensures ∙ ap (λ (p : Planned). children (tree_of p) c.args.node) c.plan.ensures in
     let same : length (children tree c.args.node) ≡ length c.children-child-items.result.now = ap length (sym are) in
-    let known = All-get_or (IsChild tree c.args.node (length tree)) (children tree c.args.node) c.loop-child.child-index 0 (omega (arith, c.loop-child-test.true)) (children-known tree c.args.node (length tree)) in
-    let here : get_or c.children-child-items.result.now c.loop-child.child-index 0 ≡ get_or (children tree c.args.node) c.loop-child.child-index 0 = ap (λ (xs : List ℕ). get_or xs c.loop-child.child-index 0) are in
+    let known = All-get_or (IsChild tree c.args.node (length tree)) (children tree c.args.node) c.loop-child.child-index 0 (omega (arith, c.loop-child-test.true))
+    (children-known tree c.args.node (length tree)) in
+    let here : get_or c.children-child-items.result.now c.loop-child.child-index 0 ≡ get_or (children tree c.args.node) c.loop-child.child-index 0 = ap
+    (λ (xs : List ℕ). get_or xs c.loop-child.child-index 0) are in
     let less = known.below in
     let count = nodes-are v.plan in
     omega arith
@@ -32,7 +34,8 @@ returns-then-not-is_finished c = λ start s like.
     let xs = c.children-child-items.result.now in
     let left : ℕ → Bool = λ m. not (is_finished (bare (phase_at v m))) in
     let are : xs ≡ children tree c.args.node = c.children-child-items.ensures ∙ ap (λ (p : Planned). children (tree_of p) c.args.node) c.plan.ensures in
-    let this : left (get_or xs c.loop-child.child-index 0) ≡ true = ap (λ (p : Phase). not (is_finished (bare p))) (sym c.phase.ensures) ∙ ap not (sym c.is_finished.ensures ∙ c.if-not-is_finished.true) in
+    let this : left (get_or xs c.loop-child.child-index 0) ≡ true = ap (λ (p : Phase). not (is_finished (bare p))) (sym c.phase.ensures)
+    ∙ ap not (sym c.is_finished.ensures ∙ c.if-not-is_finished.true) in
     children-are v start s like c.args.node ∙ ap (list_any left) (sym are) ∙ list_any_at left xs c.loop-child.child-index 0 c.loop-child-test.true this
 
 pub returns : goal.returns

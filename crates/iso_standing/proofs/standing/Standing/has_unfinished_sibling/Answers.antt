@@ -18,7 +18,8 @@ returns-then-sibling-node c = λ start s like.
     let xs = c.children.result.now in
     let is = c.parent-parent.ensures.parent c.requires.inner in
     let are : between first (length xs) xs ≡ drop first (children (tree_of v.plan) (parent (tree_of v.plan) n)) =
-    between_to_end xs first (length xs) (omega arith) ∙ ap (drop first) (c.children.ensures ∙ ap (λ (p : Planned). children (tree_of p) c.parent-parent.result) c.plan.ensures ∙ ap (children (tree_of v.plan)) is) in
+    between_to_end xs first (length xs) (omega arith)
+    ∙ ap (drop first) (c.children.ensures ∙ ap (λ (p : Planned). children (tree_of p) c.parent-parent.result) c.plan.ensures ∙ ap (children (tree_of v.plan)) is) in
     let passed = subst (λ m. ArePassed v.plan v.phases m first) is c.passed-first.ensures in
     siblings-are v start s like n c.requires.node
     ∙ none-left v.plan v.phases (parent (tree_of v.plan) n) n first (between first (length xs) xs) are passed c.loop-sibling.sibling-index c.loop-sibling.invariant (λ h. c.if-sibling-node.true)
@@ -31,9 +32,11 @@ returns-then-is_due c = λ start s like.
     let xs = c.children.result.now in
     let is = c.parent-parent.ensures.parent c.requires.inner in
     let are : between first (length xs) xs ≡ drop first (children (tree_of v.plan) (parent (tree_of v.plan) n)) =
-    between_to_end xs first (length xs) (omega arith) ∙ ap (drop first) (c.children.ensures ∙ ap (λ (p : Planned). children (tree_of p) c.parent-parent.result) c.plan.ensures ∙ ap (children (tree_of v.plan)) is) in
+    between_to_end xs first (length xs) (omega arith)
+    ∙ ap (drop first) (c.children.ensures ∙ ap (λ (p : Planned). children (tree_of p) c.parent-parent.result) c.plan.ensures ∙ ap (children (tree_of v.plan)) is) in
     siblings-are v start s like n c.requires.node
-    ∙ some-left v.plan v.phases (parent (tree_of v.plan) n) n first (between first (length xs) xs) are c.loop-sibling.sibling-index c.loop-sibling-test.true c.if-sibling-node.false (sym c.is_due.ensures ∙ c.if-is_due.true)
+    ∙ some-left v.plan v.phases (parent (tree_of v.plan) n) n first (between first (length xs) xs) are c.loop-sibling.sibling-index c.loop-sibling-test.true c.if-sibling-node.false
+    (sym c.is_due.ensures ∙ c.if-is_due.true)
 
 pub returns : goal.returns
 returns c = λ start s like.
@@ -43,10 +46,12 @@ returns c = λ start s like.
     let xs = c.children.result.now in
     let is = c.parent-parent.ensures.parent c.requires.inner in
     let are : between first (length xs) xs ≡ drop first (children (tree_of v.plan) (parent (tree_of v.plan) n)) =
-    between_to_end xs first (length xs) (omega arith) ∙ ap (drop first) (c.children.ensures ∙ ap (λ (p : Planned). children (tree_of p) c.parent-parent.result) c.plan.ensures ∙ ap (children (tree_of v.plan)) is) in
+    between_to_end xs first (length xs) (omega arith)
+    ∙ ap (drop first) (c.children.ensures ∙ ap (λ (p : Planned). children (tree_of p) c.parent-parent.result) c.plan.ensures ∙ ap (children (tree_of v.plan)) is) in
     let passed = subst (λ m. ArePassed v.plan v.phases m first) is c.passed-first.ensures in
     siblings-are v start s like n c.requires.node
-    ∙ none-left v.plan v.phases (parent (tree_of v.plan) n) n first (between first (length xs) xs) are passed c.loop-sibling.sibling-index c.loop-sibling.invariant (λ h. absurd (omega (arith, c.loop-sibling-test.false, h)))
+    ∙ none-left v.plan v.phases (parent (tree_of v.plan) n) n first (between first (length xs) xs) are passed c.loop-sibling.sibling-index c.loop-sibling.invariant
+    (λ h. absurd (omega (arith, c.loop-sibling-test.false, h)))
 
 pub loop-sibling-preserved : goal.loop-sibling-preserved
 loop-sibling-preserved c = λ i h.

@@ -16,7 +16,8 @@ returns-in-Some c = λ start s like.
     let n = c.args.node in
     let held : ℕ → Bool = λ j. is_held (bare (phase_at v j)) in
     let test : ℕ → Bool = is_in_the_way (tree_of v.plan) held n in
-    holders-are v start s like n ∙ ap (option_map Why.LockHeld) (lowest-as (nodes_in v) test ∙ ap (λ (p : Planned). lowest_in_the_way (tree_of p) held n) (sym c.plan.ensures) ∙ sym c.lowest_in_the_way.ensures ∙ c.in-Some.is)
+    holders-are v start s like n ∙ ap (option_map Why.LockHeld)
+    (lowest-as (nodes_in v) test ∙ ap (λ (p : Planned). lowest_in_the_way (tree_of p) held n) (sym c.plan.ensures) ∙ sym c.lowest_in_the_way.ensures ∙ c.in-Some.is)
 
 pub returns-in-None : goal.returns-in-None
 returns-in-None c = λ start s like.
@@ -24,7 +25,8 @@ returns-in-None c = λ start s like.
     let n = c.args.node in
     let held : ℕ → Bool = λ j. is_held (bare (phase_at v j)) in
     let test : ℕ → Bool = is_in_the_way (tree_of v.plan) held n in
-    holders-are v start s like n ∙ ap (option_map Why.LockHeld) (lowest-as (nodes_in v) test ∙ ap (λ (p : Planned). lowest_in_the_way (tree_of p) held n) (sym c.plan.ensures) ∙ sym c.lowest_in_the_way.ensures ∙ c.in-None.is)
+    holders-are v start s like n ∙ ap (option_map Why.LockHeld)
+    (lowest-as (nodes_in v) test ∙ ap (λ (p : Planned). lowest_in_the_way (tree_of p) held n) (sym c.plan.ensures) ∙ sym c.lowest_in_the_way.ensures ∙ c.in-None.is)
 
 none-there : (o : Option ℕ) → is_some o ≡ false → o ≡ None
 none-there None e = refl

@@ -23,7 +23,8 @@ returns-2-clause-ok c = λ q.
       | in_default-via-in-None-1 w ↦ ap the_view w.self-inside-is ∙ c.self.view_is
       | in_default-via-in-Some+in-None-1 w ↦ ap the_view w.self-inside-is ∙ ap (map arc_value) (set-same c.self.inside.layers.items w.in-Some.newest.now w.in-Some.ensures.value) ∙ c.self.view_is
     ] in
-    let first : arc_value c.in_ok-new.field-0 ≡ insert empty c.args.name c.args.text = c.in_ok-new.ensures.ok ∙ c.in_ok-put-2.ensures.ok ∙ ap (λ (p : Places). insert p c.args.name c.args.text) c.new-places.ensures in
+    let first : arc_value c.in_ok-new.field-0 ≡ insert empty c.args.name c.args.text = c.in_ok-new.ensures.ok ∙ c.in_ok-put-2.ensures.ok
+    ∙ ap (λ (p : Places). insert p c.args.name c.args.text) c.new-places.ensures in
     ap (λ (xs : List (Arc Places Global)). place_in (map arc_value xs) q) c.in_ok-insert.ensures.items
     ∙ ap (λ (p : Places). place_in (p ∷ map arc_value c.in_default.self-inside.layers.items) q) first
     ∙ place-new (map arc_value c.in_default.self-inside.layers.items) c.args.name c.args.text q
