@@ -6,7 +6,7 @@ use Rattle.iso_affected.specs.declared.counts.Counts.{Counts}
 use Rattle.iso_affected.specs.declared.counts.FateKind.{FateKind}
 use Rattle.iso_affected.specs.declared.counts.FateKind.TheVariants as K
 use Rattle.iso_plan.specs.Paths.{is_test, row_at}
-use Rattle.iso_plan.specs.Selections.{those_below}
+use Rattle.iso_plan.specs.KeptNodes.{those_below}
 use Rattle.iso_plan.specs.Tree.{Row}
 
 -- whether a node is a test

@@ -13,7 +13,7 @@ use Rattle.iso_affected.specs.declared.affected.Fate.TheVariants.{Same, Changed,
 use Rattle.iso_lifecycle.specs.Subjects.{Subject, subject}
 use Rattle.iso_plan.specs.Planned.{Planned}
 use Rattle.iso_plan.specs.RowView.{tree_of}
-use Rattle.iso_plan.specs.Selections.{those_below}
+use Rattle.iso_plan.specs.KeptNodes.{those_below}
 use Rattle.iso_plan.specs.Tree.{Row}
 use Rattle.iso_settings.specs.Worlds.{Start}
 

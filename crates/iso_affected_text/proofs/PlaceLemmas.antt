@@ -11,7 +11,7 @@ use Rattle.iso_model.specs.declared.heads.Variable.{Variable}
 use Rattle.iso_places.specs.LineStarts.{line_starts}
 use Rattle.iso_places.specs.SourceLines.{source_line}
 use Rattle.iso_places.specs.declared.end.ScriptLine.{ScriptLine}
-use Rattle.iso_plan.specs.Selections.{texts_of}
+use Rattle.iso_plan.specs.KeptNodes.{texts_of}
 
 -- a text of what stands at a place, and past the end
 pub at-place : {A : Type 0} (f : A → List ℕ) (xs : List A) (i : ℕ) (d : A) → i < length xs → unwrap_or (option_map f (slice_get xs i)) [] ≡ f (get_or xs i d)

@@ -10,7 +10,7 @@ use Rattle.iso_affected_text.specs.declared.change.Side.{Side}
 use Rattle.iso_places.specs.LineStarts.{line_starts}
 use Rattle.iso_places.specs.declared.site.Site.{Site}
 use Rattle.iso_plan.specs.RowView.{tree_of}
-use Rattle.iso_plan.specs.Selections.{texts_of}
+use Rattle.iso_plan.specs.KeptNodes.{texts_of}
 use Rattle.iso_plan.specs.TopClasses.{all_paths}
 use Rattle.iso_plan.specs.Tree.{Row}
 use Rattle.iso_settings.specs.Worlds.{Start}

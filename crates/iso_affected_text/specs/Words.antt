@@ -7,7 +7,7 @@ use Rattle.std.specs.Option.{option_copied}
 use Rattle.iso_affected_text.specs.declared.word.Word.{Word}
 use Rattle.iso_affected_text.specs.declared.word.Word.TheVariants.{Plain, Number, Name, Optional, Other, Source}
 use Rattle.iso_summary.specs.Names.{shown_name}
-use Rattle.iso_summary.specs.Sources.{shown_source}
+use Rattle.iso_summary.specs.ShownLines.{shown_source}
 
 -- texts one after another
 abbrev pub joined : List (List ℕ) → List ℕ

@@ -2,6 +2,7 @@
 #![tactic(auto)]
 
 pub mod change;
+pub mod changed_paths;
 pub mod examples;
 pub mod laws;
 mod parts;

@@ -6,7 +6,7 @@ ghost use Rattle.iso_affected_text.specs.Rows.{spot_of};
 ghost use Rattle.iso_affected_text.specs.Spots.{block_name, file_name, source_at, spot_at, spot_in};
 ghost use Rattle.iso_plan.specs.Paths.{path};
 ghost use Rattle.iso_plan.specs.RowView.{tree_of};
-ghost use Rattle.iso_plan.specs.Selections.{texts_of};
+ghost use Rattle.iso_plan.specs.KeptNodes.{texts_of};
 
 use crate::change::Side;
 use crate::row::{Block, Spot};

@@ -3,7 +3,7 @@ ghost use Rattle.std.specs.Prelude.{◌≡◌, ◌++◌, flat_map, map};
 ghost use Rattle.std.specs.Option.{option_copied, option_map};
 ghost use Rattle.iso_affected.specs.Counting.{AreFew};
 ghost use Rattle.iso_affected_text.specs.Rows.{row_of, spot_of};
-ghost use Rattle.iso_affected_text.specs.Texts.{affected_text, became_word, block_line, block_word, last_lines, last_of, missing_line, missing_words, part_word, path_line, paths_text, row_text, rows_text, spots_text, tests_line};
+ghost use Rattle.iso_affected_text.specs.Texts.{affected_text, became_word, block_line, block_word, last_lines, last_of, missing_line, missing_words, part_word, row_text, rows_text, spots_text, tests_line};
 ghost use Rattle.iso_tap.specs.Printers.{Prints, Writes};
 
 use crate::row::{Became, Block, Part, Row, Spot};
@@ -44,22 +44,6 @@ pub fn write_affected<W: Sink>(
     }
 }
 
-/// Writes the paths of changed and new nodes alone, one a line. Takes no memory.
-///
-/// The sink is asked again where it takes only some bytes, and no more once it has failed.
-pub fn write_paths<W: Sink>(rows: &[Row<'_>], sink: &mut W) -> Result<(), TapFault>
-    ensures { Writes (W.account sink.old) (W.account sink.new)
-        (paths_text (map row_of rows.now)) result }
-{
-    let mut printer = Printer::new(sink);
-    match paths(&mut printer, rows) {
-        Ok(()) => Ok(()),
-        Err(_) => Err(TapFault {
-            written: printer.written(),
-        }),
-    }
-}
-
 /// Writes rows, and what is told at the end.
 fn affected<W: Sink>(
     printer: &mut Printer<'_, W>,
@@ -82,29 +66,6 @@ fn all<W: Sink>(printer: &mut Printer<'_, W>, rows: &[Row<'_>]) -> Result<(), Si
         write_row(printer, row)?;
     }
     Ok(())
-}
-
-/// Writes the paths of rows that have one to run again.
-fn paths<W: Sink>(printer: &mut Printer<'_, W>, rows: &[Row<'_>]) -> Result<(), SinkFailed>
-    ensures { Prints printer.old printer.new (paths_text (map row_of rows.now)) result }
-{
-    for row in rows {
-        path(printer, row)?;
-    }
-    Ok(())
-}
-
-/// Writes the path of a row of a changed or a new node, and nothing of another.
-fn path<W: Sink>(printer: &mut Printer<'_, W>, row: &Row<'_>) -> Result<(), SinkFailed>
-    ensures { Prints printer.old printer.new (path_line (row_of row.now)) result }
-{
-    match *row {
-        Row::Node {
-            became: Became::Changed | Became::New,
-            path,
-        } => words(printer, &[Word::Plain(path), Word::Plain("\n")]),
-        _ => Ok(()),
-    }
 }
 
 /// Writes a row.

@@ -2,7 +2,7 @@
 ghost use Rattle.std.specs.Prelude.{◌≡◌, ◌++◌, cond, map};
 ghost use Rattle.std.specs.Option.{option_copied};
 ghost use Rattle.iso_affected_text.specs.Words.{joined, optional, other_file, source_text, word_text};
-ghost use Rattle.iso_summary.specs.Sources.{cut_end, shown_byte, shown_source};
+ghost use Rattle.iso_summary.specs.ShownLines.{cut_end, shown_byte, shown_source};
 ghost use Rattle.iso_tap.specs.Printers.{Prints};
 
 use iso_summary::name::name;

@@ -7,3 +7,4 @@ pub mod processors;
 pub mod request;
 pub mod shard;
 mod written;
+pub mod wrong_words;

@@ -8,18 +8,11 @@ use crate::options::command_line;
 use crate::processors::{Processors, read_processors};
 use crate::shard::{Shard, read_shard};
 use crate::written::{Written, check_written};
-use clap::error::ErrorKind;
-use clap::{ArgMatches, Error};
-use std::alloc::{AllocError, AllocFailed, AllocGlobal, Global};
+use crate::wrong_words::{LIST_WITHOUT_SCRIPT, WordsFault, invalid_value, told};
+use clap::ArgMatches;
+use std::alloc::{AllocGlobal, Global};
 use std::env::{self, Args, Env};
 use std::io;
-
-/// What is said where standard input would be the list of paths and the script.
-static LIST_WITHOUT_SCRIPT: &str =
-    "error: '--only-from -' reads the paths from standard input, so a SCRIPT has to be named
-
-For more information, try '--help'.
-";
 
 /// The files that a run, a plan or a replay is made of, as the words name them, and what is kept of
 /// them.
@@ -158,8 +151,8 @@ pub enum Request<'a> {
         paths: bool,
         files: InputFiles<'a>,
     },
-    /// What the settings in a file of this name come to, by the number of processors; `explain` with
-    /// what mends a fault.
+    /// What the settings in a file of this name come to, by the number of processors; `explain`
+    /// with what mends a fault.
     Settings {
         settings: Option<&'a str>,
         processors: Option<Processors>,
@@ -167,26 +160,6 @@ pub enum Request<'a> {
     },
     /// A text for standard output: a help page or the version.
     Show(String),
-}
-
-/// Why words ask for nothing.
-#[derive(Drop)]
-pub enum WordsFault {
-    /// They aren't those of `jtap`. The text, which ends in a line feed, says what is wrong.
-    Wrong(String),
-    OutOfMemory,
-}
-
-impl<T: Drop> From<AllocFailed<T>> for WordsFault {
-    fn from(_error: AllocFailed<T>) -> WordsFault {
-        WordsFault::OutOfMemory
-    }
-}
-
-impl From<AllocError> for WordsFault {
-    fn from(_error: AllocError) -> WordsFault {
-        WordsFault::OutOfMemory
-    }
 }
 
 /// The words that a program was called with, after its own name. A word that isn't UTF-8 is a wrong
@@ -237,40 +210,6 @@ pub fn read_words<'a>(alloc: Global, words: &'a [String]) -> Result<Request<'a>,
     match command.try_get_matches_from(words) {
         Ok(matches) => requested(alloc, &matches),
         Err(error) => told(alloc, words, &error),
-    }
-}
-
-/// What words come to that `clap` answers with an error. It tells of them as they stand, so it is
-/// asked again with each of them on one line: no word can forge a line of its own.
-fn told<'a>(alloc: Global, words: &[String], error: &Error) -> Result<Request<'a>, WordsFault>
-    ensures bounds { IfOk result AsksInBounds }
-{
-    let told = on_one_line(alloc, words)?;
-    match command_line(alloc)?.try_get_matches_from(told.as_slice()) {
-        Ok(_) => shown(alloc, error),
-        Err(error) => shown(alloc, &error),
-    }
-}
-
-/// The words, in which `\n` stands for each line feed.
-fn on_one_line(alloc: Global, words: &[String]) -> Result<Vec<String>, AllocError> {
-    let mut told = Vec::new(alloc);
-    for word in words {
-        told.push(word.replace(alloc, '\n', "\\n")?)?;
-    }
-    Ok(told)
-}
-
-/// What an error of `clap` comes to: help and the version are no faults.
-fn shown<'a>(alloc: Global, error: &Error) -> Result<Request<'a>, WordsFault>
-    ensures bounds { IfOk result AsksInBounds }
-{
-    match error.kind() {
-        ErrorKind::OutOfMemory => Err(WordsFault::OutOfMemory),
-        ErrorKind::DisplayHelp | ErrorKind::DisplayVersion => {
-            Ok(Request::Show(format!(in alloc; "{error}")?))
-        }
-        _ => Err(WordsFault::Wrong(format!(in alloc; "{error}")?)),
     }
 }
 
@@ -497,20 +436,4 @@ fn shard_of(alloc: Global, found: &ArgMatches<'_>) -> Result<Option<Shard>, Word
             "two numbers are wanted, 1 <= I <= K <= 4095",
         )?)),
     }
-}
-
-/// What is said of a value that an option doesn't take, as `clap` says it of others.
-pub(crate) fn invalid_value(
-    alloc: Global,
-    value: &str,
-    option: &str,
-    why: &str,
-) -> Result<String, AllocError> {
-    let value = value.replace(alloc, '\n', "\\n")?;
-    format!(in alloc;
-        "error: invalid value '{value}' for '{option}': {why}
-
-For more information, try '--help'.
-"
-    )
 }

@@ -1,5 +1,6 @@
 //! Files that are written besides a report.
-use crate::request::{InputFiles, WordsFault, invalid_value};
+use crate::request::InputFiles;
+use crate::wrong_words::{WordsFault, invalid_value};
 use std::alloc::Global;
 
 /// An option that names a file to be written, and the file, where it is given.

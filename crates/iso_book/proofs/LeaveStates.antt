@@ -2,7 +2,8 @@
 use Rattle.std.proofs.Common.{◌≡◌, ℕ, ◌<◌, ◌≤◌, List, Some, Bool, true, false, cond, ◌&&◌, refl, sym, ap, ◌∙◌, subst, arith}
 use Rattle.iso_book.specs.Books.{weight}
 use Rattle.iso_isolation.proofs.Changes.{put_elsewhere, put_here, unmoved}
-use Rattle.iso_isolation.specs.Events.{barring, ended_well, finishing, frames_left, leaving, open_or_barred, opening_left, stands_in}
+use Rattle.iso_isolation.specs.Events.{barring, ended_well, frames_left, leaving, open_or_barred, opening_left, stands_in}
+use Rattle.iso_isolation.specs.Restoring.{finishing}
 use Rattle.iso_isolation.specs.States.{Status, Waiting, Begun, Open, Barred, Closing, Finished, body_in, is_closing, is_held, is_waiting}
 use Rattle.iso_isolation.specs.Suites.{Suite}
 use Rattle.iso_lifecycle.specs.Subjects.{is_kind_of}

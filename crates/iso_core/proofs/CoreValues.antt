@@ -11,7 +11,8 @@ use Rattle.iso_standing.specs.UnderWay.{is_after_all}
 use Rattle.iso_isolation.proofs.Changes.{unmoved}
 use Rattle.iso_isolation.proofs.Statuses.{body_unseen, rest_held}
 use Rattle.iso_isolation.specs.Events as E
-use Rattle.iso_isolation.specs.Events.{after, barring, ended_well, finishing, frames_left, leaving, open_or_barred, opening_left, shutting, stands_in, where_some}
+use Rattle.iso_isolation.specs.Events.{after, barring, ended_well, frames_left, leaving, open_or_barred, opening_left, shutting, stands_in, where_some}
+use Rattle.iso_isolation.specs.Restoring.{finishing}
 use Rattle.iso_isolation.specs.States.{Status, Waiting, Begun, Open, Barred, Closing, Finished, body_in, is_at_rest, is_closing, is_held, is_waiting}
 use Rattle.iso_isolation.specs.Suites.{Suite, chain}
 use Rattle.iso_lifecycle.specs.Subjects.{is_kind_of}

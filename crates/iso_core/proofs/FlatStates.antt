@@ -12,6 +12,7 @@ use Rattle.iso_suites.specs.SuiteStates.{RunNodes, suite_at}
 use Rattle.iso_isolation.proofs.Changes.{put_elsewhere, put_here, unmoved}
 use Rattle.iso_isolation.specs.Alone.{restricted}
 use Rattle.iso_isolation.specs.Events as E
+use Rattle.iso_isolation.specs.Restoring.{finishing}
 use Rattle.iso_isolation.specs.States.{Status, Waiting, Begun, Open, Barred, Closing, Finished, first, is_held, nothing, put, with_body}
 use Rattle.iso_isolation.specs.Suites.{chain, may_write}
 use Rattle.iso_lifecycle.specs.BodyViews.{Stands, subject_of}
@@ -324,7 +325,7 @@ module _ (v : FlatView) (is : IsFlatMap v) (node : ℕ) (mark : SavepointView) (
         ∙ cond-same (is_writable (node_rights (tree_of made.then.plan) node k)) (may_write scripts (suite_at v.tray.plan v.tray.world) node k) (flat made.then k) (flat v.tray k)
         (s.saved node k) (s.flat k) right (saved-then k) (of.now k)
 
-    pub state-left : IsFlatOf (record { tray = undone mark v.tray; marks = less }) (E.finishing scripts (suite_at v.tray.plan v.tray.world) node r s)
+    pub state-left : IsFlatOf (record { tray = undone mark v.tray; marks = less }) (finishing scripts (suite_at v.tray.plan v.tray.world) node r s)
     state-left =
         let pos = (of.marked node (ap is_some at)).0 in
         record {

@@ -4,6 +4,7 @@ ghost use Rattle.iso_core.specs.FlatMaps.{IsFlatOf, IsInnermost, OfSameMap, mark
 ghost use Rattle.iso_suites.specs.ScriptLanguage.{scripts};
 ghost use Rattle.iso_suites.specs.SuiteStates.{RunNodes, suite_at};
 ghost use Rattle.iso_isolation.specs.Events as E;
+ghost use Rattle.iso_isolation.specs.Restoring.{finishing};
 ghost use Rattle.iso_isolation.specs.States.{first};
 ghost use Rattle.iso_lifecycle.specs.BodyViews.{Stands, kind_of_body, stage_of_body, subject_of};
 ghost use Rattle.iso_lifecycle.specs.Subjects.{rights_of_subject, subject};
@@ -12,8 +13,7 @@ ghost use Rattle.iso_model.specs.Bodies.{body_step, going, is_ended};
 ghost use Rattle.iso_model.specs.declared.outcome.Outcome.{Outcome};
 
 use iso_lifecycle::body::Body;
-use iso_locks::savepoint::Savepoint;
-use iso_locks::tray::Tray;
+use iso_locks::tray::{Savepoint, Tray};
 use iso_model::resource::{Ask, Change};
 use iso_model::resource_key::ResourceKey;
 use iso_model::touch::Touch;
@@ -118,7 +118,7 @@ impl<'a> FlatMap<'a> {
         requires innermost { IsInnermost self.old node }
         ensures same { OfSameMap self.old self.new }
         ensures state { (s : RunNodes) (r : Outcome) → IsFlatOf self.old s → IsFlatOf self.new
-            (E.finishing scripts (suite_at self.old.tray.plan self.old.tray.world) node r s) }
+            (finishing scripts (suite_at self.old.tray.plan self.old.tray.world) node r s) }
     {
         nodes_are_a_tree(self.tray.plan());
         if let Some(mark) = self.marks[node as usize].take() {

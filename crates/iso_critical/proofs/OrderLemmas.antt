@@ -17,9 +17,9 @@ use Rattle.iso_durations.proofs.SortLemmas.{AreSorted, sorted-is}
 use Rattle.iso_durations.proofs.TimesLemmas.{those-all, those-differ}
 use Rattle.iso_durations.specs.Entries.{entry, node_of}
 use Rattle.iso_durations.specs.Orders.{is_before, slowest_first}
-use Rattle.iso_durations.specs.declared.timed.Timed.{Timed}
+use Rattle.iso_durations.specs.declared.durations.Timed.{Timed}
 use Rattle.iso_plan.specs.Paths.{is_root}
-use Rattle.iso_plan.specs.Selections.{those_below}
+use Rattle.iso_plan.specs.KeptNodes.{those_below}
 use Rattle.iso_times.specs.declared.times.BodyTime.{BodyTime}
 
 module _ (bodies : List (Option BodyTime)) where

@@ -12,7 +12,7 @@ use Rattle.std.specs.Option.{option_map}
 use Rattle.iso_critical.specs.declared.body.Body.{Body}
 use Rattle.iso_durations.specs.Orders.{slowest_first}
 use Rattle.iso_plan.specs.Paths.{is_root}
-use Rattle.iso_plan.specs.Selections.{those_below}
+use Rattle.iso_plan.specs.KeptNodes.{those_below}
 use Rattle.iso_plan.specs.Tree.{Row}
 use Rattle.iso_settings.specs.declared.settings.Settings.{Settings}
 use Rattle.iso_times.specs.Tables.{first_begin, since}

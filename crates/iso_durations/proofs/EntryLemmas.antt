@@ -9,7 +9,7 @@ use Rattle.iso_durations.specs.Orders.{first_of, slowest_first}
 use Rattle.iso_durations.specs.Tallies.{tally}
 use Rattle.iso_durations.specs.Times.{is_measured, measured, micros}
 use Rattle.iso_durations.specs.declared.tally.Tally.{Tally}
-use Rattle.iso_durations.specs.declared.timed.Timed.{Timed}
+use Rattle.iso_durations.specs.declared.durations.Timed.{Timed}
 use Rattle.iso_durations.proofs.ListLemmas.{first-every, first-map, slowest-every}
 use Rattle.iso_durations.proofs.TimesLemmas.{those-all}
 use Rattle.iso_plan.specs.Planned.{Planned}

@@ -11,7 +11,7 @@ use Rattle.std.specs.List.Sorted.{IsPermutation}
 use Rattle.std.specs.Ordering.{ordering_then}
 use Rattle.iso_durations.specs.Entries.{entry, node_of}
 use Rattle.iso_durations.specs.Orders.{is_before, is_in, slowest_first}
-use Rattle.iso_durations.specs.declared.timed.Timed.{Timed}
+use Rattle.iso_durations.specs.declared.durations.Timed.{Timed}
 use Rattle.iso_durations.proofs.OrderLemmas.{Differ, Steps, either, neither-first, neither-second, ranked-one, ranked-steps, slowest-in, slowest-ranked}
 
 -- numbers that differ, in the words of the library

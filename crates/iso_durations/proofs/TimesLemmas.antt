@@ -7,7 +7,7 @@ use Rattle.std.proofs.lemmas.List.Sums.{sum_by-append}
 use Rattle.std.specs.Bool.{◌==◌}
 use Rattle.std.specs.List.{All, sum_by}
 use Rattle.iso_plan.proofs.NumberLemmas.{number-small, those-next, those-skip}
-use Rattle.iso_plan.specs.Selections.{those_below}
+use Rattle.iso_plan.specs.KeptNodes.{those_below}
 use Rattle.iso_plan.specs.Tree.{Row}
 use Rattle.iso_durations.specs.Orders.{is_in}
 use Rattle.iso_durations.specs.Tallies.{greatest, is_a_test, tally, with_node}

@@ -15,7 +15,7 @@ use Rattle.iso_durations.specs.Seconds.{seconds}
 use Rattle.iso_durations.specs.Tallies.{tally}
 use Rattle.iso_durations.specs.Times.{measured, micros}
 use Rattle.iso_durations.specs.declared.tally.Tally.{Tally}
-use Rattle.iso_durations.specs.declared.timed.Timed.{Timed}
+use Rattle.iso_durations.specs.declared.durations.Timed.{Timed}
 
 -- the first line: how many are listed, of how many that were measured, and how long the bodies of
 -- all of these took

@@ -5,7 +5,7 @@ use Rattle.iso_plan.specs.Planned.{Planned}
 use Rattle.iso_plan.specs.Tree.{Row}
 use Rattle.iso_durations.specs.Lines.{line}
 use Rattle.iso_durations.specs.Seconds.{seconds}
-use Rattle.iso_durations.specs.declared.timed.Timed.{Timed}
+use Rattle.iso_durations.specs.declared.durations.Timed.{Timed}
 
 -- the entry of a node
 abbrev pub entry : (micros : ℕ → ℕ) → ℕ → Timed

@@ -6,7 +6,7 @@
 -- Also in: `Orders`, `Listed`.
 use Rattle.std.specs.Prelude.{ℕ, List, Option, None, Bool, ◌&&◌, is_some, length, not, slice_index_or, unwrap_or}
 use Rattle.iso_plan.specs.Paths.{is_root}
-use Rattle.iso_plan.specs.Selections.{those_below}
+use Rattle.iso_plan.specs.KeptNodes.{those_below}
 use Rattle.iso_plan.specs.Tree.{Row}
 
 -- the microseconds that a node's bodies took, none where none of them was measured

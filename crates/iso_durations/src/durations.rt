@@ -1,17 +1,23 @@
 //! The tests and classes of a run that were measured.
 ghost use Rattle.std.specs.Prelude.{◌≡◌, ◌≤◌, IfOk, length, map};
 ghost use Rattle.iso_durations.specs.Entries.{entry};
-ghost use Rattle.iso_durations.specs.Orders.{slowest_first};
+ghost use Rattle.iso_durations.specs.Orders.{first_of, slowest_first};
 ghost use Rattle.iso_durations.specs.Times.{measured, micros};
 ghost use Rattle.iso_plan.specs.RowView.{tree_of};
 
-use crate::timed::Timed;
 use crate::times::time;
 use iso_plan::laws;
 use iso_plan::plan::Plan;
 use std::alloc::{AllocError, Global};
 use std::cmp::Reverse;
 use std::marker::Model;
+
+/// A node, and how many microseconds its bodies took.
+#[derive(Clone, Copy)]
+pub(crate) struct Timed {
+    pub(crate) micros: u64,
+    pub(crate) node: u32,
+}
 
 /// Room for the times of nodes. It is made before a run, so that nothing grows after it. Contracts
 /// see for how many nodes it is.
@@ -66,5 +72,16 @@ impl Durations {
         let mut timed = self.measured(plan, times);
         timed.sort_unstable_by_key(|timed| (Reverse(timed.micros), timed.node));
         timed
+    }
+}
+
+/// The first `most`, or all where this is 0.
+pub(crate) fn first_of(timed: &[Timed], most: u32) -> &[Timed]
+    ensures { result.now ≡ first_of most timed.now }
+{
+    if most == 0 || timed.len() <= most as usize {
+        timed
+    } else {
+        &timed[..most as usize]
     }
 }

@@ -9,5 +9,4 @@ mod part;
 mod seconds;
 mod tally;
 pub mod text;
-mod timed;
 mod times;

@@ -7,11 +7,10 @@ ghost use Rattle.iso_durations.specs.Times.{measured, micros};
 ghost use Rattle.iso_plan.specs.RowView.{tree_of};
 ghost use Rattle.iso_tap.specs.Printers.{Prints, Writes};
 
-use crate::durations::Durations;
+use crate::durations::{Durations, Timed, first_of};
 use crate::line::{line, line_with_path};
 use crate::part::Part;
 use crate::tally::{Tally, count};
-use crate::timed::{Timed, first_of};
 use iso_plan::plan::Plan;
 use iso_tap::fault::TapFault;
 use iso_tap::printer::Printer;

@@ -1,7 +1,7 @@
 -- Top-level classes, node by node.
 use Rattle.std.proofs.Common.{◌≡◌, ◌+◌, ℕ, List, [], ◌∷◌, ◌++◌, Bool, true, false, cond, map, ap, sym, ◌∙◌, add-one, append-nil}
 use Rattle.std.proofs.lemmas.List.{map_push}
-use Rattle.iso_plan.specs.Selections.{those_below}
+use Rattle.iso_plan.specs.KeptNodes.{those_below}
 
 -- those that pass, with one number more
 pub those-more : (passes : ℕ → Bool) (f : ℕ → List ℕ × ℕ) (n : ℕ)

@@ -2,7 +2,7 @@
 use Rattle.std.specs.Prelude.{ℕ, List, [], ◌∷◌, ◌++◌, Bool, ◌&&◌, ◌==◌, codes, cond, drop, length, map, nat_lt, slice_index_or}
 use Rattle.std.specs.Fmt.{decimal}
 use Rattle.std.specs.List.{prefix_len}
-use Rattle.iso_plan.specs.Selections.{those_below}
+use Rattle.iso_plan.specs.KeptNodes.{those_below}
 use Rattle.iso_explain_plan.specs.Notes.{note}
 use Rattle.iso_explain_plan.specs.Parts.{shown}
 use Rattle.iso_explain_plan.specs.declared.size.Size.{Size}

@@ -8,7 +8,7 @@ use Rattle.iso_plan.proofs.NumberLemmas.{those-agree}
 use Rattle.iso_plan.proofs.PathLemmas.{along, eq_from, eq_not, eq_same, not-root, path-root, path-step, under-le}
 use Rattle.iso_plan.specs.Locks.{is_that}
 use Rattle.iso_plan.specs.Paths.{IsTree, children, children_below, is_on, is_root, is_test, parent, path, row_at}
-use Rattle.iso_plan.specs.Selections.{those_below}
+use Rattle.iso_plan.specs.KeptNodes.{those_below}
 use Rattle.iso_plan.specs.Tree.{Row}
 use Rattle.iso_failures.specs.BlockedInside.{blocked_at, blocked_within, is_at, is_met, is_within}
 use Rattle.iso_failures.specs.Blocking.{blocked_by, is_blocked_by}

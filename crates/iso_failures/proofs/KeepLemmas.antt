@@ -11,7 +11,7 @@ use Rattle.iso_plan.proofs.NumberLemmas.{those-next, those-skip}
 use Rattle.iso_plan.proofs.PathLemmas.{not-root, path-step, under-self}
 use Rattle.iso_plan.specs.Paths.{IsTree, is_root, is_under, parent, path}
 use Rattle.iso_plan.specs.PathTexts.{path_text}
-use Rattle.iso_plan.specs.Selections.{is_chosen, is_kept, is_kept_by, is_named, those_below}
+use Rattle.iso_plan.specs.KeptNodes.{is_chosen, is_kept, is_kept_by, is_named, those_below}
 use Rattle.iso_plan.specs.Tree.{Row}
 use Rattle.iso_failures.proofs.Sums.{numbers}
 

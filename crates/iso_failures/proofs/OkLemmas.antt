@@ -22,7 +22,7 @@ use Rattle.iso_plan.proofs.PathLemmas.{along, chain-step, path-root, path-step}
 use Rattle.iso_plan.specs.Children.{IsListed}
 use Rattle.iso_plan.specs.NodeChains.{chain_classes, class_heads, heads_on, own_test}
 use Rattle.iso_plan.specs.Paths.{IsTree, children, is_class_or_test, is_under, parent, path, row_at}
-use Rattle.iso_plan.specs.Selections.{number_among, those_below}
+use Rattle.iso_plan.specs.KeptNodes.{number_among, those_below}
 use Rattle.iso_plan.specs.Tree.{Kind, root, class_node, test_node, Row}
 use Rattle.iso_tap.proofs.ReportLemmas.{ok-down}
 use Rattle.iso_tap.specs.ReportLines.{is_ok_verdict}

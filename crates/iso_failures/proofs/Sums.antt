@@ -4,7 +4,7 @@ use Rattle.std.proofs.lemmas.List.Sums.{sum_by-cons, sum_by_push}
 use Rattle.std.specs.List.{sum_by}
 use Rattle.iso_plan.proofs.NumberLemmas.{number-next, number-small, those-skip}
 use Rattle.iso_plan.proofs.PathLemmas.{eq_not, eq_same}
-use Rattle.iso_plan.specs.Selections.{those_below}
+use Rattle.iso_plan.specs.KeptNodes.{those_below}
 use Rattle.iso_failures.specs.Counting.{how_many}
 
 pub numbers : (a b : ℕ) → (a ≡ b) ⊎ (a ≡ b → ⊥)

@@ -6,7 +6,7 @@
 -- Also in: `CountingSteps`.
 use Rattle.std.specs.Prelude.{ℕ, List, Bool, true, length}
 use Rattle.iso_model.specs.declared.outcome.Outcome.{Outcome}
-use Rattle.iso_plan.specs.Selections.{those_below}
+use Rattle.iso_plan.specs.KeptNodes.{those_below}
 use Rattle.iso_plan.specs.Tree.{Row}
 use Rattle.iso_failures.specs.Nodes.{has_failed, has_passed, is_class_with, is_test_with, was_blocked, was_skipped}
 use Rattle.iso_failures.specs.declared.counts.Counts.{Counts}

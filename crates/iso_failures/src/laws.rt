@@ -8,7 +8,7 @@ ghost use Rattle.iso_lifecycle.specs.ResultViews.{outcome_in};
 ghost use Rattle.iso_model.specs.declared.outcome.Outcome.{Outcome};
 ghost use Rattle.iso_plan.specs.PathTexts.{path_text};
 ghost use Rattle.iso_plan.specs.RowView.{tree_of};
-ghost use Rattle.iso_plan.specs.Selections.{is_kept};
+ghost use Rattle.iso_plan.specs.KeptNodes.{is_kept};
 ghost use Rattle.iso_plan.specs.Tree.{Row};
 ghost use Rattle.iso_tap.specs.Reports.{all_ok};
 

@@ -82,7 +82,8 @@ abbrev pub HasNothingIn : SchedulerView → Bool → ℕ → Option ℕ → Type
 HasNothingIn s is_over w seen = HasNothing s.table.places s.keys.held s.keys.written is_over
     (not (loose_in s.table.places == 0)) s.rounds w seen
 
--- the access with which the nodes in a line take its key: READ_WRITE in a line of writers, else READ
+-- the access with which the nodes in a line take its key: READ_WRITE in a line of writers, else
+-- READ
 abbrev pub access_in : KeyLine → Access
 access_in l = cond l.writes Write Read
 

@@ -295,8 +295,8 @@ impl<'a, G: Ground> Desk<'a, G> {
         Ok(())
     }
 
-    /// Books what a worker's body came to with a tray, as `Book::leave_own` has it. It stops the run
-    /// once 2^63 nodes have been put in lines.
+    /// Books what a worker's body came to with a tray, as `Book::leave_own` has it. It stops the
+    /// run once 2^63 nodes have been put in lines.
     pub(crate) fn leave(
         &mut self,
         worker: u32,

@@ -650,7 +650,8 @@ fn is_loose(place: Place) -> bool
     matches!(place, Place::Loose)
 }
 
-/// How many nodes are `Loose` after one of them got another place: whether it was, and whether it is.
+/// How many nodes are `Loose` after one of them got another place: whether it was, and whether it
+/// is.
 fn recounted(loose: usize, was: bool, is: bool) -> usize
     requires was { cond was 1 0 ≤ loose }
     requires room { loose + cond is 1 0 < 2 ^ 64 + cond was 1 0 }

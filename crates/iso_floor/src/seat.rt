@@ -14,8 +14,7 @@ use crate::ground::Ground;
 use crate::steal::{Look, steal_from};
 use iso_book::receipt::Receipt;
 use iso_lifecycle::done::Done;
-use iso_locks::savepoint::Savepoint;
-use iso_locks::tray::Tray;
+use iso_locks::tray::{Savepoint, Tray};
 use iso_model::resource::{Ask, Change};
 use iso_model::resource_key::ResourceKey;
 use iso_model::touch::Touch;
@@ -99,8 +98,8 @@ impl<'a, G: Ground> Seat<'a, G> {
     }
 
     /// Takes a node out of a deque, if it finds one: out of the worker's own, else out of another
-    /// worker's. It looks into none where the scheduler had something for this worker after its last
-    /// Leave, since that comes first. It may wait for others who steal.
+    /// worker's. It looks into none where the scheduler had something for this worker after its
+    /// last Leave, since that comes first. It may wait for others who steal.
     pub(crate) fn look_into_deques<R: Wait>(&mut self, rt: &R) -> Look
         ensures { self.new ≡ self.old }
     {

@@ -100,8 +100,9 @@ fn take_turns<'a, G: Ground, R: Wait, T: Gate>(
     Ok(())
 }
 
-// Looks for something to do, in the deques first unless the scheduler calls for this worker, and waits
-// where there is nothing. `rounds` is how often nodes had been posted when that was asked last.
+// Looks for something to do, in the deques first unless the scheduler calls for this worker, and
+// waits where there is nothing. `rounds` is how often nodes had been posted when that was asked
+// last.
 fn take_turn<'a, G: Ground, R: Wait, T: Gate>(
     worker: &Worker<'_, 'a, G, R, T>,
     seat: &mut Seat<'a, G>,

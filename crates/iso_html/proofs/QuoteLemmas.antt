@@ -4,7 +4,7 @@ use Rattle.std.proofs.lemmas.List.{length-map}
 use Rattle.iso_html.specs.Quotes.{line_of, line_text, quote_text}
 use Rattle.iso_html.specs.declared.quote.Line.{Line}
 use Rattle.iso_junit.specs.Escapes.{escaped, escaped_byte}
-use Rattle.iso_summary.specs.Sources.{shown_byte}
+use Rattle.iso_summary.specs.ShownLines.{shown_byte}
 use Rattle.iso_tap.proofs.PrinterLemmas.{drop_next}
 
 pub shown-next : (bytes : List ℕ) (i : ℕ) → i < length bytes

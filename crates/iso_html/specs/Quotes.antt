@@ -6,7 +6,7 @@ use Rattle.std.specs.Fmt.{decimal}
 use Rattle.iso_html.specs.declared.quote.Line.{Line}
 use Rattle.iso_junit.specs.Escapes.{escaped}
 use Rattle.iso_junit.specs.Texts.{joined}
-use Rattle.iso_summary.specs.Sources.{cut_end, shown_bytes}
+use Rattle.iso_summary.specs.ShownLines.{cut_end, shown_bytes}
 
 -- a line of a script, with its number
 pub record LineView : Type 0 where

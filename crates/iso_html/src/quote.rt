@@ -2,13 +2,13 @@
 ghost use Rattle.std.specs.Prelude.{◌≡◌, ◌<◌, ◌==◌, flat_map, length, map};
 ghost use Rattle.iso_html.specs.Quotes.{begin_text, end_text, line_of, line_text, number_text, quote_text, quoted, excerpt_of, shown_text};
 ghost use Rattle.iso_junit.specs.Escapes.{escaped};
-ghost use Rattle.iso_summary.specs.Sources.{shown_byte};
+ghost use Rattle.iso_summary.specs.ShownLines.{shown_byte};
 ghost use Rattle.iso_tap.specs.Printers.{Prints};
 
 use iso_junit::escape::escaped;
 use iso_junit::part::Part;
 use iso_junit::writing::parts;
-use iso_summary::source::{cut_end, shown_byte, shown_part};
+use iso_summary::shown_line::{cut_end, shown_byte, shown_part};
 use iso_tap::printer::Printer;
 use iso_tap::sink::{Sink, SinkFailed};
 

@@ -3,6 +3,7 @@
 
 pub mod block;
 mod expression;
+mod functions;
 mod interrupt;
 mod operators;
 pub mod run;

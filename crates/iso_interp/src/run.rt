@@ -5,14 +5,15 @@ ghost use Rattle.iso_model.specs.declared.limits.TheConstants.{BLOCK_STEPS};
 
 mod assertions;
 mod control;
-mod looks;
+mod name_index;
+mod output;
 mod resources;
 mod values;
 
 use crate::block::Block;
 use crate::expression::evaluate;
 use crate::interrupt::Interrupt;
-use crate::run::looks::LOOKS;
+use crate::run::name_index::LOOKS;
 use crate::value::{Given, as_count, as_flag, own_text, own_texts};
 use iso_model::data::Data;
 use iso_model::fault::{Fault, FaultKind};

@@ -4,7 +4,7 @@ use Rattle.iso_isolation.specs.Languages.{Content, Language, BodyLaws}
 use Rattle.iso_isolation.specs.Suites.{Suite, On, chain, may_write, SuiteLaws}
 use Rattle.iso_isolation.specs.States as S
 use Rattle.iso_isolation.specs.States.{Status, Nodes, nothing, put, is_open, is_barred, is_closing, is_at_rest, is_held, body_in, frames_in, result_in}
-use Rattle.iso_isolation.specs.Events.{finishing}
+use Rattle.iso_isolation.specs.Restoring.{finishing}
 use Rattle.iso_isolation.proofs.Changes.{true_or_false, put_here, put_elsewhere, on_put}
 use Rattle.iso_isolation.proofs.Statuses.{open_held, body_shut, body_held, rest_held}
 use Rattle.iso_isolation.proofs.Locks.{on_split, on_le, isolated}

@@ -4,7 +4,8 @@ use Rattle.iso_isolation.specs.Languages.{Content, Language, Alike, BodyLaws}
 use Rattle.iso_isolation.specs.Suites.{Suite, chain, may_write, SuiteLaws}
 use Rattle.iso_isolation.specs.States as S
 use Rattle.iso_isolation.specs.States.{Status, Nodes, State, put, is_waiting, is_closing, body_in, with_body, first}
-use Rattle.iso_isolation.specs.Events.{Event, Enter, Step, Leave, Shut, where_some, open_or_barred, stands_in, frames_of, frames_left, ended_well, entering, stepping, shutting, opening_left, barring, finishing, leaving, after}
+use Rattle.iso_isolation.specs.Events.{Event, Enter, Step, Leave, Shut, where_some, open_or_barred, stands_in, frames_of, frames_left, ended_well, entering, stepping, shutting, opening_left, barring, leaving, after}
+use Rattle.iso_isolation.specs.Restoring.{finishing}
 use Rattle.iso_isolation.specs.Runs.{is_accepted, is_run, after_all_of, with_steps, steps_needed, full}
 use Rattle.iso_isolation.specs.Histories.{IsHistory, has_no_step, is_being_written, standing_value}
 use Rattle.iso_isolation.proofs.Changes.{on_put}

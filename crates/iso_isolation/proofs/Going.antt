@@ -4,7 +4,8 @@ use Rattle.iso_isolation.specs.Languages.{Content, Language, BodyLaws}
 use Rattle.iso_isolation.specs.Suites.{Suite, chain, SuiteLaws}
 use Rattle.iso_isolation.specs.States as S
 use Rattle.iso_isolation.specs.States.{Status, Nodes, State, put, is_waiting, body_in, with_body, first}
-use Rattle.iso_isolation.specs.Events.{Event, Enter, Step, Leave, Shut, where_some, open_or_barred, stands_in, frames_of, frames_left, ended_well, stepping, opening_left, barring, finishing, leaving, after}
+use Rattle.iso_isolation.specs.Events.{Event, Enter, Step, Leave, Shut, where_some, open_or_barred, stands_in, frames_of, frames_left, ended_well, stepping, opening_left, barring, leaving, after}
+use Rattle.iso_isolation.specs.Restoring.{finishing}
 use Rattle.iso_isolation.specs.Refusals as Why
 use Rattle.iso_isolation.specs.Refusals.{Refused, refuse, first_of, refusal, body_of}
 use Rattle.iso_isolation.specs.Runs.{is_accepted, is_run, after_all_of, with_steps, steps_left, steps_needed, full}

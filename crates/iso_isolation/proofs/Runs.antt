@@ -5,7 +5,8 @@ use Rattle.iso_isolation.specs.Suites.{Suite, chain, SuiteLaws}
 use Rattle.iso_isolation.specs.Alone.{closed}
 use Rattle.iso_isolation.specs.States as S
 use Rattle.iso_isolation.specs.States.{Status, Nodes, State, is_open, is_closing, is_finished, is_held, body_in, frames_in, first}
-use Rattle.iso_isolation.specs.Events.{Event, Enter, Step, Leave, Shut, where_some, open_or_barred, frames_left, ended_well, stepping, finishing, opening_left, barring, leaving, after}
+use Rattle.iso_isolation.specs.Events.{Event, Enter, Step, Leave, Shut, where_some, open_or_barred, frames_left, ended_well, stepping, opening_left, barring, leaving, after}
+use Rattle.iso_isolation.specs.Restoring.{finishing}
 use Rattle.iso_isolation.specs.Runs.{is_accepted, is_run, after_all_of}
 use Rattle.iso_isolation.proofs.Accepted.{enter_told, step_told, leave_told, shut_told, MayShut}
 use Rattle.iso_isolation.proofs.Changes.{true_or_false, put_here}

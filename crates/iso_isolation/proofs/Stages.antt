@@ -5,7 +5,8 @@ use Rattle.iso_isolation.specs.Languages.{Language, BodyLaws}
 use Rattle.iso_isolation.specs.Suites.{Suite, chain, SuiteLaws}
 use Rattle.iso_isolation.specs.States as S
 use Rattle.iso_isolation.specs.States.{Status, Nodes, State, put, is_waiting, body_in, with_body, result_in, first}
-use Rattle.iso_isolation.specs.Events.{Event, Enter, Step, Leave, Shut, where_some, open_or_barred, stands_in, frames_left, ended_well, stepping, opening_left, barring, finishing, leaving, after}
+use Rattle.iso_isolation.specs.Events.{Event, Enter, Step, Leave, Shut, where_some, open_or_barred, stands_in, frames_left, ended_well, stepping, opening_left, barring, leaving, after}
+use Rattle.iso_isolation.specs.Restoring.{finishing}
 use Rattle.iso_isolation.specs.Runs.{is_accepted, is_run, after_all_of, history_of, result_of}
 use Rattle.iso_isolation.specs.Histories.{SameHistory}
 use Rattle.iso_isolation.proofs.Changes.{equal_or_not, unmoved}

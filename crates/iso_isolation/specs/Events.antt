@@ -7,7 +7,8 @@ use Rattle.std.specs.Prelude.{ℕ, Bool, true, false, cond, eqb, ◌&&◌, List,
 use Rattle.iso_isolation.specs.Languages.{Language}
 use Rattle.iso_isolation.specs.Suites.{Suite, chain, may_write}
 use Rattle.iso_isolation.specs.Alone.{restricted}
-use Rattle.iso_isolation.specs.States.{Status, Waiting, Begun, Open, Barred, Closing, Finished, Nodes, State, nothing, put, is_waiting, body_in, with_body, frames_in}
+use Rattle.iso_isolation.specs.Restoring.{finishing}
+use Rattle.iso_isolation.specs.States.{Status, Waiting, Begun, Open, Barred, Closing, Finished, Nodes, State, put, is_waiting, body_in, with_body, frames_in}
 
 -- worker w enters node n; makes one step of its body; books its ended body; begins the closing of
 -- class n
@@ -59,15 +60,6 @@ module _ {H K V B F R : Type 0} (l : Language H K V B F R) (x : Suite H K V) whe
         saved = s.saved;
       }
 
-  -- Leave of a test or of an `after_all`: the keys that the node may change stand again as at its
-  -- Enter
-  abbrev pub finishing : ℕ → R → Nodes K V B F R → Nodes K V B F R
-  finishing n r s = record {
-    flat = λ k. cond (may_write l x n k) (s.saved n k) (s.flat k);
-    status = put n (Finished r) s.status;
-    saved = put n nothing s.saved;
-  }
-
   -- the frames that an ended `before_all` leaves
   abbrev pub frames_left : ℕ → B → Nodes K V B F R → List F
   frames_left n b s = let fs = frames_of (s.status (x.parent n)) in l.frame fs b ∷ fs
@@ -94,10 +86,10 @@ module _ {H K V B F R : Type 0} (l : Language H K V B F R) (x : Suite H K V) whe
 
   abbrev pub leaving : ℕ → Nodes K V B F R → Status B F R → Nodes K V B F R
   leaving n s (Begun b) =
-      cond (l.is_test (x.head n)) (finishing n (l.test_result b) s)
+      cond (l.is_test (x.head n)) (finishing l x n (l.test_result b) s)
       (cond (ended_well n b s) (opening_left n b s)
       (barring n (frames_left n b s) (opening_left n b s)))
-  leaving n s (Closing fs b) = finishing n (l.class_result fs b) s
+  leaving n s (Closing fs b) = finishing l x n (l.class_result fs b) s
   leaving n s Waiting = s
   leaving n s (Open fs) = s
   leaving n s (Barred fs) = s

@@ -10,7 +10,7 @@ use Rattle.iso_junit.specs.Tallies.{is_error, is_fail, tally}
 use Rattle.iso_model.specs.declared.outcome.Verdict.{Verdict}
 use Rattle.iso_model.specs.declared.outcome.Verdict.TheVariants.{Pass, Fail, Fault, Skipped, Blocked}
 use Rattle.iso_plan.specs.Paths.{IsTree, is_class_or_test, is_root, is_test, row_at}
-use Rattle.iso_plan.specs.Selections.{those_below}
+use Rattle.iso_plan.specs.KeptNodes.{those_below}
 use Rattle.iso_plan.specs.Tree.{Kind, root, class_node, test_node, Row}
 
 -- those of some numbers that pass a second test pass both

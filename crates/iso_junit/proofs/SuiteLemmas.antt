@@ -4,7 +4,7 @@ use Rattle.std.proofs.lemmas.List.Concat.{flat_map-append}
 use Rattle.std.proofs.lemmas.List.Elements.{filter_more}
 use Rattle.iso_plan.proofs.NumberLemmas.{number-small, those-next, those-skip}
 use Rattle.iso_plan.specs.Paths.{IsTree, children, children_below, is_root, parent}
-use Rattle.iso_plan.specs.Selections.{those_below}
+use Rattle.iso_plan.specs.KeptNodes.{those_below}
 use Rattle.iso_plan.specs.Tree.{Row}
 use Rattle.iso_junit.proofs.TallyLemmas.{few, tally-push, tally-small}
 use Rattle.iso_junit.specs.Cases.{cases, failed_itself, is_a_test, is_case}

@@ -9,7 +9,7 @@ use Rattle.iso_failures.specs.Counting.{how_many}
 use Rattle.iso_model.specs.declared.outcome.Verdict.{Verdict}
 use Rattle.iso_plan.proofs.NumberLemmas.{number-le, number-next, those-agree}
 use Rattle.iso_plan.specs.Paths.{IsTree, children, children_below, is_root, is_test, parent}
-use Rattle.iso_plan.specs.Selections.{those_below}
+use Rattle.iso_plan.specs.KeptNodes.{those_below}
 use Rattle.iso_plan.specs.Tree.{Row}
 use Rattle.iso_junit.proofs.CountLemmas.{filter-those}
 use Rattle.iso_junit.specs.Cases.{all_cases, cases, failed_itself, is_a_test, is_case, is_suite, suites}

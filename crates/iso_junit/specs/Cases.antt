@@ -8,7 +8,7 @@
 use Rattle.std.specs.Prelude.{ℕ, List, [], ◌∷◌, ◌++◌, Bool, ◌&&◌, ◌||◌, ◌==◌, filter, length, not}
 use Rattle.iso_failures.specs.Nodes.{has_failed}
 use Rattle.iso_plan.specs.Paths.{children, is_root, is_test, row_at}
-use Rattle.iso_plan.specs.Selections.{those_below}
+use Rattle.iso_plan.specs.KeptNodes.{those_below}
 use Rattle.iso_junit.specs.Runs.{RunView}
 
 -- whether a node is a test, and whether its own blocks failed

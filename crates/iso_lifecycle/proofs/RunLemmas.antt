@@ -9,8 +9,8 @@ use Rattle.iso_interp.specs.declared.run.BlockRun.{BlockRun}
 use Rattle.iso_interp.specs.declared.run.Progress.TheVariants.{More}
 use Rattle.iso_lifecycle.specs.BodyRuns.{account_in_run, settled_with, stage_of}
 use Rattle.iso_lifecycle.specs.declared.body_run.BodyRun.{BodyRun}
-use Rattle.iso_lifecycle.specs.Works.{HaveRights, account_in, beside_in, jobs_left, stage_with}
-use Rattle.iso_lifecycle.specs.declared.work.Rest.{Rest}
+use Rattle.iso_lifecycle.specs.DueBlocks.{HaveRights, account_in, beside_in, jobs_left, stage_with}
+use Rattle.iso_lifecycle.specs.declared.due_blocks.Rest.{Rest}
 use Rattle.iso_lifecycle.proofs.Following.{goes-on}
 use Rattle.iso_lifecycle.specs.Origins.{HasCome, done_whole}
 use Rattle.iso_lifecycle.specs.Subjects.{Subject}

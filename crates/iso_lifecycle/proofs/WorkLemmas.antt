@@ -16,9 +16,9 @@ use Rattle.iso_interp.specs.declared.run.BlockRun.{BlockRun}
 use Rattle.iso_lifecycle.specs.BodyRuns.{settled_with}
 use Rattle.iso_lifecycle.specs.Heads.{heads_in}
 use Rattle.iso_lifecycle.specs.JobPlaces.{IsPlaced, job_after, job_at, jobs_from}
-use Rattle.iso_lifecycle.specs.Works.{HaveRights, SameChain, account_in, begun_with, beside_in, jobs_left}
+use Rattle.iso_lifecycle.specs.DueBlocks.{HaveRights, SameChain, account_in, begun_with, beside_in, jobs_left}
 use Rattle.iso_lifecycle.specs.declared.job.Job.{Job}
-use Rattle.iso_lifecycle.specs.declared.work.Rest.{Rest}
+use Rattle.iso_lifecycle.specs.declared.due_blocks.Rest.{Rest}
 use Rattle.iso_lifecycle.proofs.Following.{passes}
 use Rattle.iso_lifecycle.proofs.JobLemmas.{jobs-after}
 

@@ -4,10 +4,10 @@ use Rattle.iso_model.specs.Bodies.{Account, Stage, ended, stage_at, stage_from}
 use Rattle.iso_model.specs.Rights.{Rights, access_in}
 use Rattle.iso_interp.specs.Runs.{local_of, names_before, pieces_of}
 use Rattle.iso_interp.specs.declared.run.BlockRun.{BlockRun}
-use Rattle.iso_lifecycle.specs.Works.{account_in, beside_in, jobs_left, stage_with}
+use Rattle.iso_lifecycle.specs.DueBlocks.{account_in, beside_in, jobs_left, stage_with}
 use Rattle.iso_lifecycle.specs.declared.body_run.BodyEnd.{BodyEnd}
 use Rattle.iso_lifecycle.specs.declared.body_run.BodyRun.{BodyRun}
-use Rattle.iso_lifecycle.specs.declared.work.Rest.{Rest}
+use Rattle.iso_lifecycle.specs.declared.due_blocks.Rest.{Rest}
 
 -- the point of the body
 abbrev pub stage_of : BodyRun → Stage

@@ -3,7 +3,7 @@
 --
 -- where a body's run stands: The jobs from a place of the class chain on (`jobs_from`), and the
 -- point of the body (`stage_of`).
--- Also in: `Works`, `BodyRuns`.
+-- Also in: `DueBlocks`, `BodyRuns`.
 use Rattle.std.specs.Prelude.{ℕ, zero, suc, ◌+◌, ◌<◌, List, [], ◌∷◌, ◌++◌, take, drop, reverse, slice_index_or, Option, Some, None, true, cond, nat_lt}
 use Rattle.std.specs.Coded.{Unit-prop, le_prop}
 use Rattle.iso_model.specs.Chains.{ClassHead, empty_head}

@@ -2,6 +2,7 @@ pub mod BodyRuns
 pub mod BodyViews
 pub mod Combining
 pub mod DoneViews
+pub mod DueBlocks
 pub mod Ends
 pub mod Entries
 pub mod Heads
@@ -12,4 +13,3 @@ pub mod ResultExamples
 pub mod ResultViews
 pub mod Subjects
 pub mod WholeBodies
-pub mod Works

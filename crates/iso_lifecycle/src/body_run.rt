@@ -8,10 +8,10 @@ ghost use Rattle.iso_model.specs.Rights.{access_in};
 ghost use Rattle.iso_model.specs.ScriptView.{test_head_of};
 ghost use Rattle.iso_model.specs.SyntaxView.{block_of};
 ghost use Rattle.iso_model.specs.Touch.{HasKeys};
-ghost use Rattle.iso_lifecycle.specs.Works.{HaveRights, HaveRights-prop};
+ghost use Rattle.iso_lifecycle.specs.DueBlocks.{HaveRights, HaveRights-prop};
 
+use crate::due_blocks::Rest;
 use crate::job::Job;
-use crate::work::Rest;
 use iso_interp::block::Block;
 use iso_interp::run::{BlockRun, Progress};
 use iso_model::bindings::Bindings;

@@ -1,19 +1,19 @@
 //! The results of a run.
 ghost use Rattle.std.specs.Prelude.{◌≡◌, ◌<◌, ◌≤◌, [], ℕ, IfOk, IfSome, OnErr, OnOk, cond, is_some, None, Some, false, length, map, option_copied, replicate, reverse, slice_set, true, vec_capacity};
 ghost use Rattle.std.specs.Option.{option_map};
-ghost use Rattle.iso_model.specs.Verdicts.{barred_verdict};
 ghost use Rattle.iso_lifecycle.specs.Ends.{IsOpening};
 ghost use Rattle.iso_lifecycle.specs.declared.entry.Entry.TheVariants.{Empty};
 ghost use Rattle.iso_plan.specs.Paths.{path};
 ghost use Rattle.iso_plan.specs.RowView.{tree_of};
-ghost use Rattle.iso_lifecycle.specs.ResultViews.{AreOpened, CanPut, is_barred, is_barring, is_opened, no_results, outcome_in, outcome_of_view, result_in, with_done};
+ghost use Rattle.iso_lifecycle.specs.ResultViews.{AreOpened, CanPut, is_opened, no_results, outcome_of_view, result_in, with_done};
 ghost use Rattle.iso_lifecycle.specs.Subjects.{subject};
+
+mod barred;
 
 use crate::done::{Done, Opened};
 use crate::entry::Entry;
 use crate::frame::Frame;
 use crate::view::View;
-use iso_model::outcome::Ending;
 use iso_plan::laws::nodes_are_a_tree;
 use iso_plan::plan::Plan;
 use iso_settings::world::World;
@@ -96,47 +96,6 @@ impl<'a> Results<'a> {
                 let opened = self.barred_by(node)?;
                 Some(View::barred(&opened.ending))
             }
-        }
-    }
-
-    /// What bars a node: the `before_all` of an enclosing class, where that was put and
-    /// didn't end well.
-    fn barred_by(&self, node: u32) -> Option<&Opened>
-        requires { node < length self.now.plan.rows }
-        ensures barred { is_some result ≡ is_barred self.now node }
-        ensures outcome { IfSome result (λ o. outcome_in self.now node
-            ≡ record { verdict = barred_verdict o.now.ending; output = [] }) }
-    {
-        nodes_are_a_tree(self.plan);
-        let mut at = node;
-        'up: while let Some(class) = self.plan.parent(at) {
-            if let Some(opened) = self.barring(class) {
-                return Some(opened);
-            }
-            at = class;
-        }
-        None
-    }
-
-    /// Whether the `before_all` of a class was put and didn't end well. Takes no memory.
-    pub fn bars(&self, node: u32) -> bool
-        requires { node < length self.now.plan.rows }
-        ensures { result ≡ is_barring self.now node }
-    {
-        self.barring(node).is_some()
-    }
-
-    /// The `before_all` of a class, where it was put and didn't end well.
-    fn barring(&self, node: u32) -> Option<&Opened>
-        requires { node < length self.now.plan.rows }
-        ensures barring { is_some result ≡ is_barring self.now node }
-        ensures opening { IfSome result
-            (λ o. IsOpening (subject self.now.plan self.now.start node) o.now) }
-    {
-        let opened = self.opened(node)?;
-        match &opened.ending {
-            Ending::Well => None,
-            Ending::Fail(_) | Ending::Fault(_, _) | Ending::Assumed(_) => Some(opened),
         }
     }
 

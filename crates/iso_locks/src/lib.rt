@@ -6,7 +6,6 @@ pub mod laws;
 mod lent;
 mod lockers;
 mod moves;
-pub mod savepoint;
 mod slots;
 mod starting;
 pub mod tray;

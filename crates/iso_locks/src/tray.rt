@@ -18,7 +18,6 @@ ghost use Rattle.iso_plan.specs.RowView.{tree_of};
 
 use crate::lent::LentNodes;
 use crate::moves::move_values;
-use crate::savepoint::Savepoint;
 use crate::slots::Slots;
 use crate::starting::{Starting, starts_of};
 use crate::vault::values;
@@ -82,6 +81,40 @@ impl<'a> Model for Tray<'a> {
 
     ghost invariant = { λ t. IsTray t.plan.now t.world.now t.flat t.lent t.values t.starts.items
         (vec_capacity t.frames) (vec_capacity t.spare) t.spare.items };
+}
+
+/// What a node's rights let it change, as it stood at one moment, to which a tray can go back.
+/// Contracts see the values as they were, by the numbers of their keys.
+#[derive(Drop)]
+pub struct Savepoint {
+    node: u32,
+    values: Vec<Option<held::Savepoint>>,
+}
+
+impl Model for Savepoint {
+    ghost use Rattle.iso_locks.specs.Trays.{SavepointView, savepoint_code};
+
+    ghost Value = { SavepointView };
+
+    ghost coded = { savepoint_code };
+
+    ghost view = { λ m. record { node = m.node; values = m.values.items } };
+}
+
+impl Savepoint {
+    /// These values of a node, by key number.
+    fn new(node: u32, values: Vec<Option<held::Savepoint>>) -> Savepoint
+        ensures { result ≡ record { node = node; values = values.items } }
+    {
+        Savepoint { node, values }
+    }
+
+    /// The values, by key number. Takes no memory.
+    fn into_values(self) -> Vec<Option<held::Savepoint>>
+        ensures { result.items ≡ self.values }
+    {
+        self.values
+    }
 }
 
 impl<'a> Tray<'a> {

@@ -1,5 +1,5 @@
--- Agreement of chains: two tests, or two classes, of equal chains on starts that are equal at the keys of
--- their rights.
+-- Agreement of chains: two tests, or two classes, of equal chains on starts that are equal at the
+-- keys of their rights.
 --
 -- agreement: Two tests, or two classes, agree where their chains are equal and their starts are
 -- equal at the keys of the chain's rights (`TestsAgree`, `ClassesAgree`).

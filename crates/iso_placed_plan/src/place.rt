@@ -2,7 +2,7 @@
 ghost use Rattle.std.specs.Prelude.{◌≡◌};
 ghost use Rattle.iso_places.specs.Sites.{site_at};
 ghost use Rattle.iso_placed_plan.specs.PlacedPlan.{place_field, place_text, script_name};
-ghost use Rattle.iso_plan.specs.Selections.{texts_of};
+ghost use Rattle.iso_plan.specs.KeptNodes.{texts_of};
 ghost use Rattle.iso_tap.specs.Printers.{Prints};
 
 use iso_places::site::{Site, Sites};

@@ -2,7 +2,7 @@
 ghost use Rattle.std.specs.Prelude.{◌≡◌, ◌<◌, ◌-◌, length};
 ghost use Rattle.iso_placed_plan.specs.PlacedPlan.{each_node, placed_line, placed_plan_text, placed_test_line, placed_tests_text};
 ghost use Rattle.iso_plan.specs.RowView.{tree_of};
-ghost use Rattle.iso_plan.specs.Selections.{texts_of};
+ghost use Rattle.iso_plan.specs.KeptNodes.{texts_of};
 ghost use Rattle.iso_tap.specs.Printers.{Prints, Writes};
 
 use crate::place::place_field;

@@ -15,7 +15,7 @@ use Rattle.iso_plan.proofs.NumberLemmas.{those-are}
 use Rattle.iso_plan.proofs.SelectionLemmas.{kept-closed, text-there}
 use Rattle.iso_plan.specs.Paths.{IsTree, row_at}
 use Rattle.iso_plan.specs.PathTexts.{path_text}
-use Rattle.iso_plan.specs.Selections.{is_kept_by, node_paths, number_among, renumbered, those_below, those_of}
+use Rattle.iso_plan.specs.KeptNodes.{is_kept_by, node_paths, number_among, renumbered, those_below, those_of}
 use Rattle.iso_plan.specs.Tree.{Row}
 
 some_site : (sites : List Site) (m : ℕ) → m < length sites → Site

@@ -16,7 +16,7 @@ use Rattle.iso_plan.proofs.ColumnLemmas.{length-column}
 use Rattle.iso_plan.specs.Paths.{column}
 use Rattle.iso_plan.specs.TopClasses.{all_paths}
 use Rattle.iso_plan.specs.PathTexts.{path_text}
-use Rattle.iso_plan.specs.Selections.{node_paths}
+use Rattle.iso_plan.specs.KeptNodes.{node_paths}
 use Rattle.iso_plan.specs.Tree.{Row, tree}
 use Rattle.iso_script.specs.declared.place.NodePlace.{NodePlace}
 

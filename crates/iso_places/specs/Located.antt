@@ -19,7 +19,7 @@ use Rattle.iso_places.specs.declared.fault.LocateError.TheVariants.{NoPlace, Out
 use Rattle.iso_places.specs.declared.site.Site.{Site}
 use Rattle.iso_plan.specs.Faults.{scripts_fault, PlanError}
 use Rattle.iso_plan.specs.PathTexts.{path_text}
-use Rattle.iso_plan.specs.Selections.{node_paths}
+use Rattle.iso_plan.specs.KeptNodes.{node_paths}
 use Rattle.iso_plan.specs.Tree.{Row, tree}
 use Rattle.iso_model.specs.declared.input_error.InputError.TheVariants as P
 use Rattle.iso_script.specs.Grammar.{ReadsPlaced}

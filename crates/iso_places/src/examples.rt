@@ -12,7 +12,7 @@ ghost use Rattle.iso_places.specs.Sites.{all_sites, site_at, site_in};
 ghost use Rattle.iso_places.specs.SourceLines.{source_line};
 ghost use Rattle.iso_plan.specs.Examples.{cart_and_desk};
 ghost use Rattle.iso_plan.specs.PathTexts.{path_text};
-ghost use Rattle.iso_plan.specs.Selections.{selection};
+ghost use Rattle.iso_plan.specs.KeptNodes.{selection};
 ghost use Rattle.iso_script.specs.Examples.{class_at, test_at};
 
 /// Lines count from 1 and end with LF or CR LF. What isn't there is empty.

@@ -5,7 +5,7 @@ ghost use Rattle.iso_places.specs.Located.{HasStranger, WereRead, site_by_path};
 ghost use Rattle.iso_places.specs.Sites.{all_sites, site_at};
 ghost use Rattle.iso_places.specs.declared.site.Site.{Site};
 ghost use Rattle.iso_plan.specs.PathTexts.{path_text};
-ghost use Rattle.iso_plan.specs.Selections.{is_kept_by, those_of};
+ghost use Rattle.iso_plan.specs.KeptNodes.{is_kept_by, those_of};
 ghost use Rattle.iso_plan.specs.Tree.{tree};
 ghost use Rattle.iso_script.specs.declared.place.NodePlace.{NodePlace};
 

@@ -22,7 +22,7 @@ use Rattle.iso_plan.specs.Faults.{keys_fault, nodes_fault, plan_fault, scripts_f
 use Rattle.iso_plan.specs.KeyTable.{keys, mark_keys, marked_keys}
 use Rattle.iso_plan.specs.Merged.{all_merged, as_one, is_same_key, merged, most_marks, with_all_marks, with_any_mark, with_mark, with_marks}
 use Rattle.iso_plan.specs.Paths.{row_at}
-use Rattle.iso_plan.specs.Selections.{is_kept_by, plan_tree, renumbered, selection, those_below}
+use Rattle.iso_plan.specs.KeptNodes.{is_kept_by, plan_tree, renumbered, selection, those_below}
 use Rattle.iso_plan.specs.declared.fault.PlanFault.{PlanFault}
 use Rattle.iso_plan.specs.declared.fault.PlanFault.TheVariants.{TooManyKeys}
 use Rattle.iso_plan.specs.Tree.{Row, class_rows, effective_row, member_rows, members_rows, script_rows, team_rows, top_rows, tree, written_tree}

@@ -10,7 +10,7 @@ use Rattle.iso_plan.proofs.SoFar.{numbers_more}
 use Rattle.iso_plan.proofs.PathLemmas.{IsBelow, eq_from, eq_same, not-root, path-root, path-step}
 use Rattle.iso_plan.specs.Paths.{is_on, is_root, is_under, parent, path}
 use Rattle.iso_plan.specs.PathTexts.{path_text}
-use Rattle.iso_plan.specs.Selections.{is_chosen, is_named, texts_of}
+use Rattle.iso_plan.specs.KeptNodes.{is_chosen, is_named, texts_of}
 use Rattle.iso_plan.specs.Tree.{Row}
 
 pub chosen-root : (tree : List Row) (only : List (List ℕ)) → is_chosen tree only 0 ≡ false

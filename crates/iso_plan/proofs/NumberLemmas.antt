@@ -2,7 +2,7 @@
 use Rattle.std.proofs.Common.{◌≡◌, ℕ, zero, suc, ◌+◌, ◌<◌, ◌≤◌, List, [], ◌∷◌, ◌++◌, length, drop, map, get_or, Bool, true, false, nat_lt, cond, refl, sym, ap, ap₂, ◌∙◌, arith, add-one}
 use Rattle.std.proofs.lemmas.Bool.Decides.{nat_tests}
 use Rattle.std.proofs.lemmas.List.{drop_more, length-append, get_or_append_left, get_or_push, map_push}
-use Rattle.iso_plan.specs.Selections.{those_below, number_among}
+use Rattle.iso_plan.specs.KeptNodes.{those_below, number_among}
 
 -- a number with its place
 pub record IsAmong (passes : ℕ → Bool) (most i n : ℕ) : Type 0 where

@@ -8,7 +8,7 @@ use Rattle.iso_plan.proofs.SelectionLemmas.{AreClosed, WasNode, kept-closed, par
 use Rattle.iso_plan.proofs.TreeLemmas.{effective-at, tree-is, written-placed}
 use Rattle.iso_plan.specs.Paths.{IsTree, parent, row_at}
 use Rattle.iso_plan.specs.Preorder.{IsPreorder}
-use Rattle.iso_plan.specs.Selections.{is_kept_by, number_among, plan_tree, selection, those_of}
+use Rattle.iso_plan.specs.KeptNodes.{is_kept_by, number_among, plan_tree, selection, those_of}
 use Rattle.iso_plan.specs.Tree.{Row, root_row, test_row, class_row, top_row, member_rows, members_rows, class_rows, top_rows, team_rows, script_rows, effective_row, tree, written_tree}
 
 -- a fact of two cases: one number is less than another, or isn't

@@ -11,7 +11,7 @@ use Rattle.iso_plan.proofs.SelectionLemmas.{AreClosed, closed-below, row-left, s
 use Rattle.iso_plan.proofs.TreeLemmas.{effective-at, tree-is, written-placed}
 use Rattle.iso_plan.specs.Paths.{IsRooted, IsTree, StandEarlier, column, is_on, is_root, outermost, parent, path, row_at}
 use Rattle.iso_plan.specs.PathTexts.{path_text}
-use Rattle.iso_plan.specs.Selections.{first_unknown, is_kept_by, number_among, renumbered, selection, those_below, those_of}
+use Rattle.iso_plan.specs.KeptNodes.{first_unknown, is_kept_by, number_among, renumbered, selection, those_below, those_of}
 use Rattle.iso_plan.specs.TopClasses.{all_paths, all_top_classes}
 use Rattle.iso_plan.specs.Tree.{Row, effective_row, tree, with_marks, written_tree}
 

@@ -15,7 +15,7 @@ use Rattle.iso_plan.specs.NodeChains.{chain_classes, class_heads, own_test, righ
 use Rattle.iso_plan.specs.Paths.{IsRooted, IsTree, is_class_or_test, is_root, is_test, is_under, nodes_under, parent, path, row_at}
 use Rattle.iso_plan.specs.PathTexts.{path_text}
 use Rattle.iso_plan.specs.SameNodes.{IsSameNode}
-use Rattle.iso_plan.specs.Selections.{is_chosen, is_kept, is_kept_by, number_among, renumbered, selection, those_below, those_of}
+use Rattle.iso_plan.specs.KeptNodes.{is_chosen, is_kept, is_kept_by, number_among, renumbered, selection, those_below, those_of}
 use Rattle.iso_plan.specs.Tree.{Kind, Row, root_row}
 
 or-true : (b : Bool) → (b || true) ≡ true

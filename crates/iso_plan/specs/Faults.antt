@@ -10,7 +10,7 @@ use Rattle.std.specs.Str.{bytes_eq}
 use Rattle.iso_model.specs.Scripts.{Class, class, Script}
 use Rattle.iso_model.specs.declared.limits.TheConstants.{SCRIPTS, NODES, KEYS}
 use Rattle.iso_plan.specs.KeyTable.{keys}
-use Rattle.iso_plan.specs.Selections.{first_unknown, plan_tree}
+use Rattle.iso_plan.specs.KeptNodes.{first_unknown, plan_tree}
 use Rattle.iso_plan.specs.Tree.{Row, in_team, tree}
 use Rattle.iso_plan.specs.declared.fault.PlanFault.{PlanFault}
 use Rattle.iso_plan.specs.declared.fault.PlanFault.TheVariants.{DoubleClass, NotSelected, TooManyNodes, TooManyKeys, TooManyScripts}

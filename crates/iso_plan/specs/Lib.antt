@@ -6,6 +6,7 @@ pub mod Examples
 pub mod Faults
 pub mod HeldNodes
 pub mod IsPlan
+pub mod KeptNodes
 pub mod KeyNumbers
 pub mod KeyTable
 pub mod Locks
@@ -19,7 +20,6 @@ pub mod Preorder
 pub mod Rising
 pub mod RowView
 pub mod SameNodes
-pub mod Selections
 pub mod Tables
 pub mod TopClasses
 pub mod Tree

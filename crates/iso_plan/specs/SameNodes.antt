@@ -6,7 +6,7 @@ use Rattle.std.specs.Prelude.{◌≡◌, ℕ, ◌<◌, List, true, length}
 use Rattle.iso_plan.specs.NodeChains.{chain_classes, chain_test, node_rights}
 use Rattle.iso_plan.specs.PathTexts.{path_text}
 use Rattle.iso_plan.specs.Planned.{Planned}
-use Rattle.iso_plan.specs.Selections.{is_kept, number_among}
+use Rattle.iso_plan.specs.KeptNodes.{is_kept, number_among}
 use Rattle.iso_plan.specs.Tree.{Row}
 
 -- node m of the first tree and node n of the second have one path and one class chain

@@ -8,11 +8,12 @@ ghost use Rattle.iso_plan.specs.Paths.{IsTree};
 ghost use Rattle.iso_plan.specs.RowView.{nodes_in};
 
 use crate::chains::chains;
-use crate::children::children;
+use crate::child_lists::children;
 use crate::fault::PlanError;
+use crate::isolated::isolated;
 use crate::keys::{copied, number_keys, numbers};
 use crate::lock::Lock;
-use crate::locking::{isolated, locking_nodes};
+use crate::locking::locking_nodes;
 use crate::locks::locks;
 use crate::modes::modes;
 use crate::rights::rights;

@@ -15,7 +15,7 @@ ghost use Rattle.iso_plan.specs.Modes.{mode};
 ghost use Rattle.iso_plan.specs.NodeChains.{node_rights};
 ghost use Rattle.iso_plan.specs.Paths.{children, path, row_at};
 ghost use Rattle.iso_plan.specs.PathTexts.{found, path_text};
-ghost use Rattle.iso_plan.specs.Selections.{first_unknown, is_kept, selection, those_below};
+ghost use Rattle.iso_plan.specs.KeptNodes.{first_unknown, is_kept, selection, those_below};
 ghost use Rattle.iso_plan.specs.TopClasses.{all_top_classes};
 
 /// Nodes are numbered in preorder, and a path leads up to the root, innermost first.

@@ -20,7 +20,7 @@ ghost use Rattle.iso_plan.specs.Paths.{IsTree, children, is_test, is_top, is_und
 ghost use Rattle.iso_plan.specs.Preorder.{IsPreorder};
 ghost use Rattle.iso_plan.specs.RowView.{tree_of};
 ghost use Rattle.iso_plan.specs.SameNodes.{IsSameNode};
-ghost use Rattle.iso_plan.specs.Selections.{is_kept, number_among, plan_tree, selection, texts_of};
+ghost use Rattle.iso_plan.specs.KeptNodes.{is_kept, number_among, plan_tree, selection, texts_of};
 ghost use Rattle.iso_plan.specs.Tree.{Row};
 ghost use Rattle.iso_plan.specs.WrittenMarks.{AreWritten, tree_with};
 

@@ -2,13 +2,15 @@
 #![tactic(auto)]
 
 mod chains;
-mod children;
+mod child_lists;
+mod children_marks;
 mod columns;
 pub mod conflict;
-mod effective;
 pub mod examples;
 pub mod fault;
 pub mod held_nodes;
+mod isolated;
+mod kept_nodes;
 mod keys;
 pub mod laws;
 pub mod lock;
@@ -25,5 +27,4 @@ pub mod plan;
 mod rights;
 pub mod row;
 mod same;
-mod selection;
 mod tree;

@@ -4,13 +4,13 @@ ghost use Rattle.iso_model.specs.ScriptView.{script_of};
 ghost use Rattle.iso_model.specs.declared.limits.TheConstants.{NODES};
 ghost use Rattle.iso_plan.specs.Faults.{IsFaultOf, IsFull, nodes_fault};
 ghost use Rattle.iso_plan.specs.RowView.{nodes_in};
-ghost use Rattle.iso_plan.specs.Selections.{plan_tree, texts_of};
+ghost use Rattle.iso_plan.specs.KeptNodes.{plan_tree, texts_of};
 ghost use Rattle.iso_plan.specs.Tree.{tree};
 
-use crate::effective::make_effective;
+use crate::children_marks::make_effective;
 use crate::fault::{PlanError, PlanFault};
+use crate::kept_nodes::selection;
 use crate::row::Row;
-use crate::selection::selection;
 use crate::tree::written_tree;
 use iso_model::limits::NODES;
 use iso_model::script::Script;

@@ -18,7 +18,7 @@ ghost use Rattle.iso_plan.specs.PathTexts.{found};
 ghost use Rattle.iso_plan.specs.Preorder.{IsPreorder};
 ghost use Rattle.iso_plan.specs.RowView.{nodes_in, tree_of};
 ghost use Rattle.iso_plan.specs.SameNodes.{KeepsChains};
-ghost use Rattle.iso_plan.specs.Selections.{plan_tree, texts_of};
+ghost use Rattle.iso_plan.specs.KeptNodes.{plan_tree, texts_of};
 ghost use Rattle.iso_plan.specs.Tree.{tree};
 
 use crate::columns::{chain_all, key_all};
@@ -74,7 +74,8 @@ impl Model for Plan {
 
     ghost view = { λ p. record { rows = nodes_in p.rows.items; settings = p.settings } };
 
-    ghost invariant = { λ p. IsPlan (nodes_in p.rows.items) p.settings (map (λ c. c.items) p.children.items)
+    ghost invariant = { λ p. IsPlan (nodes_in p.rows.items) p.settings
+        (map (λ c. c.items) p.children.items)
         (map (λ c. innermost_first c.items) p.chains.items)
         (map access_in p.rights.items) p.keys.items p.numbers
         p.locking.items (map (λ l. l.items) p.locks.items) p.modes.items };

@@ -6,7 +6,8 @@ use Rattle.iso_isolation.specs.Languages.{Language}
 use Rattle.iso_isolation.specs.Suites.{Suite, SuiteLaws}
 use Rattle.iso_isolation.specs.States as S
 use Rattle.iso_isolation.specs.States.{Status, Nodes, put, is_waiting, is_at_rest, body_in}
-use Rattle.iso_isolation.specs.Events.{is_in, stands_in, open_or_barred, frames_left, ended_well, finishing, opening_left, barring, leaving}
+use Rattle.iso_isolation.specs.Events.{is_in, stands_in, open_or_barred, frames_left, ended_well, opening_left, barring, leaving}
+use Rattle.iso_isolation.specs.Restoring.{finishing}
 use Rattle.iso_isolation.proofs.Changes.{equal_or_not, true_or_false, put_elsewhere, on_put}
 use Rattle.iso_isolation.proofs.Fresh.{left_no_body, unbarred}
 use Rattle.iso_progress.specs.ProgressLaws.{ProgressLaws}

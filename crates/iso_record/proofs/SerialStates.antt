@@ -4,7 +4,8 @@ use Rattle.iso_isolation.proofs.Accepted.{HasBody}
 use Rattle.iso_isolation.proofs.Changes.{put_elsewhere, put_here, unmoved}
 use Rattle.iso_isolation.proofs.Statuses.{body_unseen}
 use Rattle.iso_isolation.specs.Events as E
-use Rattle.iso_isolation.specs.Events.{after, barring, ended_well, finishing, frames_left, is_in, leaving, open_or_barred, opening_left, stands_in, stepping, where_some}
+use Rattle.iso_isolation.specs.Events.{after, barring, ended_well, frames_left, is_in, leaving, open_or_barred, opening_left, stands_in, stepping, where_some}
+use Rattle.iso_isolation.specs.Restoring.{finishing}
 use Rattle.iso_isolation.specs.Runs.{after_all_of, is_run}
 use Rattle.iso_isolation.specs.States as S
 use Rattle.iso_isolation.specs.States.{body_in, is_finished, is_held, is_open, is_waiting, put, with_body}

@@ -7,7 +7,7 @@ use Rattle.iso_arguments.specs.declared.request.InputFiles.{InputFiles}
 use Rattle.iso_places.specs.declared.site.Site.{Site}
 use Rattle.iso_plan.specs.Planned.{Planned}
 use Rattle.iso_plan.specs.RowView.{tree_of}
-use Rattle.iso_plan.specs.Selections.{texts_of}
+use Rattle.iso_plan.specs.KeptNodes.{texts_of}
 use Rattle.iso_run.specs.Alterations.{AreBelow, IsAlteration, IsSideOf}
 use Rattle.iso_run.specs.Commands.{AreFor, IsComparedIn, IsStateOf, IsToldFor}
 use Rattle.iso_run.specs.Runs.{AreSitesOf}

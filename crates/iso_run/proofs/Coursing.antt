@@ -13,7 +13,7 @@ use Rattle.iso_model.specs.Scripts.{Script}
 use Rattle.iso_model.specs.declared.limits.TheConstants.{FILE_BYTES, NODES}
 use Rattle.iso_plan.specs.Faults.{full_fault, plan_fault}
 use Rattle.iso_plan.specs.Planned.{Planned}
-use Rattle.iso_plan.specs.Selections.{plan_tree, texts_of}
+use Rattle.iso_plan.specs.KeptNodes.{plan_tree, texts_of}
 use Rattle.iso_plan.specs.Tree.{Row}
 use Rattle.iso_plan.specs.declared.fault.PlanFault.{PlanFault}
 use Rattle.iso_plan.specs.declared.fault.PlanFault.TheVariants.{TooManyNodes}

@@ -20,7 +20,7 @@ use Rattle.iso_affected_text.specs.Changes.{ChangeView, SideView}
 use Rattle.iso_affected_text.specs.Texts.{affected_text, paths_text}
 use Rattle.iso_arguments.specs.declared.request.InputFiles.{InputFiles}
 use Rattle.iso_plan.specs.RowView.{tree_of}
-use Rattle.iso_plan.specs.Selections.{texts_of}
+use Rattle.iso_plan.specs.KeptNodes.{texts_of}
 use Rattle.iso_run.specs.Runs.{AreSitesOf}
 use Rattle.iso_run.specs.Suites.{IsSuite, Suite, planned, texts}
 use Rattle.iso_run.specs.declared.inputs.Inputs.{Inputs}

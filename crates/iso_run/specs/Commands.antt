@@ -32,7 +32,7 @@ use Rattle.iso_run.specs.declared.state.State.{State}
 use Rattle.iso_run.specs.ExitStatuses.{End, NamesFile, Whole, Refuses, Leaves, exit_status, run_end}
 use Rattle.iso_run.specs.Replays.{Cause}
 use Rattle.iso_places.specs.declared.site.Site.{Site}
-use Rattle.iso_plan.specs.Selections.{texts_of}
+use Rattle.iso_plan.specs.KeptNodes.{texts_of}
 use Rattle.iso_run.specs.Runs.{AreSitesOf, IsRead, IsWritten, Product, suite_conflicts, suite_places, suite_plan, suite_report, suite_tests, suite_why}
 use Rattle.iso_run.specs.Suites.{OfSuite, Suite, document, settings_from, suite_of, texts}
 use Rattle.iso_run.specs.declared.command.Printed.{Printed}
@@ -158,8 +158,8 @@ pub record IsListedFor (name : Option (Bor (List ℕ))) (asked : Option Processo
   pub document : document bytes ≡ Some members
   pub wrote : Wrote old new (listing_text (leaves members) settings processors)
 
--- A state that was read of inputs: their suite, with the bytes of its scripts, and the places of its
--- nodes in these.
+-- A state that was read of inputs: their suite, with the bytes of its scripts, and the places of
+-- its nodes in these.
 pub record IsStateOf (inputs : Inputs) (state : State) : Type 0 where
   pub suite : IsRead inputs true state.suite
   pub texts : map (λ v. v.items) state.bytes.scripts.items ≡ texts inputs.scripts.now

@@ -5,8 +5,8 @@
 -- with which exit status (`exit_status`), and what that leaves of the output (`Leaves`, `Answers`).
 use Rattle.std.specs.Borrow.{Bor}
 use Rattle.std.specs.Prelude.{◌≡◌, ◌≢◌, ◌⊎◌, ⊤, ℕ, List, [], ◌∷◌, Bool, cond, Option, None, Some, Result, Ok, Err}
-use Rattle.iso_arguments.specs.declared.request.WordsFault.{WordsFault}
-use Rattle.iso_arguments.specs.declared.request.WordsFault.TheVariants as W
+use Rattle.iso_arguments.specs.declared.wrong_words.WordsFault.{WordsFault}
+use Rattle.iso_arguments.specs.declared.wrong_words.WordsFault.TheVariants as W
 use Rattle.iso_run.specs.declared.command_fault.CommandFault.{CommandFault}
 use Rattle.iso_run.specs.declared.command_fault.CommandFault.TheVariants.{Words, Unreadable, TooLarge, NotListed, Unwritten, Unwritable, Uncounted, Told, Run, Explained}
 use Rattle.iso_run.specs.declared.fault.RunFault.{RunFault}

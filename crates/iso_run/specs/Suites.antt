@@ -14,10 +14,10 @@ use Rattle.iso_model.specs.Scripts.{Script}
 use Rattle.iso_model.specs.ScriptView.{script_of}
 use Rattle.iso_plan.specs.Faults.{plan_fault}
 use Rattle.iso_plan.specs.Planned.{Planned}
-use Rattle.iso_plan.specs.Selections.{plan_tree, texts_of}
+use Rattle.iso_plan.specs.KeptNodes.{plan_tree, texts_of}
 use Rattle.iso_plan.specs.Tree.{Row}
 use Rattle.iso_plan.specs.declared.fault.PlanFault.{PlanFault}
-use Rattle.iso_script.specs.Faults.{HasScriptFault}
+use Rattle.iso_script.specs.NoScript.{HasScriptFault}
 use Rattle.iso_script.specs.Grammar.{Reads}
 use Rattle.iso_script_statements.specs.declared.fault.ScriptFault.{ScriptFault}
 use Rattle.iso_selection.specs.PickedPlans.{picked_plan_fault, picked_tree}

@@ -6,7 +6,7 @@ ghost use Rattle.iso_run.specs.declared.fault.RunFault.TheVariants.{Memory};
 
 use crate::exit::{FAILED, WRONG_INPUT};
 use crate::fault::RunFault;
-use iso_arguments::request::WordsFault;
+use iso_arguments::wrong_words::WordsFault;
 use iso_tap::memory::MemorySink;
 use std::alloc::{AllocError, AllocFailed};
 

@@ -2,7 +2,7 @@
 ghost use Rattle.std.specs.Int.{IsInRange};
 ghost use Rattle.std.specs.Prelude.{◌≡◌, ◌≤◌, ◌++◌, ◌∷◌, [], IfErr, IfOk, List, MatchResult, map, true};
 ghost use Rattle.iso_model.specs.ScriptView.{script_of};
-ghost use Rattle.iso_script.specs.Faults.{HasScriptFault, UnlessMemory};
+ghost use Rattle.iso_script.specs.NoScript.{HasScriptFault, UnlessMemory};
 ghost use Rattle.iso_script.specs.Grammar.{Reads, ReadsPlaced};
 ghost use Rattle.iso_script.specs.declared.place.NodePlace as P;
 ghost use Rattle.iso_run.specs.Runs.{IsRead};

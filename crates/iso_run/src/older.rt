@@ -2,7 +2,7 @@
 ghost use Rattle.std.specs.Prelude.{◌≡◌, [], IfErr, IfOk, None, length, map};
 ghost use Rattle.std.specs.Option.{option_copied, option_map};
 ghost use Rattle.iso_arguments.specs.RequestBounds.{AreInBounds};
-ghost use Rattle.iso_plan.specs.Selections.{texts_of};
+ghost use Rattle.iso_plan.specs.KeptNodes.{texts_of};
 ghost use Rattle.iso_run.specs.Alterations.{AreBelow, below};
 ghost use Rattle.iso_run.specs.Commands.{WereRead};
 ghost use Rattle.iso_run.specs.ExitStatuses.{ComesEarly, GaveUp};

@@ -5,7 +5,7 @@ ghost use Rattle.iso_places.specs.Located.{AreSites};
 ghost use Rattle.iso_places.specs.Sites.{all_sites, places_in};
 ghost use Rattle.iso_places.specs.declared.site.Site.{Site};
 ghost use Rattle.iso_plan.specs.RowView.{tree_of};
-ghost use Rattle.iso_plan.specs.Selections.{texts_of};
+ghost use Rattle.iso_plan.specs.KeptNodes.{texts_of};
 ghost use Rattle.iso_plan.specs.Tree.{tree};
 ghost use Rattle.iso_run.specs.Commands.{ArePlaces};
 ghost use Rattle.iso_run.specs.ExitStatuses.{IfLate, end_of, run_end};

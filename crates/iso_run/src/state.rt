@@ -3,7 +3,7 @@ ghost use Rattle.std.specs.Prelude.{◌≡◌, ◌≤◌, IfErr, IfOk, List, Opt
 ghost use Rattle.iso_affected_text.specs.Changes.{IsSide};
 ghost use Rattle.iso_arguments.specs.RequestBounds.{AreInBounds};
 ghost use Rattle.iso_places.specs.LineStarts.{line_starts};
-ghost use Rattle.iso_plan.specs.Selections.{texts_of};
+ghost use Rattle.iso_plan.specs.KeptNodes.{texts_of};
 ghost use Rattle.iso_run.specs.Commands.{AreFor, IsReady, IsStateOf, WereRead};
 ghost use Rattle.iso_run.specs.ExitStatuses.{ComesEarly};
 ghost use Rattle.iso_run.specs.declared.inputs.Inputs.{Inputs};

@@ -19,7 +19,7 @@ use Rattle.iso_script.specs.declared.place.NodePlace.{NodePlace}
 use Rattle.iso_script.proofs.Readings.{Somewhere, read_somewhere, goes_on}
 use Rattle.iso_script_statements.specs.Pieces.{name_next}
 use Rattle.iso_script_statements.proofs.Taken.{named}
-use Rattle.iso_script.specs.Faults.{too_long, IsOfBeginning, HasScriptFault, UnlessMemory}
+use Rattle.iso_script.specs.NoScript.{too_long, IsOfBeginning, HasScriptFault, UnlessMemory}
 use Rattle.iso_script.specs.Grammar.{IsTopClass, IsScript, a_script, ReadsPlaced, Reads}
 use Rattle.iso_script.proofs.Unique.{left, one_reading, one_top_class, some_class}
 

@@ -1,12 +1,12 @@
 pub mod Blocks
+pub mod Contexts
 pub mod Displays
-pub mod Wants
-pub mod Faults
+pub mod Examples
 pub mod Grammar
 pub mod Marks
+pub mod NoScript
 pub mod Places
-pub mod Contexts
 pub mod Readings
 pub mod Refusals
 pub mod Variables
-pub mod Examples
+pub mod Wants

@@ -13,11 +13,11 @@ ghost use Rattle.iso_script_statements.specs.Wanted.{IsUnmet};
 ghost use Rattle.iso_script_statements.specs.declared.wanted.Wanted.TheVariants as V;
 
 use crate::block::read_blocks;
-use crate::display::{read_display, wanted_after};
 use crate::head::class_head;
 use crate::mark::{Marks, read_marks};
 use crate::place::Places;
 use crate::test::read_test;
+use crate::title::{read_display, wanted_after};
 use crate::variable::{Variables, read_variables};
 use iso_model::limits::CLASS_DEPTH;
 use iso_model::script::{Class, Member};

@@ -4,13 +4,13 @@ ghost use Rattle.iso_model.specs.Scripts as S;
 ghost use Rattle.iso_model.specs.ScriptView.{script_of};
 ghost use Rattle.iso_model.specs.declared.limits.TheConstants.{FILE_BYTES};
 ghost use Rattle.iso_script.specs.Contexts.{IsOpenAt, place_of};
-ghost use Rattle.iso_script.specs.Faults.{HasScriptFault, too_long};
+ghost use Rattle.iso_script.specs.NoScript.{HasScriptFault, too_long};
 ghost use Rattle.iso_script.specs.Grammar.{Reads, ReadsPlaced};
 ghost use Rattle.iso_script.specs.Refusals.{IfRefused};
 ghost use Rattle.iso_script.specs.declared.explain.Unread.TheVariants.{OutOfMemory};
 
 use crate::context::open_brace;
-use crate::doubles::{Twice, first_of};
+use crate::earlier_place::{Twice, first_of};
 use crate::place::Places;
 use crate::reader::{PlacedScript, script};
 use iso_model::limits::FILE_BYTES;

@@ -6,15 +6,19 @@
 mod block;
 mod class;
 mod context;
-mod display;
-mod doubles;
+mod earlier_place;
 pub mod examples;
 pub mod explain;
-pub mod fault;
 mod head;
 pub mod laws;
 mod mark;
 pub mod place;
 pub mod reader;
 mod test;
+mod title;
 mod variable;
+
+/// The faults of scripts.
+pub mod fault {
+    pub use iso_script_statements::fault::{ScriptError, ScriptFault, ScriptFaultKind};
+}

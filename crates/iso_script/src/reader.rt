@@ -6,7 +6,7 @@ ghost use Rattle.iso_model.specs.ScriptView.{script_of};
 ghost use Rattle.iso_model.specs.declared.input_error.InputError.TheVariants.{Fault};
 ghost use Rattle.iso_model.specs.declared.limits.TheConstants.{FILE_BYTES};
 ghost use Rattle.iso_script_statements.specs.Faults.{IsMemory};
-ghost use Rattle.iso_script.specs.Faults.{HasScriptFault, IsOfBeginning, UnlessMemory, too_long};
+ghost use Rattle.iso_script.specs.NoScript.{HasScriptFault, IsOfBeginning, UnlessMemory, too_long};
 ghost use Rattle.iso_script.specs.Grammar.{IsScript, IsTopClass, Reads, ReadsPlaced, classes_in};
 ghost use Rattle.iso_script.specs.Places.{Finds, kept};
 ghost use Rattle.iso_script.specs.declared.place.NodePlace.{NodePlace};

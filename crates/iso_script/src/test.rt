@@ -5,9 +5,9 @@ ghost use Rattle.iso_model.specs.ScriptView.{test_of};
 ghost use Rattle.iso_script.specs.Grammar.{IsTest};
 ghost use Rattle.iso_script.specs.Places.{ParsesPlaced, kept};
 
-use crate::display::{read_display, wanted_after};
 use crate::mark::Marks;
 use crate::place::{BlockLines, NodePlace, Places};
+use crate::title::{read_display, wanted_after};
 use iso_model::heads::{TestContents, TestHead};
 use iso_model::script::Test;
 use iso_model::text::Text;

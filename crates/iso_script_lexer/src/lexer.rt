@@ -69,8 +69,8 @@ impl<'a> Lexer<'a> {
     }
 
     /// What is next, and its position. The position of `End` is the one after the last byte of the
-    /// script, where no `Bad` came before. The position of `Bad` is that of the fault, which may lie
-    /// inside the bytes that are no token.
+    /// script, where no `Bad` came before. The position of `Bad` is that of the fault, which may
+    /// lie inside the bytes that are no token.
     pub fn peek(&self) -> (Token<'a>, Position)
         ensures next { self.now ≡ front result.1 result.0 (tail self.now) }
         ensures token { IsToken result.0 }

@@ -1,16 +1,16 @@
 //! The token at the front of bytes.
-ghost use Rattle.std.specs.Prelude.{◌≡◌, ℕ, ◌+◌, ◌≤◌, ◌^◌, ◌-◌, length, min, option_map, false, true, IfSome, IfOk, IfErr};
+ghost use Rattle.std.specs.Prelude.{◌≡◌, ℕ, ◌+◌, ◌≤◌, ◌^◌, ◌-◌, length, min, false, true, IfOk, IfErr};
 ghost use Rattle.std.specs.List.{prefix_len};
 ghost use Rattle.std.specs.Result.{result_ok};
 ghost use Rattle.iso_script_lexer.specs.Spelling.{begins_in, is_letter, is_digit, in_name};
 ghost use Rattle.iso_script_lexer.specs.LexicalGrammar.{AllDigits, decimal_value};
 ghost use Rattle.iso_script_lexer.specs.TokenFaults.{text_fault};
-ghost use Rattle.iso_script_lexer.specs.Scan.{quoted_length, single_symbol, symbol_front, name_piece, number_piece, text_piece, front_of};
+ghost use Rattle.iso_script_lexer.specs.Scan.{quoted_length, name_piece, number_piece, text_piece, front_of};
 ghost use Rattle.iso_script_lexer.specs.Tokens.{IsToken};
 ghost use Rattle.iso_script_lexer.specs.Scanned.{seen, IsWithin};
 ghost use Rattle.iso_script_lexer.specs.declared.token.Position.{Position};
 
-use crate::symbol::Symbol;
+use crate::symbol::symbol_at;
 use crate::text::QuotedText;
 use crate::token::{Token, TokenFault};
 use crate::word::Word;
@@ -165,44 +165,6 @@ fn scan_text(bytes: &[u8]) -> Result<(Token<'_>, &[u8]), Misspelling>
     let (raw, _) = bytes.split_at(length);
     let (_, rest) = bytes.split_at(length + 1);
     Ok((Token::Text(QuotedText { raw }), rest))
-}
-
-/// The symbol that is written as one byte.
-fn single_symbol(byte: u8) -> Option<Symbol>
-    ensures { result ≡ single_symbol byte }
-{
-    match byte {
-        b'{' => Some(Symbol::OpenBrace),
-        b'}' => Some(Symbol::CloseBrace),
-        b'(' => Some(Symbol::OpenParen),
-        b')' => Some(Symbol::CloseParen),
-        b';' => Some(Symbol::Semicolon),
-        b',' => Some(Symbol::Comma),
-        b'=' => Some(Symbol::Equals),
-        b'+' => Some(Symbol::Plus),
-        b'-' => Some(Symbol::Minus),
-        b'*' => Some(Symbol::Star),
-        b'<' => Some(Symbol::Less),
-        _ => None,
-    }
-}
-
-/// The longest symbol at the front, and what follows it.
-#[tactic(auto, unfolding(crate::specs::Scan::symbol_front))]
-fn symbol_at(bytes: &[u8]) -> Option<(Symbol, &[u8])>
-    ensures value { symbol_front bytes.now ≡ option_map (λ f. (f.0, f.1.now)) result }
-    ensures shorter { IfSome result (λ f. length f.1.now ≤ length bytes.now) }
-{
-    match bytes {
-        [b'+', b'+', rest @ ..] => Some((Symbol::PlusPlus, rest)),
-        [b'=', b'=', rest @ ..] => Some((Symbol::EqualsEquals, rest)),
-        [b'!', b'=', rest @ ..] => Some((Symbol::NotEquals, rest)),
-        [byte, rest @ ..] => {
-            let symbol = single_symbol(*byte)?;
-            Some((symbol, rest))
-        }
-        [] => None,
-    }
 }
 
 /// The token at the front, which is no blank, line feed or comment, and what follows it.

@@ -1,4 +1,6 @@
-ghost use Rattle.std.specs.Prelude.{◌≡◌, ◌↔◌, IsTrue};
+//! Symbols, and how they are written.
+ghost use Rattle.std.specs.Prelude.{◌≡◌, ◌↔◌, ◌≤◌, IfSome, IsTrue, length, option_map};
+ghost use Rattle.iso_script_lexer.specs.Scan.{single_symbol, symbol_front};
 ghost use Rattle.iso_script_lexer.specs.Spelling.{same_symbol};
 
 /// A symbol of the script language.
@@ -27,5 +29,43 @@ impl Symbol {
         ensures same { IsTrue result ↔ (self ≡ other) }
     {
         self as u8 == other as u8
+    }
+}
+
+/// The symbol that is written as one byte.
+fn single_symbol(byte: u8) -> Option<Symbol>
+    ensures { result ≡ single_symbol byte }
+{
+    match byte {
+        b'{' => Some(Symbol::OpenBrace),
+        b'}' => Some(Symbol::CloseBrace),
+        b'(' => Some(Symbol::OpenParen),
+        b')' => Some(Symbol::CloseParen),
+        b';' => Some(Symbol::Semicolon),
+        b',' => Some(Symbol::Comma),
+        b'=' => Some(Symbol::Equals),
+        b'+' => Some(Symbol::Plus),
+        b'-' => Some(Symbol::Minus),
+        b'*' => Some(Symbol::Star),
+        b'<' => Some(Symbol::Less),
+        _ => None,
+    }
+}
+
+/// The longest symbol at the front, and what follows it.
+#[tactic(auto, unfolding(crate::specs::Scan::symbol_front))]
+pub(crate) fn symbol_at(bytes: &[u8]) -> Option<(Symbol, &[u8])>
+    ensures value { symbol_front bytes.now ≡ option_map (λ f. (f.0, f.1.now)) result }
+    ensures shorter { IfSome result (λ f. length f.1.now ≤ length bytes.now) }
+{
+    match bytes {
+        [b'+', b'+', rest @ ..] => Some((Symbol::PlusPlus, rest)),
+        [b'=', b'=', rest @ ..] => Some((Symbol::EqualsEquals, rest)),
+        [b'!', b'=', rest @ ..] => Some((Symbol::NotEquals, rest)),
+        [byte, rest @ ..] => {
+            let symbol = single_symbol(*byte)?;
+            Some((symbol, rest))
+        }
+        [] => None,
     }
 }

@@ -1,6 +1,7 @@
 //! Reads the bodies of scripts: expressions, statements and blocks.
 #![tactic(auto)]
 
+pub mod display;
 pub mod examples;
 mod expression;
 pub mod fault;

@@ -1,18 +1,17 @@
 //! Statements without bodies.
-ghost use Rattle.std.specs.Prelude.{◌≡◌, List, ℕ, MatchResult, None};
+ghost use Rattle.std.specs.Prelude.{◌≡◌, MatchResult, None};
 ghost use Rattle.iso_model.specs.Syntax.{Term};
 ghost use Rattle.iso_model.specs.SyntaxView.{form_of, term_of};
 ghost use Rattle.iso_script_statements.specs.Faults.{IsMemory};
 ghost use Rattle.iso_script_statements.specs.Parsing.{Parses};
 ghost use Rattle.iso_script_statements.specs.Pieces.{name_next};
-ghost use Rattle.iso_script_statements.specs.Statements.{IsBinding, IsDisplay, IsSimple, binding_of, is_display, simple_next, simple_of};
+ghost use Rattle.iso_script_statements.specs.Statements.{IsBinding, IsSimple, binding_of, simple_next, simple_of};
 ghost use Rattle.iso_script_statements.specs.Wanted.{IsUnmet};
 ghost use Rattle.iso_script_statements.specs.declared.simple.Simple.TheVariants.{Assume, Fail, Let, One, Two};
 
-use crate::fault::{ScriptError, ScriptFaultKind};
+use crate::fault::ScriptError;
 use crate::parser::Parser;
 use crate::wanted::Wanted;
-use iso_model::limits::DISPLAY_BYTES;
 use iso_model::text::Text;
 use iso_model::tree::{Expr, Form, OneOperand, TwoOperands};
 use iso_script_lexer::symbol::Symbol;
@@ -49,17 +48,6 @@ fn simple_of(word: Word) -> Option<Simple>
         Word::DeleteFile => Some(Simple::One(OneOperand::DeleteFile)),
         _ => None,
     }
-}
-
-/// Whether a text may be a display text or a reason: it has 1 to 200 bytes, and neither the first
-/// nor the last is a space.
-fn is_display(text: &[u8]) -> bool
-    ensures { result ≡ is_display text.now }
-{
-    let [first, ..] = text else {
-        return false;
-    };
-    text.len() <= DISPLAY_BYTES as usize && *first != b' ' && text[text.len() - 1] != b' '
 }
 
 /// An expression with its name.
@@ -146,21 +134,5 @@ impl Parser<'_> {
         self.expect(Symbol::Equals)?;
         let value = self.expression_before(Symbol::Semicolon)?;
         named(self.alloc, name, value)
-    }
-
-    /// A display text or a reason. Where no text is next, one is wanted; one that may be none is
-    /// `BadDisplay`, at its quote. With any fault it is still next.
-    pub fn display(&mut self) -> Result<Text, ScriptError>
-        ensures { Parses (λ (t : List ℕ). t) IsDisplay result self.old.lexer self.new.lexer }
-    {
-        let Token::Text(quoted) = self.lexer.peek().0 else {
-            return Err(self.unexpected(Wanted::Text));
-        };
-        let text = Text::new(quoted.decode(self.alloc)?);
-        if !is_display(text.as_str().as_bytes()) {
-            return Err(self.fault_here(ScriptFaultKind::BadDisplay));
-        }
-        self.lexer.advance();
-        Ok(text)
     }
 }

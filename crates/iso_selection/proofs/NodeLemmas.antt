@@ -12,7 +12,7 @@ use Rattle.iso_plan.proofs.TopClassLemmas.{top_class-step, top_in}
 use Rattle.iso_plan.proofs.TopLemmas.{top, top-le}
 use Rattle.iso_plan.specs.Paths.{IsTree, column, is_root, is_top, parent}
 use Rattle.iso_plan.specs.PathTexts.{path_text}
-use Rattle.iso_plan.specs.Selections.{node_paths}
+use Rattle.iso_plan.specs.KeptNodes.{node_paths}
 use Rattle.iso_plan.specs.TopClasses.{all_paths, top_class}
 use Rattle.iso_plan.specs.Tree.{Row}
 use Rattle.iso_selection.specs.Wishes.{Wish, grants, is_named_by}

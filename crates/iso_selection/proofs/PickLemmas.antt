@@ -8,7 +8,7 @@ use Rattle.iso_plan.proofs.NumberLemmas.{map-agree, those-agree}
 use Rattle.iso_plan.specs.Faults.{not_selected, scripts_fault}
 use Rattle.iso_plan.specs.Paths.{column}
 use Rattle.iso_plan.specs.PathTexts.{path_text}
-use Rattle.iso_plan.specs.Selections.{those_below}
+use Rattle.iso_plan.specs.KeptNodes.{those_below}
 use Rattle.iso_plan.specs.TopClasses.{all_paths}
 use Rattle.iso_plan.specs.Tree.{Row, tree}
 use Rattle.iso_selection.specs.Picks.{pick_fault, picked, picked_paths}

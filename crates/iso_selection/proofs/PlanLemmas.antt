@@ -13,7 +13,7 @@ use Rattle.iso_plan.proofs.PathLemmas.{eq_from}
 use Rattle.iso_plan.proofs.TreeLemmas.{tree-is}
 use Rattle.iso_plan.specs.Faults.{full_fault, keys_fault, not_selected, plan_fault, scripts_fault}
 use Rattle.iso_plan.specs.PathTexts.{path_text}
-use Rattle.iso_plan.specs.Selections.{first_unknown, node_paths, plan_tree, selection, those_below}
+use Rattle.iso_plan.specs.KeptNodes.{first_unknown, node_paths, plan_tree, selection, those_below}
 use Rattle.iso_plan.specs.Tree.{Row, tree}
 use Rattle.iso_plan.specs.declared.fault.PlanFault.{PlanFault}
 use Rattle.iso_selection.proofs.ShardLemmas.{none-tree, picked-root}

@@ -15,7 +15,7 @@ use Rattle.iso_plan.proofs.TopClassLemmas.{top_class-step}
 use Rattle.iso_plan.specs.Paths.{IsTree, is_on, is_root, is_under, nodes_under, parent, path, row_at}
 use Rattle.iso_plan.specs.PathTexts.{path_text}
 use Rattle.iso_plan.specs.SameNodes.{IsSameNode}
-use Rattle.iso_plan.specs.Selections.{is_chosen, is_kept_by, is_named, number_among, renumbered, those_below}
+use Rattle.iso_plan.specs.KeptNodes.{is_chosen, is_kept_by, is_named, number_among, renumbered, those_below}
 use Rattle.iso_plan.specs.TopClasses.{top_class}
 use Rattle.iso_plan.specs.Tree.{Row, tree}
 use Rattle.iso_selection.specs.Picks.{HaveOwnPaths, is_picked, kept_tree, picked_paths}

@@ -4,7 +4,7 @@ use Rattle.std.proofs.lemmas.List.{get_or_default}
 use Rattle.std.specs.List.{list_any, range_with_len}
 use Rattle.iso_plan.proofs.ColumnLemmas.{column-from, column-read, length-column}
 use Rattle.iso_plan.specs.Paths.{column}
-use Rattle.iso_plan.specs.Selections.{number_among}
+use Rattle.iso_plan.specs.KeptNodes.{number_among}
 use Rattle.iso_plan.specs.TopClasses.{all_top_classes, top_class}
 use Rattle.iso_plan.specs.Tree.{Row}
 use Rattle.iso_selection.proofs.NodeLemmas.{any-below}

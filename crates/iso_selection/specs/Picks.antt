@@ -10,7 +10,7 @@ use Rattle.std.specs.Option.{option_or}
 use Rattle.iso_model.specs.Scripts.{Script}
 use Rattle.iso_plan.specs.Faults.{not_selected, scripts_fault}
 use Rattle.iso_plan.specs.PathTexts.{path_text}
-use Rattle.iso_plan.specs.Selections.{is_kept_by, those_below, those_of}
+use Rattle.iso_plan.specs.KeptNodes.{is_kept_by, those_below, those_of}
 use Rattle.iso_plan.specs.Tree.{Row, tree}
 use Rattle.iso_plan.specs.declared.fault.PlanFault.{PlanFault}
 use Rattle.iso_selection.specs.Shards.{is_in}

@@ -7,7 +7,7 @@ use Rattle.iso_model.specs.declared.outcome.Outcome.{Outcome}
 use Rattle.iso_plan.specs.NodeChains.{node_rights}
 use Rattle.iso_plan.specs.Planned.{Planned}
 use Rattle.iso_plan.specs.RowView.{tree_of}
-use Rattle.iso_plan.specs.Selections.{is_kept_by, number_among}
+use Rattle.iso_plan.specs.KeptNodes.{is_kept_by, number_among}
 use Rattle.iso_suites.specs.PlanSuites.{suite_of}
 use Rattle.iso_suites.specs.ScriptLanguage.{scripts}
 

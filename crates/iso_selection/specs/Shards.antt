@@ -4,7 +4,7 @@
 -- in which they are written (`shard_of`); whether a node's is in one (`is_in`).
 use Rattle.std.specs.Prelude.{ℕ, ◌+◌, ◌%◌, List, Option, None, Some, Bool, true, ◌&&◌, ◌==◌, length}
 use Rattle.std.specs.List.{list_any, range_with_len}
-use Rattle.iso_plan.specs.Selections.{number_among}
+use Rattle.iso_plan.specs.KeptNodes.{number_among}
 use Rattle.iso_plan.specs.TopClasses.{top_class}
 use Rattle.iso_plan.specs.Tree.{Row}
 use Rattle.iso_selection.specs.declared.shard.Shard.{Shard}

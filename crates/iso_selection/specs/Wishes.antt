@@ -9,7 +9,7 @@ use Rattle.std.specs.List.{list_any, position_from}
 use Rattle.std.specs.Str.{bytes_eq}
 use Rattle.iso_plan.specs.Paths.{is_root, is_top}
 use Rattle.iso_plan.specs.PathTexts.{path_text}
-use Rattle.iso_plan.specs.Selections.{node_paths}
+use Rattle.iso_plan.specs.KeptNodes.{node_paths}
 use Rattle.iso_plan.specs.Tree.{Row}
 use Rattle.iso_selection.specs.Lists.{listed}
 use Rattle.iso_selection.specs.Patterns.{is_match}

@@ -3,7 +3,7 @@
 ghost use Rattle.std.specs.Prelude.{◌≡◌, ◌++◌, [], ◌∷◌, None, Some, codes, false, true};
 ghost use Rattle.iso_plan.specs.Examples.{cart_and_desk, two_classes};
 ghost use Rattle.iso_plan.specs.Paths.{is_top};
-ghost use Rattle.iso_plan.specs.Selections.{those_below};
+ghost use Rattle.iso_plan.specs.KeptNodes.{those_below};
 ghost use Rattle.iso_selection.specs.Lists.{listed};
 ghost use Rattle.iso_selection.specs.Patterns.{is_match};
 ghost use Rattle.iso_selection.specs.Picks.{picked_paths};

@@ -4,7 +4,7 @@ ghost use Rattle.iso_model.specs.ScriptView.{script_of};
 ghost use Rattle.iso_model.specs.Scripts as S;
 ghost use Rattle.iso_plan.specs.RowView.{tree_of};
 ghost use Rattle.iso_plan.specs.SameNodes.{IsSameNode};
-ghost use Rattle.iso_plan.specs.Selections.{is_kept_by, is_named, number_among};
+ghost use Rattle.iso_plan.specs.KeptNodes.{is_kept_by, is_named, number_among};
 ghost use Rattle.iso_plan.specs.TopClasses.{top_class};
 ghost use Rattle.iso_plan.specs.Tree.{tree};
 ghost use Rattle.iso_selection.specs.PickedPlans.{picked_tree};

@@ -1,7 +1,7 @@
 //! Files that list paths.
 ghost use Rattle.std.specs.Prelude.{◌≡◌, ◌++◌, [], ◌∷◌, IfOk, OnOk, filter};
 ghost use Rattle.std.specs.Str.Lines.{strip_carriage_return};
-ghost use Rattle.iso_plan.specs.Selections.{texts_of};
+ghost use Rattle.iso_plan.specs.KeptNodes.{texts_of};
 ghost use Rattle.iso_selection.specs.Lists.{has_bytes, listed};
 
 use std::alloc::{AllocError, Global};

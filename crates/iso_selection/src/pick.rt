@@ -3,7 +3,7 @@ ghost use Rattle.std.specs.Prelude.{◌≡◌, [], IfErr, IfOk, None, Some, fals
 ghost use Rattle.iso_model.specs.ScriptView.{script_of};
 ghost use Rattle.iso_plan.specs.Faults.{IsFaultOf};
 ghost use Rattle.iso_plan.specs.Tree.{tree};
-ghost use Rattle.iso_plan.specs.Selections.{those_below};
+ghost use Rattle.iso_plan.specs.KeptNodes.{those_below};
 ghost use Rattle.iso_selection.specs.Picks.{HasPaths, paths_of, pick_fault, picked};
 ghost use Rattle.iso_selection.specs.Wishes.{wishes_of};
 

@@ -3,7 +3,7 @@ ghost use Rattle.std.specs.Prelude.{◌≡◌, IfErr, IfOk, None, map};
 ghost use Rattle.iso_model.specs.ScriptView.{script_of};
 ghost use Rattle.iso_plan.specs.Faults.{IsFaultOf, plan_fault};
 ghost use Rattle.iso_plan.specs.RowView.{tree_of};
-ghost use Rattle.iso_plan.specs.Selections.{plan_tree, texts_of};
+ghost use Rattle.iso_plan.specs.KeptNodes.{plan_tree, texts_of};
 ghost use Rattle.iso_selection.specs.PickedPlans.{picked_plan_fault, picked_tree};
 ghost use Rattle.iso_selection.specs.Wishes.{wishes_of};
 

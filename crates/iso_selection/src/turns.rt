@@ -1,7 +1,7 @@
 //! Which top-level classes go to a shard.
 ghost use Rattle.std.specs.Prelude.{◌≡◌, ◌<◌, ◌≤◌, ◌&&◌, ℕ, List, Bool, IfOk, Some, length, slice_index_or};
 ghost use Rattle.iso_plan.specs.Paths.{column};
-ghost use Rattle.iso_plan.specs.Selections.{number_among};
+ghost use Rattle.iso_plan.specs.KeptNodes.{number_among};
 ghost use Rattle.iso_plan.specs.TopClasses.{all_top_classes};
 ghost use Rattle.iso_plan.specs.Tree.{Row};
 ghost use Rattle.iso_selection.specs.Shards.{holds, is_in};

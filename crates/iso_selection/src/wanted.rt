@@ -1,7 +1,7 @@
 //! What is asked for.
 ghost use Rattle.std.specs.Prelude.{◌≡◌, ◌++◌, IfOk, OnOk, map};
 ghost use Rattle.std.specs.Option.{option_copied, option_map};
-ghost use Rattle.iso_plan.specs.Selections.{texts_of};
+ghost use Rattle.iso_plan.specs.KeptNodes.{texts_of};
 ghost use Rattle.iso_selection.specs.Lists.{listed};
 ghost use Rattle.iso_selection.specs.Wishes.{all_wishes, path, wish_of};
 

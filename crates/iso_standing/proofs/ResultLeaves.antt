@@ -17,7 +17,8 @@ use Rattle.iso_isolation.proofs.Invariant.{Kept}
 use Rattle.iso_isolation.proofs.Locks.{strictly_above}
 use Rattle.iso_isolation.proofs.OpeningLeaves.{parent_well, well_now}
 use Rattle.iso_isolation.proofs.Statuses.{body_held, body_shut, open_held}
-use Rattle.iso_isolation.specs.Events.{barring, ended_well, finishing, frames_left, is_in, leaving, open_or_barred, opening_left}
+use Rattle.iso_isolation.specs.Events.{barring, ended_well, frames_left, is_in, leaving, open_or_barred, opening_left}
+use Rattle.iso_isolation.specs.Restoring.{finishing}
 use Rattle.iso_isolation.specs.Runs.{result_of}
 use Rattle.iso_isolation.specs.States as S
 use Rattle.iso_isolation.specs.States.{Status, body_in, frames_in, is_closing, is_finished, is_held, is_open}

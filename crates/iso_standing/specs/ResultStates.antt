@@ -13,7 +13,8 @@ use Rattle.iso_settings.specs.Worlds.{Start}
 use Rattle.iso_standing.specs.UnderWay.{is_after_all}
 
 -- What was put are the `before_all`s of the classes that were left, also once these are finished,
--- and the last bodies of nodes that are finished; and just the nodes that are finished have results.
+-- and the last bodies of nodes that are finished; and just the nodes that are finished have
+-- results.
 pub record AreResultsOf (r : ResultsView) (s : RunNodes) : Type 0 where
   pub opened_fit : length r.opened ≡ length r.plan.rows
   pub ended_fit : length r.ended ≡ length r.plan.rows

@@ -21,7 +21,7 @@ use Rattle.iso_plan.specs.Locks.{taken, conflict}
 use Rattle.iso_plan.specs.Modes.{mode}
 use Rattle.iso_plan.specs.NodeChains.{chain_classes, chain_test}
 use Rattle.iso_plan.specs.Paths.{row_at, parent, path}
-use Rattle.iso_plan.specs.Selections.{plan_tree}
+use Rattle.iso_plan.specs.KeptNodes.{plan_tree}
 use Rattle.iso_plan.specs.Tree.{Kind, root, class_node, test_node, Row}
 use Rattle.iso_settings.specs.declared.settings.Settings.{Settings}
 

@@ -14,7 +14,7 @@ use Rattle.iso_model.specs.declared.outcome.Outcome.{Outcome}
 use Rattle.iso_plan.specs.NodeChains.{node_rights}
 use Rattle.iso_plan.specs.Planned.{Planned}
 use Rattle.iso_plan.specs.RowView.{tree_of}
-use Rattle.iso_plan.specs.Selections.{is_kept, number_among}
+use Rattle.iso_plan.specs.KeptNodes.{is_kept, number_among}
 
 -- A node that these paths keep has the first outcome in some run of the whole plan and the second
 -- in some of the selected one, each on any number of workers and in any order of events that

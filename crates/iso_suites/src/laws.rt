@@ -21,7 +21,7 @@ ghost use Rattle.iso_model.specs.Resources.{Resources, restricted};
 ghost use Rattle.iso_model.specs.Scripts.{Script};
 ghost use Rattle.iso_model.specs.declared.outcome.Outcome.{Outcome};
 ghost use Rattle.iso_plan.specs.RowView.{tree_of};
-ghost use Rattle.iso_plan.specs.Selections.{plan_tree, selection};
+ghost use Rattle.iso_plan.specs.KeptNodes.{plan_tree, selection};
 ghost use Rattle.iso_progress.specs.ProgressLaws.{ProgressLaws};
 ghost use Rattle.iso_settings.specs.Worlds.{Start};
 

@@ -7,7 +7,7 @@ use Rattle.std.specs.List.{flat_map, list_all}
 use Rattle.std.specs.Str.{chars}
 use Rattle.iso_summary.specs.Names.{escape, has_ascii_control, hex_digit, long_escape, short_escape, shown_char, shown_name}
 use Rattle.iso_summary.proofs.UnseenLemmas.{seen-is-no-control}
-use Rattle.iso_summary.specs.Sources.{cut_end, is_printable, shown_byte, shown_bytes, shown_source}
+use Rattle.iso_summary.specs.ShownLines.{cut_end, is_printable, shown_byte, shown_bytes, shown_source}
 use Rattle.iso_summary.specs.Unseen.{is_unseen}
 
 -- a byte from a space on that isn't 127 is no control character

@@ -2,7 +2,7 @@
 use Rattle.std.proofs.Common.{◌≡◌, ℕ, ◌+◌, ◌<◌, List, [], ◌∷◌, ◌++◌, length, get_or, take, map, min, slice_set, sym, ap, ap₂, ◌∙◌}
 use Rattle.std.proofs.lemmas.List.{map-append, take_more, take_more_set, take_min}
 use Rattle.std.proofs.Math.Nat.{min_comm}
-use Rattle.iso_summary.specs.Sources.{shown_byte, shown_bytes}
+use Rattle.iso_summary.specs.ShownLines.{shown_byte, shown_bytes}
 
 -- one byte more
 pub shown-next : (shown line : List ℕ) (i b : ℕ) → i < length shown → i < length line → take i shown ≡ map shown_byte (take i line)

@@ -3,7 +3,7 @@ use Rattle.std.specs.Prelude.{ℕ, List, [], ◌∷◌, ◌++◌, Option, None, 
 use Rattle.std.specs.Fmt.{decimal}
 use Rattle.iso_summary.specs.Lines.{counted, file_option, line, number_option}
 use Rattle.iso_summary.specs.Names.{shown_name}
-use Rattle.iso_summary.specs.Sources.{shown_byte, shown_source}
+use Rattle.iso_summary.specs.ShownLines.{shown_byte, shown_source}
 use Rattle.iso_summary.specs.Unseen.{has_unseen}
 use Rattle.iso_summary.specs.Views.{AgainView, LocatedView}
 use Rattle.iso_summary.specs.Words.{file_word}

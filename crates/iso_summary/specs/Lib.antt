@@ -4,7 +4,7 @@ pub mod Lines
 pub mod Names
 pub mod Parts
 pub mod Shells
-pub mod Sources
+pub mod ShownLines
 pub mod Summaries
 pub mod Unseen
 pub mod Views

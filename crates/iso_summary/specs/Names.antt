@@ -4,7 +4,7 @@
 -- escaped, with four digits or with eight (`shown_name`, `shown_char`, `escape`), and as a printed
 -- plan has it, where control characters alone are (`planned_name`); the first 160 bytes of a line
 -- in printable ASCII (`shown_source`, `shown_bytes`, `cut_end`).
--- Also in: `Sources`.
+-- Also in: `ShownLines`.
 -- Standard: TOML 1.0.0, basic strings.
 use Rattle.std.specs.Prelude.{ℕ, ◌+◌, ◌/◌, ◌%◌, List, [], ◌∷◌, Bool, ◌==◌, cond, nat_lt, codes, chars, flat_map}
 use Rattle.std.specs.Char.{encode_utf8, is_ascii_control, is_control}

@@ -4,7 +4,7 @@ use Rattle.std.specs.Fmt.{decimal}
 use Rattle.std.specs.Option.{option_map}
 use Rattle.iso_summary.specs.Lines.{counted, failed_classes, file_option, number_option}
 use Rattle.iso_summary.specs.Names.{shown_name}
-use Rattle.iso_summary.specs.Sources.{shown_byte, shown_source}
+use Rattle.iso_summary.specs.ShownLines.{shown_byte, shown_source}
 use Rattle.iso_summary.specs.Words.{file_word}
 use Rattle.iso_summary.specs.declared.part.Part.{Part}
 use Rattle.iso_summary.specs.declared.part.Part.TheVariants.{Plain, Number, Counted, FailedClasses, Name, Source, Shown, File, FileOption, NumberOption}

@@ -1,17 +1,15 @@
 //! What is told of a node.
 ghost use Rattle.std.specs.Prelude.{◌≡◌, ◌<◌, ◌++◌, length};
-ghost use Rattle.std.specs.Option.{option_map};
 ghost use Rattle.iso_plan.specs.PathTexts.{path_text};
 ghost use Rattle.iso_plan.specs.RowView.{tree_of};
-ghost use Rattle.iso_summary.specs.Entries.{again_line, blocks_line, can_be_told, failure_text, given_has_unseen, hint_lines, place_line, skipped_text, source_line, source_lines};
+ghost use Rattle.iso_summary.specs.Entries.{blocks_line, failure_text, hint_lines, place_line, skipped_text, source_line, source_lines};
 ghost use Rattle.iso_summary.specs.Views.{again_of, located_of};
 ghost use Rattle.iso_tap.specs.Printers.{Prints};
 
-use crate::again::Again;
+use crate::again::{Again, command};
 use crate::line::{line, line_with_path};
 use crate::located::Located;
 use crate::part::Part;
-use crate::unseen::has_unseen;
 use iso_plan::plan::Plan;
 use iso_tap::printer::Printer;
 use iso_tap::sink::{Sink, SinkFailed};
@@ -127,57 +125,4 @@ fn blocks<W: Sink>(printer: &mut Printer<'_, W>, blocked: u32) -> Result<(), Sin
             Part::Counted(blocked, " test", " tests"),
         ],
     )
-}
-
-/// Writes the command that runs a node again, and nothing where none can be told.
-fn command<W: Sink>(
-    printer: &mut Printer<'_, W>,
-    plan: &Plan,
-    node: u32,
-    at: &Located<'_>,
-    again: &Again<'_>,
-) -> Result<(), SinkFailed>
-    requires above { 0 < node }
-    requires within { node < length plan.now.rows }
-    ensures { Prints printer.old printer.new
-        (again_line (again_of again.now) (located_of at.now) (path_text (tree_of plan.now) node))
-        result }
-{
-    if !can_be_told(at, again) {
-        return Ok(());
-    }
-    line_with_path(
-        printer,
-        &[
-            Part::Plain("  again: jtap run"),
-            Part::FileOption(" --settings ", again.settings),
-            Part::FileOption(" --world ", again.world),
-            Part::NumberOption(" --processors ", again.processors),
-            Part::Plain(" --only "),
-        ],
-        plan,
-        node,
-        &[Part::Plain(" "), Part::File(at.file)],
-    )
-}
-
-/// Whether the command can be told: the script is a file, and no word has a character that no
-/// reader sees.
-fn can_be_told(at: &Located<'_>, again: &Again<'_>) -> bool
-    ensures { result ≡ can_be_told (again_of again.now) (located_of at.now) }
-{
-    at.named
-        && !has_unseen(at.file)
-        && !given_has_unseen(again.settings)
-        && !given_has_unseen(again.world)
-}
-
-/// Whether a word was given and has a character that no reader sees.
-fn given_has_unseen(word: Option<&str>) -> bool
-    ensures { result ≡ given_has_unseen (option_map (λ w. w.now) word.entry) }
-{
-    match word {
-        Some(word) => has_unseen(word),
-        None => false,
-    }
 }

@@ -6,7 +6,7 @@ ghost use Rattle.iso_summary.specs.Entries.{again_line, failure_text, skipped_te
 ghost use Rattle.iso_summary.specs.Examples.{in_cart, in_dash, in_stdin, in_two_lines, outcome_of, places_of_failures, places_of_skipped, plain, text_of, with_escape, with_hints, with_options};
 ghost use Rattle.iso_summary.specs.Examples.{command_start, in_file, language_tag, line_end, long_dash, next_line, no_width, paragraph_end, turned_text, umlaut, wide_space};
 ghost use Rattle.iso_summary.specs.Names.{planned_name, shown_name};
-ghost use Rattle.iso_summary.specs.Sources.{shown_source};
+ghost use Rattle.iso_summary.specs.ShownLines.{shown_source};
 ghost use Rattle.iso_summary.specs.Summaries.{counts_line, summary_text};
 ghost use Rattle.iso_summary.specs.Unseen.{has_unseen};
 ghost use Rattle.iso_summary.specs.Words.{file_word, shell_word};

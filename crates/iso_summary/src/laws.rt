@@ -8,7 +8,7 @@ ghost use Rattle.ucd_table.specs.Rows.{in_ranges};
 ghost use Rattle.iso_summary.specs.Names.{has_ascii_control, shown_name};
 ghost use Rattle.iso_summary.specs.Entries.{command_line};
 ghost use Rattle.iso_summary.specs.Shells.{command_words, read_words};
-ghost use Rattle.iso_summary.specs.Sources.{is_printable, shown_byte, shown_source};
+ghost use Rattle.iso_summary.specs.ShownLines.{is_printable, shown_byte, shown_source};
 ghost use Rattle.iso_summary.specs.Unseen.{has_unseen, is_unseen, unseen_ranges};
 ghost use Rattle.iso_summary.specs.Views.{AgainView, LocatedView};
 ghost use Rattle.iso_summary.specs.Words.{is_plain_word, shell_word};

@@ -9,7 +9,7 @@ mod line;
 pub mod located;
 pub mod name;
 mod part;
-pub mod source;
+pub mod shown_line;
 pub mod summary;
 pub mod unseen;
 pub mod word;

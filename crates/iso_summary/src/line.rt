@@ -9,7 +9,7 @@ ghost use Rattle.iso_tap.specs.Printers.{Prints};
 
 use crate::name::name;
 use crate::part::Part;
-use crate::source::{shown, source};
+use crate::shown_line::{shown, source};
 use crate::word::file;
 use iso_plan::plan::Plan;
 use iso_tap::printer::Printer;

@@ -6,7 +6,7 @@ use Rattle.iso_model.specs.declared.outcome.Outcome.{Outcome}
 use Rattle.iso_plan.proofs.NumberLemmas.{those-are, those-next, those-skip}
 use Rattle.iso_plan.specs.Paths.{is_test, row_at}
 use Rattle.iso_plan.specs.Planned.{Planned}
-use Rattle.iso_plan.specs.Selections.{those_below}
+use Rattle.iso_plan.specs.KeptNodes.{those_below}
 use Rattle.iso_plan.specs.Tree.{Row, root_row}
 use Rattle.iso_summary.specs.Summaries.{IsNode}
 use Rattle.iso_telling.specs.ToldNodes.{is_told}

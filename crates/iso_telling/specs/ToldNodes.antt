@@ -6,7 +6,7 @@ use Rattle.std.specs.Prelude.{ℕ, List, Bool, ◌&&◌, ◌||◌, length}
 use Rattle.iso_failures.specs.Failures.{is_failure}
 use Rattle.iso_failures.specs.Nodes.{is_test_with, was_skipped}
 use Rattle.iso_model.specs.declared.outcome.Outcome.{Outcome}
-use Rattle.iso_plan.specs.Selections.{those_below}
+use Rattle.iso_plan.specs.KeptNodes.{those_below}
 use Rattle.iso_plan.specs.Tree.{Row}
 
 -- whether a node is told of: it failed, or it is a test that was skipped, where these are told of,

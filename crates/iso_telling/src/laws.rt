@@ -6,7 +6,7 @@ ghost use Rattle.iso_model.specs.declared.outcome.Outcome.{Outcome};
 ghost use Rattle.iso_places.specs.Located.{HasStranger};
 ghost use Rattle.iso_places.specs.Sites.{all_sites};
 ghost use Rattle.iso_places.specs.declared.site.Site.{Site};
-ghost use Rattle.iso_plan.specs.Selections.{is_kept_by, those_of};
+ghost use Rattle.iso_plan.specs.KeptNodes.{is_kept_by, those_of};
 ghost use Rattle.iso_plan.specs.Tree.{Row, tree};
 ghost use Rattle.iso_script.specs.declared.place.NodePlace.{NodePlace};
 ghost use Rattle.iso_telling.specs.ToldLines.{line_told};

@@ -2,7 +2,7 @@
 ghost use Rattle.std.specs.Prelude.{◌≡◌, ◌<◌, ◌-◌, length};
 ghost use Rattle.iso_placed_plan.specs.PlacedPlan.{each_node};
 ghost use Rattle.iso_plan.specs.RowView.{tree_of};
-ghost use Rattle.iso_plan.specs.Selections.{texts_of};
+ghost use Rattle.iso_plan.specs.KeptNodes.{texts_of};
 ghost use Rattle.iso_tap.specs.Printers.{Prints, Writes};
 ghost use Rattle.iso_why.specs.Reach.{IsReach};
 ghost use Rattle.iso_why.specs.PlanWhy.{node_why, plan_why, test_why, tests_why};

@@ -1,7 +1,8 @@
 //! The program `jtap`: it hands its words and streams to `command`.
 #![tactic(auto)]
 
-use iso_arguments::request::{WordsFault, words_of};
+use iso_arguments::request::words_of;
+use iso_arguments::wrong_words::WordsFault;
 use iso_run::command::{command, refuse_words};
 use iso_tap::output::OutputSink;
 use std::io::BufWriter;

@@ -6,7 +6,7 @@ use Rattle.iso_affected.specs.Namesakes.{namesake}
 use Rattle.iso_plan.proofs.ColumnLemmas.{column-read, length-column}
 use Rattle.iso_plan.proofs.NumberLemmas.{those-next, those-skip}
 use Rattle.iso_plan.specs.RowView.{tree_of}
-use Rattle.iso_plan.specs.Selections.{those_below}
+use Rattle.iso_plan.specs.KeptNodes.{those_below}
 use Rattle.iso_affected.proofs.affected.gone.Goals as goal
 use Rattle.iso_affected.proofs.affected.gone.Goals.{then-is_none+in_ok-push, else-is_none}
 

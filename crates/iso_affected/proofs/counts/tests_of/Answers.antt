@@ -2,7 +2,7 @@ use Rattle.std.proofs.Common.{◌≡◌, ◌+◌, ◌<◌, ℕ, Bool, true, fals
 use Rattle.iso_affected.specs.Counting.{is_test_of}
 use Rattle.iso_plan.proofs.NumberLemmas.{number-next, number-small, those-skip}
 use Rattle.iso_plan.specs.RowView.{tree_of}
-use Rattle.iso_plan.specs.Selections.{those_below}
+use Rattle.iso_plan.specs.KeptNodes.{those_below}
 use Rattle.iso_affected.proofs.counts.tests_of.Goals as goal
 use Rattle.iso_affected.proofs.counts.tests_of.Goals.{then-is_test_of, else-is_test_of}
 

@@ -1,7 +1,7 @@
 use Rattle.std.proofs.Common.{ℕ, Ok, ap, length, map, take, ◌∙◌}
 use Rattle.std.proofs.Math.Nat.{min_comm}
 use Rattle.std.proofs.lemmas.List.{take_min}
-use Rattle.iso_summary.specs.Sources.{cut_end, shown_byte}
+use Rattle.iso_summary.specs.ShownLines.{cut_end, shown_byte}
 use Rattle.iso_tap.proofs.PrinterLemmas.{prints_as, prints_stopped, prints_then}
 use Rattle.iso_affected_text.proofs.word.cut.Goals as goal
 

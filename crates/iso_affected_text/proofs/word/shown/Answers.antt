@@ -1,7 +1,7 @@
 use Rattle.std.proofs.Common.{◌+◌, List, [], ◌∷◌, ℕ, Err, Ok, ap, drop, get_or, map}
 use Rattle.std.proofs.lemmas.List.{at_drop_all}
 use Rattle.std.proofs.lemmas.Result.{err_from_is_err_and}
-use Rattle.iso_summary.specs.Sources.{shown_byte}
+use Rattle.iso_summary.specs.ShownLines.{shown_byte}
 use Rattle.iso_tap.proofs.PrinterLemmas.{drop_next, left_cut, left_end, left_next, prints_as}
 use Rattle.iso_affected_text.proofs.word.shown.Goals as goal
 

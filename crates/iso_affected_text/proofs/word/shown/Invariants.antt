@@ -1,5 +1,5 @@
 use Rattle.std.proofs.Common.{drop, map}
-use Rattle.iso_summary.specs.Sources.{shown_byte}
+use Rattle.iso_summary.specs.ShownLines.{shown_byte}
 use Rattle.iso_tap.proofs.PrinterLemmas.{LeftToPrint}
 use Rattle.iso_affected_text.proofs.word.shown.Given as goal
 

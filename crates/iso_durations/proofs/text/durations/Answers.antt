@@ -2,7 +2,7 @@ use Rattle.std.proofs.Common.{◌∙◌, List, ap, subst, sym}
 use Rattle.std.specs.List.{All}
 use Rattle.iso_durations.specs.Durations.{text_of}
 use Rattle.iso_durations.specs.Entries.{IsListed}
-use Rattle.iso_durations.specs.declared.timed.Timed.{Timed}
+use Rattle.iso_durations.specs.declared.durations.Timed.{Timed}
 use Rattle.iso_durations.proofs.EntryLemmas.{nodes-listed, text-is}
 use Rattle.iso_plan.specs.RowView.{tree_of}
 use Rattle.iso_tap.proofs.PrinterLemmas.{prints_as}

@@ -3,7 +3,7 @@ use Rattle.std.proofs.lemmas.List.{at_drop_all}
 use Rattle.std.proofs.lemmas.Result.{err_from_is_err_and}
 use Rattle.iso_durations.specs.Durations.{text_of}
 use Rattle.iso_durations.specs.Entries.{entry_line}
-use Rattle.iso_durations.specs.declared.timed.Timed.{Timed}
+use Rattle.iso_durations.specs.declared.durations.Timed.{Timed}
 use Rattle.iso_plan.specs.RowView.{tree_of}
 use Rattle.iso_tap.proofs.PrinterLemmas.{drop_next, left_cut, left_end, left_next, left_whole, prints_stopped}
 use Rattle.iso_durations.proofs.text.text.Goals as goal

@@ -1,5 +1,5 @@
 use Rattle.std.proofs.Common.{◌≡◌, map}
-use Rattle.iso_plan.specs.Selections.{those_below}
+use Rattle.iso_plan.specs.KeptNodes.{those_below}
 use Rattle.iso_explain_plan.specs.Sizes.{is_own, size_of, sized}
 use Rattle.iso_explain_plan.proofs.size.all_sizes.Given as goal
 

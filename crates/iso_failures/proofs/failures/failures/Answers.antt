@@ -1,7 +1,7 @@
 use Rattle.std.proofs.Common.{◌≡◌, ◌+◌, ◌++◌, ◌∷◌, [], ℕ, List, Bool, true, false, ap, sym, ◌∙◌, add-one}
 use Rattle.iso_lifecycle.specs.ResultViews.{outcome_in}
 use Rattle.iso_plan.proofs.NumberLemmas.{those-next, those-skip}
-use Rattle.iso_plan.specs.Selections.{those_below}
+use Rattle.iso_plan.specs.KeptNodes.{those_below}
 use Rattle.iso_failures.specs.Failures.{is_failure}
 use Rattle.iso_failures.proofs.failures.failures.Goals as goal
 use Rattle.iso_failures.proofs.failures.failures.Goals.{then-is_failure+in_ok-push, else-is_failure}

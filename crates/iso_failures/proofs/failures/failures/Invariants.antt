@@ -1,6 +1,6 @@
 use Rattle.std.proofs.Common.{◌≡◌}
 use Rattle.iso_lifecycle.specs.ResultViews.{outcome_in}
-use Rattle.iso_plan.specs.Selections.{those_below}
+use Rattle.iso_plan.specs.KeptNodes.{those_below}
 use Rattle.iso_failures.specs.Failures.{is_failure}
 use Rattle.iso_failures.proofs.failures.failures.Given as goal
 

@@ -3,7 +3,7 @@ use Rattle.std.proofs.lemmas.List.{at_drop_all}
 use Rattle.std.proofs.lemmas.Result.{err_from_is_err_and}
 use Rattle.iso_html.proofs.QuoteLemmas.{shown-next}
 use Rattle.iso_junit.specs.Escapes.{escaped}
-use Rattle.iso_summary.specs.Sources.{shown_byte}
+use Rattle.iso_summary.specs.ShownLines.{shown_byte}
 use Rattle.iso_tap.proofs.PrinterLemmas.{left_cut, left_end, left_next, prints_as}
 use Rattle.iso_html.proofs.quote.bytes_shown.Goals as goal
 

@@ -1,6 +1,6 @@
 use Rattle.std.proofs.Common.{drop, map}
 use Rattle.iso_junit.specs.Escapes.{escaped}
-use Rattle.iso_summary.specs.Sources.{shown_byte}
+use Rattle.iso_summary.specs.ShownLines.{shown_byte}
 use Rattle.iso_tap.proofs.PrinterLemmas.{LeftToPrint}
 use Rattle.iso_html.proofs.quote.bytes_shown.Given as goal
 

@@ -1,7 +1,7 @@
 use Rattle.std.proofs.Common.{List, ℕ, Ok, ap, map}
 use Rattle.iso_html.specs.Quotes.{shown_text}
 use Rattle.iso_junit.specs.Escapes.{escaped}
-use Rattle.iso_summary.specs.Sources.{cut_end, shown_byte, shown_bytes}
+use Rattle.iso_summary.specs.ShownLines.{cut_end, shown_byte, shown_bytes}
 use Rattle.iso_tap.proofs.PrinterLemmas.{prints_as, prints_stopped, prints_then}
 use Rattle.iso_html.proofs.quote.shown.Goals as goal
 

@@ -4,7 +4,7 @@ use Rattle.iso_junit.specs.Cases.{is_case}
 use Rattle.iso_junit.specs.Runs.{run_of}
 use Rattle.iso_junit.specs.Tallies.{tally}
 use Rattle.iso_lifecycle.specs.ResultViews.{outcome_of_view}
-use Rattle.iso_plan.specs.Selections.{those_below}
+use Rattle.iso_plan.specs.KeptNodes.{those_below}
 use Rattle.iso_junit.proofs.count.count_all.Goals as goal
 use Rattle.iso_junit.proofs.count.count_all.Goals.{then-is_case, else-is_case}
 

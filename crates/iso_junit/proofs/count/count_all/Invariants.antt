@@ -2,7 +2,7 @@ use Rattle.std.proofs.Common.{◌≡◌}
 use Rattle.iso_junit.specs.Cases.{is_case}
 use Rattle.iso_junit.specs.Runs.{run_of}
 use Rattle.iso_junit.specs.Tallies.{tally}
-use Rattle.iso_plan.specs.Selections.{those_below}
+use Rattle.iso_plan.specs.KeptNodes.{those_below}
 use Rattle.iso_junit.proofs.count.count_all.Given as goal
 
 abbrev pub invariant-nodes : goal.invariant-nodes

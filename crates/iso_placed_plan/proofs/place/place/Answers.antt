@@ -2,7 +2,7 @@ use Rattle.std.proofs.Common.{ap, codes}
 use Rattle.std.specs.Fmt.{decimal}
 use Rattle.iso_placed_plan.specs.PlacedPlan.{script_name}
 use Rattle.iso_placed_plan.proofs.PlacedLemmas.{place-pieces}
-use Rattle.iso_plan.specs.Selections.{texts_of}
+use Rattle.iso_plan.specs.KeptNodes.{texts_of}
 use Rattle.iso_summary.specs.Names.{planned_name}
 use Rattle.iso_tap.proofs.PrinterLemmas.{prints_as, prints_cut, prints_stopped, prints_then}
 use Rattle.iso_placed_plan.proofs.place.place.Goals as goal

@@ -1,6 +1,6 @@
 use Rattle.std.proofs.Common.{sym, ap, ◌∙◌}
 use Rattle.iso_placed_plan.specs.PlacedPlan.{place_field}
-use Rattle.iso_plan.specs.Selections.{texts_of}
+use Rattle.iso_plan.specs.KeptNodes.{texts_of}
 use Rattle.iso_tap.proofs.PrinterLemmas.{prints_as, prints_then}
 use Rattle.iso_placed_plan.proofs.place.place_field.Goals as goal
 

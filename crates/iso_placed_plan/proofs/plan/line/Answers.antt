@@ -1,7 +1,7 @@
 use Rattle.std.proofs.Common.{Ok, codes}
 use Rattle.iso_placed_plan.specs.PlacedPlan.{place_field}
 use Rattle.iso_places.specs.Sites.{site_at}
-use Rattle.iso_plan.specs.Selections.{texts_of}
+use Rattle.iso_plan.specs.KeptNodes.{texts_of}
 use Rattle.iso_tap.proofs.PrinterLemmas.{prints_cut, prints_stopped, prints_then}
 use Rattle.iso_placed_plan.proofs.plan.line.Goals as goal
 

@@ -3,7 +3,7 @@ use Rattle.std.proofs.lemmas.Result.{err_from_is_err_and}
 use Rattle.iso_placed_plan.specs.PlacedPlan.{placed_test_line}
 use Rattle.iso_placed_plan.proofs.PlacedLemmas.{each-next}
 use Rattle.iso_plan.specs.RowView.{tree_of}
-use Rattle.iso_plan.specs.Selections.{texts_of}
+use Rattle.iso_plan.specs.KeptNodes.{texts_of}
 use Rattle.iso_tap.proofs.PrinterLemmas.{left_cut, left_next}
 use Rattle.iso_placed_plan.proofs.plan.tests.Goals as goal
 

@@ -1,7 +1,7 @@
 use Rattle.std.proofs.Common.{◌-◌, length}
 use Rattle.iso_placed_plan.specs.PlacedPlan.{each_node, placed_test_line, placed_tests_text}
 use Rattle.iso_plan.specs.RowView.{tree_of}
-use Rattle.iso_plan.specs.Selections.{texts_of}
+use Rattle.iso_plan.specs.KeptNodes.{texts_of}
 use Rattle.iso_tap.proofs.PrinterLemmas.{LeftToPrint}
 use Rattle.iso_placed_plan.proofs.plan.tests.Given as goal
 

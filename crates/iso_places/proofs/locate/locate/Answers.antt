@@ -4,7 +4,7 @@ use Rattle.iso_model.specs.ScriptView.{script_of}
 use Rattle.iso_places.proofs.SiteLemmas.{found, paths-but-root, refused, rooted}
 use Rattle.iso_places.specs.Located.{FindsBy}
 use Rattle.iso_places.specs.Sites.{all_sites, places_in}
-use Rattle.iso_plan.specs.Selections.{node_paths}
+use Rattle.iso_plan.specs.KeptNodes.{node_paths}
 use Rattle.iso_plan.specs.Tree.{tree}
 use Rattle.iso_places.proofs.locate.locate.Goals as goal
 

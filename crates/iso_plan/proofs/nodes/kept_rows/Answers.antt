@@ -9,7 +9,7 @@ use Rattle.iso_plan.proofs.SelectFirst.{count-first, left-earlier, select-first,
 use Rattle.iso_plan.specs.Faults.{IsFaultOf, full_fault, nodes_fault, not_selected, PlanError}
 use Rattle.iso_plan.specs.Paths.{IsRooted, StandEarlier}
 use Rattle.iso_plan.specs.RowView.{row_of}
-use Rattle.iso_plan.specs.Selections.{first_unknown, plan_tree, selection, texts_of}
+use Rattle.iso_plan.specs.KeptNodes.{first_unknown, plan_tree, selection, texts_of}
 use Rattle.iso_plan.specs.Tree as T
 use Rattle.iso_plan.specs.Tree.{effective_row, tree, written_tree}
 use Rattle.iso_model.specs.declared.input_error.InputError.TheVariants.{Fault}

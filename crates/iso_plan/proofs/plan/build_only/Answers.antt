@@ -7,7 +7,7 @@ use Rattle.iso_plan.specs.Paths.{IsTree}
 use Rattle.iso_plan.specs.Preorder.{IsPreorder}
 use Rattle.iso_plan.specs.RowView.{row_of, tree_of}
 use Rattle.iso_plan.specs.SameNodes.{IsSameNode, KeepsChains}
-use Rattle.iso_plan.specs.Selections.{is_kept, number_among, texts_of}
+use Rattle.iso_plan.specs.KeptNodes.{is_kept, number_among, texts_of}
 use Rattle.iso_plan.specs.Tree as T
 use Rattle.iso_plan.specs.Tree.{tree}
 use Rattle.iso_plan.proofs.plan.build_only.Goals as goal

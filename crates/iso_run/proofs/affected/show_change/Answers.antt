@@ -1,7 +1,7 @@
 use Rattle.std.proofs.Common.{◌≡◌, ℕ, List, Option, IfSome, Bool, true, map, ap, subst, sym, ◌∙◌}
 use Rattle.iso_affected_text.specs.Changes.{change_of}
 use Rattle.iso_plan.specs.RowView.{tree_of}
-use Rattle.iso_plan.specs.Selections.{texts_of}
+use Rattle.iso_plan.specs.KeptNodes.{texts_of}
 use Rattle.iso_run.proofs.Answering.{answered-as}
 use Rattle.iso_run.proofs.affected.show_change.Goals as goal
 use Rattle.iso_run.specs.Alterations.{StartsOtherwise, change_text}

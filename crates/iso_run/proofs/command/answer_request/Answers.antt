@@ -5,7 +5,7 @@ use Rattle.iso_run.proofs.Late.{late-so}
 use Rattle.iso_arguments.specs.RequestBounds.{IsPlainRun}
 use Rattle.iso_run.proofs.command.answer_request.Goals as goal
 use Rattle.iso_run.specs.Commands.{ArePlaces, IsPrintedFor, IsWrittenFor, WereRead, plan_of, way_of}
-use Rattle.iso_plan.specs.Selections.{texts_of}
+use Rattle.iso_plan.specs.KeptNodes.{texts_of}
 use Rattle.iso_run.specs.Besides.{files_of}
 use Rattle.iso_run.specs.ExitStatuses.{NamesFile, end_of, run_end}
 use Rattle.iso_run.specs.Runs.{suite_conflicts, suite_report}

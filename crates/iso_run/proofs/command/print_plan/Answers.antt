@@ -1,6 +1,6 @@
 use Rattle.std.proofs.Common.{◌≡◌, Bool, List, [], true, false, refl, subst}
 use Rattle.iso_places.specs.declared.site.Site.{Site}
-use Rattle.iso_plan.specs.Selections.{texts_of}
+use Rattle.iso_plan.specs.KeptNodes.{texts_of}
 use Rattle.iso_run.proofs.Late.{late-so}
 use Rattle.iso_run.proofs.Printing.{prints-all, prints-places, prints-tests, prints-why}
 use Rattle.iso_run.proofs.command.print_plan.Goals as goal

@@ -2,7 +2,7 @@ use Rattle.std.proofs.Common.{ℕ, List, [], ◌∷◌, map, get_or, ap, subst, 
 use Rattle.std.proofs.lemmas.List.{get_or-map, map-append}
 use Rattle.std.specs.Borrow.{Bor}
 use Rattle.iso_model.specs.ScriptView.{script_of}
-use Rattle.iso_script.specs.Faults.{HasScriptFault, UnlessMemory}
+use Rattle.iso_script.specs.NoScript.{HasScriptFault, UnlessMemory}
 use Rattle.iso_run.proofs.Turns.{placed_more, read_more, texts_more}
 use Rattle.iso_run.proofs.inputs.read_scripts.Goals as goal
 

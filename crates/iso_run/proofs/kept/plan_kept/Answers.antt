@@ -4,7 +4,7 @@ use Rattle.std.specs.Option.{option_map}
 use Rattle.iso_model.specs.ScriptView.{script_of}
 use Rattle.iso_plan.specs.Faults.{IsFaultOf, plan_fault}
 use Rattle.iso_plan.specs.RowView.{tree_of}
-use Rattle.iso_plan.specs.Selections.{plan_tree, texts_of}
+use Rattle.iso_plan.specs.KeptNodes.{plan_tree, texts_of}
 use Rattle.iso_plan.specs.Tree.{Row}
 use Rattle.iso_plan.specs.declared.fault.PlanFault.{PlanFault}
 use Rattle.iso_selection.specs.PickedPlans.{picked_plan_fault, picked_tree}

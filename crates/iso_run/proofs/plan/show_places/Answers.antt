@@ -2,7 +2,7 @@ use Rattle.std.proofs.Common.{[], map, true, refl}
 use Rattle.std.proofs.lemmas.Result.{err_from_is_err_and}
 use Rattle.iso_model.specs.ScriptView.{script_of}
 use Rattle.iso_places.specs.Sites.{places_in}
-use Rattle.iso_plan.specs.Selections.{texts_of}
+use Rattle.iso_plan.specs.KeptNodes.{texts_of}
 use Rattle.iso_run.specs.Runs.{AreSitesOf, suite_places}
 use Rattle.iso_run.specs.Suites.{OfSuite, suite_of}
 use Rattle.iso_run.specs.declared.way.Way.TheVariants.{Serial}

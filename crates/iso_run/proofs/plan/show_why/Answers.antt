@@ -1,6 +1,6 @@
 use Rattle.std.proofs.Common.{[], true, refl}
 use Rattle.std.proofs.lemmas.Result.{err_from_is_err_and}
-use Rattle.iso_plan.specs.Selections.{texts_of}
+use Rattle.iso_plan.specs.KeptNodes.{texts_of}
 use Rattle.iso_run.specs.Commands.{ArePlaces}
 use Rattle.iso_run.specs.Runs.{suite_why}
 use Rattle.iso_run.specs.Suites.{suite_of}

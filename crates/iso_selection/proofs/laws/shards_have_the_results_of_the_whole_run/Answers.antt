@@ -1,7 +1,7 @@
 use Rattle.std.proofs.Common.{◌≡◌, ℕ, false, true, List, [], ◌∷◌, Option, Some, None, refl, sym, ap, ◌∙◌}
 use Rattle.iso_plan.specs.Planned.{Planned}
 use Rattle.iso_plan.specs.RowView.{tree_of}
-use Rattle.iso_plan.specs.Selections.{selection}
+use Rattle.iso_plan.specs.KeptNodes.{selection}
 use Rattle.iso_plan.specs.Tree.{Row, tree}
 use Rattle.iso_suites.specs.Selected as S
 use Rattle.iso_selection.specs.PickedPlans.{tree_by}

@@ -2,7 +2,7 @@ use Rattle.std.proofs.Common.{◌≡◌, ◌≢◌, ◌==◌, ◌+◌, ◌-◌, 
 use Rattle.std.proofs.lemmas.Bool.Decides.{nat_tests}
 use Rattle.std.proofs.lemmas.List.{get_or_default, take_rest}
 use Rattle.std.specs.Str.Lines.{lines, strip_carriage_return}
-use Rattle.iso_plan.specs.Selections.{texts_of}
+use Rattle.iso_plan.specs.KeptNodes.{texts_of}
 use Rattle.iso_selection.proofs.LineLemmas.{IsLine, kept-first, kept-last, lines-at, lines-last}
 use Rattle.iso_selection.specs.Lists.{has_bytes}
 use Rattle.iso_selection.proofs.list.listed.Goals as goal

@@ -1,6 +1,6 @@
 use Rattle.std.proofs.Common.{◌≡◌, ◌≤◌, ◌++◌, drop, filter}
 use Rattle.std.specs.Str.Lines.{lines}
-use Rattle.iso_plan.specs.Selections.{texts_of}
+use Rattle.iso_plan.specs.KeptNodes.{texts_of}
 use Rattle.iso_selection.proofs.LineLemmas.{IsLine}
 use Rattle.iso_selection.specs.Lists.{has_bytes, listed}
 use Rattle.iso_selection.proofs.list.listed.Given as goal

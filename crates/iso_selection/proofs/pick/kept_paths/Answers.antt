@@ -1,7 +1,7 @@
 use Rattle.std.proofs.Common.{◌≡◌, ◌+◌, ◌++◌, ◌∷◌, [], ℕ, List, Bool, true, false, get_or, map, ap, ap₂, sym, ◌∙◌, add-one, arith}
 use Rattle.std.proofs.lemmas.List.{get_or_default, map_push}
 use Rattle.iso_plan.proofs.NumberLemmas.{those-next, those-skip}
-use Rattle.iso_plan.specs.Selections.{those_below}
+use Rattle.iso_plan.specs.KeptNodes.{those_below}
 use Rattle.iso_selection.proofs.pick.kept_paths.Goals as goal
 use Rattle.iso_selection.proofs.pick.kept_paths.Goals.{then-kept-n+in_ok-copy+in_ok-push, else-kept-n}
 

@@ -1,5 +1,5 @@
 use Rattle.std.proofs.Common.{◌≡◌, [], get_or, map, false}
-use Rattle.iso_plan.specs.Selections.{those_below}
+use Rattle.iso_plan.specs.KeptNodes.{those_below}
 use Rattle.iso_selection.proofs.pick.kept_paths.Given as goal
 
 abbrev pub invariant-nodes : goal.invariant-nodes

@@ -2,7 +2,7 @@ use Rattle.std.proofs.Common.{◌≡◌, ◌+◌, ℕ, Bool, true, false, length
 use Rattle.std.proofs.lemmas.List.{length_push}
 use Rattle.iso_plan.proofs.ColumnLemmas.{column-push, column-read}
 use Rattle.iso_plan.proofs.NumberLemmas.{number-next, those-skip}
-use Rattle.iso_plan.specs.Selections.{number_among}
+use Rattle.iso_plan.specs.KeptNodes.{number_among}
 use Rattle.iso_selection.proofs.turns.places.Goals as goal
 use Rattle.iso_selection.proofs.turns.places.Goals.{then-passes-n, else-passes-n}
 

@@ -1,6 +1,6 @@
 use Rattle.std.proofs.Common.{◌≡◌, ◌≤◌, ℕ, Bool, length}
 use Rattle.iso_plan.specs.Paths.{column}
-use Rattle.iso_plan.specs.Selections.{number_among}
+use Rattle.iso_plan.specs.KeptNodes.{number_among}
 use Rattle.iso_selection.proofs.turns.places.Given as goal
 
 abbrev pub invariant-nodes : goal.invariant-nodes

@@ -2,7 +2,7 @@ use Rattle.std.proofs.Common.{◌≡◌, ◌==◌, ◌&&◌, ◌+◌, ◌%◌, �
 use Rattle.iso_plan.proofs.ColumnLemmas.{column-push, length-column}
 use Rattle.iso_plan.specs.Paths.{column}
 use Rattle.iso_selection.proofs.TurnLemmas.{count-is, turn-is}
-use Rattle.iso_plan.specs.Selections.{number_among}
+use Rattle.iso_plan.specs.KeptNodes.{number_among}
 use Rattle.iso_selection.specs.Shards.{holds, is_in}
 use Rattle.iso_selection.proofs.turns.those_of.Goals as goal
 use Rattle.iso_selection.proofs.turns.those_of.Goals.{then-named-n, else-named-n}

@@ -1,5 +1,5 @@
 use Rattle.std.proofs.Common.{◌≡◌, ◌++◌, take, map}
-use Rattle.iso_plan.specs.Selections.{texts_of}
+use Rattle.iso_plan.specs.KeptNodes.{texts_of}
 use Rattle.iso_selection.specs.Wishes.{path, pattern, wish_of}
 use Rattle.iso_selection.proofs.wanted.all_wanted.Given as goal
 

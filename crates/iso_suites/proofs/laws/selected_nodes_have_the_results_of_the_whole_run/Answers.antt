@@ -1,7 +1,7 @@
 use Rattle.std.proofs.Common.{List, subst, sym}
 use Rattle.iso_plan.specs.RowView.{tree_of}
 use Rattle.iso_plan.specs.SameNodes.{IsSameNode}
-use Rattle.iso_plan.specs.Selections.{is_kept, number_among}
+use Rattle.iso_plan.specs.KeptNodes.{is_kept, number_among}
 use Rattle.iso_plan.specs.Tree.{Row}
 use Rattle.iso_suites.proofs.SelectedRuns.{same-outcomes}
 use Rattle.iso_suites.proofs.laws.selected_nodes_have_the_results_of_the_whole_run.Goals as goal

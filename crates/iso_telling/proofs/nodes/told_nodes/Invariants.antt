@@ -1,7 +1,7 @@
 use Rattle.std.proofs.Common.{◌≡◌}
 use Rattle.iso_lifecycle.specs.ResultViews.{outcome_in}
 use Rattle.iso_plan.specs.RowView.{tree_of}
-use Rattle.iso_plan.specs.Selections.{those_below}
+use Rattle.iso_plan.specs.KeptNodes.{those_below}
 use Rattle.iso_telling.specs.ToldNodes.{is_told}
 use Rattle.iso_telling.proofs.nodes.told_nodes.Given as goal
 

@@ -1,7 +1,7 @@
 use Rattle.std.proofs.Common.{◌-◌, length}
 use Rattle.iso_placed_plan.specs.PlacedPlan.{each_node}
 use Rattle.iso_plan.specs.RowView.{tree_of}
-use Rattle.iso_plan.specs.Selections.{texts_of}
+use Rattle.iso_plan.specs.KeptNodes.{texts_of}
 use Rattle.iso_tap.proofs.PrinterLemmas.{LeftToPrint}
 use Rattle.iso_why.specs.PlanWhy.{test_why, tests_why}
 use Rattle.iso_why.proofs.plan.tests_why.Given as goal

@@ -5,6 +5,7 @@ use Rattle.iso_core.specs.FlatMaps.{FlatView, IsFlatMap, IsFlatOf, IsInnermost, 
 use Rattle.iso_suites.specs.ScriptLanguage.{scripts}
 use Rattle.iso_suites.specs.SuiteStates.{suite_at}
 use Rattle.iso_isolation.specs.Events as E
+use Rattle.iso_isolation.specs.Restoring.{finishing}
 use Rattle.iso_locks.specs.Trays.{SavepointView, TrayView}
 use Rattle.iso_plan.specs.Paths.{IsTree}
 use Rattle.iso_plan.specs.Planned.{Planned}
@@ -33,8 +34,8 @@ returns-in-Some-clause-state c = λ s r of.
     let at : mark_at v.marks n ≡ Some c.in-Some.mark = cc (there, c.index_mut.ensures.value, c.in-Some.ensures.value) in
     let tree : IsTree (tree_of v.tray.plan) = subst (λ (p : Planned). IsTree (tree_of p)) c.plan.ensures c.nodes_are_a_tree.ensures in
     let before : IsFlatOf v s = subst (λ (u : FlatView). IsFlatOf u s) (sym c.self.view_is) of in
-    subst (λ (u : FlatView). IsFlatOf (record { tray = c.undo.new.self; marks = set v.marks n c.take.new.self }) (E.finishing scripts (suite_at u.tray.plan u.tray.world) n r s)) c.self.view_is
-    (subst (λ (o : Option SavepointView). IsFlatOf (record { tray = c.undo.new.self; marks = set v.marks n o }) (E.finishing scripts (suite_at v.tray.plan v.tray.world) n r s))
+    subst (λ (u : FlatView). IsFlatOf (record { tray = c.undo.new.self; marks = set v.marks n c.take.new.self }) (finishing scripts (suite_at u.tray.plan u.tray.world) n r s)) c.self.view_is
+    (subst (λ (o : Option SavepointView). IsFlatOf (record { tray = c.undo.new.self; marks = set v.marks n o }) (finishing scripts (suite_at v.tray.plan v.tray.world) n r s))
     (sym c.in-Some.ensures.after)
-    (subst (λ (t : TrayView). IsFlatOf (record { tray = t; marks = set v.marks n None }) (E.finishing scripts (suite_at v.tray.plan v.tray.world) n r s)) (sym c.undo.ensures)
+    (subst (λ (t : TrayView). IsFlatOf (record { tray = t; marks = set v.marks n None }) (finishing scripts (suite_at v.tray.plan v.tray.world) n r s)) (sym c.undo.ensures)
     (state-left v c.self.invariant n c.in-Some.mark at tree s before r)))

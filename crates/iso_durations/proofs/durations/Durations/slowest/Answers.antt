@@ -2,7 +2,7 @@ use Rattle.std.proofs.Common.{List, length, rules, subst}
 use Rattle.std.proofs.lemmas.List.Sorted.{answers_always}
 use Rattle.std.specs.List.Sorted.{IsPermutation}
 use Rattle.iso_durations.specs.Times.{is_measured, measured, micros}
-use Rattle.iso_durations.specs.declared.timed.Timed.{Timed}
+use Rattle.iso_durations.specs.declared.durations.Timed.{Timed}
 use Rattle.iso_durations.proofs.SortLemmas.{sorted-is}
 use Rattle.iso_durations.proofs.TimesLemmas.{those-differ}
 use Rattle.iso_plan.specs.RowView.{tree_of}

@@ -1,6 +1,6 @@
 use Rattle.std.proofs.Common.{Option, ap, ◌∙◌}
 use Rattle.iso_interp.specs.declared.run.BlockRun.{BlockRun}
-use Rattle.iso_lifecycle.specs.Works.{stage_with}
+use Rattle.iso_lifecycle.specs.DueBlocks.{stage_with}
 use Rattle.iso_lifecycle.proofs.RunLemmas.{idle-rights, settled}
 use Rattle.iso_lifecycle.proofs.body_run.BodyRun.reach_next_block.Goals as goal
 

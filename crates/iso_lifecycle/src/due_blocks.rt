@@ -1,0 +1,252 @@
+//! Which block of a body is due, and what the body has beside its block under way.
+ghost use Rattle.std.specs.Prelude.{◌≡◌, ◌<◌, [], ◌∷◌, ◌++◌, ◌^◌, length, true, false, Some, OnOk, IfOk, IfSome};
+ghost use Rattle.iso_lifecycle.specs.JobPlaces.{IsPlaced, IsPlaced-prop};
+
+use crate::blocks::{names_of, part, statements};
+use crate::job::Job;
+use iso_interp::block::Block;
+use iso_interp::run::{BlockEnd, BlockRun};
+use iso_model::bindings::Bindings;
+use iso_model::heads::ClassHead;
+use iso_model::lines::Lines;
+use iso_model::names::Names;
+use iso_model::outcome::Ending;
+use iso_model::place::BlockName;
+use iso_model::rights::Rights;
+use std::alloc::{AllocError, Global};
+use std::mem;
+use std::sync::Arc;
+
+/// The jobs that are left of a body, the names that its block under way doesn't see, and what the
+/// blocks before it left.
+#[derive(Drop)]
+pub struct Rest<'a> {
+    pub(crate) alloc: Global,
+    pub(crate) rights: &'a Rights,
+    pub(crate) classes: &'a [Arc<ClassHead>],
+    pub(crate) test: Block<'a>,
+    pub(crate) next: Option<Job>,
+    pub(crate) names: Bindings,
+    pub(crate) printed: u32,
+    pub(crate) lines: Lines,
+    pub(crate) endings: Vec<Ending>,
+    ghost placed: { IsPlaced (length classes.now) next } by { IsPlaced-prop (length classes.now) next },
+    ghost shallow: { length classes.now < 2 ^ 32 },
+}
+
+impl<'a> Rest<'a> {
+    ghost use Rattle.std.specs.List.{list_all};
+    ghost use Rattle.iso_model.specs.Bodies.{account_after, beside_job, job_environment, stage_from};
+    ghost use Rattle.iso_model.specs.Jobs.{is_due};
+    ghost use Rattle.iso_model.specs.Statements.{is_well};
+    ghost use Rattle.iso_model.specs.Steps.{first_point, is_done};
+    ghost use Rattle.iso_interp.specs.Blocks.{is_empty};
+    ghost use Rattle.iso_interp.specs.Runs.{local_of, names_before, pieces_of, point_of_run, run_rights};
+    ghost use Rattle.iso_model.specs.Rights.{access_in};
+    ghost use Rattle.iso_lifecycle.specs.BodyRuns.{settled_with};
+    ghost use Rattle.iso_lifecycle.specs.DueBlocks.{HaveRights, SameChain, account_in, begun_with, beside_in, job_in, jobs_left, stage_with};
+
+    /// Ends a block, of which nothing is left to do.
+    fn end_block(&mut self, run: BlockRun<'a>) -> Result<(), AllocError>
+        requires { is_done (pieces_of run) ≡ true }
+        ensures account { OnOk result (account_in self.new
+            ≡ account_after (names_before run.entry) (local_of run.entry) (beside_in self.old)) }
+        ensures chain { SameChain self.old self.new }
+        ensures next { self.new.next ≡ self.old.next }
+    {
+        let BlockEnd {
+            ending,
+            output,
+            names,
+        } = run.finish();
+        // Each is put away before out of memory is answered, so that nothing is left over on that
+        // way out.
+        let ended = add_ending(&mut self.endings, ending);
+        let printed = self.lines.append(output);
+        self.printed = names.printed();
+        put_before(self.alloc, &mut self.names, names.into_bindings())?;
+        printed?;
+        ended
+    }
+
+    /// Ends a block of which nothing is left to do, and answers any other.
+    fn end_block_if_done(&mut self, run: BlockRun<'a>) -> Result<Option<BlockRun<'a>>, AllocError>
+        ensures stage { IfOk result (λ block. begun_with block self.new
+            ≡ settled_with (Some run.entry) self.old) }
+        ensures same { IfOk result (λ block. IfSome block (λ left. left ≡ run.entry)) }
+        ensures chain { SameChain self.old self.new }
+        ensures next { self.new.next ≡ self.old.next }
+    {
+        if !run.is_ended() {
+            return Ok(Some(run));
+        }
+        self.end_block(run)?;
+        Ok(None)
+    }
+
+    /// The environment of a job's block, which takes the names that it sees.
+    fn environment(&mut self, job: Job) -> Result<Names, AllocError>
+        requires { IsPlaced (length self.old.classes.now) (Some job) }
+        ensures names { IfOk result (λ names. names
+            ≡ job_environment (job_in self.old job) (account_in self.old)) }
+        ensures beside { OnOk result (beside_in self.new
+            ≡ beside_job (job_in self.old job) (account_in self.old)) }
+        ensures chain { SameChain self.old self.new }
+        ensures next { self.new.next ≡ self.old.next }
+    {
+        let classes = job.classes_seen(self.classes.len());
+        let seen = names_of(self.classes, classes, self.names.len());
+        let bindings = part(self.alloc, &mut self.names, seen)?;
+        Ok(Names::new(bindings, self.printed, job.words()))
+    }
+
+    /// Begins the block of a job.
+    fn begin_block(&mut self, job: Job) -> Result<BlockRun<'a>, AllocError>
+        requires { IsPlaced (length self.old.classes.now) (Some job) }
+        ensures point { IfOk result (λ run. point_of_run run
+            ≡ first_point (job_in self.old job).acts
+            (job_environment (job_in self.old job) (account_in self.old))) }
+        ensures names { IfOk result (λ run. names_before run
+            ≡ length (job_environment (job_in self.old job) (account_in self.old)).names) }
+        ensures rights { IfOk result (λ run. run_rights run ≡ access_in self.old.rights.now) }
+        ensures beside { OnOk result (beside_in self.new
+            ≡ beside_job (job_in self.old job) (account_in self.old)) }
+        ensures chain { SameChain self.old self.new }
+        ensures next { self.new.next ≡ self.old.next }
+    {
+        let names = self.environment(job)?;
+        let block = statements(self.classes, self.test.statements(), job);
+        Ok(BlockRun::new(self.alloc, block, names, self.rights))
+    }
+
+    /// A block that does nothing, in place of one that is left: as long as it stands there the body
+    /// hasn't ended.
+    pub(crate) fn idle(&self) -> BlockRun<'a>
+        ensures { run_rights result ≡ access_in self.now.rights.now }
+    {
+        let none = Bindings::new(self.alloc, Vec::new(self.alloc));
+        let names = Names::new(none, 0, BlockName::Test);
+        BlockRun::new(self.alloc, &[], names, self.rights)
+    }
+
+    /// Whether a job is to be done, after what the blocks before it came to: an `after_each` always
+    /// is.
+    fn is_due(&self, job: Job) -> bool
+        ensures { result ≡ is_due (job_in self.now job) (account_in self.now).endings }
+    {
+        match job {
+            Job::BeforeEach(_) | Job::Test => self.all_well(),
+            Job::AfterEach(_) => true,
+        }
+    }
+
+    /// Whether a job's block has no statement, or isn't written.
+    fn is_empty(&self, job: Job) -> bool
+        requires { IsPlaced (length self.now.classes.now) (Some job) }
+        ensures { result ≡ is_empty (job_in self.now job).acts }
+    {
+        Block::of(statements(self.classes, self.test.statements(), job)).is_empty()
+    }
+
+    /// Whether all blocks ended well so far.
+    fn all_well(&self) -> bool
+        ensures { result ≡ list_all is_well (account_in self.now).endings }
+    {
+        self.endings
+            .iter()
+            .all(|ending| matches!(ending, Ending::Well))
+    }
+
+    /// Leaves the next job behind where it isn't due, or where its block has no statement: such a
+    /// block takes no step, changes nothing and ends well, so no run is made of it. Tells whether
+    /// it did. Any other job is still the next.
+    fn pass(&mut self, job: Job) -> Result<bool, AllocError>
+        requires { self.old.next ≡ Some job }
+        ensures stage { OnOk result (stage_from (jobs_left self.new) (account_in self.new)
+            ≡ stage_from (jobs_left self.old) (account_in self.old)) }
+        ensures jobs { IfOk result (λ passed. passed ≡ true → jobs_left self.old
+            ≡ job_in self.old job ∷ jobs_left self.new) }
+        ensures next { IfOk result (λ passed. passed ≡ false → self.new.next ≡ Some job) }
+        ensures due { IfOk result (λ passed. passed ≡ false
+            → is_due (job_in self.new job) (account_in self.new).endings ≡ true) }
+        ensures some { IfOk result (λ passed. passed ≡ false
+            → is_empty (job_in self.new job).acts ≡ false) }
+        ensures chain { SameChain self.old self.new }
+    {
+        let next = job.after(self.classes.len());
+        if !self.is_due(job) {
+            self.next = next;
+            return Ok(true);
+        }
+        if !self.is_empty(job) {
+            return Ok(false);
+        }
+        add_ending(&mut self.endings, Ending::Well)?;
+        self.next = next;
+        Ok(true)
+    }
+
+    /// Begins the next job, which is due and has statements.
+    fn begin(&mut self, job: Job) -> Result<BlockRun<'a>, AllocError>
+        requires next { self.old.next ≡ Some job }
+        requires due { is_due (job_in self.old job) (account_in self.old).endings ≡ true }
+        requires some { is_empty (job_in self.old job).acts ≡ false }
+        ensures begun { IfOk result (λ run. stage_with (Some run) self.new
+            ≡ stage_from (jobs_left self.old) (account_in self.old)) }
+        ensures rights { IfOk result (λ run. HaveRights (Some run) self.old) }
+        ensures chain { SameChain self.old self.new }
+    {
+        self.next = job.after(self.classes.len());
+        let run = self.begin_block(job)?;
+        Ok(run)
+    }
+
+    /// Begins the next block that has something to do, if there is one.
+    #[tactic(auto, using(crate::proofs::WorkLemmas::shorter))]
+    pub(crate) fn follow(&mut self) -> Result<Option<BlockRun<'a>>, AllocError>
+        ensures stage { IfOk result (λ run. stage_with run self.new
+            ≡ stage_from (jobs_left self.old) (account_in self.old)) }
+        ensures rights { IfOk result (λ run. HaveRights run self.old) }
+        ensures chain { SameChain self.old self.new }
+    {
+        while let Some(job) = self.next {
+            let passed = self.pass(job)?;
+            if !passed {
+                let run = self.begin(job)?;
+                return Ok(Some(run));
+            }
+        }
+        Ok(None)
+    }
+
+    /// Goes on with a block, or where nothing is left of it with the next that has something to do,
+    /// if there is one.
+    pub(crate) fn settle(&mut self, run: BlockRun<'a>) -> Result<Option<BlockRun<'a>>, AllocError>
+        requires { run_rights run ≡ access_in self.old.rights.now }
+        ensures stage { IfOk result (λ block. stage_with block self.new
+            ≡ settled_with (Some run.entry) self.old) }
+        ensures rights { IfOk result (λ block. HaveRights block self.old) }
+        ensures chain { SameChain self.old self.new }
+    {
+        match self.end_block_if_done(run)? {
+            Some(run) => Ok(Some(run)),
+            None => self.follow(),
+        }
+    }
+}
+
+/// Adds an ending.
+fn add_ending(endings: &mut Vec<Ending>, ending: Ending) -> Result<(), AllocError>
+    ensures { OnOk result (endings.new.items ≡ endings.old.items ++ ending ∷ []) }
+{
+    endings.push(ending)?;
+    Ok(())
+}
+
+/// Puts names before others.
+fn put_before(alloc: Global, names: &mut Bindings, first: Bindings) -> Result<(), AllocError>
+    ensures { OnOk result (names.new ≡ first ++ names.old) }
+{
+    let behind = mem::replace(names, first);
+    names.append(alloc, behind)
+}

@@ -1,7 +1,0 @@
-use Rattle.std.proofs.Common.{drop, map}
-use Rattle.iso_summary.specs.Sources.{shown_byte}
-use Rattle.iso_tap.proofs.PrinterLemmas.{LeftToPrint}
-use Rattle.iso_summary.proofs.source.shown.Given as goal
-
-abbrev pub invariant-loop-byte : goal.invariant-loop-byte
-invariant-loop-byte g l = LeftToPrint l.fn.printer l.printer (map shown_byte l.bytes) (map shown_byte (drop l.byte-index l.bytes))
