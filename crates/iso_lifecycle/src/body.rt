@@ -173,7 +173,8 @@ impl<'a> Body<'a> {
         self.run.is_ended()
     }
 
-    /// What the body came to, once it has ended. Takes no memory.
+    /// What the body came to, once it has ended. That this is what the definitions say of its subject
+    /// is kept by the type `Done` (`IsDone`). Takes no memory.
     pub fn into_done(self) -> Done
         requires { is_ended (stage_of_body self) ≡ true }
         ensures subject { result.subject ≡ subject_of self.entry }

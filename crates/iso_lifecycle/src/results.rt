@@ -84,7 +84,8 @@ impl<'a> Results<'a> {
     }
 
     /// The result of a node: of a test once its end was put, of a class once both its ends were
-    /// put, and of each descendant of a class whose `before_all` was put and didn't end well.
+    /// put, and of each descendant of a class whose `before_all` was put and didn't end well. That
+    /// it is the one of the node run alone is kept by the type (`AreKept`), which `result_in` tells.
     pub fn get(&self, node: u32) -> Option<View<'_>>
         requires { node < length self.now.plan.rows }
         ensures { option_map outcome_of_view result ≡ result_in self.now node }

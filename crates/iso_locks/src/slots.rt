@@ -72,9 +72,10 @@ impl Slots {
         Ok(slots)
     }
 
-    /// A slot more.
+    /// A slot more. Once out of memory there is none more, and what was to stand in it is dropped.
     pub fn add(&mut self, item: Option<Held>) -> Result<(), AllocError>
-        ensures { OnOk result (self.new ≡ self.old ++ item ∷ []) }
+        ensures added { OnOk result (self.new ≡ self.old ++ item ∷ []) }
+        ensures same { OnErr result (self.new ≡ self.old) }
     {
         match self.items.push(item) {
             Ok(()) => Ok(()),

@@ -70,7 +70,8 @@ impl Owner {
         }
     }
 
-    /// Takes the node at the front, or none where at one moment no node lay in the deque.
+    /// Takes a node, or none where at one moment no node lay in the deque. It is the one at the
+    /// front, of which no contract tells: the account of a deque is the same in any order.
     pub fn take(&mut self) -> Option<u32>
         ensures taken { IfSome result (λ node. self.new
             ≡ record self.old { taken = self.old.taken ++ node ∷ [] }) }

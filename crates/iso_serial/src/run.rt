@@ -23,8 +23,8 @@ use std::alloc::{AllocError, Global};
 use std::snapshot::Snapshot;
 
 /// For a runner of one's own: runs every class and test of a plan on one thread, depth first, and
-/// answers their results. That of each node is the one of the node run alone. Out of memory is the
-/// only error.
+/// answers their results. That of each node is the one of the node run alone, which the type
+/// `Results` keeps. Out of memory is the only error.
 pub fn run<'a>(alloc: Global, plan: &'a Plan, world: &'a World) -> Result<Results<'a>, AllocError>
     ensures plan { IfOk result (λ r. r.plan ≡ plan.now) }
     ensures start { IfOk result (λ r. r.start ≡ world.now) }

@@ -33,6 +33,6 @@ keys-preserved c =
     let is : c.new-held.result.now ≡ starting_value_in c.args.world.now (key_at (tree_of c.args.plan.now) n) =
     ap (λ (h : History). h.now) c.new-held.ensures ∙ c.in_ok-value.ensures ∙ ap (starting_value_in c.args.world.now) (c.in_ok-key.ensures ∙ c.in_ok-copied.ensures ∙ c.key.ensures) in
     record {
-      all = ap (map is_some) c.in_ok-add.ensures ∙ map_push is_some vs (Some c.new-held.result) ∙ ap (λ (bs : List Bool). bs ++ true ∷ []) c.keys.invariant.all ∙ replicate_more n true;
-      start = more (λ i. starting_value_in c.args.world.now (key_at (tree_of c.args.plan.now) i)) vs c.add.new.self n c.new-held.result len c.in_ok-add.ensures is c.keys.invariant.start;
+      all = ap (map is_some) c.in_ok-add.ensures.added ∙ map_push is_some vs (Some c.new-held.result) ∙ ap (λ (bs : List Bool). bs ++ true ∷ []) c.keys.invariant.all ∙ replicate_more n true;
+      start = more (λ i. starting_value_in c.args.world.now (key_at (tree_of c.args.plan.now) i)) vs c.add.new.self n c.new-held.result len c.in_ok-add.ensures.added is c.keys.invariant.start;
     }
