@@ -9,7 +9,7 @@ ghost use Rattle.iso_plan.specs.RowView.{tree_of};
 use crate::namesake::{names, namesake_in, namesakes};
 use crate::own::own_agree;
 use crate::starts::Starts;
-use iso_plan::laws::nodes_are_a_tree;
+use iso_plan::laws;
 use iso_plan::plan::Plan;
 use iso_settings::world::World;
 use std::alloc::{AllocError, Global};
@@ -39,8 +39,8 @@ pub fn fates(
     ensures fates { IfOk result
         (λ fates. AreFates (suites old.now before.now new.now after.now) fates.items) }
 {
-    nodes_are_a_tree(old);
-    nodes_are_a_tree(new);
+    laws::nodes_are_a_tree(old);
+    laws::nodes_are_a_tree(new);
     let names = names(alloc, old)?;
     let mut starts = Starts::new(alloc, before, after);
     let mut fates = Vec::with_capacity(alloc, new.len() as usize)?;
@@ -73,8 +73,8 @@ fn fate_in(
         (IsFate (suites old.now starts.old.before new.now starts.old.after) node) }
     ensures same { starts.new ≡ starts.old }
 {
-    nodes_are_a_tree(old);
-    nodes_are_a_tree(new);
+    laws::nodes_are_a_tree(old);
+    laws::nodes_are_a_tree(new);
     match above {
         Fate::Same(class) => match namesake_in(old, names, class, new, node) {
             Some(namesake) if own_agree(alloc, old, namesake, new, node, starts)? => {

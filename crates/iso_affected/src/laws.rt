@@ -20,7 +20,7 @@ ghost use Rattle.iso_plan.specs.RowView.{tree_of};
 ghost use Rattle.iso_settings.specs.Worlds.{Start};
 ghost use Rattle.iso_suites.specs.ScriptLanguage.{Head};
 
-use iso_plan::laws::nodes_are_a_tree;
+use iso_plan::laws;
 use iso_plan::plan::Plan;
 
 /// A node that agrees with one of another plan has in each run the outcome that the other has in
@@ -31,8 +31,8 @@ pub fn nodes_that_agree_have_equal_outcomes(old: &Plan, new: &Plan)
         → NodesAgree (subject old.now before m) (subject new.now after n)
         → MayComeTo old.now before m p → MayComeTo new.now after n q → p ≡ q }
 {
-    nodes_are_a_tree(old);
-    nodes_are_a_tree(new);
+    laws::nodes_are_a_tree(old);
+    laws::nodes_are_a_tree(new);
 }
 
 /// What a change doesn't alter: a node of the new suite whose fate is `Same` has in each run the
@@ -54,8 +54,8 @@ pub fn nodes_agree_where_all_on_their_paths_do(old: &Plan, new: &Plan)
         → (AllAgree (suites old.now before new.now after) n
         ↔ NodesAgree (subject old.now before m) (subject new.now after n)) }
 {
-    nodes_are_a_tree(old);
-    nodes_are_a_tree(new);
+    laws::nodes_are_a_tree(old);
+    laws::nodes_are_a_tree(new);
 }
 
 /// Each reason is a difference, and there is one where two heads don't agree: they agree just where
@@ -75,8 +75,8 @@ pub fn changed_nodes_have_a_reason(old: &Plan, new: &Plan)
         → slice_index_or fates n New ≡ Changed m
         → list_any (tells told) (path (tree_of new.now) n) ≡ true }
 {
-    nodes_are_a_tree(old);
-    nodes_are_a_tree(new);
+    laws::nodes_are_a_tree(old);
+    laws::nodes_are_a_tree(new);
 }
 
 /// A node and its namesake have one path, as `jtap plan` prints it.
@@ -84,8 +84,8 @@ pub fn namesakes_have_equal_paths(old: &Plan, new: &Plan)
     ensures { (n m : ℕ) → namesake (tree_of old.now) (tree_of new.now) n ≡ Some m
         → path_text (tree_of old.now) m ≡ path_text (tree_of new.now) n }
 {
-    nodes_are_a_tree(old);
-    nodes_are_a_tree(new);
+    laws::nodes_are_a_tree(old);
+    laws::nodes_are_a_tree(new);
 }
 
 /// Tests, and classes, that agree so agree as the law

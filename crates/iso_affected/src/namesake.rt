@@ -7,7 +7,7 @@ ghost use Rattle.iso_plan.specs.Children.{IsChild};
 ghost use Rattle.iso_plan.specs.Paths.{children, column, parent, row_at};
 ghost use Rattle.iso_plan.specs.RowView.{tree_of};
 
-use iso_plan::laws::{children_have_their_parent, nodes_are_a_tree};
+use iso_plan::laws;
 use iso_plan::plan::Plan;
 use std::alloc::{AllocError, Global};
 use std::collections::BTreeMap;
@@ -17,8 +17,8 @@ pub fn namesakes(alloc: Global, one: &Plan, other: &Plan) -> Result<Vec<Option<u
     ensures { IfOk result (λ v. v.items ≡ column (namesake (tree_of one.now) (tree_of other.now))
         (length other.now.rows)) }
 {
-    nodes_are_a_tree(one);
-    nodes_are_a_tree(other);
+    laws::nodes_are_a_tree(one);
+    laws::nodes_are_a_tree(other);
     let names = names(alloc, one)?;
     let mut namesakes = Vec::with_capacity(alloc, other.len() as usize)?;
     namesakes.push(Some(0))?;
@@ -51,7 +51,7 @@ pub(crate) fn namesake_in(
     ensures namesake { result ≡ namesake (tree_of one.now) (tree_of other.now) node }
     ensures child { IfSome result (IsChild (tree_of one.now) class (length one.now.rows)) }
 {
-    nodes_are_a_tree(other);
+    laws::nodes_are_a_tree(other);
     child_named(one, names, class, other.name(node))
 }
 
@@ -62,7 +62,7 @@ fn child_named(plan: &Plan, names: &[BTreeMap<&str, u32>], class: u32, name: &st
     ensures named { result ≡ child_named (tree_of plan.now) name.now (Some class) }
     ensures child { IfSome result (IsChild (tree_of plan.now) class (length plan.now.rows)) }
 {
-    children_have_their_parent(plan);
+    laws::children_have_their_parent(plan);
     names[class as usize].get(name).copied()
 }
 
@@ -74,7 +74,7 @@ pub(crate) fn names<'a>(
 ) -> Result<Vec<BTreeMap<&'a str, u32>>, AllocError>
     ensures { IfOk result (λ tables. FindChildren (tree_of plan.now) tables.items) }
 {
-    children_have_their_parent(plan);
+    laws::children_have_their_parent(plan);
     let mut tables = Vec::with_capacity(alloc, plan.len() as usize)?;
     'classes: for class in 0..plan.len() {
         let table = names_of(alloc, plan, plan.children(class))?;

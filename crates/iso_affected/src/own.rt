@@ -19,7 +19,7 @@ use iso_model::place::Lifecycle;
 use iso_model::same::heads::{same_class_head, same_test_head};
 use iso_model::text::Text;
 use iso_model::tree::Stmt;
-use iso_plan::laws::nodes_are_a_tree;
+use iso_plan::laws;
 use iso_plan::plan::Plan;
 use std::alloc::{AllocError, Global};
 use std::sync::Arc;
@@ -133,7 +133,7 @@ pub fn own_head(plan: &Plan, node: u32) -> OwnHead<'_>
     requires within { node < length plan.now.rows }
     ensures { lent_head result ≡ head_of (row_at (tree_of plan.now) node).kind }
 {
-    nodes_are_a_tree(plan);
+    laws::nodes_are_a_tree(plan);
     let chain = plan.chain(node);
     match chain.test {
         Some(test) => OwnHead::Test(test),

@@ -7,7 +7,7 @@ ghost use Rattle.iso_plan.specs.RowView.{tree_of};
 use crate::affected::Fate;
 use crate::difference::{Difference, what_differs};
 use crate::starts::Starts;
-use iso_plan::laws::nodes_are_a_tree;
+use iso_plan::laws;
 use iso_plan::plan::Plan;
 use iso_settings::world::World;
 use std::alloc::{AllocError, Global};
@@ -28,7 +28,7 @@ pub fn differences(
     ensures told { IfOk result (λ told. AreDifferences
         (suites old.now before.now new.now after.now) fates.now told.items) }
 {
-    nodes_are_a_tree(new);
+    laws::nodes_are_a_tree(new);
     let mut starts = Starts::new(alloc, before, after);
     let mut told = Vec::with_capacity(alloc, new.len() as usize)?;
     told.push(None)?;
@@ -55,8 +55,8 @@ fn difference_of(
         (IsDifferenceOf (suites old.now starts.old.before new.now starts.old.after) node fate) }
     ensures same { starts.new ≡ starts.old }
 {
-    nodes_are_a_tree(old);
-    nodes_are_a_tree(new);
+    laws::nodes_are_a_tree(old);
+    laws::nodes_are_a_tree(new);
     match fate {
         Fate::Changed(namesake) => {
             let difference = what_differs(alloc, old, namesake, new, node, starts)?;

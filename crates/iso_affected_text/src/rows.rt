@@ -14,7 +14,7 @@ use crate::row::{Became, Row};
 use iso_affected::affected::Fate;
 use iso_affected::difference::Difference;
 use iso_affected::listed::is_listed;
-use iso_plan::laws::{nodes_are_a_tree, parents_come_first, paths_lead_up};
+use iso_plan::laws;
 use std::alloc::{AllocError, Global};
 
 /// The rows of the nodes that a change can alter, as they are written: those of the new suite that
@@ -36,7 +36,7 @@ fn add_nodes<'a>(rows: &mut Vec<Row<'a>>, change: &Change<'a>) -> Result<(), All
     ensures { OnOk result (map row_of rows.new.items ≡ map row_of rows.old.items
         ++ nodes_rows (change_of change.now) (length change.now.new.plan.now.rows)) }
 {
-    nodes_are_a_tree(change.new.plan);
+    laws::nodes_are_a_tree(change.new.plan);
     'nodes: for node in 1..change.new.plan.len() {
         add_node(rows, change, node)?;
     }
@@ -110,8 +110,8 @@ fn add_reasons<'a>(
         ≡ map row_of rows.old.items ++ reasons_on (change_of change.now)
         (path (tree_of change.now.new.plan.now) node)) }
 {
-    parents_come_first(change.new.plan);
-    paths_lead_up(change.new.plan);
+    laws::parents_come_first(change.new.plan);
+    laws::paths_lead_up(change.new.plan);
     match change.new.plan.parent(node) {
         Some(class) => {
             add_reasons(rows, change, class)?;
@@ -128,7 +128,7 @@ fn add_own<'a>(rows: &mut Vec<Row<'a>>, change: &Change<'a>, node: u32) -> Resul
     ensures { OnOk result (map row_of rows.new.items ≡ map row_of rows.old.items
         ++ own_rows (change_of change.now) node) }
 {
-    nodes_are_a_tree(change.new.plan);
+    laws::nodes_are_a_tree(change.new.plan);
     match change.fates[node as usize] {
         Fate::Changed(namesake) => {
             add_told(rows, change, node, namesake, change.told[node as usize])

@@ -12,7 +12,7 @@ use crate::change::Side;
 use crate::row::{Block, Spot};
 use iso_model::place::{BlockName, Place};
 use iso_places::end::{ScriptLine, line_of_end};
-use iso_plan::laws::{parents_come_first, paths_lead_up};
+use iso_plan::laws;
 use iso_plan::plan::Plan;
 
 /// How the script is called that has no name: it was read from standard input.
@@ -105,8 +105,8 @@ fn depth_of(plan: &Plan, node: u32) -> u32
     requires { node < length plan.now.rows }
     ensures { result ≡ length (path (tree_of plan.now) node) }
 {
-    parents_come_first(plan);
-    paths_lead_up(plan);
+    laws::parents_come_first(plan);
+    laws::paths_lead_up(plan);
     let mut at = node;
     let mut depth = 0;
     'up: while let Some(class) = plan.parent(at) {

@@ -20,7 +20,7 @@ use iso_lifecycle::view::View;
 use iso_locks::tray::Tray;
 use iso_locks::vault::Vault;
 use iso_plan::held_nodes::HeldNodes;
-use iso_plan::laws::nodes_are_a_tree;
+use iso_plan::laws;
 use iso_plan::plan::Plan;
 use iso_settings::world::World;
 use iso_standing::event::Event;
@@ -85,7 +85,7 @@ impl<'a> Book<'a> {
     ) -> Result<Book<'a>, AllocError>
         ensures { IfOk result (λ b. b ≡ new_book plan.now world.now workers) }
     {
-        nodes_are_a_tree(plan);
+        laws::nodes_are_a_tree(plan);
         results_follow_nodes(plan);
         let nodes = plan.len() as usize;
         Ok(Book {

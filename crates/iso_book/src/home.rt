@@ -8,7 +8,7 @@ ghost use Rattle.iso_plan.specs.Paths.{parent, path};
 ghost use Rattle.iso_plan.specs.RowView.{tree_of};
 
 use iso_locks::tray::Tray;
-use iso_plan::laws::nodes_are_a_tree;
+use iso_plan::laws;
 use iso_plan::lock::takes_write;
 
 /// Whether a node that waits may be entered with a tray of the book's plan and starting values.
@@ -48,7 +48,7 @@ fn holds_writers(tray: &Tray<'_>, node: u32) -> bool
         (path (tree_of tray.now.plan) (parent (tree_of tray.now.plan) node)) }
 {
     let plan = tray.plan();
-    nodes_are_a_tree(plan);
+    laws::nodes_are_a_tree(plan);
     let mut at = plan.parent(node).unwrap_or(0);
     'up: while at > 0 {
         if is_missing(tray, at) {

@@ -17,7 +17,7 @@ use iso_lifecycle::done::Done;
 use iso_lifecycle::kind::BodyKind;
 use iso_locks::tray::Tray;
 use iso_model::access::Access;
-use iso_plan::laws::nodes_are_a_tree;
+use iso_plan::laws;
 use iso_plan::lock::Lock;
 use iso_plan::plan::Plan;
 use iso_standing::refused::Refused;
@@ -32,7 +32,7 @@ fn first_kind(plan: &Plan, node: u32) -> BodyKind
     ensures fits { is_kind_of result (row_at (tree_of plan.now) node).kind ≡ true }
     ensures first { is_after_all result ≡ false }
 {
-    nodes_are_a_tree(plan);
+    laws::nodes_are_a_tree(plan);
     if plan.is_test(node) {
         BodyKind::Test
     } else {

@@ -9,7 +9,7 @@ ghost use Rattle.iso_settings.specs.Worlds.{Start};
 ghost use Rattle.iso_suites.specs.ScriptLanguage.{scripts};
 ghost use Rattle.iso_suites.specs.SuiteStates.{RunState, IsReached, suite_at};
 
-use iso_plan::laws::nodes_are_a_tree;
+use iso_plan::laws;
 use iso_plan::plan::Plan;
 
 /// What is entered beside a node: where a node is entered, or its last body has ended, each other
@@ -23,5 +23,5 @@ pub(crate) fn entered_nodes_are_apart(plan: &Plan)
         → IsReached plan.now world s → v.tray.plan ≡ plan.now → IsFlatOf v s.nodes
         → body_in (s.nodes.status n) ≡ Some b → IsInnermost v n }
 {
-    nodes_are_a_tree(plan);
+    laws::nodes_are_a_tree(plan);
 }

@@ -17,7 +17,7 @@ use iso_locks::tray::{Savepoint, Tray};
 use iso_model::resource::{Ask, Change};
 use iso_model::resource_key::ResourceKey;
 use iso_model::touch::Touch;
-use iso_plan::laws::nodes_are_a_tree;
+use iso_plan::laws;
 use iso_plan::plan::Plan;
 use iso_settings::world::World;
 use std::alloc::{AllocError, Global};
@@ -82,7 +82,7 @@ impl<'a> FlatMap<'a> {
             (E.entering scripts (suite_at self.old.tray.plan self.old.tray.world) node s)) }
         ensures unchanged { OnErr result (self.new ≡ self.old) }
     {
-        nodes_are_a_tree(self.tray.plan());
+        laws::nodes_are_a_tree(self.tray.plan());
         let mark = self.tray.mark(alloc, node)?;
         self.marks[node as usize] = Some(mark);
         Ok(())
@@ -106,7 +106,7 @@ impl<'a> FlatMap<'a> {
             (E.stepping scripts (suite_at self.old.tray.plan self.old.tray.world)
             (subject_of body.old).node s (stage_of_body body.old))) }
     {
-        nodes_are_a_tree(self.tray.plan());
+        laws::nodes_are_a_tree(self.tray.plan());
         body.step(self)
     }
 
@@ -120,7 +120,7 @@ impl<'a> FlatMap<'a> {
         ensures state { (s : RunNodes) (r : Outcome) → IsFlatOf self.old s → IsFlatOf self.new
             (finishing scripts (suite_at self.old.tray.plan self.old.tray.world) node r s) }
     {
-        nodes_are_a_tree(self.tray.plan());
+        laws::nodes_are_a_tree(self.tray.plan());
         if let Some(mark) = self.marks[node as usize].take() {
             self.tray.undo(mark);
         }

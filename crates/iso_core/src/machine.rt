@@ -27,7 +27,7 @@ use iso_lifecycle::frame::Frame;
 use iso_lifecycle::kind::BodyKind;
 use iso_lifecycle::results::Results;
 use iso_lifecycle::view::View;
-use iso_plan::laws::nodes_are_a_tree;
+use iso_plan::laws;
 use iso_plan::plan::Plan;
 use iso_settings::world::World;
 use iso_standing::core_fault::CoreFault;
@@ -106,7 +106,7 @@ fn first_kind(plan: &Plan, node: u32) -> BodyKind
     ensures fits { is_kind_of result (row_at (tree_of plan.now) node).kind ≡ true }
     ensures first { is_after_all result ≡ false }
 {
-    nodes_are_a_tree(plan);
+    laws::nodes_are_a_tree(plan);
     if plan.is_test(node) {
         BodyKind::Test
     } else {
@@ -120,7 +120,7 @@ fn class_count(plan: &Plan, class: u32) -> usize
     requires class { is_test (row_at (tree_of plan.now) class).kind ≡ false }
     ensures { result ≡ length (path (tree_of plan.now) class) }
 {
-    nodes_are_a_tree(plan);
+    laws::nodes_are_a_tree(plan);
     plan.chain(class).classes.len()
 }
 
@@ -139,7 +139,7 @@ fn opened_frames(
     ensures { IfOk result (λ v. v.items ≡ map (subject plan.now results.now.start)
         (reverse (path (tree_of plan.now) class))) }
 {
-    nodes_are_a_tree(plan);
+    laws::nodes_are_a_tree(plan);
     let mut frames = Vec::with_capacity(alloc, class_count(plan, class))?;
     results.share_frames(class, &mut frames)?;
     Ok(frames)
@@ -302,7 +302,7 @@ impl<'a> Core<'a> {
         ensures taken { OnOk result (self.new ≡ with_event self.old (Event.Step worker)) }
         ensures stopped { OnErr result (self.new ≡ record self.old { stopped = true }) }
     {
-        nodes_are_a_tree(self.plan);
+        laws::nodes_are_a_tree(self.plan);
         bodies_stand_as_alone(self.plan);
         results_follow_nodes(self.plan);
         bodies_follow_events(self.plan);
@@ -371,7 +371,7 @@ impl<'a> Core<'a> {
         ensures { IfOk result (λ b. IsUnderWay self.now.plan self.now.world node b
             (E.entering scripts (suite_in self.now) node (state_in self.now).nodes)) }
     {
-        nodes_are_a_tree(self.plan);
+        laws::nodes_are_a_tree(self.plan);
         bodies_stand_as_alone(self.plan);
         let class = self.plan.parent(node).unwrap_or(0);
         let kind = first_kind(self.plan, node);
@@ -389,7 +389,7 @@ impl<'a> Core<'a> {
         ensures { IfOk result (λ b. IsUnderWay self.now.plan self.now.world node b
             (E.shutting scripts (suite_in self.now) node (state_in self.now).nodes)) }
     {
-        nodes_are_a_tree(self.plan);
+        laws::nodes_are_a_tree(self.plan);
         bodies_stand_as_alone(self.plan);
         let kind = BodyKind::AfterAll;
         let frames = opened_frames(self.alloc, self.plan, &self.results, node)?;
@@ -458,14 +458,14 @@ impl<'a> Core<'a> {
         ensures run { is_run scripts (suite_in self.now) self.now.workers
             (first scripts (suite_in self.now)) (events_of self.now.events) ≡ true }
     {
-        nodes_are_a_tree(self.plan);
+        laws::nodes_are_a_tree(self.plan);
     }
 
     /// What its finished nodes came to is theirs alone, as the type keeps.
     fn is_isolated(&self)
         ensures { IsIsolated self.now }
     {
-        nodes_are_a_tree(self.plan);
+        laws::nodes_are_a_tree(self.plan);
     }
 }
 

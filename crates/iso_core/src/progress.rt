@@ -4,7 +4,7 @@ ghost use Rattle.iso_core.specs.Cores.{is_complete, refusal_in};
 ghost use Rattle.iso_core.specs.Progress.{Refuses, entered_by_owner, shut_by_owner};
 
 use crate::machine::Core;
-use iso_plan::laws::nodes_are_a_tree;
+use iso_plan::laws;
 use iso_standing::event::Event;
 
 impl Core<'_> {
@@ -68,7 +68,7 @@ impl Core<'_> {
         ensures none { result ≡ None → (n : ℕ) → 0 < n → n < length self.now.plan.rows
             → Refuses self.now (entered_by_owner self.now n) }
     {
-        nodes_are_a_tree(self.plan());
+        laws::nodes_are_a_tree(self.plan());
         'nodes: for node in 1..self.plan().len() {
             let worker = self.owner(self.plan().parent(node).unwrap_or(0));
             let enter = Event::Enter { worker, node };

@@ -8,7 +8,7 @@ use crate::marks::marks;
 use crate::order::{latest_first, place_of};
 use crate::path::path;
 use iso_lifecycle::kind::BodyKind;
-use iso_plan::laws::nodes_are_a_tree;
+use iso_plan::laws;
 use iso_plan::plan::Plan;
 use iso_times::times::Times;
 use iso_waits::wait::NodeWait;
@@ -66,7 +66,7 @@ pub fn critical(
 ) -> Result<CriticalBodies, AllocError>
     ensures { IfOk result (λ c. c ≡ critical (run_of plan.now times.now waits.now)) }
 {
-    nodes_are_a_tree(plan);
+    laws::nodes_are_a_tree(plan);
     let holders = last_holders(alloc, waits, plan.len())?;
     let told = Waits::new(alloc, plan, times)?;
     let ended = latest_first(alloc, times, plan.len())?;

@@ -3,7 +3,7 @@ ghost use Rattle.std.specs.Prelude.{◌≡◌, ◌<◌, length};
 ghost use Rattle.iso_plan.specs.Paths.{is_under, parent};
 ghost use Rattle.iso_plan.specs.RowView.{tree_of};
 
-use iso_plan::laws::{parents_come_first, paths_lead_up};
+use iso_plan::laws;
 use iso_plan::plan::Plan;
 
 /// Whether a node is this class or a descendant of it.
@@ -11,8 +11,8 @@ pub(crate) fn is_under(plan: &Plan, class: u32, node: u32) -> bool
     requires { node < length plan.now.rows }
     ensures { result ≡ is_under (tree_of plan.now) class node }
 {
-    parents_come_first(plan);
-    paths_lead_up(plan);
+    laws::parents_come_first(plan);
+    laws::paths_lead_up(plan);
     let mut at = node;
     'up: while at > 0 {
         if at == class {

@@ -13,7 +13,7 @@ ghost use Rattle.iso_plan.specs.Tree.{Row};
 ghost use Rattle.iso_tap.specs.Reports.{all_ok};
 
 use iso_lifecycle::results::Results;
-use iso_plan::laws::nodes_are_a_tree;
+use iso_plan::laws;
 use iso_plan::plan::Plan;
 
 /// Each test passed, was skipped, failed or was blocked, and did only one of these.
@@ -31,7 +31,7 @@ pub fn report_is_ok_where_nothing_failed(plan: &Plan, results: &Results<'_>)
     ensures lines { (all_ok (tree_of plan.now) (outcome_in results.now) ≡ true)
         ↔ (failed_text (tree_of plan.now) (outcome_in results.now) ≡ []) }
 {
-    nodes_are_a_tree(plan);
+    laws::nodes_are_a_tree(plan);
 }
 
 /// The tests that the failures block, of each as many as it blocks, are together all blocked tests
@@ -42,7 +42,7 @@ pub fn failures_block_what_is_blocked(plan: &Plan, results: &Results<'_>)
         (failures (tree_of plan.now) (outcome_in results.now))
         ≡ (counts (tree_of plan.now) (outcome_in results.now)).blocked }
 {
-    nodes_are_a_tree(plan);
+    laws::nodes_are_a_tree(plan);
 }
 
 /// The paths of what failed, given as a selection, keep each node that failed.
@@ -52,5 +52,5 @@ pub fn paths_of_failures_keep_them(plan: &Plan)
         → is_kept (tree_of plan.now)
         (map (path_text (tree_of plan.now)) (failures (tree_of plan.now) outcome)) n ≡ true }
 {
-    nodes_are_a_tree(plan);
+    laws::nodes_are_a_tree(plan);
 }

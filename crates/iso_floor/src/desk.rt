@@ -21,7 +21,7 @@ use iso_book::book::Book;
 use iso_book::receipt::Receipt;
 use iso_lifecycle::done::Done;
 use iso_locks::tray::Tray;
-use iso_plan::laws::nodes_are_a_tree;
+use iso_plan::laws;
 use iso_plan::lock::Lock;
 use iso_plan::plan::Plan;
 use iso_posts::owner::Owner;
@@ -86,7 +86,7 @@ impl<'a, G: Ground> Desk<'a, G> {
         requires start { world.now ≡ G.start }
         requires workers { workers ≡ G.workers }
     {
-        nodes_are_a_tree(plan);
+        laws::nodes_are_a_tree(plan);
         let mut seats = Posts::new(alloc, workers as usize)?;
         let mut scheduler = Scheduler::new(alloc, plan, workers)?;
         post_root(&mut scheduler, plan, &mut seats)?;
@@ -266,7 +266,7 @@ impl<'a, G: Ground> Desk<'a, G> {
             tray.old tray.new) }
         ensures tray { OnOk result (IsEntered node tray.old tray.new) }
     {
-        nodes_are_a_tree(self.book.plan());
+        laws::nodes_are_a_tree(self.book.plan());
         self.book.enter_own(worker, node, tray)?;
         self.scheduler
             .enter(self.book.plan(), self.book.held(), node, worker);
@@ -289,7 +289,7 @@ impl<'a, G: Ground> Desk<'a, G> {
             tray.old tray.new) }
         ensures tray { OnOk result (IsShut class tray.old tray.new) }
     {
-        nodes_are_a_tree(self.book.plan());
+        laws::nodes_are_a_tree(self.book.plan());
         self.book.shut_own(worker, class, tray)?;
         self.scheduler.shut(class, worker);
         Ok(())
@@ -313,7 +313,7 @@ impl<'a, G: Ground> Desk<'a, G> {
         ensures reads { OnOk result ((n : ℕ) → is_lent tray.new.lent n ≡ true
             → ReadsStart n tray.new) }
     {
-        nodes_are_a_tree(self.book.plan());
+        laws::nodes_are_a_tree(self.book.plan());
         let (kind, node) = (done.kind(), done.node());
         let receipt = self.book.leave_own(worker, done, tray)?;
         let left = self

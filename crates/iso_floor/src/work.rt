@@ -10,8 +10,7 @@ use crate::seat::Seat;
 use crate::turn::Turn;
 use crate::worker::Worker;
 use iso_lifecycle::gate::Gate;
-use iso_locks::laws::values_are_of_lent_nodes;
-use iso_plan::laws::nodes_are_a_tree;
+use iso_plan::laws;
 use std::alloc::Global;
 use std::sync::Wait;
 
@@ -125,8 +124,8 @@ fn is_free<'a, G: Ground>(seat: &Seat<'a, G>) -> bool
 {
     let tray = seat.tray();
     let plan = tray.plan();
-    nodes_are_a_tree(plan);
-    values_are_of_lent_nodes(tray);
+    laws::nodes_are_a_tree(plan);
+    iso_locks::laws::values_are_of_lent_nodes(tray);
     if tray.is_flat() {
         return false;
     }

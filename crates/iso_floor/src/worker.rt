@@ -17,8 +17,7 @@ use iso_lifecycle::body::Body;
 use iso_lifecycle::done::Done;
 use iso_lifecycle::gate::Gate;
 use iso_lifecycle::kind::BodyKind;
-use iso_locks::laws::lent_nodes_find_their_values;
-use iso_plan::laws::nodes_are_a_tree;
+use iso_plan::laws;
 use iso_plan::lock::takes_write;
 use iso_plan::plan::Plan;
 use iso_standing::core_fault::CoreFault;
@@ -48,8 +47,8 @@ impl<'w, 'a, G: Ground, R: Wait, T: Gate> Worker<'w, 'a, G, R, T> {
         ensures { OnOk result (IsFree seat.new.tray) }
     {
         let plan = self.floor.plan();
-        nodes_are_a_tree(plan);
-        lent_nodes_find_their_values(seat.tray());
+        laws::nodes_are_a_tree(plan);
+        iso_locks::laws::lent_nodes_find_their_values(seat.tray());
         if is_done_whole(plan, node) {
             self.finish(seat, node)
         } else {
@@ -62,8 +61,8 @@ impl<'w, 'a, G: Ground, R: Wait, T: Gate> Worker<'w, 'a, G, R, T> {
         requires { IsShutFree class seat.old.tray }
         ensures { OnOk result (IsFree seat.new.tray) }
     {
-        nodes_are_a_tree(self.floor.plan());
-        lent_nodes_find_their_values(seat.tray());
+        laws::nodes_are_a_tree(self.floor.plan());
+        iso_locks::laws::lent_nodes_find_their_values(seat.tray());
         let done = self.perform(seat, class, BodyKind::AfterAll)?;
         self.leave(seat, done)
     }

@@ -16,7 +16,7 @@ use iso_lifecycle::body::Body;
 use iso_lifecycle::done::Done;
 use iso_lifecycle::kind::BodyKind;
 use iso_locks::tray::Tray;
-use iso_plan::laws::nodes_are_a_tree;
+use iso_plan::laws;
 use iso_plan::plan::Plan;
 use iso_standing::refused::Refused;
 use std::alloc::Global;
@@ -33,7 +33,7 @@ fn is_class(plan: &Plan, node: u32) -> bool
     requires within { node < length plan.now.rows }
     ensures { result ≡ true → is_kind_of BeforeAll (row_at (tree_of plan.now) node).kind ≡ true }
 {
-    nodes_are_a_tree(plan);
+    laws::nodes_are_a_tree(plan);
     !plan.is_test(node)
 }
 

@@ -4,7 +4,7 @@ ghost use Rattle.std.specs.Prelude.{◌≡◌};
 use crate::answer::{Answer, expect};
 use crate::calls::Calls;
 use crate::host::Host;
-use iso_locks::laws::lent_nodes_may_be_taken_back;
+use iso_locks::laws;
 use iso_locks::tray::Tray;
 use iso_locks::vault::Vault;
 use iso_plan::held_nodes::HeldNodes;
@@ -134,7 +134,7 @@ fn lend_class<H: Host>(
     requires plan { tray.old.plan ≡ vault.old.plan }
     requires world { tray.old.world ≡ vault.old.world }
 {
-    lent_nodes_may_be_taken_back();
+    laws::lent_nodes_may_be_taken_back();
     if tray.plan().len() < 2 || vault.is_lent(1) || !tray.can_hold(1) {
         return Err(Answer::Wrong("the class can't be lent"));
     }

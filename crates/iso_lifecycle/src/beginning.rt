@@ -18,7 +18,7 @@ use iso_model::bindings::Bindings;
 use iso_model::heads::ClassContents;
 use iso_model::names::Sort;
 use iso_model::place::{BlockName, Lifecycle};
-use iso_plan::laws::{chains_grow_down, paths_lead_up};
+use iso_plan::laws;
 use std::alloc::{AllocError, Global};
 
 /// What a body begins with: its run, how many of its names are of the enclosing classes, and the
@@ -70,8 +70,8 @@ impl<'a> Origin<'a> {
         ensures { IfOk result (IsBeginning self.now) }
     {
         self.frames_are_left_before(frames);
-        paths_lead_up(self.plan);
-        chains_grow_down(self.plan);
+        laws::paths_lead_up(self.plan);
+        laws::chains_grow_down(self.plan);
         let chain = self.plan.chain(self.node);
         let Some(test) = chain.test else {
             unreachable!();
@@ -114,8 +114,8 @@ impl<'a> Origin<'a> {
             ≡ (opened_before (kind_of_origin self.now) (subject_of_origin self.now)).frames }
     {
         are_of_classes(frames);
-        paths_lead_up(self.plan);
-        chains_grow_down(self.plan);
+        laws::paths_lead_up(self.plan);
+        laws::chains_grow_down(self.plan);
     }
 
     /// What a body begins with whose run is at its beginning, with `outer` names of the enclosing

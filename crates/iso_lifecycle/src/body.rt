@@ -18,7 +18,7 @@ use crate::origin::Origin;
 use crate::verdict::{first_ending, verdict};
 use iso_model::outcome::Outcome;
 use iso_model::touch::Touch;
-use iso_plan::laws::chains_grow_down;
+use iso_plan::laws;
 use iso_plan::plan::Plan;
 use iso_settings::world::World;
 use std::alloc::{AllocError, Global};
@@ -186,7 +186,7 @@ impl<'a> Body<'a> {
             frame,
             ..
         } = self;
-        chains_grow_down(origin.plan);
+        laws::chains_grow_down(origin.plan);
         let end = run.finish();
         // What no end keeps is dropped by calls: its parts then stand in the proofs of those alone.
         drop(end.names);

@@ -3,7 +3,7 @@ ghost use Rattle.iso_lifecycle.specs.Subjects.{first_kind, is_kind_of};
 ghost use Rattle.iso_plan.specs.Paths.{row_at};
 ghost use Rattle.iso_plan.specs.RowView.{tree_of};
 
-use iso_plan::laws::nodes_are_a_tree;
+use iso_plan::laws;
 use iso_plan::plan::Plan;
 
 /// Which of its node's bodies a body is: a class has a `before_all` and an `after_all`, a test is
@@ -21,7 +21,7 @@ pub fn first_kind(plan: &Plan, node: u32) -> BodyKind
     ensures first { result ≡ first_kind (tree_of plan.now) node }
     ensures fits { 0 < node → is_kind_of result (row_at (tree_of plan.now) node).kind ≡ true }
 {
-    nodes_are_a_tree(plan);
+    laws::nodes_are_a_tree(plan);
     if plan.is_test(node) {
         BodyKind::Test
     } else {

@@ -19,7 +19,7 @@ use iso_model::heads::ClassHead;
 use iso_model::names::Sort;
 use iso_model::rights::Rights;
 use iso_model::shared_names::SharedNames;
-use iso_plan::laws::chains_grow_down;
+use iso_plan::laws;
 use iso_plan::plan::Plan;
 use iso_settings::world::World;
 use std::alloc::{AllocError, Global};
@@ -58,7 +58,7 @@ impl<'a> Origin<'a> {
             classes_of s ≡ class_head_of result.0.now ∷ classes_of (enclosing s) }
         ensures depth { result.1 ≡ length (classes_of (subject_of_origin self.now)) }
     {
-        chains_grow_down(self.plan);
+        laws::chains_grow_down(self.plan);
         let classes = self.plan.chain(self.node).classes;
         (head(classes, classes.len() - 1), classes.len() as u32)
     }
@@ -107,7 +107,7 @@ impl<'a> Origin<'a> {
             (stage_of run.now) }
         ensures { IfOk result (λ statics. IsFrame (subject_of_origin self.now) statics) }
     {
-        chains_grow_down(self.plan);
+        laws::chains_grow_down(self.plan);
         SharedNames::new(alloc, frozen_past(alloc, run.names(), outer)?)
     }
 

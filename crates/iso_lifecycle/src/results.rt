@@ -14,7 +14,7 @@ use crate::done::{Done, Opened};
 use crate::entry::Entry;
 use crate::frame::Frame;
 use crate::view::View;
-use iso_plan::laws::nodes_are_a_tree;
+use iso_plan::laws;
 use iso_plan::plan::Plan;
 use iso_settings::world::World;
 use std::alloc::{AllocError, Global};
@@ -153,7 +153,7 @@ impl<'a> Results<'a> {
             ≡ map (subject self.now.plan self.now.start) (path (tree_of self.now.plan) node)) }
         ensures capacity { vec_capacity frames.new ≡ vec_capacity frames.old }
     {
-        nodes_are_a_tree(self.plan);
+        laws::nodes_are_a_tree(self.plan);
         let mut at = node;
         'up: while let Some(class) = self.plan.parent(at) {
             let frame = self.frame(at).unwrap().share()?;

@@ -14,7 +14,7 @@ ghost use Rattle.iso_plan.specs.Locks.{taken};
 ghost use Rattle.iso_plan.specs.RowView.{tree_of};
 
 use crate::tray::Tray;
-use iso_plan::laws::nodes_are_a_tree;
+use iso_plan::laws;
 
 /// Further changes let every mark be gone back to that could be before, and the one that was made
 /// then.
@@ -65,7 +65,7 @@ pub fn lent_nodes_find_their_values(tray: &Tray<'_>)
         → is_writable (taken (tree_of tray.now.plan) n k) ≡ true
         → has_value tray.now k ≡ true }
 {
-    nodes_are_a_tree(tray.plan());
+    laws::nodes_are_a_tree(tray.plan());
     tray.keep_owners();
 }
 

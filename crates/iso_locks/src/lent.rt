@@ -7,7 +7,7 @@ ghost use Rattle.iso_plan.specs.RowView.{tree_of};
 
 use crate::lockers::Lockers;
 use iso_plan::held_nodes::HeldNodes;
-use iso_plan::laws::nodes_are_a_tree;
+use iso_plan::laws;
 use iso_plan::plan::Plan;
 use std::alloc::{AllocError, Global};
 use std::marker::Model;
@@ -63,7 +63,7 @@ impl<'a> LentNodes<'a> {
         ensures beside { result ≡ false → IsBeside (tree_of self.now.plan) self.now.held node }
         ensures clashes { IsBeside (tree_of self.now.plan) self.now.held node → result ≡ false }
     {
-        nodes_are_a_tree(self.plan);
+        laws::nodes_are_a_tree(self.plan);
         if self.lent.excludes(node) {
             return true;
         }
@@ -79,7 +79,7 @@ impl<'a> LentNodes<'a> {
         requires free { is_lent self.old.held node ≡ false }
         ensures { self.new ≡ holding node self.old }
     {
-        nodes_are_a_tree(self.plan);
+        laws::nodes_are_a_tree(self.plan);
         self.lent.hold(node);
         if let Some(locker) = self.plan.locking_node(node) {
             self.lockers.add(locker);
@@ -92,7 +92,7 @@ impl<'a> LentNodes<'a> {
         requires lent { is_lent self.old.held node ≡ true }
         ensures { self.new ≡ releasing node self.old }
     {
-        nodes_are_a_tree(self.plan);
+        laws::nodes_are_a_tree(self.plan);
         self.lent.release(node);
         if let Some(locker) = self.plan.locking_node(node) {
             self.lockers.remove(locker);

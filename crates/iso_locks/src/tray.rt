@@ -29,7 +29,7 @@ use iso_model::resource::{Ask, Change};
 use iso_model::resource_key::ResourceKey;
 use iso_model::rights::Rights;
 use iso_model::touch::Touch;
-use iso_plan::laws::nodes_are_a_tree;
+use iso_plan::laws;
 use iso_plan::lock::Lock;
 use iso_plan::plan::Plan;
 use iso_settings::world::World;
@@ -228,7 +228,7 @@ impl<'a> Tray<'a> {
             ≡ record self.old { frames = frames_on results.now class }) }
         ensures err { OnErr result (self.new ≡ self.old) }
     {
-        nodes_are_a_tree(self.plan);
+        laws::nodes_are_a_tree(self.plan);
         results.share_frames(class, &mut self.spare)?;
         mem::swap(&mut self.frames, &mut self.spare);
         self.spare.clear();

@@ -7,7 +7,7 @@ ghost use Rattle.iso_plan.specs.RowView.{tree_of};
 
 use crate::site::{Site, Sites};
 use iso_model::place::{BlockName, Lifecycle, Place};
-use iso_plan::laws::{parents_come_first, paths_lead_up};
+use iso_plan::laws;
 use iso_plan::plan::Plan;
 use iso_script::place::{BlockLine, BlockLines, LifecycleLines};
 
@@ -91,8 +91,8 @@ fn node_at_depth(plan: &Plan, node: u32, depth: u32) -> Option<u32>
     requires { node < length plan.now.rows }
     ensures { result ≡ node_at_depth (tree_of plan.now) node depth }
 {
-    parents_come_first(plan);
-    paths_lead_up(plan);
+    laws::parents_come_first(plan);
+    laws::paths_lead_up(plan);
     let below = depth_of(plan, node).checked_sub(depth)?;
     if depth == 0 {
         return None;
@@ -109,8 +109,8 @@ fn depth_of(plan: &Plan, node: u32) -> u32
     requires { node < length plan.now.rows }
     ensures { result ≡ length (path (tree_of plan.now) node) }
 {
-    parents_come_first(plan);
-    paths_lead_up(plan);
+    laws::parents_come_first(plan);
+    laws::paths_lead_up(plan);
     let mut at = node;
     let mut depth = 0;
     'up: while let Some(class) = plan.parent(at) {

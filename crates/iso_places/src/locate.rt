@@ -11,7 +11,7 @@ use crate::paths::plan_paths;
 use crate::site::Sites;
 use crate::table::{all_sites, sites_by_path, sites_of};
 use iso_model::script::Script;
-use iso_plan::laws::nodes_are_a_tree;
+use iso_plan::laws;
 use iso_plan::overview::look_over;
 use iso_plan::plan::Plan;
 use iso_script::place::NodePlace;
@@ -35,7 +35,7 @@ pub fn locate(
     ensures refused { IfErr result (IsRefusal (map script_of scripts.now)
         (all_sites (places_in places.now)) (tree_of plan.now)) }
 {
-    nodes_are_a_tree(plan);
+    laws::nodes_are_a_tree(plan);
     let nodes = look_over(alloc, scripts)?;
     let sites = all_sites(alloc, places)?;
     let table = sites_by_path(alloc, &nodes.paths[1..], &sites)?;

@@ -4,7 +4,7 @@ ghost use Rattle.iso_plan.specs.RowView.{tree_of};
 ghost use Rattle.iso_plan.specs.TopClasses.{all_paths};
 
 use iso_model::text::Text;
-use iso_plan::laws::{nodes_are_a_tree, parents_come_first};
+use iso_plan::laws;
 use iso_plan::plan::Plan;
 use std::alloc::{AllocError, Global};
 
@@ -12,7 +12,7 @@ use std::alloc::{AllocError, Global};
 pub fn plan_paths(alloc: Global, plan: &Plan) -> Result<Vec<Text>, AllocError>
     ensures { IfOk result (λ v. v.items ≡ all_paths (tree_of plan.now)) }
 {
-    nodes_are_a_tree(plan);
+    laws::nodes_are_a_tree(plan);
     let mut paths = Vec::with_capacity(alloc, plan.len() as usize)?;
     paths.push(Text::new(String::new(alloc)))?;
     'nodes: for node in 1..plan.len() {

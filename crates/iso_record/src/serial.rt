@@ -6,7 +6,7 @@ ghost use Rattle.iso_record.specs.Recordings.{HasTaken, OfSameSuite, history_in}
 ghost use Rattle.iso_record.specs.SerialRuns.{AreSerialRecordOf, HasClosed, HasOpened, HasRun, HasRunInside, HasRunTest, MayClose, MayRun, MayRunInside};
 
 use crate::recording::Recording;
-use iso_plan::laws::{children_have_their_parent, nodes_are_a_tree};
+use iso_plan::laws;
 use iso_plan::plan::Plan;
 use iso_settings::world::World;
 use iso_standing::event::Event;
@@ -27,7 +27,7 @@ pub fn record_serial(
     requires { 0 < workers }
     ensures { IfOk result (λ es. AreSerialRecordOf plan.now world.now workers es.items) }
 {
-    nodes_are_a_tree(plan);
+    laws::nodes_are_a_tree(plan);
     let mut recording = Recording::new(alloc, plan, world, workers)?;
     recording.children(plan, 0)?;
     Ok(recording.into_events())
@@ -46,7 +46,7 @@ impl Recording<'_> {
         ensures run { OnOk result (HasRun self.old.plan self.old.world self.old.workers node
             (history_in self.old) (history_in self.new)) }
     {
-        nodes_are_a_tree(plan);
+        laws::nodes_are_a_tree(plan);
         self.first_body(plan, node)?;
         if plan.is_test(node) {
             return Ok(());
@@ -68,8 +68,8 @@ impl Recording<'_> {
         ensures run { OnOk result (HasRunInside self.old.plan self.old.world self.old.workers class
             (history_in self.old) (history_in self.new)) }
     {
-        nodes_are_a_tree(plan);
-        children_have_their_parent(plan);
+        laws::nodes_are_a_tree(plan);
+        laws::children_have_their_parent(plan);
         'children: for child in plan.children(class) {
             if !self.is_finished(*child) {
                 self.node(plan, *child)?;
@@ -93,7 +93,7 @@ impl Recording<'_> {
             → OnOk result (HasOpened self.old.plan self.old.world self.old.workers node
             (history_in self.old) (history_in self.new)) }
     {
-        nodes_are_a_tree(plan);
+        laws::nodes_are_a_tree(plan);
         self.go_on_by(Event::Enter {
             worker: WORKER,
             node,
@@ -112,7 +112,7 @@ impl Recording<'_> {
         ensures closed { OnOk result (HasClosed self.old.plan self.old.world self.old.workers node
             (history_in self.old) (history_in self.new)) }
     {
-        nodes_are_a_tree(plan);
+        laws::nodes_are_a_tree(plan);
         self.go_on_by(Event::Shut {
             worker: WORKER,
             node,

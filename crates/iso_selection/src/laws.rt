@@ -16,7 +16,7 @@ ghost use Rattle.iso_selection.specs.declared.shard.Shard.{Shard};
 
 use iso_model::script::Script;
 use iso_plan::plan::Plan;
-use iso_suites::laws::selected_nodes_have_the_results_of_the_whole_run;
+use iso_suites::laws;
 
 /// The picked paths name just the nodes that are asked for; with a shard, just the picked ones
 /// where no two nodes have one path.
@@ -71,7 +71,7 @@ pub fn shards_have_the_results_of_the_whole_run(whole: &Plan, part: &Plan)
         ≡ picked_tree scripts wishes (Some shard)
         → KeepsResults whole.now part.now (picked_paths (tree scripts) wishes (Some shard)) }
 {
-    selected_nodes_have_the_results_of_the_whole_run(whole, part);
+    laws::selected_nodes_have_the_results_of_the_whole_run(whole, part);
 }
 
 /// Where no path is picked the root alone is kept, and that is the tree of no scripts.

@@ -16,7 +16,7 @@ use iso_lifecycle::kind::BodyKind;
 use iso_lifecycle::results::Results;
 use iso_locks::tray::Tray;
 use iso_locks::vault::Vault;
-use iso_plan::laws::nodes_are_a_tree;
+use iso_plan::laws;
 use iso_plan::plan::Plan;
 use iso_settings::world::World;
 use std::alloc::{AllocError, Global};
@@ -86,7 +86,7 @@ impl<'g, 'a, G: Gate> Serial<'g, 'a, G> {
             ≡ no_results self.now.plan.now self.now.world.now) }
         ensures between { IfOk result (λ w. BetweenNodes self.now.plan.now self.now.world.now 0 w) }
     {
-        nodes_are_a_tree(self.plan);
+        laws::nodes_are_a_tree(self.plan);
         Ok(Walk {
             vault: Vault::new(self.alloc, self.plan, self.world)?,
             tray: Tray::new(self.alloc, self.plan, self.world)?,
@@ -242,7 +242,7 @@ impl<'g, 'a, G: Gate> Serial<'g, 'a, G> {
         ensures within { result < length self.now.plan.now.rows }
         ensures class { is_test (row_at (tree_of self.now.plan.now) result).kind ≡ false }
     {
-        nodes_are_a_tree(self.plan);
+        laws::nodes_are_a_tree(self.plan);
         match kind {
             BodyKind::BeforeAll | BodyKind::Test => self.plan.parent(node).unwrap(),
             BodyKind::AfterAll => node,

@@ -20,7 +20,7 @@ ghost use Rattle.iso_plan.specs.Paths.{parent, path, row_at};
 ghost use Rattle.iso_plan.specs.RowView.{tree_of};
 ghost use Rattle.iso_settings.specs.Worlds.{Start};
 
-use iso_plan::laws::nodes_are_a_tree;
+use iso_plan::laws;
 use iso_plan::plan::Plan;
 
 /// How results follow what happens to a node.
@@ -58,7 +58,7 @@ pub fn results_follow_leaves(plan: &Plan)
         → r.plan ≡ plan.now → r.start ≡ world → n < length plan.now.rows
         → result_in r n ≡ result_of s n }
 {
-    nodes_are_a_tree(plan);
+    laws::nodes_are_a_tree(plan);
 }
 
 /// How the bodies of workers follow the events of a run.
@@ -126,5 +126,5 @@ pub fn bodies_stand_as_alone(plan: &Plan)
         → IsReached plan.now world s → AreResultsOf r s.nodes → n < length plan.now.rows
         → is_at_rest (s.nodes.status n) ≡ true → AreOpened r (path (tree_of plan.now) n) }
 {
-    nodes_are_a_tree(plan);
+    laws::nodes_are_a_tree(plan);
 }

@@ -19,7 +19,7 @@ ghost use Rattle.iso_plan.specs.RowView.{tree_of};
 use crate::event::Event;
 use crate::phase::Phase;
 use iso_plan::held_nodes::HeldNodes;
-use iso_plan::laws::{nodes_stand_in_preorder, parents_come_first};
+use iso_plan::laws;
 use iso_plan::plan::Plan;
 use std::alloc::{AllocError, Global};
 use std::marker::Model;
@@ -252,7 +252,7 @@ impl<'a> Standing<'a> {
         ensures before { 0 < node → result < node }
         ensures known { result < nodes_in self.now }
     {
-        parents_come_first(self.plan);
+        laws::parents_come_first(self.plan);
         self.plan.parent(node).unwrap_or(0)
     }
 
@@ -347,8 +347,8 @@ impl<'a> Standing<'a> {
         requires inner { 0 < class }
         ensures { IsBarred class self.old self.new }
     {
-        parents_come_first(self.plan);
-        nodes_stand_in_preorder(self.plan);
+        laws::parents_come_first(self.plan);
+        laws::nodes_stand_in_preorder(self.plan);
         self.set_phase(class, Phase::Barred);
         let nodes = self.plan.len();
         let mut node = class + 1;

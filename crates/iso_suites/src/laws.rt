@@ -25,7 +25,7 @@ ghost use Rattle.iso_plan.specs.KeptNodes.{plan_tree, selection};
 ghost use Rattle.iso_progress.specs.ProgressLaws.{ProgressLaws};
 ghost use Rattle.iso_settings.specs.Worlds.{Start};
 
-use iso_plan::laws::{nodes_are_a_tree, selected_nodes_keep_their_chains};
+use iso_plan::laws;
 use iso_plan::plan::Plan;
 
 /// The isolation theorem: whatever scripts, or what some paths keep of them, settings and starting
@@ -57,9 +57,9 @@ pub fn selected_nodes_have_the_results_of_the_whole_run(whole: &Plan, selected: 
     ensures { (only : List (List ℕ)) → tree_of selected.now ≡ selection (tree_of whole.now) only
         → KeepsResults whole.now selected.now only }
 {
-    nodes_are_a_tree(whole);
-    nodes_are_a_tree(selected);
-    selected_nodes_keep_their_chains(whole);
+    laws::nodes_are_a_tree(whole);
+    laws::nodes_are_a_tree(selected);
+    laws::selected_nodes_keep_their_chains(whole);
 }
 
 /// Tests, and classes, that agree on their heads, on those of the classes around them and on the
@@ -109,7 +109,7 @@ pub fn histories_go_on_by_leaves(plan: &Plan)
         (state_of scripts (suite_at plan.now world) h) w ≡ None
         → GoesOnByLeave plan.now world workers h w }
 {
-    nodes_are_a_tree(plan);
+    laws::nodes_are_a_tree(plan);
 }
 
 /// After a history each key stands as the innermost class left it whose `before_all` was left, that
@@ -161,5 +161,5 @@ pub fn chains_run_alone_are_tests_and_classes_run_alone()
 pub fn plans_keep_the_laws_of_progress(plan: &Plan)
     ensures { (world : Start) → ProgressLaws scripts (suite_at plan.now world) }
 {
-    nodes_are_a_tree(plan);
+    laws::nodes_are_a_tree(plan);
 }

@@ -14,7 +14,7 @@ ghost use Rattle.iso_telling.specs.ToldPlaces.{located, located_told, told};
 ghost use Rattle.iso_telling.specs.Written.{ArePlaced};
 
 use iso_model::script::Script;
-use iso_places::laws::{each_node_has_a_site, nodes_of_plans_have_sites};
+use iso_places::laws;
 
 /// Where what mends a fault isn't asked for, a node is told with its line alone.
 pub fn nodes_are_told_with_their_lines_alone()
@@ -36,6 +36,6 @@ pub fn nodes_of_suites_have_places(scripts: &[Script])
         → HasStranger (tree scripts) (all_sites places)
         (those_of (is_kept_by (tree scripts) paths) (tree scripts)) → ⊥ }
 {
-    each_node_has_a_site(scripts);
-    nodes_of_plans_have_sites(scripts);
+    laws::each_node_has_a_site(scripts);
+    laws::nodes_of_plans_have_sites(scripts);
 }

@@ -6,7 +6,7 @@ ghost use Rattle.iso_waits.specs.AllWaits.{all_waits};
 use crate::sums::{add_up, append};
 use crate::wait::NodeWait;
 use crate::waits::Waits;
-use iso_plan::laws::nodes_are_a_tree;
+use iso_plan::laws;
 use iso_plan::plan::Plan;
 use iso_times::times::Times;
 use std::alloc::{AllocError, Global};
@@ -19,7 +19,7 @@ pub fn all_waits(alloc: Global, plan: &Plan, times: &Times) -> Result<Vec<NodeWa
     ensures { IfOk result (λ v. v.items ≡ all_waits
         (tree_of plan.now) plan.now.settings times.now) }
 {
-    nodes_are_a_tree(plan);
+    laws::nodes_are_a_tree(plan);
     let mut waits = Waits::new(alloc, plan, times)?;
     let mut sums = vec![in alloc; None; plan.key_count() as usize]?;
     let mut all = Vec::new(alloc);

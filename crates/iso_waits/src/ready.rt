@@ -6,7 +6,7 @@ ghost use Rattle.iso_waits.specs.Waits.{earlier, finished, highest, is_sibling, 
 use crate::stay::stayed;
 use iso_lifecycle::kind::BodyKind;
 use iso_model::script::Mode;
-use iso_plan::laws::parents_come_first;
+use iso_plan::laws;
 use iso_plan::plan::Plan;
 use iso_times::times::Times;
 
@@ -64,7 +64,7 @@ fn last_sibling(plan: &Plan, times: &Times, node: u32) -> Option<u32>
     ensures { result ≡ highest
         (is_sibling (tree_of plan.now) plan.now.settings times.now node) node }
 {
-    parents_come_first(plan);
+    laws::parents_come_first(plan);
     let first = plan.parent(node)? + 1;
     let mut at = node;
     'siblings: while first < at {

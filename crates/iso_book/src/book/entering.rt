@@ -11,9 +11,8 @@ ghost use Rattle.iso_standing.specs.CodeEvents.{refused_of};
 
 use crate::book::Book;
 use crate::home::enters_with;
-use iso_locks::laws::lent_nodes_find_their_values;
 use iso_locks::tray::Tray;
-use iso_plan::laws::nodes_are_a_tree;
+use iso_plan::laws;
 use iso_standing::core_fault::CoreFault;
 use iso_standing::event::Event;
 use iso_standing::following::{bodies_stand_as_alone, results_follow_nodes};
@@ -112,7 +111,7 @@ impl<'a> Book<'a> {
         ensures begins { OnOk result (BeginsIn node tray.new) }
         ensures unchanged { OnErr result (tray.new ≡ tray.old) }
     {
-        nodes_are_a_tree(self.plan);
+        laws::nodes_are_a_tree(self.plan);
         bodies_stand_as_alone(self.plan);
         let class = self.plan.parent(node).unwrap_or(0);
         tray.hand_path(&self.results, class)
@@ -127,11 +126,11 @@ impl<'a> Book<'a> {
         ensures reads { ReadsStart node tray.new }
         ensures held { HoldAlike node self.old self.new }
     {
-        nodes_are_a_tree(self.plan);
+        laws::nodes_are_a_tree(self.plan);
         results_follow_nodes(self.plan);
         self.vault.lend_free(node, tray);
         self.standing.enter(worker, node);
         self.history.push_reserved(Event::Enter { worker, node });
-        lent_nodes_find_their_values(tray);
+        iso_locks::laws::lent_nodes_find_their_values(tray);
     }
 }

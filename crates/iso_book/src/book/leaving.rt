@@ -14,15 +14,12 @@ use crate::home::goes_on_with;
 use crate::receipt::Receipt;
 use iso_lifecycle::done::Done;
 use iso_lifecycle::kind::BodyKind;
-use iso_locks::laws::lent_nodes_find_their_values;
 use iso_locks::tray::Tray;
 use iso_locks::vault::Vault;
-use iso_plan::laws::nodes_are_a_tree;
+use iso_plan::laws;
 use iso_standing::event::Event;
 use iso_standing::following::{results_follow_leaves, results_follow_nodes};
-use iso_standing::laws::standings_tell_of_states;
 use iso_standing::refused::Refused;
-use iso_suites::laws::histories_go_on_by_leaves;
 
 /// What the Leave of a body does to the values: the last body of a node brings home what the node
 /// takes for READ_WRITE. Takes no memory.
@@ -122,7 +119,7 @@ impl<'a> Book<'a> {
         ensures inner { result ≡ None → 0 < done.now.subject.node }
         ensures node { result ≡ None → done.now.subject.node < length self.now.plan.rows }
     {
-        nodes_are_a_tree(self.plan);
+        laws::nodes_are_a_tree(self.plan);
         if let Some(refused) = self.standing.refusal_of_booking(worker) {
             return Some(refused);
         }
@@ -137,7 +134,7 @@ impl<'a> Book<'a> {
         requires { booking_in self.now worker ≡ None }
         ensures { result ≡ is_of_worker self.now worker done.now }
     {
-        nodes_are_a_tree(self.plan);
+        laws::nodes_are_a_tree(self.plan);
         match self.standing.node_of(worker) {
             Some(node) => node == done.node() && self.is_under_way(node, done.kind()),
             None => false,
@@ -180,12 +177,12 @@ impl<'a> Book<'a> {
         ensures reads { (n : ℕ) → is_lent tray.new.lent n ≡ true → ReadsStart n tray.new }
         ensures held { HoldAfter done.kind done.subject.node self.old self.new }
     {
-        nodes_are_a_tree(self.plan);
-        histories_go_on_by_leaves(self.plan);
-        standings_tell_of_states();
+        laws::nodes_are_a_tree(self.plan);
+        iso_suites::laws::histories_go_on_by_leaves(self.plan);
+        iso_standing::laws::standings_tell_of_states();
         results_follow_nodes(self.plan);
         results_follow_leaves(self.plan);
-        lent_nodes_find_their_values(tray);
+        iso_locks::laws::lent_nodes_find_their_values(tray);
         let number = self.history.len();
         let node = done.node();
         let kind = done.kind();
@@ -194,7 +191,7 @@ impl<'a> Book<'a> {
         self.standing.leave(worker, well);
         bring_home(&mut self.vault, node, kind, tray);
         self.history.push_reserved(Event::Leave { worker });
-        lent_nodes_find_their_values(tray);
+        iso_locks::laws::lent_nodes_find_their_values(tray);
         Receipt::new(number, worker, node)
     }
 }

@@ -12,7 +12,7 @@ ghost use Rattle.iso_standing.specs.CodeEvents.{refused_of};
 use crate::book::Book;
 use crate::home::goes_on_with;
 use iso_locks::tray::Tray;
-use iso_plan::laws::nodes_are_a_tree;
+use iso_plan::laws;
 use iso_standing::core_fault::CoreFault;
 use iso_standing::event::Event;
 use iso_standing::following::{bodies_stand_as_alone, results_follow_nodes};
@@ -98,7 +98,7 @@ impl<'a> Book<'a> {
             (subject tray.new.plan tray.new.world node) BodyKind.AfterAll tray.new.frames) }
         ensures unchanged { OnErr result (tray.new ≡ tray.old) }
     {
-        nodes_are_a_tree(self.plan);
+        laws::nodes_are_a_tree(self.plan);
         bodies_stand_as_alone(self.plan);
         tray.hand_path(&self.results, node)
     }
@@ -109,7 +109,7 @@ impl<'a> Book<'a> {
         ensures book { self.new ≡ with_event self.old (Event.Shut worker node) }
         ensures held { HoldSame self.old self.new }
     {
-        nodes_are_a_tree(self.plan);
+        laws::nodes_are_a_tree(self.plan);
         results_follow_nodes(self.plan);
         self.standing.shut(worker, node);
         self.history.push_reserved(Event::Shut { worker, node });

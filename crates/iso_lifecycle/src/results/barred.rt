@@ -8,7 +8,7 @@ ghost use Rattle.iso_lifecycle.specs.Subjects.{subject};
 use crate::done::Opened;
 use crate::results::Results;
 use iso_model::outcome::Ending;
-use iso_plan::laws::nodes_are_a_tree;
+use iso_plan::laws;
 
 impl<'a> Results<'a> {
     /// What bars a node: the `before_all` of an enclosing class, where that was put and
@@ -19,7 +19,7 @@ impl<'a> Results<'a> {
         ensures outcome { IfSome result (λ o. outcome_in self.now node
             ≡ record { verdict = barred_verdict o.now.ending; output = [] }) }
     {
-        nodes_are_a_tree(self.plan);
+        laws::nodes_are_a_tree(self.plan);
         let mut at = node;
         'up: while let Some(class) = self.plan.parent(at) {
             if let Some(opened) = self.barring(class) {

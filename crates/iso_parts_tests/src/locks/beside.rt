@@ -6,7 +6,7 @@ ghost use Rattle.iso_plan.specs.KeyTable.{keys};
 ghost use Rattle.iso_plan.specs.RowView.{tree_of};
 
 use crate::locks::suite::{CART_AND_DESK, READERS_AND_WRITERS, Suite};
-use iso_locks::laws::{lent_nodes_may_be_taken_back, other_nodes_may_still_be_taken_back};
+use iso_locks::laws;
 use iso_locks::tray::Tray;
 use iso_locks::vault::{Busy, Vault};
 use std::alloc::Global;
@@ -22,7 +22,7 @@ fn lend(rt: &impl Abort, vault: &mut Vault<'_>, tray: &mut Tray<'_>, node: u32)
     ensures held { CanHold node tray.old }
     ensures back { CanTakeBack node vault.new tray.new }
 {
-    lent_nodes_may_be_taken_back();
+    laws::lent_nodes_may_be_taken_back();
     assert!(rt; node < tray.plan().len());
     assert!(rt; !vault.is_lent(node) && tray.can_hold(node));
     let Ok(()) = vault.lend(node, tray) else {
@@ -54,7 +54,7 @@ fn lend_after_two(rt: &impl Abort, vault: &mut Vault<'_>, cart: &mut Tray<'_>, d
     requires desk_plan { desk.old.plan ≡ vault.old.plan }
     requires desk_world { desk.old.world ≡ vault.old.world }
 {
-    other_nodes_may_still_be_taken_back();
+    laws::other_nodes_may_still_be_taken_back();
     lend(rt, vault, cart, 1);
     lend(rt, vault, cart, 2);
     assert_eq!(rt; in_the_way(rt, vault, desk, 4), 1);

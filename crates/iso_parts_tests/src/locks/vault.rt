@@ -2,7 +2,7 @@
 ghost use Rattle.std.specs.Prelude.{◌≡◌, ◌<◌, length};
 
 use crate::locks::suite::{CART_AND_DESK, READERS_AND_WRITERS, Suite};
-use iso_locks::laws::lent_nodes_may_be_taken_back;
+use iso_locks::laws;
 use iso_locks::tray::Tray;
 use iso_locks::vault::{Busy, Vault};
 use iso_plan::plan::Plan;
@@ -122,7 +122,7 @@ fn lend_second(
     ensures plan { vault.new.plan ≡ plan.now }
     ensures world { vault.new.world ≡ vault.old.world }
 {
-    lent_nodes_may_be_taken_back();
+    laws::lent_nodes_may_be_taken_back();
     assert!(rt; !vault.is_lent(node) && tray.can_hold(node));
     match vault.lend(node, tray) {
         Ok(()) => {
@@ -158,7 +158,7 @@ fn lend_both(
     requires here_world { here.old.world ≡ vault.old.world }
     requires there_world { there.old.world ≡ vault.old.world }
 {
-    lent_nodes_may_be_taken_back();
+    laws::lent_nodes_may_be_taken_back();
     assert!(rt; first < plan.len() && second < plan.len());
     assert!(rt; !vault.is_lent(first) && here.can_hold(first));
     let Ok(()) = vault.lend(first, here) else {
