@@ -10,7 +10,6 @@ mod schedules;
 #[cfg(test)]
 mod suites;
 #[cfg(test)]
-mod teams;
 #[cfg(test)]
 mod told;
 #[cfg(test)]

@@ -2,7 +2,6 @@
 ghost use Rattle.std.specs.Prelude.{◌≡◌};
 
 use crate::suites::{Check, Surroundings, TWO_WORKERS, check_inputs, expect};
-use crate::teams::{OPS, ORDERS, SHOP, WORLD};
 use iso_core::machine::Core;
 use iso_core::run_events::run_events;
 use iso_plan::plan::Plan;
@@ -13,6 +12,7 @@ use iso_standing::core_fault::CoreFault;
 use iso_standing::event::Event;
 use iso_tap::memory::MemorySink;
 use iso_tap::report::write_report;
+use iso_teams::{OPS, ORDERS, SHOP, WORLD};
 use iso_telling::tells::Tells;
 use std::alloc::{AllocError, Global};
 use std::process::Abort;

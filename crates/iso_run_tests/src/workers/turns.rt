@@ -1,9 +1,9 @@
 //! The three teams by two workers who take turns, step by step.
 use super::expect_report;
 use crate::suites::{TWO_WORKERS, expect};
-use crate::teams::{OPS, ORDERS, REPORT, SHOP, WORLD};
 use iso_lifecycle::gate::Gate;
 use iso_run::inputs::Inputs;
+use iso_teams::{OPS, ORDERS, REPORT, SHOP, WORLD};
 use std::rt::Clock;
 use std::sync::atomic::{AtomicU64, Ordering};
 use std::thread;

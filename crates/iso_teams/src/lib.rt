@@ -1,7 +1,9 @@
-//! The example of three teams: properties, a locale, files, a class that isn't opened, a skipped
-//! test, an isolated class.
+//! The example of three teams, as it stands in `examples/teams`: properties, a locale, files, a
+//! class that isn't opened, a skipped test, an isolated class.
+#![tactic(auto)]
 
-pub(crate) const WORLD: &str = r#"locale = "de"
+/// The starting values of its resources, as `--world` takes them.
+pub const WORLD: &str = r#"locale = "de"
 
 [files]
 "/orders/today.csv" = "pen, book"
@@ -12,7 +14,8 @@ pub(crate) const WORLD: &str = r#"locale = "de"
 "shop.currency" = "USD"
 "#;
 
-pub(crate) const SHOP: &str =
+/// The script of the team `shop`.
+pub const SHOP: &str =
     r#"// Prices in system properties and labels in the default locale. What a test changes, the next one finds restored.
 team shop
 
@@ -54,7 +57,8 @@ class Labels {
 }
 "#;
 
-pub(crate) const ORDERS: &str =
+/// The script of the team `orders`.
+pub const ORDERS: &str =
     r#"// Orders in files. The database has another version than its class wants, so nothing in that class runs.
 team orders
 
@@ -96,7 +100,8 @@ class Database {
 }
 "#;
 
-pub(crate) const OPS: &str = r#"// Nothing else runs beside the migration.
+/// The script of the team `ops`.
+pub const OPS: &str = r#"// Nothing else runs beside the migration.
 team ops
 
 isolated
@@ -129,7 +134,8 @@ class Health {
 }
 "#;
 
-pub(crate) const REPORT: &str = r#"TAP version 14
+/// The report of its run, by any number of workers (TAP version 14).
+pub const REPORT: &str = r#"TAP version 14
 1..6
 # Subtest: shop.prices \#1: with tax
     1..3
