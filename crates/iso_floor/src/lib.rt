@@ -15,6 +15,7 @@ mod keys;
 mod nodes;
 mod offers;
 mod posting;
+mod refusal;
 mod scheduler;
 pub mod seat;
 mod steal;

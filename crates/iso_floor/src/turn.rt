@@ -5,10 +5,10 @@ ghost use Rattle.iso_floor.specs.Turning.{IsTurn};
 use crate::desk::Desk;
 use crate::ground::Ground;
 use crate::halt::Halt;
+use crate::refusal::{Meaning, meaning};
 use crate::seat::Seat;
 use crate::worker::is_done_whole;
 use iso_standing::core_fault::CoreFault;
-use iso_standing::refused::Refused;
 
 /// What a worker finds to do.
 #[derive(Clone, Copy)]
@@ -108,9 +108,13 @@ impl<'a, G: Ground> Seat<'a, G> {
                 }
                 Some(Turn::Entered(node))
             }
-            // It was entered by a caller of `Floor::enter` beside the workers.
-            Err(CoreFault::Refused(Refused::AlreadyEntered)) => None,
-            Err(fault) => Some(Turn::Halted(Halt::from(fault))),
+            Err(CoreFault::Refused(refused)) => match meaning(refused) {
+                Meaning::Entered => None,
+                Meaning::TooEarly | Meaning::Over | Meaning::Never => {
+                    Some(Turn::Halted(Halt::Stopped))
+                }
+            },
+            Err(CoreFault::OutOfMemory) => Some(Turn::Halted(Halt::OutOfMemory)),
         }
     }
 
@@ -119,13 +123,23 @@ impl<'a, G: Ground> Seat<'a, G> {
     {
         match self.shut_at(desk, class) {
             Ok(()) => Some(Turn::Shut(class)),
-            Err(CoreFault::Refused(Refused::ChildrenLeft)) => {
-                let worker = self.worker();
-                match desk.open_up(class, worker, &mut self.posts.owner) {
-                    Ok(()) => None,
-                    Err(fault) => Some(Turn::Halted(Halt::from(fault))),
+            Err(CoreFault::Refused(refused)) => match meaning(refused) {
+                Meaning::TooEarly => self.open_up(desk, class),
+                Meaning::Entered | Meaning::Over | Meaning::Never => {
+                    Some(Turn::Halted(Halt::Stopped))
                 }
-            }
+            },
+            Err(CoreFault::OutOfMemory) => Some(Turn::Halted(Halt::OutOfMemory)),
+        }
+    }
+
+    // Opens a class up to the other workers, whose children aren't done.
+    fn open_up(&mut self, desk: &mut Desk<'a, G>, class: u32) -> Option<Turn>
+        ensures { MatchOption result (self.new ≡ self.old) (λ turn. IsTurn turn self.old self.new) }
+    {
+        let worker = self.worker();
+        match desk.open_up(class, worker, &mut self.posts.owner) {
+            Ok(()) => None,
             Err(fault) => Some(Turn::Halted(Halt::from(fault))),
         }
     }

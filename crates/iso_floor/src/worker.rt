@@ -12,6 +12,7 @@ ghost use Rattle.iso_serial.specs.OpenedTrays.{IsTrayAfter, StandsApart};
 use crate::floor::Floor;
 use crate::ground::Ground;
 use crate::halt::Halt;
+use crate::refusal::{Meaning, meaning};
 use crate::seat::Seat;
 use iso_lifecycle::body::Body;
 use iso_lifecycle::done::Done;
@@ -21,7 +22,6 @@ use iso_plan::laws;
 use iso_plan::lock::takes_write;
 use iso_plan::plan::Plan;
 use iso_standing::core_fault::CoreFault;
-use iso_standing::refused::Refused;
 use std::alloc::Global;
 use std::snapshot::Snapshot;
 use std::sync::Wait;
@@ -93,8 +93,11 @@ impl<'w, 'a, G: Ground, R: Wait, T: Gate> Worker<'w, 'a, G, R, T> {
     {
         match self.floor.enter(self.rt, seat, node) {
             Ok(()) => self.finish(seat, node),
-            Err(CoreFault::Refused(Refused::ParentClosed)) => Ok(()),
-            Err(fault) => Err(Halt::from(fault)),
+            Err(CoreFault::Refused(refused)) => match meaning(refused) {
+                Meaning::Over => Ok(()),
+                Meaning::Entered | Meaning::TooEarly | Meaning::Never => Err(Halt::Stopped),
+            },
+            Err(CoreFault::OutOfMemory) => Err(Halt::OutOfMemory),
         }
     }
 
