@@ -1,14 +1,14 @@
 -- The run that a book's history is in full, and how it goes on by an Enter or a Shut that nothing refuses.
 use Rattle.std.proofs.Common.{◌≡◌, ℕ, ◌<◌, List, [], ◌∷◌, ◌++◌, Option, None, Bool, true, false, is_none, leb, length, refl, sym, ap, ◌∙◌, subst, arith}
 use Rattle.iso_book.specs.Books.{BookView, refusal_in, state_in, suite_in, with_event}
-use Rattle.iso_isolation.proofs.Accepted.{MayShut, enter_told, none_applies, not_refused, in_plan, shut_told}
+use Rattle.iso_isolation.proofs.Accepted.{MayShut, enter_passes, enter_told, in_plan, not_refused, shut_passes, shut_told}
 use Rattle.iso_isolation.proofs.Going.{goes_on}
 use Rattle.iso_isolation.proofs.LockEvents.{MayEnter}
 use Rattle.iso_isolation.specs.Events as E
 use Rattle.iso_isolation.specs.Events.{after}
 use Rattle.iso_isolation.specs.Histories.{GoesOn, IsHistory, has_no_step, state_of}
 use Rattle.iso_isolation.specs.Refusals as Why
-use Rattle.iso_isolation.specs.Refusals.{Refused, kinds, refusal}
+use Rattle.iso_isolation.specs.Refusals.{Refused, refusal}
 use Rattle.iso_isolation.specs.Runs.{after_all_of, full, is_accepted, with_steps}
 use Rattle.iso_isolation.specs.States.{first}
 use Rattle.iso_isolation.specs.Suites.{SuiteLaws}
@@ -94,18 +94,18 @@ module _ (b : BookView) where
     module _ (allowed : refusal_in b (Code.Enter w n) ≡ None) where
       pub unstopped-enter : b.stopped ≡ false
       unstopped-enter =
-          not_refused b.stopped Why.Stopped (none_applies (kinds scripts (suite_in b) b.workers (state_in b) (E.Enter w n)) (accepted (Code.Enter w n) allowed)).0
+          not_refused b.stopped Why.Stopped (enter_passes scripts (suite_in b) b.workers (state_in b) w n (accepted (Code.Enter w n) allowed)).running
 
       pub may-enter : IsTree (tree_of b.plan) → MayEnter (suite_in b) (state_in b).nodes.status n
       may-enter tree = enter_told scripts (suite_in b) b.workers (state_in b) (laws-in tree) w n (accepted (Code.Enter w n) allowed)
 
       pub lock-free : Why.lock_held scripts (suite_in b) b.workers (state_in b) n ≡ None
-      lock-free = (none_applies (kinds scripts (suite_in b) b.workers (state_in b) (E.Enter w n)) (accepted (Code.Enter w n) allowed)).1.1.1.1.1.1.1.1.0
+      lock-free = (enter_passes scripts (suite_in b) b.workers (state_in b) w n (accepted (Code.Enter w n) allowed)).unlocked
 
     module _ (allowed : refusal_in b (Code.Shut w n) ≡ None) where
       pub unstopped-shut : b.stopped ≡ false
       unstopped-shut =
-          not_refused b.stopped Why.Stopped (none_applies (kinds scripts (suite_in b) b.workers (state_in b) (E.Shut w n)) (accepted (Code.Shut w n) allowed)).0
+          not_refused b.stopped Why.Stopped (shut_passes scripts (suite_in b) b.workers (state_in b) w n (accepted (Code.Shut w n) allowed)).running
 
       pub may-shut : MayShut scripts (suite_in b) b.workers (state_in b) n
       may-shut = shut_told scripts (suite_in b) b.workers (state_in b) w n (accepted (Code.Shut w n) allowed)
@@ -113,7 +113,7 @@ module _ (b : BookView) where
       -- the class is in the plan
       pub within-shut : n < length b.plan.rows
       within-shut =
-          let none = (none_applies (kinds scripts (suite_in b) b.workers (state_in b) (E.Shut w n)) (accepted (Code.Shut w n) allowed)).1.1.0 in
+          let none = (shut_passes scripts (suite_in b) b.workers (state_in b) w n (accepted (Code.Shut w n) allowed)).node in
           let less = in_plan (suite_in b).nodes n (not_refused (leb (suite_in b).nodes n) Why.NoNode none) in
           let count = nodes-are b.plan in
           omega (arith, less, count)

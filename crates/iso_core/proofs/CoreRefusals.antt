@@ -12,11 +12,10 @@ use Rattle.iso_suites.specs.SuiteStates.{RunState}
 use Rattle.iso_standing.specs.Standings.{EndsAs, Fits, TellsEnd, HasBody, LooksLike, Standing, has_body_at, node_of, phase_at, workers_in}
 use Rattle.iso_suites.specs.PlanSuites.{suite_of}
 use Rattle.iso_standing.specs.UnderWay.{HasUnderWay, IsUnderWay, body_at}
-use Rattle.iso_isolation.proofs.Accepted.{in_plan, none_applies, nonzero_from, not_refused}
-use Rattle.iso_isolation.specs.Events as E
+use Rattle.iso_isolation.proofs.Accepted.{enter_passes, in_plan, leave_passes, nonzero_from, not_refused, shut_passes, step_passes}
 use Rattle.iso_isolation.specs.Events.{where_some}
 use Rattle.iso_isolation.specs.Refusals as Why
-use Rattle.iso_isolation.specs.Refusals.{Refused, body_of, kinds, is_root, refusal}
+use Rattle.iso_isolation.specs.Refusals.{Refused, body_of, is_root, refusal}
 use Rattle.iso_isolation.specs.States.{body_in, is_at_rest, is_open, is_waiting}
 use Rattle.iso_lifecycle.specs.BodyViews.{stage_of_body}
 use Rattle.iso_lifecycle.specs.ResultViews.{ResultsView}
@@ -138,30 +137,30 @@ module _ (c : CoreView) (v : Standing) (flat : FlatView) (bodies : List (Option 
 
   pub enter-told : (w n : ℕ) → refusal_in c (Code.Enter w n) ≡ None → EnterTold c w n
   enter-told w n h =
-      let t = none_applies (kinds scripts (suite_in c) c.workers state (E.Enter w n)) (accepted c (Code.Enter w n) h) in
+      let t = enter_passes scripts (suite_in c) c.workers state w n (accepted c (Code.Enter w n) h) in
       let st = state.nodes.status in
-      let fresh = either-false (is_root n) (not (is_waiting (st n))) (not_refused (is_root n || not (is_waiting (st n))) Why.AlreadyEntered t.1.1.1.1.1.0) in
-      let shut = not_refused (not (is_root n) && not (is_open (st (parent (tree_of c.plan) n)))) Why.ParentClosed t.1.1.1.1.0 in
+      let fresh = either-false (is_root n) (not (is_waiting (st n))) (not_refused (is_root n || not (is_waiting (st n))) Why.AlreadyEntered t.fresh) in
+      let shut = not_refused (not (is_root n) && not (is_open (st (parent (tree_of c.plan) n)))) Why.ParentClosed t.parent in
       record {
-        worker = worker-of w t.1.0;
-        inside = node-of n t.1.1.0;
+        worker = worker-of w t.worker;
+        inside = node-of n t.node;
         inner = positive n (nonzero_from n fresh.0);
-        free = free-of (unstopped c (Code.Enter w n) h) w t.1.1.1.0;
+        free = free-of (unstopped c (Code.Enter w n) h) w t.free;
         parent_open = un-not (is_open (st (parent (tree_of c.plan) n))) (last-false (not (is_root n)) (not (is_open (st (parent (tree_of c.plan) n)))) shut (ap not fresh.0));
         waiting = un-not (is_waiting (st n)) fresh.1;
       }
 
   pub shut-told : (w n : ℕ) → refusal_in c (Code.Shut w n) ≡ None → ShutTold c w n
   shut-told w n h =
-      let t = none_applies (kinds scripts (suite_in c) c.workers state (E.Shut w n)) (accepted c (Code.Shut w n) h) in
+      let t = shut_passes scripts (suite_in c) c.workers state w n (accepted c (Code.Shut w n) h) in
       let st = state.nodes.status in
-      let class = either-false (is_root n) (is_of_test ((suite_in c).head n)) (not_refused (is_root n || is_of_test ((suite_in c).head n)) Why.NotClass t.1.1.1.1.0) in
+      let class = either-false (is_root n) (is_of_test ((suite_in c).head n)) (not_refused (is_root n || is_of_test ((suite_in c).head n)) Why.NotClass t.class) in
       record {
-        worker = worker-of w t.1.0;
-        inside = node-of n t.1.1.0;
+        worker = worker-of w t.worker;
+        inside = node-of n t.node;
         inner = positive n (nonzero_from n class.0);
-        free = free-of (unstopped c (Code.Shut w n) h) w t.1.1.1.0;
-        rests = un-not (is_at_rest (st n)) (not_refused (not (is_at_rest (st n))) Why.NotOpen t.1.1.1.1.1.0);
+        free = free-of (unstopped c (Code.Shut w n) h) w t.free;
+        rests = un-not (is_at_rest (st n)) (not_refused (not (is_at_rest (st n))) Why.NotOpen t.rests);
         class = class.1;
       }
 
@@ -179,16 +178,16 @@ module _ (c : CoreView) (v : Standing) (flat : FlatView) (bodies : List (Option 
 
   pub step-told : (w : ℕ) → refusal_in c (Code.Step w) ≡ None → BodyTold c bodies w false
   step-told w h =
-      let t = none_applies (kinds scripts (suite_in c) c.workers state (E.Step w)) (accepted c (Code.Step w) h) in
-      let b = told-body w (unstopped c (Code.Step w) h) t.1.0 t.1.1.0 in
+      let t = step_passes scripts (suite_in c) c.workers state w (accepted c (Code.Step w) h) in
+      let b = told-body w (unstopped c (Code.Step w) h) t.worker t.body in
       with-end w false b (sym (ap (λ (o : Option Stage). where_some o false is_ended) (found w (ended_at w) b))
-      ∙ not_refused (where_some (body_of scripts (suite_in c) c.workers state w) false is_ended) Why.BodyEnded t.1.1.1.0)
+      ∙ not_refused (where_some (body_of scripts (suite_in c) c.workers state w) false is_ended) Why.BodyEnded t.going)
 
   pub leave-told : (w : ℕ) → refusal_in c (Code.Leave w) ≡ None → BodyTold c bodies w true
   leave-told w h =
-      let t = none_applies (kinds scripts (suite_in c) c.workers state (E.Leave w)) (accepted c (Code.Leave w) h) in
-      let b = told-body w (unstopped c (Code.Leave w) h) t.1.0 t.1.1.0 in
-      let over = not_refused (where_some (body_of scripts (suite_in c) c.workers state w) false (λ s. not (is_ended s))) Why.BodyNotEnded t.1.1.1.0 in
+      let t = leave_passes scripts (suite_in c) c.workers state w (accepted c (Code.Leave w) h) in
+      let b = told-body w (unstopped c (Code.Leave w) h) t.worker t.body in
+      let over = not_refused (where_some (body_of scripts (suite_in c) c.workers state w) false (λ s. not (is_ended s))) Why.BodyNotEnded t.ended in
       with-end w true b (un-not (is_ended (stage_of_body b.under.body)) (sym (ap (λ (o : Option Stage). where_some o false (λ s. not (is_ended s))) (found w (ended_at w) b)) ∙ over))
 
   -- the same of the body that a worker was found to have

@@ -99,16 +99,91 @@ module _ {H K V B F R : Type 0} (l : Language H K V B F R) (x : Suite H K V) (wo
   pub has_body : (w : ℕ) → not (is_some (body_of l x workers s w)) ≡ false → HasBody w
   has_body w e = has_body_by w (s.busy w) refl (is_true (is_some (body_of l x workers s w)) e)
 
+  -- no kind of refusal of an Enter applies, each by its name
+  pub record EnterPasses (w n : ℕ) : Type 0 where
+    pub running : Why.stopped l x workers s ≡ None
+    pub worker : Why.no_worker l x workers s w ≡ None
+    pub node : Why.no_node l x workers s n ≡ None
+    pub free : Why.worker_busy l x workers s w ≡ None
+    pub parent : Why.parent_closed l x workers s n ≡ None
+    pub fresh : Why.already_entered l x workers s n ≡ None
+    pub owner : Why.not_owner_of_parent l x workers s w n ≡ None
+    pub earlier : Why.earlier_sibling l x workers s n ≡ None
+    pub unlocked : Why.lock_held l x workers s n ≡ None
+
+  pub enter_passes : (w n : ℕ) → is_accepted l x workers s (Enter w n) ≡ true → EnterPasses w n
+  enter_passes w n e =
+      let t = none_applies (kinds l x workers s (Enter w n)) e in
+      record {
+        running = t.0;
+        worker = t.1.0;
+        node = t.1.1.0;
+        free = t.1.1.1.0;
+        parent = t.1.1.1.1.0;
+        fresh = t.1.1.1.1.1.0;
+        owner = t.1.1.1.1.1.1.0;
+        earlier = t.1.1.1.1.1.1.1.0;
+        unlocked = t.1.1.1.1.1.1.1.1.0;
+      }
+
+  -- no kind of refusal of a Step applies, and none of a Leave, each by its name
+  pub record StepPasses (w : ℕ) : Type 0 where
+    pub running : Why.stopped l x workers s ≡ None
+    pub worker : Why.no_worker l x workers s w ≡ None
+    pub body : Why.no_body l x workers s w ≡ None
+    pub going : Why.body_ended l x workers s w ≡ None
+
+  pub step_passes : (w : ℕ) → is_accepted l x workers s (Step w) ≡ true → StepPasses w
+  step_passes w e =
+      let t = none_applies (kinds l x workers s (Step w)) e in
+      record { running = t.0; worker = t.1.0; body = t.1.1.0; going = t.1.1.1.0 }
+
+  pub record LeavePasses (w : ℕ) : Type 0 where
+    pub running : Why.stopped l x workers s ≡ None
+    pub worker : Why.no_worker l x workers s w ≡ None
+    pub body : Why.no_body l x workers s w ≡ None
+    pub ended : Why.body_not_ended l x workers s w ≡ None
+
+  pub leave_passes : (w : ℕ) → is_accepted l x workers s (Leave w) ≡ true → LeavePasses w
+  leave_passes w e =
+      let t = none_applies (kinds l x workers s (Leave w)) e in
+      record { running = t.0; worker = t.1.0; body = t.1.1.0; ended = t.1.1.1.0 }
+
+  -- no kind of refusal of a Shut applies, each by its name
+  pub record ShutPasses (w n : ℕ) : Type 0 where
+    pub running : Why.stopped l x workers s ≡ None
+    pub worker : Why.no_worker l x workers s w ≡ None
+    pub node : Why.no_node l x workers s n ≡ None
+    pub free : Why.worker_busy l x workers s w ≡ None
+    pub class : Why.not_class l x workers s n ≡ None
+    pub rests : Why.not_open l x workers s n ≡ None
+    pub owner : Why.not_owner l x workers s w n ≡ None
+    pub children : Why.children_left l x workers s n ≡ None
+
+  pub shut_passes : (w n : ℕ) → is_accepted l x workers s (Shut w n) ≡ true → ShutPasses w n
+  shut_passes w n e =
+      let t = none_applies (kinds l x workers s (Shut w n)) e in
+      record {
+        running = t.0;
+        worker = t.1.0;
+        node = t.1.1.0;
+        free = t.1.1.1.0;
+        class = t.1.1.1.1.0;
+        rests = t.1.1.1.1.1.0;
+        owner = t.1.1.1.1.1.1.0;
+        children = t.1.1.1.1.1.1.1.0;
+      }
+
   -- an accepted Enter
   pub enter_told : SuiteLaws l x → (w n : ℕ) → is_accepted l x workers s (Enter w n) ≡ true → MayEnter x s.nodes.status n
   enter_told plan w n e =
-      let t = none_applies (kinds l x workers s (Enter w n)) e in
+      let t = enter_passes w n e in
       let st = s.nodes.status in
-      let node = not_refused (leb x.nodes n) Why.NoNode t.1.1.0 in
-      let parent = not_refused (not (is_root n) && not (is_open (st (x.parent n)))) Why.ParentClosed t.1.1.1.1.0 in
-      let fresh = both_false (is_root n) (not (is_waiting (st n))) (not_refused (is_root n || not (is_waiting (st n))) Why.AlreadyEntered t.1.1.1.1.1.0) in
-      let earlier = not_refused (x.is_same_thread n && any_below n (is_unfinished_sibling l x workers s n)) Why.EarlierSibling t.1.1.1.1.1.1.1.0 in
-      let free = no_lock (lowest_below x.nodes (λ m. is_held (s.nodes.status m) && x.conflict m n)) t.1.1.1.1.1.1.1.1.0 in
+      let node = not_refused (leb x.nodes n) Why.NoNode t.node in
+      let parent = not_refused (not (is_root n) && not (is_open (st (x.parent n)))) Why.ParentClosed t.parent in
+      let fresh = both_false (is_root n) (not (is_waiting (st n))) (not_refused (is_root n || not (is_waiting (st n))) Why.AlreadyEntered t.fresh) in
+      let earlier = not_refused (x.is_same_thread n && any_below n (is_unfinished_sibling l x workers s n)) Why.EarlierSibling t.earlier in
+      let free = no_lock (lowest_below x.nodes (λ m. is_held (s.nodes.status m) && x.conflict m n)) t.unlocked in
       record {
         nonzero = nonzero_from n fresh.0;
         inside = in_plan x.nodes n node;
@@ -127,8 +202,8 @@ module _ {H K V B F R : Type 0} (l : Language H K V B F R) (x : Suite H K V) (wo
   -- an accepted Step, and an accepted Leave
   pub step_told : (w : ℕ) → is_accepted l x workers s (Step w) ≡ true → HasBody w
   step_told w e =
-      let t = none_applies (kinds l x workers s (Step w)) e in
-      has_body w (not_refused (not (is_some (body_of l x workers s w))) Why.NoBody t.1.1.0)
+      let t = step_passes w e in
+      has_body w (not_refused (not (is_some (body_of l x workers s w))) Why.NoBody t.body)
 
   pub record HasEnded (w : ℕ) : Type 0 where
     pub has : HasBody w
@@ -136,9 +211,9 @@ module _ {H K V B F R : Type 0} (l : Language H K V B F R) (x : Suite H K V) (wo
 
   pub leave_told : (w : ℕ) → is_accepted l x workers s (Leave w) ≡ true → HasEnded w
   leave_told w e =
-      let t = none_applies (kinds l x workers s (Leave w)) e in
-      let h = has_body w (not_refused (not (is_some (body_of l x workers s w))) Why.NoBody t.1.1.0) in
-      let ended = not_refused (where_some (body_of l x workers s w) false (λ b. not (l.ended b))) Why.BodyNotEnded t.1.1.1.0 in
+      let t = leave_passes w e in
+      let h = has_body w (not_refused (not (is_some (body_of l x workers s w))) Why.NoBody t.body) in
+      let ended = not_refused (where_some (body_of l x workers s w) false (λ b. not (l.ended b))) Why.BodyNotEnded t.ended in
       record { has = h; over = is_true (l.ended h.body) (sym (ap (λ (o : Option B). where_some o false (λ b. not (l.ended b))) (body_found w h)) ∙ ended) }
 
   -- an accepted Shut
@@ -150,10 +225,10 @@ module _ {H K V B F R : Type 0} (l : Language H K V B F R) (x : Suite H K V) (wo
 
   pub shut_told : (w n : ℕ) → is_accepted l x workers s (Shut w n) ≡ true → MayShut n
   shut_told w n e =
-      let t = none_applies (kinds l x workers s (Shut w n)) e in
-      let class = both_false (is_root n) (l.is_test (x.head n)) (not_refused (is_root n || l.is_test (x.head n)) Why.NotClass t.1.1.1.1.0) in
-      let rests = not_refused (not (is_at_rest (s.nodes.status n))) Why.NotOpen t.1.1.1.1.1.0 in
-      let left = not_refused (is_open (s.nodes.status n) && any_below x.nodes (is_unfinished_child l x workers s n)) Why.ChildrenLeft t.1.1.1.1.1.1.1.0 in
+      let t = shut_passes w n e in
+      let class = both_false (is_root n) (l.is_test (x.head n)) (not_refused (is_root n || l.is_test (x.head n)) Why.NotClass t.class) in
+      let rests = not_refused (not (is_at_rest (s.nodes.status n))) Why.NotOpen t.rests in
+      let left = not_refused (is_open (s.nodes.status n) && any_below x.nodes (is_unfinished_child l x workers s n)) Why.ChildrenLeft t.children in
       record {
         nonzero = nonzero_from n class.0;
         rests = is_true (is_at_rest (s.nodes.status n)) rests;

@@ -6,9 +6,9 @@ use Rattle.iso_isolation.specs.States as S
 use Rattle.iso_isolation.specs.States.{Status, Nodes, State, put, is_waiting, is_open, is_at_rest, body_in, first}
 use Rattle.iso_isolation.specs.Events.{Event, Enter, Step, Leave, Shut, frames_of, stepping, leaving, where_some, after}
 use Rattle.iso_isolation.specs.Refusals as Why
-use Rattle.iso_isolation.specs.Refusals.{body_of, kinds}
+use Rattle.iso_isolation.specs.Refusals.{body_of}
 use Rattle.iso_isolation.specs.Runs.{is_accepted, is_run, after_all_of}
-use Rattle.iso_isolation.proofs.Accepted.{none_applies, not_refused, in_plan, step_told, leave_told, shut_told}
+use Rattle.iso_isolation.proofs.Accepted.{enter_passes, in_plan, leave_told, not_refused, shut_passes, shut_told, step_told}
 use Rattle.iso_isolation.proofs.Barred.{keeps_first}
 use Rattle.iso_isolation.proofs.Changes.{on_put}
 use Rattle.iso_isolation.proofs.Invariant.{Kept}
@@ -32,9 +32,9 @@ module _ {H K V B F R : Type 0} (l : Language H K V B F R) (x : Suite H K V) (pl
 
     staffed_enter : (w n : ℕ) → is_accepted l x workers s (Enter w n) ≡ true → Staffed l x workers (after l x s (Enter w n))
     staffed_enter w n ok =
-        let told = none_applies (kinds l x workers s (Enter w n)) ok in
-        let lt = in_plan workers w (not_refused (leb workers w) Why.NoWorker told.1.0) in
-        let free = not_refused (is_some (body_of l x workers s w)) Why.WorkerBusy told.1.1.1.0 in
+        let told = enter_passes l x workers s w n ok in
+        let lt = in_plan workers w (not_refused (leb workers w) Why.NoWorker told.worker) in
+        let free = not_refused (is_some (body_of l x workers s w)) Why.WorkerBusy told.free in
         let b = l.begin (chain x n) (frames_of (s.nodes.status (x.parent n))) in
         record {
           going = t.going;
@@ -44,9 +44,9 @@ module _ {H K V B F R : Type 0} (l : Language H K V B F R) (x : Suite H K V) (pl
 
     staffed_shut : (w n : ℕ) → is_accepted l x workers s (Shut w n) ≡ true → Staffed l x workers (after l x s (Shut w n))
     staffed_shut w n ok =
-        let told = none_applies (kinds l x workers s (Shut w n)) ok in
-        let lt = in_plan workers w (not_refused (leb workers w) Why.NoWorker told.1.0) in
-        let free = not_refused (is_some (body_of l x workers s w)) Why.WorkerBusy told.1.1.1.0 in
+        let told = shut_passes l x workers s w n ok in
+        let lt = in_plan workers w (not_refused (leb workers w) Why.NoWorker told.worker) in
+        let free = not_refused (is_some (body_of l x workers s w)) Why.WorkerBusy told.free in
         let may = shut_told l x workers s w n ok in
         let fs = frames_of (s.nodes.status n) in
         let b = l.begin_closing (chain x n) fs in

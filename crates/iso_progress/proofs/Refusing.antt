@@ -6,9 +6,9 @@ use Rattle.iso_isolation.specs.Suites.{Suite}
 use Rattle.iso_isolation.specs.States.{State, is_waiting, is_open, is_at_rest}
 use Rattle.iso_isolation.specs.Events.{Event, Enter, Step, Leave, Shut}
 use Rattle.iso_isolation.specs.Refusals as Why
-use Rattle.iso_isolation.specs.Refusals.{is_root, lowest_below, kinds, body_of, has_unfinished_sibling, has_unfinished_child, lock_held}
+use Rattle.iso_isolation.specs.Refusals.{is_root, lowest_below, body_of, has_unfinished_sibling, has_unfinished_child, lock_held}
 use Rattle.iso_isolation.specs.Runs.{is_accepted}
-use Rattle.iso_isolation.proofs.Accepted.{none_applies, not_refused, in_plan}
+use Rattle.iso_isolation.proofs.Accepted.{enter_passes, in_plan, leave_passes, not_refused, shut_passes, step_passes}
 use Rattle.iso_isolation.proofs.Changes.{true_or_false, none_below}
 use Rattle.iso_progress.specs.Candidates.{is_at_work, going_on, may_be_shut, may_be_entered, shut_by_owner, entered_by_owner, candidate}
 use Rattle.iso_progress.specs.NeverStuck.{IsStuck}
@@ -76,35 +76,35 @@ module _ {H K V B F R : Type 0} (l : Language H K V B F R) (x : Suite H K V) (wo
 
   unaccepted : (e : Event) → is_accepted l x workers s e ≡ true → ⊥
   unaccepted (Step w) ok =
-      let t = none_applies (kinds l x workers s (Step w)) ok in
-      no_body (not_refused s.stopped Why.Stopped t.0) w (not_refused (leb workers w) Why.NoWorker t.1.0)
-      (not_refused (not (is_some (body_of l x workers s w))) Why.NoBody t.1.1.0)
+      let t = step_passes l x workers s w ok in
+      no_body (not_refused s.stopped Why.Stopped t.running) w (not_refused (leb workers w) Why.NoWorker t.worker)
+      (not_refused (not (is_some (body_of l x workers s w))) Why.NoBody t.body)
   unaccepted (Leave w) ok =
-      let t = none_applies (kinds l x workers s (Leave w)) ok in
-      no_body (not_refused s.stopped Why.Stopped t.0) w (not_refused (leb workers w) Why.NoWorker t.1.0)
-      (not_refused (not (is_some (body_of l x workers s w))) Why.NoBody t.1.1.0)
+      let t = leave_passes l x workers s w ok in
+      no_body (not_refused s.stopped Why.Stopped t.running) w (not_refused (leb workers w) Why.NoWorker t.worker)
+      (not_refused (not (is_some (body_of l x workers s w))) Why.NoBody t.body)
   unaccepted (Shut w n) ok =
-      let t = none_applies (kinds l x workers s (Shut w n)) ok in
-      let going = not_refused s.stopped Why.Stopped t.0 in
-      let inside = in_plan x.nodes n (not_refused (leb x.nodes n) Why.NoNode t.1.1.0) in
+      let t = shut_passes l x workers s w n ok in
+      let going = not_refused s.stopped Why.Stopped t.running in
+      let inside = in_plan x.nodes n (not_refused (leb x.nodes n) Why.NoNode t.node) in
       let status = s.nodes.status n in
-      let class = neither (is_root n) (l.is_test (x.head n)) (not_refused (is_root n || l.is_test (x.head n)) Why.NotClass t.1.1.1.1.0) in
-      let rests = is_true (is_at_rest status) (not_refused (not (is_at_rest status)) Why.NotOpen t.1.1.1.1.1.0) in
+      let class = neither (is_root n) (l.is_test (x.head n)) (not_refused (is_root n || l.is_test (x.head n)) Why.NotClass t.class) in
+      let rests = is_true (is_at_rest status) (not_refused (not (is_at_rest status)) Why.NotOpen t.rests) in
       let left = is_open status && has_unfinished_child l x workers s n in
-      let found = shut_test (is_root n) (is_at_rest status) left class.0 rests (not_refused left Why.ChildrenLeft t.1.1.1.1.1.1.1.0) in
+      let found = shut_test (is_root n) (is_at_rest status) left class.0 rests (not_refused left Why.ChildrenLeft t.children) in
       let no = none_below x.nodes (may_be_shut l x workers s) (nothing_found going).shut n inside in
       cc
   unaccepted (Enter w n) ok =
-      let t = none_applies (kinds l x workers s (Enter w n)) ok in
-      let going = not_refused s.stopped Why.Stopped t.0 in
-      let inside = in_plan x.nodes n (not_refused (leb x.nodes n) Why.NoNode t.1.1.0) in
+      let t = enter_passes l x workers s w n ok in
+      let going = not_refused s.stopped Why.Stopped t.running in
+      let inside = in_plan x.nodes n (not_refused (leb x.nodes n) Why.NoNode t.node) in
       let waits = is_waiting (s.nodes.status n) in
       let opened = is_open (s.nodes.status (x.parent n)) in
-      let fresh = neither (is_root n) (not waits) (not_refused (is_root n || not waits) Why.AlreadyEntered t.1.1.1.1.1.0) in
-      let parent = open_by (is_root n) opened (not_refused (not (is_root n) && not opened) Why.ParentClosed t.1.1.1.1.0) fresh.0 in
+      let fresh = neither (is_root n) (not waits) (not_refused (is_root n || not waits) Why.AlreadyEntered t.fresh) in
+      let parent = open_by (is_root n) opened (not_refused (not (is_root n) && not opened) Why.ParentClosed t.parent) fresh.0 in
       let earlier = x.is_same_thread n && has_unfinished_sibling l x workers s n in
       let found = enter_test (is_root n) waits opened earlier (is_none (lock_held l x workers s n)) fresh.0 (is_true waits fresh.1) parent
-      (not_refused earlier Why.EarlierSibling t.1.1.1.1.1.1.1.0) (none_is (lock_held l x workers s n) t.1.1.1.1.1.1.1.1.0)
+      (not_refused earlier Why.EarlierSibling t.earlier) (none_is (lock_held l x workers s n) t.unlocked)
       in
       let no = none_below x.nodes (may_be_entered l x workers s) (nothing_found going).enter n inside in
       cc

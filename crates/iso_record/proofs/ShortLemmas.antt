@@ -1,11 +1,9 @@
 -- The numbers of events that are accepted.
 use Rattle.std.proofs.Common.{◌≡◌, ℕ, ◌≤◌, ◌^◌, List, [], ◌∷◌, true, leb, arith}
 use Rattle.std.specs.List.{AllByRecursion}
-use Rattle.iso_isolation.proofs.Accepted.{in_plan, none_applies, not_refused}
-use Rattle.iso_isolation.specs.Events as E
+use Rattle.iso_isolation.proofs.Accepted.{enter_passes, in_plan, leave_passes, not_refused, shut_passes, step_passes}
 use Rattle.iso_isolation.specs.Events.{after}
 use Rattle.iso_isolation.specs.Refusals as Why
-use Rattle.iso_isolation.specs.Refusals.{kinds}
 use Rattle.iso_isolation.specs.Runs.{is_accepted, is_run}
 use Rattle.iso_isolation.specs.Suites.{Suite}
 use Rattle.iso_model.specs.declared.resource.Resource.{Resource}
@@ -20,20 +18,20 @@ use Rattle.iso_suites.specs.SuiteStates.{RunState}
 module _ (x : Suite Head (List ℕ) Resource) (workers : ℕ) (few : workers ≤ 10 ^ 9) (small : x.nodes ≤ 10 ^ 9) where
   short_event : (s : RunState) (e : Event) → is_accepted scripts x workers s (event_of e) ≡ true → IsShort e
   short_event s (Code.Enter w n) ok =
-      let t = none_applies (kinds scripts x workers s (E.Enter w n)) ok in (
-        omega (arith, in_plan workers w (not_refused (leb workers w) Why.NoWorker t.1.0)),
-        omega (arith, in_plan x.nodes n (not_refused (leb x.nodes n) Why.NoNode t.1.1.0)),
+      let t = enter_passes scripts x workers s w n ok in (
+        omega (arith, in_plan workers w (not_refused (leb workers w) Why.NoWorker t.worker)),
+        omega (arith, in_plan x.nodes n (not_refused (leb x.nodes n) Why.NoNode t.node)),
       )
   short_event s (Code.Step w) ok =
-      let t = none_applies (kinds scripts x workers s (E.Step w)) ok in
-      omega (arith, in_plan workers w (not_refused (leb workers w) Why.NoWorker t.1.0))
+      let t = step_passes scripts x workers s w ok in
+      omega (arith, in_plan workers w (not_refused (leb workers w) Why.NoWorker t.worker))
   short_event s (Code.Leave w) ok =
-      let t = none_applies (kinds scripts x workers s (E.Leave w)) ok in
-      omega (arith, in_plan workers w (not_refused (leb workers w) Why.NoWorker t.1.0))
+      let t = leave_passes scripts x workers s w ok in
+      omega (arith, in_plan workers w (not_refused (leb workers w) Why.NoWorker t.worker))
   short_event s (Code.Shut w n) ok =
-      let t = none_applies (kinds scripts x workers s (E.Shut w n)) ok in (
-        omega (arith, in_plan workers w (not_refused (leb workers w) Why.NoWorker t.1.0)),
-        omega (arith, in_plan x.nodes n (not_refused (leb x.nodes n) Why.NoNode t.1.1.0)),
+      let t = shut_passes scripts x workers s w n ok in (
+        omega (arith, in_plan workers w (not_refused (leb workers w) Why.NoWorker t.worker)),
+        omega (arith, in_plan x.nodes n (not_refused (leb x.nodes n) Why.NoNode t.node)),
       )
 
   pub short_run : (s : RunState) (es : List Event) → is_run scripts x workers s (events_of es) ≡ true → AllByRecursion IsShort es
