@@ -16,7 +16,7 @@ use crate::interrupt::Interrupt;
 use crate::run::name_index::LOOKS;
 use crate::value::{Given, as_count, as_flag, own_text, own_texts};
 use iso_model::data::Data;
-use iso_model::fault::{Fault, FaultKind};
+use iso_model::fault::{Fault, FaultKind, out_of_steps_message};
 use iso_model::lines::Lines;
 use iso_model::names::Names;
 use iso_model::outcome::{Ending, Note};
@@ -290,7 +290,7 @@ impl<'a> BlockRun<'a> {
             (note out_of_steps_message row (local_of self.old))) (local_of self.old))) }
         ensures block { SameBlock self.old self.new }
     {
-        let message = Text::copied(self.alloc, "out of steps")?;
+        let message = out_of_steps_message(self.alloc)?;
         let note = self.note(message, row);
         self.end(Ending::Fault(FaultKind::OutOfSteps, note));
         self.top = None;

@@ -1,5 +1,6 @@
+//! The faults that end a block, and their messages.
 ghost use Rattle.std.specs.Prelude.{◌≡◌, ◌++◌, IfOk};
-ghost use Rattle.iso_model.specs.Texts.{fault_message, kind_of};
+ghost use Rattle.iso_model.specs.Texts.{fault_message, kind_of, out_of_steps_message};
 
 use crate::access::Access;
 use crate::key::Key;
@@ -80,6 +81,13 @@ impl Fault {
             Fault::TextTooLong => Text::copied(alloc, "text is too long"),
         }
     }
+}
+
+/// The message of a block that has no step left (`FaultKind::OutOfSteps`).
+pub fn out_of_steps_message(alloc: Global) -> Result<Text, AllocError>
+    ensures { IfOk result (λ t. t ≡ out_of_steps_message) }
+{
+    Text::copied(alloc, "out of steps")
 }
 
 /// What is named, between the words of a message.
