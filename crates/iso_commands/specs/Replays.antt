@@ -14,7 +14,7 @@ use Rattle.iso_commands.specs.Parts.{each_file, each_word, shard_option}
 use Rattle.iso_commands.specs.declared.replay.Recorded.{Recorded}
 use Rattle.iso_summary.specs.Lines.{file_option, line, number_option}
 use Rattle.iso_summary.specs.Names.{shown_name}
-use Rattle.iso_summary.specs.Unseen.{has_unseen}
+use Rattle.iso_summary.specs.Unseen.{given_has_unseen, has_unseen}
 use Rattle.iso_summary.specs.Words.{file_word}
 
 -- a recorded run: the file of its schedule, and the words of its command that decide its results;
@@ -64,11 +64,6 @@ replay_line run =
     ∷ shard_option run.shard
     ∷ each_file run.scripts
     ∷ [])
-
--- whether a word was given and has a character that no reader sees
-abbrev pub given_has_unseen : Option (List ℕ) → Bool
-given_has_unseen None = false
-given_has_unseen (Some word) = has_unseen word
 
 -- whether one of these words has one
 abbrev pub has_unseen_in : List (List ℕ) → Bool

@@ -2,13 +2,13 @@
 ghost use Rattle.std.specs.Prelude.{◌≡◌};
 ghost use Rattle.std.specs.Option.{option_map};
 ghost use Rattle.iso_commands.specs.Lent.{lent};
-ghost use Rattle.iso_commands.specs.Replays.{can_be_told, given_has_unseen, has_unseen_in, has_unseen_option, has_unseen_word, is_dash, is_stdin, recorded_of, replay_line, too_large_line};
+ghost use Rattle.iso_commands.specs.Replays.{can_be_told, has_unseen_in, has_unseen_option, has_unseen_word, is_dash, is_stdin, recorded_of, replay_line, too_large_line};
 ghost use Rattle.iso_tap.specs.Printers.{Prints};
 
 use crate::part::{Part, line};
 use iso_arguments::request::InputFiles;
 use iso_summary::name::name;
-use iso_summary::unseen::has_unseen;
+use iso_summary::unseen::{given_has_unseen, has_unseen};
 use iso_tap::printer::Printer;
 use iso_tap::sink::{Sink, SinkFailed};
 
@@ -114,16 +114,6 @@ fn is_dash(name: &[u8]) -> bool
     ensures { result ≡ is_dash name.now }
 {
     matches!(name, [b'-'])
-}
-
-/// Whether a word was given and has a character that no reader sees.
-fn given_has_unseen(given: Option<&str>) -> bool
-    ensures { result ≡ given_has_unseen (option_map (λ w. w.now) given.entry) }
-{
-    match given {
-        Some(word) => has_unseen(word),
-        None => false,
-    }
 }
 
 /// Whether one of these words has a character that no reader sees.

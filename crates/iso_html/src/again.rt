@@ -1,10 +1,9 @@
 //! The commands that run nodes again.
 ghost use Rattle.std.specs.Prelude.{◌≡◌, ◌++◌};
-ghost use Rattle.std.specs.Option.{option_map};
 ghost use Rattle.iso_html.specs.Commands.{again_text, command_text, commands_of, script_at, script_text};
 ghost use Rattle.iso_junit.specs.Runs.{placed_of};
 ghost use Rattle.iso_plan.specs.RowView.{tree_of};
-ghost use Rattle.iso_summary.specs.Entries.{can_be_told, given_has_unseen};
+ghost use Rattle.iso_summary.specs.Entries.{can_be_told};
 ghost use Rattle.iso_summary.specs.Views.{again_of};
 ghost use Rattle.iso_tap.specs.Printers.{Prints};
 
@@ -13,7 +12,7 @@ use crate::writing::write_parts;
 use iso_junit::placed::Placed;
 use iso_plan::plan::Plan;
 use iso_summary::again::Again;
-use iso_summary::unseen::has_unseen;
+use iso_summary::unseen::{given_has_unseen, has_unseen};
 use iso_tap::printer::Printer;
 use iso_tap::sink::{Sink, SinkFailed};
 
@@ -103,14 +102,4 @@ fn can_be_told(at: &Placed<'_>, commands: &Commands<'_>) -> bool
         && !has_unseen(at.file)
         && !given_has_unseen(commands.again.settings)
         && !given_has_unseen(commands.again.world)
-}
-
-/// Whether a word was given and has a character that no reader sees.
-fn given_has_unseen(word: Option<&str>) -> bool
-    ensures { result ≡ given_has_unseen (option_map (λ w. w.now) word.entry) }
-{
-    match word {
-        Some(word) => has_unseen(word),
-        None => false,
-    }
 }

@@ -1,15 +1,13 @@
 //! Words of a command as a shell reads them, as they stand on the page.
 ghost use Rattle.std.specs.Prelude.{◌≡◌, flat_map};
 ghost use Rattle.iso_junit.specs.Escapes.{escaped};
-ghost use Rattle.iso_summary.specs.Words.{file_word, folder, in_quotes, is_plain, is_plain_word, shell_word};
+ghost use Rattle.iso_summary.specs.Words.{file_word, in_quotes, shell_word};
 ghost use Rattle.iso_tap.specs.Printers.{Prints};
 
 use iso_junit::escape::escaped;
+use iso_summary::word::{folder, is_plain_word};
 use iso_tap::printer::Printer;
 use iso_tap::sink::{Sink, SinkFailed};
-
-/// Beside letters and digits, the bytes that mean nothing to a shell.
-const PLAIN: &[u8] = b"_./:=@%+,-";
 
 /// Writes a file's name as a word of a command, which takes it for no option.
 pub(crate) fn file<W: Sink>(printer: &mut Printer<'_, W>, file: &str) -> Result<(), SinkFailed>
@@ -17,17 +15,6 @@ pub(crate) fn file<W: Sink>(printer: &mut Printer<'_, W>, file: &str) -> Result<
 {
     escaped(printer, folder(file.as_bytes()))?;
     word(printer, file.as_bytes())
-}
-
-/// What is written before a file's name.
-fn folder(file: &[u8]) -> &'static [u8]
-    ensures { result.now ≡ folder file.now }
-{
-    if matches!(file, [b'-', ..]) {
-        b"./"
-    } else {
-        b""
-    }
 }
 
 /// Writes a word, in quotes where it needs them.
@@ -61,23 +48,4 @@ fn in_quotes<W: Sink>(printer: &mut Printer<'_, W>, byte: u8) -> Result<(), Sink
         b'\'' => printer.bytes(b"'\\''"),
         _ => escaped(printer, &[byte]),
     }
-}
-
-/// Whether a word needs no quotes.
-fn is_plain_word(word: &[u8]) -> bool
-    ensures { result ≡ is_plain_word word.now }
-{
-    for byte in word {
-        if !is_plain(*byte) {
-            return false;
-        }
-    }
-    !word.is_empty()
-}
-
-/// Whether a byte means nothing to a shell.
-fn is_plain(byte: u8) -> bool
-    ensures { result ≡ is_plain byte }
-{
-    byte.is_ascii_alphanumeric() || PLAIN.contains(&byte)
 }

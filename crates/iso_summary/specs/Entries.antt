@@ -4,7 +4,7 @@ use Rattle.std.specs.Fmt.{decimal}
 use Rattle.iso_summary.specs.Lines.{counted, file_option, line, number_option}
 use Rattle.iso_summary.specs.Names.{shown_name}
 use Rattle.iso_summary.specs.ShownLines.{shown_byte, shown_source}
-use Rattle.iso_summary.specs.Unseen.{has_unseen}
+use Rattle.iso_summary.specs.Unseen.{given_has_unseen, has_unseen}
 use Rattle.iso_summary.specs.Views.{AgainView, LocatedView}
 use Rattle.iso_summary.specs.Words.{file_word}
 
@@ -33,11 +33,6 @@ source_lines at = source_line at ++ hint_lines at
 abbrev pub blocks_line : ℕ → List ℕ
 blocks_line n =
     cond (n == 0) [] (line (codes "  blocks " ∷ counted n (codes " test") (codes " tests") ∷ []))
-
--- whether a word was given and has a character that no reader sees
-abbrev pub given_has_unseen : Option (List ℕ) → Bool
-given_has_unseen None = false
-given_has_unseen (Some word) = has_unseen word
 
 -- whether the command can be told: the script is a file, and no word has a character that no reader
 -- sees

@@ -2,10 +2,10 @@
 --
 -- character that no reader sees: One of the general categories Cc, Cf, Zl and Zp (`is_unseen`,
 -- `is_unseen_category`), which are those of 23 ranges (`unseen_ranges`); whether a text has one
--- (`has_unseen`).
+-- (`has_unseen`; `given_has_unseen`).
 -- Also in: `GeneralCategory` of `ucd_category`, a crate of the kit.
 -- Standard: The Unicode Standard, version 18.0.0, section 4.5, General Category.
-use Rattle.std.specs.Prelude.{ℕ, List, [], ◌∷◌, Bool, true, false, chars}
+use Rattle.std.specs.Prelude.{ℕ, List, [], ◌∷◌, Option, Some, None, Bool, true, false, chars}
 use Rattle.std.specs.List.{list_any}
 use Rattle.ucd_category.specs.GeneralCategory.{general_category, general_category_eq}
 use Rattle.ucd_category.specs.declared.GeneralCategory.{GeneralCategory}
@@ -54,3 +54,8 @@ unseen_ranges =
 -- whether a text has one of them
 abbrev pub has_unseen : List ℕ → Bool
 has_unseen text = list_any is_unseen (chars text)
+
+-- whether a word was given and has a character that no reader sees
+abbrev pub given_has_unseen : Option (List ℕ) → Bool
+given_has_unseen None = false
+given_has_unseen (Some word) = has_unseen word

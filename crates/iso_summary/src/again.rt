@@ -1,16 +1,15 @@
 //! The command that runs a node again.
 ghost use Rattle.std.specs.Prelude.{◌≡◌, ◌<◌, length};
-ghost use Rattle.std.specs.Option.{option_map};
 ghost use Rattle.iso_plan.specs.PathTexts.{path_text};
 ghost use Rattle.iso_plan.specs.RowView.{tree_of};
-ghost use Rattle.iso_summary.specs.Entries.{again_line, can_be_told, given_has_unseen};
+ghost use Rattle.iso_summary.specs.Entries.{again_line, can_be_told};
 ghost use Rattle.iso_summary.specs.Views.{again_of, located_of};
 ghost use Rattle.iso_tap.specs.Printers.{Prints};
 
 use crate::line::line_with_path;
 use crate::located::Located;
 use crate::part::Part;
-use crate::unseen::has_unseen;
+use crate::unseen::{given_has_unseen, has_unseen};
 use iso_plan::plan::Plan;
 use iso_tap::printer::Printer;
 use iso_tap::sink::{Sink, SinkFailed};
@@ -64,14 +63,4 @@ fn can_be_told(at: &Located<'_>, again: &Again<'_>) -> bool
         && !has_unseen(at.file)
         && !given_has_unseen(again.settings)
         && !given_has_unseen(again.world)
-}
-
-/// Whether a word was given and has a character that no reader sees.
-fn given_has_unseen(word: Option<&str>) -> bool
-    ensures { result ≡ given_has_unseen (option_map (λ w. w.now) word.entry) }
-{
-    match word {
-        Some(word) => has_unseen(word),
-        None => false,
-    }
 }

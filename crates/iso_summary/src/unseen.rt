@@ -1,6 +1,7 @@
 //! Characters that no reader sees, or that change how others are seen.
 ghost use Rattle.std.specs.Prelude.{◌≡◌};
-ghost use Rattle.iso_summary.specs.Unseen.{has_unseen, is_unseen};
+ghost use Rattle.std.specs.Option.{option_map};
+ghost use Rattle.iso_summary.specs.Unseen.{given_has_unseen, has_unseen, is_unseen};
 
 use ucd_category::GeneralCategory;
 
@@ -24,4 +25,14 @@ pub fn has_unseen(text: &str) -> bool
     ensures { result ≡ has_unseen text.now }
 {
     text.chars().any(|c| is_unseen(c))
+}
+
+/// Whether a word was given and has a character that no reader sees.
+pub fn given_has_unseen(word: Option<&str>) -> bool
+    ensures { result ≡ given_has_unseen (option_map (λ w. w.now) word.entry) }
+{
+    match word {
+        Some(word) => has_unseen(word),
+        None => false,
+    }
 }

@@ -17,8 +17,8 @@ pub fn file<W: Sink>(printer: &mut Printer<'_, W>, file: &str) -> Result<(), Sin
     word(printer, file.as_bytes())
 }
 
-/// What is written before a file's name.
-fn folder(file: &[u8]) -> &'static [u8]
+/// What is written before a file's name in a command, so that it is taken for no option.
+pub fn folder(file: &[u8]) -> &'static [u8]
     ensures { result.now ≡ folder file.now }
 {
     if matches!(file, [b'-', ..]) {
@@ -61,8 +61,8 @@ fn in_quotes<W: Sink>(printer: &mut Printer<'_, W>, byte: u8) -> Result<(), Sink
     }
 }
 
-/// Whether a word needs no quotes.
-fn is_plain_word(word: &[u8]) -> bool
+/// Whether a word of a command needs no quotes (POSIX.1-2017, Shell Command Language).
+pub fn is_plain_word(word: &[u8]) -> bool
     ensures { result ≡ is_plain_word word.now }
 {
     for byte in word {
