@@ -18,8 +18,8 @@ use Rattle.iso_plan.specs.Paths.{parent, path, row_at}
 use Rattle.iso_plan.specs.RowView.{tree_of}
 use Rattle.iso_standing.specs.CodeEvents.{refused_of}
 use Rattle.iso_standing.specs.UnderWay.{is_after_all}
-use Rattle.iso_standing.specs.declared.core_fault.CoreFault.{CoreFault}
-use Rattle.iso_standing.specs.declared.core_fault.CoreFault.TheVariants as F
+use Rattle.iso_standing.specs.declared.refused.CoreFault.{CoreFault}
+use Rattle.iso_standing.specs.declared.refused.CoreFault.TheVariants as F
 use Rattle.iso_standing.specs.declared.event.Event.{Event}
 
 -- whether each of these nodes that takes a key for READ_WRITE is lent to a tray

@@ -8,13 +8,12 @@ use iso_locks::tray::Tray;
 use iso_plan::plan::Plan;
 use iso_schedule::reader::read_schedule;
 use iso_settings::world::World;
-use iso_standing::core_fault::CoreFault;
 use iso_standing::event::Event;
-use iso_standing::refused::Refused;
 use iso_standing::refused::Refused::{
     AlreadyEntered, EarlierSibling, LockHeld, NoNode, NoWorker, NotClass, NotOpen, NotOwner,
     ParentClosed, Stopped, Stranger, WorkerBusy,
 };
+use iso_standing::refused::{CoreFault, Refused};
 use std::alloc::Global;
 use std::process::Abort;
 

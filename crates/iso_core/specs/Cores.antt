@@ -13,8 +13,8 @@ use Rattle.iso_suites.specs.ScriptLanguage.{Head, scripts}
 use Rattle.iso_standing.specs.Standings.{LooksLike, Standing, workers_in}
 use Rattle.iso_suites.specs.SuiteStates.{stopped_if, suite_at, RunState}
 use Rattle.iso_standing.specs.UnderWay.{AreBodiesOf}
-use Rattle.iso_standing.specs.declared.core_fault.CoreFault.{CoreFault}
-use Rattle.iso_standing.specs.declared.core_fault.CoreFault.TheVariants as F
+use Rattle.iso_standing.specs.declared.refused.CoreFault.{CoreFault}
+use Rattle.iso_standing.specs.declared.refused.CoreFault.TheVariants as F
 use Rattle.iso_isolation.specs.Refusals as Why
 use Rattle.iso_isolation.specs.Refusals.{refusal}
 use Rattle.iso_isolation.specs.Runs as Runs

@@ -6,8 +6,8 @@ use Rattle.std.specs.Prelude.{◌≡◌, ℕ, ◌<◌, List, Option, Some, None,
 use Rattle.iso_standing.specs.CodeEvents.{events_of, refused_of}
 use Rattle.iso_core.specs.Cores.{CoreView, new_core, refusal_in, suite_in}
 use Rattle.iso_suites.specs.ScriptLanguage.{scripts}
-use Rattle.iso_standing.specs.declared.core_fault.CoreFault.{CoreFault}
-use Rattle.iso_standing.specs.declared.core_fault.CoreFault.TheVariants as F
+use Rattle.iso_standing.specs.declared.refused.CoreFault.{CoreFault}
+use Rattle.iso_standing.specs.declared.refused.CoreFault.TheVariants as F
 use Rattle.iso_core.specs.declared.run_events.EventsFault.{EventsFault}
 use Rattle.iso_isolation.specs.Refusals.{Refused}
 use Rattle.iso_isolation.specs.Runs.{is_run}

@@ -30,12 +30,11 @@ use iso_lifecycle::view::View;
 use iso_plan::laws;
 use iso_plan::plan::Plan;
 use iso_settings::world::World;
-use iso_standing::core_fault::CoreFault;
 use iso_standing::event::Event;
 use iso_standing::following::{
     bodies_follow_events, bodies_stand_as_alone, results_follow_leaves, results_follow_nodes,
 };
-use iso_standing::refused::Refused;
+use iso_standing::refused::{CoreFault, Refused};
 use iso_standing::standing::Standing;
 use std::alloc::{AllocError, Global};
 use std::marker::Model;

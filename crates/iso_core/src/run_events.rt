@@ -5,8 +5,8 @@ ghost use Rattle.iso_core.specs.EventRuns.{Ran, StoppedAt};
 use crate::machine::Core;
 use iso_plan::plan::Plan;
 use iso_settings::world::World;
-use iso_standing::core_fault::CoreFault;
 use iso_standing::event::Event;
+use iso_standing::refused::CoreFault;
 use std::alloc::Global;
 
 /// Which event of a list the core didn't take, counted from 0, and why. Running out of memory for

@@ -15,8 +15,8 @@ use Rattle.iso_explain_block.specs.Unknown.{field_lines, name_lines, nearest_lin
 use Rattle.iso_explain_block.specs.Views.{BlockFaultView}
 use Rattle.iso_explain_block.specs.declared.kind.Kind.{Kind}
 use Rattle.iso_explain_block.specs.declared.operation.Taking.{Taking}
-use Rattle.iso_explain_block.specs.declared.set_names.Thing.{Thing}
-use Rattle.iso_explain_block.specs.declared.set_names.Thing.TheVariants as T
+use Rattle.iso_explain_block.specs.declared.names_in_blocks.Thing.{Thing}
+use Rattle.iso_explain_block.specs.declared.names_in_blocks.Thing.TheVariants as T
 use Rattle.iso_model.specs.Syntax.{Term, literal, name, chain, compare, call, locale, Terms, no_terms, term, let_name, assign, print, assert, assert_equal, assume, fail, set_prop, clear_prop, set_locale, write_file, append_file, delete_file, Act, plain, choice, repeat, Acts, no_acts, act}
 use Rattle.iso_model.specs.declared.fault.FaultKind.{FaultKind}
 use Rattle.iso_model.specs.declared.fault.FaultKind.TheVariants as K

@@ -4,8 +4,8 @@ use Rattle.iso_explain_block.specs.Fixed.{fixed_lines}
 use Rattle.iso_explain_block.specs.Messages.{after}
 use Rattle.iso_explain_block.specs.Unknown.{has_name, nearest_lines, nearest_of}
 use Rattle.iso_explain_block.specs.Views.{BlockFaultView}
-use Rattle.iso_explain_block.specs.declared.set_names.Thing.{Thing}
-use Rattle.iso_explain_block.specs.declared.set_names.Thing.TheVariants.{Property, File}
+use Rattle.iso_explain_block.specs.declared.names_in_blocks.Thing.{Thing}
+use Rattle.iso_explain_block.specs.declared.names_in_blocks.Thing.TheVariants.{Property, File}
 use Rattle.iso_model.specs.Chains.{ClassHead, TestHead}
 use Rattle.iso_model.specs.Syntax.{Term, literal, Plain, set_prop, write_file, Act, plain, choice, repeat, Acts, no_acts, act}
 use Rattle.iso_model.specs.declared.data.Data.TheVariants as D

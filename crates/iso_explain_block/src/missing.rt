@@ -8,7 +8,7 @@ use crate::fixed::add_fixed;
 use crate::line::add_line;
 use crate::message::after;
 use crate::name::{did_you_mean, has_name, nearest_of};
-use crate::set_names::{Thing, set_names};
+use crate::names_in_blocks::{Thing, set_names};
 use iso_model::fault::FaultKind;
 use iso_model::text::Text;
 use std::alloc::{AllocError, Global};

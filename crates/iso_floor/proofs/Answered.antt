@@ -5,7 +5,7 @@ use Rattle.iso_book.specs.Turns.{IsAllowed, IsFaultOf, IsNotTaken, IsTaken}
 use Rattle.iso_locks.specs.Trays.{TrayView}
 use Rattle.iso_plan.specs.Planned.{Planned}
 use Rattle.iso_settings.specs.Worlds.{Start}
-use Rattle.iso_standing.specs.declared.core_fault.CoreFault.{CoreFault}
+use Rattle.iso_standing.specs.declared.refused.CoreFault.{CoreFault}
 use Rattle.iso_standing.specs.declared.event.Event.{Event}
 use Rattle.iso_floor.specs.Answering.{HasRun, OfSomeBook}
 use Rattle.iso_floor.specs.Grounds.{IsBookOf}

@@ -15,7 +15,7 @@ use Rattle.iso_lifecycle.specs.DoneViews.{DoneView}
 use Rattle.iso_plan.specs.Planned.{Planned}
 use Rattle.iso_settings.specs.Worlds.{Start}
 use Rattle.iso_standing.specs.CodeEvents.{events_of, refused_of}
-use Rattle.iso_standing.specs.declared.core_fault.CoreFault.{CoreFault}
+use Rattle.iso_standing.specs.declared.refused.CoreFault.{CoreFault}
 use Rattle.iso_standing.specs.declared.event.Event.TheVariants.{Enter, Shut}
 use Rattle.iso_standing.specs.declared.refused.Refused.{Refused}
 use Rattle.iso_suites.specs.ScriptLanguage.{scripts}

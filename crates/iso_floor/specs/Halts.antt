@@ -5,8 +5,8 @@ use Rattle.iso_floor.specs.declared.work.Cause.{Cause}
 use Rattle.iso_floor.specs.declared.work.Cause.TheVariants as C
 use Rattle.iso_floor.specs.declared.refusal.Meaning.{Meaning}
 use Rattle.iso_floor.specs.declared.refusal.Meaning.TheVariants as M
-use Rattle.iso_standing.specs.declared.core_fault.CoreFault.{CoreFault}
-use Rattle.iso_standing.specs.declared.core_fault.CoreFault.TheVariants as F
+use Rattle.iso_standing.specs.declared.refused.CoreFault.{CoreFault}
+use Rattle.iso_standing.specs.declared.refused.CoreFault.TheVariants as F
 use Rattle.iso_standing.specs.declared.refused.Refused.{Refused}
 use Rattle.iso_standing.specs.declared.refused.Refused.TheVariants as R
 

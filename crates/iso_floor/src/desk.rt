@@ -27,9 +27,8 @@ use iso_plan::plan::Plan;
 use iso_posts::owner::Owner;
 use iso_posts::posts::{PostSeat, Posts};
 use iso_settings::world::World;
-use iso_standing::core_fault::CoreFault;
 use iso_standing::event::Event;
-use iso_standing::refused::Refused;
+use iso_standing::refused::{CoreFault, Refused};
 use std::alloc::{AllocError, Global};
 use std::marker::{Model, PhantomData};
 

@@ -1,5 +1,5 @@
 //! Why a worker goes on no further.
-use iso_standing::core_fault::CoreFault;
+use iso_standing::refused::CoreFault;
 use std::alloc::AllocError;
 
 /// Why a worker goes on no further before its run has ended.

@@ -18,7 +18,7 @@ pub(crate) enum Meaning {
 }
 
 /// What a refusal of this kind means. Each kind stands here, so that a new one is decided on.
-pub(crate) fn meaning(refused: Refused) -> Meaning
+pub(crate) fn meant_by(refused: Refused) -> Meaning
     ensures { result ≡ meaning_of refused }
 {
     match refused {

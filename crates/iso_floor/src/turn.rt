@@ -5,10 +5,10 @@ ghost use Rattle.iso_floor.specs.Turning.{IsTurn};
 use crate::desk::Desk;
 use crate::ground::Ground;
 use crate::halt::Halt;
-use crate::refusal::{Meaning, meaning};
+use crate::refusal::{Meaning, meant_by};
 use crate::seat::Seat;
 use crate::worker::is_done_whole;
-use iso_standing::core_fault::CoreFault;
+use iso_standing::refused::CoreFault;
 
 /// What a worker finds to do.
 #[derive(Clone, Copy)]
@@ -108,7 +108,7 @@ impl<'a, G: Ground> Seat<'a, G> {
                 }
                 Some(Turn::Entered(node))
             }
-            Err(CoreFault::Refused(refused)) => match meaning(refused) {
+            Err(CoreFault::Refused(refused)) => match meant_by(refused) {
                 Meaning::Entered => None,
                 Meaning::TooEarly | Meaning::Over | Meaning::Never => {
                     Some(Turn::Halted(Halt::Stopped))
@@ -123,7 +123,7 @@ impl<'a, G: Ground> Seat<'a, G> {
     {
         match self.shut_at(desk, class) {
             Ok(()) => Some(Turn::Shut(class)),
-            Err(CoreFault::Refused(refused)) => match meaning(refused) {
+            Err(CoreFault::Refused(refused)) => match meant_by(refused) {
                 Meaning::TooEarly => self.open_up(desk, class),
                 Meaning::Entered | Meaning::Over | Meaning::Never => {
                     Some(Turn::Halted(Halt::Stopped))

@@ -12,7 +12,7 @@ ghost use Rattle.iso_serial.specs.OpenedTrays.{IsTrayAfter, StandsApart};
 use crate::floor::Floor;
 use crate::ground::Ground;
 use crate::halt::Halt;
-use crate::refusal::{Meaning, meaning};
+use crate::refusal::{Meaning, meant_by};
 use crate::seat::Seat;
 use iso_lifecycle::body::Body;
 use iso_lifecycle::done::Done;
@@ -21,7 +21,7 @@ use iso_lifecycle::kind::BodyKind;
 use iso_plan::laws;
 use iso_plan::lock::takes_write;
 use iso_plan::plan::Plan;
-use iso_standing::core_fault::CoreFault;
+use iso_standing::refused::CoreFault;
 use std::alloc::Global;
 use std::snapshot::Snapshot;
 use std::sync::Wait;
@@ -93,7 +93,7 @@ impl<'w, 'a, G: Ground, R: Wait, T: Gate> Worker<'w, 'a, G, R, T> {
     {
         match self.floor.enter(self.rt, seat, node) {
             Ok(()) => self.finish(seat, node),
-            Err(CoreFault::Refused(refused)) => match meaning(refused) {
+            Err(CoreFault::Refused(refused)) => match meant_by(refused) {
                 Meaning::Over => Ok(()),
                 Meaning::Entered | Meaning::TooEarly | Meaning::Never => Err(Halt::Stopped),
             },

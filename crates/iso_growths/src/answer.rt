@@ -6,7 +6,7 @@ use iso_plan::fault::PlanError;
 use iso_schedule::fault::ScheduleError;
 use iso_script_statements::fault::ScriptError;
 use iso_settings::fault::SettingsError;
-use iso_standing::core_fault::CoreFault;
+use iso_standing::refused::CoreFault;
 use std::alloc::{AllocError, AllocFailed};
 
 /// What comes of a call other than that it went well.

@@ -13,7 +13,7 @@ use iso_lifecycle::done::Done;
 use iso_locks::tray::Tray;
 use iso_plan::plan::Plan;
 use iso_settings::world::World;
-use iso_standing::core_fault::CoreFault;
+use iso_standing::refused::CoreFault;
 
 /// The worker who does it.
 const WORKER: u32 = 0;

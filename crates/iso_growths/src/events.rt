@@ -8,9 +8,8 @@ use iso_core::run_events::run_events;
 use iso_plan::plan::Plan;
 use iso_schedule::reader::read_schedule;
 use iso_settings::world::World;
-use iso_standing::core_fault::CoreFault;
 use iso_standing::event::Event;
-use iso_standing::refused::Refused;
+use iso_standing::refused::{CoreFault, Refused};
 
 /// Takes all events of a suite, one after another.
 pub(crate) fn take_events<H: Host>(

@@ -17,8 +17,7 @@ use iso_lifecycle::done::Done;
 use iso_lifecycle::gate::OpenGate;
 use iso_plan::plan::Plan;
 use iso_settings::world::World;
-use iso_standing::core_fault::CoreFault;
-use iso_standing::refused::Refused;
+use iso_standing::refused::{CoreFault, Refused};
 use std::marker::Brand;
 
 /// One of two workers does a suite, and both sit at another floor that is stopped.

@@ -4,11 +4,11 @@ ghost use Rattle.std.specs.Prelude.{◌≡◌, ◌∷◌, [], true, None, OnOk, 
 ghost use Rattle.iso_model.specs.declared.limits.TheConstants.{BLOCK_STEPS};
 
 mod assertions;
+mod changes;
 mod control;
+mod let_and_assign;
 mod name_index;
 mod output;
-mod resources;
-mod values;
 
 use crate::block::Block;
 use crate::expression::evaluate;

@@ -72,7 +72,7 @@ impl Slots {
         Ok(slots)
     }
 
-    /// A slot more. Once out of memory there is none more, and what was to stand in it is dropped.
+    /// A slot more. Once out of memory there is none more, and the value that it would have is dropped.
     pub fn add(&mut self, item: Option<Held>) -> Result<(), AllocError>
         ensures added { OnOk result (self.new ≡ self.old ++ item ∷ []) }
         ensures same { OnErr result (self.new ≡ self.old) }

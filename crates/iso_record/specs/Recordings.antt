@@ -13,8 +13,8 @@ use Rattle.iso_isolation.specs.States.{first}
 use Rattle.iso_plan.specs.Planned.{Planned}
 use Rattle.iso_settings.specs.Worlds.{Start}
 use Rattle.iso_standing.specs.CodeEvents.{event_of, events_of, refused_of}
-use Rattle.iso_standing.specs.declared.core_fault.CoreFault.{CoreFault}
-use Rattle.iso_standing.specs.declared.core_fault.CoreFault.TheVariants as F
+use Rattle.iso_standing.specs.declared.refused.CoreFault.{CoreFault}
+use Rattle.iso_standing.specs.declared.refused.CoreFault.TheVariants as F
 use Rattle.iso_standing.specs.declared.event.Event.{Event}
 use Rattle.iso_standing.specs.declared.event.Event.TheVariants as Code
 use Rattle.iso_suites.specs.ScriptLanguage.{scripts}

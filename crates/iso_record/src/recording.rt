@@ -9,8 +9,8 @@ ghost use Rattle.iso_standing.specs.declared.event.Event.TheVariants as Code;
 use iso_core::machine::Core;
 use iso_plan::plan::Plan;
 use iso_settings::world::World;
-use iso_standing::core_fault::CoreFault;
 use iso_standing::event::Event;
+use iso_standing::refused::CoreFault;
 use std::alloc::{AllocError, Global};
 use std::marker::Model;
 

@@ -14,7 +14,7 @@ use Rattle.iso_telling.specs.Pages.{WatchedView}
 use Rattle.iso_run.specs.Runs.{IsWritten, Product, TellsOf, Writes, suite_outcome, suite_report}
 use Rattle.iso_run.specs.Suites.{Suite}
 use Rattle.iso_run.specs.declared.command_fault.CommandFault.{CommandFault}
-use Rattle.iso_run.specs.declared.fault.RunFault.{RunFault}
+use Rattle.iso_run.specs.declared.run_fault.RunFault.{RunFault}
 use Rattle.iso_run.specs.declared.inputs.Inputs.{Inputs}
 use Rattle.iso_run.specs.declared.report.Summary.{Summary}
 use Rattle.iso_run.specs.declared.way.Way.{Way}

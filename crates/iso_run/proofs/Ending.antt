@@ -7,8 +7,8 @@ use Rattle.iso_run.specs.Commands.{Answered, Did, RanOn}
 use Rattle.iso_run.specs.ExitStatuses.{Refuses, Whole, command_end, exit_status, run_end}
 use Rattle.iso_run.specs.declared.command_fault.CommandFault.{CommandFault}
 use Rattle.iso_run.specs.declared.command_fault.CommandFault.TheVariants as C
-use Rattle.iso_run.specs.declared.fault.RunFault.{RunFault}
-use Rattle.iso_run.specs.declared.fault.RunFault.TheVariants as F
+use Rattle.iso_run.specs.declared.run_fault.RunFault.{RunFault}
+use Rattle.iso_run.specs.declared.run_fault.RunFault.TheVariants as F
 use Rattle.iso_tap.specs.Sinks.{Account}
 
 run-at-least-two : (fault : RunFault) → 2 ≤ exit_status (run_end fault)

@@ -8,7 +8,7 @@ use Rattle.iso_arguments.specs.declared.request.InputFiles.{InputFiles}
 use Rattle.iso_run.specs.Commands.{AreFor, WereRead, shard_asked}
 use Rattle.iso_run.specs.Runs.{Product, Writes}
 use Rattle.iso_run.specs.Suites.{Suite, texts}
-use Rattle.iso_run.specs.declared.fault.RunFault.TheVariants.{Memory}
+use Rattle.iso_run.specs.declared.run_fault.RunFault.TheVariants.{Memory}
 use Rattle.iso_run.specs.declared.files.InputBytes.{InputBytes}
 use Rattle.iso_run.specs.declared.inputs.Inputs.{Inputs}
 use Rattle.iso_run.specs.declared.way.Way.{Way}

@@ -5,8 +5,8 @@ use Rattle.std.specs.Borrow.{Bor}
 use Rattle.iso_core.specs.Cores.{CoreView, is_complete}
 use Rattle.iso_core.specs.EventRuns.{AreAccepted, EndedBy, Ran, RefusedAt, core_after}
 use Rattle.iso_standing.specs.CodeEvents.{refused_of}
-use Rattle.iso_standing.specs.declared.core_fault.CoreFault.{CoreFault}
-use Rattle.iso_standing.specs.declared.core_fault.CoreFault.TheVariants as C
+use Rattle.iso_standing.specs.declared.refused.CoreFault.{CoreFault}
+use Rattle.iso_standing.specs.declared.refused.CoreFault.TheVariants as C
 use Rattle.iso_plan.specs.Planned.{Planned}
 use Rattle.iso_run.specs.Suites.{suite_of}
 use Rattle.iso_run.specs.declared.inputs.Inputs.{Inputs}

@@ -16,9 +16,9 @@ use Rattle.iso_telling.specs.Pages.{WatchedView}
 use Rattle.iso_telling.specs.Telling.{HasTold, wants_places}
 use Rattle.iso_telling.specs.Written.{ArePlaced, WrittenView}
 use Rattle.iso_telling.specs.declared.tells.Tells.{Tells}
-use Rattle.iso_run.specs.declared.fault.RunFault.{RunFault}
-use Rattle.iso_run.specs.declared.fault.RunFault.TheVariants.{Write}
-use Rattle.iso_run.specs.declared.fault.RunFault.TheVariants as F
+use Rattle.iso_run.specs.declared.run_fault.RunFault.{RunFault}
+use Rattle.iso_run.specs.declared.run_fault.RunFault.TheVariants.{Write}
+use Rattle.iso_run.specs.declared.run_fault.RunFault.TheVariants as F
 use Rattle.iso_run.specs.declared.report.Summary.{Summary}
 use Rattle.iso_run.specs.declared.way.Way.{Way}
 

@@ -3,8 +3,8 @@ use Rattle.std.proofs.Common.{◌≡◌, Bool, Err, refl}
 use Rattle.iso_run.specs.ExitStatuses.{BreaksOff, GivesUp, IfLate, IsEarly, LacksFile, Refuses, run_end}
 use Rattle.iso_run.specs.Runs.{Product, Writes}
 use Rattle.iso_run.specs.Suites.{NoSuite, Suite}
-use Rattle.iso_run.specs.declared.fault.RunFault.{RunFault}
-use Rattle.iso_run.specs.declared.fault.RunFault.TheVariants as F
+use Rattle.iso_run.specs.declared.run_fault.RunFault.{RunFault}
+use Rattle.iso_run.specs.declared.run_fault.RunFault.TheVariants as F
 use Rattle.iso_run.specs.declared.inputs.Inputs.{Inputs}
 use Rattle.iso_run.specs.declared.way.Way.{Way}
 use Rattle.iso_tap.specs.Sinks.{Account}

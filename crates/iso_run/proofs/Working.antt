@@ -3,8 +3,8 @@ use Rattle.std.proofs.Common.{Bool, Err, refl}
 use Rattle.iso_run.specs.Replays.{IsOfWorkers}
 use Rattle.iso_run.specs.Runs.{Product, Writes}
 use Rattle.iso_run.specs.Suites.{IsSuite, Suite}
-use Rattle.iso_run.specs.declared.fault.RunFault.{RunFault}
-use Rattle.iso_run.specs.declared.fault.RunFault.TheVariants as F
+use Rattle.iso_run.specs.declared.run_fault.RunFault.{RunFault}
+use Rattle.iso_run.specs.declared.run_fault.RunFault.TheVariants as F
 use Rattle.iso_run.specs.declared.inputs.Inputs.{Inputs}
 use Rattle.iso_run.specs.declared.way.Way.TheVariants.{ByWorkers}
 use Rattle.iso_tap.specs.Sinks.{Account}

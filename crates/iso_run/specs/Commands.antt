@@ -37,7 +37,7 @@ use Rattle.iso_run.specs.Runs.{AreSitesOf, IsRead, IsWritten, Product, suite_con
 use Rattle.iso_run.specs.Suites.{OfSuite, Suite, document, settings_from, suite_of, texts}
 use Rattle.iso_run.specs.declared.command.Printed.{Printed}
 use Rattle.iso_run.specs.declared.command_fault.CommandFault.{CommandFault}
-use Rattle.iso_run.specs.declared.fault.RunFault.{RunFault}
+use Rattle.iso_run.specs.declared.run_fault.RunFault.{RunFault}
 use Rattle.iso_run.specs.declared.files.FileReads.{FileReads}
 use Rattle.iso_run.specs.declared.files.InputBytes.{InputBytes}
 use Rattle.iso_run.specs.declared.inputs.Inputs.{Inputs}

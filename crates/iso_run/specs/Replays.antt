@@ -11,11 +11,11 @@ use Rattle.std.specs.Prelude.{◌≡◌, ℕ, ◌≤◌, List, Bool, true, false
 use Rattle.iso_standing.specs.CodeEvents.{refused_of}
 use Rattle.iso_core.specs.Cores.{is_complete}
 use Rattle.iso_core.specs.EventRuns.{AreAccepted, RefusedAt, core_after}
-use Rattle.iso_standing.specs.declared.core_fault.CoreFault.TheVariants as C
+use Rattle.iso_standing.specs.declared.refused.CoreFault.TheVariants as C
 use Rattle.iso_core.specs.declared.run_events.EventsFault.{EventsFault}
 use Rattle.iso_run.specs.Suites.{NoSuite, OfSuite, Suite, planned}
-use Rattle.iso_run.specs.declared.fault.RunFault.{RunFault}
-use Rattle.iso_run.specs.declared.fault.RunFault.TheVariants.{Schedule, Refused, Unfinished, Start, Lost, Memory, Write}
+use Rattle.iso_run.specs.declared.run_fault.RunFault.{RunFault}
+use Rattle.iso_run.specs.declared.run_fault.RunFault.TheVariants.{Schedule, Refused, Unfinished, Start, Lost, Memory, Write}
 use Rattle.iso_run.specs.declared.inputs.Inputs.{Inputs}
 use Rattle.iso_run.specs.declared.way.Way.{Way}
 use Rattle.iso_run.specs.declared.way.Way.TheVariants.{Serial, ByWorkers, BySchedule}

@@ -13,8 +13,8 @@ use Rattle.std.specs.Prelude.{◌≡◌, ℕ, ◌<◌, List, Bool, true, cond, l
 use Rattle.iso_run.specs.ExitStatuses.{Leaves, end_of, run_end}
 use Rattle.iso_run.specs.Replays.{Cause, IsPlayed}
 use Rattle.iso_run.specs.Suites.{IsSuite, OfSuite, Suite, planned, suite_of, texts}
-use Rattle.iso_run.specs.declared.fault.RunFault.{RunFault}
-use Rattle.iso_run.specs.declared.fault.RunFault.TheVariants.{Memory, Write}
+use Rattle.iso_run.specs.declared.run_fault.RunFault.{RunFault}
+use Rattle.iso_run.specs.declared.run_fault.RunFault.TheVariants.{Memory, Write}
 use Rattle.iso_run.specs.declared.inputs.Inputs.{Inputs}
 use Rattle.iso_run.specs.declared.inputs.Suite.{Suite as ReadSuite}
 use Rattle.iso_run.specs.declared.way.Way.{Way}

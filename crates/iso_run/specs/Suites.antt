@@ -26,8 +26,8 @@ use Rattle.iso_settings.specs.Readings.{Reading}
 use Rattle.iso_settings.specs.Settings.{settings_in}
 use Rattle.iso_settings.specs.Worlds.{Start, world_in}
 use Rattle.iso_settings.specs.declared.settings.Settings.{Settings}
-use Rattle.iso_run.specs.declared.fault.RunFault.{RunFault}
-use Rattle.iso_run.specs.declared.fault.RunFault.TheVariants as F
+use Rattle.iso_run.specs.declared.run_fault.RunFault.{RunFault}
+use Rattle.iso_run.specs.declared.run_fault.RunFault.TheVariants as F
 use Rattle.iso_run.specs.declared.inputs.Inputs.{Inputs}
 use Rattle.iso_run.specs.declared.inputs.Suite.{Suite as ReadSuite}
 

@@ -20,8 +20,8 @@ ghost use Rattle.iso_tap.specs.Sinks.{Wrote};
 
 use crate::command::flushed;
 use crate::command_fault::CommandFault;
+use crate::error_messages::say;
 use crate::exit::FAILED;
-use crate::fault_lines::say;
 use crate::files::{lent, read_files};
 use crate::inputs::Suite;
 use crate::older::{Older, names_below, older_files, read_older};

@@ -6,12 +6,12 @@ ghost use Rattle.iso_run.specs.ExitStatuses.{ComesEarly};
 
 use crate::command::{named, with_mending};
 use crate::command_fault::CommandFault;
+use crate::error_messages::say;
 use crate::exit::FAILED;
-use crate::fault::RunFault;
-use crate::fault_lines::say;
 use crate::files::{FileReads, all_of, read_each};
 use crate::inputs::{placed, settings_from, world_from};
 use crate::mending::{settings_mending, suite_of, world_mending};
+use crate::run_fault::RunFault;
 use crate::script_mending::ScriptMending;
 use crate::warning::say_warnings;
 use iso_arguments::request::InputFiles;

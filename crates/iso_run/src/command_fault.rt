@@ -2,10 +2,10 @@
 ghost use Rattle.std.specs.Prelude.{◌≡◌, None};
 ghost use Rattle.iso_run.specs.ExitStatuses.{command_end, exit_status, words_fault};
 ghost use Rattle.iso_run.specs.declared.command_fault.CommandFault.TheVariants.{Run};
-ghost use Rattle.iso_run.specs.declared.fault.RunFault.TheVariants.{Memory};
+ghost use Rattle.iso_run.specs.declared.run_fault.RunFault.TheVariants.{Memory};
 
 use crate::exit::{FAILED, WRONG_INPUT};
-use crate::fault::RunFault;
+use crate::run_fault::RunFault;
 use iso_arguments::wrong_words::WordsFault;
 use iso_tap::memory::MemorySink;
 use std::alloc::{AllocError, AllocFailed};

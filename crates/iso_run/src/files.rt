@@ -8,21 +8,21 @@ ghost use Rattle.iso_model.specs.declared.limits.TheConstants.{FILE_BYTES};
 ghost use Rattle.iso_selection.specs.declared.list.TheConstants.{LIST_BYTES};
 ghost use Rattle.iso_run.specs.Suites.{texts};
 ghost use Rattle.iso_arguments.specs.declared.request.InputFiles as I;
-ghost use Rattle.iso_run.specs.Commands.{AreReads, IsCountedAs, IsOneRead, WereRead};
+ghost use Rattle.iso_run.specs.Commands.{AreReads, IsOneRead, WereRead};
 ghost use Rattle.iso_run.specs.ExitStatuses.{ComesEarly, GaveUp};
 ghost use Rattle.iso_run.specs.declared.command_fault.CommandFault.TheVariants.{Run, Unreadable};
-ghost use Rattle.iso_run.specs.declared.fault.RunFault.TheVariants.{Memory};
+ghost use Rattle.iso_run.specs.declared.run_fault.RunFault.TheVariants.{Memory};
 
 use crate::command_fault::CommandFault;
-use crate::fault_lines::STDIN;
-use iso_arguments::processors::Processors;
+use crate::error_messages::STDIN;
+use crate::processors::counted;
 use iso_arguments::request::InputFiles;
 use iso_model::limits::FILE_BYTES;
 use iso_selection::list::LIST_BYTES;
 use std::alloc::{AllocError, AllocGlobal, Global};
 use std::fs::{File, Files};
 use std::io::{self, Read, Write};
-use std::thread::{self, Threads};
+use std::thread::Threads;
 
 /// The bytes of the files that a command is made of.
 #[derive(Drop)]
@@ -167,27 +167,6 @@ fn all_scripts<'a>(
         scripts.push(read?)?;
     }
     Ok(scripts)
-}
-
-/// How many processors are counted with: as many as is asked for, those of the machine, but no more
-/// than may be asked for, or one.
-pub(crate) fn counted<'a, T: Threads>(
-    rt: &T,
-    asked: Option<Processors>,
-) -> Result<u32, CommandFault<'a>>
-    requires { IfSome asked IsWithin }
-    ensures gave_up { IfErr result GaveUp }
-    ensures counted { IfOk result (IsCountedAs asked) }
-    ensures bounds { IfOk result (λ n. 1 ≤ n) }
-{
-    match asked {
-        None => Ok(1),
-        Some(Processors::Count(count)) => Ok(count),
-        Some(Processors::Auto) => match thread::available_parallelism(rt) {
-            Ok(count) => Ok(count.get().clamp(1, 1024) as u32),
-            Err(_) => Err(CommandFault::Uncounted),
-        },
-    }
 }
 
 /// Reads the file in which paths stand, where one is named; `-` is standard input.

@@ -5,7 +5,7 @@ ghost use Rattle.iso_run.specs.ExitStatuses.{IsFiled, IsOneOf};
 
 use crate::besides::Besides;
 use crate::command_fault::CommandFault;
-use crate::fault_lines::say;
+use crate::error_messages::say;
 use crate::files::write_file;
 use crate::parts::{page_bytes, text_bytes};
 use iso_tap::printer::Printer;

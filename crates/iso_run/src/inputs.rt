@@ -11,8 +11,8 @@ ghost use Rattle.iso_telling.specs.Written.{ArePlaced};
 ghost use Rattle.iso_run.specs.Suites.{AreRead, AreSet, NoSuite, settings_from, texts, world_from};
 ghost use Rattle.iso_settings.specs.Readings.{Gives};
 
-use crate::fault::RunFault;
 use crate::kept::plan_kept;
+use crate::run_fault::RunFault;
 use crate::script_mending::ScriptMending;
 use iso_model::script::Script;
 use iso_plan::fault::PlanError;

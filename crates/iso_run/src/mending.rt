@@ -8,10 +8,10 @@ ghost use Rattle.iso_run.specs.Suites.{NoSuite, texts};
 ghost use Rattle.iso_run.specs.declared.inputs.Inputs.{Inputs};
 
 use crate::command::{inputs_of, shard_of};
-use crate::fault::RunFault;
-use crate::fault_lines::{STDIN, listed_at};
+use crate::error_messages::{STDIN, listed_at};
 use crate::files::{InputBytes, lent};
 use crate::inputs::{Suite, read_explained};
+use crate::run_fault::RunFault;
 use crate::script_mending::ScriptMending;
 use crate::settings::SETTINGS;
 use iso_arguments::request::InputFiles;

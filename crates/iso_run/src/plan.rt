@@ -12,12 +12,12 @@ ghost use Rattle.iso_run.specs.ExitStatuses.{IfLate, end_of, run_end};
 ghost use Rattle.iso_run.specs.Runs.{AreSitesOf, Writes, places_text, suite_conflicts, suite_places, suite_plan, suite_tests, suite_why, why_text};
 ghost use Rattle.iso_run.specs.Suites.{OfSuite};
 ghost use Rattle.iso_tap.specs.Printers as P;
-ghost use Rattle.iso_run.specs.declared.fault.RunFault.TheVariants.{Memory};
+ghost use Rattle.iso_run.specs.declared.run_fault.RunFault.TheVariants.{Memory};
 ghost use Rattle.iso_run.specs.declared.way.Way.TheVariants.{Serial};
 ghost use Rattle.iso_why.specs.Reach.{IsReach};
 
-use crate::fault::RunFault;
 use crate::inputs::{Inputs, Suite, read_inputs};
+use crate::run_fault::RunFault;
 use iso_conflicts::conflicts::write_conflicts;
 use iso_conflicts::tests::tests_in;
 use iso_placed_plan::plan::{write_placed_plan, write_placed_tests};

@@ -6,9 +6,9 @@ ghost use Rattle.iso_run.specs.Runs.{IsRead, TellsOf, Writes, suite_report};
 ghost use Rattle.iso_schedule.specs.Schedules.{AreRead};
 ghost use Rattle.iso_telling.specs.Telling.{wants_places};
 
-use crate::fault::RunFault;
 use crate::inputs::{Inputs, Suite, read_inputs};
 use crate::report::{Finished, Summary, write_results};
+use crate::run_fault::RunFault;
 use iso_core::run_events::run_events;
 use iso_schedule::reader::read_schedule;
 use iso_standing::event::Event;

@@ -9,8 +9,8 @@ ghost use Rattle.iso_tap.specs.Sinks.{Wrote};
 ghost use Rattle.iso_telling.specs.Pages.{watched_of};
 ghost use Rattle.iso_telling.specs.Telling.{HasTold};
 
-use crate::fault::RunFault;
 use crate::inputs::Suite;
+use crate::run_fault::RunFault;
 use iso_lifecycle::results::Results;
 use iso_tap::ok::all_ok;
 use iso_tap::report::write_report;

@@ -5,7 +5,7 @@ ghost use Rattle.iso_run.specs.ExitStatuses.{ComesEarly};
 
 use crate::command::named;
 use crate::command_fault::CommandFault;
-use crate::fault_lines::STDIN;
+use crate::error_messages::STDIN;
 use crate::files::InputBytes;
 use crate::inputs::{Suite, settings_from};
 use crate::mending::suite_of;

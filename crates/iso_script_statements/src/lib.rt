@@ -11,5 +11,6 @@ pub mod parser;
 pub mod reason;
 pub mod simple;
 mod statement;
+pub mod unexpected;
 pub mod unmet;
 pub mod wanted;

@@ -12,7 +12,6 @@ ghost use Rattle.iso_script_statements.specs.declared.wanted.Wanted.TheVariants 
 
 use crate::fault::{ScriptError, ScriptFault, ScriptFaultKind};
 use crate::reason::{Limit, Reason};
-use crate::unmet::Unmet;
 use crate::wanted::{Operators, Wanted};
 use iso_script_lexer::lexer::Lexer;
 use iso_script_lexer::symbol::Symbol;
@@ -47,25 +46,6 @@ impl<'a> Parser<'a> {
             operators: Operators::None,
             without_else: None,
         }
-    }
-
-    /// The fault at the token that is next, where this is wanted, which it is not. What is no token
-    /// has a kind of its own, and so has 2^63, which only the minus of a literal may precede.
-    pub fn unexpected(&mut self, wanted: Wanted) -> ScriptError
-        requires { IsUnmet wanted self.old.lexer }
-        ensures fault { IsFaultOf (IsUnexpected self.old.lexer) result }
-        ensures told { Tells wanted self.new.reason }
-    {
-        let (found, place) = self.lexer.peek();
-        self.reason = Reason::Unmet(Unmet { wanted, found });
-        let kind = match found {
-            Token::Bad(fault) => ScriptFaultKind::from(fault),
-            Token::Number(number) if i64::try_from(number).is_err() =>
-                ScriptFaultKind::NumberTooBig,
-            Token::End => ScriptFaultKind::EndOfInput,
-            _ => ScriptFaultKind::Expected,
-        };
-        ScriptError::Fault(ScriptFault::at(kind, place))
     }
 
     /// A fault of this kind at the token that is next, which would go beyond this limit.

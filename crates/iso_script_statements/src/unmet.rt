@@ -1,3 +1,4 @@
+//! A token that isn't the one that is wanted.
 ghost use Rattle.std.specs.Prelude.{◌≡◌, false};
 ghost use Rattle.iso_script_statements.specs.Wanted.{seen, takes};
 

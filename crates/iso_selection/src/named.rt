@@ -6,10 +6,9 @@ ghost use Rattle.iso_plan.specs.Faults.{IsFaultOf, not_selected};
 ghost use Rattle.iso_plan.specs.Paths.{IsTree, column, is_root, is_top};
 ghost use Rattle.iso_plan.specs.TopClasses.{all_paths, all_top_classes};
 ghost use Rattle.iso_plan.specs.Tree.{Row};
-ghost use Rattle.iso_selection.specs.Patterns as P;
 ghost use Rattle.iso_selection.specs.Wishes.{Wish, first_in_vain, grants, is_in_vain, is_named_by, pattern_grants, paths_in, wish_of, wishes_of};
 
-use crate::pattern::is_match;
+use crate::pattern::mark_matches;
 use crate::wanted::Wanted;
 use iso_model::text::Text;
 use iso_plan::fault::{PlanError, PlanFault};
@@ -89,29 +88,6 @@ fn mark(named: &mut Vec<bool>, paths: &[Text], known: &BTreeSet<&[u8]>, wanted: 
         Wanted::Path(path) => known.contains(path),
         Wanted::Pattern(pattern) => mark_matches(named, paths, pattern),
     }
-}
-
-/// Marks the nodes whose paths a pattern takes in. Answers whether there are any.
-fn mark_matches(named: &mut Vec<bool>, paths: &[Text], pattern: &[u8]) -> bool
-    requires some { 0 < length paths.now }
-    requires each { length named.old.items ≡ length paths.now }
-    ensures marked { (n : ℕ) → n < length paths.now → slice_index_or named.new.items n false
-        ≡ (slice_index_or named.old.items n false
-        || (not (is_root n) && P.is_match pattern.now (slice_index_or paths.now n []))) }
-    ensures each { length named.new.items ≡ length named.old.items }
-    ensures found { result ≡ list_any (P.is_match pattern.now) (drop 1 paths.now) }
-{
-    let mut found = false;
-    'nodes: for n in 1..paths.len() {
-        if found && named[n] {
-            continue;
-        }
-        if is_match(pattern, paths[n].as_str().as_bytes()) {
-            named[n] = true;
-            found = true;
-        }
-    }
-    found
 }
 
 /// Whether each node has a path that is asked for.

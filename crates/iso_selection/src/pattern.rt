@@ -1,6 +1,10 @@
 //! Patterns of paths.
-ghost use Rattle.std.specs.Prelude.{◌≡◌, []};
+ghost use Rattle.std.specs.Prelude.{◌≡◌, ◌<◌, ◌||◌, ◌&&◌, [], ℕ, drop, false, length, not, slice_index_or};
+ghost use Rattle.std.specs.List.{list_any};
+ghost use Rattle.iso_plan.specs.Paths.{is_root};
 ghost use Rattle.iso_selection.specs.Patterns.{is_match, some_end};
+
+use iso_model::text::Text;
 
 /// The byte of a pattern that stands for any bytes.
 const STAR: u8 = b'*';
@@ -58,4 +62,27 @@ fn is_match_of_nothing(pattern: &[u8]) -> bool
         }
     }
     true
+}
+
+/// Marks the nodes whose paths a pattern takes in. Answers whether there are any.
+pub(crate) fn mark_matches(named: &mut Vec<bool>, paths: &[Text], pattern: &[u8]) -> bool
+    requires some { 0 < length paths.now }
+    requires each { length named.old.items ≡ length paths.now }
+    ensures marked { (n : ℕ) → n < length paths.now → slice_index_or named.new.items n false
+        ≡ (slice_index_or named.old.items n false
+        || (not (is_root n) && is_match pattern.now (slice_index_or paths.now n []))) }
+    ensures each { length named.new.items ≡ length named.old.items }
+    ensures found { result ≡ list_any (is_match pattern.now) (drop 1 paths.now) }
+{
+    let mut found = false;
+    'nodes: for n in 1..paths.len() {
+        if found && named[n] {
+            continue;
+        }
+        if is_match(pattern, paths[n].as_str().as_bytes()) {
+            named[n] = true;
+            found = true;
+        }
+    }
+    found
 }

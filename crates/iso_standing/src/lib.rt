@@ -2,7 +2,6 @@
 //! how results and bodies follow them.
 #![tactic(auto)]
 
-pub mod core_fault;
 pub mod event;
 pub mod following;
 pub mod laws;

@@ -13,10 +13,9 @@ use crate::book::Book;
 use crate::home::enters_with;
 use iso_locks::tray::Tray;
 use iso_plan::laws;
-use iso_standing::core_fault::CoreFault;
 use iso_standing::event::Event;
 use iso_standing::following::{bodies_stand_as_alone, results_follow_nodes};
-use iso_standing::refused::Refused;
+use iso_standing::refused::{CoreFault, Refused};
 use std::alloc::AllocError;
 
 impl<'a> Book<'a> {

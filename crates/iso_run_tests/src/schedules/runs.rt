@@ -9,9 +9,8 @@ use iso_plan::plan::Plan;
 use iso_run::inputs::{Suite, read_inputs};
 use iso_schedule::reader::read_schedule;
 use iso_settings::world::World;
-use iso_standing::core_fault::CoreFault;
 use iso_standing::event::Event;
-use iso_standing::refused::Refused;
+use iso_standing::refused::{CoreFault, Refused};
 use std::alloc::Global;
 use std::process::Abort;
 

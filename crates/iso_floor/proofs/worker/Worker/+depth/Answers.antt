@@ -93,7 +93,7 @@ node-returns-in-Ok-clause-further g t c =
     on-one c.finish.result c.finish.ensures.further
     (λ further. further-handed old new fs (further (record old { frames = fs }) (stands-handed plan g.G.Ground.start p p old fs c.requires.inside.tray) e.lent))
 
-pub node-returns-in-Err-Refused-ParentClosed-clause-further : goal.node-returns-in-Err-Refused-ParentClosed-clause-further
-node-returns-in-Err-Refused-ParentClosed-clause-further g t c =
-    let same : c.enter.new.seat ≡ c.args.seat.now = c.in-Err-Refused-ParentClosed.ensures.same in
+pub node-returns-in-Over-clause-further : goal.node-returns-in-Over-clause-further
+node-returns-in-Over-clause-further g t c =
+    let same : c.enter.new.seat ≡ c.args.seat.now = c.in-Err-Refused.ensures.same in
     subst (λ (s : SeatView). GoesOn c.args.seat.now.tray s.tray) (sym same) (on-still c.args.seat.now.tray)

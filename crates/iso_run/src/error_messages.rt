@@ -1,6 +1,6 @@
 //! The line that the program writes of a fault.
 use crate::command_fault::CommandFault;
-use crate::fault::RunFault;
+use crate::run_fault::RunFault;
 use iso_plan::fault::PlanFault;
 use iso_schedule::fault::ScheduleFault;
 use iso_script::fault::ScriptFault;

@@ -2,7 +2,7 @@
 ghost use Rattle.std.specs.Prelude.{◌≡◌};
 ghost use Rattle.iso_run.specs.ExitStatuses.{exit_status, run_end};
 ghost use Rattle.iso_run.specs.Replays.{events_fault, schedule_fault};
-ghost use Rattle.iso_run.specs.declared.fault.RunFault.TheVariants.{Memory};
+ghost use Rattle.iso_run.specs.declared.run_fault.RunFault.TheVariants.{Memory};
 
 use crate::exit::{FAILED, WRONG_INPUT};
 use iso_core::run_events::EventsFault;
@@ -10,8 +10,7 @@ use iso_plan::fault::PlanFault;
 use iso_schedule::fault::{ScheduleError, ScheduleFault};
 use iso_script::fault::ScriptFault;
 use iso_settings::fault::SettingsFault;
-use iso_standing::core_fault::CoreFault;
-use iso_standing::refused::Refused;
+use iso_standing::refused::{CoreFault, Refused};
 use std::alloc::{AllocError, AllocFailed};
 
 /// Why a run has no report, or only its beginning.

@@ -2,7 +2,7 @@ use Rattle.std.proofs.Common.{◌≡◌, ◌<◌, ◌≤◌, ◌||◌, ◌&&◌,
 use Rattle.std.specs.List.{list_any}
 use Rattle.iso_plan.specs.Paths.{is_root}
 use Rattle.iso_selection.specs.Patterns.{is_match}
-use Rattle.iso_selection.proofs.named.mark_matches.Given as goal
+use Rattle.iso_selection.proofs.pattern.mark_matches.Given as goal
 
 abbrev pub invariant-nodes : goal.invariant-nodes
 invariant-nodes l = record {

@@ -1,7 +1,7 @@
 use Rattle.std.proofs.Common.{◌≡◌, drop, map}
 use Rattle.iso_explain_block.specs.Missing.{body_names}
 use Rattle.iso_model.specs.SyntaxView.{block_of}
-use Rattle.iso_explain_block.proofs.set_names.+set.Given as goal
+use Rattle.iso_explain_block.proofs.names_in_blocks.+set.Given as goal
 
 abbrev pub invariant-add_body-loop-i : goal.invariant-add_body-loop-i
 invariant-add_body-loop-i l =

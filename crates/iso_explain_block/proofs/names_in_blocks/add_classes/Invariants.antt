@@ -1,7 +1,7 @@
 use Rattle.std.proofs.Common.{◌≡◌, drop, map}
 use Rattle.iso_explain_block.specs.Missing.{classes_names}
 use Rattle.iso_explain_block.specs.Variables.{heads_of}
-use Rattle.iso_explain_block.proofs.set_names.add_classes.Given as goal
+use Rattle.iso_explain_block.proofs.names_in_blocks.add_classes.Given as goal
 
 abbrev pub invariant-loop-class : goal.invariant-loop-class
 invariant-loop-class l =
