@@ -5,6 +5,7 @@
 use Rattle.std.specs.Prelude.{◌≡◌, ℕ, ◌<◌, Box, List, length, Option, Some, None}
 use Rattle.std.specs.BTreeMap.{BTreeMap, get_by_text}
 use Rattle.std.specs.Box.{box_value}
+use Rattle.std.specs.List.{slice_get}
 use Rattle.std.specs.declared.alloc.Global.{Global}
 use Rattle.std.specs.declared.string.String.{String}
 use Rattle.iso_model.specs.Names.{place_of}
@@ -23,3 +24,7 @@ Tells places names = (x : List ℕ) → place_of names x < length names → get_
 abbrev pub TellsWhereMade : Option (Box Places Global) → List Binding → Type 0
 TellsWhereMade None names = Unit {0}
 TellsWhereMade (Some places) names = Tells (box_value places) names
+
+-- the name at a place, if there is one, stands there first
+abbrev pub IsFirst : List Binding → ℕ → Type 0
+IsFirst names i = (b : Binding) → slice_get names i ≡ Some b → place_of names b.name ≡ i

@@ -1,5 +1,5 @@
 //! Visible names with their values, in layers.
-ghost use Rattle.std.specs.Prelude.{◌≡◌, ◌≤◌, ◌<◌, ◌+◌, ◌∷◌, ◌++◌, [], length, take, drop, option_map, Some, IfOk, OnOk, OnErr};
+ghost use Rattle.std.specs.Prelude.{◌≡◌, ◌≤◌, ◌<◌, ◌+◌, ◌∷◌, ◌++◌, [], length, take, drop, option_map, Some, IfOk, IfSome, OnOk, OnErr};
 ghost use Rattle.std.specs.List.{slice_get};
 ghost use Rattle.iso_model.specs.NameLayers.{in_layers, IsAt};
 ghost use Rattle.iso_model.specs.Names.{lent, place_of, revalued};
@@ -96,6 +96,17 @@ impl Bindings {
             return self.own.at(place - self.outer);
         }
         self.shared_at(place)
+    }
+
+    /// The name at a place, where it isn't shared.
+    #[inline(always)]
+    pub fn own_at(&self, place: usize) -> Option<LentBinding<'_>>
+        ensures { IfSome result (λ b. slice_get self.now place ≡ Some (lent b)) }
+    {
+        if place < self.outer {
+            return None;
+        }
+        self.own.at(place - self.outer)
     }
 
     /// The same, over the layers too. Few look-ups are of shared names, so this stays out of what

@@ -1,7 +1,7 @@
 ghost use Rattle.std.specs.Prelude.{◌≡◌, ◌∷◌, ◌++◌, [], length, take, option_map, nat_le, IfOk, OnOk, OnErr, ◌+◌};
 ghost use Rattle.std.specs.Bool.{OnTrue, OnFalse};
 ghost use Rattle.iso_model.specs.declared.names.Sort.TheVariants.{Local};
-ghost use Rattle.iso_model.specs.Names.{bound, binding_of, assigned, assignment, is_frozen, lent};
+ghost use Rattle.iso_model.specs.Names.{bound, binding_of, assigned, assignment, is_frozen, lent, place_of};
 ghost use Rattle.iso_model.specs.Environments.{environment};
 
 use crate::bindings::Bindings;
@@ -81,6 +81,9 @@ pub enum AssignFault {
 #[derive(Drop)]
 pub struct Names {
     bindings: Bindings,
+    /// Where the name stands that was assigned last, or the first name. Unless it is shared, it is
+    /// looked at before the others: most names are looked up again soon after they were assigned.
+    recent: usize,
     steps: u32,
     printed: u32,
     block: BlockName,
@@ -88,6 +91,7 @@ pub struct Names {
 
 impl Model for Names {
     ghost use Rattle.iso_model.specs.Environments.{Environment};
+    ghost use Rattle.iso_model.specs.NamePlaces.{IsFirst};
 
     ghost Value = { Environment };
 
@@ -97,6 +101,8 @@ impl Model for Names {
       printed = n.printed;
       block = n.block;
     } };
+
+    ghost invariant = { λ n. IsFirst n.bindings n.recent };
 }
 
 impl Names {
@@ -106,6 +112,7 @@ impl Names {
     {
         Names {
             bindings,
+            recent: 0,
             steps: BLOCK_STEPS,
             printed,
             block,
@@ -124,7 +131,18 @@ impl Names {
     pub fn get(&self, name: &str) -> Option<LentBinding<'_>>
         ensures { option_map lent result ≡ binding_of self.now.names name.now }
     {
-        self.bindings.at(self.bindings.place_of(name))
+        self.bindings.at(self.place_of(name))
+    }
+
+    /// Where a name stands first, or the number of names.
+    #[inline(always)]
+    fn place_of(&self, name: &str) -> usize
+        ensures { result ≡ place_of self.now.names name.now }
+    {
+        match self.bindings.own_at(self.recent) {
+            Some(binding) if name == binding.name => self.recent,
+            _ => self.bindings.place_of(name),
+        }
     }
 
     /// Makes later look-ups quick, unless few names are visible: then nothing is done, and no
@@ -145,6 +163,7 @@ impl Names {
             ≡ record self.old { names = self.old.names ++ bound Local name value ∷ [] }) }
         ensures err { OnErr result (self.new ≡ self.old) }
     {
+        self.recent = 0;
         self.bindings.push(Binding {
             name,
             value,
@@ -156,6 +175,7 @@ impl Names {
     pub fn keep(&mut self, count: usize)
         ensures { self.new ≡ record self.old { names = take count self.old.names } }
     {
+        self.recent = 0;
         self.bindings.keep(count);
     }
 
@@ -169,7 +189,7 @@ impl Names {
         ensures fault { IfOk result (λ answer. OnErr answer (self.new ≡ self.old)) }
         ensures err { OnErr result (self.new ≡ self.old) }
     {
-        let place = self.bindings.place_of(name);
+        let place = self.place_of(name);
         let Some(binding) = self.bindings.at(place) else {
             return Ok(Err(AssignFault::UnknownName));
         };
@@ -177,6 +197,7 @@ impl Names {
             return Ok(Err(AssignFault::Frozen));
         }
         self.bindings.set_value(place, value)?;
+        self.recent = place;
         Ok(Ok(()))
     }
 

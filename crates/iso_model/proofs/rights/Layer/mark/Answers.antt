@@ -1,6 +1,6 @@
 use Rattle.std.proofs.Common.{◌≡◌, ℕ, List, ◌++◌, ◌∙◌, cond, bytes_eq, sym, ap, subst, Some}
 use Rattle.iso_model.specs.KeyMaps.{value_in}
-use Rattle.iso_model.specs.Rights.{access_in, strongest}
+use Rattle.iso_model.specs.Rights.{strongest}
 use Rattle.iso_model.proofs.LayerLemmas.{declared-known, declared-set}
 use Rattle.iso_model.proofs.rights.Layer.mark.Goals as goal
 
