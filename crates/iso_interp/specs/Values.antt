@@ -1,6 +1,6 @@
 -- What the values of an evaluation stand for, wherever their texts are.
 use Rattle.std.specs.Borrow.{Bor}
-use Rattle.std.specs.Prelude.{ℕ, ℤ, List, ◌++◌, drop, Option, Some, None, Result, Ok, Err, cond, ◌≡◌, ⊤}
+use Rattle.std.specs.Prelude.{ℕ, ℤ, List, ◌++◌, Option, Some, None, Result, Ok, Err, cond, ◌≡◌, ⊤}
 use Rattle.iso_model.specs.Evaluation.{Given, evaluated, evaluated_all, is_equal, is_short, joined, joined_all, then}
 use Rattle.iso_model.specs.Resources.{Resources}
 use Rattle.iso_model.specs.Rights.{Rights}
@@ -50,12 +50,11 @@ ComeTo names op x e z =
     (m : Resources) (r : Rights) → then (evaluated names m r e) (joined op (D.Whole x))
     ≡ Ok (D.Whole z)
 
--- a value with these operands comes to what this one with those from this place on comes to
-abbrev pub SumUpTo : List Binding → Operator → Data → List Expr → (sum : Data)
-    → (place : ℕ) → Type 0
-SumUpTo names op x es sum place = (m : Resources) (r : Rights) →
-    then (evaluated_all names m r (terms_of_all (drop place es))) (joined_all op sum)
-    ≡ then (evaluated_all names m r (terms_of_all es)) (joined_all op x)
+-- a number and these operands come to this number, whatever the resources and the rights are
+abbrev pub SumTo : List Binding → Operator → ℤ → List Expr → ℤ → Type 0
+SumTo names op x es z = (m : Resources) (r : Rights) →
+    then (evaluated_all names m r (terms_of_all es)) (joined_all op (D.Whole x))
+    ≡ Ok (D.Whole z)
 
 abbrev pub text_given : Result (Bor (List ℕ)) Fault → Result (List ℕ) Fault
 text_given (Ok t) = Ok t.now

@@ -1,5 +1,5 @@
 //! The value of an expression, over the names, the rights and the resources of a block.
-ghost use Rattle.std.specs.Prelude.{◌≡◌, IfOk, IfSome, Ok, drop, option_map};
+ghost use Rattle.std.specs.Prelude.{◌≡◌, IfOk, IfSome, Ok, option_map};
 ghost use Rattle.iso_model.specs.Evaluation.{compared, evaluated, evaluated_all, joined, joined_all, or_fault, then};
 ghost use Rattle.iso_model.specs.Names.{binding_of};
 ghost use Rattle.iso_model.specs.Rights.{access_in};
@@ -9,7 +9,7 @@ ghost use Rattle.iso_model.specs.declared.data.Data.TheVariants as Kinds;
 ghost use Rattle.iso_model.specs.declared.data.Data.TheVariants.{Flag};
 ghost use Rattle.iso_model.specs.declared.fault.Fault.TheVariants as Faults;
 ghost use Rattle.iso_model.specs.declared.names.Binding.{Binding};
-ghost use Rattle.iso_interp.specs.Values.{AlwaysGives, Answers, ComeTo, SumUpTo, data_of, given_of};
+ghost use Rattle.iso_interp.specs.Values.{AlwaysGives, Answers, ComeTo, SumTo, data_of, given_of};
 
 use crate::functions::{call, locale};
 use crate::interrupt::Interrupt;
@@ -44,10 +44,22 @@ pub fn evaluate<'a, T: Touch>(
     }
 }
 
-/// The value of a literal or of a visible name. Most expressions are one, so no call is made for
-/// them.
+/// The value of a literal, of a visible name, or of a chain of such numbers. Most expressions are
+/// one, so little is done for them.
 #[inline(always)]
 fn at_once<'a>(names: &'a Names, expression: &'a Expr) -> Option<Value<'a>>
+    ensures { IfSome result (λ v. AlwaysGives names.now.names (term_of expression.now)
+        (data_of v)) }
+{
+    match expression {
+        Expr::Chain(_, _, _) => Some(Value::Whole(sum_at_once(names, expression)?)),
+        _ => simple(names, expression),
+    }
+}
+
+/// The value of a literal or of a visible name.
+#[inline(always)]
+fn simple<'a>(names: &'a Names, expression: &'a Expr) -> Option<Value<'a>>
     ensures { IfSome result (λ v. AlwaysGives names.now.names (term_of expression.now)
         (data_of v)) }
 {
@@ -57,6 +69,48 @@ fn at_once<'a>(names: &'a Names, expression: &'a Expr) -> Option<Value<'a>>
             let binding = names.get(name.as_str())?;
             Some(Value::lent(binding.value))
         }
+        _ => None,
+    }
+}
+
+/// The number that a chain comes to whose operands are literals and visible names that are numbers.
+#[inline(never)]
+fn sum_at_once(names: &Names, expression: &Expr) -> Option<i64>
+    ensures { IfSome result (λ n. AlwaysGives names.now.names (term_of expression.now)
+        (Kinds.Whole n)) }
+{
+    match expression {
+        Expr::Chain(operator, first, rest) => match simple(names, first)? {
+            Value::Whole(first) => numbers(names, *operator, first, rest),
+            _ => None,
+        },
+        _ => None,
+    }
+}
+
+/// What a first number and the operands after it come to, where all of them are numbers at once.
+#[inline(always)]
+fn numbers(names: &Names, operator: Operator, first: i64, rest: &[Expr]) -> Option<i64>
+    ensures { IfSome result (λ n. SumTo names.now.names operator first rest.now n) }
+{
+    let mut sum = first;
+    for passed in 0..rest.len() {
+        sum = next_number(names, operator, sum, &rest[passed])?;
+    }
+    Some(sum)
+}
+
+/// What a number and the operand after it come to, where the operand is a number at once and the
+/// two come to a number.
+#[inline(always)]
+fn next_number(names: &Names, operator: Operator, sum: i64, operand: &Expr) -> Option<i64>
+    ensures { IfSome result (ComeTo names.now.names operator sum (term_of operand.now)) }
+{
+    match simple(names, operand)? {
+        Value::Whole(number) => match combined_numbers(operator, sum, number) {
+            Ok(Value::Whole(next)) => Some(next),
+            _ => None,
+        },
         _ => None,
     }
 }
@@ -79,11 +133,7 @@ fn worked_out<'a, T: Touch>(
         Expr::Literal(data) => Ok(Value::lent(data)),
         Expr::Name(name) => named(alloc, names, name),
         Expr::Chain(operator, first, rest) => match evaluate(alloc, names, rights, touch, first) {
-            Ok(first) => {
-                let rest: &[Expr] = rest;
-                let (before, passed) = summed(names, *operator, first, rest);
-                chain(alloc, names, rights, touch, *operator, before, rest, passed)
-            }
+            Ok(first) => chain(alloc, names, rights, touch, *operator, first, rest),
             Err(interrupt) => Err(interrupt),
         },
         Expr::Compare(comparison, first, second) => {
@@ -100,60 +150,8 @@ fn worked_out<'a, T: Touch>(
     }
 }
 
-/// What a first value and the operands after it come to, as far as all of them are numbers at once;
-/// and how many operands these are. Most chains are of numbers, and need no call.
-#[inline(always)]
-fn summed<'a>(
-    names: &Names,
-    operator: Operator,
-    first: Value<'a>,
-    rest: &[Expr],
-) -> (Value<'a>, usize)
-    ensures { SumUpTo names.now.names operator (data_of first.entry) rest.now
-        (data_of result.0) result.1 }
-{
-    match first {
-        Value::Whole(first) => {
-            let (sum, passed) = numbers(names, operator, first, rest);
-            (Value::Whole(sum), passed)
-        }
-        first => (first, 0),
-    }
-}
-
-/// The same of a first number.
-#[inline(always)]
-fn numbers(names: &Names, operator: Operator, first: i64, rest: &[Expr]) -> (i64, usize)
-    ensures { SumUpTo names.now.names operator (Kinds.Whole first) rest.now
-        (Kinds.Whole result.0) result.1 }
-{
-    let mut sum = first;
-    for passed in 0..rest.len() {
-        match next_number(names, operator, sum, &rest[passed]) {
-            Some(next) => sum = next,
-            None => return (sum, passed),
-        }
-    }
-    (sum, rest.len())
-}
-
-/// What a number and the operand after it come to, where the operand is a number at once and the
-/// two come to a number.
-#[inline(always)]
-fn next_number(names: &Names, operator: Operator, sum: i64, operand: &Expr) -> Option<i64>
-    ensures { IfSome result (ComeTo names.now.names operator sum (term_of operand.now)) }
-{
-    match at_once(names, operand)? {
-        Value::Whole(number) => match combined_numbers(operator, sum, number) {
-            Ok(Value::Whole(next)) => Some(next),
-            _ => None,
-        },
-        _ => None,
-    }
-}
-
-/// A chain of what its operands before this place come to, and of those from it on. All of them are
-/// evaluated before a fault of joining them counts.
+/// A chain of a first value and of these operands. All of them are evaluated before a fault of
+/// joining them counts.
 #[cycle(evaluate)]
 fn chain<'a, T: Touch>(
     alloc: Global,
@@ -161,18 +159,17 @@ fn chain<'a, T: Touch>(
     rights: &Rights,
     touch: &'a T,
     operator: Operator,
-    before: Value<'a>,
+    first: Value<'a>,
     rest: &'a [Expr],
-    from: usize,
 ) -> Result<Value<'a>, Interrupt>
     requires { HasKeys (access_in rights.now) (T.content touch.now) (T.writes touch.now) }
     ensures { Answers data_of result (then
         (evaluated_all names.now.names (T.content touch.now) (access_in rights.now)
-        (terms_of_all (drop from rest.now)))
-        (λ ds. joined_all operator (data_of before.entry) ds)) }
+        (terms_of_all rest.now))
+        (λ ds. joined_all operator (data_of first.entry) ds)) }
 {
-    let mut sum = Ok(before);
-    for place in from..rest.len() {
+    let mut sum = Ok(first);
+    for place in 0..rest.len() {
         match evaluate(alloc, names, rights, touch, &rest[place]) {
             Ok(value) => sum = joined_to(alloc, operator, sum, value)?,
             // A call drops the sum: its variants then stand in the proof of that call alone.

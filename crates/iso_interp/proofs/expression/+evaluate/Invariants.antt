@@ -10,4 +10,4 @@ abbrev pub invariant-chain-loop-place : goal.invariant-chain-loop-place
 invariant-chain-loop-place g l =
     let m = g.T.Touch.content l.touch in
     then (evaluated_all l.names.names m (access_in l.rights) (terms_of_all (drop l.place l.rest))) (λ ds. then (given_of l.sum) (λ x. joined_all l.operator x ds))
-    ≡ then (evaluated_all l.names.names m (access_in l.rights) (terms_of_all (drop l.from l.rest))) (λ ds. joined_all l.operator (data_of l.fn.before) ds)
+    ≡ then (evaluated_all l.names.names m (access_in l.rights) (terms_of_all l.rest)) (λ ds. joined_all l.operator (data_of l.fn.first) ds)
