@@ -1,5 +1,7 @@
 -- In a class whose `before_all` didn't end well each node has the outcome that its ending gives.
-use Rattle.std.proofs.Common.{◌≡◌, ℕ, zero, suc, ◌<◌, ◌≤◌, List, [], ◌∷◌, ◌++◌, length, Some, None, Bool, true, false, ◌||◌, ◌&&◌, not, cond, refl, sym, ap, ◌∙◌, arith}
+use Rattle.std.proofs.Common.{inl, inr, ◌≡◌, ℕ, zero, suc, ◌<◌, ◌≤◌, List, [], ◌∷◌, ◌++◌, length, Option, Some, None, Bor, Bool, true, false, true≢false, ◌||◌, ◌&&◌, not, cond, refl, sym, ap, ◌∙◌, arith}
+use Rattle.std.proofs.lemmas.Bool.{cases_Bool}
+use Rattle.std.specs.Prelude.{IfSome, is_some}
 use Rattle.iso_model.proofs.ChainRuns.{class_from-restricted, test_from-restricted}
 use Rattle.iso_model.specs.Alone.{after_all, barred, class_alone, class_outcome, test_alone, test_outcome}
 use Rattle.iso_model.specs.Chains.{ClassHead, TestHead}
@@ -179,3 +181,56 @@ pub root-bars-none : (v : ResultsView) → IsTree (tree_of v.plan) → (n at : �
 root-bars-none v is n at a h =
     let zeroth : at ≡ 0 = parent_none (tree_of v.plan) at h in
     a.barring ∙ ap (is_barred v) zeroth ∙ barred_root v is 0 (root_parent (tree_of v.plan) is)
+
+-- where the classes of a chain were opened well, so was the innermost
+-- where the classes of a chain were opened well, so was the innermost
+own-well : (cs : List ClassHead) (m : Resources) → (opening cs m).well ≡ true → is_well (first_frame (opening cs m).frames).ending ≡ true
+own-well [] m = λ well. refl
+own-well (c ∷ cs) m =
+    let o = opening cs m in
+    let p = opened o (before_all c cs o) in
+    elim o.well as (λ b. (cond b p o).well ≡ true → is_well (first_frame (cond b p o).frames).ending ≡ true) [
+      | true ↦ λ well. well
+      | false ↦ λ well. own-well cs m well
+    ]
+
+above-well : (v : ResultsView) → IsTree (tree_of v.plan) → (m : ℕ) → (opening_of (subject v.plan v.start m)).well ≡ true → (opening_of (subject v.plan v.start (parent (tree_of v.plan) m))).well ≡ true
+above-well v is m well =
+    let up = parent (tree_of v.plan) m in
+    elim (cases_Bool (opening_of (subject v.plan v.start up)).well) [
+      | inl here ↦ here
+      | inr ill ↦ absurd (true≢false (sym well ∙ ap (λ (x : Opening). x.well) (passed_opening v is m ill) ∙ ill))
+    ]
+
+not-barring : (a b : Bool) → b ≡ true → (a && not b) ≡ false
+not-barring true b e = ap not e
+not-barring false b e = refl
+
+none-barring : (v : ResultsView) → IsTree (tree_of v.plan) → (most m : ℕ) → m ≤ most → (opening_of (subject v.plan v.start m)).well ≡ true → is_some_barring v (path (tree_of v.plan) m) ≡ false
+none-barring v is most zero h well = ap (is_some_barring v) (path-root (tree_of v.plan))
+none-barring v is zero (suc m) h well = absurd (omega arith)
+none-barring v is (suc most) (suc m) h well =
+    let tree = tree_of v.plan in
+    let n = suc m in
+    let less : parent tree n < n = is.below n (omega arith) in
+    let here = not-barring (is_opened v n) (is_well (own_frame (subject v.plan v.start n)).ending) (own-well (chain_classes tree n) (started v.start) well) in
+    ap (is_some_barring v) (path-step tree is.below n (omega arith))
+    ∙ ap (λ b. b || is_some_barring v (path tree (parent tree n))) here
+    ∙ none-barring v is most (parent tree n) (omega (arith, less, h)) (above-well v is n well)
+
+opened-well : (a b c : Bool) → a ≡ true → (a && not b) ≡ false → c ≡ b → c ≡ true
+opened-well true true c e h k = k
+opened-well true false c e h k = absurd (true≢false h)
+opened-well false b c e h k = absurd (true≢false (sym e))
+
+-- a class that was opened and doesn't bar was opened well, so that no class that it stands in bars the node
+pub opened-bars-none : (v : ResultsView) → IsTree (tree_of v.plan) → (n at m : ℕ) (o : Opened) → IsAbove v n at → HasParent (tree_of v.plan) at m
+    → IsOpening (subject v.plan v.start m) o → is_opened v m ≡ true → is_barring v m ≡ false → is_barred v n ≡ false
+opened-bars-none v is n at m o a p is_o put h =
+    let well = opened-well (is_opened v m) (is_well (own_frame (subject v.plan v.start m)).ending) (opening_of (subject v.plan v.start m)).well put h (is_o.well ∙ ap is_well is_o.ending_is) in
+    a.barring ∙ ap (λ (i : ℕ). is_some_barring v (path (tree_of v.plan) i)) p.parent_is ∙ none-barring v is m m (omega arith) well
+
+pub found-open : (v : ResultsView) → IsTree (tree_of v.plan) → (n at m : ℕ) (found : Option (Bor Opened)) → IsAbove v n at → HasParent (tree_of v.plan) at m
+    → IfSome found (λ (o : Bor Opened). IsOpening (subject v.plan v.start m) o.now) → is_some found ≡ is_opened v m → is_some found ≡ true → is_barring v m ≡ false → is_barred v n ≡ false
+found-open v is n at m None a p opening put some h = absurd (true≢false (sym some))
+found-open v is n at m (Some o) a p opening put some h = opened-bars-none v is n at m o.now a p opening (sym put ∙ some) h

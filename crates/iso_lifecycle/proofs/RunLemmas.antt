@@ -16,10 +16,6 @@ use Rattle.iso_lifecycle.specs.Origins.{HasCome, done_whole}
 use Rattle.iso_lifecycle.specs.Subjects.{Subject}
 use Rattle.iso_lifecycle.specs.declared.kind.BodyKind.{BodyKind}
 
--- a body whose block was settled
-pub settled : (block : Option BlockRun) (run entered : BlockRun) (rest : Rest) (end : Stage) → block ≡ Some run → entered ≡ run → end ≡ settled_with (Some entered) rest → end ≡ settled_with block rest
-settled block run entered rest end is same ends = ends ∙ ap (λ (x : BlockRun). settled_with (Some x) rest) same ∙ ap (λ (o : Option BlockRun). settled_with o rest) (sym is)
-
 more-left : (ps : List Piece) → progress_of ps ≡ More → is_done ps ≡ false
 more-left [] e = cc
 more-left (p ∷ ps) e = refl
@@ -44,9 +40,6 @@ block-goes_on new rest n more =
     ap (λ (s : Stage). going s n) (goes-on (stage_from (jobs_left rest)) (pieces_of new) (local_of new) (names_before new) (beside_in rest) (jobs_left rest) (more-left (pieces_of new) more))
 
 -- a block that does nothing has the body's rights
-pub idle-rights : (block idle : BlockRun) (rest after : Rest) → block ≡ idle → run_rights idle ≡ access_in rest.rights.now → after.rights ≡ rest.rights → HaveRights (Some block) after
-idle-rights block idle rest after is same kept = λ k i. (ap run_rights is ∙ same ∙ ap (λ r. access_in r.now) (sym kept)) i k
-
 pub stopped-rights : (block : Option BlockRun) (idle : BlockRun) (rest : Rest) → block ≡ Some idle → run_rights idle ≡ access_in rest.rights.now → HaveRights block rest
 stopped-rights block idle rest is same = subst (λ (o : Option BlockRun). HaveRights o rest) (sym is) (λ k i. same i k)
 

@@ -33,4 +33,4 @@ settled_stage run = settled_with run.block run.rest
 -- what an ended body left, which printed `printed` bytes
 abbrev pub end_account : BodyEnd → ℕ → Account
 end_account end printed =
-    record { names = end.names; printed = printed; lines = end.output; endings = end.endings.items }
+    record { names = end.names; printed = printed; lines = end.output; endings = end.endings }

@@ -15,11 +15,11 @@ use Rattle.iso_lifecycle.specs.declared.due_blocks.Rest.{Rest}
 -- what the body has when no block is under way
 abbrev pub account_in : Rest → Account
 account_in r =
-    record { names = r.names; printed = r.printed; lines = r.lines; endings = r.endings.items }
+    record { names = r.names; printed = r.printed; lines = r.lines; endings = r.endings }
 
 -- what it has beside the block under way
 abbrev pub beside_in : Rest → Beside
-beside_in r = record { unseen = r.names; lines = r.lines; endings = r.endings.items }
+beside_in r = record { unseen = r.names; lines = r.lines; endings = r.endings }
 
 -- a job of its chain, and the jobs that are left
 abbrev pub job_in : Rest → Job → J.Job

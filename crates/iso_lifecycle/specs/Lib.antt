@@ -3,6 +3,7 @@ pub mod BodyViews
 pub mod Combining
 pub mod DoneViews
 pub mod DueBlocks
+pub mod Endings
 pub mod Ends
 pub mod Entries
 pub mod Heads

@@ -15,7 +15,7 @@ use crate::frame::Frame;
 use crate::gate::Gate;
 use crate::kind::BodyKind;
 use crate::origin::Origin;
-use crate::verdict::{first_ending, verdict};
+use crate::verdict::verdict;
 use iso_model::outcome::Outcome;
 use iso_model::touch::Touch;
 use iso_plan::laws;
@@ -197,7 +197,7 @@ impl<'a> Body<'a> {
                 };
                 origin.done(What::Opened(Opened {
                     frame,
-                    ending: first_ending(end.endings),
+                    ending: end.endings.into_first(),
                     lines: end.output,
                 }))
             }
@@ -211,7 +211,7 @@ impl<'a> Body<'a> {
             BodyKind::AfterAll => {
                 drop(frame);
                 origin.done(What::Closed(Closed {
-                    ending: first_ending(end.endings),
+                    ending: end.endings.into_first(),
                     lines: end.output,
                 }))
             }

@@ -11,6 +11,7 @@ ghost use Rattle.iso_model.specs.Touch.{HasKeys};
 ghost use Rattle.iso_lifecycle.specs.DueBlocks.{HaveRights, HaveRights-prop};
 
 use crate::due_blocks::Rest;
+use crate::endings::Endings;
 use crate::job::Job;
 use iso_interp::block::Block;
 use iso_interp::run::{BlockRun, Progress};
@@ -32,7 +33,7 @@ use std::sync::Arc;
 /// they printed, and its names.
 #[derive(Drop)]
 pub(crate) struct BodyEnd {
-    pub endings: Vec<Ending>,
+    pub endings: Endings,
     pub output: Lines,
     pub names: Bindings,
 }
@@ -137,13 +138,6 @@ impl<'a> BodyRun<'a> {
             (fresh_account names)) }
         ensures rights { IfOk result (λ run. rights_of run ≡ access_in rights.now) }
     {
-        let endings = match room_for_endings(alloc, classes.len()) {
-            Ok(endings) => endings,
-            Err(error) => {
-                drop(names);
-                return Err(error);
-            }
-        };
         let mut rest = Rest {
             alloc,
             rights,
@@ -153,7 +147,7 @@ impl<'a> BodyRun<'a> {
             names,
             printed: 0,
             lines: Lines::new(alloc),
-            endings,
+            endings: Endings::new(alloc),
         };
         match rest.follow() {
             Ok(block) => Ok(BodyRun { rest, block }),
@@ -186,7 +180,7 @@ impl<'a> BodyRun<'a> {
             names: Bindings::new(alloc, Vec::new(alloc)),
             printed: 0,
             lines: Lines::new(alloc),
-            endings: Vec::new(alloc),
+            endings: Endings::new(alloc),
         };
         match rest.settle(run) {
             Ok(block) => Ok(BodyRun { rest, block }),
@@ -267,34 +261,33 @@ impl<'a> BodyRun<'a> {
         ensures stopped { OnErr result (is_ended (stage_of self.new) ≡ false) }
         ensures rights { rights_of self.new ≡ rights_of self.old }
     {
-        let Some(block) = &mut self.block else {
+        let Some(run) = self.block.take() else {
             return Ok(());
         };
-        let run = mem::replace(block, self.rest.idle());
-        let next = self.rest.settle(run)?;
-        // A call drops the idle block: its parts then stand in the proof of that call alone.
-        drop(mem::replace(&mut self.block, next));
-        Ok(())
+        match self.rest.settle(run) {
+            Ok(next) => {
+                // A call drops what stood there: its parts then stand in the proof of that call
+                // alone.
+                drop(mem::replace(&mut self.block, next));
+                Ok(())
+            }
+            Err(error) => {
+                self.stop();
+                Err(error)
+            }
+        }
     }
 }
 
 /// The endings of a disabled body: one, as by a false assumption of this reason.
-fn endings_of_disabled(alloc: Global, reason: &Text) -> Result<Vec<Ending>, AllocError>
-    ensures { IfOk result (λ endings. endings.items ≡ disabled_ending reason.now ∷ []) }
+fn endings_of_disabled(alloc: Global, reason: &Text) -> Result<Endings, AllocError>
+    ensures { IfOk result (λ endings. endings ≡ disabled_ending reason.now ∷ []) }
 {
     let note = Note {
         message: reason.copy(alloc)?,
         place: Place::Disabled,
     };
-    let mut endings = Vec::new(alloc);
-    endings.push(Ending::Assumed(note))?;
+    let mut endings = Endings::new(alloc);
+    endings.add(Ending::Assumed(note))?;
     Ok(endings)
-}
-
-/// Room for the endings of a test's blocks, in `classes` classes.
-fn room_for_endings(alloc: Global, classes: usize) -> Result<Vec<Ending>, AllocError>
-    requires { classes < 2 ^ 32 }
-    ensures { IfOk result (λ endings. endings.items ≡ []) }
-{
-    Vec::with_capacity(alloc, 2 * classes + 1)
 }

@@ -3,6 +3,7 @@ ghost use Rattle.std.specs.Prelude.{◌≡◌, ◌<◌, [], ◌∷◌, ◌++◌,
 ghost use Rattle.iso_lifecycle.specs.JobPlaces.{IsPlaced, IsPlaced-prop};
 
 use crate::blocks::{names_of, part, statements};
+use crate::endings::Endings;
 use crate::job::Job;
 use iso_interp::block::Block;
 use iso_interp::run::{BlockEnd, BlockRun};
@@ -29,7 +30,7 @@ pub struct Rest<'a> {
     pub(crate) names: Bindings,
     pub(crate) printed: u32,
     pub(crate) lines: Lines,
-    pub(crate) endings: Vec<Ending>,
+    pub(crate) endings: Endings,
     ghost placed: { IsPlaced (length classes.now) next } by { IsPlaced-prop (length classes.now) next },
     ghost shallow: { length classes.now < 2 ^ 32 },
 }
@@ -61,7 +62,7 @@ impl<'a> Rest<'a> {
         } = run.finish();
         // Each is put away before out of memory is answered, so that nothing is left over on that
         // way out.
-        let ended = add_ending(&mut self.endings, ending);
+        let ended = self.endings.add(ending);
         let printed = self.lines.append(output);
         self.printed = names.printed();
         put_before(self.alloc, &mut self.names, names.into_bindings())?;
@@ -152,9 +153,7 @@ impl<'a> Rest<'a> {
     fn all_well(&self) -> bool
         ensures { result ≡ list_all is_well (account_in self.now).endings }
     {
-        self.endings
-            .iter()
-            .all(|ending| matches!(ending, Ending::Well))
+        self.endings.all_well()
     }
 
     /// Leaves the next job behind where it isn't due, or where its block has no statement: such a
@@ -181,7 +180,7 @@ impl<'a> Rest<'a> {
         if !self.is_empty(job) {
             return Ok(false);
         }
-        add_ending(&mut self.endings, Ending::Well)?;
+        self.endings.add(Ending::Well)?;
         self.next = next;
         Ok(true)
     }
@@ -233,14 +232,6 @@ impl<'a> Rest<'a> {
             None => self.follow(),
         }
     }
-}
-
-/// Adds an ending.
-fn add_ending(endings: &mut Vec<Ending>, ending: Ending) -> Result<(), AllocError>
-    ensures { OnOk result (endings.new.items ≡ endings.old.items ++ ending ∷ []) }
-{
-    endings.push(ending)?;
-    Ok(())
 }
 
 /// Puts names before others.

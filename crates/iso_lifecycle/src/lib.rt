@@ -7,6 +7,7 @@ pub mod body;
 mod body_run;
 pub mod done;
 mod due_blocks;
+mod endings;
 mod entry;
 pub mod frame;
 pub mod gate;

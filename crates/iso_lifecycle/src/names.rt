@@ -37,13 +37,22 @@ pub(crate) fn test_names(alloc: Global, frames: &[Frame]) -> Result<Bindings, Al
     Ok(names)
 }
 
-/// Adds shared names. Where there is none, no layer is made.
+/// Adds shared names. Where there is none, as in most classes, no call is made.
+#[inline(always)]
 fn add_shared(alloc: Global, names: &mut Bindings, shared: &SharedNames) -> Result<(), AllocError>
     ensures { OnOk result (names.new ≡ names.old ++ shared.now) }
 {
     if shared.is_empty() {
         return Ok(());
     }
+    add_layer(alloc, names, shared)
+}
+
+/// Adds shared names as a layer.
+#[inline(never)]
+fn add_layer(alloc: Global, names: &mut Bindings, shared: &SharedNames) -> Result<(), AllocError>
+    ensures { OnOk result (names.new ≡ names.old ++ shared.now) }
+{
     names.append(alloc, Bindings::shared(alloc, shared.share()?)?)
 }
 

@@ -1,27 +1,18 @@
 //! What the endings of a body's blocks come to.
 ghost use Rattle.std.specs.Prelude.{◌≡◌};
-ghost use Rattle.iso_model.specs.Bodies.{first_ending};
 ghost use Rattle.iso_model.specs.Statements.{is_well};
 ghost use Rattle.iso_model.specs.Verdicts.{verdict};
 ghost use Rattle.iso_lifecycle.specs.Combining.{or_skipped, with_first};
 ghost use Rattle.iso_lifecycle.specs.Ends.{is_unfailed};
 
+use crate::endings::Endings;
 use iso_model::outcome::{Ending, Note, Verdict};
 
-/// The first of the endings, that of a body of one block. Takes no memory.
-pub(crate) fn first_ending(endings: Vec<Ending>) -> Ending
-    ensures { result ≡ first_ending endings.items }
-{
-    match endings.into_iter().next() {
-        Some(ending) => ending,
-        None => Ending::Well,
-    }
-}
-
 /// The combined verdict, from the last ending to the first. Takes no memory.
-pub(crate) fn verdict(mut endings: Vec<Ending>) -> Verdict
-    ensures { result ≡ verdict endings.items }
+pub(crate) fn verdict(endings: Endings) -> Verdict
+    ensures { result ≡ verdict endings }
 {
+    let mut endings = endings.into_others();
     let mut verdict = Verdict::Pass;
     while let Some(ending) = endings.pop() {
         verdict = with_first(ending, verdict);

@@ -25,6 +25,10 @@ impl<'a> Results<'a> {
             if let Some(opened) = self.barring(class) {
                 return Some(opened);
             }
+            if self.opened(class).is_some() {
+                // It was opened well, and so were its enclosing classes.
+                return None;
+            }
             at = class;
         }
         None

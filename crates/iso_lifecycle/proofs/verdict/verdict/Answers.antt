@@ -4,7 +4,7 @@ use Rattle.iso_lifecycle.proofs.Combined.{before, before-last, before-none}
 use Rattle.iso_lifecycle.proofs.verdict.verdict.Goals as goal
 
 pub loop-ending-init : goal.loop-ending-init
-loop-ending-init c = before-none c.args.endings.items
+loop-ending-init c = before-none c.into_others-endings.result.items ∙ c.into_others-endings.ensures
 
 pub loop-ending-preserved : goal.loop-ending-preserved
 loop-ending-preserved c =

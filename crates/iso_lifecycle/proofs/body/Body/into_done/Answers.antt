@@ -21,7 +21,7 @@ done-requires-clause-end c =
     let class : IsOfClass s = subst (λ (k : BodyKind). is_kind_of k (node_kind s) ≡ true) c.in-BeforeAll.is o.fits in
     let come : a ≡ account_of (done_whole BeforeAll s) = subst (λ (k : BodyKind). HasCome k s (ended a)) c.in-BeforeAll.is (subst (λ (g : Stage). HasCome o.kind s g) c.finish-end.ensures b.come) in
     let left : b.frame ≡ Some s = subst (λ (k : BodyKind). HasLeft k s (ended a) b.frame) c.in-BeforeAll.is (subst (λ (g : Stage). HasLeft o.kind s g b.frame) c.finish-end.ensures b.left) in
-    let ending : c.first_ending.result ≡ (own_frame s).ending = c.first_ending.ensures ∙ ap (λ (x : Account). first_ending x.endings) come ∙ ending-is s grows class o.enclosed in
+    let ending : c.into_first.result ≡ (own_frame s).ending = c.into_first.ensures ∙ ap (λ (x : Account). first_ending x.endings) come ∙ ending-is s grows class o.enclosed in
     record {
       frame_is = cc (c.in-Some.is, left);
       ending_is = ending;
@@ -51,7 +51,7 @@ done-requires-in-AfterAll-clause-end c =
     let grows : Grows s = c.chains_grow_down.ensures o.node o.inner in
     let class : IsOfClass s = closes-class (node_kind s) (subst (λ (k : BodyKind). is_kind_of k (node_kind s) ≡ true) c.in-AfterAll.is o.fits) in
     let come : a ≡ account_of (done_whole AfterAll s) = subst (λ (k : BodyKind). HasCome k s (ended a)) c.in-AfterAll.is (subst (λ (g : Stage). HasCome o.kind s g) c.finish-end.ensures b.come) in
-    let ending = c.first_ending-in-AfterAll.ensures ∙ ap (λ (x : Account). first_ending x.endings) come in
+    let ending = c.into_first-in-AfterAll.ensures ∙ ap (λ (x : Account). first_ending x.endings) come in
     record {
       ending_is = ending ∙ closing-is s grows class o.enclosed;
       outcome = class-outcome s grows class o.enclosed

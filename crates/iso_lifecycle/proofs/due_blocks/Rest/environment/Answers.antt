@@ -1,4 +1,4 @@
-use Rattle.std.proofs.Common.{◌≡◌, ℕ, Some, length, min, take, drop, ap, ap₂, sym, ◌∙◌, subst, arith}
+use Rattle.std.proofs.Common.{◌≡◌, ℕ, Some, length, min, take, drop, ap, ap₂, sym, ◌∙◌, subst}
 use Rattle.std.proofs.lemmas.List.{length-map, take_min, drop_min}
 use Rattle.std.specs.Arc.{arc_value}
 use Rattle.iso_model.specs.Environments.{environment}
@@ -38,4 +38,4 @@ returns-clause-beside c =
     let seen : c.names_of-seen.result ≡ min (job_at os body j).seen (length xs) =
     c.names_of-seen.ensures ∙ ap₂ min (ap (λ n. names_in (outside os n)) (c.classes_seen-classes.ensures.seen ∙ ap (λ n. classes_seen n j) (sym count)) ∙ job-seen os body j placed) len in
     let left = c.in_ok-bindings.ensures.left ∙ ap (λ n. drop n xs) seen ∙ drop_min (job_at os body j).seen xs in
-    λ i. record { unseen = left i; lines = old.lines; endings = old.endings.items }
+    λ i. record { unseen = left i; lines = old.lines; endings = old.endings }

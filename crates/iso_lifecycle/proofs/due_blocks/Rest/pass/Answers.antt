@@ -57,7 +57,7 @@ returns-clause-stage c =
     let a = account_in old in
     let due = sym c.is_due.ensures ∙ c.if-not-is_due.false in
     let empty = sym c.is_empty.ensures ∙ c.if-not-is_empty.false in
-    ap (λ es. stage_from js (record { names = old.names; printed = old.printed; lines = old.lines; endings = es })) c.in_ok-add_ending.ensures
+    ap (λ es. stage_from js (record { names = old.names; printed = old.printed; lines = old.lines; endings = es })) c.in_ok-add.ensures.ok
     ∙ passed job js a due empty ∙ ap (λ xs. stage_from xs a) (sym jobs)
 
 pub returns-clause-jobs : goal.returns-clause-jobs

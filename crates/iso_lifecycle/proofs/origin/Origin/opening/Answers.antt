@@ -1,4 +1,4 @@
-use Rattle.std.proofs.Common.{◌≡◌, ◌++◌, length, true, ap, sym, ◌∙◌, subst, arith}
+use Rattle.std.proofs.Common.{◌≡◌, ◌++◌, length, true, ap, sym, ◌∙◌, subst}
 use Rattle.iso_model.specs.Names.{at_literals}
 use Rattle.iso_model.specs.Openings.{statics_of}
 use Rattle.iso_model.specs.Rights.{Rights}

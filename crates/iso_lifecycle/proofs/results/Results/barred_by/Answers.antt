@@ -2,7 +2,7 @@ use Rattle.std.proofs.Common.{◌≡◌, ◌<◌, Some, ℕ, length, ap, subst, 
 use Rattle.iso_plan.specs.Paths.{IsTree, parent_of}
 use Rattle.iso_plan.specs.Planned.{Planned}
 use Rattle.iso_plan.specs.RowView.{tree_of}
-use Rattle.iso_lifecycle.proofs.Barring.{HasParent, found-bars, found-outcome, goes-up, parent-some, root-bars-none}
+use Rattle.iso_lifecycle.proofs.Barring.{HasParent, found-bars, found-open, found-outcome, goes-up, parent-some, root-bars-none}
 use Rattle.iso_lifecycle.specs.ResultViews.{ResultsView}
 use Rattle.iso_lifecycle.proofs.results.Results.barred_by.Goals as goal
 
@@ -40,3 +40,12 @@ returns-clause-barred c =
     let e : c.self.inside.plan.now ≡ v.plan = ap (λ (u : ResultsView). u.plan) c.self.view_is in
     let tree : IsTree (tree_of v.plan) = subst (λ (q : Planned). IsTree (tree_of q)) e c.nodes_are_a_tree.ensures in
     sym (root-bars-none v tree c.args.node c.up.at c.up.invariant (ap (λ (q : Planned). parent_of (tree_of q) c.up.at) (sym e) ∙ sym c.in_default.ensures))
+
+pub returns-then-is_some-clause-barred : goal.returns-then-is_some-clause-barred
+returns-then-is_some-clause-barred c =
+    let v = c.args.self.now in
+    let e : c.self.inside.plan.now ≡ v.plan = ap (λ (u : ResultsView). u.plan) c.self.view_is in
+    let tree : IsTree (tree_of v.plan) = subst (λ (q : Planned). IsTree (tree_of q)) e c.nodes_are_a_tree.ensures in
+    let up = has_parent c.self.inside.plan.now v c.up.at c.in-Some.class e c.in-Some.ensures in
+    sym (found-open v tree c.args.node c.up.at c.in-Some.class c.opened.result c.up.invariant up c.opened.ensures.opening c.opened.ensures.put (sym c.if-is_some.ensures)
+    (sym c.in_default-barring.ensures.barring))
