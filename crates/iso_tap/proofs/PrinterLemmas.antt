@@ -3,7 +3,7 @@ use Rattle.std.proofs.Common.{◌≡◌, ℕ, ◌+◌, ◌<◌, List, [], ◌∷
 use Rattle.std.proofs.lemmas.Result.{on_ok_weaker, on_err_weaker}
 use Rattle.std.proofs.lemmas.List.{replicate-append-replicate, take-replicate}
 use Rattle.std.specs.Result.{IsErr}
-use Rattle.iso_tap.specs.Printers.{Prints}
+use Rattle.iso_tap.specs.Printers.{Prints, only}
 use Rattle.iso_tap.specs.declared.printer.Printer.{Printer}
 use Rattle.iso_tap.specs.declared.sink.Sink.{Ghosts}
 use Rattle.iso_tap.specs.declared.sink.SinkFailed.{SinkFailed}
@@ -19,6 +19,11 @@ spaces_next n left most h k =
     let e : n + (left - n) ≡ left = omega arith in
     let space : ℕ = 32 in
     ap (λ (m : ℕ). replicate m space) (sym e) ∙ sym (replicate-append-replicate n (left - n) space) ∙ ap (λ (s : List ℕ). s ++ replicate (left - n) space) (sym (take-replicate n most space k))
+
+-- an answer is an error by what it tells beside or without
+pub only-err : {A : Type 0} (r : Result A SinkFailed) → IsErr r → IsErr (only r)
+only-err (Ok x) h = absurd (true≢false (sym h))
+only-err (Err f) h = refl
 
 module _ {W : Type 0} {g : Ghosts W} where
   pub prints_nothing : (a : Printer W g) → Prints a a [] (Ok tt)

@@ -1,5 +1,5 @@
 -- What is said of a node, from what is said of its children.
-use Rattle.std.proofs.Common.{◌≡◌, ◌<◌, ◌≤◌, ℕ, zero, suc, ◌+◌, List, [], ◌∷◌, ◌++◌, length, get_or, Bool, ◌&&◌, cond, refl, sym, ap, ap₂, ◌∙◌, arith}
+use Rattle.std.proofs.Common.{◌≡◌, ◌<◌, ◌≤◌, ℕ, zero, suc, ◌+◌, List, [], ◌∷◌, ◌++◌, length, get_or, Bool, true, false, ◌&&◌, cond, refl, sym, ap, ap₂, ◌∙◌, arith}
 use Rattle.std.specs.List.{AllByRecursion, list_all}
 use Rattle.std.proofs.lemmas.List.Elements.{All-get_or, recursion_from_All}
 use Rattle.iso_model.specs.declared.outcome.Outcome.{Outcome}
@@ -13,6 +13,11 @@ use Rattle.iso_tap.proofs.Within.{IsChild, children-are, within-down}
 -- the child at a place
 pub child-at : (tree : List Row) (m i : ℕ) (d : ℕ) → IsTree tree → i < length (children tree m) → IsChild tree m (get_or (children tree m) i d)
 child-at tree m i d t h = All-get_or (IsChild tree m) (children tree m) i d h (children-are tree m t)
+
+-- whether all are, once it is known of one more
+pub all-next : (f : ℕ → Bool) (xs ys zs : List ℕ) (x : ℕ) (a b : Bool) → ys ≡ x ∷ zs → b ≡ f x → (a && list_all f ys) ≡ list_all f xs → ((a && b) && list_all f zs) ≡ list_all f xs
+all-next f xs ys zs x true b e is h = ap (λ v. v && list_all f zs) is ∙ ap (list_all f) (sym e) ∙ h
+all-next f xs ys zs x false b e is h = h
 
 numbered_same : (tree : List Row) (m : ℕ) (f g : ℕ → ℕ → List ℕ) → ((i n : ℕ) → IsChild tree m n → f i n ≡ g i n)
     → (i : ℕ) (ns : List ℕ) → AllByRecursion (IsChild tree m) ns → numbered f i ns ≡ numbered g i ns
@@ -31,6 +36,11 @@ module _ (tree : List Row) (outcome : ℕ → Outcome) (t : IsTree tree) where
   pub ok-by : (n : ℕ) (o : Outcome) (b : Bool) → o ≡ outcome n → b ≡ is_ok_verdict o.verdict → 0 < n → n < length tree → is_ok tree outcome n ≡ (b && list_all (is_ok tree outcome) (children tree n))
   ok-by n o b same is pos h =
       ok-down n pos h ∙ ap (λ v. v && list_all (is_ok tree outcome) (children tree n)) (sym (is ∙ ap (λ (x : Outcome). is_ok_verdict x.verdict) same))
+
+  -- and where it is known whether its children's points are ok
+  pub ok-known : (n : ℕ) (o : Outcome) (b children_ok : Bool) → o ≡ outcome n → b ≡ is_ok_verdict o.verdict → children_ok ≡ list_all (is_ok tree outcome) (children tree n) → 0 < n
+      → n < length tree → (b && children_ok) ≡ is_ok tree outcome n
+  ok-known n o b children_ok same is below pos h = ap (λ v. b && v) below ∙ sym (ok-by n o b same is pos h)
 
   -- a depth that reaches past the last node is enough: the text of a node, from its children's
   abbrev pub shown : (indent : ℕ) (text : ℕ → ℕ → List ℕ) (number n : ℕ) → List ℕ

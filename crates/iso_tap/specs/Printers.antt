@@ -3,7 +3,7 @@
 -- a printer's answer: A text written whole, or its beginning where the sink failed, once (`Writes`,
 -- `Prints`).
 -- Also in: `Pieces`.
-use Rattle.std.specs.Prelude.{◌≡◌, ℕ, ◌+◌, ◌<◌, List, length, take, Result, OnOk, OnErr, IfErr}
+use Rattle.std.specs.Prelude.{◌≡◌, ℕ, ◌+◌, ◌<◌, List, length, take, Result, Ok, Err, OnOk, OnErr, IfErr}
 use Rattle.iso_tap.specs.Sinks.{Account, Took, Wrote, CutOff, HasFailed}
 use Rattle.iso_tap.specs.declared.printer.Printer.{Printer}
 use Rattle.iso_tap.specs.declared.sink.Sink.{Ghosts}
@@ -19,6 +19,11 @@ pub record Prints {W : Type 0} {g : Ghosts W} (old new : Printer W g) (text : Li
   pub cut : OnErr result (CutOff (g.account old.sink.now) (g.account new.sink.now) text)
   pub counted : new.written + (g.account old.sink.now).count
       ≡ old.written + (g.account new.sink.now).count
+
+-- an answer without what it tells beside
+abbrev pub only : {A : Type 0} → Result A SinkFailed → Result (Unit {0}) SinkFailed
+only (Ok x) = Ok tt
+only (Err failed) = Err failed
 
 -- the sink took this text and didn't fail; or it failed once, was asked nothing more, and took the
 -- first bytes of the text, as many as the fault says and not all

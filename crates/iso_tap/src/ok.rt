@@ -25,7 +25,7 @@ pub fn all_ok(plan: &Plan, results: &Results<'_>) -> bool
 
 /// Whether the points of all children of a node are ok.
 #[cycle(being_ok)]
-fn children_are_ok(plan: &Plan, results: &Results<'_>, node: u32) -> bool
+pub(crate) fn children_are_ok(plan: &Plan, results: &Results<'_>, node: u32) -> bool
     requires plan { results.now.plan ≡ plan.now }
     requires complete { AreComplete results.now }
     requires within { node < length plan.now.rows }
@@ -65,7 +65,7 @@ pub(crate) fn outcome<'r>(results: &'r Results<'_>, node: u32) -> View<'r>
 }
 
 /// Whether a verdict by itself lets a point be ok.
-fn is_ok_verdict(verdict: ViewVerdict<'_>) -> bool
+pub(crate) fn is_ok_verdict(verdict: ViewVerdict<'_>) -> bool
     ensures { result ≡ is_ok_verdict (verdict_of_view verdict.entry) }
 {
     matches!(verdict, ViewVerdict::Pass | ViewVerdict::Skipped(_))

@@ -1,13 +1,14 @@
 //! The report of a run's results (TAP version 14).
-ghost use Rattle.std.specs.Prelude.{◌≡◌, ◌<◌, ◌≤◌, ◌+◌, ◌*◌, length};
+ghost use Rattle.std.specs.Prelude.{◌≡◌, ◌<◌, ◌≤◌, ◌+◌, ◌*◌, IfOk, length};
+ghost use Rattle.std.specs.List.{list_all};
 ghost use Rattle.iso_lifecycle.specs.ResultViews.{AreComplete, outcome_in};
 ghost use Rattle.iso_plan.specs.Paths.{children, row_at};
 ghost use Rattle.iso_plan.specs.RowView.{tree_of};
-ghost use Rattle.iso_tap.specs.Printers.{Writes};
-ghost use Rattle.iso_tap.specs.Reports.{level, report, reported, subtest};
+ghost use Rattle.iso_tap.specs.Printers.{Writes, only};
+ghost use Rattle.iso_tap.specs.Reports.{is_ok, level, report, reported, subtest};
 
 use crate::fault::TapFault;
-use crate::ok::{is_ok, outcome};
+use crate::ok::{children_are_ok, is_ok_verdict, outcome};
 use crate::printer::{Piece, Printer};
 use crate::sink::{Sink, SinkFailed};
 use iso_lifecycle::results::Results;
@@ -51,10 +52,12 @@ impl<'a, W: Sink> Printer<'a, W> {
     {
         laws::nodes_are_a_tree(plan);
         self.line(0, &[Piece::Plain(b"TAP version 14")])?;
-        self.level(plan, results, 0, 0)
+        self.level(plan, results, 0, 0)?;
+        Ok(())
     }
 
-    /// Writes the level of a node: its plan, and what is reported of its children.
+    /// Writes the level of a node: its plan, and what is reported of its children. Tells whether all
+    /// its children's points are ok.
     #[cycle(levels)]
     fn level(
         &mut self,
@@ -62,25 +65,30 @@ impl<'a, W: Sink> Printer<'a, W> {
         results: &Results<'_>,
         indent: u64,
         node: u32,
-    ) -> Result<(), SinkFailed>
+    ) -> Result<bool, SinkFailed>
         requires plan { results.now.plan ≡ plan.now }
         requires complete { AreComplete results.now }
         requires within { node < length plan.now.rows }
         requires indent { indent ≤ 4 * node }
-        ensures { Prints self.old self.new
+        ensures prints { Prints self.old self.new
             (level indent (reported (tree_of plan.now) (outcome_in results.now) indent)
-            (children (tree_of plan.now) node)) result }
+            (children (tree_of plan.now) node)) (only result) }
+        ensures ok { IfOk result (λ ok. ok ≡ list_all (is_ok (tree_of plan.now)
+            (outcome_in results.now)) (children (tree_of plan.now) node)) }
     {
         laws::nodes_are_a_tree(plan);
         let children = plan.children(node);
         self.plan_line(indent, children.len())?;
+        let mut all_ok = true;
         'children: for (i, child) in children.iter().enumerate() {
-            self.reported(plan, results, indent, i as u64 + 1, *child)?;
+            let ok = self.reported(plan, results, indent, i as u64 + 1, *child)?;
+            all_ok &= ok;
         }
-        Ok(())
+        Ok(all_ok)
     }
 
-    /// Writes what is reported of a node, which has this number in its level.
+    /// Writes what is reported of a node, which has this number in its level. Tells whether its
+    /// point is ok.
     #[cycle(levels)]
     fn reported(
         &mut self,
@@ -89,22 +97,28 @@ impl<'a, W: Sink> Printer<'a, W> {
         indent: u64,
         number: u64,
         node: u32,
-    ) -> Result<(), SinkFailed>
+    ) -> Result<bool, SinkFailed>
         requires plan { results.now.plan ≡ plan.now }
         requires complete { AreComplete results.now }
         requires above { 0 < node }
         requires within { node < length plan.now.rows }
         requires indent { indent + 4 ≤ 4 * node }
-        ensures { Prints self.old self.new
-            (reported (tree_of plan.now) (outcome_in results.now) indent number node) result }
+        ensures prints { Prints self.old self.new
+            (reported (tree_of plan.now) (outcome_in results.now) indent number node)
+            (only result) }
+        ensures ok { IfOk result
+            (λ ok. ok ≡ is_ok (tree_of plan.now) (outcome_in results.now) node) }
     {
         laws::nodes_are_a_tree(plan);
-        self.subtest(plan, results, indent, node)?;
-        let ok = is_ok(plan, results, node);
-        self.point(indent, number, ok, plan.title(node), outcome(results, node))
+        let children_ok = self.subtest(plan, results, indent, node)?;
+        let outcome = outcome(results, node);
+        let ok = is_ok_verdict(outcome.verdict) & children_ok;
+        self.point(indent, number, ok, plan.title(node), outcome)?;
+        Ok(ok)
     }
 
-    /// Writes the level of a class, with its comment above.
+    /// Writes the level of a class, with its comment above. Tells whether all its children's points
+    /// are ok; a test has none.
     #[cycle(levels)]
     fn subtest(
         &mut self,
@@ -112,18 +126,20 @@ impl<'a, W: Sink> Printer<'a, W> {
         results: &Results<'_>,
         indent: u64,
         node: u32,
-    ) -> Result<(), SinkFailed>
+    ) -> Result<bool, SinkFailed>
         requires plan { results.now.plan ≡ plan.now }
         requires complete { AreComplete results.now }
         requires within { node < length plan.now.rows }
         requires indent { indent + 4 ≤ 4 * node }
-        ensures { Prints self.old self.new
+        ensures prints { Prints self.old self.new
             (subtest indent (row_at (tree_of plan.now) node)
             (reported (tree_of plan.now) (outcome_in results.now) (indent + 4))
-            (children (tree_of plan.now) node)) result }
+            (children (tree_of plan.now) node)) (only result) }
+        ensures ok { IfOk result (λ ok. ok ≡ list_all (is_ok (tree_of plan.now)
+            (outcome_in results.now)) (children (tree_of plan.now) node)) }
     {
         if plan.is_test(node) {
-            return Ok(());
+            return Ok(children_are_ok(plan, results, node));
         }
         self.subtest_line(indent, plan.title(node))?;
         self.level(plan, results, indent + 4, node)

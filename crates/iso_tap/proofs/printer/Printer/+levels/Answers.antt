@@ -1,13 +1,13 @@
-use Rattle.std.proofs.Common.{◌≡◌, ◌<◌, ◌+◌, false, length, get_or, sym, ap, ◌∙◌, arith}
+use Rattle.std.proofs.Common.{◌≡◌, ◌<◌, ◌+◌, false, drop, length, get_or, sym, ap, ◌∙◌, arith}
 use Rattle.std.proofs.lemmas.Result.{err_from_is_err_and}
-use Rattle.iso_lifecycle.specs.ResultViews.{outcome_in}
+use Rattle.iso_lifecycle.specs.ResultViews.{outcome_in, outcome_of_view}
 use Rattle.iso_plan.specs.Paths.{children, is_test, row_at}
 use Rattle.iso_plan.specs.RowView.{tree_of}
 use Rattle.iso_tap.specs.ReportBlocks.{point}
 use Rattle.iso_tap.specs.ReportLines.{subtest_line}
 use Rattle.iso_tap.specs.Reports.{is_ok, level, numbered, reported}
-use Rattle.iso_tap.proofs.PrinterLemmas.{drop_next, left_cut, left_next, prints_as, prints_stopped, prints_then}
-use Rattle.iso_tap.proofs.ReportLemmas.{child-at, point-same, text-down}
+use Rattle.iso_tap.proofs.PrinterLemmas.{drop_next, left_cut, left_next, only-err, prints_as, prints_failed, prints_stopped, prints_then}
+use Rattle.iso_tap.proofs.ReportLemmas.{all-next, child-at, ok-known, point-same, text-down}
 use Rattle.iso_tap.proofs.Within.{IsChild}
 use Rattle.iso_tap.proofs.printer.Printer.+levels.Goals as goal
 
@@ -24,29 +24,49 @@ level-reported-requires g t c κs known =
     let indent = c.requires.indent in
     (omega arith, (known, (c.requires.plan, (c.requires.complete, (is.0, (within, omega arith))))))
 
-pub level-returns-in_err-reported : goal.level-returns-in_err-reported
-level-returns-in_err-reported g t c =
+pub level-returns-in_err-ok-clause-prints : goal.level-returns-in_err-ok-clause-prints
+level-returns-in_err-ok-clause-prints g t c =
     let text = reported (tree_of c.args.plan.now) (outcome_in c.args.results.now) c.args.indent in
     let nodes = c.children-children.result.now in
-    let p = err_from_is_err_and c.from_residual-in_err-reported.result c.from_residual-in_err-reported.ensures.1 in
+    let p = err_from_is_err_and c.from_residual-in_err-ok.result c.from_residual-in_err-ok.ensures.1 in
     let next = ap (numbered text (c.children.i + 1)) (drop_next nodes c.children.i 0 c.children-test.true) in
-    rw p.1 (prints_as (left_cut _ _ p.0 next c.children.invariant c.in_err-reported.ensures) _ (ap (level c.args.indent text) c.children-children.ensures))
+    rw p.1 (prints_as (left_cut _ _ p.0 next c.children.invariant.printed c.in_err-ok.ensures.prints) _ (ap (level c.args.indent text) c.children-children.ensures))
 
 pub level-children-preserved : goal.level-children-preserved
 level-children-preserved g t c =
     let text = reported (tree_of c.args.plan.now) (outcome_in c.args.results.now) c.args.indent in
-    let next = ap (numbered text (c.children.i + 1)) (drop_next c.children-children.result.now c.children.i 0 c.children-test.true) in
-    left_next next c.children.invariant c.in_ok-reported.ensures
+    let oks = is_ok (tree_of c.args.plan.now) (outcome_in c.args.results.now) in
+    let nodes = c.children-children.result.now in
+    let rest = drop_next nodes c.children.i 0 c.children-test.true in
+    let next = ap (numbered text (c.children.i + 1)) rest in
+    record {
+      printed = left_next next c.children.invariant.printed c.in_ok-ok.ensures.prints;
+      ok = all-next oks nodes (drop c.children.i nodes) (drop (c.children.i + 1) nodes) (get_or nodes c.children.i 0) c.children.all_ok c.in_ok-ok.ok rest c.in_ok-ok.ensures.ok
+          c.children.invariant.ok;
+    }
 
-pub reported-returns-in_err-subtest : goal.reported-returns-in_err-subtest
-reported-returns-in_err-subtest g t c =
+pub reported-returns-in_err-children_ok-clause-prints : goal.reported-returns-in_err-children_ok-clause-prints
+reported-returns-in_err-children_ok-clause-prints g t c =
     let plan = c.args.plan.now in
     let tree = tree_of plan in
     let outcome = outcome_in c.args.results.now in
     let n = c.args.node in
     let within : n < length tree = c.requires.within in
     let last = point c.args.indent c.args.number (is_ok tree outcome n) (row_at tree n).title (outcome n) in
-    prints_as (prints_stopped last _ c.from_residual.ensures.0 c.in_err-subtest.ensures) _
+    prints_as (prints_stopped last _ (only-err _ c.from_residual.ensures.0) c.in_err-children_ok.ensures.prints) _
+    (sym (text-down tree outcome c.nodes_are_a_tree.ensures c.args.indent c.args.number n c.requires.above within))
+
+pub reported-returns-in_err-point-clause-prints : goal.reported-returns-in_err-point-clause-prints
+reported-returns-in_err-point-clause-prints g t c =
+    let plan = c.args.plan.now in
+    let tree = tree_of plan in
+    let outcome = outcome_in c.args.results.now in
+    let n = c.args.node in
+    let within : n < length tree = c.requires.within in
+    let ok = ok-known tree outcome c.nodes_are_a_tree.ensures n (outcome_of_view c.outcome-outcome.result) c.is_ok_verdict.result c.in_ok-children_ok.children_ok
+    c.outcome-outcome.ensures c.is_ok_verdict.ensures c.in_ok-children_ok.ensures.ok c.requires.above within in
+    let last = prints_as c.in_err-point.ensures _ (point-same c.args.indent c.args.number ok c.title.ensures c.outcome-outcome.ensures) in
+    prints_as (prints_then _ c.in_ok-children_ok.ensures.prints (prints_failed _ (only-err _ c.from_residual-in_err-point.ensures.0) last)) _
     (sym (text-down tree outcome c.nodes_are_a_tree.ensures c.args.indent c.args.number n c.requires.above within))
 
 pub reported-returns : goal.reported-returns
@@ -56,11 +76,19 @@ reported-returns g t c =
     let outcome = outcome_in c.args.results.now in
     let n = c.args.node in
     let within : n < length tree = c.requires.within in
-    let last = prints_as c.point.ensures _ (point-same c.args.indent c.args.number c.is_ok-ok.ensures c.title.ensures c.outcome.ensures) in
-    prints_as (prints_then _ c.in_ok-subtest.ensures last) _
-    (sym (text-down tree outcome c.nodes_are_a_tree.ensures c.args.indent c.args.number n c.requires.above within))
+    let ok = ok-known tree outcome c.nodes_are_a_tree.ensures n (outcome_of_view c.outcome-outcome.result) c.is_ok_verdict.result c.in_ok-children_ok.children_ok
+    c.outcome-outcome.ensures c.is_ok_verdict.ensures c.in_ok-children_ok.ensures.ok c.requires.above within in
+    let last = prints_as c.in_ok-point.ensures _ (point-same c.args.indent c.args.number ok c.title.ensures c.outcome-outcome.ensures) in
+    record {
+      prints = prints_as (prints_then _ c.in_ok-children_ok.ensures.prints last) _
+          (sym (text-down tree outcome c.nodes_are_a_tree.ensures c.args.indent c.args.number n c.requires.above within));
+      ok = ok;
+    }
 
 pub subtest-returns : goal.subtest-returns
 subtest-returns g t c =
     let class : is_test (row_at (tree_of c.args.plan.now) c.args.node).kind ≡ false = sym c.is_test.ensures ∙ c.if-is_test.false in
-    rw class (prints_then _ (prints_as c.in_ok-subtest_line.ensures _ (ap (subtest_line c.args.indent) c.title.ensures)) c.level.ensures)
+    record {
+      prints = rw class (prints_then _ (prints_as c.in_ok-subtest_line.ensures _ (ap (subtest_line c.args.indent) c.title.ensures)) c.level.ensures.prints);
+      ok = c.level.ensures.ok;
+    }

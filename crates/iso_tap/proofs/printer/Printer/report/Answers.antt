@@ -2,7 +2,7 @@ use Rattle.iso_lifecycle.specs.ResultViews.{outcome_in}
 use Rattle.iso_plan.specs.Paths.{children}
 use Rattle.iso_plan.specs.RowView.{tree_of}
 use Rattle.iso_tap.specs.Reports.{level, reported}
-use Rattle.iso_tap.proofs.PrinterLemmas.{prints_stopped, prints_then}
+use Rattle.iso_tap.proofs.PrinterLemmas.{prints_failed, prints_stopped, prints_then}
 use Rattle.iso_tap.proofs.printer.Printer.report.Goals as goal
 
 pub returns-in_err-line : goal.returns-in_err-line
@@ -10,5 +10,8 @@ returns-in_err-line g c =
     let tree = tree_of c.args.plan.now in
     prints_stopped (level 0 (reported tree (outcome_in c.args.results.now) 0) (children tree 0)) _ c.from_residual.ensures.0 c.in_err-line.ensures
 
+pub returns-in_err-level : goal.returns-in_err-level
+returns-in_err-level g c = prints_then _ c.in_ok-line.ensures (prints_failed _ c.from_residual-in_err-level.ensures.0 c.in_err-level.ensures.prints)
+
 pub returns : goal.returns
-returns g c = prints_then _ c.in_ok-line.ensures c.level.ensures
+returns g c = prints_then _ c.in_ok-line.ensures c.in_ok-level.ensures.prints
