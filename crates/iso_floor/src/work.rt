@@ -129,10 +129,5 @@ fn is_free<'a, G: Ground>(seat: &Seat<'a, G>) -> bool
     if tray.is_flat() {
         return false;
     }
-    'nodes: for node in 0..plan.len() {
-        if tray.is_lent(node) {
-            return false;
-        }
-    }
-    true
+    tray.holds_none()
 }

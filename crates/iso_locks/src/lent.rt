@@ -1,8 +1,8 @@
 //! Which nodes are lent.
-ghost use Rattle.std.specs.Prelude.{◌≡◌, ◌<◌, IfOk, false, length, true};
+ghost use Rattle.std.specs.Prelude.{◌≡◌, ◌<◌, IfOk, false, length, not, true};
 ghost use Rattle.iso_locks.specs.Lent.{AreApart, IsBeside};
 ghost use Rattle.iso_locks.specs.Trays.{is_lent};
-ghost use Rattle.iso_plan.specs.HeldNodes.{holding, none_held, releasing};
+ghost use Rattle.iso_plan.specs.HeldNodes.{any_held, holding, none_held, releasing};
 ghost use Rattle.iso_plan.specs.RowView.{tree_of};
 
 use crate::lockers::Lockers;
@@ -52,6 +52,13 @@ impl<'a> LentNodes<'a> {
         ensures { result ≡ is_lent self.now.held node }
     {
         self.lent.is_held(node)
+    }
+
+    /// Whether no node is lent.
+    pub(crate) fn is_empty(&self) -> bool
+        ensures { result ≡ not (any_held self.now.held) }
+    {
+        self.lent.is_empty()
     }
 
     /// Whether a node clashes with one that is lent, of which no two clash. Where a lent node has

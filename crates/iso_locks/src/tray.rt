@@ -1,5 +1,5 @@
 //! One worker's values.
-ghost use Rattle.std.specs.Prelude.{◌≡◌, ◌<◌, ◌++◌, ◌∷◌, [], ℕ, None, IfOk, OnErr, OnOk, cond, false, is_some, length, map, option_copied, replicate, true};
+ghost use Rattle.std.specs.Prelude.{◌≡◌, ◌<◌, ◌++◌, ◌∷◌, [], ℕ, None, IfOk, OnErr, OnOk, cond, false, is_some, length, map, not, option_copied, replicate, true};
 ghost use Rattle.iso_locks.specs.Clashes.{clash};
 ghost use Rattle.iso_locks.specs.Owners.{AreOwned, CanHold};
 ghost use Rattle.iso_locks.specs.Slots.{slot};
@@ -10,6 +10,7 @@ ghost use Rattle.iso_locks.specs.Trays.{CanUndo, empty_tray, frames_on, is_lent,
 ghost use Rattle.iso_model.specs.Rights.{access_in, is_writable};
 ghost use Rattle.iso_locks.specs.Moves.{is_written, moved_away, moved_here};
 ghost use Rattle.iso_locks.specs.Vaults.{giving_back, receiving};
+ghost use Rattle.iso_plan.specs.HeldNodes.{any_held};
 ghost use Rattle.iso_plan.specs.KeyTable.{keys};
 ghost use Rattle.iso_plan.specs.Locks.{locks};
 ghost use Rattle.iso_plan.specs.NodeChains.{depth};
@@ -183,6 +184,13 @@ impl<'a> Tray<'a> {
         ensures { result ≡ is_lent self.now.lent node }
     {
         self.lent.has(node)
+    }
+
+    /// Whether no node is lent to it.
+    pub fn holds_none(&self) -> bool
+        ensures { result ≡ not (any_held self.now.lent) }
+    {
+        self.lent.is_empty()
     }
 
     /// Whether a node may be lent to it beside those that are: it isn't lent to it, and clashes

@@ -5,6 +5,7 @@
 -- (`takers`).
 use Rattle.std.specs.Prelude.{◌≡◌, ℕ, zero, suc, ◌+◌, ◌-◌, ◌^◌, ◌<◌, List, [], ◌∷◌, length, replicate, Bool, true, false, ◌||◌, ◌&&◌, ◌==◌, not, cond, slice_index_or, slice_set, refl}
 use Rattle.std.specs.Coded.{Coded, code_by, coded×, coded_list, coded_bool}
+use Rattle.std.specs.List.{list_any}
 use Rattle.iso_model.specs.declared.access.Access.{Access}
 use Rattle.iso_model.specs.declared.access.Access.TheVariants.{Read, Write}
 use Rattle.iso_plan.specs.KeyTable.{keys}
@@ -39,6 +40,10 @@ held_code = code_by Parts parts_code parts with_parts (λ _. refl)
 -- whether a node is held
 abbrev pub is_held : List Bool → ℕ → Bool
 is_held held n = slice_index_or held n false
+
+-- whether any node is held
+abbrev pub any_held : List Bool → Bool
+any_held held = list_any (λ h. h) held
 
 -- no node of a plan is held
 abbrev pub none_held : Planned → HeldView

@@ -1,9 +1,9 @@
 //! The held nodes of a plan, with how many of them read and write each key, so that what is in
 //! a node's way costs its own locks.
-ghost use Rattle.std.specs.Prelude.{◌≡◌, ◌<◌, ◌+◌, ◌^◌, IfOk, is_some, length};
+ghost use Rattle.std.specs.Prelude.{◌≡◌, ◌<◌, ◌+◌, ◌^◌, IfOk, is_some, length, not};
 ghost use Rattle.std.specs.List.{All};
 ghost use Rattle.iso_plan.specs.Conflicts.{lowest_in_the_way};
-ghost use Rattle.iso_plan.specs.HeldNodes.{CanAdd, CanRemove, added, any_excluded, counted, excluded, holding, is_held, none_held, one_less, one_more, releasing, removed, takers};
+ghost use Rattle.iso_plan.specs.HeldNodes.{CanAdd, CanRemove, added, any_excluded, any_held, counted, excluded, holding, is_held, none_held, one_less, one_more, releasing, removed, takers};
 ghost use Rattle.iso_plan.specs.KeyTable.{keys};
 ghost use Rattle.iso_plan.specs.RowView.{tree_of};
 
@@ -65,6 +65,17 @@ impl<'a> HeldNodes<'a> {
         ensures { result ≡ is_held self.now.held node }
     {
         self.held[node as usize]
+    }
+
+    /// Whether no node is held. It goes over all nodes without a jump, so it is quick.
+    pub fn is_empty(&self) -> bool
+        ensures { result ≡ not (any_held self.now.held) }
+    {
+        let mut any = false;
+        for held in &self.held {
+            any |= *held;
+        }
+        !any
     }
 
     /// Holds a node, if it isn't held yet. Takes no memory.

@@ -3,18 +3,16 @@ use Rattle.iso_locks.specs.Trays.{TrayView, is_lent}
 use Rattle.iso_plan.specs.Paths.{IsTree}
 use Rattle.iso_plan.specs.Planned.{Planned}
 use Rattle.iso_plan.specs.RowView.{tree_of}
-use Rattle.iso_floor.proofs.FreeSeats.{nothing-lent}
+use Rattle.iso_floor.proofs.FreeSeats.{none-lent, nothing-lent}
 use Rattle.iso_floor.specs.Workers.{IsFree}
 use Rattle.iso_floor.proofs.work.is_free.Goals as goal
 
 pub returns : goal.returns
-returns g c = λ _.
+returns g c = λ idle.
     let t : TrayView = c.tray-tray.result.now in
     let p : Planned = c.plan-plan.result.now in
     let same : p ≡ t.plan = c.plan-plan.ensures in
     let tree : IsTree (tree_of t.plan) = subst (λ (x : Planned). IsTree (tree_of x)) same c.nodes_are_a_tree.ensures in
-    let count : length p.rows ≡ length t.plan.rows = ap (λ (x : Planned). length x.rows) same in
     let flat : t.flat ≡ false = sym c.is_flat.ensures ∙ c.if-is_flat.false in
-    let none : (n : ℕ) → n < length t.plan.rows → is_lent t.lent n ≡ false = λ n less. ap (λ (x : TrayView). is_lent x.lent n) c.tray-tray.ensures.tray
-    ∙ c.nodes.invariant n (omega (arith, c.nodes-test.false, c.len-node-end.ensures, count, less)) in
+    let none : (n : ℕ) → n < length t.plan.rows → is_lent t.lent n ≡ false = λ n less. none-lent t.lent (sym c.holds_none.ensures ∙ idle) n in
     subst IsFree c.tray-tray.ensures.tray (nothing-lent t tree (c.values_are_of_lent_nodes.ensures flat) none)
