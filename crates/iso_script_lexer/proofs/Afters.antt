@@ -1,5 +1,5 @@
 -- What `after` and `after_word` tell of the pieces.
-use Rattle.std.proofs.Common.{◌≡◌, ℕ, List, [], ◌∷◌, Some, None, refl, inl, inr}
+use Rattle.std.proofs.Common.{◌≡◌, List, [], ◌∷◌, Some, None, refl, inl, inr}
 use Rattle.iso_script_lexer.specs.Piece.{Piece, symbol_at, word_at}
 use Rattle.iso_script_lexer.specs.Spelling.{same_symbol, same_word}
 use Rattle.iso_script_lexer.specs.Tokens.{after, after_word}

@@ -1,5 +1,5 @@
 -- What is skipped is a gap, or a comment that a byte breaks off.
-use Rattle.std.proofs.Common.{◌≡◌, ℕ, ◌+◌, List, [], ◌∷◌, ◌++◌, true, false, nat_eq, ◌&&◌, refl, ap, subst, ◌∙◌, sym, arith}
+use Rattle.std.proofs.Common.{◌≡◌, ℕ, List, [], ◌∷◌, ◌++◌, true, false, nat_eq, ◌&&◌, refl, ap, subst, ◌∙◌, sym, arith}
 use Rattle.std.proofs.lemmas.Bool.Decides.{nat_tests}
 use Rattle.std.specs.List.{AllByRecursion}
 use Rattle.iso_script_lexer.specs.Spelling.{is_blank, in_comment, begins}

@@ -1,7 +1,7 @@
 -- The words of the lexer's examples. Of which pieces each text is, the source module `examples`
 -- states and proves.
 use Prim.Native.String.{String}
-use Rattle.std.specs.Prelude.{ℕ, ◌+◌, List, [], ◌∷◌, ◌++◌, codes, length, map}
+use Rattle.std.specs.Prelude.{ℕ, ◌+◌, List, [], ◌∷◌, codes, length, map}
 use Rattle.iso_script_lexer.specs.LexicalGrammar.{ArePiecesOf}
 use Rattle.iso_script_lexer.specs.Piece as P
 use Rattle.iso_script_lexer.specs.Piece.{Piece, word_at, symbol_at, bad_at}
@@ -40,10 +40,3 @@ symbols = map (λ s. symbol_at (at 1 s.0) s.1)
 abbrev pub words_from : (column : ℕ) → List Word → List Piece
 words_from c [] = []
 words_from c (w ∷ ws) = word_at (at 1 c) w ∷ words_from (c + length (spelling w) + 1) ws
-
--- the reserved words, in their order
-abbrev pub words_text : List ℕ
-words_text =
-    codes "team class test same_thread concurrent isolated read write static field before_all after_all before_each "
-    ++ (codes "after_each let print assert assert_equal assume fail if else repeat set_prop clear_prop set_locale "
-    ++ codes "write_file append_file delete_file true false text len prop has_prop locale file has_file children disabled")

@@ -1,7 +1,7 @@
 -- The lexer's view of bytes: the pieces that are read from them, by functions.
 use Rattle.std.specs.Prelude.{ℕ, zero, suc, ◌+◌, ◌-◌, List, [], ◌∷◌, Bool, true, false, nat_eq, nat_le, ◌&&◌, Option, Some, None, if◌then◌else◌, length, take, drop, option_map}
 use Rattle.std.specs.List.{prefix_len}
-use Rattle.iso_script_lexer.specs.Positions.{Line, line_after, position}
+use Rattle.iso_script_lexer.specs.Positions.{Line, position}
 use Rattle.iso_script_lexer.specs.Piece.{Piece, name_at, number_at, text_at, word_at, symbol_at, bad_at}
 use Rattle.iso_script_lexer.specs.Spelling.{begins, begins_in, is_blank, is_printable, in_comment, is_letter, is_digit, in_name, is_escaped, word_of}
 use Rattle.iso_script_lexer.specs.LexicalGrammar.{decimal_value}

@@ -3,7 +3,7 @@
 --
 -- spelling: Which bytes a symbol and a reserved word are, and which bytes may stand in a name, a
 -- gap, a comment.
-use Rattle.std.specs.Prelude.{ℕ, List, [], ◌∷◌, Bool, false, Option, nat_eq, nat_le, ◌&&◌, ◌||◌, codes}
+use Rattle.std.specs.Prelude.{ℕ, List, [], ◌∷◌, Bool, false, Option, nat_eq, nat_le, ◌&&◌, ◌||◌, ◌++◌, codes}
 use Rattle.std.specs.List.{find}
 use Rattle.std.specs.Str.{bytes_eq}
 use Rattle.iso_script_lexer.specs.declared.symbol.Symbol.{Symbol}
@@ -93,6 +93,13 @@ all_words = Team ∷ Class ∷ Test ∷ SameThread ∷ Concurrent ∷ Isolated �
     SetProp ∷ ClearProp ∷ SetLocale ∷ WriteFile ∷ AppendFile ∷ DeleteFile ∷ True ∷ False ∷ Text
     ∷ Len ∷ Prop ∷ HasProp ∷
     Locale ∷ File ∷ HasFile ∷ Children ∷ Disabled ∷ []
+
+-- the same as they are written, with a space between two
+abbrev pub words_text : List ℕ
+words_text =
+    codes "team class test same_thread concurrent isolated read write static field before_all after_all before_each "
+    ++ (codes "after_each let print assert assert_equal assume fail if else repeat set_prop clear_prop set_locale "
+    ++ codes "write_file append_file delete_file true false text len prop has_prop locale file has_file children disabled")
 
 -- the reserved word that is written so
 unfoldable pub word_of : List ℕ → Option Word

@@ -1,9 +1,9 @@
 //! Worked examples of the lexical grammar, as public laws.
 ghost use Rattle.std.specs.Prelude.{[], ◌∷◌};
-ghost use Rattle.iso_script_lexer.specs.Examples.{Has, IsRefused, at, name_at, number_at, symbols, text_at, words_from, words_text};
+ghost use Rattle.iso_script_lexer.specs.Examples.{Has, IsRefused, at, name_at, number_at, symbols, text_at, words_from};
 ghost use Rattle.iso_script_lexer.specs.LexicalGrammar.{ArePiecesOf};
 ghost use Rattle.iso_script_lexer.specs.Piece.{bad_at, symbol_at};
-ghost use Rattle.iso_script_lexer.specs.Spelling.{all_words};
+ghost use Rattle.iso_script_lexer.specs.Spelling.{all_words, words_text};
 ghost use Rattle.iso_script_lexer.specs.declared.symbol.Symbol.TheVariants.{OpenBrace, CloseBrace, OpenParen, CloseParen, Semicolon, Comma};
 ghost use Rattle.iso_script_lexer.specs.declared.symbol.Symbol.TheVariants.{Equals, Plus, Minus, Star, PlusPlus, EqualsEquals, NotEquals, Less};
 ghost use Rattle.iso_script_lexer.specs.declared.token.TokenFault.TheVariants.{BadByte, BadToken, NumberTooBig, OpenText, TooLong};

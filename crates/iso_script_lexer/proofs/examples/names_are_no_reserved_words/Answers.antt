@@ -1,6 +1,6 @@
 use Rattle.std.proofs.Common.{codes}
 use Rattle.iso_script_lexer.specs.Scan.{gap_from, front_of, pieces, pieces_of, quoted_length, symbol_front}
-use Rattle.iso_script_lexer.specs.Examples.{words_text}
+use Rattle.iso_script_lexer.specs.Spelling.{words_text}
 use Rattle.iso_script_lexer.specs.TokenFaults.{text_fault}
 use Rattle.iso_script_lexer.specs.Spelling.{word_of}
 use Rattle.iso_script_lexer.specs.Text.{decoded}

@@ -1,4 +1,4 @@
-use Rattle.std.proofs.Common.{◌∙◌, ap, sym, List, ℕ, [], ◌∷◌}
+use Rattle.std.proofs.Common.{◌∙◌, ap, sym, [], ◌∷◌}
 use Rattle.iso_script_lexer.specs.Cursors.{line_of}
 use Rattle.iso_script_lexer.specs.Piece.{bad_at}
 use Rattle.iso_script_lexer.specs.Positions.{Line, position}
