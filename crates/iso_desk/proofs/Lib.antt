@@ -1,3 +1,4 @@
+pub mod AwaitingLemmas
 pub mod BitLemmas
 pub mod CrewLemmas
 pub mod LineLemmas

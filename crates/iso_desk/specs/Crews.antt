@@ -2,9 +2,10 @@
 --
 -- who has something to wake for: A worker with what it has seen has nothing (`HasNothing`); one
 -- that waits, wasn't called and has something (`IsToCall`), and that none below a number has
--- (`HaveNothing`); what is kept of workers after a call (`idle_crew`, `waiting`, `looking`,
--- `called`).
-use Rattle.std.specs.Prelude.{◌≡◌, ◌<◌, ℕ, List, replicate, Option, None, Some, Bool, false, true, ◌&&◌, not, slice_index_or, slice_set}
+-- (`HaveNothing`); how many wait and weren't called (`awaiting_in`); what is kept of workers after
+-- a call (`idle_crew`, `waiting`, `looking`, `called`).
+use Rattle.std.specs.Prelude.{◌≡◌, ◌<◌, ℕ, List, replicate, Option, None, Some, Bool, false, true, ◌&&◌, not, cond, slice_index_or, slice_set}
+use Rattle.std.specs.List.{sum_by}
 use Rattle.iso_desk.specs.Offers.{NothingOffered}
 use Rattle.iso_desk.specs.Places.{IsEmpty}
 use Rattle.iso_desk.specs.declared.crew.Member.{Member}
@@ -38,6 +39,10 @@ member_of ms w = slice_index_or ms w fresh
 -- a worker waits and wasn't called since
 abbrev pub awaits : Member → Bool
 awaits m = m.waits && not m.called
+
+-- how many workers wait and weren't called since
+abbrev pub awaiting_in : List Member → ℕ
+awaiting_in ms = sum_by (λ m. cond (awaits m) 1 0) ms
 
 -- a worker begins to wait with what it has seen
 abbrev pub waiting : ℕ → Option ℕ → List Member → List Member

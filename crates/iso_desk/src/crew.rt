@@ -3,10 +3,11 @@
 //! 1. It is kept of each worker whether it waits, whether it was called since, and what it saw.
 //! 2. A call marks just one worker that waits, wasn't called and has something to wake for, if any.
 //! 3. One is enough: who is called makes a turn, which ends with a call, so that it calls the next.
-ghost use Rattle.std.specs.Prelude.{◌≡◌, ◌<◌, ◌≤◌, ℕ, false, true, length, MatchOption, IfOk};
-ghost use Rattle.iso_desk.specs.Crews.{HasNothing, HaveNothing, IsToCall, awaits, called, idle_crew, looking, member_of, waiting};
+ghost use Rattle.std.specs.Prelude.{◌≡◌, ◌<◌, ◌≤◌, ℕ, false, true, length, MatchOption, IfOk, slice_set};
+ghost use Rattle.iso_desk.specs.Crews.{HasNothing, HaveNothing, IsToCall, awaiting_in, awaits, called, idle_crew, looking, member_of, waiting};
 ghost use Rattle.iso_desk.specs.Marking.{room};
 
+use crate::count::recounted;
 use crate::scene::{Scene, has_nothing_for};
 use std::alloc::{AllocError, Global};
 
@@ -22,10 +23,22 @@ pub struct Member {
     pub seen: Option<u64>,
 }
 
+impl Member {
+    /// Whether it waits and wasn't called since.
+    fn awaits(self) -> bool
+        ensures { result ≡ awaits self }
+    {
+        self.waits && !self.called
+    }
+}
+
 /// The workers of a desk.
 #[derive(Drop)]
 pub struct Crew {
     members: Vec<Member>,
+    /// How many wait and weren't called since: mostly none, and then nobody is looked for.
+    awaiting: usize,
+    ghost counted: { awaiting ≡ awaiting_in members.items },
 }
 
 impl Crew {
@@ -39,7 +52,10 @@ impl Crew {
             seen: None,
         };
         let members = vec![in alloc; fresh; workers as usize]?;
-        Ok(Crew { members })
+        Ok(Crew {
+            members,
+            awaiting: 0,
+        })
     }
 
     /// What is kept of a worker.
@@ -55,11 +71,12 @@ impl Crew {
         requires { worker < length self.old.members.items }
         ensures { self.new.members.items ≡ waiting worker seen self.old.members.items }
     {
-        self.members[worker as usize] = Member {
+        let waiting = Member {
             waits: true,
             called: false,
             seen,
         };
+        self.put(worker, waiting);
     }
 
     /// A worker waits no more, and what it has seen is past.
@@ -67,11 +84,12 @@ impl Crew {
         requires { worker < length self.old.members.items }
         ensures { self.new.members.items ≡ looking worker self.old.members.items }
     {
-        self.members[worker as usize] = Member {
+        let looking = Member {
             waits: false,
             called: false,
             seen: None,
         };
+        self.put(worker, looking);
     }
 
     /// Calls the lowest worker that waits, wasn't called since, and has something to wake for;
@@ -91,9 +109,29 @@ impl Crew {
             scene.now.is_over scene.now.is_loose scene.now.rounds self.old.members.items w) }
         ensures marked { self.new.members.items ≡ called result self.old.members.items }
     {
+        if self.awaiting == 0 {
+            return None;
+        }
         let worker = next_to_call(&self.members, scene)?;
-        self.members[worker as usize].called = true;
+        let member = self.members[worker as usize];
+        let marked = Member {
+            called: true,
+            ..member
+        };
+        self.put(worker, marked);
         Some(worker)
+    }
+
+    /// Keeps this of a worker.
+    fn put(&mut self, worker: u32, member: Member)
+        requires { worker < length self.old.members.items }
+        ensures { self.new.members.items ≡ slice_set self.old.members.items worker member }
+    {
+        let was = self.members[worker as usize].awaits();
+        // It is asked for what it proves: that they can be counted.
+        let _count = self.members.len();
+        self.awaiting = recounted(self.awaiting, was, member.awaits());
+        self.members[worker as usize] = member;
     }
 }
 
@@ -130,7 +168,7 @@ fn is_to_call(scene: &Scene, worker: u32, member: Member) -> bool
         → HasNothing scene.now.table.now.places scene.now.held.now scene.now.written.now
         scene.now.is_over scene.now.is_loose scene.now.rounds worker member.seen }
 {
-    if !member.waits || member.called {
+    if !member.awaits() {
         return false;
     }
     !has_nothing_for(scene, worker, member.seen)

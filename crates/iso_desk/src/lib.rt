@@ -2,6 +2,7 @@
 //! tried, and whom a change calls.
 #![tactic(auto)]
 
+pub mod count;
 pub mod crew;
 mod ends;
 pub mod line;

@@ -45,6 +45,7 @@ ghost use Rattle.iso_plan.specs.Tree.{Row};
 use crate::keys::{HeldKeys, KEYS};
 use crate::nodes::{children_of, is_concurrent, parent_of};
 use crate::offers::line_for;
+use iso_desk::count::recounted;
 use iso_desk::crew::Crew;
 use iso_desk::line::{KeyLine, Line, Party};
 use iso_desk::place::Place;
@@ -648,15 +649,4 @@ fn is_loose(place: Place) -> bool
     ensures { result ≡ is_loose place }
 {
     matches!(place, Place::Loose)
-}
-
-/// How many nodes are `Loose` after one of them got another place: whether it was, and whether it
-/// is.
-fn recounted(loose: usize, was: bool, is: bool) -> usize
-    requires was { cond was 1 0 ≤ loose }
-    requires room { loose + cond is 1 0 < 2 ^ 64 + cond was 1 0 }
-    ensures { result + cond was 1 0 ≡ loose + cond is 1 0 }
-{
-    let others = if was { loose - 1 } else { loose };
-    if is { others + 1 } else { others }
 }

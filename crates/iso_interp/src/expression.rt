@@ -57,6 +57,18 @@ fn at_once<'a>(names: &'a Names, expression: &'a Expr) -> Option<Value<'a>>
     }
 }
 
+/// The number that a chain comes to at once: of another expression nothing is looked at.
+#[inline(always)]
+pub fn chain_at_once(names: &Names, expression: &Expr) -> Option<i64>
+    ensures { IfSome result (λ n. AlwaysGives names.now.names (term_of expression.now)
+        (Kinds.Whole n)) }
+{
+    match expression {
+        Expr::Chain(_, _, _) => sum_at_once(names, expression),
+        _ => None,
+    }
+}
+
 /// The value of a literal or of a visible name.
 #[inline(always)]
 fn simple<'a>(names: &'a Names, expression: &'a Expr) -> Option<Value<'a>>

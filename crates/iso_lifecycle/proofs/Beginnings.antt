@@ -84,14 +84,14 @@ steps-on kind s n now next m k stage same stepped =
     subst (λ (g : Going). AlikeGoing r g (reached kind s (suc n))) (sym stepped) (body-step-alike r (going now m) (reached kind s n) alike)
 
 -- a step more of a body that stands where so many steps of it alone have left it
-pub step-stands : (b : Body) (next : Stage) (m k : Resources) (stands : Stands b m) → going next k ≡ body_step (rights_of b.run) (going (stage_of_body b) m)
+pub step-stands : (b : Body) (next : Stage) (m k : Resources) (stands : Stands b m) → going next k ≡ body_step (rights_of b.run.value) (going (stage_of_body b) m)
     → AlikeGoing (rights_of_subject (subject_of b)) (going next k) (reached (kind_of_body b) (subject_of b) (suc stands.steps))
 step-stands b next m k stands stepped =
-    let rights : rights_of b.run ≡ rights_of_subject (subject_of b) = λ i q. b.rights q i in
+    let rights : rights_of b.run.value ≡ rights_of_subject (subject_of b) = λ i q. b.rights q i in
     steps-on (kind_of_body b) (subject_of b) stands.steps (stage_of_body b) next m k stands.stage stands.resources (stepped ∙ (λ i. body_step (rights i) (going (stage_of_body b) m)))
 
 -- and what it has come to, if that was its last step
-pub step-comes : (b : Body) (next : Stage) (m k : Resources) → Stands b m → going next k ≡ body_step (rights_of b.run) (going (stage_of_body b) m) → HasCome (kind_of_body b) (subject_of b) next
+pub step-comes : (b : Body) (next : Stage) (m k : Resources) → Stands b m → going next k ≡ body_step (rights_of b.run.value) (going (stage_of_body b) m) → HasCome (kind_of_body b) (subject_of b) next
 step-comes b next m k stands stepped = comes (kind_of_body b) (subject_of b) (suc stands.steps) next (step-stands b next m k stands stepped).stage
 
 -- a body that hasn't ended owes nothing

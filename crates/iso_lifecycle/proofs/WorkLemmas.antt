@@ -1,8 +1,7 @@
 -- What follows from an unchanged chain.
-use Rattle.std.proofs.Common.{◌≡◌, ◌<◌, ◌+◌, ℕ, List, ◌∷◌, length, Option, Some, None, true, ap, sym, ◌∙◌, subst, arith, add-one}
+use Rattle.std.proofs.Common.{◌≡◌, ◌<◌, ◌+◌, ℕ, List, ◌∷◌, length, Option, Some, None, Bool, true, ap, sym, ◌∙◌, subst, arith, add-one}
 use Rattle.std.proofs.lemmas.List.{length-map}
 use Rattle.std.specs.Arc.{arc_value}
-use Rattle.std.specs.Prelude.{IfSome}
 use Rattle.std.specs.declared.alloc.Global.{Global}
 use Rattle.std.specs.declared.sync.Arc.{Arc}
 use Rattle.iso_model.specs.Bodies.{account_after, stage_from}
@@ -16,7 +15,7 @@ use Rattle.iso_interp.specs.declared.run.BlockRun.{BlockRun}
 use Rattle.iso_lifecycle.specs.BodyRuns.{settled_with}
 use Rattle.iso_lifecycle.specs.Heads.{heads_in}
 use Rattle.iso_lifecycle.specs.JobPlaces.{IsPlaced, job_after, job_at, jobs_from}
-use Rattle.iso_lifecycle.specs.DueBlocks.{HaveRights, SameChain, account_in, begun_with, beside_in, jobs_left}
+use Rattle.iso_lifecycle.specs.DueBlocks.{HaveRights, SameChain, account_in, beside_in, jobs_left}
 use Rattle.iso_lifecycle.specs.declared.job.Job.{Job}
 use Rattle.iso_lifecycle.specs.declared.due_blocks.Rest.{Rest}
 use Rattle.iso_lifecycle.proofs.Following.{passes}
@@ -41,19 +40,28 @@ shorter x xs ys e = let h : length xs ≡ length ys + 1 = ap length e ∙ sym (a
 
 -- a block that has ended is left, and the jobs after it are to be begun
 pub left-ended : (run : BlockRun) (rest after : Rest) → is_done (pieces_of run) ≡ true → SameChain rest after → after.next ≡ rest.next
-    → account_in after ≡ account_after (names_before run) (local_of run) (beside_in rest) → begun_with None after ≡ settled_with (Some run) rest
+    → account_in after ≡ account_after (names_before run) (local_of run) (beside_in rest) → stage_from (jobs_left after) (account_in after) ≡ settled_with (Some run) rest
 left-ended run rest after none chain next account =
     (λ i. stage_from (same-jobs chain next i) (account i))
     ∙ passes (stage_from (jobs_left rest)) (pieces_of run) (local_of run) (names_before run) (beside_in rest) (jobs_left rest) none
 
--- a block with the body's rights has them where the chain is the same
-pub rights-kept : (block : Option BlockRun) (run : BlockRun) (rest : Rest) → run_rights run ≡ access_in rest.rights.now → IfSome block (λ (left : BlockRun). left ≡ run) → HaveRights block rest
-rights-kept None run rest rights same = tt
-rights-kept (Some left) run rest rights same = λ k i. (ap run_rights same ∙ rights) i k
+abbrev ends : Option BlockRun → Bool
+ends None = true
+ends (Some run) = is_done (pieces_of run)
 
-pub rights-left : (block : Option BlockRun) (left run : BlockRun) (rest : Rest) → block ≡ Some left
-    → run_rights run ≡ access_in rest.rights.now → IfSome block (λ (x : BlockRun). x ≡ run) → HaveRights (Some left) rest
-rights-left block left run rest is rights same = subst (λ (o : Option BlockRun). HaveRights o rest) is (rights-kept block run rest rights same)
+-- the same of the block that stands in a place
+pub settled-once-ended : (block : Option BlockRun) (seen run : BlockRun) (rest after : Rest) → block ≡ Some seen → is_done (pieces_of seen) ≡ true → block ≡ Some run → SameChain rest after
+    → after.next ≡ rest.next → account_in after ≡ account_after (names_before run) (local_of run) (beside_in rest) → stage_from (jobs_left after) (account_in after) ≡ settled_with block rest
+settled-once-ended block seen run rest after there done taken chain next account =
+    left-ended run rest after (ap ends (sym taken ∙ there) ∙ done) chain next account ∙ ap (λ (o : Option BlockRun). settled_with o rest) (sym taken)
+
+-- a block with the body's rights has them where the chain is the same; where there is none, nothing has to
+pub no-rights : (block : Option BlockRun) (rest : Rest) → block ≡ None → HaveRights block rest
+no-rights block rest none = subst (λ (o : Option BlockRun). HaveRights o rest) (sym none) tt
+
+pub some-rights : (block : Option BlockRun) (run : BlockRun) (rest after : Rest) → block ≡ Some run → SameChain rest after → run_rights run ≡ access_in after.rights.now → HaveRights block rest
+some-rights block run rest after is chain rights =
+    subst (λ (o : Option BlockRun). HaveRights o rest) (sym is) (λ k i. (rights ∙ ap (λ r. access_in r.now) chain.rights) i k)
 
 pub rights-before : (block : Option BlockRun) (rest after : Rest) → SameChain rest after → HaveRights block after → HaveRights block rest
 rights-before None rest after chain rights = tt

@@ -22,15 +22,15 @@ abbrev pub kind_of_body : Body → BodyKind
 kind_of_body b = kind_of_origin b.origin
 
 abbrev pub stage_of_body : Body → Stage
-stage_of_body b = stage_of b.run
+stage_of_body b = stage_of b.run.value
 
 -- what a body of this origin begins with
 pub record IsBeginning (o : Origin) (b : Beginning) : Type 0 where
   pub outer : b.outer ≡ outer_names (kind_of_origin o) (subject_of_origin o)
-  pub rights : HasRights (subject_of_origin o) (rights_of b.run)
-  pub stage : stage_of b.run ≡ (begun (kind_of_origin o) (subject_of_origin o)).stage
-  pub come : HasCome (kind_of_origin o) (subject_of_origin o) (stage_of b.run)
-  pub left : HasLeft (kind_of_origin o) (subject_of_origin o) (stage_of b.run) b.frame
+  pub rights : HasRights (subject_of_origin o) (rights_of b.run.value)
+  pub stage : stage_of b.run.value ≡ (begun (kind_of_origin o) (subject_of_origin o)).stage
+  pub come : HasCome (kind_of_origin o) (subject_of_origin o) (stage_of b.run.value)
+  pub left : HasLeft (kind_of_origin o) (subject_of_origin o) (stage_of b.run.value) b.frame
 
 -- A body, and the resources at the keys of its rights, stand where `steps` steps of it alone have
 -- left them.

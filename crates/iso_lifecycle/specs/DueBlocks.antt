@@ -36,11 +36,6 @@ abbrev pub stage_with : Option BlockRun → Rest → Stage
 stage_with None r = ended (account_in r)
 stage_with (Some run) r = during (point_of_run run) (names_before run) (beside_in r) (jobs_left r)
 
--- the point of the body, with a block under way; or else at the beginning of the jobs that are left
-abbrev pub begun_with : Option BlockRun → Rest → Stage
-begun_with None r = stage_from (jobs_left r) (account_in r)
-begun_with (Some run) r = during (point_of_run run) (names_before run) (beside_in r) (jobs_left r)
-
 -- the block under way has the body's rights
 abbrev pub HaveRights : Option BlockRun → Rest → Type 0
 HaveRights None r = Unit {0}

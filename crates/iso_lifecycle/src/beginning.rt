@@ -25,7 +25,7 @@ use std::alloc::{AllocError, Global};
 /// frame that an empty `before_all` leaves.
 #[derive(Drop)]
 pub(crate) struct Beginning<'a> {
-    pub(crate) run: BodyRun<'a>,
+    pub(crate) run: Box<BodyRun<'a>>,
     pub(crate) outer: usize,
     pub(crate) frame: Option<Frame>,
 }
@@ -123,13 +123,13 @@ impl<'a> Origin<'a> {
     fn with_frame(
         &self,
         alloc: Global,
-        run: BodyRun<'a>,
+        run: Box<BodyRun<'a>>,
         outer: usize,
     ) -> Result<Beginning<'a>, AllocError>
         requires outer { outer ≡ outer_names (kind_of_origin self.now)
             (subject_of_origin self.now) }
-        requires rights { HasRights (subject_of_origin self.now) (rights_of run) }
-        requires begun { stage_of run
+        requires rights { HasRights (subject_of_origin self.now) (rights_of run.value) }
+        requires begun { stage_of run.value
             ≡ (begun (kind_of_origin self.now) (subject_of_origin self.now)).stage }
         ensures { IfOk result (IsBeginning self.now) }
     {

@@ -30,13 +30,13 @@ use std::snapshot::Snapshot;
 pub struct Body<'a> {
     alloc: Global,
     pub(crate) origin: Origin<'a>,
-    pub(crate) run: BodyRun<'a>,
+    pub(crate) run: Box<BodyRun<'a>>,
     outer: usize,
     frame: Option<Frame>,
     ghost outer_is: { outer ≡ outer_names (kind_of_origin origin) (subject_of_origin origin) },
-    ghost rights: { HasRights (subject_of_origin origin) (rights_of run) } by { HasRights-prop (subject_of_origin origin) (rights_of run) },
-    ghost come: { HasCome (kind_of_origin origin) (subject_of_origin origin) (stage_of run) } by { HasCome-prop (kind_of_origin origin) (subject_of_origin origin) (stage_of run) },
-    ghost left: { HasLeft (kind_of_origin origin) (subject_of_origin origin) (stage_of run) frame } by { HasLeft-prop (kind_of_origin origin) (subject_of_origin origin) (stage_of run) frame },
+    ghost rights: { HasRights (subject_of_origin origin) (rights_of run.value) } by { HasRights-prop (subject_of_origin origin) (rights_of run.value) },
+    ghost come: { HasCome (kind_of_origin origin) (subject_of_origin origin) (stage_of run.value) } by { HasCome-prop (kind_of_origin origin) (subject_of_origin origin) (stage_of run.value) },
+    ghost left: { HasLeft (kind_of_origin origin) (subject_of_origin origin) (stage_of run.value) frame } by { HasLeft-prop (kind_of_origin origin) (subject_of_origin origin) (stage_of run.value) frame },
 }
 
 impl<'a> Body<'a> {
@@ -93,14 +93,38 @@ impl<'a> Body<'a> {
         ensures kind { kind_of_body self.new ≡ kind_of_body self.old }
         ensures goes_on { T.goes_on touch.old touch.new }
     {
-        self.run.step(touch)?;
-        if !self.run.is_ended() {
-            return Ok(());
+        self.advance(touch)?;
+        Ok(())
+    }
+
+    /// The same step, which tells whether the body has ended then: a run asks that after each.
+    #[inline(always)]
+    fn advance<T: Touch>(&mut self, touch: &mut T) -> Result<bool, AllocError>
+        requires under_way { is_ended (stage_of_body self.old) ≡ false }
+        requires keys { HasKeys (rights_of_subject (subject_of self.old)) (T.content touch.old)
+            (T.writes touch.old) }
+        requires stands { Stands self.old (T.content touch.old) }
+        ensures ended { IfOk result (λ ended. ended ≡ is_ended (stage_of_body self.new)) }
+        ensures step { OnOk result (going (stage_of_body self.new) (T.content touch.new)
+            ≡ body_step (rights_of_subject (subject_of self.old))
+            (going (stage_of_body self.old) (T.content touch.old))) }
+        ensures stands { OnOk result (Stands self.new (T.content touch.new)) }
+        ensures stopped { OnErr result (is_ended (stage_of_body self.new) ≡ false) }
+        ensures keys { OnOk result (HasKeys (rights_of_subject (subject_of self.old))
+            (T.content touch.new) (T.writes touch.new)) }
+        ensures subject { subject_of self.new ≡ subject_of self.old }
+        ensures kind { kind_of_body self.new ≡ kind_of_body self.old }
+        ensures goes_on { T.goes_on touch.old touch.new }
+    {
+        let ended = self.run.step(touch)?;
+        if !ended {
+            return Ok(false);
         }
-        match self.origin.frame(self.alloc, &self.run, self.outer) {
+        let run: &BodyRun<'a> = &self.run;
+        match self.origin.frame(self.alloc, run, self.outer) {
             Ok(frame) => {
                 self.frame = frame;
-                Ok(())
+                Ok(true)
             }
             Err(error) => {
                 self.run.stop();
@@ -159,8 +183,9 @@ impl<'a> Body<'a> {
         ensures values { OnOk result (IsAfterBody (subject_of self.old) (kind_of_body self.old)
             (T.content touch.old) (T.content touch.new)) }
     {
-        'steps: while !self.is_ended() {
-            self.step(touch)?;
+        let mut ended = self.is_ended();
+        'steps: while !ended {
+            ended = self.advance(touch)?;
             gate.at_body(worker, self.origin.node);
         }
         Ok(())
@@ -187,7 +212,7 @@ impl<'a> Body<'a> {
             ..
         } = self;
         laws::chains_grow_down(origin.plan);
-        let end = run.finish();
+        let end = Box::into_inner(run).finish();
         // What no end keeps is dropped by calls: its parts then stand in the proofs of those alone.
         drop(end.names);
         match origin.kind {

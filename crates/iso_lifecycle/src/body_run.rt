@@ -1,5 +1,5 @@
 //! A run of a whole body, one step at a time: its blocks, in the order of their jobs.
-ghost use Rattle.std.specs.Prelude.{◌≡◌, ◌<◌, ◌∷◌, ◌^◌, [], length, true, false, OnOk, OnErr, IfOk};
+ghost use Rattle.std.specs.Prelude.{◌≡◌, ◌<◌, ◌∷◌, ◌^◌, [], length, true, false, None, OnOk, OnErr, IfOk};
 ghost use Rattle.iso_model.specs.Bodies.{account_after, body_step, disabled_account, ended, fresh_account, going, is_ended, stage_from, stage_unless};
 ghost use Rattle.iso_model.specs.Disabled.{disabled_ending};
 ghost use Rattle.iso_model.specs.ChainView.{innermost_first};
@@ -8,7 +8,7 @@ ghost use Rattle.iso_model.specs.Rights.{access_in};
 ghost use Rattle.iso_model.specs.ScriptView.{test_head_of};
 ghost use Rattle.iso_model.specs.SyntaxView.{block_of};
 ghost use Rattle.iso_model.specs.Touch.{HasKeys};
-ghost use Rattle.iso_lifecycle.specs.DueBlocks.{HaveRights, HaveRights-prop};
+ghost use Rattle.iso_lifecycle.specs.DueBlocks.{HaveRights, HaveRights-prop, jobs_left};
 
 use crate::due_blocks::Rest;
 use crate::endings::Endings;
@@ -26,7 +26,6 @@ use iso_model::text::Text;
 use iso_model::touch::Touch;
 use iso_model::tree::Stmt;
 use std::alloc::{AllocError, Global};
-use std::mem;
 use std::sync::Arc;
 
 /// What an ended body leaves: the endings of the blocks that were done, in order, the lines that
@@ -58,12 +57,12 @@ impl<'a> BodyRun<'a> {
         test: &'a TestHead,
         names: Bindings,
         rights: &'a Rights,
-    ) -> Result<BodyRun<'a>, AllocError>
+    ) -> Result<Box<BodyRun<'a>>, AllocError>
         requires { length classes.now < 2 ^ 32 }
-        ensures stage { IfOk result (λ run. stage_of run
+        ensures stage { IfOk result (λ run. stage_of run.value
             ≡ stage_unless (test_head_of test.now).disabled names
             (test_jobs (test_head_of test.now) (innermost_first classes.now))) }
-        ensures rights { IfOk result (λ run. rights_of run ≡ access_in rights.now) }
+        ensures rights { IfOk result (λ run. rights_of run.value ≡ access_in rights.now) }
     {
         match &test.contents.disabled {
             Some(reason) => BodyRun::of_disabled(alloc, reason, names, rights),
@@ -79,10 +78,11 @@ impl<'a> BodyRun<'a> {
         words: BlockName,
         names: Bindings,
         rights: &'a Rights,
-    ) -> Result<BodyRun<'a>, AllocError>
-        ensures stage { IfOk result (λ run. stage_of run ≡ stage_unless class.now.disabled names
+    ) -> Result<Box<BodyRun<'a>>, AllocError>
+        ensures stage { IfOk result (λ run. stage_of run.value
+            ≡ stage_unless class.now.disabled names
             (job words (block_of class.now.before_all.items) (length names) false ∷ [])) }
-        ensures rights { IfOk result (λ run. rights_of run ≡ access_in rights.now) }
+        ensures rights { IfOk result (λ run. rights_of run.value ≡ access_in rights.now) }
     {
         match &class.disabled {
             Some(reason) => BodyRun::of_disabled(alloc, reason, names, rights),
@@ -97,10 +97,10 @@ impl<'a> BodyRun<'a> {
         reason: &Text,
         names: Bindings,
         rights: &'a Rights,
-    ) -> Result<BodyRun<'a>, AllocError>
-        ensures stage { IfOk result (λ run. stage_of run
+    ) -> Result<Box<BodyRun<'a>>, AllocError>
+        ensures stage { IfOk result (λ run. stage_of run.value
             ≡ ended (disabled_account reason.now names)) }
-        ensures rights { IfOk result (λ run. rights_of run ≡ access_in rights.now) }
+        ensures rights { IfOk result (λ run. rights_of run.value ≡ access_in rights.now) }
     {
         let endings = match endings_of_disabled(alloc, reason) {
             Ok(endings) => endings,
@@ -120,7 +120,8 @@ impl<'a> BodyRun<'a> {
             lines: Lines::new(alloc),
             endings,
         };
-        Ok(BodyRun { rest, block: None })
+        let run = Box::new(alloc, BodyRun { rest, block: None })?;
+        Ok(run)
     }
 
     /// The blocks of a test at their beginning: the `before_each` blocks of these classes,
@@ -131,14 +132,14 @@ impl<'a> BodyRun<'a> {
         test: &'a TestHead,
         names: Bindings,
         rights: &'a Rights,
-    ) -> Result<BodyRun<'a>, AllocError>
+    ) -> Result<Box<BodyRun<'a>>, AllocError>
         requires { length classes.now < 2 ^ 32 }
-        ensures stage { IfOk result (λ run. stage_of run
+        ensures stage { IfOk result (λ run. stage_of run.value
             ≡ stage_from (test_jobs (test_head_of test.now) (innermost_first classes.now))
             (fresh_account names)) }
-        ensures rights { IfOk result (λ run. rights_of run ≡ access_in rights.now) }
+        ensures rights { IfOk result (λ run. rights_of run.value ≡ access_in rights.now) }
     {
-        let mut rest = Rest {
+        let rest = Rest {
             alloc,
             rights,
             classes,
@@ -149,10 +150,12 @@ impl<'a> BodyRun<'a> {
             lines: Lines::new(alloc),
             endings: Endings::new(alloc),
         };
-        match rest.follow() {
-            Ok(block) => Ok(BodyRun { rest, block }),
+        let mut run = Box::new(alloc, BodyRun { rest, block: None })?;
+        match run.follow() {
+            Ok(()) => Ok(run),
             Err(error) => {
-                drop(rest);
+                // A call drops the run: its parts then stand in the proof of that call alone.
+                drop(run);
                 Err(error)
             }
         }
@@ -165,13 +168,13 @@ impl<'a> BodyRun<'a> {
         words: BlockName,
         names: Bindings,
         rights: &'a Rights,
-    ) -> Result<BodyRun<'a>, AllocError>
-        ensures stage { IfOk result (λ run. stage_of run ≡ stage_from
+    ) -> Result<Box<BodyRun<'a>>, AllocError>
+        ensures stage { IfOk result (λ run. stage_of run.value ≡ stage_from
             (job words (block_of block.now) (length names) false ∷ []) (fresh_account names)) }
-        ensures rights { IfOk result (λ run. rights_of run ≡ access_in rights.now) }
+        ensures rights { IfOk result (λ run. rights_of run.value ≡ access_in rights.now) }
     {
-        let run = BlockRun::new(alloc, block, Names::new(names, 0, words), rights);
-        let mut rest = Rest {
+        let first = BlockRun::new(alloc, block, Names::new(names, 0, words), rights);
+        let rest = Rest {
             alloc,
             rights,
             classes: &[],
@@ -182,24 +185,41 @@ impl<'a> BodyRun<'a> {
             lines: Lines::new(alloc),
             endings: Endings::new(alloc),
         };
-        match rest.settle(run) {
-            Ok(block) => Ok(BodyRun { rest, block }),
+        let mut run = Box::new(
+            alloc,
+            BodyRun {
+                rest,
+                block: Some(first),
+            },
+        )?;
+        match run.reach_next_block() {
+            Ok(()) => Ok(run),
             Err(error) => {
-                // A call drops the rest: its parts then stand in the proof of that call alone.
-                drop(rest);
+                drop(run);
                 Err(error)
             }
         }
     }
 
+    /// Begins the first block that has something to do, if there is one, where none is under way.
+    fn follow(&mut self) -> Result<(), AllocError>
+        requires { self.old.block ≡ None }
+        ensures stage { OnOk result (stage_of self.new
+            ≡ stage_from (jobs_left self.old.rest) (account_in_run self.old)) }
+        ensures rights { rights_of self.new ≡ rights_of self.old }
+    {
+        self.rest.follow(&mut self.block)
+    }
+
     /// Does the first piece that is left; where its block has then ended, the next begins that has
-    /// something to do. A body that has ended stays as it is. One that was out of memory never
-    /// ends.
+    /// something to do. Tells whether the body has ended then. One that has ended stays as it is,
+    /// and one that was out of memory never ends.
     #[inline(always)]
-    pub(crate) fn step<T: Touch>(&mut self, touch: &mut T) -> Result<(), AllocError>
+    pub(crate) fn step<T: Touch>(&mut self, touch: &mut T) -> Result<bool, AllocError>
         requires { HasKeys (rights_of self.old) (T.content touch.old) (T.writes touch.old) }
         ensures step { OnOk result (going (stage_of self.new) (T.content touch.new)
             ≡ body_step (rights_of self.old) (going (stage_of self.old) (T.content touch.old))) }
+        ensures ended { IfOk result (λ ended. ended ≡ is_ended (stage_of self.new)) }
         ensures stopped { OnErr result (is_ended (stage_of self.new) ≡ false) }
         ensures rights { rights_of self.new ≡ rights_of self.old }
         ensures keys { OnOk result (HasKeys (rights_of self.new) (T.content touch.new)
@@ -207,11 +227,14 @@ impl<'a> BodyRun<'a> {
         ensures goes_on { T.goes_on touch.old touch.new }
     {
         let Some(run) = &mut self.block else {
-            return Ok(());
+            return Ok(true);
         };
         match run.step(touch)? {
-            Progress::More => Ok(()),
-            Progress::Ended => self.reach_next_block(),
+            Progress::More => Ok(false),
+            Progress::Ended => {
+                self.reach_next_block()?;
+                Ok(self.is_ended())
+            }
         }
     }
 
@@ -261,16 +284,8 @@ impl<'a> BodyRun<'a> {
         ensures stopped { OnErr result (is_ended (stage_of self.new) ≡ false) }
         ensures rights { rights_of self.new ≡ rights_of self.old }
     {
-        let Some(run) = self.block.take() else {
-            return Ok(());
-        };
-        match self.rest.settle(run) {
-            Ok(next) => {
-                // A call drops what stood there: its parts then stand in the proof of that call
-                // alone.
-                drop(mem::replace(&mut self.block, next));
-                Ok(())
-            }
+        match self.rest.settle(&mut self.block) {
+            Ok(()) => Ok(()),
             Err(error) => {
                 self.stop();
                 Err(error)

@@ -1,5 +1,5 @@
 //! Which block of a body is due, and what the body has beside its block under way.
-ghost use Rattle.std.specs.Prelude.{◌≡◌, ◌<◌, [], ◌∷◌, ◌++◌, ◌^◌, length, true, false, Some, OnOk, IfOk, IfSome};
+ghost use Rattle.std.specs.Prelude.{◌≡◌, ◌<◌, [], ◌∷◌, ◌++◌, ◌^◌, length, true, false, Some, None, OnOk, IfOk};
 ghost use Rattle.iso_lifecycle.specs.JobPlaces.{IsPlaced, IsPlaced-prop};
 
 use crate::blocks::{names_of, part, statements};
@@ -45,7 +45,7 @@ impl<'a> Rest<'a> {
     ghost use Rattle.iso_interp.specs.Runs.{local_of, names_before, pieces_of, point_of_run, run_rights};
     ghost use Rattle.iso_model.specs.Rights.{access_in};
     ghost use Rattle.iso_lifecycle.specs.BodyRuns.{settled_with};
-    ghost use Rattle.iso_lifecycle.specs.DueBlocks.{HaveRights, SameChain, account_in, begun_with, beside_in, job_in, jobs_left, stage_with};
+    ghost use Rattle.iso_lifecycle.specs.DueBlocks.{HaveRights, SameChain, account_in, beside_in, job_in, jobs_left, stage_with};
 
     /// Ends a block, of which nothing is left to do.
     fn end_block(&mut self, run: BlockRun<'a>) -> Result<(), AllocError>
@@ -63,26 +63,11 @@ impl<'a> Rest<'a> {
         // Each is put away before out of memory is answered, so that nothing is left over on that
         // way out.
         let ended = self.endings.add(ending);
-        let printed = self.lines.append(output);
+        let printed = put_behind(&mut self.lines, output);
         self.printed = names.printed();
         put_before(self.alloc, &mut self.names, names.into_bindings())?;
         printed?;
         ended
-    }
-
-    /// Ends a block of which nothing is left to do, and answers any other.
-    fn end_block_if_done(&mut self, run: BlockRun<'a>) -> Result<Option<BlockRun<'a>>, AllocError>
-        ensures stage { IfOk result (λ block. begun_with block self.new
-            ≡ settled_with (Some run.entry) self.old) }
-        ensures same { IfOk result (λ block. IfSome block (λ left. left ≡ run.entry)) }
-        ensures chain { SameChain self.old self.new }
-        ensures next { self.new.next ≡ self.old.next }
-    {
-        if !run.is_ended() {
-            return Ok(Some(run));
-        }
-        self.end_block(run)?;
-        Ok(None)
     }
 
     /// The environment of a job's block, which takes the names that it sees.
@@ -101,23 +86,15 @@ impl<'a> Rest<'a> {
         Ok(Names::new(bindings, self.printed, job.words()))
     }
 
-    /// Begins the block of a job.
-    fn begin_block(&mut self, job: Job) -> Result<BlockRun<'a>, AllocError>
-        requires { IsPlaced (length self.old.classes.now) (Some job) }
-        ensures point { IfOk result (λ run. point_of_run run
-            ≡ first_point (job_in self.old job).acts
-            (job_environment (job_in self.old job) (account_in self.old))) }
-        ensures names { IfOk result (λ run. names_before run
-            ≡ length (job_environment (job_in self.old job) (account_in self.old)).names) }
-        ensures rights { IfOk result (λ run. run_rights run ≡ access_in self.old.rights.now) }
-        ensures beside { OnOk result (beside_in self.new
-            ≡ beside_job (job_in self.old job) (account_in self.old)) }
-        ensures chain { SameChain self.old self.new }
-        ensures next { self.new.next ≡ self.old.next }
+    /// A run of a job's block at its beginning, which sees these names.
+    fn run_of(&self, job: Job, names: Names) -> BlockRun<'a>
+        requires { IsPlaced (length self.now.classes.now) (Some job) }
+        ensures point { point_of_run result ≡ first_point (job_in self.now job).acts names }
+        ensures names { names_before result ≡ length names.names }
+        ensures rights { run_rights result ≡ access_in self.now.rights.now }
     {
-        let names = self.environment(job)?;
         let block = statements(self.classes, self.test.statements(), job);
-        Ok(BlockRun::new(self.alloc, block, names, self.rights))
+        BlockRun::new(self.alloc, block, names, self.rights)
     }
 
     /// A block that does nothing, in place of one that is left: as long as it stands there the body
@@ -185,59 +162,91 @@ impl<'a> Rest<'a> {
         Ok(true)
     }
 
-    /// Begins the next job, which is due and has statements.
-    fn begin(&mut self, job: Job) -> Result<BlockRun<'a>, AllocError>
+    /// Begins the next job, which is due and has statements, in the place of no block.
+    fn begin(&mut self, job: Job, block: &mut Option<BlockRun<'a>>) -> Result<(), AllocError>
         requires next { self.old.next ≡ Some job }
         requires due { is_due (job_in self.old job) (account_in self.old).endings ≡ true }
         requires some { is_empty (job_in self.old job).acts ≡ false }
-        ensures begun { IfOk result (λ run. stage_with (Some run) self.new
+        requires none { block.old ≡ None }
+        ensures begun { OnOk result (stage_with block.new self.new
             ≡ stage_from (jobs_left self.old) (account_in self.old)) }
-        ensures rights { IfOk result (λ run. HaveRights (Some run) self.old) }
+        ensures rights { HaveRights block.new self.old }
         ensures chain { SameChain self.old self.new }
     {
         self.next = job.after(self.classes.len());
-        let run = self.begin_block(job)?;
-        Ok(run)
+        let names = self.environment(job)?;
+        let run = self.run_of(job, names);
+        put(block, run);
+        Ok(())
     }
 
-    /// Begins the next block that has something to do, if there is one.
+    /// Begins the next block that has something to do, if there is one, in the place of none. Once
+    /// out of memory there is still none.
     #[tactic(auto, using(crate::proofs::WorkLemmas::shorter))]
-    pub(crate) fn follow(&mut self) -> Result<Option<BlockRun<'a>>, AllocError>
-        ensures stage { IfOk result (λ run. stage_with run self.new
+    pub(crate) fn follow(&mut self, block: &mut Option<BlockRun<'a>>) -> Result<(), AllocError>
+        requires { block.old ≡ None }
+        ensures stage { OnOk result (stage_with block.new self.new
             ≡ stage_from (jobs_left self.old) (account_in self.old)) }
-        ensures rights { IfOk result (λ run. HaveRights run self.old) }
+        ensures rights { HaveRights block.new self.old }
         ensures chain { SameChain self.old self.new }
     {
         while let Some(job) = self.next {
             let passed = self.pass(job)?;
             if !passed {
-                let run = self.begin(job)?;
-                return Ok(Some(run));
+                return self.begin(job, block);
             }
         }
-        Ok(None)
+        Ok(())
     }
 
-    /// Goes on with a block, or where nothing is left of it with the next that has something to do,
-    /// if there is one.
-    pub(crate) fn settle(&mut self, run: BlockRun<'a>) -> Result<Option<BlockRun<'a>>, AllocError>
-        requires { run_rights run ≡ access_in self.old.rights.now }
-        ensures stage { IfOk result (λ block. stage_with block self.new
-            ≡ settled_with (Some run.entry) self.old) }
-        ensures rights { IfOk result (λ block. HaveRights block self.old) }
+    /// Where nothing is left of a block, ends it, and begins the next that has something to do, if
+    /// there is one.
+    pub(crate) fn settle(&mut self, block: &mut Option<BlockRun<'a>>) -> Result<(), AllocError>
+        requires { HaveRights block.old self.old }
+        ensures stage { OnOk result (stage_with block.new self.new
+            ≡ settled_with block.old self.old) }
+        ensures rights { HaveRights block.new self.old }
         ensures chain { SameChain self.old self.new }
     {
-        match self.end_block_if_done(run)? {
-            Some(run) => Ok(Some(run)),
-            None => self.follow(),
+        match block {
+            Some(run) if run.is_ended() => {}
+            _ => return Ok(()),
         }
+        let Some(run) = block.take() else {
+            return Ok(());
+        };
+        self.end_block(run)?;
+        self.follow(block)
     }
 }
 
-/// Puts names before others.
+/// Puts a run in the place of none, in which it is not moved again.
+fn put<'a>(block: &mut Option<BlockRun<'a>>, run: BlockRun<'a>)
+    requires { block.old ≡ None }
+    ensures { block.new ≡ Some run.entry }
+{
+    *block = Some(run);
+}
+
+/// Puts lines behind others. Where there are none yet, as in most bodies, they are not copied.
+fn put_behind(lines: &mut Lines, more: Lines) -> Result<(), AllocError>
+    ensures { OnOk result (lines.new ≡ lines.old ++ more) }
+{
+    if lines.as_slice().is_empty() {
+        *lines = more;
+        return Ok(());
+    }
+    lines.append(more)
+}
+
+/// Puts names before others. Where there are none, as in most bodies, none is moved.
 fn put_before(alloc: Global, names: &mut Bindings, first: Bindings) -> Result<(), AllocError>
     ensures { OnOk result (names.new ≡ first ++ names.old) }
 {
     let behind = mem::replace(names, first);
+    if behind.len() == 0 {
+        drop(behind);
+        return Ok(());
+    }
     names.append(alloc, behind)
 }

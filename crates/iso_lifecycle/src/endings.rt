@@ -44,6 +44,7 @@ impl Endings {
     }
 
     /// Adds an ending. Memory is taken where one that isn't Well is among them then.
+    #[inline(always)]
     pub fn add(&mut self, ending: Ending) -> Result<(), AllocError>
         ensures ok { OnOk result (self.new ≡ self.old ++ ending ∷ []) }
         ensures err { OnErr result (self.new ≡ self.old) }
@@ -89,6 +90,7 @@ impl Endings {
 }
 
 /// Adds an ending to those from the first on that isn't Well.
+#[inline(never)]
 fn add_other(others: &mut Vec<Ending>, ending: Ending) -> Result<(), AllocError>
     requires first { vec_len others.old ≡ 0 → is_well ending ≡ false }
     ensures ok { OnOk result (others.new.items ≡ others.old.items ++ ending ∷ []) }

@@ -21,28 +21,27 @@ impl Entry {
     pub(crate) fn put(&mut self, what: What)
         ensures { self.new ≡ entry_with what self.old }
     {
-        let before = mem::replace(self, Entry::Empty);
-        drop(mem::replace(self, before.with(what)));
-    }
-
-    /// Another entry in its place.
-    fn replaced(self, by: Entry) -> Entry
-        ensures { result ≡ by }
-    {
-        // A call drops the entry: the variants then stand in the proof of that call alone.
-        drop(self);
-        by
-    }
-
-    /// The entry with what a body of the node came to.
-    fn with(self, what: What) -> Entry
-        ensures { result ≡ entry_with what self }
-    {
         match what {
-            What::Tested(outcome) => self.replaced(Entry::Tested(outcome)),
-            What::Opened(opened) => self.replaced(Entry::Opened(opened)),
-            What::Closed(closed) => self.closed(closed),
+            What::Tested(outcome) => self.set(Entry::Tested(outcome)),
+            What::Opened(opened) => self.set(Entry::Opened(opened)),
+            What::Closed(closed) => self.close(closed),
         }
+    }
+
+    /// Puts another entry in its place.
+    fn set(&mut self, by: Entry)
+        ensures { self.new ≡ by }
+    {
+        // A call drops what stood there: the variants then stand in the proof of that call alone.
+        *self = by;
+    }
+
+    /// Puts what the `after_all` of an opened class came to. No other entry changes.
+    fn close(&mut self, closed: Closed)
+        ensures { self.new ≡ entry_closed closed self.old }
+    {
+        let before = mem::replace(self, Entry::Empty);
+        self.set(before.closed(closed));
     }
 
     /// The entry of an opened class with what its `after_all` came to. No other entry changes.

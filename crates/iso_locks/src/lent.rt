@@ -87,6 +87,7 @@ impl<'a> LentNodes<'a> {
         ensures { self.new ≡ holding node self.old }
     {
         laws::nodes_are_a_tree(self.plan);
+        laws::nodes_are_few(self.plan);
         self.lent.hold(node);
         if let Some(locker) = self.plan.locking_node(node) {
             self.lockers.add(locker);

@@ -1,5 +1,6 @@
 //! The locking nodes of the nodes that are lent.
 ghost use Rattle.std.specs.Prelude.{◌≡◌, ◌<◌, ◌≤◌, IfOk, length};
+ghost use Rattle.iso_model.specs.declared.limits.TheConstants.{NODES};
 ghost use Rattle.iso_locks.specs.Lockers.{is_kept_out, no_lockers, one_less, one_more, under_it};
 
 use iso_plan::held_nodes::HeldNodes;
@@ -13,7 +14,8 @@ use std::marker::Model;
 #[derive(Drop)]
 pub(crate) struct Lockers<'a> {
     nodes: HeldNodes<'a>,
-    under: Vec<usize>,
+    // Of 16 bits: each worker has such a table over all nodes.
+    under: Vec<u16>,
 }
 
 impl<'a> Model for Lockers<'a> {
@@ -43,6 +45,7 @@ impl<'a> Lockers<'a> {
     pub(crate) fn add(&mut self, locker: u32)
         requires node { locker < length self.old.plan.rows }
         requires few { under_it self.old.under locker ≤ length self.old.plan.rows }
+        requires limit { length self.old.plan.rows ≤ NODES }
         ensures { self.new ≡ one_more locker self.old }
     {
         self.under[locker as usize] += 1;

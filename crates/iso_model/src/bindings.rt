@@ -100,7 +100,7 @@ impl Bindings {
 
     /// The name at a place, where it isn't shared.
     #[inline(always)]
-    pub fn own_at(&self, place: usize) -> Option<LentBinding<'_>>
+    pub(crate) fn own_at(&self, place: usize) -> Option<LentBinding<'_>>
         ensures { IfSome result (λ b. slice_get self.now place ≡ Some (lent b)) }
     {
         if place < self.outer {

@@ -1,4 +1,4 @@
-ghost use Rattle.std.specs.Prelude.{◌≡◌, ◌∷◌, ◌++◌, [], length, take, option_map, nat_le, IfOk, OnOk, OnErr, ◌+◌};
+ghost use Rattle.std.specs.Prelude.{◌≡◌, ◌∷◌, ◌++◌, [], length, take, option_map, nat_le, IfOk, IfSome, OnOk, OnErr, ◌+◌};
 ghost use Rattle.std.specs.Bool.{OnTrue, OnFalse};
 ghost use Rattle.iso_model.specs.declared.names.Sort.TheVariants.{Local};
 ghost use Rattle.iso_model.specs.Names.{bound, binding_of, assigned, assignment, is_frozen, lent, place_of};
@@ -131,17 +131,21 @@ impl Names {
     pub fn get(&self, name: &str) -> Option<LentBinding<'_>>
         ensures { option_map lent result ≡ binding_of self.now.names name.now }
     {
-        self.bindings.at(self.place_of(name))
+        match self.recent_place(name) {
+            Some(place) => self.bindings.at(place),
+            None => self.bindings.at(self.bindings.place_of(name)),
+        }
     }
 
-    /// Where a name stands first, or the number of names.
+    /// Where a name stands first, if it's the name that was assigned last. Callers go on by an arm
+    /// of its own for it, where all is known already that is asked of a place.
     #[inline(always)]
-    fn place_of(&self, name: &str) -> usize
-        ensures { result ≡ place_of self.now.names name.now }
+    fn recent_place(&self, name: &str) -> Option<usize>
+        ensures { IfSome result (λ place. place ≡ place_of self.now.names name.now) }
     {
         match self.bindings.own_at(self.recent) {
-            Some(binding) if name == binding.name => self.recent,
-            _ => self.bindings.place_of(name),
+            Some(binding) if name == binding.name => Some(self.recent),
+            _ => None,
         }
     }
 
@@ -182,6 +186,7 @@ impl Names {
     /// Gives a visible name another value, which may be of another kind. `UnknownName` where it
     /// isn't visible, before `Frozen` where it may not be assigned. Memory is taken for a shared
     /// name alone.
+    #[inline(always)]
     pub fn assign(&mut self, name: &str, value: Data) -> Result<Result<(), AssignFault>, AllocError>
         ensures answer { IfOk result (λ answer. assigned self.old.names name.now value
             ≡ assignment answer name.now self.new.names) }
@@ -189,7 +194,30 @@ impl Names {
         ensures fault { IfOk result (λ answer. OnErr answer (self.new ≡ self.old)) }
         ensures err { OnErr result (self.new ≡ self.old) }
     {
-        let place = self.place_of(name);
+        match self.recent_place(name) {
+            Some(place) => self.assign_at(place, name, value),
+            None => {
+                let place = self.bindings.place_of(name);
+                self.assign_at(place, name, value)
+            }
+        }
+    }
+
+    /// Gives the name that stands first at a place another value.
+    #[inline(always)]
+    fn assign_at(
+        &mut self,
+        place: usize,
+        name: &str,
+        value: Data,
+    ) -> Result<Result<(), AssignFault>, AllocError>
+        requires { place ≡ place_of self.old.names name.now }
+        ensures answer { IfOk result (λ answer. assigned self.old.names name.now value
+            ≡ assignment answer name.now self.new.names) }
+        ensures rest { self.new ≡ record self.old { names = self.new.names } }
+        ensures fault { IfOk result (λ answer. OnErr answer (self.new ≡ self.old)) }
+        ensures err { OnErr result (self.new ≡ self.old) }
+    {
         let Some(binding) = self.bindings.at(place) else {
             return Ok(Err(AssignFault::UnknownName));
         };

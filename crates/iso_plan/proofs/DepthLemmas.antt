@@ -9,13 +9,13 @@ use Rattle.std.specs.declared.sync.Arc.{Arc}
 use Rattle.std.specs.declared.vec.Vec.{Vec}
 use Rattle.std.specs.Arc.{arc_value}
 use Rattle.iso_model.specs.Chains as C
-use Rattle.iso_model.specs.ChainView.{innermost_first}
 use Rattle.iso_model.specs.ScriptView.{class_head_of}
 use Rattle.iso_model.specs.declared.heads.ClassHead.{ClassHead}
 use Rattle.iso_plan.proofs.ColumnLemmas.{column-read, length-column}
 use Rattle.iso_plan.proofs.PathLemmas.{along, chain-step, path-root, path-step}
 use Rattle.iso_plan.specs.NodeChains.{chain_classes, class_heads, depth, heads_on, largest}
 use Rattle.iso_plan.specs.Paths.{IsTree, column, is_class_or_test, is_test, parent, path, row_at}
+use Rattle.iso_plan.specs.RowView.{heads_in}
 use Rattle.iso_plan.specs.Tree.{Kind, root, class_node, test_node, Row, root_row}
 
 root-chain : (tree : List Row) → chain_classes tree 0 ≡ []
@@ -63,17 +63,14 @@ pub path-within : (tree : List Row) → IsTree tree → (n : ℕ) → n < length
 path-within tree t n h c = rw (chain-path tree t n h c) (chain-within tree t n)
 
 -- how many classes chains have
-abbrev pub counts : List (Vec (Arc ClassHead Global) Global) → List ℕ
-counts chains = map (λ c. length c.items) chains
+abbrev pub counts : List (Arc (Vec (Arc ClassHead Global) Global) Global) → List ℕ
+counts chains = map (λ (c : Arc (Vec (Arc ClassHead Global) Global) Global). length (arc_value c).items) chains
 
-abbrev heads : Vec (Arc ClassHead Global) Global → List C.ClassHead
-heads c = innermost_first c.items
-
-counts-heads : (chains : List (Vec (Arc ClassHead Global) Global)) → counts chains ≡ map (λ hs. length hs) (map heads chains)
+counts-heads : (chains : List (Arc (Vec (Arc ClassHead Global) Global) Global)) → counts chains ≡ map (λ hs. length hs) (map heads_in chains)
 counts-heads [] = refl
 counts-heads (c ∷ cs) =
     let of : Arc ClassHead Global → C.ClassHead = λ h. class_head_of (arc_value h) in
-    let own : length (heads c) ≡ length c.items = length-reverse (map of c.items) ∙ length-map c.items of in
+    let own : length (heads_in c) ≡ length (arc_value c).items = length-reverse (map of (arc_value c).items) ∙ length-map (arc_value c).items of in
     ap₂ (λ n ns. n ∷ ns) (sym own) (counts-heads cs)
 
 map-column : {A B : Type 0} (g : A → B) (f : ℕ → A) (n : ℕ) → map g (column f n) ≡ column (λ m. g (f m)) n
@@ -81,7 +78,8 @@ map-column g f zero = refl
 map-column g f (suc n) = map-append g (column f n) (f n ∷ []) ∙ ap (λ xs. xs ++ g (f n) ∷ []) (map-column g f n)
 
 -- the largest count of the chains of all nodes is the depth
-pub depth-is : (tree : List Row) (chains : List (Vec (Arc ClassHead Global) Global)) → map heads chains ≡ column (chain_classes tree) (length tree) → largest (counts chains) ≡ depth tree
+pub depth-is : (tree : List Row) (chains : List (Arc (Vec (Arc ClassHead Global) Global) Global)) → map heads_in chains ≡ column (chain_classes tree) (length tree)
+    → largest (counts chains) ≡ depth tree
 depth-is tree chains e =
     ap largest (counts-heads chains ∙ ap (map (λ hs. length hs)) e ∙ map-column (λ hs. length hs) (chain_classes tree) (length tree))
 

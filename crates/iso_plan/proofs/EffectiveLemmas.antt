@@ -1,13 +1,14 @@
 -- Nodes that get their effective marks one after another.
-use Rattle.std.proofs.Common.{◌≡◌, ℕ, zero, suc, ◌+◌, ◌<◌, ◌≤◌, List, [], ◌∷◌, ◌++◌, length, map, filter, set, Bool, true, false, cond, nat_lt, ◌==◌, refl, sym, ap, ◌∙◌, arith}
+use Rattle.std.proofs.Common.{◌≡◌, ℕ, zero, suc, ◌+◌, ◌<◌, ◌≤◌, List, [], ◌∷◌, ◌++◌, length, map, filter, set, Bool, true, false, cond, nat_lt, ◌==◌, refl, sym, subst, ap, ◌∙◌, arith}
 use Rattle.std.proofs.lemmas.Bool.Decides.{nat_tests}
-use Rattle.std.proofs.lemmas.List.{get_or-map, get_or-set_same, get_or-set_other, get_or_default, length-map, length-set, same_lists}
+use Rattle.std.proofs.lemmas.List.{get_or-map, get_or-set_same, get_or-set_other, get_or_default, length-map, length-set, same_lists, set-get_or}
 use Rattle.iso_model.specs.Targets.{effective, for_itself, is_target, marks_for}
 use Rattle.iso_model.specs.declared.heads.Mark.{Mark}
 use Rattle.iso_model.specs.declared.heads.Target.{Target}
 use Rattle.iso_plan.proofs.PathLemmas.{eq_from, eq_same}
+use Rattle.iso_plan.specs.KeyTable.{kind_marks}
 use Rattle.iso_plan.specs.Paths.{StandEarlier, parent, row_at}
-use Rattle.iso_plan.specs.Tree.{Kind, Row, root_row, effective_row, with_marks}
+use Rattle.iso_plan.specs.Tree.{Kind, root, class_node, test_node, Row, root_row, effective_row, with_marks}
 
 -- of one list of marks after another
 pub marks_for-next : (t : Target) (m : Mark) (ms : List Mark) → marks_for t (m ∷ ms) ≡ marks_for t (m ∷ []) ++ marks_for t ms
@@ -72,6 +73,19 @@ next-effective old new n k r p s less is kind =
           ] refl;
       rest = λ m past. get_or-set_other new n m (record r { kind = k }) root_row (λ same. absurd (omega arith)) ∙ p.rest m (omega arith);
     }
+
+without_marks : (k : Kind) → kind_marks k ≡ [] → with_marks [] k ≡ k
+without_marks root e = refl
+without_marks (class_node isolated head) e = λ i. class_node isolated (record head { marks = sym e i })
+without_marks (test_node head) e = λ i. test_node (record head { marks = sym e i })
+
+-- one that has no marks and gets none
+pub bare-effective : (old new : List Row) (n : ℕ) → IsPartly old new n → StandEarlier old → n < length old → effective (row_at new (parent new n)).written (row_at new n).written ≡ []
+    → kind_marks (row_at new n).kind ≡ [] → IsPartly old new (n + 1)
+bare-effective old new n p s less none bare =
+    let r = row_at new n in
+    let kind : r.kind ≡ with_marks (effective (row_at new r.parent).written r.written) r.kind = sym (ap (λ (ms : List Mark). with_marks ms r.kind) none ∙ without_marks r.kind bare) in
+    subst (λ (rows : List Row). IsPartly old rows (n + 1)) (set-get_or new n root_row) (next-effective old new n r.kind r p s less refl kind)
 
 -- all nodes
 pub all-effective : (old new : List Row) (n : ℕ) → IsPartly old new n → length old ≤ n → new ≡ map (effective_row old) old

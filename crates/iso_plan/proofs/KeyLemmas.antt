@@ -2,7 +2,7 @@
 use Rattle.std.proofs.Common.{◌≡◌, ℕ, zero, suc, ◌+◌, ◌<◌, ◌≤◌, List, [], ◌∷◌, ◌++◌, Option, Some, None, Bool, true, false, ◌==◌, Bor, cond, length, map, get_or, not, nat_lt, refl, sym, ap, ap₂, ◌∙◌, arith, bytes_eq}
 use Rattle.std.proofs.lemmas.Bool.Decides.{nat_tests}
 use Rattle.std.proofs.lemmas.Cmp.{nat_list_eq_equiv}
-use Rattle.std.proofs.lemmas.List.{length-map}
+use Rattle.std.proofs.lemmas.List.{get_or-map, length-map}
 use Rattle.std.proofs.lemmas.List.Quantifiers.{position-Some}
 use Rattle.std.proofs.lemmas.List.Sums.{fails_before_first}
 use Rattle.std.proofs.lemmas.Map.Keys.{IsDistinct-push, apart_from_distinct}
@@ -96,7 +96,17 @@ number_by xs key None e d i h =
     let none : length xs ≤ position_or_len (bytes_eq key) xs = past (position_or_len (bytes_eq key) xs) (length xs) (nat_lt (position_or_len (bytes_eq key) xs) (length xs)) refl e in
     nat_list_eq_equiv.symm (get_or xs i []) key ∙ fails_before_first (bytes_eq key) xs i [] (omega arith)
 
--- the place of a key is its number
+-- the place of a key is its number, guessed or found
+pub guessed-is : (known ks : List (Bor (List ℕ))) (key : List ℕ) (j : ℕ) (d : Bor (List ℕ)) → known ≡ ks → j < length known → true ≡ bytes_eq (get_or known j d).now key
+    → IsDistinct bytes_eq (map (λ (x : Bor (List ℕ)). x.now) ks) → (i : ℕ) → i < length ks → bytes_eq (get_or (map (λ (x : Bor (List ℕ)). x.now) ks) i []) key ≡ is_that (Some j) i
+guessed-is known ks key j d e within same distinct i h =
+    let text : Bor (List ℕ) → List ℕ = λ x. x.now in
+    let there : j < length ks = omega (arith, ap length e) in
+    let own : (get_or ks j d).now ≡ key = (bytes_decides (get_or ks j d).now key).0 (sym (same ∙ ap (λ (xs : List (Bor (List ℕ))). bytes_eq (get_or xs j d).now key) e)) in
+    let here : get_or (map text ks) j [] ≡ key = get_or-map text ks j d [] there ∙ own in
+    let count : length (map text ks) ≡ length ks = length-map ks text in
+    ap (bytes_eq (get_or (map text ks) i [])) (sym here) ∙ distinct-at (map text ks) i j distinct (omega arith) (omega arith)
+
 pub number-is : (ks : List (Bor (List ℕ))) (key : List ℕ) (o : Option ℕ) → o ≡ position (λ (x : Bor (List ℕ)). bytes_eq key x.now) ks
     → IsDistinct bytes_eq (map (λ (x : Bor (List ℕ)). x.now) ks) → (i : ℕ) → i < length ks → bytes_eq (get_or (map (λ (x : Bor (List ℕ)). x.now) ks) i []) key ≡ is_that o i
 number-is ks key o e d i h =

@@ -52,11 +52,26 @@ rights-step tree t n k pos =
     ∙ rights_by (row_at tree n).kind (chain_classes tree (parent tree n)) k
     ∙ ap (strongest (declared tree n k)) (sym (parent_rights tree t n k pos))
 
+-- two children of one class with the same marks have the same rights
+pub rights-alike : (tree : List Row) → IsTree tree → (m n : ℕ) (k : List ℕ) → 0 < m → 0 < n → parent tree m ≡ parent tree n
+    → kind_marks (row_at tree m).kind ≡ kind_marks (row_at tree n).kind → node_rights tree m k ≡ node_rights tree n k
+rights-alike tree t m n k low high class marks =
+    rights-step tree t m k low ∙ ap₂ (λ (ms : List Mark) (p : ℕ). strongest (rights_of ms k) (node_rights tree p k)) marks class ∙ sym (rights-step tree t n k high)
+
+-- a child's, from those of its class
+pub rights-below : (tree : List Row) → IsTree tree → (n : ℕ) (k : List ℕ) (ms : List Mark) (own above : Option Access) → 0 < n → ms ≡ kind_marks (row_at tree n).kind
+    → above ≡ node_rights tree (parent tree n) k → own ≡ strongest (rights_of ms k) above → own ≡ node_rights tree n k
+rights-below tree t n k ms own above pos marks class e = e ∙ ap₂ (λ (ns : List Mark) (r : Option Access). strongest (rights_of ns k) r) marks class ∙ sym (rights-step tree t n k pos)
+
+pub root-rights : (tree : List Row) → IsTree tree → (k : List ℕ) → node_rights tree 0 k ≡ None
+root-rights tree t k =
+    ap (λ (r : Row). rights_with r.kind (chain_classes tree 0) k) t.root_is
+    ∙ ap (λ (ns : List ℕ). rights_of (marks_of (heads_on tree ns)) k) (path-root tree)
+
 -- the root has none
 pub root-unreadable : (tree : List Row) → IsTree tree → (k : List ℕ) → is_readable (node_rights tree 0 k) ≡ false
 root-unreadable tree t k =
-    ap (λ (r : Row). is_readable (rights_with r.kind (chain_classes tree 0) k)) t.root_is
-    ∙ ap (λ (ns : List ℕ). is_readable (rights_of (marks_of (heads_on tree ns)) k)) (path-root tree)
+    ap is_readable (root-rights tree t k)
 
 readable_more : (a b : Option Access) → is_readable b ≡ true → is_readable (strongest a b) ≡ true
 readable_more None b h = h

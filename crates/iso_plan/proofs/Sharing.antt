@@ -66,6 +66,7 @@ ruleset parts = (
   marks.the_sync,
   variables.the_send,
   variables.the_sync,
+  rights.the_send,
   rights.the_sync,
   key_map.the_sync,
   mode.the_sync,

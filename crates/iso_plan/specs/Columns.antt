@@ -1,18 +1,14 @@
 -- The columns that are made of rows before a plan is: what its invariant asks for.
 use Rattle.std.specs.Prelude.{◌≡◌, ℕ, List, length, map}
 use Rattle.std.specs.declared.alloc.Global.{Global}
-use Rattle.std.specs.declared.sync.Arc.{Arc}
 use Rattle.std.specs.declared.vec.Vec.{Vec}
-use Rattle.iso_model.specs.ChainView.{innermost_first}
-use Rattle.iso_model.specs.Rights.{access_in}
-use Rattle.iso_model.specs.declared.heads.ClassHead.{ClassHead}
 use Rattle.iso_plan.specs.KeyNumbers.{AreNumbers}
 use Rattle.iso_plan.specs.KeyTable.{keys}
 use Rattle.iso_plan.specs.Locks.{locking_node, locks}
 use Rattle.iso_plan.specs.Modes.{mode}
 use Rattle.iso_plan.specs.NodeChains.{chain_classes, node_rights}
 use Rattle.iso_plan.specs.Paths.{children, column}
-use Rattle.iso_plan.specs.RowView.{nodes_in}
+use Rattle.iso_plan.specs.RowView.{heads_in, nodes_in, rights_in}
 use Rattle.iso_plan.specs.declared.columns.Chained.{Chained}
 use Rattle.iso_plan.specs.declared.columns.Keyed.{Keyed}
 use Rattle.iso_plan.specs.declared.columns.Locked.{Locked}
@@ -24,9 +20,9 @@ use Rattle.iso_settings.specs.declared.settings.Settings.{Settings}
 pub record IsChained (rows : List Row) (c : Chained) : Type 0 where
   pub children_are : map (λ (v : Vec ℕ Global). v.items) c.children.items
       ≡ column (children (nodes_in rows)) (length rows)
-  pub chains_are : map (λ (v : Vec (Arc ClassHead Global) Global). innermost_first v.items)
-      c.chains.items ≡ column (chain_classes (nodes_in rows)) (length rows)
-  pub rights_are : map access_in c.rights.items ≡ column (node_rights (nodes_in rows)) (length rows)
+  pub chains_are : map heads_in c.chains.items
+      ≡ column (chain_classes (nodes_in rows)) (length rows)
+  pub rights_are : map rights_in c.rights.items ≡ column (node_rights (nodes_in rows)) (length rows)
 
 -- their locking nodes and locks
 pub record IsLocked (rows : List Row) (l : Locked) : Type 0 where

@@ -1,8 +1,17 @@
--- What the rows of a plan stand for.
-use Rattle.std.specs.Prelude.{List, map}
+-- What the rows of a plan stand for, and the lists that its nodes share.
+use Rattle.std.specs.Prelude.{List, map, unwrap_or}
 use Rattle.std.specs.Arc.{arc_value}
+use Rattle.std.specs.declared.alloc.Global.{Global}
+use Rattle.std.specs.declared.sync.Arc.{Arc}
+use Rattle.std.specs.declared.vec.Vec.{Vec}
+use Rattle.iso_model.specs.ChainView.{innermost_first}
+use Rattle.iso_model.specs.Chains as C
+use Rattle.iso_model.specs.Rights as R
+use Rattle.iso_model.specs.Rights.{access_in}
 use Rattle.iso_model.specs.ScriptView.{class_head_of, test_head_of}
 use Rattle.iso_model.specs.Scripts.{ClassTitle}
+use Rattle.iso_model.specs.declared.heads.ClassHead.{ClassHead}
+use Rattle.iso_model.specs.declared.rights.Rights.{Rights}
 use Rattle.iso_model.specs.declared.script.Class.{Class as ScriptClass}
 use Rattle.iso_plan.specs.Planned.{Planned}
 use Rattle.iso_plan.specs.Tree as T
@@ -23,7 +32,7 @@ row_of r = record {
   kind = kind_of r.kind;
   written = r.written.items;
   name = r.name;
-  title = r.title;
+  title = unwrap_or r.display r.name;
   mode = r.mode;
 }
 
@@ -44,3 +53,11 @@ title_of c = record {
   isolated = c.isolated;
   head = class_head_of (arc_value c.head);
 }
+
+-- the heads of a shared class chain, innermost first
+abbrev pub heads_in : Arc (Vec (Arc ClassHead Global) Global) Global → List C.ClassHead
+heads_in chain = innermost_first (arc_value chain).items
+
+-- the access rights that shared ones give
+abbrev pub rights_in : Arc Rights Global → R.Rights
+rights_in rights = access_in (arc_value rights)

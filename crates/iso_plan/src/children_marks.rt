@@ -10,7 +10,8 @@ use iso_model::heads::{ClassHead, Mark, Target, TestHead};
 use std::alloc::{AllocError, Global};
 use std::sync::Arc;
 
-/// Gives each node its effective marks, where the nodes have those that are written on them.
+/// Gives each node its effective marks, where the nodes have those that are written on them. What
+/// has no marks and gets none stays as it is.
 pub(crate) fn make_effective(alloc: Global, rows: &mut Vec<Row>) -> Result<(), AllocError>
     requires { StandEarlier (nodes_in rows.old.items) }
     ensures { OnOk result (nodes_in rows.new.items
@@ -18,27 +19,23 @@ pub(crate) fn make_effective(alloc: Global, rows: &mut Vec<Row>) -> Result<(), A
 {
     'nodes: for n in 0..rows.len() {
         let above = rows[n].parent as usize;
-        let kind = effective_kind(alloc, &rows[n].kind, &rows[above].written, &rows[n].written)?;
+        let marks = effective(alloc, &rows[above].written, &rows[n].written)?;
+        if marks.is_empty() && rows[n].kind.marks().is_empty() {
+            continue;
+        }
+        let kind = with_marks(alloc, &rows[n].kind, marks)?;
         rows[n].kind = kind;
     }
     Ok(())
 }
 
-/// A node of this kind with its effective marks, where `above` is written on its parent and
-/// `written` on itself.
-fn effective_kind(
-    alloc: Global,
-    kind: &Kind,
-    above: &[Mark],
-    written: &[Mark],
-) -> Result<Kind, AllocError>
-    ensures { IfOk result (λ k. kind_of k
-        ≡ with_marks (effective above.now written.now) (kind_of kind.now)) }
+/// A node of this kind with these marks.
+fn with_marks(alloc: Global, kind: &Kind, marks: Vec<Mark>) -> Result<Kind, AllocError>
+    ensures { IfOk result (λ k. kind_of k ≡ with_marks marks.items (kind_of kind.now)) }
 {
     match kind {
         Kind::Root => Ok(Kind::Root),
         Kind::Class { isolated, head } => {
-            let marks = effective(alloc, above, written)?;
             let contents = head.contents.clone()?;
             let head = Arc::new(alloc, ClassHead { marks, contents })?;
             Ok(Kind::Class {
@@ -47,7 +44,6 @@ fn effective_kind(
             })
         }
         Kind::Test { head } => {
-            let marks = effective(alloc, above, written)?;
             let contents = head.contents.clone()?;
             let head = Arc::new(alloc, TestHead { marks, contents })?;
             Ok(Kind::Test { head })

@@ -32,8 +32,8 @@ use std::sync::Arc;
 #[derive(Drop)]
 pub(crate) struct Chained {
     pub children: Vec<Vec<u32>>,
-    pub chains: Vec<Vec<Arc<ClassHead>>>,
-    pub rights: Vec<Rights>,
+    pub chains: Vec<Arc<Vec<Arc<ClassHead>>>>,
+    pub rights: Vec<Arc<Rights>>,
 }
 
 /// What the nodes of a plan lock.

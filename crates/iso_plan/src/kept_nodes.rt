@@ -169,6 +169,8 @@ fn those_of(alloc: Global, rows: Vec<Row>, kept: &[bool]) -> Result<Vec<Row>, Al
         numbers.push(left.len() as u32)?;
         if is_kept {
             left.push(renumbered(row, &numbers))?;
+        } else {
+            drop(row);
         }
     }
     Ok(left)

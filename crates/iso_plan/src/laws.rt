@@ -7,6 +7,7 @@ ghost use Rattle.iso_model.specs.ScriptView.{script_of};
 ghost use Rattle.iso_model.specs.Targets.{marks_for};
 ghost use Rattle.iso_model.specs.declared.heads.Mark.{Mark};
 ghost use Rattle.iso_model.specs.declared.heads.Target.{Target};
+ghost use Rattle.iso_model.specs.declared.limits.TheConstants.{NODES};
 ghost use Rattle.iso_model.specs.declared.script.Mode.TheVariants.{SameThread};
 ghost use Rattle.iso_plan.specs.Children.{IsChild, IsListed};
 ghost use Rattle.iso_plan.specs.Covers.{IsCovered};
@@ -35,6 +36,13 @@ pub fn nodes_are_a_tree(plan: &Plan)
     ensures { IsTree (tree_of plan.now) }
 {
     plan.hold_a_tree();
+}
+
+/// There are no more nodes than a plan may have.
+pub fn nodes_are_few(plan: &Plan)
+    ensures { length plan.now.rows ≤ NODES }
+{
+    plan.hold_few_nodes();
 }
 
 /// The nodes stand in preorder: a node's descendants follow it without a gap.

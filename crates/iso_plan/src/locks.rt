@@ -1,6 +1,6 @@
 //! The locks of each node: what is marked on it and below it, gathered where it is the locking
 //! node.
-ghost use Rattle.std.specs.Prelude.{◌≡◌, ◌<◌, ◌≤◌, ◌+◌, ◌&&◌, ℕ, None, Some, [], IfOk, IfSome, ◌||◌, cond, length, map, not, replicate, slice_index_or, bytes_eq};
+ghost use Rattle.std.specs.Prelude.{◌≡◌, ◌<◌, ◌≤◌, ◌+◌, ◌&&◌, ℕ, None, Some, [], IfOk, IfSome, ◌||◌, cond, length, map, not, replicate, slice_index_or, slice_set, bytes_eq};
 ghost use Rattle.std.specs.List.{IsDistinct};
 ghost use Rattle.iso_model.specs.Rights.{declared_by, rights_of, strongest};
 ghost use Rattle.iso_model.specs.declared.access.Access.TheVariants.{Read, Write};
@@ -36,10 +36,12 @@ pub(crate) fn locks(
     ensures { IfOk result (λ v. map (λ l. l.items) v.items
         ≡ column (locks (nodes_in rows.now)) (length rows.now)) }
 {
+    let mut followers = vec![in alloc; 0; key_table.len()]?;
     let mut tables = own_tables(alloc, rows, key_table.len(), isolated, locking)?;
     'nodes: for n in 0..rows.len() {
         if let Some(m) = locking[n] {
-            gather(&mut tables[m as usize], key_table, rows[n].kind.marks());
+            let marks = rows[n].kind.marks();
+            gather(&mut tables[m as usize], key_table, &mut followers, marks);
         }
     }
     listed_tables(alloc, &tables)
@@ -114,7 +116,15 @@ fn own_table(
 }
 
 /// Adds what marks declare to a table of accesses by key number.
-fn gather(table: &mut Vec<Option<Access>>, keys: &IndexSet<&str>, marks: &[Mark])
+///
+/// Many nodes have the same marks in the same order. So the key that followed another one last, by
+/// number, is the guess for what follows it now.
+fn gather(
+    table: &mut Vec<Option<Access>>,
+    keys: &IndexSet<&str>,
+    followers: &mut Vec<usize>,
+    marks: &[Mark],
+)
     requires distinct { IsDistinct bytes_eq (map (λ k. k.now) keys.now.keys) }
     requires fits { length table.old.items ≡ length keys.now.keys }
     ensures gathered { (i : ℕ) → i < length keys.now.keys → slice_index_or table.new.items i None
@@ -122,13 +132,41 @@ fn gather(table: &mut Vec<Option<Access>>, keys: &IndexSet<&str>, marks: &[Mark]
         (slice_index_or table.old.items i None) }
     ensures fits { length table.new.items ≡ length table.old.items }
 {
+    let mut last = 0;
     'marks: for mark in marks {
-        add_mark(table, keys, mark);
+        let number = add_mark(table, keys, follower(followers, last), mark);
+        note_follower(followers, last, number);
+        last = number;
     }
 }
 
-/// Adds what a mark declares to a table of accesses by key number.
-fn add_mark(table: &mut Vec<Option<Access>>, keys: &IndexSet<&str>, mark: &Mark)
+/// The key that followed another one last.
+fn follower(followers: &[usize], last: usize) -> usize
+    ensures { result ≡ slice_index_or followers.now last 0 }
+{
+    match followers.get(last) {
+        Some(number) => *number,
+        None => 0,
+    }
+}
+
+/// Notes which key follows another one.
+fn note_follower(followers: &mut Vec<usize>, last: usize, number: usize)
+    ensures { followers.new.items ≡ slice_set followers.old.items last number }
+{
+    if let Some(follower) = followers.get_mut(last) {
+        *follower = number;
+    }
+}
+
+/// Adds what a mark declares to a table of accesses by key number, and answers the number of its
+/// key, or 0 where it has none. The next guess alone depends on that.
+fn add_mark(
+    table: &mut Vec<Option<Access>>,
+    keys: &IndexSet<&str>,
+    guess: usize,
+    mark: &Mark,
+) -> usize
     requires distinct { IsDistinct bytes_eq (map (λ k. k.now) keys.now.keys) }
     requires fits { length table.old.items ≡ length keys.now.keys }
     ensures added { (i : ℕ) → i < length keys.now.keys → slice_index_or table.new.items i None
@@ -136,9 +174,11 @@ fn add_mark(table: &mut Vec<Option<Access>>, keys: &IndexSet<&str>, mark: &Mark)
         (slice_index_or table.old.items i None) }
     ensures fits { length table.new.items ≡ length table.old.items }
 {
-    if let Some(number) = number_of(keys, mark.key.as_str()) {
-        table[number] = Some(strongest(mark.access, table[number]));
-    }
+    let Some(number) = number_of(keys, guess, mark.key.as_str()) else {
+        return 0;
+    };
+    table[number] = Some(strongest(mark.access, table[number]));
+    number
 }
 
 /// The stronger of two accesses, of which the second may be absent.
@@ -151,14 +191,18 @@ fn strongest(access: Access, taken: Option<Access>) -> Access
     }
 }
 
-/// The number of a key, if it has one.
-fn number_of(keys: &IndexSet<&str>, key: &str) -> Option<usize>
+/// The number of a key, if it has one. It isn't looked up where the guess is right.
+fn number_of(keys: &IndexSet<&str>, guess: usize, key: &str) -> Option<usize>
     requires { IsDistinct bytes_eq (map (λ k. k.now) keys.now.keys) }
     ensures within { IfSome result (λ i. i < length keys.now.keys) }
     ensures exact { (i : ℕ) → i < length keys.now.keys
         → bytes_eq (slice_index_or (map (λ k. k.now) keys.now.keys) i []) key.now
         ≡ is_that result i }
 {
+    let known = keys.as_slice();
+    if guess < known.len() && known[guess] == key {
+        return Some(guess);
+    }
     keys.get_index_of(key)
 }
 

@@ -27,6 +27,9 @@ pub(crate) fn modes(
     ensures { IfOk result (λ v. v.items ≡ column (mode (nodes_in rows.now) settings)
         (length rows.now)) }
 {
+    if !settings.parallel {
+        return Ok(vec![in alloc; Mode::SameThread; rows.len()]?);
+    }
     let marked = nearest_modes(alloc, rows)?;
     let writing = writing(alloc, rows, taken)?;
     let mut modes = Vec::with_capacity(alloc, rows.len())?;

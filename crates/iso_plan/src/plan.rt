@@ -49,8 +49,8 @@ pub struct Plan {
     rows: Vec<Row>,
     settings: Settings,
     children: Vec<Vec<u32>>,
-    chains: Vec<Vec<Arc<ClassHead>>>,
-    rights: Vec<Rights>,
+    chains: Vec<Arc<Vec<Arc<ClassHead>>>>,
+    rights: Vec<Arc<Rights>>,
     keys: Vec<Text>,
     numbers: KeyMap<usize>,
     locking: Vec<Option<u32>>,
@@ -60,13 +60,11 @@ pub struct Plan {
 
 impl Model for Plan {
     ghost use Rattle.std.specs.Prelude.{map};
-    ghost use Rattle.iso_model.specs.ChainView.{innermost_first};
-    ghost use Rattle.iso_model.specs.Rights.{access_in};
     ghost use Rattle.iso_model.specs.SyntaxCodes.{acts_code};
     ghost use Rattle.std.specs.Coded.{codes};
     ghost use Rattle.iso_plan.specs.IsPlan.{IsPlan};
     ghost use Rattle.iso_plan.specs.Planned.{Planned};
-    ghost use Rattle.iso_plan.specs.RowView.{nodes_in};
+    ghost use Rattle.iso_plan.specs.RowView.{heads_in, nodes_in, rights_in};
 
     ghost Value = { Planned };
 
@@ -76,8 +74,7 @@ impl Model for Plan {
 
     ghost invariant = { λ p. IsPlan (nodes_in p.rows.items) p.settings
         (map (λ c. c.items) p.children.items)
-        (map (λ c. innermost_first c.items) p.chains.items)
-        (map access_in p.rights.items) p.keys.items p.numbers
+        (map heads_in p.chains.items) (map rights_in p.rights.items) p.keys.items p.numbers
         p.locking.items (map (λ l. l.items) p.locks.items) p.modes.items };
 }
 
@@ -213,7 +210,7 @@ impl Plan {
         requires { node < length self.now.rows }
         ensures { result.now ≡ (row_at (tree_of self.now) node).title }
     {
-        self.rows[node as usize].title.as_str()
+        self.rows[node as usize].title()
     }
 
     /// A node's name. A top-level class's begins with the team's name and a dot, the root's is
@@ -369,6 +366,13 @@ impl Plan {
     /// Its nodes stand in preorder.
     pub(crate) fn hold_an_order(&self)
         ensures { IsPreorder (tree_of self.now) }
+    {
+        let _rows = &self.rows;
+    }
+
+    /// It has no more nodes than a plan may have.
+    pub(crate) fn hold_few_nodes(&self)
+        ensures { length self.now.rows ≤ NODES }
     {
         let _rows = &self.rows;
     }

@@ -1,3 +1,5 @@
+ghost use Rattle.std.specs.Prelude.{◌≡◌, unwrap_or};
+
 use iso_model::heads::{ClassHead, Mark, TestHead};
 use iso_model::script::Mode;
 use iso_model::text::Text;
@@ -27,9 +29,21 @@ pub struct Row {
     pub written: Vec<Mark>,
     /// A top-level class's with the team's name and `.` before it.
     pub name: Text,
-    /// The display text, or the name where there is none; a top-level class's with the team's name
-    /// and `.` before it.
-    pub title: Text,
+    /// The display text, if there is one; a top-level class's with the team's name and `.` before
+    /// it.
+    pub display: Option<Text>,
     /// The execution mode that is marked on the node, if one is.
     pub mode: Option<Mode>,
+}
+
+impl Row {
+    /// What the node is called in a report: its display text, or its name where it has none.
+    pub(crate) fn title(&self) -> &str
+        ensures { result.now ≡ unwrap_or self.now.display self.now.name }
+    {
+        match &self.display {
+            Some(text) => text.as_str(),
+            None => self.name.as_str(),
+        }
+    }
 }

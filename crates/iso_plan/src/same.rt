@@ -29,12 +29,12 @@ fn same_kind(a: &Kind, b: &Kind) -> bool
 /// execution mode.
 fn same_place(a: &Row, b: &Row) -> bool
     ensures { IsTrue result ↔ ((a.now.parent ≡ b.now.parent) × (a.now.mode ≡ b.now.mode)
-        × (a.now.name ≡ b.now.name) × (a.now.title ≡ b.now.title)) }
+        × (a.now.name ≡ b.now.name) × ((row_of a.now).title ≡ (row_of b.now).title)) }
 {
     a.parent == b.parent
         && a.mode == b.mode
         && a.name.as_str() == b.name.as_str()
-        && a.title.as_str() == b.title.as_str()
+        && a.title() == b.title()
 }
 
 /// Whether two nodes say the same.

@@ -1,5 +1,6 @@
 //! The nodes of scripts, in preorder.
-ghost use Rattle.std.specs.Prelude.{◌≡◌, ◌<◌, ◌+◌, ◌≤◌, ◌++◌, ◌∷◌, [], ℕ, IfOk, IfErr, OnOk, length, map, vec_len, unwrap_or};
+ghost use Rattle.std.specs.Prelude.{◌≡◌, ◌<◌, ◌+◌, ◌≤◌, ◌++◌, ◌∷◌, [], ℕ, IfOk, IfErr, OnOk, length, map, vec_len};
+ghost use Rattle.std.specs.Option.{option_map};
 ghost use Rattle.iso_model.specs.ScriptView.{class_of, member_of, members_of, script_of, test_of};
 ghost use Rattle.iso_plan.specs.Faults.{IsFull};
 ghost use Rattle.iso_plan.specs.RowView.{nodes_in, row_of, title_of};
@@ -41,7 +42,7 @@ fn root(alloc: Global) -> Row
         kind: Kind::Root,
         written: Vec::new(alloc),
         name: Text::new(String::new(alloc)),
-        title: Text::new(String::new(alloc)),
+        display: None,
         mode: None,
     }
 }
@@ -169,7 +170,7 @@ fn test_row(alloc: Global, parent: u32, test: &Test) -> Result<Row, AllocError>
     Ok(Row {
         parent,
         name: test.name.copy(alloc)?,
-        title: shown(&test.display, &test.name).copy(alloc)?,
+        display: copy(alloc, &test.display)?,
         mode: test.mode,
         written: merged(alloc, &test.head.marks)?,
         kind: Kind::Test {
@@ -185,7 +186,7 @@ fn class_row(alloc: Global, parent: u32, class: &Class) -> Result<Row, AllocErro
     Ok(Row {
         parent,
         name: class.name.copy(alloc)?,
-        title: shown(&class.display, &class.name).copy(alloc)?,
+        display: copy(alloc, &class.display)?,
         mode: class.mode,
         written: merged(alloc, &class.head.marks)?,
         kind: Kind::Class {
@@ -202,7 +203,7 @@ fn top_row(alloc: Global, team: &Text, class: &Class) -> Result<Row, AllocError>
     Ok(Row {
         parent: 0,
         name: in_team(alloc, team, &class.name)?,
-        title: in_team(alloc, team, shown(&class.display, &class.name))?,
+        display: display_in_team(alloc, team, &class.display)?,
         mode: class.mode,
         written: merged(alloc, &class.head.marks)?,
         kind: Kind::Class {
@@ -212,13 +213,27 @@ fn top_row(alloc: Global, team: &Text, class: &Class) -> Result<Row, AllocError>
     })
 }
 
-/// What a node is called in a report: its display text, or its name where it has none.
-fn shown<'a>(display: &'a Option<Text>, name: &'a Text) -> &'a Text
-    ensures { result.now ≡ unwrap_or display.now name.now }
+/// The same text, if there is one.
+fn copy(alloc: Global, text: &Option<Text>) -> Result<Option<Text>, AllocError>
+    ensures { IfOk result (λ t. t ≡ text.now) }
+{
+    match text {
+        Some(text) => Ok(Some(text.copy(alloc)?)),
+        None => Ok(None),
+    }
+}
+
+/// A display text after the team's name and a dot, if there is one.
+fn display_in_team(
+    alloc: Global,
+    team: &Text,
+    display: &Option<Text>,
+) -> Result<Option<Text>, AllocError>
+    ensures { IfOk result (λ t. t ≡ option_map (in_team team.now) display.now) }
 {
     match display {
-        Some(text) => text,
-        None => name,
+        Some(text) => Ok(Some(in_team(alloc, team, text)?)),
+        None => Ok(None),
     }
 }
 

@@ -1,5 +1,5 @@
 -- More fuel reads no more pieces.
-use Rattle.std.proofs.Common.{◌≡◌, ℕ, zero, suc, ◌+◌, ◌<◌, ◌≤◌, List, [], ◌∷◌, length, take, drop, Bool, true, false, cond, Option, Some, None, refl, ap, ◌∙◌, sym, arith, nat_eq, ◌&&◌, length-drop, nat_le}
+use Rattle.std.proofs.Common.{◌≡◌, ◌≢◌, ℕ, zero, suc, ◌+◌, ◌<◌, ◌≤◌, List, [], ◌∷◌, length, take, drop, Bool, true, false, cond, Option, Some, None, refl, ap, ◌∙◌, sym, arith, nat_eq, ◌&&◌, length-drop, nat_le}
 use Rattle.std.specs.List.{prefix_len}
 use Rattle.iso_script_lexer.specs.Piece.{Piece}
 use Rattle.iso_script_lexer.specs.Spelling.{is_letter, is_digit, in_name, is_blank, in_comment, begins, begins_in}
@@ -122,6 +122,6 @@ then_pieces-shown row line (Symbol s) rest = refl
 then_pieces-shown row line End rest = refl
 then_pieces-shown row line (Bad fault) rest = refl
 
-pub tail-front : (row : Position) (t : Token) (ps : List Piece) → (t ≡ End → ⊥) → tail (front row t ps) ≡ ps
+pub tail-front : (row : Position) (t : Token) (ps : List Piece) → front row t ps ≢ [] → tail (front row t ps) ≡ ps
 tail-front row End ps h = absurd (h refl)
 tail-front row _ ps h = refl

@@ -2,6 +2,7 @@
 ghost use Rattle.std.specs.Prelude.{◌≡◌, ◌≤◌, ℕ, List, false, true, length};
 ghost use Rattle.iso_script_lexer.specs.Cursors.{line_of};
 ghost use Rattle.iso_script_lexer.specs.Scan.{after_gap, gap_from};
+ghost use Rattle.iso_script_lexer.specs.Spelling.{begins};
 
 use crate::cursor::Cursor;
 
@@ -13,13 +14,29 @@ pub(crate) fn skip_gap(start: Cursor<'_>) -> Cursor<'_>
 {
     let mut cursor = start;
     'gap: loop {
-        cursor = match cursor.rest {
-            [b'\n', rest @ ..] => cursor.next_line(rest),
-            [b' ' | b'\t' | b'\r', rest @ ..] => cursor.further(rest),
-            [b'/', b'/', rest @ ..] => cursor.further(after_comment(rest)),
-            _ => return cursor,
+        let here = cursor.further(after_spaces(cursor.rest));
+        cursor = match here.rest {
+            [b'\n', rest @ ..] => here.next_line(rest),
+            [b'\t' | b'\r', rest @ ..] => here.further(rest),
+            [b'/', b'/', rest @ ..] => here.further(after_comment(rest)),
+            _ => return here,
         };
     }
+}
+
+/// What follows the spaces that come next: they are the most of what stands in gaps.
+#[tactic(auto, unfolding(crate::specs::Scan::gap_from))]
+fn after_spaces(bytes: &[u8]) -> &[u8]
+    ensures value { (number : ℕ) (line : List ℕ)
+        → gap_from false number line bytes.now ≡ gap_from false number line result.now }
+    ensures none { begins 32 result.now ≡ false }
+    ensures shorter { length result.now ≤ length bytes.now }
+{
+    let mut rest = bytes;
+    'spaces: while let [b' ', after @ ..] = rest {
+        rest = after;
+    }
+    rest
 }
 
 /// What follows the bytes of a comment.

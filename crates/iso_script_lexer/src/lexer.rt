@@ -1,4 +1,4 @@
-ghost use Rattle.std.specs.Prelude.{◌≡◌, ◌≤◌, List, Some, None, false, length, if◌then◌else◌};
+ghost use Rattle.std.specs.Prelude.{◌≡◌, ◌≢◌, ◌≤◌, List, [], Some, None, false, length, if◌then◌else◌};
 ghost use Rattle.iso_script_lexer.specs.LexicalGrammar.{ArePiecesOf};
 ghost use Rattle.iso_script_lexer.specs.Piece.{Piece};
 ghost use Rattle.iso_script_lexer.specs.Cursors.{line_of};
@@ -43,27 +43,36 @@ impl<'a> Lexer<'a> {
         requires { length bytes.now ≤ FILE_BYTES }
         ensures { ArePiecesOf bytes.now result }
     {
-        Lexer::read(Cursor::new(bytes))
+        let next = Cursor::new(bytes);
+        // What stands before the first token is passed at once.
+        let mut lexer = Lexer {
+            token: Token::Symbol(Symbol::Semicolon),
+            position: next.position(),
+            next,
+        };
+        lexer.pass();
+        lexer
     }
 
-    /// At the token that comes next.
-    fn read(cursor: Cursor<'a>) -> Lexer<'a>
-        ensures { result ≡ pieces_of (line_of cursor.entry) cursor.entry.rest.now }
+    /// Goes past the token that is next, in place: a lexer is large to hand on.
+    fn pass(&mut self)
+        requires { self.old ≢ [] }
+        ensures { self.new ≡ tail self.old }
     {
-        let start = skip_gap(cursor);
+        let start = skip_gap(self.next);
         match scan(start.rest) {
-            Ok((token, rest)) => Lexer {
+            Ok((token, rest)) => *self = Lexer {
                 token,
                 position: start.position(),
                 next: start.further(rest),
             },
             Err(misspelling) => {
                 let (_, fault) = start.rest.split_at(misspelling.offset);
-                Lexer {
+                *self = Lexer {
                     token: Token::Bad(misspelling.fault),
                     position: start.further(fault).position(),
                     next: start.further(&[]),
-                }
+                };
             }
         }
     }
@@ -95,7 +104,7 @@ impl<'a> Lexer<'a> {
         ensures { self.new ≡ tail self.old }
     {
         if !matches!(self.token, Token::End) {
-            *self = Lexer::read(self.next);
+            self.pass();
         }
     }
 

@@ -15,6 +15,7 @@ use crate::text::QuotedText;
 use crate::token::{Token, TokenFault};
 use crate::word::Word;
 use iso_model::limits::{NAME_BYTES, NUMBER, TEXT_BYTES};
+use percent_encoding::ascii_str;
 
 /// The most bytes of a name.
 const NAME_LIMIT: usize = NAME_BYTES as usize;
@@ -53,7 +54,27 @@ fn is_name_byte(byte: u8) -> bool
 fn name_length(bytes: &[u8]) -> usize
     ensures { result ≡ prefix_len in_name bytes.now }
 {
-    bytes.iter().take_while(|byte| is_name_byte(**byte)).count()
+    let mut rest = bytes;
+    'name: loop {
+        rest = after_small_letters(rest);
+        match rest {
+            [byte, after @ ..] if is_name_byte(*byte) => rest = after,
+            _ => return bytes.len() - rest.len(),
+        }
+    }
+}
+
+/// What follows the small letters that come next: they are the most of what stands in names.
+fn after_small_letters(bytes: &[u8]) -> &[u8]
+    ensures value { prefix_len in_name bytes.now
+        ≡ (length bytes.now - length result.now) + prefix_len in_name result.now }
+    ensures shorter { length result.now ≤ length bytes.now }
+{
+    let mut rest = bytes;
+    'letters: while let [b'a'..=b'z', after @ ..] = rest {
+        rest = after;
+    }
+    rest
 }
 
 /// How many digits stand at the front.
@@ -78,9 +99,7 @@ fn scan_name(bytes: &[u8]) -> Result<(Token<'_>, &[u8]), Misspelling>
     if name.len() > NAME_LIMIT {
         return Err(fault_at(TokenFault::TooLong, NAME_LIMIT));
     }
-    let Ok(name) = std::str::from_utf8(name) else {
-        unreachable!()
-    };
+    let name = ascii_str(name);
     let token = match Word::from_name(name) {
         Some(word) => Token::Word(word),
         None => Token::Name(name),

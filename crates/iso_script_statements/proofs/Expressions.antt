@@ -1,5 +1,5 @@
 -- Expressions by their rules, with what stands where as equations.
-use Rattle.std.proofs.Common.{◌≡◌, ℕ, suc, Result, Ok, Err, MatchResult, ◌-◌, ◌<◌, ◌≤◌, arith, List, [], ◌∷◌, ◌++◌, length, length-append, Option, Some, None, is_some, option_map, true, false, refl, ap, subst, sym, ◌∙◌}
+use Rattle.std.proofs.Common.{◌≡◌, ℕ, ℤ, pos, ◌^◌, suc, Result, Ok, Err, MatchResult, ◌-◌, ◌<◌, ◌≤◌, arith, List, [], ◌∷◌, ◌++◌, length, length-append, Option, Some, None, is_some, option_map, true, false, refl, ap, subst, sym, ◌∙◌}
 use Rattle.std.proofs.lemmas.Option.{some_pair_parts}
 use Rattle.iso_script_lexer.specs.Piece.{Piece, name_at, number_at, text_at, word_at, symbol_at, bad_at, tail}
 use Rattle.iso_script_lexer.specs.Tokens.{after, after_word}
@@ -9,16 +9,18 @@ use Rattle.iso_script_lexer.specs.declared.word.Word.{Word}
 use Rattle.iso_script_lexer.specs.declared.word.Word.TheVariants as W
 use Rattle.iso_script_lexer.proofs.Afters.{after-Some, after-symbol_at, after_word-Some, after_word-word_at}
 use Rattle.iso_model.specs.declared.data.Data.{Data}
+use Rattle.iso_model.specs.declared.data.Data.TheVariants.{Whole}
 use Rattle.iso_model.specs.declared.limits.TheConstants.{PARENTHESES}
 use Rattle.iso_model.specs.declared.tree.Comparison.{Comparison}
 use Rattle.iso_model.specs.declared.tree.Expr.{Expr}
 use Rattle.iso_model.specs.declared.tree.Function.{Function}
 use Rattle.iso_model.specs.declared.tree.Operator.{Operator}
-use Rattle.iso_model.specs.Syntax.{Term, Terms, name, chain, compare, call, locale, no_terms, term}
+use Rattle.iso_model.specs.Syntax.{Term, Terms, literal, name, chain, compare, call, locale, no_terms, term}
 use Rattle.iso_model.specs.SyntaxView.{term_of, terms_of}
 use Rattle.iso_script_statements.specs.Expressions as E
 use Rattle.iso_script_statements.specs.Expressions.{IsLiteral, infix_of, infix_next, function_of, function_next, IsLocale, no_argument, IsOperand, a_literal, a_name, in_parentheses, a_call, the_locale, IsEnclosed, enclosed, IsChained, chained, IsExpression, an_operand, a_chain, a_comparison, IsBefore, before}
 use Rattle.iso_script_statements.specs.Parsing.{Parses}
+use Rattle.iso_script_statements.proofs.Literals.{is_number}
 use Rattle.iso_script_statements.specs.Pieces.{name_ahead}
 use Rattle.iso_script_statements.specs.Faults.{ScriptError}
 use Rattle.iso_script_statements.specs.declared.expression.Infix.{Infix}
@@ -111,6 +113,9 @@ is_name d n (text_at r t ∷ ps) new next ahead = cc
 is_name d n (word_at r w ∷ ps) new next ahead = cc
 is_name d n (symbol_at r s ∷ ps) new next ahead = cc
 is_name d n (bad_at r fault ∷ ps) new next ahead = cc
+
+pub is_whole : (d : ℕ) (r : Position) (n : ℕ) (z : ℤ) (old new : List Piece) → z ≡ pos n → old ≡ number_at r n ∷ tail old → new ≡ tail old → n < 2 ^ 63 → IsOperand d (literal (Whole z)) old new
+is_whole d r n z old new e f g h = a_literal (is_number r n z old new e f g h)
 
 -- what is no parenthesis, function, locale or name is a literal
 pub literal_only : (d : ℕ) (e : Term) (old rest : List Piece) → after OpenParen old ≡ None → function_next old ≡ None

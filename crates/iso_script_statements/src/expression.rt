@@ -188,6 +188,13 @@ impl Parser<'_> {
             self.lexer.advance();
             return Ok(Expr::Name(Text::copied(self.alloc, name)?));
         }
+        // Most literals are numbers: one is written to where it stays, and not handed on.
+        if let Token::Number(number) = self.lexer.peek().0
+            && let Ok(whole) = i64::try_from(number)
+        {
+            self.lexer.advance();
+            return Ok(Expr::Literal(Data::Whole(whole)));
+        }
         Ok(Expr::Literal(self.literal(Wanted::Operand)?))
     }
 

@@ -129,6 +129,7 @@ impl<'a> BlockRun<'a> {
     }
 
     /// Does the first turn that is left of a `repeat`.
+    #[inline(always)]
     pub(super) fn turn_of(
         &mut self,
         row: u32,
@@ -150,6 +151,7 @@ impl<'a> BlockRun<'a> {
     }
 
     /// Does a turn whose step is taken: its body, and behind it the turns that are left.
+    #[inline(always)]
     fn turn(&mut self, row: u32, left: u64, body: Block<'a>) -> Result<(), AllocError>
         ensures done { OnOk result (point_of_run self.new ≡ next_point
             (rest_of (length self.old.names.names) body.entry ∷ turning row left body.entry
@@ -157,9 +159,8 @@ impl<'a> BlockRun<'a> {
             (local_of self.old)) }
         ensures block { SameBlock self.old self.new }
     {
-        self.top = Some(Pending::Turning(row, left, body.again()));
-        let names = self.names.len();
-        self.push(Pending::Rest(names, body))?;
+        self.below.push(Pending::Turning(row, left, body.again()))?;
+        self.top = Some(Pending::Rest(self.names.len(), body));
         self.reach_next_point();
         Ok(())
     }

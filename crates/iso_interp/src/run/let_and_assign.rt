@@ -1,6 +1,6 @@
 //! The statements that name and assign values.
-ghost use Rattle.std.specs.Prelude.{◌≡◌, OnOk};
-ghost use Rattle.iso_model.specs.Names.{assigned};
+ghost use Rattle.std.specs.Prelude.{◌≡◌, Err, OnOk};
+ghost use Rattle.iso_model.specs.Names.{assigned, assignment};
 ghost use Rattle.iso_model.specs.Resources.{Resources};
 ghost use Rattle.iso_model.specs.Statements.{declares, locally, upon, with_names};
 ghost use Rattle.iso_model.specs.Syntax.{assign, let_name};
@@ -8,6 +8,7 @@ ghost use Rattle.iso_model.specs.SyntaxView.{term_of};
 ghost use Rattle.iso_model.specs.Touch.{HasKeys};
 ghost use Rattle.iso_interp.specs.Runs.{Performs, SameWork, run_rights, state_of};
 
+use crate::expression::chain_at_once;
 use crate::run::BlockRun;
 use iso_model::data::Data;
 use iso_model::fault::Fault;
@@ -64,13 +65,30 @@ impl<'a> BlockRun<'a> {
             (assign name.now (term_of expression.now)) result }
         ensures work { SameWork self.old self.new }
     {
+        // Most assign a number: then no value is handed on.
+        if let Some(number) = chain_at_once(&self.names, expression) {
+            return self.set(row, name, Data::Whole(number));
+        }
         match self.own_value(touch, expression)? {
-            Ok(value) => self.set(row, name, value),
+            Ok(value) => self.set_value(row, name, value),
             Err(fault) => self.fault(row, fault),
         }
     }
 
+    /// Sets a name to any value. Most assign a number, so this stays out of what each assignment
+    /// does.
+    #[inline(never)]
+    fn set_value(&mut self, row: u32, name: &Text, value: Data) -> Result<(), AllocError>
+        ensures done { OnOk result ((m : Resources) → state_of self.new m
+            ≡ upon row (assigned self.old.names.names name.now value) (state_of self.old m)
+            (λ names. locally (with_names names) (state_of self.old m))) }
+        ensures work { SameWork self.old self.new }
+    {
+        self.set(row, name, value)
+    }
+
     /// Sets a name that is visible and isn't frozen.
+    #[inline(always)]
     fn set(&mut self, row: u32, name: &Text, value: Data) -> Result<(), AllocError>
         ensures done { OnOk result ((m : Resources) → state_of self.new m
             ≡ upon row (assigned self.old.names.names name.now value) (state_of self.old m)
@@ -79,14 +97,25 @@ impl<'a> BlockRun<'a> {
     {
         match self.names.assign(name.as_str(), value)? {
             Ok(()) => Ok(()),
-            Err(fault) => {
-                let name = name.copy(self.alloc)?;
-                let fault = match fault {
-                    AssignFault::UnknownName => Fault::UnknownName(name),
-                    AssignFault::Frozen => Fault::Frozen(name),
-                };
-                self.fault(row, fault)
-            }
+            Err(fault) => self.refuse(row, name, fault),
         }
+    }
+
+    /// Ends the block, since a name can't be assigned. Few do, so this stays out of what each
+    /// assignment does.
+    #[inline(never)]
+    fn refuse(&mut self, row: u32, name: &Text, fault: AssignFault) -> Result<(), AllocError>
+        ensures ended { OnOk result ((m : Resources) → state_of self.new m
+            ≡ upon row (assignment (Err fault) name.now self.old.names.names)
+            (state_of self.old m)
+            (λ names. locally (with_names names) (state_of self.old m))) }
+        ensures work { SameWork self.old self.new }
+    {
+        let name = name.copy(self.alloc)?;
+        let fault = match fault {
+            AssignFault::UnknownName => Fault::UnknownName(name),
+            AssignFault::Frozen => Fault::Frozen(name),
+        };
+        self.fault(row, fault)
     }
 }

@@ -17,10 +17,10 @@ marks-preserved c =
     let next = drop_next m ms i (omega arith) c.mark-item.is in
     let key : ℕ → List ℕ = λ j. get_or (map (λ k. k.now) c.args.keys.now.keys) j [] in
     record {
-      fits = c.add_mark.ensures.fits ∙ c.marks.invariant.fits;
+      fits = c.add_mark-number.ensures.fits ∙ c.marks.invariant.fits;
       rest = λ j h.
           let before = get_or c.marks.table.items j None in
-          ap (strongest (rights_of (drop (i + 1) ms) (key j))) (c.add_mark.ensures.added j h)
+          ap (strongest (rights_of (drop (i + 1) ms) (key j))) (c.add_mark-number.ensures.added j h)
           ∙ first (rights_of (drop (i + 1) ms) (key j)) (declared_by m (key j)) before
           ∙ ap (λ (ns : List Mark). strongest (rights_of ns (key j)) before) (sym next)
           ∙ c.marks.invariant.rest j h;

@@ -31,7 +31,7 @@ nodes-init c =
     let rows = c.args.rows.now in
     let tree = map row_of rows in
     let ts = c.in_ok-tables.tables.items in
-    let count : c.len.result ≡ length (keys tree) = c.len.ensures.len ∙ sym (length-map c.args.key_table.now.keys (λ k. k.now)) ∙ ap length c.requires.keys in
+    let count : c.len-2.result ≡ length (keys tree) = c.len-2.ensures.len ∙ sym (length-map c.args.key_table.now.keys (λ k. k.now)) ∙ ap length c.requires.keys in
     tables-start tree (length rows) (map accesses ts) (c.in_ok-tables.ensures ∙ ap (λ (k : ℕ). column (own_table tree k) (length rows)) count)
 
 pub bounds : goal.bounds
@@ -91,7 +91,7 @@ nodes-preserved c =
           let each : length v.items ≡ length rows = sym (length-map v.items accesses) ∙ c.nodes.invariant.each in
           let stored : m < length v.items = omega arith in
           let old : w.index_mut.result.now.items ≡ get_or (map accesses v.items) m [] = ap accesses w.index_mut.ensures.value ∙ sym (get_or-map accesses v.items m w.index_mut.result.now [] stored) in
-          let marks : w.marks.result.now ≡ effective_marks tree n = w.marks.ensures ∙ ap (λ (r : T.Row). kind_marks r.kind) (sym (row-at rows n w.index-rows-n.result (omega arith))) in
+          let marks : w.marks-marks.result.now ≡ effective_marks tree n = w.marks-marks.ensures ∙ ap (λ (r : T.Row). kind_marks r.kind) (sym (row-at rows n w.index-rows-n.result (omega arith))) in
           let done : TablesAre tree (length rows) (set (map accesses v.items) m (accesses w.gather.new.table)) (n + 1) =
           tables-gather tree c.requires.tree.below (length rows) (map accesses v.items) n m (accesses w.gather.new.table) c.nodes.invariant own (omega arith) (w.gather.ensures.fits ∙ ap length old)
           (λ i h. w.gather.ensures.gathered i (omega arith)

@@ -1,11 +1,11 @@
-use Rattle.std.proofs.Common.{◌≡◌, [], ◌++◌, ◌∷◌, ℕ, ◌<◌, ◌==◌, ◌&&◌, List, Option, Bool, cond, not, unwrap_or, length, map, get_or, ap, ap₂, sym, ◌∙◌, arith}
+use Rattle.std.proofs.Common.{◌≡◌, [], ◌++◌, ◌∷◌, ℕ, ◌<◌, ◌==◌, ◌&&◌, List, Option, Bool, cond, not, unwrap_or, length, map, get_or, ap, ap₂, sym, ◌∙◌, arith, rules}
 use Rattle.std.specs.List.{list_any}
 use Rattle.iso_model.specs.declared.script.Mode.{Mode}
 use Rattle.iso_model.specs.declared.script.Mode.TheVariants.{SameThread}
 use Rattle.std.proofs.lemmas.List.{length-map}
 use Rattle.iso_plan.proofs.ColumnLemmas.{length-column, column-read, column-push, parent-at}
 use Rattle.iso_plan.proofs.KeyLemmas.{root-eq}
-use Rattle.iso_plan.proofs.ModeLemmas.{mode-root, mode-step}
+use Rattle.iso_plan.proofs.ModeLemmas.{mode-root, mode-step, modes-off}
 use Rattle.iso_plan.specs.Locks.{takes_write}
 use Rattle.iso_plan.specs.Modes.{mode, nearest_mode}
 use Rattle.iso_plan.specs.Paths.{column, is_root, path, parent}
@@ -67,3 +67,6 @@ returns c =
     let some : 0 < length rows = rw (length-map rows row_of) at c.requires.tree.rooted in
     let last : c.nodes.n ≡ length rows = omega arith in
     c.nodes.invariant ∙ ap (column (mode tree c.args.settings)) last
+
+pub returns-then-not-settings : goal.returns-then-not-settings
+returns-then-not-settings c = c.in_ok-vec.ensures.items_if_clones_equal (λ y h. search rules) ∙ modes-off (map row_of c.args.rows.now) c.args.settings (length c.args.rows.now) c.if-not-settings.true

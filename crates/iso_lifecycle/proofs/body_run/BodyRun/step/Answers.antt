@@ -1,5 +1,4 @@
 use Rattle.std.proofs.Common.{ap, sym, ◌∙◌, subst}
-use Rattle.std.proofs.lemmas.Result.{on_ok_weaker}
 use Rattle.iso_model.specs.Bodies.{Stage, going}
 use Rattle.iso_model.specs.Rights.{Rights, access_in}
 use Rattle.iso_model.specs.Touch.{HasKeys}
@@ -23,21 +22,20 @@ returns-in-More-clause-step g c =
     ∙ block-stepped (access_in old.rest.rights.now) (run_rights c.in-Some.run') old.block c.in-Some.run' c.step.new.self old.rest m n c.in-Some.is rights c.in_ok-step.ensures.step
     c.in_ok-step.ensures.names
 
-pub returns-in-Ended-clause-step : goal.returns-in-Ended-clause-step
-returns-in-Ended-clause-step g c =
+pub returns-in_ok-reach_next_block-in-Ended-clause-step : goal.returns-in_ok-reach_next_block-in-Ended-clause-step
+returns-in_ok-reach_next_block-in-Ended-clause-step g c =
     let old = c.args.self.now in
     let m = g.T.Touch.content c.args.touch.now in
     let n = g.T.Touch.content c.step.new.touch in
     let rights = block-rights old.block c.in-Some.run' old.rest c.in-Some.is old.same in
     let stepped = block-stepped (access_in old.rest.rights.now) (run_rights c.in-Some.run') old.block c.in-Some.run' c.step.new.self old.rest m n c.in-Some.is rights c.in_ok-step.ensures.step
     c.in_ok-step.ensures.names in
-    on_ok_weaker c.reach_next_block.result (λ d. ap (λ (s : Stage). going s n) d ∙ stepped) c.reach_next_block.ensures.stage
+    ap (λ (s : Stage). going s n) c.in_ok-reach_next_block-in-Ended.ensures.stage ∙ stepped
 
-pub returns-in-Ended-clause-keys : goal.returns-in-Ended-clause-keys
-returns-in-Ended-clause-keys g c =
+pub returns-in_ok-reach_next_block-in-Ended-clause-keys : goal.returns-in_ok-reach_next_block-in-Ended-clause-keys
+returns-in_ok-reach_next_block-in-Ended-clause-keys g c =
     let old = c.args.self.now in
     let n = g.T.Touch.content c.step.new.touch in
     let writes = g.T.Touch.writes c.step.new.touch in
     let rights = c.in_ok-step.ensures.rights ∙ block-rights old.block c.in-Some.run' old.rest c.in-Some.is old.same ∙ sym c.reach_next_block.ensures.rights in
-    let keys = subst (λ (r : Rights). HasKeys r n writes) rights c.in_ok-step.ensures.keys in
-    on_ok_weaker c.reach_next_block.result (λ d. keys) c.reach_next_block.ensures.stage
+    subst (λ (r : Rights). HasKeys r n writes) rights c.in_ok-step.ensures.keys

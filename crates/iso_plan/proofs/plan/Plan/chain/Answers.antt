@@ -1,25 +1,17 @@
-use Rattle.std.proofs.Common.{[], ◌<◌, List, length, map, ap, ◌∙◌, arith}
-use Rattle.std.specs.declared.alloc.Global.{Global}
-use Rattle.std.specs.declared.sync.Arc.{Arc}
-use Rattle.std.specs.declared.vec.Vec.{Vec}
-use Rattle.iso_model.specs.Chains as C
+use Rattle.std.proofs.Common.{[], ◌<◌, length, map, ap, ◌∙◌, arith}
 use Rattle.iso_model.specs.ChainView.{innermost_first}
-use Rattle.iso_model.specs.declared.heads.ClassHead.{ClassHead}
 use Rattle.iso_plan.proofs.ColumnLemmas.{view-read, within-views}
 use Rattle.iso_plan.specs.NodeChains.{chain_classes}
 use Rattle.iso_plan.specs.Planned.{Planned}
-use Rattle.iso_plan.specs.RowView.{row_of, tree_of}
+use Rattle.iso_plan.specs.RowView.{heads_in, row_of, tree_of}
 use Rattle.iso_plan.proofs.plan.Plan.chain.Goals as goal
-
-abbrev heads : Vec (Arc ClassHead Global) Global → List C.ClassHead
-heads v = innermost_first v.items
 
 pub index-requires-2 : goal.index-requires-2
 index-requires-2 c =
     let v = c.self.inside.chains in
     let tree = map row_of c.self.inside.rows.items in
     let here : c.args.node < length tree = rw (ap tree_of c.self.view_is) c.requires in
-    let inside = within-views heads (chain_classes tree) v.items (length tree) c.args.node c.self.invariant.heads_are here in
+    let inside = within-views heads_in (chain_classes tree) v.items (length tree) c.args.node c.self.invariant.heads_are here in
     omega (arith, v.ok.0)
 
 pub returns-clause-classes : goal.returns-clause-classes
@@ -27,6 +19,6 @@ returns-clause-classes c =
     let v = c.self.inside.chains in
     let tree = map row_of c.self.inside.rows.items in
     let here : c.args.node < length tree = rw (ap tree_of c.self.view_is) c.requires in
-    ap innermost_first c.deref-2.ensures.value ∙ ap heads c.index-2.ensures
-    ∙ view-read heads (chain_classes tree) v.items (length tree) c.args.node c.index-2.result.now [] c.self.invariant.heads_are here
+    ap innermost_first (c.deref-3.ensures.value ∙ (λ i. (c.deref-2.ensures i).items)) ∙ ap heads_in c.index-2.ensures
+    ∙ view-read heads_in (chain_classes tree) v.items (length tree) c.args.node c.index-2.result.now [] c.self.invariant.heads_are here
     ∙ ap (λ (p : Planned). chain_classes (tree_of p) c.args.node) c.self.view_is

@@ -1,7 +1,7 @@
 use Rattle.std.proofs.Common.{ap, sym, ◌∙◌}
 use Rattle.std.proofs.lemmas.Slice.Eq.{bytes_eq-Decides}
 use Rattle.iso_model.specs.Names.{lent, place_of}
-use Rattle.iso_model.proofs.names.Names.place_of.Goals as goal
+use Rattle.iso_model.proofs.names.Names.recent_place.Goals as goal
 
 pub returns-in-Some : goal.returns-in-Some
 returns-in-Some c =

@@ -1,0 +1,13 @@
+use Rattle.std.proofs.Common.{◌≡◌, ◌≤◌, ◌+◌, ◌-◌, length}
+use Rattle.std.specs.List.{prefix_len}
+use Rattle.iso_script_lexer.specs.Spelling.{in_name}
+use Rattle.iso_script_lexer.proofs.scan.after_small_letters.Given as goal
+
+abbrev pub invariant-letters : goal.invariant-letters
+invariant-letters l = record {
+  told : prefix_len in_name l.fn.bytes ≡ (length l.fn.bytes - length l.rest) + prefix_len in_name l.rest;
+  shorter : length l.rest ≤ length l.fn.bytes;
+}
+
+abbrev pub decreases-letters : goal.decreases-letters
+decreases-letters l = length l.rest
