@@ -1,7 +1,7 @@
 """What the scripts share that read contracts: the public calls of a crate with their clauses, in the layout of `rt fmt`."""
 import re
 
-TESTS = {"iso_parts_tests", "iso_book_tests", "iso_floor_tests", "iso_times_tests", "iso_run_tests", "iso_growths"}
+TESTS = {"iso_parts_tests", "iso_book_tests", "iso_floor_tests", "iso_worker_tests", "iso_run_tests", "iso_growths"}
 CLAUSE = re.compile(r"(requires|ensures|ghost)\b")
 ITEM = re.compile(r"(?P<shown>pub )?(unsafe )?(?P<kind>impl|trait|fn|mod)\b")
 NAME = re.compile(r"(?:pub )?(?:unsafe )?(?:fn|trait|mod) (\w+)")

@@ -11,5 +11,3 @@ mod offer;
 pub mod place;
 pub mod scene;
 pub mod table;
-#[cfg(test)]
-mod tests;

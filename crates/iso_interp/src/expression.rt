@@ -127,10 +127,11 @@ fn next_number(names: &Names, operator: Operator, sum: i64, operand: &Expr) -> O
     }
 }
 
-/// The value of an expression by what it is made of.
+/// The value of an expression by what it is made of: as [`evaluate`], which asks first what it comes
+/// to at once.
 #[cycle(evaluate)]
 #[inline(never)]
-fn worked_out<'a, T: Touch>(
+pub fn worked_out<'a, T: Touch>(
     alloc: Global,
     names: &'a Names,
     rights: &Rights,

@@ -44,15 +44,26 @@ impl Gate for Failures {
     }
 }
 
-/// Runs the suite by four workers: one for each processor, of which the settings are told four.
+/// Reads the suite and runs it by four workers: one for each processor, of which the settings are
+/// told four.
 pub fn run<R: AllocGlobal + Print + Threads + Wait + Sync>(rt: &R) -> Result<()> {
     let alloc = rt.alloc();
     let scripts = [read_script(alloc, SCRIPT.as_bytes())?];
     let settings = read_settings(alloc, SETTINGS, 4)?;
     let plan = build(alloc, &scripts, &settings)?;
     let world = read_world(alloc, "files.stock = \"5\"")?;
+    run_plan(rt, &plan, &world, settings.workers())
+}
+
+/// Runs a plan and prints what its tests came to.
+fn run_plan<R: AllocGlobal + Print + Threads + Wait + Sync>(
+    rt: &R,
+    plan: &Plan,
+    world: &World,
+    workers: u32,
+) -> Result<()> {
     let gate = Failures(AtomicU64::new(0));
-    let book = run_on::<Brand, R>(rt, &plan, &world, settings.workers(), &gate)?;
+    let book = run_on::<Brand, R>(rt, plan, world, workers, &gate)?;
     print_tests(rt, &book)?;
     println!(rt; "bodies that failed: {}", gate.0.load(Ordering::SeqCst))?;
     Ok(())

@@ -1,5 +1,3 @@
-//! Trays and vaults, with memory at hand.
-mod beside;
+//! Vaults, with memory at hand.
 mod suite;
-mod tray;
 mod vault;

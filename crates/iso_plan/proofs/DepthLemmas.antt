@@ -66,7 +66,7 @@ path-within tree t n h c = rw (chain-path tree t n h c) (chain-within tree t n)
 abbrev pub counts : List (Arc (Vec (Arc ClassHead Global) Global) Global) → List ℕ
 counts chains = map (λ (c : Arc (Vec (Arc ClassHead Global) Global) Global). length (arc_value c).items) chains
 
-counts-heads : (chains : List (Arc (Vec (Arc ClassHead Global) Global) Global)) → counts chains ≡ map (λ hs. length hs) (map heads_in chains)
+pub counts-heads : (chains : List (Arc (Vec (Arc ClassHead Global) Global) Global)) → counts chains ≡ map (λ hs. length hs) (map heads_in chains)
 counts-heads [] = refl
 counts-heads (c ∷ cs) =
     let of : Arc ClassHead Global → C.ClassHead = λ h. class_head_of (arc_value h) in
@@ -77,11 +77,9 @@ map-column : {A B : Type 0} (g : A → B) (f : ℕ → A) (n : ℕ) → map g (c
 map-column g f zero = refl
 map-column g f (suc n) = map-append g (column f n) (f n ∷ []) ∙ ap (λ xs. xs ++ g (f n) ∷ []) (map-column g f n)
 
--- the largest count of the chains of all nodes is the depth
-pub depth-is : (tree : List Row) (chains : List (Arc (Vec (Arc ClassHead Global) Global) Global)) → map heads_in chains ≡ column (chain_classes tree) (length tree)
-    → largest (counts chains) ≡ depth tree
-depth-is tree chains e =
-    ap largest (counts-heads chains ∙ ap (map (λ hs. length hs)) e ∙ map-column (λ hs. length hs) (chain_classes tree) (length tree))
+-- the most classes in the chains of all nodes are the depth
+pub depth-is : (tree : List Row) (chains : List (List C.ClassHead)) → chains ≡ column (chain_classes tree) (length tree) → largest (map (λ hs. length hs) chains) ≡ depth tree
+depth-is tree chains e = ap (λ (cs : List (List C.ClassHead)). largest (map (λ hs. length hs) cs)) e ∙ ap largest (map-column (λ hs. length hs) (chain_classes tree) (length tree))
 
 pub max-none : (n : ℕ) → max n 0 ≡ n
 max-none zero = M.zero 0

@@ -8,7 +8,7 @@ use Rattle.iso_plan.specs.KeyNumbers.{AreNumbers}
 use Rattle.iso_plan.specs.KeyTable.{keys}
 use Rattle.iso_plan.specs.Locks.{locking_node, locks}
 use Rattle.iso_plan.specs.Modes.{mode}
-use Rattle.iso_plan.specs.NodeChains.{chain_classes, node_rights}
+use Rattle.iso_plan.specs.NodeChains.{chain_classes, depth, node_rights}
 use Rattle.iso_plan.specs.Paths.{IsTree, children, column}
 use Rattle.iso_plan.specs.Preorder.{IsPreorder}
 use Rattle.iso_plan.specs.Tree.{Row}
@@ -18,7 +18,7 @@ use Rattle.iso_settings.specs.declared.settings.Settings.{Settings}
 pub record IsPlan (tree : List Row) (settings : Settings) (kids : List (List ℕ))
     (heads : List (List ClassHead)) (rights : List Rights) (table : List (List ℕ))
     (numbers : List (List ℕ × ℕ)) (lockers : List (Option ℕ)) (taken : List (List Lock))
-    (modes : List Mode) : Type 0 where
+    (modes : List Mode) (deepest : ℕ) : Type 0 where
   pub is_tree : IsTree tree
   pub in_order : IsPreorder tree
   pub fits : length tree ≤ NODES
@@ -31,3 +31,4 @@ pub record IsPlan (tree : List Row) (settings : Settings) (kids : List (List ℕ
   pub lockers_are : lockers ≡ column (locking_node tree) (length tree)
   pub taken_are : taken ≡ column (locks tree) (length tree)
   pub modes_are : modes ≡ column (mode tree settings) (length tree)
+  pub deepest_is : deepest ≡ depth tree

@@ -12,11 +12,11 @@ ghost use Rattle.iso_plan.specs.KeyNumbers.{number_below};
 ghost use Rattle.iso_plan.specs.KeyTable.{keys};
 ghost use Rattle.iso_plan.specs.Locks.{effective_marks, isolates, locking_node, locks};
 ghost use Rattle.iso_plan.specs.Modes.{mode};
-ghost use Rattle.iso_plan.specs.NodeChains.{chain_classes, chain_test, depth, node_rights};
+ghost use Rattle.iso_plan.specs.NodeChains.{chain_classes, chain_test, depth, largest, node_rights};
 ghost use Rattle.iso_plan.specs.Paths.{IsTree, children, is_test, parent_of, row_at};
 ghost use Rattle.iso_plan.specs.PathTexts.{found};
 ghost use Rattle.iso_plan.specs.Preorder.{IsPreorder};
-ghost use Rattle.iso_plan.specs.RowView.{nodes_in, tree_of};
+ghost use Rattle.iso_plan.specs.RowView.{heads_in, nodes_in, tree_of};
 ghost use Rattle.iso_plan.specs.SameNodes.{KeepsChains};
 ghost use Rattle.iso_plan.specs.KeptNodes.{plan_tree, texts_of};
 ghost use Rattle.iso_plan.specs.Tree.{tree};
@@ -56,6 +56,8 @@ pub struct Plan {
     locking: Vec<Option<u32>>,
     locks: Vec<Vec<Lock>>,
     modes: Vec<Mode>,
+    /// How many classes the longest of the chains has: each tray asks for it.
+    depth: usize,
 }
 
 impl Model for Plan {
@@ -75,7 +77,7 @@ impl Model for Plan {
     ghost invariant = { λ p. IsPlan (nodes_in p.rows.items) p.settings
         (map (λ c. c.items) p.children.items)
         (map heads_in p.chains.items) (map rights_in p.rights.items) p.keys.items p.numbers
-        p.locking.items (map (λ l. l.items) p.locks.items) p.modes.items };
+        p.locking.items (map (λ l. l.items) p.locks.items) p.modes.items p.depth };
 }
 
 /// The plan of scripts under settings.
@@ -140,6 +142,7 @@ fn plan_of(alloc: Global, rows: Vec<Row>, settings: Settings) -> Result<Plan, Pl
 {
     let keyed = key_all(alloc, &rows, settings)?;
     let chained = chain_all(alloc, &rows)?;
+    let depth = longest(&chained.chains);
     Ok(Plan {
         rows,
         settings,
@@ -151,7 +154,19 @@ fn plan_of(alloc: Global, rows: Vec<Row>, settings: Settings) -> Result<Plan, Pl
         locking: keyed.locked.locking,
         locks: keyed.locked.locks,
         modes: keyed.modes,
+        depth,
     })
+}
+
+/// How many classes the longest of some chains has.
+fn longest(chains: &[Arc<Vec<Arc<ClassHead>>>]) -> usize
+    ensures { result ≡ largest (map (λ heads. length heads) (map heads_in chains.now)) }
+{
+    let mut longest = 0;
+    'nodes: for chain in chains {
+        longest = longest.max(chain.len());
+    }
+    longest
 }
 
 impl Plan {
@@ -245,11 +260,7 @@ impl Plan {
     pub fn depth(&self) -> usize
         ensures { result ≡ depth (tree_of self.now) }
     {
-        let mut depth = 0;
-        'nodes: for chain in &self.chains {
-            depth = depth.max(chain.len());
-        }
-        depth
+        self.depth
     }
 
     /// The execution mode of a node (JUnit 5 User Guide, parallel execution): its own mark, else

@@ -4,6 +4,4 @@
 pub mod owner;
 pub mod posts;
 mod rule;
-#[cfg(test)]
-mod tests;
 pub mod thief;

@@ -10,7 +10,7 @@ ghost use Rattle.iso_affected_text.specs.Texts.{affected_text, last_of, paths_te
 ghost use Rattle.iso_arguments.specs.RequestBounds.{AreInBounds};
 ghost use Rattle.iso_plan.specs.RowView.{tree_of};
 ghost use Rattle.iso_plan.specs.KeptNodes.{texts_of};
-ghost use Rattle.iso_run.specs.Alterations.{IsAlteration, StartsOtherwise, change_text};
+ghost use Rattle.iso_run.specs.Alterations.{AreBelow, IsAlteration, StartsOtherwise, change_text};
 ghost use Rattle.iso_run.specs.Commands.{AreFor, IsComparedIn, IsReady, IsStateOf, IsToldFor};
 ghost use Rattle.iso_run.specs.ExitStatuses.{Answers};
 ghost use Rattle.iso_run.specs.declared.command_fault.CommandFault.TheVariants.{Told};
@@ -69,11 +69,32 @@ pub(crate) fn show_affected<'a, G: AllocGlobal + Files + Threads, R: Read, W: Si
         (W.account output.old) (W.account output.new)) ⊥
         (W.account output.old) (W.account output.new) result }
 {
-    let bytes = read_files(rt, files, None, input)?;
-    let now = state_of(rt.alloc(), bytes, files)?;
     let names = names_below(rt.alloc(), asked.folder, files)?;
     let older = older_files(rt.alloc(), &names, files.explain)?;
-    match older_state(rt, &older) {
+    show_between(rt, asked, &older, files, input, output, errors)
+}
+
+/// The same, where the older state is these files.
+fn show_between<'a, G: AllocGlobal + Files + Threads, R: Read, W: Sink, E: Sink>(
+    rt: &G,
+    asked: Asked<'a>,
+    older: &InputFiles<'_>,
+    files: &InputFiles<'a>,
+    input: &mut R,
+    output: &mut W,
+    errors: &mut E,
+) -> Result<bool, CommandFault<'a>>
+    requires bounds { AreInBounds files.now }
+    requires older_bounds { AreInBounds older.now }
+    requires below { AreBelow asked.folder.now files.now older.now }
+    requires uncounted { older.now.processors ≡ None }
+    ensures { Answers (λ ok. (ok ≡ true) × IsToldFor asked.entry files.now (R.remaining input.old)
+        (W.account output.old) (W.account output.new)) ⊥
+        (W.account output.old) (W.account output.new) result }
+{
+    let bytes = read_files(rt, files, None, input)?;
+    let now = state_of(rt.alloc(), bytes, files)?;
+    match older_state(rt, older) {
         Ok(was) => show_change(rt.alloc(), asked, &was, &now, &files.scripts, output),
         Err(fault) => Err(told_fault(&fault, errors)),
     }

@@ -1,14 +1,15 @@
 //! The statements that name and assign values.
-ghost use Rattle.std.specs.Prelude.{◌≡◌, Err, OnOk};
+ghost use Rattle.std.specs.Prelude.{◌≡◌, Err, IfOk, OnOk};
 ghost use Rattle.iso_model.specs.Names.{assigned, assignment};
 ghost use Rattle.iso_model.specs.Resources.{Resources};
-ghost use Rattle.iso_model.specs.Statements.{declares, locally, upon, with_names};
+ghost use Rattle.iso_model.specs.Statements.{declares, locally, upon, value, with_names};
 ghost use Rattle.iso_model.specs.Syntax.{assign, let_name};
 ghost use Rattle.iso_model.specs.SyntaxView.{term_of};
 ghost use Rattle.iso_model.specs.Touch.{HasKeys};
 ghost use Rattle.iso_interp.specs.Runs.{Performs, SameWork, run_rights, state_of};
 
-use crate::expression::chain_at_once;
+use crate::expression::{chain_at_once, worked_out};
+use crate::interrupt::Interrupt;
 use crate::run::BlockRun;
 use iso_model::data::Data;
 use iso_model::fault::Fault;
@@ -69,9 +70,27 @@ impl<'a> BlockRun<'a> {
         if let Some(number) = chain_at_once(&self.names, expression) {
             return self.set(row, name, Data::Whole(number));
         }
-        match self.own_value(touch, expression)? {
+        match self.other_value(touch, expression)? {
             Ok(value) => self.set_value(row, name, value),
             Err(fault) => self.fault(row, fault),
+        }
+    }
+
+    /// The value of an expression that is no number at once, with a text of its own. That isn't
+    /// asked again.
+    fn other_value<T: Touch>(
+        &self,
+        touch: &T,
+        expression: &Expr,
+    ) -> Result<Result<Data, Fault>, AllocError>
+        requires { HasKeys (run_rights self.now) (T.content touch.now) (T.writes touch.now) }
+        ensures { IfOk result (λ g. g ≡ value (run_rights self.now)
+            (state_of self.now (T.content touch.now)) (term_of expression.now)) }
+    {
+        match worked_out(self.alloc, &self.names, self.rights, touch, expression) {
+            Ok(value) => Ok(Ok(value.into_data(self.alloc)?)),
+            Err(Interrupt::Fault(fault)) => Ok(Err(fault)),
+            Err(Interrupt::OutOfMemory) => Err(AllocError),
         }
     }
 

@@ -2,16 +2,21 @@ use Rattle.std.proofs.Common.{length, map, ap, sym, subst, ◌∙◌}
 use Rattle.std.proofs.lemmas.List.{length-map}
 use Rattle.std.proofs.lemmas.Result.{err_from_is_err_and}
 use Rattle.std.proofs.Common.{◌≡◌, ◌+◌, ◌≤◌, ℕ, List}
+use Rattle.std.specs.declared.alloc.Global.{Global}
+use Rattle.std.specs.declared.sync.Arc.{Arc}
+use Rattle.std.specs.declared.vec.Vec.{Vec}
+use Rattle.iso_model.specs.declared.heads.ClassHead.{ClassHead}
 use Rattle.iso_model.specs.declared.limits.TheConstants.{KEYS}
+use Rattle.iso_plan.proofs.DepthLemmas.{depth-is}
 use Rattle.iso_plan.proofs.FaultLemmas.{keys-none, keys-refused}
 use Rattle.iso_plan.specs.Faults.{IsCrowded}
 use Rattle.iso_plan.specs.KeyNumbers.{AreNumbers}
 use Rattle.iso_plan.specs.KeyTable.{keys}
 use Rattle.iso_plan.specs.Locks.{locking_node, locks}
 use Rattle.iso_plan.specs.Modes.{mode}
-use Rattle.iso_plan.specs.NodeChains.{chain_classes, node_rights}
+use Rattle.iso_plan.specs.NodeChains.{chain_classes, largest, node_rights}
 use Rattle.iso_plan.specs.Paths.{IsTree, children, column}
-use Rattle.iso_plan.specs.RowView.{row_of}
+use Rattle.iso_plan.specs.RowView.{heads_in, row_of}
 use Rattle.iso_plan.specs.Tree as T
 use Rattle.iso_plan.specs.declared.row.Row.{Row}
 use Rattle.iso_plan.proofs.plan.plan_of.Goals as goal
@@ -52,6 +57,9 @@ invariant_of-result c =
           keyed.locked.locks_are ∙ ap (λ (rs : List Row). column (locks (map row_of rs)) (length rs)) c.deref.ensures.value ∙ ap (column (locks tree)) (sym count);
       modes_are =
           keyed.modes_are ∙ ap (λ (rs : List Row). column (mode (map row_of rs) settings) (length rs)) c.deref.ensures.value ∙ ap (column (mode tree settings)) (sym count);
+      deepest_is =
+          c.longest-depth.ensures ∙ ap (λ (cs : List (Arc (Vec (Arc ClassHead Global) Global) Global)). largest (map (λ heads. length heads) (map heads_in cs))) c.deref-3.ensures.value
+          ∙ depth-is tree _ (chained.chains_are ∙ ap (λ (rs : List Row). column (chain_classes (map row_of rs)) (length rs)) c.deref-2.ensures.value ∙ ap (column (chain_classes tree)) (sym count));
     }
 
 pub returns-in_err-keyed-clause-refused : goal.returns-in_err-keyed-clause-refused

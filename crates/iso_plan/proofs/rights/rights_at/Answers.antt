@@ -1,4 +1,4 @@
-use Rattle.std.proofs.Common.{◌≡◌, ◌<◌, ◌-◌, ℕ, List, length, map, get_or, Option, None, ap, sym, refl, ◌∙◌, arith}
+use Rattle.std.proofs.Common.{◌≡◌, ◌<◌, ◌-◌, ℕ, List, map, Option, None, ap, sym, ◌∙◌, arith}
 use Rattle.std.proofs.lemmas.Result.{IfOk-weaker}
 use Rattle.iso_model.specs.Rights.{access_in}
 use Rattle.iso_model.specs.declared.access.Access.{Access}
@@ -7,7 +7,7 @@ use Rattle.iso_plan.proofs.LawLemmas.{rights-alike, rights-below, root-rights}
 use Rattle.iso_plan.specs.KeyTable.{kind_marks}
 use Rattle.iso_plan.specs.NodeChains.{node_rights}
 use Rattle.iso_plan.specs.Paths.{parent, row_at}
-use Rattle.iso_plan.specs.RowView.{kind_of, rights_in, row_of}
+use Rattle.iso_plan.specs.RowView.{rights_in, row_of}
 use Rattle.iso_plan.specs.Tree as T
 use Rattle.iso_plan.proofs.rights.rights_at.Goals as goal
 

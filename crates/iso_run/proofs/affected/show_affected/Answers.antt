@@ -1,17 +1,10 @@
-use Rattle.std.proofs.Common.{◌≡◌, Bool, Err, true, refl, subst, sym, ◌∙◌}
+use Rattle.std.proofs.Common.{refl, ◌∙◌}
 use Rattle.std.proofs.lemmas.Result.{err_from_is_err_and}
-use Rattle.iso_run.proofs.Altering.{told-for}
-use Rattle.iso_run.proofs.Answering.{answered-as}
 use Rattle.iso_run.proofs.affected.show_affected.Goals as goal
-use Rattle.iso_run.specs.Alterations.{AreBelow}
-use Rattle.iso_run.proofs.Flushing.{told-early}
-use Rattle.iso_run.specs.Commands.{IsComparedIn, IsToldFor}
-use Rattle.iso_run.specs.ExitStatuses.{Answers}
-use Rattle.iso_run.specs.declared.command_fault.CommandFault.{CommandFault}
 
 pub returns-in_err-names : goal.returns-in_err-names
 returns-in_err-names g c =
-    let p = err_from_is_err_and c.from_residual-in_err-names.result c.from_residual-in_err-names.ensures.1 in
+    let p = err_from_is_err_and c.from_residual.result c.from_residual.ensures.1 in
     rw (p.1, p.2) refl
 
 pub returns-in_err-older : goal.returns-in_err-older
@@ -19,39 +12,15 @@ returns-in_err-older g c =
     let p = err_from_is_err_and c.from_residual-in_err-older.result c.from_residual-in_err-older.ensures.1 in
     rw (p.1, p.2) refl
 
-pub returns-in-Ok : goal.returns-in-Ok
-returns-in-Ok g c =
-    let old = g.W.Sink.account c.args.output.now in
-    let new = g.W.Sink.account c.show_change.new.output in
-    let input = g.R.Read.remaining c.args.input.now in
-    let asked = c.args.asked in
-    let files = c.args.files.now in
-    let older = c.in_ok-older.older in
+pub show_between-requires-clause-below : goal.show_between-requires-clause-below
+show_between-requires-clause-below g c =
     let lent = c.in_ok-older.ensures in
     let named = c.in_ok-names.ensures in
-    let below : AreBelow asked.folder.now files older = record {
+    record {
       scripts = lent.scripts ∙ named.scripts;
       world = lent.world ∙ named.world;
       only = lent.all.0;
       patterns = lent.all.1;
       only_from = lent.all.2;
       shard = lent.whole.0;
-    } in
-    let after = c.in_ok-now.ensures.read input c.in_ok-bytes.ensures.read in
-    let before = c.in-Ok.ensures.read lent.all.2 lent.whole.1 in
-    let was = c.in-Ok.was in
-    let told : (ok : Bool) → (ok ≡ true) × IsComparedIn asked was.state c.in_ok-now.now c.deref.result.now was.missing old new → (ok ≡ true) × IsToldFor asked files input old new =
-    λ ok h. (
-      h.0,
-      told-for asked files older input before.0 after.0 was.state c.in_ok-now.now c.deref.result.now was.missing old new below before.1 after.1 before.2 after.2
-          c.deref.ensures.value h.1,
-    ) in
-    answered-as _ _ told ⊥ ⊥ (λ h. h) old new c.show_change.result c.show_change.ensures
-
-pub returns : goal.returns
-returns g c =
-    let old = g.W.Sink.account c.args.output.now in
-    let input = g.R.Read.remaining c.args.input.now in
-    let P : Bool → Type 0 = λ ok. (ok ≡ true) × IsToldFor c.args.asked c.args.files.now input old old in
-    let told = c.told_fault.ensures in
-    subst (λ (f : CommandFault). Answers P ⊥ old old (Err f)) (sym told.1) (told-early P old told.0)
+    }

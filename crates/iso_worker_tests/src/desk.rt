@@ -1,11 +1,12 @@
+//! The table of a scheduler: who waits in its lines, who is called, and what is on offer.
 ghost use Rattle.std.specs.Prelude.{◌≡◌, IfOk};
 
-use crate::crew::Crew;
-use crate::line::{KeyLine, Line, Party};
-use crate::marks::Marks;
-use crate::place::Place;
-use crate::scene::{Scene, has_nothing_for};
-use crate::table::Table;
+use iso_desk::crew::Crew;
+use iso_desk::line::{KeyLine, Line, Party};
+use iso_desk::marks::Marks;
+use iso_desk::place::Place;
+use iso_desk::scene::{Scene, has_nothing_for};
+use iso_desk::table::Table;
 use std::alloc::{AllocError, Global};
 use std::test::Fail;
 

@@ -1,6 +1,7 @@
-use crate::owner::Owner;
-use crate::posts::Posts;
-use crate::thief::{Stolen, Thief};
+//! Deques, by their owner and by thieves in threads of their own.
+use iso_posts::owner::Owner;
+use iso_posts::posts::Posts;
+use iso_posts::thief::{Stolen, Thief};
 use std::alloc::Global;
 use std::test::Fail;
 use std::thread;
