@@ -1,3 +1,5 @@
-//! Vaults, with memory at hand.
+//! Trays and vaults, with memory at hand.
+mod beside;
 mod suite;
+mod tray;
 mod vault;

@@ -5,6 +5,18 @@ use iso_settings::world::{World, read_world};
 use std::alloc::Global;
 use std::test::Fail;
 
+/// Two classes: one that reads a key which a test in it writes, and one that holds an isolated
+/// class.
+pub(crate) const CART_AND_DESK: &str = "team shop
+concurrent read \"K\" class Cart { concurrent test a { } write \"K\" test b { } }
+class Desk { test c { } isolated class Till { test d { } } }
+";
+
+/// Two readers and a writer of one file, and a writer of another.
+pub(crate) const READERS_AND_WRITERS: &str = "team shop
+class A { read \"file:a\" test r1 { } read \"file:a\" test r2 { } write \"file:a\" test w1 { } write \"file:b\" test w2 { } }
+";
+
 /// What a tray and a vault are made for.
 #[derive(Drop)]
 pub(crate) struct Suite {

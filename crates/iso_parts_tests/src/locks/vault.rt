@@ -1,13 +1,96 @@
 //! The vault of a plan, with memory at hand.
-ghost use Rattle.std.specs.Prelude.{◌≡◌};
+ghost use Rattle.std.specs.Prelude.{◌≡◌, ◌<◌, length};
 
-use crate::locks::suite::Suite;
+use crate::locks::suite::{CART_AND_DESK, READERS_AND_WRITERS, Suite};
+use iso_locks::laws;
 use iso_locks::tray::Tray;
-use iso_locks::vault::Vault;
+use iso_locks::vault::{Busy, Vault};
 use iso_plan::plan::Plan;
 use std::alloc::{AllocError, Global};
 use std::process::Abort;
 use std::test::Fail;
+
+/// What comes of lending a second node beside a first.
+#[derive(Debug, Clone, Copy, PartialEq, Eq)]
+struct Beside {
+    busy: Option<u32>,
+    /// How many values are away while the first is lent, and while both are.
+    away: (u32, u32),
+}
+
+/// A script, two nodes, and what comes of lending the second beside the first.
+struct Row {
+    script: &'static str,
+    first: u32,
+    second: u32,
+    want: Beside,
+}
+
+static ROWS: [Row; 7] = [
+    Row {
+        script: CART_AND_DESK,
+        first: 1,
+        second: 4,
+        want: Beside {
+            busy: Some(1),
+            away: (1, 1),
+        },
+    },
+    Row {
+        script: CART_AND_DESK,
+        first: 4,
+        second: 1,
+        want: Beside {
+            busy: Some(4),
+            away: (1, 1),
+        },
+    },
+    Row {
+        script: READERS_AND_WRITERS,
+        first: 2,
+        second: 3,
+        want: Beside {
+            busy: None,
+            away: (0, 0),
+        },
+    },
+    Row {
+        script: READERS_AND_WRITERS,
+        first: 2,
+        second: 4,
+        want: Beside {
+            busy: Some(2),
+            away: (0, 0),
+        },
+    },
+    Row {
+        script: READERS_AND_WRITERS,
+        first: 4,
+        second: 2,
+        want: Beside {
+            busy: Some(4),
+            away: (1, 1),
+        },
+    },
+    Row {
+        script: READERS_AND_WRITERS,
+        first: 2,
+        second: 5,
+        want: Beside {
+            busy: None,
+            away: (0, 1),
+        },
+    },
+    Row {
+        script: READERS_AND_WRITERS,
+        first: 4,
+        second: 5,
+        want: Beside {
+            busy: None,
+            away: (1, 2),
+        },
+    },
+];
 
 /// How many values of a plan are away.
 fn away(vault: &Vault<'_>, plan: &Plan) -> u32
@@ -20,6 +103,100 @@ fn away(vault: &Vault<'_>, plan: &Plan) -> u32
         }
     }
     away
+}
+
+/// Lends a node to a tray where none is in the way, and takes it back: what came of that, where
+/// `alone` values were away before.
+fn lend_second(
+    rt: &impl Abort,
+    plan: &Plan,
+    vault: &mut Vault<'_>,
+    tray: &mut Tray<'_>,
+    node: u32,
+    alone: u32,
+) -> Beside
+    requires within { node < length plan.now.rows }
+    requires plan { vault.old.plan ≡ plan.now }
+    requires tray_plan { tray.old.plan ≡ plan.now }
+    requires world { tray.old.world ≡ vault.old.world }
+    ensures plan { vault.new.plan ≡ plan.now }
+    ensures world { vault.new.world ≡ vault.old.world }
+{
+    laws::lent_nodes_may_be_taken_back();
+    assert!(rt; !vault.is_lent(node) && tray.can_hold(node));
+    match vault.lend(node, tray) {
+        Ok(()) => {
+            let both = away(vault, plan);
+            assert!(rt; vault.is_lent(node));
+            vault.take_back(node, tray);
+            Beside {
+                busy: None,
+                away: (alone, both),
+            }
+        }
+        Err(Busy { node }) => Beside {
+            busy: Some(node),
+            away: (alone, alone),
+        },
+    }
+}
+
+/// Lends a node to a tray and a second one to another, and takes both back, after which every value
+/// is home: what came of the second.
+fn lend_both(
+    rt: &impl Abort,
+    plan: &Plan,
+    vault: &mut Vault<'_>,
+    here: &mut Tray<'_>,
+    there: &mut Tray<'_>,
+    first: u32,
+    second: u32,
+) -> Beside
+    requires plan { vault.old.plan ≡ plan.now }
+    requires here_plan { here.old.plan ≡ plan.now }
+    requires there_plan { there.old.plan ≡ plan.now }
+    requires here_world { here.old.world ≡ vault.old.world }
+    requires there_world { there.old.world ≡ vault.old.world }
+{
+    laws::lent_nodes_may_be_taken_back();
+    assert!(rt; first < plan.len() && second < plan.len());
+    assert!(rt; !vault.is_lent(first) && here.can_hold(first));
+    let Ok(()) = vault.lend(first, here) else {
+        panic!(rt; "nothing is lent beside the first");
+    };
+    let alone = away(vault, plan);
+    let beside = lend_second(rt, plan, vault, there, second, alone);
+    assert!(rt; vault.is_lent(first));
+    vault.take_back(first, here);
+    assert_eq!(rt; away(vault, plan), 0);
+    beside
+}
+
+/// Lends the two nodes of a row to two trays.
+fn check_row(rt: &impl Abort, alloc: Global, suite: &Suite, row: &Row) {
+    let mut vault = Vault::new(alloc, &suite.plan, &suite.world).expect(rt, "memory");
+    let mut here = Tray::new(alloc, &suite.plan, &suite.world).expect(rt, "memory");
+    let mut there = Tray::new(alloc, &suite.plan, &suite.world).expect(rt, "memory");
+    let (first, second) = (row.first, row.second);
+    let beside = lend_both(
+        rt,
+        &suite.plan,
+        &mut vault,
+        &mut here,
+        &mut there,
+        first,
+        second,
+    );
+    assert_eq!(rt; beside, row.want, "{second} beside {first}");
+}
+
+#[test]
+fn conflicting_nodes_wait_and_readers_share(rt: HostRuntime) -> Result<(), Fail> {
+    let alloc = rt.alloc();
+    for row in &ROWS {
+        check_row(&rt, alloc, &Suite::of(alloc, row.script)?, row);
+    }
+    Ok(())
 }
 
 /// Adds a test that writes a key of its own.
