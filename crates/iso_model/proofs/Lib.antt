@@ -20,10 +20,10 @@ pub mod LayerLemmas
 pub mod LineLemmas
 pub mod MemoryLemmas
 pub mod NameLemmas
+pub mod NameMapLemmas
 pub mod Output
 pub mod Pairs
 pub mod PlaceLemmas
-pub mod PropertyLemmas
 pub mod RightsLemmas
 pub mod SameLemmas
 pub mod SeenNames

@@ -17,6 +17,7 @@ pub mod Lines
 pub mod LinesView
 pub mod Memory
 pub mod NameLayers
+pub mod NameMaps
 pub mod Names
 pub mod NamePlaces
 pub mod NameSets

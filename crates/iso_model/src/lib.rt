@@ -20,6 +20,7 @@ pub mod lines;
 pub mod memory;
 mod name_layer;
 mod name_list;
+pub mod name_map;
 pub mod names;
 pub mod outcome;
 pub mod place;

@@ -1,5 +1,6 @@
 ghost use Rattle.std.specs.Prelude.{◌≡◌, ◌++◌, IfOk, length, string_bytes, ◌==◌, bytes_eq};
 
+use crate::name_map::Same;
 use std::alloc::{AllocError, Global};
 use std::marker::Model;
 
@@ -51,5 +52,11 @@ impl Text {
         ensures { IfOk result (λ t. t ≡ self.now) }
     {
         Text::copied(alloc, self.as_str())
+    }
+}
+
+impl Same for Text {
+    fn same(&self, other: &Text) -> bool {
+        self.as_str() == other.as_str()
     }
 }

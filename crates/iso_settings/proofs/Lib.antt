@@ -2,5 +2,4 @@ pub mod ExampleLemmas
 pub mod LeafLemmas
 pub mod NumeralLemmas
 pub mod SettingsLemmas
-pub mod TextLemmas
 pub mod WorldLemmas

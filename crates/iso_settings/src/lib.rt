@@ -9,5 +9,4 @@ mod rules;
 pub mod settings;
 mod starts;
 mod table;
-mod texts;
 pub mod world;

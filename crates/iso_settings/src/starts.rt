@@ -1,14 +1,13 @@
 //! Starting values that the world names. Each is kept once, and all who look at it share it.
-ghost use Rattle.std.specs.Prelude.{◌≡◌, ◌↔◌, ℕ, IfOk, IsTrue, List, OnOk, Some, option_copied, string_bytes};
+ghost use Rattle.std.specs.Prelude.{◌≡◌, ℕ, IfOk, List, Some};
 ghost use Rattle.std.specs.Arc.{arc_value};
-ghost use Rattle.std.specs.FinMap as map;
 ghost use Rattle.iso_model.specs.declared.resource.Resource.TheVariants.{File, Locale, Props};
 
+use iso_model::name_map::{NameMap, Same};
 use iso_model::properties::Properties;
 use iso_model::resource::Resource;
 use iso_model::text::Text;
 use std::alloc::{AllocError, Global};
-use std::collections::BTreeMap;
 use std::marker::Model;
 use std::sync::Arc;
 
@@ -56,6 +55,12 @@ impl FileStart {
         ensures { IfOk result (λ value. arc_value value ≡ File (Some self.now)) }
     {
         Arc::try_clone(&self.value)
+    }
+}
+
+impl Same for FileStart {
+    fn same(&self, other: &FileStart) -> bool {
+        self.as_str() == other.as_str()
     }
 }
 
@@ -159,70 +164,15 @@ impl PropertiesStart {
 
 /// The starting values of the files that are there, by their paths. Contracts see the texts by the
 /// paths.
-#[derive(Drop)]
-pub(crate) struct FileStarts {
-    entries: BTreeMap<String, FileStart>,
-}
+pub(crate) type FileStarts = NameMap<FileStart>;
 
-impl Model for FileStarts {
-    ghost use Rattle.iso_model.specs.Properties.{Map, map_of};
-    ghost use Rattle.iso_settings.specs.Worlds.{map_code};
-
-    ghost Value = { Map };
-
-    ghost coded = { map_code };
-
-    ghost view = { λ s. map_of s.entries.entries };
-}
-
-impl FileStarts {
-    /// No files.
-    pub fn new(alloc: Global) -> FileStarts
-        ensures { result ≡ map.empty }
-    {
-        FileStarts {
-            entries: BTreeMap::new(alloc),
-        }
+/// The starting values of files with these paths and texts. Copies neither.
+pub(crate) fn file_starts(alloc: Global, texts: NameMap<Text>) -> Result<FileStarts, AllocError>
+    ensures { IfOk result (λ files. files ≡ texts) }
+{
+    let mut files = FileStarts::new(alloc);
+    'entries: for (path, text) in texts {
+        files.set(path, FileStart::new(alloc, text)?)?;
     }
-
-    /// The starting value of the file at a path, or `None` where the file is missing.
-    pub fn get(&self, path: &str) -> Option<&FileStart>
-        ensures { option_copied result ≡ map.get self.now path.now }
-    {
-        self.entries.get(path)
-    }
-
-    /// Puts a starting value at a path, in place of the one there. After running out of memory they
-    /// are of no use.
-    pub fn put(&mut self, path: String, start: FileStart) -> Result<(), AllocError>
-        ensures { OnOk result (self.new ≡ map.insert self.old (string_bytes path) start) }
-    {
-        self.entries.insert(path, start)?;
-        Ok(())
-    }
-
-    /// Whether both have the same files, with the same texts. Looks up each path of both in the
-    /// other at most once, and takes no memory.
-    pub fn same(&self, other: &FileStarts) -> bool
-        ensures { IsTrue result ↔ (self.now ≡ other.now) }
-    {
-        self.is_within(other) && other.is_within(self)
-    }
-
-    /// Whether the other has each file of this one, with the same text.
-    fn is_within(&self, other: &FileStarts) -> bool
-        ensures { IsTrue result
-            ↔ ((path text : List ℕ) → map.get self.now path ≡ Some text → map.get other.now path
-            ≡ Some text) }
-    {
-        'entries: for (path, start) in self.entries.iter() {
-            let Some(found) = other.get(path.as_str()) else {
-                return false;
-            };
-            if found.as_str() != start.as_str() {
-                return false;
-            }
-        }
-        true
-    }
+    Ok(files)
 }

@@ -7,11 +7,11 @@ ghost use Rattle.iso_settings.specs.Worlds.{is_long, is_printable, locale_of, ta
 ghost use Rattle.iso_settings.specs.declared.fault.SettingsFault.TheVariants.{OutOfRange, WrongValue};
 
 use crate::fault::{SettingsError, out_of_range, wrong_value};
-use crate::starts::{FileStarts, LocaleStart, PropertiesStart};
+use crate::starts::{FileStarts, LocaleStart, PropertiesStart, file_starts};
 use crate::table::read_table;
-use crate::texts::Texts;
 use iso_model::key::Key;
 use iso_model::limits::TEXT_BYTES;
+use iso_model::name_map::NameMap;
 use iso_model::properties::Properties;
 use iso_model::resource::{Resource, default_locale};
 use iso_model::text::Text;
@@ -86,12 +86,11 @@ impl World {
         ensures { GivesAs (λ _. self.new) (with_entry self.old key.now (view value.now)) result }
     {
         if key == "files" {
-            self.files = table_of(alloc, key, value)?.into_files(alloc)?;
+            self.files = file_starts(alloc, table_of(alloc, key, value)?)?;
         } else if key == "locale" {
             self.locale = LocaleStart::new(alloc, locale_of(alloc, key, value)?)?;
         } else if key == "properties" {
-            let properties = table_of(alloc, key, value)?.into_properties(alloc)?;
-            self.properties = PropertiesStart::new(alloc, properties)?;
+            self.properties = PropertiesStart::new(alloc, table_of(alloc, key, value)?)?;
         } else {
             return Err(wrong_value(alloc, key));
         }
@@ -186,13 +185,13 @@ fn locale_of(alloc: Global, key: &str, value: &Value) -> Result<Text, SettingsEr
 }
 
 /// A table of texts.
-fn table_of(alloc: Global, top: &str, value: &Value) -> Result<Texts, SettingsError>
+fn table_of(alloc: Global, top: &str, value: &Value) -> Result<NameMap<Text>, SettingsError>
     ensures { Gives (table_of top.now (view value.now)) result }
 {
     match value {
         Value::Table(table) => {
             let mut path = String::new(alloc);
-            let mut texts = Texts::new(alloc);
+            let mut texts = NameMap::new(alloc);
             add_texts(alloc, top, &mut path, table, &mut texts)?;
             Ok(texts)
         }
@@ -208,7 +207,7 @@ fn add_texts(
     top: &str,
     path: &mut String,
     table: &Table,
-    texts: &mut Texts,
+    texts: &mut NameMap<Text>,
 ) -> Result<(), SettingsError>
     ensures texts { GivesAs (λ _. texts.new)
         (texts_of top.now texts.old (leaves_behind (string_bytes path.old) (table_view table.now)))
@@ -231,7 +230,7 @@ fn add_value(
     top: &str,
     key: &mut String,
     value: &Value,
-    texts: &mut Texts,
+    texts: &mut NameMap<Text>,
 ) -> Result<(), SettingsError>
     ensures texts { GivesAs (λ _. texts.new)
         (texts_of top.now texts.old (leaves_at (string_bytes key.old) (view value.now))) result }
@@ -257,7 +256,7 @@ fn add_text(
     top: &str,
     key: &str,
     value: &Value,
-    texts: &mut Texts,
+    texts: &mut NameMap<Text>,
 ) -> Result<(), SettingsError>
     ensures { GivesAs (λ _. texts.new)
         (with_text top.now texts.old key.now (view value.now)) result }
@@ -271,7 +270,7 @@ fn add_text(
 fn text_of(
     alloc: Global,
     top: &str,
-    before: &Texts,
+    before: &NameMap<Text>,
     key: &str,
     value: &Value,
 ) -> Result<Text, SettingsError>

@@ -1,27 +1,26 @@
-use Rattle.std.proofs.Common.{◌≡◌, ◌∷◌, [], List, String, Global, ℕ, string_bytes, ap, sym, ◌∙◌, arith}
+use Rattle.std.proofs.Common.{◌≡◌, ◌∷◌, [], List, String, Global, ℕ, arith}
 use Rattle.std.proofs.lemmas.Grind.{common_steps}
-use Rattle.std.specs.FinMap.{get}
-use Rattle.iso_model.proofs.PropertyLemmas.{Covers-none, Covers-more, Covers-all, turn}
+use Rattle.std.specs.Map.Iter.{deref_pair}
+use Rattle.iso_model.proofs.NameMapLemmas.{Covers-none, Covers-more, Covers-all, turn}
 use Rattle.iso_model.proofs.properties.Properties.copy.Goals as goal
 
 pub entries-init : goal.entries-init
 entries-init c =
-    let start : c.into_iter-name-iterator.result ≡ c.self.inside.entries.entries = grind (arith, common_steps) in
-    (tt, tt, rw (start, c.new-copied.ensures, ← c.self.view_is) (Covers-none c.self.inside.entries.entries))
+    let start : c.into_iter-name-iterator.result ≡ c.iter-name-items.result = grind (arith, common_steps) in
+    (tt, tt, rw (start, c.new-copied.ensures, ← c.iter-name-items.ensures.entries) (Covers-none c.iter-name-items.result))
 
 pub entries-preserved : goal.entries-preserved
 entries-preserved c =
     let (can, finite, covers) = c.entries.invariant in
     let e : String Global × List ℕ = (c.in-Some.name.now, c.in-Some.text.now) in
     let iter : c.entries.name-iterator ≡ e ∷ c.next.new.self = grind (arith, common_steps) in
-    let start : c.into_iter-name-iterator.result ≡ c.self.inside.entries.entries = grind (arith, common_steps) in
-    let there = turn c.entries.yielded c.into_iter-name-iterator.result c.entries.name-iterator c.next.new.self c.next.result (c.in-Some.name, c.in-Some.text) c.entries.yielded_by c.in-Some.is
-    c.next.ensures.steps c.self.inside.entries start c.iter-name-items.ensures.ordered in
-    let set = c.in_ok-set.ensures.ok in (
+    let start : c.into_iter-name-iterator.result ≡ c.iter-name-items.result = grind (arith, common_steps) in
+    let there = turn deref_pair c.entries.yielded c.into_iter-name-iterator.result c.entries.name-iterator c.next.new.self c.next.result (c.in-Some.name, c.in-Some.text) c.entries.yielded_by
+    c.in-Some.is c.next.ensures.steps c.iter-name-items.result start c.iter-name-items.ensures.ordered c.args.self.now c.iter-name-items.ensures.entries in (
       tt,
       tt,
-      rw (set, c.in_ok-from_str.ensures.ok, c.as_str.ensures.value, c.in_ok-copy.ensures)
-          (Covers-more c.entries.copied e c.next.new.self c.args.self.now (rw iter at covers) (ap (λ m. get m (string_bytes c.in-Some.name.now)) (sym c.self.view_is) ∙ there)),
+      rw (c.in_ok-set.ensures.ok, c.in_ok-from_str.ensures.ok, c.as_str.ensures.value, c.in_ok-copy.ensures)
+          (Covers-more c.entries.copied e c.next.new.self c.args.self.now (rw iter at covers) there),
     )
 
 pub returns : goal.returns

@@ -1,4 +1,4 @@
-use Rattle.iso_model.proofs.PropertyLemmas.{Covers}
+use Rattle.iso_model.proofs.NameMapLemmas.{Covers}
 use Rattle.iso_model.proofs.properties.Properties.copy.Given as goal
 
 abbrev pub invariant-entries : goal.invariant-entries

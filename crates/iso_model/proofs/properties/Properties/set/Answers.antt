@@ -1,6 +1,0 @@
-use Rattle.std.proofs.Common.{string_bytes}
-use Rattle.iso_model.proofs.PropertyLemmas.{map_of-insert}
-use Rattle.iso_model.proofs.properties.Properties.set.Goals as goal
-
-pub returns-clause-ok : goal.returns-clause-ok
-returns-clause-ok c = rw (← c.self.view_is) (map_of-insert c.self.inside.entries c.insert.new.self (string_bytes c.args.name) c.args.text c.in_ok-insert.ensures.updates)

@@ -1,7 +1,0 @@
-use Rattle.iso_model.proofs.PropertyLemmas.{Covers}
-use Rattle.iso_settings.proofs.texts.Texts.into_files.Given as goal
-
-abbrev pub invariant-entries : goal.invariant-entries
-invariant-entries l =
-    (goal.iterator-entries).can_next l.path-iterator × (goal.iterator-entries).is_finite l.path-iterator
-    × Covers l.files l.path-iterator l.fn.self

@@ -1,6 +1,0 @@
-use Rattle.std.proofs.Common.{string_bytes}
-use Rattle.iso_model.proofs.PropertyLemmas.{map_of-insert}
-use Rattle.iso_settings.proofs.texts.Texts.set.Goals as goal
-
-pub returns : goal.returns
-returns c = rw (← c.self.view_is) (map_of-insert c.self.inside.entries c.insert.new.self (string_bytes c.args.key) c.args.text c.in_ok-insert.ensures.updates)
