@@ -16,7 +16,8 @@ use Rattle.iso_model.specs.declared.resource.Change.{Change}
 use Rattle.iso_model.specs.declared.resource.Resource.{Resource}
 use Rattle.iso_model.specs.declared.resource.Resource.TheVariants.{Props}
 use Rattle.iso_model.specs.declared.resource.Change.TheVariants.{SetProp, ClearProp}
-use Rattle.iso_store.proofs.PlaceLemmas.{same, same_properties, get-given, get-overlaid, first_of_two}
+use Rattle.iso_model.proofs.NameMapLemmas as name_maps
+use Rattle.iso_store.proofs.PlaceLemmas.{same, get-given, get-overlaid, first_of_two}
 use Rattle.iso_store.specs.Layers.{over, place_in, properties_over}
 use Rattle.iso_store.specs.Places.{Places, given}
 
@@ -80,7 +81,7 @@ get-properties_over (p ∷ ps) m q =
 -- properties with a place more
 pub properties-put : (ps ns : List Places) (m : Map) (k : List ℕ) (x : Option (List ℕ))
     → ((q : List ℕ) → place_in ns q ≡ cond (bytes_eq q k) (Some x) (place_in ps q)) → properties_over ns m ≡ given (properties_over ps m) k x
-properties-put ps ns m k x put = same_properties _ _ (λ q.
+properties-put ps ns m k x put = name_maps.same _ _ (λ q.
     get-properties_over ns m q
     ∙ ap (λ (o : Option (Option (List ℕ))). unwrap_or o (get m q)) (put q ∙ ap (λ (b : Bool). cond b (Some x) (place_in ps q)) (sym (is_eq-slice_cmp q k)))
     ∙ sym (first_of_two (same q k) x (place_in ps q) (get m q))

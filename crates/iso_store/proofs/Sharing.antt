@@ -2,8 +2,10 @@
 use denote.Param.Send.{IsSend, sendable}
 use denote.Param.SendFields.{as_row_send, declared_send}
 use Rattle.std.proofs.Crossing.{crosses}
+use Rattle.iso_model.proofs.name_map.NameMap.TheSendSync as places
 use Rattle.iso_model.proofs.resource.Resource.TheSendSync as resource
-use Rattle.iso_store.proofs.places.Places.TheSendSync as places
+use Rattle.iso_model.proofs.text.Text.TheSendSync as text
+use Rattle.std.proofs.option.Option.TheSendSync as option
 use Rattle.iso_store.specs.contracts.held.Held as held
 use Rattle.iso_store.specs.contracts.held.Held.TheInside as held_inside
 use Rattle.iso_store.specs.contracts.held.Savepoint as savepoint
@@ -12,7 +14,7 @@ use Rattle.iso_store.specs.contracts.layers.Layers as layers
 use Rattle.iso_store.specs.contracts.layers.Layers.TheInside as layers_inside
 use Rattle.iso_store.specs.contracts.value.Value as value
 
-ruleset parts = (places.the_send, places.the_sync, resource.the_send, as_row_send, crosses, sendable)
+ruleset parts = (places.the_send, places.the_sync, option.the_send, option.the_sync, text.the_send, text.the_sync, resource.the_send, as_row_send, crosses, sendable)
 
 pub layers_sent : IsSend layers.the_row
 layers_sent = search (declared_send layers_inside.the_type (search parts, tt), sendable)

@@ -70,14 +70,15 @@ impl Layers {
             ≡ cond (bytes_eq q name) (Some text) (place_in self.old q)) }
         ensures err { OnErr result (self.new ≡ self.old) }
     {
+        let name = name.into_string();
         if let Some(newest) = self.layers.first_mut()
             && let Some(places) = Arc::get_mut(newest)
         {
-            places.put(name, text)?;
+            places.set(name, text)?;
             return Ok(());
         }
         let mut places = Places::new(alloc);
-        places.put(name, text)?;
+        places.set(name, text)?;
         self.layers.insert(0, Arc::new(alloc, places)?)?;
         Ok(())
     }

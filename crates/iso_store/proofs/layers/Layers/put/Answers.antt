@@ -13,8 +13,8 @@ use Rattle.iso_store.proofs.layers.Layers.put.Goals.{in_default-via-in-None-1, i
 pub returns-clause-ok : goal.returns-clause-ok
 returns-clause-ok c = λ q.
     let xs = c.self.inside.layers.items in
-    place-first xs c.in-Some.newest.now c.put.new.self c.args.name c.args.text q (subst (λ (n : ℕ). 0 < n) c.self.inside.layers.ok.0 (c.in-Some.ensures.variant.0 refl)) c.in-Some.ensures.value
-    (c.in_ok-put.ensures.ok ∙ ap (λ (p : Places). insert p c.args.name c.args.text) c.in-Some-get_mut.ensures.value)
+    place-first xs c.in-Some.newest.now c.set.new.self c.args.name c.args.text q (subst (λ (n : ℕ). 0 < n) c.self.inside.layers.ok.0 (c.in-Some.ensures.variant.0 refl)) c.in-Some.ensures.value
+    ((rw c.into_string-name.ensures at c.in_ok-set.ensures.ok) ∙ ap (λ (p : Places). insert p c.args.name c.args.text) c.in-Some-get_mut.ensures.value)
     ∙ ap (λ (ps : List Places). cond (bytes_eq q c.args.name) (Some c.args.text) (place_in ps q)) c.self.view_is
 
 pub returns-2-clause-ok : goal.returns-2-clause-ok
@@ -23,7 +23,7 @@ returns-2-clause-ok c = λ q.
       | in_default-via-in-None-1 w ↦ ap the_view w.self-inside-is ∙ c.self.view_is
       | in_default-via-in-Some+in-None-1 w ↦ ap the_view w.self-inside-is ∙ ap (map arc_value) (set-same c.self.inside.layers.items w.in-Some.newest.now w.in-Some.ensures.value) ∙ c.self.view_is
     ] in
-    let first : arc_value c.in_ok-new.field-0 ≡ insert empty c.args.name c.args.text = c.in_ok-new.ensures.ok ∙ c.in_ok-put-2.ensures.ok
+    let first : arc_value c.in_ok-new.field-0 ≡ insert empty c.args.name c.args.text = c.in_ok-new.ensures.ok ∙ (rw c.into_string-name.ensures at c.in_ok-set-2.ensures.ok)
     ∙ ap (λ (p : Places). insert p c.args.name c.args.text) c.new-places.ensures in
     ap (λ (xs : List (Arc Places Global)). place_in (map arc_value xs) q) c.in_ok-insert.ensures.items
     ∙ ap (λ (p : Places). place_in (p ∷ map arc_value c.in_default.self-inside.layers.items) q) first
