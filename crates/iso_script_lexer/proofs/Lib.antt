@@ -9,6 +9,7 @@ pub mod Gaps
 pub mod Prefixes
 pub mod Words
 pub mod Fronts
+pub mod Begins
 pub mod NameLemmas
 pub mod NumberLemmas
 pub mod TextLemmas

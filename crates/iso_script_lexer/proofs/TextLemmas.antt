@@ -3,7 +3,7 @@ use Rattle.std.proofs.Common.{◌≡◌, ℕ, zero, suc, ◌+◌, ◌-◌, ◌<�
 use Rattle.std.proofs.lemmas.Bool.Decides.{nat_tests}
 use Rattle.std.proofs.lemmas.List.{take-append-drop}
 use Rattle.std.proofs.Math.Seq.{take-append_seam, drop-append-add}
-use Rattle.std.specs.List.{AllByRecursion}
+use Rattle.std.specs.List.{AllByRecursion, list_all}
 use Rattle.iso_script_lexer.specs.Piece.{text_at}
 use Rattle.iso_script_lexer.specs.Spelling.{is_printable, is_escaped}
 use Rattle.iso_script_lexer.specs.Text.{written, decoded, is_quoted, IsQuoted, IsText}
@@ -157,3 +157,15 @@ text_front r bs = go (quoted_length false 4096 bs) refl
         (ap (λ ds. 34 ∷ ds) (sym (take-append-drop n bs) ∙ ap (λ ds. take n bs ++ ds) (closes false 4096 n bs e)
         ∙ ap (λ raw. raw ++ (34 ∷ drop (n + 1) bs)) (sym (written-decoded false (take n bs) t.plain))))
         record { printable = decoded-AllPrintable false (take n bs) t.plain; short = t.short })
+
+-- what has no backslash means itself
+pub plain-decoded : (bs : List ℕ) → list_all (λ b. not (nat_eq b 92)) bs ≡ true → decoded false bs ≡ bs
+unfolding decoded
+plain-decoded [] h = refl
+plain-decoded (b ∷ bs) h =
+    let t = both (not (nat_eq b 92)) (list_all (λ b. not (nat_eq b 92)) bs) h in
+    rw (unmarked (nat_eq b 92) t.0, plain-decoded bs t.1) refl
+  where
+    unmarked : (s : Bool) → not s ≡ true → s ≡ false
+    unmarked false e = refl
+    unmarked true e = cc

@@ -129,7 +129,16 @@ begins_no_word b n h out = go (word_of n) refl
         let k : true ≡ false = sym (first_passes begins_word b n h begun) ∙ out in
         cc
 
-pub empty_no_word : (n : List ℕ) → length n < 1 → None ≡ word_of n
-unfolding word_of
-empty_no_word [] h = refl
-empty_no_word (b ∷ n) h = absurd (omega arith)
+two_bytes : (w : Word) → nat_le 2 (length (spelling w)) ≡ true
+two_bytes Team = refl
+two_bytes _ = refl
+
+-- a name of one byte is no word
+pub short_no_word : (n : List ℕ) → length n < 2 → None ≡ word_of n
+short_no_word n short = go (word_of n) refl
+  where
+    go : (o : Option Word) → word_of n ≡ o → None ≡ word_of n
+    go None e = sym e
+    go (Some w) e =
+        let two : nat_le 2 (length n) ≡ true = ap (λ n. nat_le 2 (length n)) (sym (spelling-word_of n w e)) ∙ two_bytes w in
+        absurd (grind (arith, nat_tests))

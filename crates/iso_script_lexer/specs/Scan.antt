@@ -1,6 +1,6 @@
 -- The lexer's view of bytes: the pieces that are read from them, by functions.
-use Rattle.std.specs.Prelude.{ℕ, zero, suc, ◌+◌, ◌-◌, List, [], ◌∷◌, Bool, true, false, nat_eq, nat_le, ◌&&◌, Option, Some, None, if◌then◌else◌, length, take, drop, option_map}
-use Rattle.std.specs.List.{prefix_len}
+use Rattle.std.specs.Prelude.{codes, ◌||◌, ℕ, zero, suc, ◌+◌, ◌-◌, List, [], ◌∷◌, Bool, true, false, nat_eq, nat_le, ◌&&◌, Option, Some, None, if◌then◌else◌, length, take, drop, option_map}
+use Rattle.std.specs.List.{list_any, prefix_len}
 use Rattle.iso_script_lexer.specs.Positions.{Line, position}
 use Rattle.iso_script_lexer.specs.Piece.{Piece, name_at, number_at, text_at, word_at, symbol_at, bad_at}
 use Rattle.iso_script_lexer.specs.Spelling.{begins, begins_in, is_blank, is_printable, in_comment, is_letter, is_digit, in_name, is_escaped, word_of}
@@ -33,6 +33,17 @@ gap_from true number line (b ∷ bs) =
 
 abbrev pub after_gap : (comment : Bool) → Line → List ℕ → Line × List ℕ
 after_gap comment line bs = gap_from comment line.0 line.1 bs
+
+-- what a byte begins: `a` stands for each letter, `0` for each digit, a slash for what stands in
+-- gaps or begins a comment, and a point for what begins nothing; a quote and what symbols begin with
+-- stand for themselves
+unfoldable pub begun_by : ℕ → ℕ
+begun_by b =
+    if is_letter b then 97
+    else if is_digit b then 48
+    else if is_blank b || (nat_eq b 10 || nat_eq b 47) then 47
+    else if list_any (nat_eq b) (codes "!\"()*+,-;<={}") then b
+    else 46
 
 abbrev pub one_more : Option ℕ → Option ℕ
 one_more n = option_map (λ k. k + 1) n

@@ -4,11 +4,30 @@ ghost use Rattle.iso_script_lexer.specs.Cursors.{line_of};
 ghost use Rattle.iso_script_lexer.specs.Scan.{after_gap, gap_from};
 ghost use Rattle.iso_script_lexer.specs.Spelling.{begins};
 
+use crate::begin::begun_by;
 use crate::cursor::Cursor;
 
-/// What follows the blanks, line feeds and comments that come next.
+/// What follows the blanks, line feeds and comments that come next. Where these are spaces alone
+/// the cursor stays before them, as it is quicker to write what is left when it is known.
+pub(crate) fn skip_gap<'a>(cursor: &mut Cursor<'a>) -> &'a [u8]
+    ensures value { (line_of cursor.new, result.now)
+        ≡ after_gap false (line_of cursor.old) cursor.old.rest.now }
+    ensures shorter { length result.now ≤ length cursor.new.rest.now }
+{
+    let rest = after_spaces(cursor.rest);
+    match rest {
+        [byte, ..] if begun_by(*byte) == b'/' => {
+            *cursor = after_gap(*cursor);
+            cursor.rest
+        }
+        _ => rest,
+    }
+}
+
+/// Behind the blanks, line feeds and comments that come next.
+#[inline(never)]
 #[tactic(auto, unfolding(crate::specs::Scan::gap_from))]
-pub(crate) fn skip_gap(start: Cursor<'_>) -> Cursor<'_>
+fn after_gap(start: Cursor<'_>) -> Cursor<'_>
     ensures { (line_of result, result.rest.now)
         ≡ after_gap false (line_of start.entry) start.entry.rest.now }
 {

@@ -59,20 +59,19 @@ impl<'a> Lexer<'a> {
         requires { self.old ≢ [] }
         ensures { self.new ≡ tail self.old }
     {
-        let start = skip_gap(self.next);
-        match scan(start.rest) {
-            Ok((token, rest)) => *self = Lexer {
-                token,
-                position: start.position(),
-                next: start.further(rest),
-            },
+        let rest = skip_gap(&mut self.next);
+        let start = self.next.further(rest);
+        match scan(rest) {
+            Ok((token, after)) => {
+                self.token = token;
+                self.position = start.position();
+                self.next.rest = after;
+            }
             Err(misspelling) => {
-                let (_, fault) = start.rest.split_at(misspelling.offset);
-                *self = Lexer {
-                    token: Token::Bad(misspelling.fault),
-                    position: start.further(fault).position(),
-                    next: start.further(&[]),
-                };
+                let (_, fault) = rest.split_at(misspelling.offset);
+                self.token = Token::Bad(misspelling.fault);
+                self.position = start.further(fault).position();
+                self.next.rest = &[];
             }
         }
     }

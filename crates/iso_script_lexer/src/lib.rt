@@ -1,6 +1,7 @@
 //! The lexer of the script language: bytes to tokens, each with its position.
 #![tactic(auto)]
 
+mod begin;
 mod cursor;
 pub mod examples;
 mod gap;

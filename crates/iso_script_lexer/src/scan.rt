@@ -10,6 +10,7 @@ ghost use Rattle.iso_script_lexer.specs.Tokens.{IsToken};
 ghost use Rattle.iso_script_lexer.specs.Scanned.{seen, IsWithin};
 ghost use Rattle.iso_script_lexer.specs.declared.token.Position.{Position};
 
+use crate::begin::{begun_by, is_name_byte};
 use crate::symbol::symbol_at;
 use crate::text::QuotedText;
 use crate::token::{Token, TokenFault};
@@ -36,45 +37,11 @@ fn fault_at(fault: TokenFault, offset: usize) -> Misspelling
     Misspelling { fault, offset }
 }
 
-/// Whether a name may begin so.
-fn is_letter(byte: u8) -> bool
-    ensures { result ≡ is_letter byte }
-{
-    matches!(byte, b'a'..=b'z' | b'A'..=b'Z')
-}
-
-/// Whether a name may go on so.
-fn is_name_byte(byte: u8) -> bool
-    ensures { result ≡ in_name byte }
-{
-    is_letter(byte) || matches!(byte, b'0'..=b'9' | b'_')
-}
-
 /// How many bytes a name at the front has.
 fn name_length(bytes: &[u8]) -> usize
     ensures { result ≡ prefix_len in_name bytes.now }
 {
-    let mut rest = bytes;
-    'name: loop {
-        rest = after_small_letters(rest);
-        match rest {
-            [byte, after @ ..] if is_name_byte(*byte) => rest = after,
-            _ => return bytes.len() - rest.len(),
-        }
-    }
-}
-
-/// What follows the small letters that come next: they are the most of what stands in names.
-fn after_small_letters(bytes: &[u8]) -> &[u8]
-    ensures value { prefix_len in_name bytes.now
-        ≡ (length bytes.now - length result.now) + prefix_len in_name result.now }
-    ensures shorter { length result.now ≤ length bytes.now }
-{
-    let mut rest = bytes;
-    'letters: while let [b'a'..=b'z', after @ ..] = rest {
-        rest = after;
-    }
-    rest
+    bytes.iter().take_while(|byte| is_name_byte(**byte)).count()
 }
 
 /// How many digits stand at the front.
@@ -196,11 +163,11 @@ pub(crate) fn scan(bytes: &[u8]) -> Result<(Token<'_>, &[u8]), Misspelling>
     let [byte, rest @ ..] = bytes else {
         return Ok((Token::End, bytes));
     };
-    match byte {
-        b'a'..=b'z' | b'A'..=b'Z' => scan_name(bytes),
-        b'0'..=b'9' => scan_number(bytes),
+    match begun_by(*byte) {
+        b'a' => scan_name(bytes),
+        b'0' => scan_number(bytes),
         b'"' => scan_text(rest),
-        _ => match symbol_at(bytes) {
+        begun => match symbol_at(begun, rest) {
             Some((symbol, rest)) => Ok((Token::Symbol(symbol), rest)),
             None if matches!(byte, b' '..=b'~') => Err(fault_at(TokenFault::BadToken, 0)),
             None => Err(fault_at(TokenFault::BadByte, 0)),

@@ -1,6 +1,6 @@
 //! Symbols, and how they are written.
 ghost use Rattle.std.specs.Prelude.{◌≡◌, ◌↔◌, ◌≤◌, IfSome, IsTrue, length, option_map};
-ghost use Rattle.iso_script_lexer.specs.Scan.{single_symbol, symbol_front};
+ghost use Rattle.iso_script_lexer.specs.Scan.{double_symbol, longest_symbol, single_symbol};
 ghost use Rattle.iso_script_lexer.specs.Spelling.{same_symbol};
 
 /// A symbol of the script language.
@@ -52,20 +52,19 @@ fn single_symbol(byte: u8) -> Option<Symbol>
     }
 }
 
-/// The longest symbol at the front, and what follows it.
-#[tactic(auto, unfolding(crate::specs::Scan::symbol_front))]
-pub(crate) fn symbol_at(bytes: &[u8]) -> Option<(Symbol, &[u8])>
-    ensures value { symbol_front bytes.now ≡ option_map (λ f. (f.0, f.1.now)) result }
-    ensures shorter { IfSome result (λ f. length f.1.now ≤ length bytes.now) }
+/// The longest symbol that begins with this byte before these, and what follows it.
+pub(crate) fn symbol_at(byte: u8, rest: &[u8]) -> Option<(Symbol, &[u8])>
+    ensures value { longest_symbol (double_symbol byte rest.now) (single_symbol byte) rest.now
+        ≡ option_map (λ f. (f.0, f.1.now)) result }
+    ensures shorter { IfSome result (λ f. length f.1.now ≤ length rest.now) }
 {
-    match bytes {
-        [b'+', b'+', rest @ ..] => Some((Symbol::PlusPlus, rest)),
-        [b'=', b'=', rest @ ..] => Some((Symbol::EqualsEquals, rest)),
-        [b'!', b'=', rest @ ..] => Some((Symbol::NotEquals, rest)),
-        [byte, rest @ ..] => {
-            let symbol = single_symbol(*byte)?;
+    match (byte, rest) {
+        (b'+', [b'+', after @ ..]) => Some((Symbol::PlusPlus, after)),
+        (b'=', [b'=', after @ ..]) => Some((Symbol::EqualsEquals, after)),
+        (b'!', [b'=', after @ ..]) => Some((Symbol::NotEquals, after)),
+        _ => {
+            let symbol = single_symbol(byte)?;
             Some((symbol, rest))
         }
-        [] => None,
     }
 }

@@ -1,6 +1,9 @@
-ghost use Rattle.std.specs.Prelude.{◌≡◌, length, IfOk, string_bytes};
+ghost use Rattle.std.specs.Prelude.{◌≡◌, length, nat_eq, not, IfOk, string_bytes};
+ghost use Rattle.std.specs.List.{list_all};
+ghost use Rattle.iso_script_lexer.specs.Spelling.{backslash};
 ghost use Rattle.iso_script_lexer.specs.Text.{IsQuoted, IsText};
 
+use percent_encoding::ascii_str;
 use std::alloc::{AllocError, Global};
 
 /// A text as it stands between its quotes in the script: printable bytes, in which each quote and
@@ -21,6 +24,9 @@ impl QuotedText<'_> {
         ensures value { IfOk result (λ t. string_bytes t ≡ text_of self.entry) }
         ensures text { IsText (text_of self.entry) }
     {
+        if is_plain(self.raw) {
+            return String::from_str(alloc, ascii_str(self.raw));
+        }
         let mut text = String::new(alloc);
         let mut escaped = false;
         'decode: for byte in self.raw {
@@ -33,4 +39,11 @@ impl QuotedText<'_> {
         }
         Ok(text)
     }
+}
+
+/// Whether none of these bytes is escaped.
+fn is_plain(raw: &[u8]) -> bool
+    ensures { result ≡ list_all (λ b. not (nat_eq b backslash)) raw.now }
+{
+    raw.iter().all(|byte| *byte != b'\\')
 }

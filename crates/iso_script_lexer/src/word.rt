@@ -59,7 +59,7 @@ impl Word {
     pub(crate) fn from_name(name: &str) -> Option<Word>
         ensures { result ≡ word_of name.now }
     {
-        let [first, ..] = name.as_bytes() else {
+        let [first, _, ..] = name.as_bytes() else {
             return None;
         };
         if *first < b'g' {
