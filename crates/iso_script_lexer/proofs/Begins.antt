@@ -1,5 +1,5 @@
 -- What the tables of bytes say: functions of a byte are held against one another at each of the 256 bytes, by computing.
-use Rattle.std.proofs.Common.{◌≡◌, ◌≢◌, ℕ, ◌<◌, ◌≤◌, ◌-◌, drop, take, length, [], ◌∷◌, Bool, true, false, not, ◌||◌, nat_eq, Option, None, map, get_or, refl, ap, sym, ◌∙◌, arith, List}
+use Rattle.std.proofs.Common.{◌≡◌, ◌≢◌, ℕ, ◌<◌, ◌≤◌, ◌-◌, drop, take, length, [], ◌∷◌, Bool, true, false, not, ◌||◌, nat_eq, None, map, get_or, refl, ap, sym, ◌∙◌, arith, List}
 use Rattle.std.proofs.lemmas.Bool.Decides.{nat_tests}
 use Rattle.std.proofs.lemmas.List.{take_rest}
 use Rattle.std.proofs.lemmas.List.FromFn.{get_or-map-range_with_len}
@@ -11,7 +11,6 @@ use Rattle.iso_script_lexer.proofs.Fronts.{BeginsNoGap, front_of-digit, front_of
 use Rattle.iso_script_lexer.proofs.Decisions.{equal}
 use Rattle.iso_script_lexer.specs.declared.token.Position.{Position}
 use Rattle.iso_script_lexer.specs.declared.begin.TheConstants.{BEGUN, IN_NAME}
-use Rattle.iso_script_lexer.specs.declared.symbol.Symbol.{Symbol}
 
 -- what a function gives of each byte
 abbrev of_bytes : {A : Type 0} → (ℕ → A) → List A

@@ -35,8 +35,8 @@ abbrev pub after_gap : (comment : Bool) → Line → List ℕ → Line × List �
 after_gap comment line bs = gap_from comment line.0 line.1 bs
 
 -- what a byte begins: `a` stands for each letter, `0` for each digit, a slash for what stands in
--- gaps or begins a comment, and a point for what begins nothing; a quote and what symbols begin with
--- stand for themselves
+-- gaps or begins a comment, and a point for what begins nothing; a quote and what symbols begin
+-- with stand for themselves
 unfoldable pub begun_by : ℕ → ℕ
 begun_by b =
     if is_letter b then 97

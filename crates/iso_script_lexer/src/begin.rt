@@ -3,8 +3,8 @@ ghost use Rattle.std.specs.Prelude.{◌≡◌};
 ghost use Rattle.iso_script_lexer.specs.Spelling.{in_name};
 ghost use Rattle.iso_script_lexer.specs.Scan.{begun_by};
 
-/// `a` at each letter, `0` at each digit, `/` at what stands in gaps or begins a comment, quotes and
-/// what symbols begin with at their own places, and a point at each other byte.
+/// `a` at each letter, `0` at each digit, `/` at what stands in gaps or begins a comment, a quote
+/// and what symbols begin with at their own places, and a point at each other byte.
 static BEGUN: [u8; 256] = *b"\
     .........//../..................\
     /!\".....()*+,-./0000000000.;<=..\

@@ -8,7 +8,7 @@ use crate::begin::begun_by;
 use crate::cursor::Cursor;
 
 /// What follows the blanks, line feeds and comments that come next. Where these are spaces alone
-/// the cursor stays before them, as it is quicker to write what is left when it is known.
+/// the cursor stays before them, since what is left is written once, behind the token.
 pub(crate) fn skip_gap<'a>(cursor: &mut Cursor<'a>) -> &'a [u8]
     ensures value { (line_of cursor.new, result.now)
         ≡ after_gap false (line_of cursor.old) cursor.old.rest.now }
@@ -25,7 +25,6 @@ pub(crate) fn skip_gap<'a>(cursor: &mut Cursor<'a>) -> &'a [u8]
 }
 
 /// Behind the blanks, line feeds and comments that come next.
-#[inline(never)]
 #[tactic(auto, unfolding(crate::specs::Scan::gap_from))]
 fn after_gap(start: Cursor<'_>) -> Cursor<'_>
     ensures { (line_of result, result.rest.now)

@@ -1,9 +1,9 @@
 //! The token at the front of bytes.
-ghost use Rattle.std.specs.Prelude.{◌≡◌, ℕ, ◌+◌, ◌≤◌, ◌^◌, ◌-◌, length, min, false, true, IfOk, IfErr};
+ghost use Rattle.std.specs.Prelude.{◌≡◌, ℕ, ◌+◌, ◌≤◌, ◌^◌, ◌-◌, drop, length, min, take, false, true, IfOk, IfErr};
 ghost use Rattle.std.specs.List.{prefix_len};
 ghost use Rattle.std.specs.Result.{result_ok};
 ghost use Rattle.iso_script_lexer.specs.Spelling.{begins_in, is_letter, is_digit, in_name};
-ghost use Rattle.iso_script_lexer.specs.LexicalGrammar.{AllDigits, decimal_value};
+ghost use Rattle.iso_script_lexer.specs.LexicalGrammar.{decimal_value};
 ghost use Rattle.iso_script_lexer.specs.TokenFaults.{text_fault};
 ghost use Rattle.iso_script_lexer.specs.Scan.{quoted_length, name_piece, number_piece, text_piece, front_of};
 ghost use Rattle.iso_script_lexer.specs.Tokens.{IsToken};
@@ -44,16 +44,6 @@ fn name_length(bytes: &[u8]) -> usize
     bytes.iter().take_while(|byte| is_name_byte(**byte)).count()
 }
 
-/// How many digits stand at the front.
-fn digits_length(bytes: &[u8]) -> usize
-    ensures { result ≡ prefix_len is_digit bytes.now }
-{
-    bytes
-        .iter()
-        .take_while(|byte| matches!(**byte, b'0'..=b'9'))
-        .count()
-}
-
 /// The name or reserved word at the front, and what follows it.
 fn scan_name(bytes: &[u8]) -> Result<(Token<'_>, &[u8]), Misspelling>
     requires { begins_in is_letter bytes.now ≡ true }
@@ -74,18 +64,22 @@ fn scan_name(bytes: &[u8]) -> Result<(Token<'_>, &[u8]), Misspelling>
     Ok((token, rest))
 }
 
-/// The value of digits; 2^64 - 1 where it is as large or larger.
-fn saturated_value(digits: &[u8]) -> u64
-    requires { AllDigits digits.now }
-    ensures { result ≡ min (2 ^ 64 - 1) (decimal_value digits.now) }
+/// The value of the digits at the front, 2^64 - 1 where it is as large or larger, and what follows
+/// them.
+fn digits_at(bytes: &[u8]) -> (u64, &[u8])
+    ensures value { result.0
+        ≡ min (2 ^ 64 - 1) (decimal_value (take (prefix_len is_digit bytes.now) bytes.now)) }
+    ensures rest { result.1.now ≡ drop (prefix_len is_digit bytes.now) bytes.now }
 {
     let mut value = 0u64;
-    for digit in digits {
+    let mut rest = bytes;
+    'digits: while let [digit @ b'0'..=b'9', after @ ..] = rest {
         value = value
             .saturating_mul(10)
             .saturating_add(u64::from(*digit - b'0'));
+        rest = after;
     }
-    value
+    (value, rest)
 }
 
 /// The number at the front, and what follows it.
@@ -95,13 +89,12 @@ fn scan_number(bytes: &[u8]) -> Result<(Token<'_>, &[u8]), Misspelling>
     ensures within { IsWithin (length bytes.now) result }
     ensures token { IfOk result (λ f. IsToken f.0) }
 {
-    let (digits, rest) = bytes.split_at(digits_length(bytes));
+    let (value, rest) = digits_at(bytes);
     if let [byte, ..] = rest
         && is_name_byte(*byte)
     {
         return Err(fault_at(TokenFault::BadToken, 0));
     }
-    let value = saturated_value(digits);
     if value > NUMBER {
         return Err(fault_at(TokenFault::NumberTooBig, 0));
     }

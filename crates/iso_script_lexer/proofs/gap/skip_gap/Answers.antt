@@ -9,4 +9,5 @@ returns-in_default-clause-value c =
 
 pub returns-in_default-2-clause-value : goal.returns-in_default-2-clause-value
 returns-in_default-2-clause-value c =
-    no_gap (line_of c.args.cursor.now) c.after_spaces-rest.result.now (omega arith) (omega (arith, c.after_spaces-rest.type_inv)) (λ e. c.if-begun_by-eq47.false (c.begun_by.ensures ∙ e)) ∙ sym (c.after_spaces-rest.ensures.value _ _)
+    no_gap (line_of c.args.cursor.now) c.after_spaces-rest.result.now (omega arith) (omega (arith, c.after_spaces-rest.type_inv)) (λ e. c.if-begun_by-eq47.false (c.begun_by.ensures ∙ e))
+    ∙ sym (c.after_spaces-rest.ensures.value _ _)

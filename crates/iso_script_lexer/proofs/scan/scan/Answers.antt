@@ -3,7 +3,7 @@ use Rattle.iso_script_lexer.specs.Spelling.{is_printable}
 use Rattle.iso_script_lexer.specs.Scan.{no_token, symbol_piece}
 use Rattle.iso_script_lexer.specs.declared.scan.Misspelling.{Misspelling}
 use Rattle.iso_script_lexer.specs.declared.token.TokenFault.TheVariants.{BadByte, BadToken}
-use Rattle.iso_script_lexer.proofs.Begins.{Begun, front_of-begun, front_of-begun_name, front_of-begun_number, front_of-begun_text, is_printable-above, is_printable-below, is_printable-inside, letter_begins}
+use Rattle.iso_script_lexer.proofs.Begins.{front_of-begun, front_of-begun_name, front_of-begun_number, front_of-begun_text, is_printable-above, is_printable-below, is_printable-inside, letter_begins}
 use Rattle.iso_script_lexer.proofs.scan.scan.Goals as goal
 use Rattle.iso_script_lexer.proofs.scan.scan.Goals.{in-32-to-126, in_default-matches, in_default-matches-2}
 
