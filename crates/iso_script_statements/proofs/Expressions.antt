@@ -1,5 +1,5 @@
 -- Expressions by their rules, with what stands where as equations.
-use Rattle.std.proofs.Common.{◌≡◌, ℕ, ℤ, pos, ◌^◌, suc, Result, Ok, Err, MatchResult, ◌-◌, ◌<◌, ◌≤◌, arith, List, [], ◌∷◌, ◌++◌, length, length-append, Option, Some, None, is_some, option_map, true, false, refl, ap, subst, sym, ◌∙◌}
+use Rattle.std.proofs.Common.{◌≡◌, ℕ, ℤ, pos, ◌^◌, suc, ◌-◌, ◌<◌, ◌≤◌, arith, List, [], ◌∷◌, ◌++◌, length, length-append, Option, Some, None, is_some, option_map, true, false, refl, ap, subst, sym, ◌∙◌}
 use Rattle.std.proofs.lemmas.Option.{some_pair_parts}
 use Rattle.iso_script_lexer.specs.Piece.{Piece, name_at, number_at, text_at, word_at, symbol_at, bad_at, tail}
 use Rattle.iso_script_lexer.specs.Tokens.{after, after_word}
@@ -12,17 +12,14 @@ use Rattle.iso_model.specs.declared.data.Data.{Data}
 use Rattle.iso_model.specs.declared.data.Data.TheVariants.{Whole}
 use Rattle.iso_model.specs.declared.limits.TheConstants.{PARENTHESES}
 use Rattle.iso_model.specs.declared.tree.Comparison.{Comparison}
-use Rattle.iso_model.specs.declared.tree.Expr.{Expr}
 use Rattle.iso_model.specs.declared.tree.Function.{Function}
 use Rattle.iso_model.specs.declared.tree.Operator.{Operator}
 use Rattle.iso_model.specs.Syntax.{Term, Terms, literal, name, chain, compare, call, locale, no_terms, term}
 use Rattle.iso_model.specs.SyntaxView.{term_of, terms_of}
 use Rattle.iso_script_statements.specs.Expressions as E
 use Rattle.iso_script_statements.specs.Expressions.{IsLiteral, infix_of, infix_next, function_of, function_next, IsLocale, no_argument, IsOperand, a_literal, a_name, in_parentheses, a_call, the_locale, IsEnclosed, enclosed, IsChained, chained, IsExpression, an_operand, a_chain, a_comparison, IsBefore, before}
-use Rattle.iso_script_statements.specs.Parsing.{Parses}
 use Rattle.iso_script_statements.proofs.Literals.{is_number}
 use Rattle.iso_script_statements.specs.Pieces.{name_ahead}
-use Rattle.iso_script_statements.specs.Faults.{ScriptError}
 use Rattle.iso_script_statements.specs.declared.expression.Infix.{Infix}
 use Rattle.iso_script_statements.specs.declared.expression.Infix.TheVariants.{Chain, Compare}
 use Rattle.iso_script_statements.proofs.Repetitions.{onto, HaveRead}
@@ -272,22 +269,12 @@ is_before {s = s} {e = e} {ps = ps} {mid = mid} {qs = qs} h taken = let a = afte
 pub not_before : {s : Symbol} {e f : Term} {ps mid rest : List Piece} → IsExpression PARENTHESES e ps mid → after s mid ≡ None → IsBefore s f ps rest → ⊥
 not_before {s = s} {e = e} {f = f} {ps = ps} {mid = mid} {rest = rest} h none (before {q = q} k) = not_followed PARENTHESES s e f ps mid rest q h none k
 
--- an expression that a symbol follows, or where another follows
-pub followed_is_before : (s : Symbol) (e : Expr) (result : Result Expr ScriptError) (ps mid qs : List Piece)
-    → IsExpression PARENTHESES (term_of e) ps mid → MatchResult result (λ x. (x ≡ e) × (after s mid ≡ Some qs)) (λ _. after s mid ≡ None)
-    → Parses term_of (IsBefore s) result ps qs
-followed_is_before s e (Ok x) ps mid qs h k = subst (λ x. IsBefore s (term_of x) ps qs) (sym k.0) (is_before h k.1)
-followed_is_before s e (Err f) ps mid qs h none = λ x rest k. absurd (not_before h none k)
-
-pub followed_is_enclosed : (d more : ℕ) (e : Expr) (result : Result Expr ScriptError) (old mid next new : List Piece)
-    → d ≡ suc more → after OpenParen old ≡ Some mid → IsExpression more (term_of e) mid next
-    → MatchResult result (λ x. (x ≡ e) × (after CloseParen next ≡ Some new)) (λ _. after CloseParen next ≡ None)
-    → Parses term_of (IsEnclosed d) result old new
-followed_is_enclosed d more e (Ok x) old mid next new left opened h k =
-    subst (λ x. IsEnclosed d (term_of x) old new) (sym k.0) (is_enclosed _ _ _ _ _ _ _ left opened h k.1)
-followed_is_enclosed d more e (Err f) old mid next new left opened h none = λ x rest k.
-    let q = enclosed_only _ _ x _ _ rest left opened k in
-    absurd (not_followed _ CloseParen _ x _ _ rest q.0 h none q.1)
+-- nothing stands between parentheses where another symbol than the closing one follows
+pub not_enclosed : (d more : ℕ) (e f : Term) (old mid next rest : List Piece) → d ≡ suc more → after OpenParen old ≡ Some mid
+    → IsExpression more e mid next → after CloseParen next ≡ None → IsEnclosed d f old rest → ⊥
+not_enclosed d more e f old mid next rest left opened h none k =
+    let q = enclosed_only _ _ f _ _ rest left opened k in
+    not_followed _ CloseParen _ f _ _ rest q.0 h none q.1
 
 -- an expression begins with an operand
 pub operand_first : (d : ℕ) (e : Term) (ps rest : List Piece) → IsExpression d e ps rest → (f : Term) × (qs : List Piece) × IsOperand d f ps qs

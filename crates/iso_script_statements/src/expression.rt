@@ -216,7 +216,8 @@ impl Parser<'_> {
         let paren = Symbol::OpenParen;
         let more = self.open(paren, parens, Wanted::Symbol(paren), Limit::Parentheses)?;
         let expression = self.expression(more, Symbol::CloseParen)?;
-        self.followed(expression, Symbol::CloseParen)
+        self.followed(Symbol::CloseParen)?;
+        Ok(expression)
     }
 
     /// The operands after the first of a chain, with this operator before each. What follows the
@@ -232,7 +233,8 @@ impl Parser<'_> {
         ensures { Parses terms_in (IsChained parens symbol (OPERANDS - 1)) result self.old.lexer
             self.new.lexer }
     {
-        let mut operands = Vec::new(self.alloc);
+        // Most chains have two operands.
+        let mut operands = Vec::with_capacity(self.alloc, 1)?;
         'operands: while self.infix().is_some() {
             if !self.is_at(symbol) {
                 return Err(self.unexpected(Wanted::SameOperator(symbol, follows)));
@@ -293,7 +295,8 @@ impl Parser<'_> {
         ensures { Parses term_of (IsBefore symbol) result self.old.lexer self.new.lexer }
     {
         let expression = self.expression(PARENTHESES, symbol)?;
-        self.followed(expression, symbol)
+        self.followed(symbol)?;
+        Ok(expression)
     }
 
     /// What is wanted after the expression that was read last, and before this symbol.
@@ -305,14 +308,14 @@ impl Parser<'_> {
     }
 
     /// Goes past the symbol that has to follow an expression.
-    fn followed(&mut self, expression: Expr, symbol: Symbol) -> Result<Expr, ScriptError>
+    fn followed(&mut self, symbol: Symbol) -> Result<(), ScriptError>
         requires { infix_next self.old.lexer ≡ None }
         ensures { MatchResult result
-            (λ e. (e ≡ expression) × (after symbol self.old.lexer ≡ Some self.new.lexer))
+            (λ _. after symbol self.old.lexer ≡ Some self.new.lexer)
             (λ _. after symbol self.old.lexer ≡ None) }
     {
         if self.lexer.takes(symbol) {
-            Ok(expression)
+            Ok(())
         } else {
             let wanted = self.wanted_before(symbol);
             Err(self.unexpected(wanted))

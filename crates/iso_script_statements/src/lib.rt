@@ -1,6 +1,7 @@
 //! Reads the bodies of scripts: expressions, statements and blocks.
 #![tactic(auto)]
 
+mod body_lengths;
 pub mod display;
 pub mod examples;
 mod expression;

@@ -10,6 +10,7 @@ ghost use Rattle.iso_script_statements.specs.Wanted.{IsUnmet};
 ghost use Rattle.iso_script_statements.specs.declared.reason.Reason.TheVariants.{Beyond};
 ghost use Rattle.iso_script_statements.specs.declared.wanted.Wanted.TheVariants as W;
 
+use crate::body_lengths::BodyLengths;
 use crate::fault::{ScriptError, ScriptFault, ScriptFaultKind};
 use crate::reason::{Limit, Reason};
 use crate::wanted::{Operators, Wanted};
@@ -31,6 +32,8 @@ pub struct Parser<'a> {
     pub(crate) operators: Operators,
     /// Where no `else` followed the body of an `if`, at the last such place.
     pub(crate) without_else: Option<Position>,
+    /// How long the next body is likely to be.
+    pub(crate) lengths: BodyLengths,
 }
 
 impl<'a> Parser<'a> {
@@ -45,6 +48,7 @@ impl<'a> Parser<'a> {
             reason: Reason::Kind,
             operators: Operators::None,
             without_else: None,
+            lengths: BodyLengths::new(),
         }
     }
 

@@ -1,11 +1,12 @@
 //! Statements and bodies.
-ghost use Rattle.std.specs.Prelude.{◌∷◌, ◌≡◌, ℕ, None};
+ghost use Rattle.std.specs.Prelude.{◌∷◌, ◌≡◌, ℕ, [], MatchResult, None};
 ghost use Rattle.iso_script_lexer.specs.Piece.{word_at};
 ghost use Rattle.iso_script_lexer.specs.Tokens.{after};
 ghost use Rattle.iso_script_lexer.specs.declared.symbol.Symbol.TheVariants.{CloseBrace, OpenBrace};
 ghost use Rattle.iso_script_lexer.specs.declared.token.Position.{Position};
 ghost use Rattle.iso_script_lexer.specs.declared.word.Word.TheVariants as W;
 ghost use Rattle.iso_model.specs.SyntaxView.{form_of, stmt_of};
+ghost use Rattle.iso_script_statements.specs.Faults.{IsMemory};
 ghost use Rattle.iso_script_statements.specs.Parsing.{Parses};
 ghost use Rattle.iso_script_statements.specs.Statements.{IsBlock, IsBody, IsElse, IsStatement, IsStatements, body_of};
 ghost use Rattle.iso_script_statements.specs.Wanted.{IsInBody, IsUnmet};
@@ -52,13 +53,25 @@ impl Parser<'_> {
     fn statements(&mut self, bodies: u32, above: u32) -> Result<Vec<Stmt>, ScriptError>
         ensures { Parses body_of (IsStatements bodies above) result self.old.lexer self.new.lexer }
     {
-        let mut statements = Vec::new(self.alloc);
+        let mut statements = self.likely_room(bodies)?;
         'statements: while !self.lexer.takes(Symbol::CloseBrace) {
             let row = self.row_in(above);
             let form = self.form(bodies, above)?;
             statements.push(Stmt { row, form })?;
         }
+        self.lengths.note(bodies, statements.len());
         Ok(statements)
+    }
+
+    /// No statements, with room for as many as are likely. A body without any takes no memory.
+    fn likely_room(&self, bodies: u32) -> Result<Vec<Stmt>, ScriptError>
+        ensures { MatchResult result (λ v. v.items ≡ []) IsMemory }
+    {
+        if self.is_at(Symbol::CloseBrace) {
+            Ok(Vec::new(self.alloc))
+        } else {
+            Ok(Vec::with_capacity(self.alloc, self.lengths.likely(bodies))?)
+        }
     }
 
     /// What is wanted where neither a statement is next nor the brace that closes the body: an

@@ -16,11 +16,11 @@ use Rattle.iso_script_statements.proofs.Views.{form_of-assign, form_of-if, form_
 use Rattle.iso_script_statements.proofs.parser.Parser.+body.Goals as goal
 
 pub statements-statements-init : goal.statements-statements-init
-statements-statements-init t c = rw c.new-statements.ensures.items (none_read also (IsStatements c.args.bodies c.args.above) c.args.self.now.lexer)
+statements-statements-init t c = rw c.in_ok-statements.ensures (none_read also (IsStatements c.args.bodies c.args.above) c.args.self.now.lexer)
 
 pub statements-returns-in_err-form : goal.statements-returns-in_err-form
 statements-returns-in_err-form t c =
-    let p = err_from_is_err_and c.from_residual.result c.from_residual.ensures.1 in
+    let p = err_from_is_err_and c.from_residual-in_err-form.result c.from_residual-in_err-form.ensures.1 in
     rw (p.1, p.2) (λ all rest h.
     let so_far = c.statements.invariant.only all rest h in
     let n = next_statement so_far.1 c.statements-test.ensures.found in

@@ -9,16 +9,19 @@ use Rattle.iso_script_statements.specs.Expressions.{infix_next, IsChained, IsEnc
 use Rattle.iso_script_statements.specs.Pieces.{name_ahead}
 use Rattle.iso_script_statements.specs.declared.expression.Infix.TheVariants.{Chain, Compare}
 use Rattle.iso_script_statements.proofs.Answers.{parses_built, parses_from}
-use Rattle.iso_script_statements.proofs.Expressions.{none_next, is_in_parentheses, parentheses_only, is_call, is_locale, locale_only, is_name, is_whole, literal_only, enclosed_opens, followed_is_enclosed, operand_first, all_chained, chain_goes_on, chain_goes_only, not_mixed, not_longer, operand_follows, is_chain, chain_only, is_comparison, comparison_only, unfollowed, room_left, still_few, tail_shorter}
+use Rattle.iso_script_statements.proofs.Expressions.{none_next, is_in_parentheses, parentheses_only, is_call, is_locale, locale_only, is_name, is_whole, literal_only, enclosed_opens, is_enclosed, not_enclosed, operand_first, all_chained, chain_goes_on, chain_goes_only, not_mixed, not_longer, operand_follows, is_chain, chain_only, is_comparison, comparison_only, unfollowed, room_left, still_few, tail_shorter}
 use Rattle.iso_script_statements.proofs.Repetitions.{none_read, read_more}
 use Rattle.iso_script_statements.proofs.Shorter.{operand_shorter}
 use Rattle.iso_script_statements.proofs.Views.{term_of-literal, term_of-name, term_of-call}
-use Rattle.iso_script_statements.proofs.WantedLemmas.{expression_ends}
+use Rattle.iso_script_statements.proofs.WantedLemmas.{expression_ends, unmet_operator}
 use Rattle.iso_script_statements.proofs.parser.Parser.+expression.Goals as goal
 
 pub chained-operands-init : goal.chained-operands-init
 chained-operands-init t c =
-    rw c.new-operands.ensures.items (record { few = omega arith; read = none_read term (IsChained c.args.parens c.args.symbol 31) c.args.self.now.lexer })
+    rw c.in_ok-operands.ensures.items (record { few = omega arith; read = none_read term (IsChained c.args.parens c.args.symbol 31) c.args.self.now.lexer })
+
+pub chained-unexpected-requires : goal.chained-unexpected-requires
+chained-unexpected-requires t c = unmet_operator _ _ _ (c.operands-test.ensures ∙ ap is_some c.infix.ensures) c.requires (none_next _ c.if-not-is_at.ensures)
 
 pub chained-returns-then-not-is_at : goal.chained-returns-then-not-is_at
 chained-returns-then-not-is_at t c = λ x rest h.
@@ -33,7 +36,7 @@ chained-returns-then-len-ge-MORE_OPERANDS t c = λ x rest h.
 
 pub chained-returns-in_err-operand : goal.chained-returns-in_err-operand
 chained-returns-in_err-operand t c =
-    let p = err_from_is_err_and c.from_residual.result c.from_residual.ensures.1 in
+    let p = err_from_is_err_and c.from_residual-in_err-operand.result c.from_residual-in_err-operand.ensures.1 in
     rw (p.1, p.2) (λ x rest h.
     let so_far = c.operands.invariant.read.only x rest h in
     let f = operand_follows _ _ _ so_far.0 _ _ rest (c.operands-test.ensures ∙ ap is_some c.infix.ensures) c.advance.ensures so_far.1 in
@@ -68,7 +71,12 @@ pub enclosed-followed-requires : goal.enclosed-followed-requires
 enclosed-followed-requires t c = expression_ends c.in_ok-expression.ensures
 
 pub enclosed-returns : goal.enclosed-returns
-enclosed-returns t c = followed_is_enclosed _ _ _ _ _ _ _ _ c.in_ok-more.ensures.opened.0 c.in_ok-more.ensures.opened.1 c.in_ok-expression.ensures c.followed.ensures
+enclosed-returns t c = is_enclosed _ _ _ _ _ _ _ c.in_ok-more.ensures.opened.0 c.in_ok-more.ensures.opened.1 c.in_ok-expression.ensures c.in_ok-followed.ensures
+
+pub enclosed-returns-in_err-followed : goal.enclosed-returns-in_err-followed
+enclosed-returns-in_err-followed t c =
+    let p = err_from_is_err_and c.from_residual-in_err-followed.result c.from_residual-in_err-followed.ensures.1 in
+    rw p.1 (λ x rest h. absurd (not_enclosed _ _ _ x _ _ _ rest c.in_ok-more.ensures.opened.0 c.in_ok-more.ensures.opened.1 c.in_ok-expression.ensures c.in_err-followed.ensures h))
 
 pub operand-returns-then-is_at : goal.operand-returns-then-is_at
 operand-returns-then-is_at t c =
