@@ -6,7 +6,7 @@ ghost use Rattle.iso_script_lexer.specs.Tokens.{after_word};
 ghost use Rattle.iso_script_lexer.specs.declared.word.Word.TheVariants as W;
 ghost use Rattle.iso_model.specs.ScriptView.{class_of, member_of};
 ghost use Rattle.iso_script.specs.Grammar.{HasMembers, IsClass, IsNewMember, IsTopClass, members_in, name_of};
-ghost use Rattle.iso_model.specs.NameSets.{Knows};
+ghost use Rattle.iso_script_statements.specs.SeenNames.{HasSeen};
 ghost use Rattle.iso_script.specs.Places.{ParsesPlaced, kept};
 ghost use Rattle.iso_script.specs.Wants.{IsPlace};
 ghost use Rattle.iso_script_statements.specs.Wanted.{IsUnmet};
@@ -28,6 +28,7 @@ use iso_script_lexer::word::Word;
 use iso_script_statements::fault::{ScriptError, ScriptFaultKind};
 use iso_script_statements::parser::Parser;
 use iso_script_statements::reason::Limit;
+use iso_script_statements::seen_names::SeenNames;
 use iso_script_statements::wanted::Wanted;
 use std::collections::BTreeSet;
 use std::sync::Arc;
@@ -148,7 +149,7 @@ fn read_members<'a>(
         parser.old.lexer parser.new.lexer (kept places.old) (kept places.new) }
     ensures kept { IfOk result (λ _. scopes.new.items ≡ scopes.old.items) }
 {
-    let mut seen = BTreeSet::new(parser.alloc);
+    let mut seen = SeenNames::new(parser.alloc);
     let mut members = Vec::new(parser.alloc);
     'members: while !parser.is_at(Symbol::CloseBrace) {
         let place = member_place(members.len(), first);
@@ -166,7 +167,7 @@ fn read_members<'a>(
 #[cycle(class)]
 fn read_member<'a>(
     parser: &mut Parser<'a>,
-    seen: &mut BTreeSet<&'a str>,
+    seen: &mut SeenNames<'a>,
     scopes: &mut Vec<BTreeSet<&'a str>>,
     classes: u32,
     place: Wanted,
@@ -174,11 +175,11 @@ fn read_member<'a>(
 ) -> Result<Member, ScriptError>
     requires { IsPlace place parser.old.lexer }
     ensures read { (taken names : List (List ℕ)) → KnowAll scopes.old.items taken
-        → Knows seen.old names
+        → HasSeen seen.old names
         → ParsesPlaced member_of (IsNewMember names classes taken) result
         parser.old.lexer parser.new.lexer (kept places.old) (kept places.new) }
-    ensures names { (names : List (List ℕ)) → Knows seen.old names
-        → IfOk result (λ m. Knows seen.new (names ++ name_of (member_of m) ∷ [])) }
+    ensures names { (names : List (List ℕ)) → HasSeen seen.old names
+        → IfOk result (λ m. HasSeen seen.new (names ++ name_of (member_of m) ∷ [])) }
     ensures kept { IfOk result (λ _. scopes.new.items ≡ scopes.old.items) }
 {
     let marks = read_marks(parser)?;

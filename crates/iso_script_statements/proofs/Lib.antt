@@ -10,3 +10,4 @@ pub mod Statements
 pub mod WantedLemmas
 pub mod Views
 pub mod ExampleLemmas
+pub mod SeenLemmas

@@ -6,4 +6,5 @@ pub mod Expressions
 pub mod Statements
 pub mod Wanted
 pub mod Reasons
+pub mod SeenNames
 pub mod Examples

@@ -10,6 +10,7 @@ pub mod laws;
 pub mod names;
 pub mod parser;
 pub mod reason;
+pub mod seen_names;
 pub mod simple;
 mod statement;
 pub mod unexpected;

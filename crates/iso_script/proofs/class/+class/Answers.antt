@@ -168,7 +168,7 @@ read_member-returns-clause-names t c = λ names knows.
 pub read_members-members-init : goal.read_members-members-init
 read_members-members-init t c =
     rw c.new-members.ensures.items
-    (record { read = λ taken all. ([], (refl, refl), none_kept _); names = λ n. search rules; distinct = IsDistinct-none; kept = refl })
+    (record { read = λ taken all. ([], (refl, refl), none_kept _); names = c.new-seen.ensures; distinct = IsDistinct-none; kept = refl })
 
 pub read_members-returns-in_err-read_member-clause-read : goal.read_members-returns-in_err-read_member-clause-read
 read_members-returns-in_err-read_member-clause-read t c = λ taken all.

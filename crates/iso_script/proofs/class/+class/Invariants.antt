@@ -6,7 +6,7 @@ use Rattle.iso_script.specs.Readings.{ArePlaced}
 use Rattle.iso_script.specs.declared.place.NodePlace.{NodePlace}
 use Rattle.iso_script.specs.Variables.{KnowAll}
 use Rattle.iso_model.specs.ScriptView.{member_of}
-use Rattle.iso_model.specs.NameSets.{Knows}
+use Rattle.iso_script_statements.specs.SeenNames.{HasSeen}
 use Rattle.iso_script.specs.Grammar.{IsMember, name_of}
 use Rattle.iso_script.proofs.class.+class.Given as goal
 
@@ -25,7 +25,7 @@ invariant-read_members-members l =
       read : (taken : List (List ℕ)) → KnowAll l.fn.scopes.items taken
           → (places : List NodePlace) × ArePlaced (IsMember l.classes taken) (map member_of l.members.items) places l.fn.parser.lexer l.parser.lexer
           × (kept l.places ≡ with_places (kept l.fn.places) places);
-      names : Knows l.seen (map name_of (map member_of l.members.items));
+      names : HasSeen l.seen (map name_of (map member_of l.members.items));
       distinct : IsDistinct bytes_eq (map name_of (map member_of l.members.items));
       kept : l.scopes.items ≡ l.fn.scopes.items;
     }
