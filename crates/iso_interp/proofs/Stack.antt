@@ -1,15 +1,16 @@
 -- The stack of the pieces that are still to be done.
-use Rattle.std.proofs.Common.{◌≡◌, ◌<◌, ◌+◌, map, sym, true, false, true≢false, ℕ, zero, suc, arith, List, [], ◌∷◌, ◌++◌, reverse, Option, Some, None, option_to_list, append-nil, refl, ap, ◌∙◌, add-one}
+use Rattle.std.proofs.Common.{◌≡◌, ◌<◌, ◌+◌, map, sym, true, false, true≢false, ℕ, zero, suc, arith, List, [], ◌∷◌, ◌++◌, reverse, Option, Some, None, option_to_list, append-nil, refl, length, take, ap, ◌∙◌, add-one}
+use Rattle.std.proofs.Math.Seq.{take-length}
 use Rattle.std.proofs.lemmas.List.{reverse-append}
 use Rattle.iso_model.specs.Rights.{Rights}
 use Rattle.iso_model.specs.Environments.{Environment}
 use Rattle.iso_model.specs.Resources.{Resources}
-use Rattle.iso_model.specs.Statements.{Local, State}
+use Rattle.iso_model.specs.Statements.{Local, State, with_names}
 use Rattle.iso_model.specs.Steps.{Piece, rest, turning, leave_done, point, begin, followed_by, step_at, some_left, is_done}
 use Rattle.iso_model.specs.Syntax.{Act, Acts, act, no_acts}
 use Rattle.iso_model.specs.declared.outcome.Ending.{Ending}
 use Rattle.iso_interp.specs.Blocks.{is_empty}
-use Rattle.iso_interp.specs.Runs.{piece_of, pieces_in}
+use Rattle.iso_interp.specs.Runs.{first_piece, piece_of, pieces_in}
 use Rattle.iso_interp.specs.declared.run.Pending.{Pending}
 use Rattle.iso_interp.specs.declared.run.Pending.TheVariants.{Rest}
 
@@ -41,6 +42,11 @@ pub first-act : (r : Rights) (k row : ℕ) (a : Act) (acts : Acts) (ps : List Pi
 first-act r k row a acts ps env new lines ending m taken =
     ap (λ (e : Environment). step_at r (rest k (act row a acts) ∷ ps) e.steps (in_env lines ending m e)) taken
     ∙ ap (λ (n : ℕ). step_at r (rest k (act row a acts) ∷ ps) n (in_env lines ending m (record new { steps = new.steps + 1 }))) (add-one new.steps)
+
+-- a block at its beginning has all its statements to do, and one without a statement has ended
+pub begun-block : (k : ℕ) (acts : Acts) (l : Local) → k ≡ length l.env.names → point (pieces_in (first_piece k acts) []) l ≡ leave_done (rest k acts ∷ []) l
+begun-block k no_acts l all = sym (ap (λ xs. point [] (with_names xs l)) (ap (λ n. take n l.env.names) all ∙ take-length l.env.names))
+begun-block k (act row a acts) l all = refl
 
 -- whether pieces are left, and how many
 pub some-left : (ps : List Piece) → is_done ps ≡ false → some_left ps ≡ 1

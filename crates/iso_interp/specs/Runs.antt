@@ -9,7 +9,7 @@ use Rattle.iso_model.specs.Resources.{Resources}
 use Rattle.iso_model.specs.Rights.{Rights, access_in}
 use Rattle.iso_model.specs.Statements.{Local, State, fails, note, performed, with_ending}
 use Rattle.iso_model.specs.Steps.{Piece, rest, turning, Point, point, Machine, machine_at, begin}
-use Rattle.iso_model.specs.Syntax.{Act, Plain}
+use Rattle.iso_model.specs.Syntax.{Act, Acts, Plain, act, no_acts}
 use Rattle.iso_model.specs.Texts.{fault_message, kind_of}
 use Rattle.iso_model.specs.declared.fault.Fault.{Fault}
 use Rattle.iso_model.specs.declared.outcome.Ending.TheVariants as Endings
@@ -32,6 +32,11 @@ pieces_in top below = map piece_of (option_to_list top ++ reverse below)
 -- the pieces that are still to be done
 abbrev pub pieces_of : BlockRun → List Piece
 pieces_of run = pieces_in run.top run.below.items
+
+-- the piece that is a whole block, where it has a statement
+abbrev pub first_piece : ℕ → Acts → Option Pending
+first_piece k no_acts = None
+first_piece k (act row a acts) = Some (Rest k (act row a acts))
 
 -- what the block has and does but for the resources
 abbrev pub local_of : BlockRun → Local

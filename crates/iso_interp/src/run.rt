@@ -89,31 +89,43 @@ impl<'a> BlockRun<'a> {
     ghost use Rattle.iso_model.specs.declared.fault.FaultKind.TheVariants as FaultKinds;
     ghost use Rattle.iso_model.specs.declared.outcome.Ending.TheVariants as Endings;
     ghost use Rattle.iso_interp.specs.Values.{given_of};
-    ghost use Rattle.iso_interp.specs.Runs.{SameBlock, SameWork, end_local, failed, faulted, local_of, machine_of, names_before, piece_of, pieces_in, pieces_of, point_of_run, progress_of, run_rights, skipped, state_of};
+    ghost use Rattle.iso_interp.specs.Runs.{SameBlock, SameWork, end_local, failed, faulted, first_piece, local_of, machine_of, names_before, piece_of, pieces_in, pieces_of, point_of_run, progress_of, run_rights, skipped, state_of};
     ghost use Rattle.iso_interp.specs.declared.run.Pending.TheVariants.{Rest, Turning};
 
     /// A run of a block at its beginning: it has all its steps, whatever were left before. An empty
     /// block has ended.
+    #[inline(always)]
     pub fn new(alloc: Global, block: &'a [Stmt], names: Names, rights: &'a Rights) -> BlockRun<'a>
         ensures point { point_of_run result ≡ first_point (block_of block.now) names }
         ensures names { names_before result ≡ length names.names }
         ensures rights { run_rights result ≡ access_in rights.now }
     {
         let before = names.len();
-        let names = restarted(names);
-        let mut run = BlockRun {
+        BlockRun {
             alloc,
             rights,
-            names,
+            names: restarted(names),
             lines: Lines::new(alloc),
             ending: Ending::Well,
             before,
             looks: LOOKS,
-            top: Some(Pending::Rest(before, Block::of(block))),
+            top: BlockRun::first_piece(before, block),
             below: Vec::new(alloc),
-        };
-        run.reach_next_point();
-        run
+        }
+    }
+
+    /// The piece that is a whole block, after which this number of names is kept; none of an empty
+    /// one.
+    #[inline(always)]
+    fn first_piece(names: usize, block: &'a [Stmt]) -> Option<Pending<'a>>
+        ensures { result ≡ first_piece names (block_of block.now) }
+    {
+        let block = Block::of(block);
+        if block.is_empty() {
+            None
+        } else {
+            Some(Pending::Rest(names, block))
+        }
     }
 
     /// Does the first piece that is left, and tells whether something is left then. A run that has
