@@ -85,7 +85,8 @@ fn sum(count: usize, by: usize, most: usize) -> usize
     if by < most - count { count + by } else { most }
 }
 
-/// Takes the first `count` names, and leaves the others.
+/// Takes the first `count` names, and leaves the others. The innermost blocks see all names, which
+/// then move at once.
 pub(crate) fn part(
     alloc: Global,
     names: &mut Bindings,
@@ -95,6 +96,10 @@ pub(crate) fn part(
     ensures taken { IfOk result (λ taken. taken ≡ take count names.old) }
     ensures left { OnOk result (names.new ≡ drop count names.old) }
 {
+    if count == names.len() {
+        let none = Bindings::new(alloc, Vec::new(alloc));
+        return Ok(mem::replace(names, none));
+    }
     let left = names.split_off(alloc, count)?;
     Ok(mem::replace(names, left))
 }

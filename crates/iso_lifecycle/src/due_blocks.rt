@@ -225,6 +225,10 @@ fn put<'a>(block: &mut Option<BlockRun<'a>>, run: BlockRun<'a>)
     requires { block.old ≡ None }
     ensures { block.new ≡ Some run.entry }
 {
+    if block.is_some() {
+        // So the compiler sees that there is nothing to drop.
+        unreachable!();
+    }
     *block = Some(run);
 }
 

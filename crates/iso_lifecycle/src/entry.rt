@@ -18,6 +18,7 @@ pub(crate) enum Entry {
 
 impl Entry {
     /// Puts what a body of the node came to.
+    #[inline(always)]
     pub(crate) fn put(&mut self, what: What)
         ensures { self.new ≡ entry_with what self.old }
     {
@@ -29,6 +30,7 @@ impl Entry {
     }
 
     /// Puts another entry in its place.
+    #[inline(always)]
     fn set(&mut self, by: Entry)
         ensures { self.new ≡ by }
     {

@@ -65,6 +65,7 @@ impl<'a> Origin<'a> {
 
     /// The frame that an ended `before_all` leaves, `outer` names of which are of the enclosing
     /// classes. No other body leaves one.
+    #[inline(always)]
     pub(crate) fn frame(
         &self,
         alloc: Global,
@@ -80,16 +81,33 @@ impl<'a> Origin<'a> {
     {
         match self.kind {
             BodyKind::Test | BodyKind::AfterAll => Ok(None),
-            BodyKind::BeforeAll => {
-                if !run.is_ended() {
-                    return Ok(None);
-                }
-                let statics = self.statics(alloc, run, outer)?;
-                let fields = self.fields(alloc)?;
-                let frame = Frame::new(alloc, self.plan, &self.start, self.node, statics, fields)?;
-                Ok(Some(frame))
-            }
+            BodyKind::BeforeAll => self.opened_frame(alloc, run, outer),
         }
+    }
+
+    /// The same of a `before_all`. Most bodies are tests, so this stays out of what each body does.
+    #[inline(never)]
+    fn opened_frame(
+        &self,
+        alloc: Global,
+        run: &BodyRun<'_>,
+        outer: usize,
+    ) -> Result<Option<Frame>, AllocError>
+        requires kind { kind_of_origin self.now ≡ BodyKind.BeforeAll }
+        requires outer { outer ≡ outer_names (kind_of_origin self.now)
+            (subject_of_origin self.now) }
+        requires come { HasCome (kind_of_origin self.now) (subject_of_origin self.now)
+            (stage_of run.now) }
+        ensures { IfOk result (λ frame. HasLeft (kind_of_origin self.now)
+            (subject_of_origin self.now) (stage_of run.now) frame) }
+    {
+        if !run.is_ended() {
+            return Ok(None);
+        }
+        let statics = self.statics(alloc, run, outer)?;
+        let fields = self.fields(alloc)?;
+        let frame = Frame::new(alloc, self.plan, &self.start, self.node, statics, fields)?;
+        Ok(Some(frame))
     }
 
     /// The statics that an ended `before_all` leaves.

@@ -50,7 +50,7 @@ impl<'a> Model for Results<'a> {
 fn empty(alloc: Global, count: usize) -> Result<Vec<Entry>, AllocError>
     ensures { IfOk result (λ v. v.items ≡ replicate count Empty) }
 {
-    let mut entries = Vec::new(alloc);
+    let mut entries = Vec::with_capacity(alloc, count)?;
     'entries: for _n in 0..count {
         entries.push(Entry::Empty)?;
     }
@@ -75,6 +75,7 @@ impl<'a> Results<'a> {
     }
 
     /// Puts what a body came to. Takes no memory.
+    #[inline(always)]
     pub fn put(&mut self, done: Done)
         requires { CanPut done self.old }
         ensures { self.new ≡ with_done done self.old }
