@@ -1,5 +1,5 @@
 //! The lines that a body prints, in one buffer.
-ghost use Rattle.std.specs.Prelude.{◌≡◌, ◌∷◌, ◌++◌, [], ◌==◌, length, OnOk, OnErr, MatchOption};
+ghost use Rattle.std.specs.Prelude.{◌≡◌, ◌∷◌, ◌++◌, [], ◌==◌, ◌+◌, ◌≤◌, length, vec_capacity, vec_len, OnOk, OnErr, MatchOption};
 ghost use Rattle.iso_model.specs.Lines.{IsEnded};
 
 use std::alloc::{AllocError, Global};
@@ -44,7 +44,7 @@ impl Lines {
         ensures ok { OnOk result (self.new ≡ self.old ++ line.now ∷ []) }
         ensures err { OnErr result (self.new ≡ self.old) }
     {
-        self.bytes.reserve(line.len() + 1)?;
+        make_room(&mut self.bytes, line.len() + 1)?;
         self.bytes.extend_from_slice(line.as_bytes())?;
         self.bytes.push(LINE_END)?;
         Ok(())
@@ -72,6 +72,19 @@ impl Lines {
     {
         LineSlice { bytes: &self.bytes }
     }
+}
+
+/// Makes room for `more` bytes. Most bodies print one line: it takes what it needs, and nothing is
+/// given back later.
+fn make_room(bytes: &mut Vec<u8>, more: usize) -> Result<(), AllocError>
+    ensures items { bytes.new.items ≡ bytes.old.items }
+    ensures len { vec_len bytes.new ≡ vec_len bytes.old }
+    ensures room { OnOk result (vec_len bytes.new + more ≤ vec_capacity bytes.new) }
+{
+    if bytes.is_empty() {
+        return bytes.reserve_exact(more);
+    }
+    bytes.reserve(more)
 }
 
 /// Lines, lent: all of some, or those that are left of them.

@@ -6,5 +6,5 @@ invariant_of-self-2 c = rw c.in_ok-push.ensures.items (pushed-ended c.extend_fro
 
 pub returns-clause-ok : goal.returns-clause-ok
 returns-clause-ok c =
-    rw (c.in_ok-push.ensures.items, c.in_ok-extend_from_slice.ensures.items, c.as_bytes.ensures.value, c.in_ok-reserve.ensures.items, ← c.self.view_is)
+    rw (c.in_ok-push.ensures.items, c.in_ok-extend_from_slice.ensures.items, c.as_bytes.ensures.value, c.in_ok-make_room.ensures.items, ← c.self.view_is)
     (pushed-lines c.self.inside.bytes.items c.args.line.now c.self.invariant (HasNoEnd-text c.args.line.now c.utf8.line))
