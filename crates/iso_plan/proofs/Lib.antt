@@ -18,6 +18,7 @@ pub mod LockLemmas
 pub mod MergeLemmas
 pub mod MergedLemmas
 pub mod ModeLemmas
+pub mod NodeSetLemmas
 pub mod NumberLemmas
 pub mod PathLemmas
 pub mod PathTextLemmas

@@ -23,6 +23,7 @@ use Rattle.iso_model.specs.contracts.heads.ClassHead as class
 use Rattle.iso_model.specs.contracts.heads.TestContents as test_contents
 use Rattle.iso_model.specs.contracts.heads.TestHead as test
 use Rattle.iso_model.specs.contracts.tree.Stmt as stmt
+use Rattle.iso_desk.proofs.marks.Marks.TheSendSync as desk_marks
 use Rattle.iso_plan.proofs.held_nodes.KeyUse.TheSendSync as key_use
 use Rattle.iso_plan.proofs.lock.Lock.TheSendSync as lock
 use Rattle.std.specs.contracts.option.Option as option
@@ -31,6 +32,8 @@ use denote.RattleType.{RattleType}
 use denote.Struct.Field.{row_field}
 use Rattle.iso_plan.specs.contracts.held_nodes.HeldNodes as held_nodes
 use Rattle.iso_plan.specs.contracts.held_nodes.HeldNodes.TheInside as held_inside
+use Rattle.iso_plan.specs.contracts.node_set.NodeSet as node_set
+use Rattle.iso_plan.specs.contracts.node_set.NodeSet.TheInside as node_set_inside
 use Rattle.iso_plan.specs.contracts.plan.Plan as plan
 use Rattle.iso_plan.specs.contracts.plan.Plan.TheInside as inside
 use Rattle.iso_plan.specs.contracts.row.Kind as kind
@@ -124,7 +127,12 @@ plan_shared =
       sendable,
     )
 
-ruleset held = (plan_shared, key_use.the_send, as_row_send, crosses, sendable)
+ruleset nodes = (desk_marks.the_send, as_row_send, crosses, sendable)
+
+node_set_sent : IsSend node_set.the_row
+node_set_sent = search (declared_send node_set_inside.the_type (search nodes, (search nodes, (search nodes, tt))), sendable)
+
+ruleset held = (plan_shared, node_set_sent, key_use.the_send, as_row_send, crosses, sendable)
 
 -- held nodes may go to another thread
 pub held_sent : (a : NamedLft) → IsSend (held_nodes.the_row a)

@@ -13,6 +13,7 @@ pub mod Locks
 pub mod Merged
 pub mod Modes
 pub mod NodeChains
+pub mod NodeSets
 pub mod PathTexts
 pub mod Paths
 pub mod Planned

@@ -8,7 +8,9 @@ ghost use Rattle.iso_plan.specs.KeyTable.{keys};
 ghost use Rattle.iso_plan.specs.RowView.{tree_of};
 
 use crate::conflict::Holders;
+use crate::laws;
 use crate::lock::Lock;
+use crate::node_set::NodeSet;
 use crate::plan::Plan;
 use iso_model::access::Access;
 use std::alloc::{AllocError, Global};
@@ -19,7 +21,7 @@ use std::marker::Model;
 #[derive(Drop)]
 pub struct HeldNodes<'a> {
     plan: &'a Plan,
-    held: Vec<bool>,
+    held: NodeSet,
     uses: Vec<KeyUse>,
 }
 
@@ -38,9 +40,9 @@ impl<'a> Model for HeldNodes<'a> {
 
     ghost coded = { held_code };
 
-    ghost view = { λ h. record { plan = h.plan.now; held = h.held.items } };
+    ghost view = { λ h. record { plan = h.plan.now; held = h.held } };
 
-    ghost invariant = { λ h. AreCounted (tree_of h.plan.now) h.held.items h.uses.items };
+    ghost invariant = { λ h. AreCounted (tree_of h.plan.now) h.held h.uses.items };
 }
 
 impl<'a> HeldNodes<'a> {
@@ -54,7 +56,7 @@ impl<'a> HeldNodes<'a> {
         };
         Ok(HeldNodes {
             plan,
-            held: vec![in alloc; false; plan.len() as usize]?,
+            held: NodeSet::new(alloc, plan.len() as usize)?,
             uses: vec![in alloc; unused; plan.key_count() as usize]?,
         })
     }
@@ -64,18 +66,14 @@ impl<'a> HeldNodes<'a> {
         requires { node < length self.now.plan.rows }
         ensures { result ≡ is_held self.now.held node }
     {
-        self.held[node as usize]
+        self.held.has(node as usize)
     }
 
-    /// Whether no node is held. It goes over all nodes without a jump, so it is quick.
+    /// Whether no node is held.
     pub fn is_empty(&self) -> bool
         ensures { result ≡ not (any_held self.now.held) }
     {
-        let mut any = false;
-        for held in &self.held {
-            any |= *held;
-        }
-        !any
+        self.held.is_empty()
     }
 
     /// Holds a node, if it isn't held yet. Takes no memory.
@@ -83,9 +81,10 @@ impl<'a> HeldNodes<'a> {
         requires { node < length self.old.plan.rows }
         ensures { self.new ≡ holding node self.old }
     {
-        if !self.held[node as usize] {
+        laws::nodes_are_few(self.plan);
+        if !self.held.has(node as usize) {
             let locks = self.plan.locks(node);
-            self.held[node as usize] = true;
+            self.held.put_in(node as usize);
             add(&mut self.uses, locks);
         }
     }
@@ -95,9 +94,9 @@ impl<'a> HeldNodes<'a> {
         requires { node < length self.old.plan.rows }
         ensures { self.new ≡ releasing node self.old }
     {
-        if self.held[node as usize] {
+        if self.held.has(node as usize) {
             let locks = self.plan.locks(node);
-            self.held[node as usize] = false;
+            self.held.take_out(node as usize);
             remove(&mut self.uses, locks);
         }
     }

@@ -19,6 +19,7 @@ mod locks;
 mod merged;
 mod modes;
 mod names;
+mod node_set;
 mod nodes;
 mod outermost;
 pub mod overview;

@@ -10,3 +10,4 @@ pub mod Looks
 pub mod Passing
 pub mod ResultLeaves
 pub mod ResultPuts
+pub mod First

@@ -13,5 +13,5 @@ returns c =
     c.any_excluded.ensures
     ∙ ap (λ (us : List KeyUse). any_excluded us c.locks.result.now) c.deref.ensures.value
     ∙ ap (any_excluded uses) c.locks.ensures.locks
-    ∙ excluded-is tree c.self.inside.held.items uses c.args.node c.self.invariant (known-locks tree uses c.args.node c.self.invariant.table)
+    ∙ excluded-is tree c.self.inside.held uses c.args.node c.self.invariant (known-locks tree uses c.args.node c.self.invariant.table)
     ∙ ap (λ (v : HeldView). is_some (lowest_in_the_way (tree_of v.plan) (is_held v.held) c.args.node)) c.self.view_is

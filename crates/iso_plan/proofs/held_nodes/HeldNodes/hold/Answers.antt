@@ -1,4 +1,5 @@
-use Rattle.std.proofs.Common.{◌≡◌, ◌<◌, ◌^◌, List, ap, arith, false, get_or, length, set, subst, sym, true, ◌∙◌}
+use Rattle.std.proofs.Common.{◌≡◌, ◌<◌, ◌^◌, Bool, List, ap, arith, false, length, refl, set, subst, sym, true, ◌∙◌}
+use Rattle.iso_model.specs.declared.limits.TheConstants.{NODES}
 use Rattle.iso_plan.specs.HeldNodes.{AreCounted, CanAdd, HeldView, added, is_held}
 use Rattle.iso_plan.specs.Locks.{locks}
 use Rattle.iso_plan.specs.RowView.{tree_of}
@@ -12,18 +13,34 @@ pub add-requires : goal.add-requires
 add-requires c =
     let tree = tree_of c.self.inside.plan.now in
     let uses : List KeyUse = c.self.inside.uses.items in
-    let few : length tree < 2 ^ 63 = omega (arith, c.self.inside.held.ok.0, c.self.invariant.nodes) in
+    let limit : NODES ≡ 4096 = refl in
+    let few : length tree < 2 ^ 63 = omega (arith, limit, c.nodes_are_few.ensures) in
     subst (λ (ls : List Lock). CanAdd ls uses) (sym c.locks-locks.ensures.locks)
-    (room tree c.self.inside.held.items uses (locks tree c.args.node) (locks-rise tree c.args.node) (known-locks tree uses c.args.node c.self.invariant.table) few c.self.invariant)
+    (room tree c.self.inside.held uses (locks tree c.args.node) (locks-rise tree c.args.node) (known-locks tree uses c.args.node c.self.invariant.table) few c.self.invariant)
 
 pub invariant_of-self : goal.invariant_of-self
 invariant_of-self c =
     let tree = tree_of c.self.inside.plan.now in
-    let held = c.self.inside.held.items in
+    let held = c.self.inside.held in
     let uses : List KeyUse = c.self.inside.uses.items in
     let same : length tree ≡ length c.args.self.now.plan.rows = ap (λ (v : HeldView). length v.plan.rows) c.self.view_is in
     let within : c.args.node < length tree = omega (arith, c.requires) in
     let is : c.add.new.uses.items ≡ added (locks tree c.args.node) uses = c.add.ensures ∙ ap (λ (ls : List Lock). added ls uses) c.locks-locks.ensures.locks in
-    let free : is_held held c.args.node ≡ false = ap (get_or held c.args.node) (sym c.if-not-index.true) ∙ sym c.index.ensures ∙ c.if-not-index.true in
-    subst (AreCounted tree (set held c.args.node true)) (sym is)
-    (counted-more tree held uses c.args.node within (locks-rise tree c.args.node) (known-locks tree uses c.args.node c.self.invariant.table) free c.self.invariant)
+    let free : is_held held c.args.node ≡ false = sym c.has.ensures ∙ c.if-not-has.true in
+    subst (λ (hs : List Bool). AreCounted tree hs c.add.new.uses.items) (sym c.put_in.ensures) (subst (AreCounted tree (set held c.args.node true)) (sym is)
+    (counted-more tree held uses c.args.node within (locks-rise tree c.args.node) (known-locks tree uses c.args.node c.self.invariant.table) free c.self.invariant))
+
+pub has-requires : goal.has-requires
+has-requires c =
+    let same : length (tree_of c.self.inside.plan.now) ≡ length c.args.self.now.plan.rows = ap (λ (v : HeldView). length v.plan.rows) c.self.view_is in
+    let fits = c.self.invariant.nodes in
+    omega (arith, c.requires)
+
+pub put_in-requires-clause-node : goal.put_in-requires-clause-node
+put_in-requires-clause-node c =
+    let same : length (tree_of c.self.inside.plan.now) ≡ length c.args.self.now.plan.rows = ap (λ (v : HeldView). length v.plan.rows) c.self.view_is in
+    let fits = c.self.invariant.nodes in
+    omega (arith, c.requires)
+
+pub put_in-requires-clause-free : goal.put_in-requires-clause-free
+put_in-requires-clause-free c = sym c.has.ensures ∙ c.if-not-has.true

@@ -1,5 +1,4 @@
-use Rattle.std.proofs.Common.{◌≡◌, ◌<◌, List, ap, arith, false, length, set, subst, sym, true, ◌∙◌}
-use Rattle.std.proofs.lemmas.List.{get_or_default}
+use Rattle.std.proofs.Common.{◌≡◌, ◌<◌, Bool, List, ap, arith, false, length, set, subst, sym, true, ◌∙◌}
 use Rattle.iso_plan.specs.HeldNodes.{AreCounted, CanRemove, HeldView, is_held, removed}
 use Rattle.iso_plan.specs.Locks.{locks}
 use Rattle.iso_plan.specs.RowView.{tree_of}
@@ -12,24 +11,39 @@ use Rattle.iso_plan.proofs.held_nodes.HeldNodes.release.Goals as goal
 pub remove-requires : goal.remove-requires
 remove-requires c =
     let tree = tree_of c.self.inside.plan.now in
-    let held = c.self.inside.held.items in
+    let held = c.self.inside.held in
     let uses : List KeyUse = c.self.inside.uses.items in
     let same : length tree ≡ length c.args.self.now.plan.rows = ap (λ (v : HeldView). length v.plan.rows) c.self.view_is in
     let fits = c.self.invariant.nodes in
     let within : c.args.node < length tree = omega (arith, c.requires) in
-    let held_before : is_held held c.args.node ≡ true = get_or_default held c.args.node false c.index.result.now (omega arith) ∙ sym c.index.ensures ∙ c.if-index.true in
+    let held_before : is_held held c.args.node ≡ true = sym c.has.ensures ∙ c.if-has.true in
     subst (λ (ls : List Lock). CanRemove ls uses) (sym c.locks-locks.ensures.locks)
     (there tree held uses c.args.node within (locks-rise tree c.args.node) (known-locks tree uses c.args.node c.self.invariant.table) held_before c.self.invariant)
 
 pub invariant_of-self : goal.invariant_of-self
 invariant_of-self c =
     let tree = tree_of c.self.inside.plan.now in
-    let held = c.self.inside.held.items in
+    let held = c.self.inside.held in
     let uses : List KeyUse = c.self.inside.uses.items in
     let same : length tree ≡ length c.args.self.now.plan.rows = ap (λ (v : HeldView). length v.plan.rows) c.self.view_is in
     let fits = c.self.invariant.nodes in
     let within : c.args.node < length tree = omega (arith, c.requires) in
-    let held_before : is_held held c.args.node ≡ true = get_or_default held c.args.node false c.index.result.now (omega arith) ∙ sym c.index.ensures ∙ c.if-index.true in
+    let held_before : is_held held c.args.node ≡ true = sym c.has.ensures ∙ c.if-has.true in
     let is : c.remove.new.uses.items ≡ removed (locks tree c.args.node) uses = c.remove.ensures ∙ ap (λ (ls : List Lock). removed ls uses) c.locks-locks.ensures.locks in
-    subst (AreCounted tree (set held c.args.node false)) (sym is)
-    (counted-less tree held uses c.args.node within (locks-rise tree c.args.node) (known-locks tree uses c.args.node c.self.invariant.table) held_before c.self.invariant)
+    subst (λ (hs : List Bool). AreCounted tree hs c.remove.new.uses.items) (sym c.take_out.ensures) (subst (AreCounted tree (set held c.args.node false)) (sym is)
+    (counted-less tree held uses c.args.node within (locks-rise tree c.args.node) (known-locks tree uses c.args.node c.self.invariant.table) held_before c.self.invariant))
+
+pub has-requires : goal.has-requires
+has-requires c =
+    let same : length (tree_of c.self.inside.plan.now) ≡ length c.args.self.now.plan.rows = ap (λ (v : HeldView). length v.plan.rows) c.self.view_is in
+    let fits = c.self.invariant.nodes in
+    omega (arith, c.requires)
+
+pub take_out-requires-clause-node : goal.take_out-requires-clause-node
+take_out-requires-clause-node c =
+    let same : length (tree_of c.self.inside.plan.now) ≡ length c.args.self.now.plan.rows = ap (λ (v : HeldView). length v.plan.rows) c.self.view_is in
+    let fits = c.self.invariant.nodes in
+    omega (arith, c.requires)
+
+pub take_out-requires-clause-there : goal.take_out-requires-clause-there
+take_out-requires-clause-there c = sym c.has.ensures ∙ c.if-has.true

@@ -1,10 +1,12 @@
-use Rattle.std.proofs.Common.{rules, ◌≡◌, ℕ, List, Vec, Global, length, set, get_or, replicate, None, ap, sym, ◌∙◌, subst, arith}
-use Rattle.std.proofs.lemmas.List.{get_or-set_same, length-set}
+use Rattle.std.proofs.Common.{rules, ◌≡◌, ℕ, List, Vec, Global, Option, length, set, get_or, replicate, None, false, ap, sym, ◌∙◌, subst, refl, arith}
+use Rattle.std.proofs.lemmas.List.{get_or-replicate, get_or-set_same, length-set}
 use Rattle.iso_plan.specs.HeldNodes.{holding, none_held}
+use Rattle.iso_standing.proofs.First.{first-phases}
 use Rattle.iso_standing.proofs.Holding.{holding-none, holding-root}
 use Rattle.iso_standing.proofs.Passing.{keeps-none, none-in}
 use Rattle.iso_standing.specs.Holding.{KeepsHeld}
 use Rattle.iso_standing.specs.Passed.{KeepsPassed}
+use Rattle.iso_standing.specs.Standings.{Standing}
 use Rattle.iso_standing.specs.declared.phase.Phase.{Phase}
 use Rattle.iso_standing.specs.declared.phase.Phase.TheVariants.{Open, Waiting}
 use Rattle.iso_standing.proofs.standing.Standing.new.Goals as goal
@@ -45,3 +47,21 @@ invariant_of-result c =
       subst (KeepsPassed p phases) (sym none) (keeps-none p phases),
       held,
     )
+
+pub returns-clause-state : goal.returns-clause-state
+returns-clause-state c = λ start.
+    let v : Standing = record { plan = c.args.plan.now; phases = c.if-nodes-gt0.phases.items; owners = c.in_ok-vec.field-0.items; busy = c.in_ok-vec-2.field-0.items; stopped = false } in
+    let k = c.len-nodes.result in
+    let all : c.in_ok-phases.phases.items ≡ replicate k Waiting = c.in_ok-phases.ensures.items_if_clones_equal (λ y h. search rules) in
+    let zeros : c.in_ok-vec.field-0.items ≡ replicate k 0 = c.in_ok-vec.ensures.items_if_clones_equal (λ y h. search rules) in
+    let busy : c.in_ok-vec-2.field-0.items ≡ replicate c.args.workers None = c.in_ok-vec-2.ensures.items_if_clones_equal (λ y h. search rules) in
+    record {
+      phases = λ n h. elim c.if-nodes-gt0.branch [
+        | then-nodes-gt0 w ↦ first-phases v start k n (omega (arith, h, c.len-nodes.ensures))
+            ∙ sym (ap (λ (ps : Vec Phase Global). get_or ps.items n Waiting) w.phases-is ∙ ap (λ (ps : List Phase). get_or (set ps 0 Open) n Waiting) all)
+        | else-nodes-gt0 w ↦ absurd (omega (arith, h, c.len-nodes.ensures, w.if-nodes-gt0.false))
+      ];
+      owners = λ n h. sym (ap (λ (os : List ℕ). get_or os n 0) zeros ∙ get_or-replicate k n 0 0 (omega (arith, h, c.len-nodes.ensures)));
+      bodies = λ w h. sym (ap (λ (os : List (Option ℕ)). get_or os w None) busy ∙ none-in c.args.workers w);
+      stopped = refl;
+    }
