@@ -1,3 +1,4 @@
+pub mod CountLemmas
 pub mod FindLemmas
 pub mod FlatLemmas
 pub mod KeyLemmas

@@ -5,6 +5,8 @@ use denote.Ref.{NamedLft}
 use Rattle.std.proofs.Crossing.{crosses}
 use Rattle.iso_lifecycle.proofs.Sharing.{frame_sent}
 use Rattle.iso_locks.proofs.starting.Starting.TheSendSync as starting
+use Rattle.iso_locks.specs.contracts.counts.Counts as counts
+use Rattle.iso_locks.specs.contracts.counts.Counts.TheInside as counts_inside
 use Rattle.iso_locks.specs.contracts.lent.LentNodes as lent
 use Rattle.iso_locks.specs.contracts.lent.LentNodes.TheInside as lent_inside
 use Rattle.iso_locks.specs.contracts.lockers.Lockers as lockers
@@ -24,7 +26,10 @@ ruleset values = (stored.held_sent, option_sent, as_row_send, crosses, sendable)
 slots_sent : IsSend slots.the_row
 slots_sent = search (declared_send slots_inside.the_type (search values, tt), sendable)
 
-ruleset held = (plan_shared, held_sent, world.the_sync, slots_sent, starting.the_send, frame_sent, as_row_send, crosses, sendable)
+counts_sent : IsSend counts.the_row
+counts_sent = search (declared_send counts_inside.the_type (search values, (search values, tt)), sendable)
+
+ruleset held = (plan_shared, held_sent, counts_sent, world.the_sync, slots_sent, starting.the_send, frame_sent, as_row_send, crosses, sendable)
 
 lockers_sent : (a : NamedLft) → IsSend (lockers.the_row a)
 lockers_sent a = search (declared_send (lockers_inside.the_type a) (search held, (search held, tt)), sendable)

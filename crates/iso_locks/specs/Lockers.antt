@@ -1,5 +1,5 @@
 -- The locking nodes of the nodes that are lent, as contracts see them.
-use Rattle.std.specs.Prelude.{◌≡◌, ◌+◌, ◌-◌, ◌&&◌, ◌==◌, ℕ, List, length, replicate, Bool, is_some, not, slice_index_or, slice_set, refl}
+use Rattle.std.specs.Prelude.{◌≡◌, ◌≤◌, ◌+◌, ◌-◌, ◌++◌, ◌&&◌, ◌==◌, ℕ, List, length, replicate, Bool, is_some, not, slice_index_or, slice_set, refl}
 use Rattle.std.specs.Coded.{Coded, code_by, coded×, coded_list, coded_ℕ}
 use Rattle.iso_plan.specs.Conflicts.{lowest_in_the_way}
 use Rattle.iso_plan.specs.HeldNodes.{HeldView, is_held}
@@ -48,3 +48,12 @@ pub record KeepsLockers (nodes : HeldView) (under : List ℕ) : Type 0 where
   pub each : length nodes.held ≡ length nodes.plan.rows
   pub table : length under ≡ length nodes.plan.rows
   pub held : (a : ℕ) → is_held nodes.held a ≡ has_under under a
+
+-- counts that are written down, and zeros behind them
+abbrev pub with_zeros : List ℕ → ℕ → List ℕ
+with_zeros written all = written ++ replicate (all - length written) 0
+
+-- no more counts are written down than there are, for which there is room
+pub record HasRoom (written : List ℕ) (all room : ℕ) : Type 0 where
+  pub within : length written ≤ all
+  pub fits : all ≤ room

@@ -1,6 +1,7 @@
 //! Values in the hands of one worker at a time: trays, and the vault that lends to them.
 #![tactic(auto)]
 
+mod counts;
 pub mod examples;
 pub mod laws;
 mod lent;

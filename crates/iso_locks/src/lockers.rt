@@ -3,6 +3,7 @@ ghost use Rattle.std.specs.Prelude.{◌≡◌, ◌<◌, ◌≤◌, IfOk, length}
 ghost use Rattle.iso_model.specs.declared.limits.TheConstants.{NODES};
 ghost use Rattle.iso_locks.specs.Lockers.{is_kept_out, no_lockers, one_less, one_more, under_it};
 
+use crate::counts::Counts;
 use iso_plan::held_nodes::HeldNodes;
 use iso_plan::plan::Plan;
 use std::alloc::{AllocError, Global};
@@ -14,8 +15,7 @@ use std::marker::Model;
 #[derive(Drop)]
 pub(crate) struct Lockers<'a> {
     nodes: HeldNodes<'a>,
-    // Of 16 bits: each worker has such a table over all nodes.
-    under: Vec<u16>,
+    under: Counts,
 }
 
 impl<'a> Model for Lockers<'a> {
@@ -25,9 +25,9 @@ impl<'a> Model for Lockers<'a> {
 
     ghost coded = { lockers_code };
 
-    ghost view = { λ l. record { plan = l.nodes.plan; under = l.under.items } };
+    ghost view = { λ l. record { plan = l.nodes.plan; under = l.under } };
 
-    ghost invariant = { λ l. KeepsLockers l.nodes l.under.items };
+    ghost invariant = { λ l. KeepsLockers l.nodes l.under };
 }
 
 impl<'a> Lockers<'a> {
@@ -37,7 +37,7 @@ impl<'a> Lockers<'a> {
     {
         Ok(Lockers {
             nodes: HeldNodes::new(alloc, plan)?,
-            under: vec![in alloc; 0; plan.len() as usize]?,
+            under: Counts::new(alloc, plan.len() as usize)?,
         })
     }
 
@@ -48,7 +48,8 @@ impl<'a> Lockers<'a> {
         requires limit { length self.old.plan.rows ≤ NODES }
         ensures { self.new ≡ one_more locker self.old }
     {
-        self.under[locker as usize] += 1;
+        let counted = self.under.get(locker as usize);
+        self.under.set(locker as usize, counted + 1);
         self.nodes.hold(locker);
     }
 
@@ -58,8 +59,9 @@ impl<'a> Lockers<'a> {
         requires counted { 0 < under_it self.old.under locker }
         ensures { self.new ≡ one_less locker self.old }
     {
-        self.under[locker as usize] -= 1;
-        if self.under[locker as usize] == 0 {
+        let left = self.under.get(locker as usize) - 1;
+        self.under.set(locker as usize, left);
+        if left == 0 {
             self.nodes.release(locker);
         }
     }
