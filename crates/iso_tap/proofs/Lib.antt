@@ -1,4 +1,5 @@
 pub mod BlockLemmas
+pub mod BufferLemmas
 pub mod EscapeLemmas
 pub mod PlanLemmas
 pub mod PrinterLemmas

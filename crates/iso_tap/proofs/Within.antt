@@ -5,7 +5,7 @@ use Rattle.std.proofs.lemmas.List.Elements.{All-nil, All-cons, All-append, recur
 use Rattle.iso_plan.proofs.ChildLemmas.{listed}
 use Rattle.iso_plan.proofs.PathLemmas.{along, eq_from, path-root, under-le, under-self, under-step}
 use Rattle.iso_plan.specs.Children.{IsListed}
-use Rattle.iso_plan.specs.Paths.{IsTree, children, children_below, is_root, is_under, parent}
+use Rattle.iso_plan.specs.Paths.{IsTree, children, children_below, is_root, is_test, is_under, parent, row_at}
 use Rattle.iso_plan.specs.Tree.{Row}
 use Rattle.iso_tap.specs.Reports.{within}
 
@@ -153,3 +153,10 @@ module _ (tree : List Row) (t : IsTree tree) where
             (subst (λ (j : ℕ). IsListed (children tree j) b.child) b.parent_is (listed tree b.child b.positive (omega arith))) in
             all_to p (is_under tree b.child) (length tree) 0 child m low high b.under
       ]))
+
+-- a test has no children
+pub all-of-test : (tree : List Row) → IsTree tree → (p : ℕ → Bool) (n : ℕ) → is_test (row_at tree n).kind ≡ true → list_all p (children tree n) ≡ true
+all-of-test tree t p n test =
+    let nothing = λ (m : ℕ). ⊥ in
+    let none = children-have nothing tree n (length tree) (λ m pos less is. true≢false (sym (ap (λ (k : ℕ). is_test (row_at tree k).kind) is ∙ test) ∙ t.inner m pos)) in
+    all_by nothing p (λ m no. absurd no) (children tree n) (recursion_from_All nothing (children tree n) none)

@@ -1,3 +1,4 @@
+pub mod Buffers
 pub mod Escapes
 pub mod Pieces
 pub mod PlanText

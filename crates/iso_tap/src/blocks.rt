@@ -1,54 +1,49 @@
 //! The block under a point.
-ghost use Rattle.std.specs.Prelude.{◌≡◌, ◌<◌, ◌+◌, ◌^◌, ◌++◌, ◌==◌, Some, length};
+ghost use Rattle.std.specs.Prelude.{◌≡◌, ◌<◌, ◌+◌, ◌^◌, ◌++◌, ◌==◌, Some, codes, length};
 ghost use Rattle.std.specs.Option.{option_map};
 ghost use Rattle.iso_lifecycle.specs.ResultViews.{outcome_of_view, verdict_of_view};
 ghost use Rattle.iso_model.specs.LinesView.{lines_in};
-ghost use Rattle.iso_tap.specs.Escapes.{quoted};
 ghost use Rattle.iso_tap.specs.ReportBlocks.{block_lines, item_lines, note_lines, note_of, output_lines, verdict_lines, verdict_word};
-ghost use Rattle.iso_tap.specs.ReportLines.{line_at};
 
-use crate::printer::{Piece, Printer};
+use crate::buffered::BufferedPrinter;
+use crate::printer::Piece;
 use crate::sink::{Sink, SinkFailed};
 use iso_lifecycle::view::{View, ViewVerdict};
 use iso_model::lines::LineSlice;
 use iso_model::outcome::Note;
 
-impl<'a, W: Sink> Printer<'a, W> {
-    ghost use Rattle.iso_tap.specs.Printers.{Prints};
+impl<'a, W: Sink> BufferedPrinter<'a, W> {
+    ghost use Rattle.iso_tap.specs.Buffers.{Buffers};
 
-    /// Writes the block of an outcome.
+    /// Adds the block of an outcome.
     pub(crate) fn block(&mut self, indent: u64, outcome: View<'_>) -> Result<(), SinkFailed>
         requires { indent + 2 < 2 ^ 64 }
-        ensures { Prints self.old self.new
+        ensures { Buffers self.old self.new
             (block_lines indent (outcome_of_view outcome.entry)) result }
     {
-        self.line(indent, &[Piece::Plain(b"---")])?;
+        self.text_line(indent, b"---")?;
         self.verdict(indent, outcome.verdict)?;
         self.output(indent, outcome)?;
-        self.line(indent, &[Piece::Plain(b"...")])
+        self.text_line(indent, b"...")
     }
 
-    /// Writes the word of a verdict, and its message and place where it has them.
+    /// Adds the word of a verdict, and its message and place where it has them.
     fn verdict(&mut self, indent: u64, verdict: ViewVerdict<'_>) -> Result<(), SinkFailed>
-        ensures { Prints self.old self.new
+        ensures { Buffers self.old self.new
             (verdict_lines indent (verdict_of_view verdict.entry)) result }
     {
-        let word = verdict_word(verdict);
-        self.line(
-            indent,
-            &[Piece::Plain(b"verdict: "), Piece::Plain(word.as_bytes())],
-        )?;
+        self.text_line(indent, verdict_text(verdict).as_bytes())?;
         match note(verdict) {
             Some(note) => self.note(indent, note),
             None => Ok(()),
         }
     }
 
-    /// Writes a message and its place.
+    /// Adds a message and its place.
     fn note(&mut self, indent: u64, note: &Note) -> Result<(), SinkFailed>
-        ensures { Prints self.old self.new (note_lines indent (Some note.now)) result }
+        ensures { Buffers self.old self.new (note_lines indent (Some note.now)) result }
     {
-        self.quoted(indent, b"message: ", note.message.as_str().as_bytes())?;
+        self.quoted_line(indent, b"message: \"", note.message.as_str().as_bytes())?;
         self.line(
             indent,
             &[
@@ -59,50 +54,30 @@ impl<'a, W: Sink> Printer<'a, W> {
         )
     }
 
-    /// Writes what was printed.
+    /// Adds what was printed.
     fn output(&mut self, indent: u64, outcome: View<'_>) -> Result<(), SinkFailed>
         requires { indent + 2 < 2 ^ 64 }
-        ensures { Prints self.old self.new
+        ensures { Buffers self.old self.new
             (output_lines indent (outcome_of_view outcome.entry).output) result }
     {
         if printed_nothing(outcome) {
-            return self.line(indent, &[Piece::Plain(b"output: []")]);
+            return self.text_line(indent, b"output: []");
         }
-        self.line(indent, &[Piece::Plain(b"output:")])?;
+        self.text_line(indent, b"output:")?;
         self.items(indent + 2, outcome.lines)?;
         self.items(indent + 2, outcome.more)
     }
 
-    /// Writes printed lines, one item each.
+    /// Adds printed lines, one item each.
     fn items(&mut self, indent: u64, lines: LineSlice<'_>) -> Result<(), SinkFailed>
-        ensures { Prints self.old self.new (item_lines indent (lines_in lines.entry)) result }
+        ensures { Buffers self.old self.new (item_lines indent (lines_in lines.entry)) result }
     {
         let mut left = lines;
         'lines: while let Some((line, rest)) = left.split_first() {
-            self.quoted(indent, b"- ", line)?;
+            self.quoted_line(indent, b"- \"", line)?;
             left = rest;
         }
         Ok(())
-    }
-
-    /// Writes a line that ends with a text in quotes.
-    fn quoted<'x>(
-        &mut self,
-        indent: u64,
-        before: &'x [u8],
-        text: &'x [u8],
-    ) -> Result<(), SinkFailed>
-        ensures { Prints self.old self.new (line_at indent (before.now ++ quoted text.now)) result }
-    {
-        self.line(
-            indent,
-            &[
-                Piece::Plain(before),
-                Piece::Plain(b"\""),
-                Piece::InQuotes(text),
-                Piece::Plain(b"\""),
-            ],
-        )
     }
 }
 
@@ -113,16 +88,16 @@ pub(crate) fn printed_nothing(outcome: View<'_>) -> bool
     outcome.lines.is_empty() && outcome.more.is_empty()
 }
 
-/// The word of a verdict.
-fn verdict_word(verdict: ViewVerdict<'_>) -> &'static str
-    ensures { result.now ≡ verdict_word (verdict_of_view verdict.entry) }
+/// The line of a verdict's word.
+fn verdict_text(verdict: ViewVerdict<'_>) -> &'static str
+    ensures { result.now ≡ codes "verdict: " ++ verdict_word (verdict_of_view verdict.entry) }
 {
     match verdict {
-        ViewVerdict::Pass => "pass",
-        ViewVerdict::Fail(_) => "fail",
-        ViewVerdict::Fault(..) => "fault",
-        ViewVerdict::Skipped(_) => "skipped",
-        ViewVerdict::Blocked(_) => "blocked",
+        ViewVerdict::Pass => "verdict: pass",
+        ViewVerdict::Fail(_) => "verdict: fail",
+        ViewVerdict::Fault(..) => "verdict: fault",
+        ViewVerdict::Skipped(_) => "verdict: skipped",
+        ViewVerdict::Blocked(_) => "verdict: blocked",
     }
 }
 

@@ -46,7 +46,7 @@ impl<'a, W: Sink> Printer<'a, W> {
 }
 
 /// How many bytes stand before the first that is escaped, which is a backslash or this other byte.
-fn plain_len(other: u8, text: &[u8]) -> usize
+pub(crate) fn plain_len(other: u8, text: &[u8]) -> usize
     ensures { result ≡ plain_len other text.now }
 {
     let mut len = 0;

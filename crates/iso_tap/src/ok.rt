@@ -25,7 +25,7 @@ pub fn all_ok(plan: &Plan, results: &Results<'_>) -> bool
 
 /// Whether the points of all children of a node are ok.
 #[cycle(being_ok)]
-pub(crate) fn children_are_ok(plan: &Plan, results: &Results<'_>, node: u32) -> bool
+fn children_are_ok(plan: &Plan, results: &Results<'_>, node: u32) -> bool
     requires plan { results.now.plan ≡ plan.now }
     requires complete { AreComplete results.now }
     requires within { node < length plan.now.rows }

@@ -8,7 +8,7 @@ use iso_model::place::Place;
 use itoa::Buffer;
 
 /// Spaces for one call: a printed line in a test in eight classes stands behind 36.
-const SPACES: [u8; 64] = [b' '; 64];
+pub(crate) const SPACES: [u8; 64] = [b' '; 64];
 
 /// A piece of a line.
 #[derive(Clone, Copy)]
@@ -44,6 +44,16 @@ impl<'a, W: Sink> Printer<'a, W> {
         ensures written { result.written ≡ 0 }
     {
         Printer { sink, written: 0 }
+    }
+
+    /// A printer to this sink that counts on from these bytes.
+    pub(crate) fn counting_from(sink: &'a mut W, written: u64) -> Printer<'a, W>
+        requires { written ≤ (W.account sink.old).count }
+        ensures sink { result.sink.ghost_name ≡ sink.entry.ghost_name }
+        ensures now { result.sink.now ≡ sink.old }
+        ensures written { result.written ≡ written }
+    {
+        Printer { sink, written }
     }
 
     /// How many bytes it wrote.

@@ -1,5 +1,5 @@
 //! The report of a run's results (TAP version 14).
-ghost use Rattle.std.specs.Prelude.{◌≡◌, ◌<◌, ◌≤◌, ◌+◌, ◌*◌, IfOk, length};
+ghost use Rattle.std.specs.Prelude.{◌≡◌, ◌<◌, ◌≤◌, ◌+◌, ◌*◌, [], IfOk, length};
 ghost use Rattle.std.specs.List.{list_all};
 ghost use Rattle.iso_lifecycle.specs.ResultViews.{AreComplete, outcome_in};
 ghost use Rattle.iso_plan.specs.Paths.{children, row_at};
@@ -7,9 +7,9 @@ ghost use Rattle.iso_plan.specs.RowView.{tree_of};
 ghost use Rattle.iso_tap.specs.Printers.{Writes, only};
 ghost use Rattle.iso_tap.specs.Reports.{is_ok, level, report, reported, subtest};
 
+use crate::buffered::BufferedPrinter;
 use crate::fault::TapFault;
-use crate::ok::{children_are_ok, is_ok_verdict, outcome};
-use crate::printer::{Piece, Printer};
+use crate::ok::{is_ok_verdict, outcome};
 use crate::sink::{Sink, SinkFailed};
 use iso_lifecycle::results::Results;
 use iso_plan::laws;
@@ -31,7 +31,7 @@ pub fn write_report<W: Sink>(
     ensures { Writes (W.account sink.old) (W.account sink.new)
         (report (tree_of plan.now) (outcome_in results.now)) result }
 {
-    let mut printer = Printer::new(sink);
+    let mut printer = BufferedPrinter::new(sink);
     match printer.report(plan, results) {
         Ok(()) => Ok(()),
         Err(_) => Err(TapFault {
@@ -40,23 +40,36 @@ pub fn write_report<W: Sink>(
     }
 }
 
-impl<'a, W: Sink> Printer<'a, W> {
+impl<'a, W: Sink> BufferedPrinter<'a, W> {
+    ghost use Rattle.iso_tap.specs.Buffers.{Buffers, printer_of};
     ghost use Rattle.iso_tap.specs.Printers.{Prints};
 
     /// Writes a report.
     fn report(&mut self, plan: &Plan, results: &Results<'_>) -> Result<(), SinkFailed>
         requires plan { results.now.plan ≡ plan.now }
         requires complete { AreComplete results.now }
-        ensures { Prints self.old self.new
+        requires empty { self.old.held.items ≡ [] }
+        ensures { Prints (printer_of self.old) (printer_of self.new)
+            (report (tree_of plan.now) (outcome_in results.now)) result }
+    {
+        self.levels(plan, results)?;
+        self.flush()
+    }
+
+    /// Adds the version and all levels.
+    fn levels(&mut self, plan: &Plan, results: &Results<'_>) -> Result<(), SinkFailed>
+        requires plan { results.now.plan ≡ plan.now }
+        requires complete { AreComplete results.now }
+        ensures { Buffers self.old self.new
             (report (tree_of plan.now) (outcome_in results.now)) result }
     {
         laws::nodes_are_a_tree(plan);
-        self.line(0, &[Piece::Plain(b"TAP version 14")])?;
+        self.text_line(0, b"TAP version 14")?;
         self.level(plan, results, 0, 0)?;
         Ok(())
     }
 
-    /// Writes the level of a node: its plan, and what is reported of its children. Tells whether all
+    /// Adds the level of a node: its plan, and what is reported of its children. Tells whether all
     /// its children's points are ok.
     #[cycle(levels)]
     fn level(
@@ -70,7 +83,7 @@ impl<'a, W: Sink> Printer<'a, W> {
         requires complete { AreComplete results.now }
         requires within { node < length plan.now.rows }
         requires indent { indent ≤ 4 * node }
-        ensures prints { Prints self.old self.new
+        ensures prints { Buffers self.old self.new
             (level indent (reported (tree_of plan.now) (outcome_in results.now) indent)
             (children (tree_of plan.now) node)) (only result) }
         ensures ok { IfOk result (λ ok. ok ≡ list_all (is_ok (tree_of plan.now)
@@ -87,7 +100,7 @@ impl<'a, W: Sink> Printer<'a, W> {
         Ok(all_ok)
     }
 
-    /// Writes what is reported of a node, which has this number in its level. Tells whether its
+    /// Adds what is reported of a node, which has this number in its level. Tells whether its
     /// point is ok.
     #[cycle(levels)]
     fn reported(
@@ -103,7 +116,7 @@ impl<'a, W: Sink> Printer<'a, W> {
         requires above { 0 < node }
         requires within { node < length plan.now.rows }
         requires indent { indent + 4 ≤ 4 * node }
-        ensures prints { Prints self.old self.new
+        ensures prints { Buffers self.old self.new
             (reported (tree_of plan.now) (outcome_in results.now) indent number node)
             (only result) }
         ensures ok { IfOk result
@@ -117,7 +130,7 @@ impl<'a, W: Sink> Printer<'a, W> {
         Ok(ok)
     }
 
-    /// Writes the level of a class, with its comment above. Tells whether all its children's points
+    /// Adds the level of a class, with its comment above. Tells whether all its children's points
     /// are ok; a test has none.
     #[cycle(levels)]
     fn subtest(
@@ -131,15 +144,16 @@ impl<'a, W: Sink> Printer<'a, W> {
         requires complete { AreComplete results.now }
         requires within { node < length plan.now.rows }
         requires indent { indent + 4 ≤ 4 * node }
-        ensures prints { Prints self.old self.new
+        ensures prints { Buffers self.old self.new
             (subtest indent (row_at (tree_of plan.now) node)
             (reported (tree_of plan.now) (outcome_in results.now) (indent + 4))
             (children (tree_of plan.now) node)) (only result) }
         ensures ok { IfOk result (λ ok. ok ≡ list_all (is_ok (tree_of plan.now)
             (outcome_in results.now)) (children (tree_of plan.now) node)) }
     {
+        laws::nodes_are_a_tree(plan);
         if plan.is_test(node) {
-            return Ok(children_are_ok(plan, results, node));
+            return Ok(true);
         }
         self.subtest_line(indent, plan.title(node))?;
         self.level(plan, results, indent + 4, node)
