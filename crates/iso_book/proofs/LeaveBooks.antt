@@ -1,19 +1,20 @@
 -- A book after a Leave: it is a book with that event more.
-use Rattle.std.proofs.Common.{◌≡◌, ℕ, ◌<◌, ◌≤◌, ◌+◌, List, [], ◌∷◌, ◌++◌, Option, Some, None, Bool, true, false, length, not, inl, inr, refl, sym, ap, ap₂, ◌∙◌, subst, arith}
+use Rattle.std.proofs.Common.{◌≡◌, ◌≢◌, ℕ, ◌<◌, ◌≤◌, ◌+◌, List, [], ◌∷◌, ◌++◌, Option, Some, None, Bool, true, false, length, not, inl, inr, refl, sym, ap, ap₂, ◌∙◌, subst, arith}
 use Rattle.std.proofs.lemmas.List.{get_or-set_same, get_or-set_other, length-append, length-set}
-use Rattle.iso_book.proofs.LeaveRuns.{GoOnByLeaves, LookOn, ResultsStay, at-leave, goes, has-body, looks-before, results-before, unrefused, busy-before, next, node-done, own, same-held, same-weight}
-use Rattle.iso_book.proofs.LeaveStates.{IsFinishedBy, IsOpenedBy, begun-weight, body-weight, first-kind, first-left, last-left}
+use Rattle.iso_book.proofs.LeaveRuns.{GoOnByLeaves, LookOn, ResultsStay, at-leave, goes, has-body, looks-before, results-before, unrefused, busy-before, next, node-done, own, same-held, same-owner, same-phase, same-weight}
+use Rattle.iso_book.proofs.LeaveStates.{IsFinishedBy, IsOpenedBy, begun-phase, begun-weight, body-weight, first-kind, first-left, last-left}
 use Rattle.iso_book.proofs.Runs.{book_of}
 use Rattle.iso_book.proofs.Weights.{among, one-less, weight-at}
 use Rattle.iso_book.specs.Books.{BookView, IsBook, left_below, left_in, state_in, suite_in, weight, with_event}
 use Rattle.iso_book.specs.Leaves.{MayBring, booking_in, home_after, is_last, is_of_worker, leave_refusal_in}
+use Rattle.iso_book.specs.Progress.{HasGoneOn, has_come}
 use Rattle.iso_isolation.proofs.Changes.{equal_or_not}
 use Rattle.iso_isolation.proofs.Statuses.{body_held}
 use Rattle.iso_isolation.specs.Events as E
 use Rattle.iso_isolation.specs.Events.{after, ended_well, leaving, where_some}
 use Rattle.iso_isolation.specs.Histories.{IsHistory}
 use Rattle.iso_isolation.specs.States as S
-use Rattle.iso_isolation.specs.States.{body_in, is_closing, is_held}
+use Rattle.iso_isolation.specs.States.{body_in, is_closing, is_finished, is_held}
 use Rattle.iso_isolation.specs.Suites.{Suite}
 use Rattle.iso_lifecycle.specs.DoneViews.{DoneView}
 use Rattle.iso_lifecycle.specs.ResultViews.{CanPut, ResultsView, is_barring, with_done, with_done_of}
@@ -34,11 +35,13 @@ use Rattle.iso_plan.specs.Planned.{Planned}
 use Rattle.iso_plan.specs.RowView.{tree_of}
 use Rattle.iso_settings.specs.Worlds.{Start}
 use Rattle.iso_standing.proofs.EventLists.{map-append}
+use Rattle.iso_standing.proofs.Looks.{finished-is, rest-is}
 use Rattle.iso_standing.specs.CodeEvents.{events_of}
 use Rattle.iso_standing.specs.Phases.{phase_of}
 use Rattle.iso_standing.specs.ResultStates.{AreResultsOf, AtLeave}
 use Rattle.iso_standing.specs.Standings.{EndsWellAs, HasBody, LooksLike, OfSame, Standing, after_in}
 use Rattle.iso_standing.specs.UnderWay.{is_after_all}
+use Rattle.iso_standing.specs.declared.phase.Phase.TheVariants as P
 use Rattle.iso_standing.specs.declared.event.Event.{Event}
 use Rattle.iso_standing.specs.declared.event.Event.TheVariants as Code
 use Rattle.iso_suites.specs.PlanSuites.{head_of, suite_of}
@@ -235,6 +238,48 @@ module _ (b : BookView) (v : Standing) (vault : VaultView) (r : ResultsView) (ro
             let same = weights m h in
             omega arith
       ])
+
+  -- who was entered but the node has come as far as before
+  phase : (m : ℕ) → m < count → phase_of (p.nodes.status m) ≡ phase_of (s.nodes.status m)
+  phase = same-phase b v vault r room is w allowed g like
+
+  there-by : First d.kind → (m : ℕ) → (m ≡ n → ⊥) → phase_of (p.nodes.status m) ≢ P.Waiting → t.nodes.status m ≡ p.nodes.status m
+  there-by (first begins) m ne entered = (opened begins).there m ne entered
+  there-by (last ends own_last) m ne entered = (finished ends).there m ne
+
+  come-first : d.kind ≡ K.BeforeAll → has_come d.kind (phase_of (t.nodes.status n)) ≡ true
+  come-first begins =
+      subst (λ (k : BodyKind). has_come k (phase_of (t.nodes.status n)) ≡ true) (sym begins) (sym (rest-is (t.nodes.status n)) ∙ (opened begins).rests)
+
+  come-last : (k : BodyKind) → is_last k ≡ true → is_finished (t.nodes.status n) ≡ true → has_come k (phase_of (t.nodes.status n)) ≡ true
+  come-last K.BeforeAll l e = absurd cc
+  come-last K.Test l e = sym (finished-is (t.nodes.status n)) ∙ e
+  come-last K.AfterAll l e = sym (finished-is (t.nodes.status n)) ∙ e
+
+  come-by : First d.kind → has_come d.kind (phase_of (t.nodes.status n)) ≡ true
+  come-by (first begins) = come-first begins
+  come-by (last ends own_last) = come-last d.kind own_last (finished ends).ended
+
+  goes-here : HasGoneOn d.kind n b (with_event b (Code.Leave w))
+  goes-here =
+      let state : state_in (with_event b (Code.Leave w)) ≡ t = next b v vault r room is w allowed g like in
+      let inside = there.within in
+      record {
+        before = λ begins.
+            sym (phase n inside) ∙ begun-phase (p.nodes.status n) g.body there.body (sym there.closing ∙ ap is_after_all begins);
+        phase = ap (λ (q : RunState). has_come d.kind (phase_of (q.nodes.status n))) state ∙ come-by (which d.kind);
+        owner = ap (λ (q : RunState). q.owner n) state ∙ same-owner b v vault r room is w allowed g like n inside;
+        others = record {
+          phases = λ m h ne entered.
+              ap (λ (q : RunState). phase_of (q.nodes.status m)) state
+              ∙ ap (λ (q : _). phase_of q) (there-by (which d.kind) m ne (λ waits. entered (sym (phase m h) ∙ waits)))
+              ∙ phase m h;
+          owners = λ m h ne entered. ap (λ (q : RunState). q.owner m) state ∙ same-owner b v vault r room is w allowed g like m h;
+        };
+      }
+
+  pub goes-on : HasGoneOn d.kind d.subject.node b (with_event b (Code.Leave w))
+  goes-on = subst (λ (m : ℕ). HasGoneOn d.kind m b (with_event b (Code.Leave w))) (node-done b v vault r room is w allowed tree d mine) goes-here
 
   -- there is room for it
   pub has-room : length b.history < room

@@ -268,6 +268,12 @@ module _ (b : BookView) (v : Standing) (vault : VaultView) (r : ResultsView) (ro
           let inside : m < nodes_in v = omega arith in
           like.phases m inside ∙ sym (is.stands.phases m inside)
 
+      pub same-owner : (m : ℕ) → m < length b.plan.rows → g.before.owner m ≡ s.owner m
+      same-owner m h =
+          let rows = ap (λ (p : Planned). length p.rows) is.standing_plan in
+          let inside : m < nodes_in v = omega arith in
+          like.owners m inside ∙ sym (is.stands.owners m inside)
+
       pub same-held : (m : ℕ) → m < length b.plan.rows → is_held (g.before.nodes.status m) ≡ is_held (s.nodes.status m)
       same-held m h =
           held-is (g.before.nodes.status m) ∙ ap (λ (p : Phase). is_held (bare p)) (same-phase m h) ∙ sym (held-is (s.nodes.status m))

@@ -1,10 +1,10 @@
 -- The state after the Leave of an ended body: which nodes are held there, and how many events may still come.
-use Rattle.std.proofs.Common.{◌≡◌, ℕ, ◌<◌, ◌≤◌, List, Some, Bool, true, false, cond, ◌&&◌, refl, sym, ap, ◌∙◌, subst, arith}
+use Rattle.std.proofs.Common.{◌≡◌, ◌≢◌, ℕ, ◌<◌, ◌≤◌, List, Some, Bool, true, false, cond, ◌&&◌, refl, sym, ap, ◌∙◌, subst, arith}
 use Rattle.iso_book.specs.Books.{weight}
 use Rattle.iso_isolation.proofs.Changes.{put_elsewhere, put_here, unmoved}
 use Rattle.iso_isolation.specs.Events.{barring, ended_well, frames_left, leaving, open_or_barred, opening_left, stands_in}
 use Rattle.iso_isolation.specs.Restoring.{finishing}
-use Rattle.iso_isolation.specs.States.{Status, Waiting, Begun, Open, Barred, Closing, Finished, body_in, is_closing, is_held, is_waiting}
+use Rattle.iso_isolation.specs.States.{Status, Waiting, Begun, Open, Barred, Closing, Finished, body_in, is_at_rest, is_closing, is_finished, is_held, is_waiting}
 use Rattle.iso_isolation.specs.Suites.{Suite}
 use Rattle.iso_lifecycle.specs.Subjects.{is_kind_of}
 use Rattle.iso_lifecycle.specs.declared.kind.BodyKind.{BodyKind}
@@ -19,6 +19,7 @@ use Rattle.iso_plan.specs.RowView.{tree_of}
 use Rattle.iso_plan.specs.Tree.{Kind, root, class_node, test_node}
 use Rattle.iso_settings.specs.Worlds.{Start}
 use Rattle.iso_standing.specs.Phases.{phase_of}
+use Rattle.iso_standing.specs.declared.phase.Phase.TheVariants as P
 use Rattle.iso_standing.specs.UnderWay.{is_after_all}
 use Rattle.iso_suites.specs.PlanSuites.{head_of}
 use Rattle.iso_suites.specs.ScriptLanguage.{Head, is_of_test, scripts}
@@ -90,6 +91,37 @@ first-kind K.Test (class_node isolated head) fits first class = absurd cc
 first-kind K.Test (test_node head) fits first class = absurd cc
 first-kind K.AfterAll k fits first class = absurd cc
 
+open-rests : (t : Bool) (fs : List Frame) → is_at_rest {B = Stage} {F = Frame} {R = Outcome} (open_or_barred t fs) ≡ true
+open-rests true fs = refl
+open-rests false fs = refl
+
+-- what was entered isn't finished when a class is barred around it
+finished-entered : (i : Bool) (st : NodeStatus) (r : Outcome) → phase_of st ≢ P.Waiting → cond (i && is_waiting st) (Finished r) st ≡ st
+finished-entered true Waiting r entered = absurd (entered refl)
+finished-entered true (Begun b) r entered = refl
+finished-entered true (Open fs) r entered = refl
+finished-entered true (Barred fs) r entered = refl
+finished-entered true (Closing fs b) r entered = refl
+finished-entered true (Finished q) r entered = refl
+finished-entered false st r entered = refl
+
+rests-entered : (st : NodeStatus) → is_at_rest st ≡ true → phase_of st ≢ P.Waiting
+rests-entered Waiting e w = absurd cc
+rests-entered (Begun b) e w = absurd cc
+rests-entered (Open fs) e w = cc
+rests-entered (Barred fs) e w = cc
+rests-entered (Closing fs b) e w = absurd cc
+rests-entered (Finished r) e w = absurd cc
+
+-- a first body that is under way
+pub begun-phase : (st : NodeStatus) (b : Stage) → body_in st ≡ Some b → is_closing st ≡ false → phase_of st ≡ P.Begun
+begun-phase Waiting b e open_yet = absurd cc
+begun-phase (Begun c) b e open_yet = refl
+begun-phase (Open fs) b e open_yet = absurd cc
+begun-phase (Barred fs) b e open_yet = absurd cc
+begun-phase (Closing fs c) b e open_yet = absurd cc
+begun-phase (Finished r) b e open_yet = absurd cc
+
 module _ (plan : Planned) (world : Start) (n : ℕ) (s : RunNodes) where
   abbrev x : Suite Head (List ℕ) Resource
   x = suite_at plan world
@@ -97,6 +129,7 @@ module _ (plan : Planned) (world : Start) (n : ℕ) (s : RunNodes) where
   -- the node of a last body is finished, and no other node is changed
   pub record IsFinishedBy (t : RunNodes) : Type 0 where
     pub here : is_held (t.status n) ≡ false
+    pub ended : is_finished (t.status n) ≡ true
     pub weight_here : weight (phase_of (t.status n)) ≡ 0
     pub there : (m : ℕ) → (m ≡ n → ⊥) → t.status m ≡ s.status m
 
@@ -105,10 +138,13 @@ module _ (plan : Planned) (world : Start) (n : ℕ) (s : RunNodes) where
     pub held : (m : ℕ) → is_held (t.status m) ≡ is_held (s.status m)
     pub weight_here : weight (phase_of (t.status n)) ≤ 2
     pub no_more : (m : ℕ) → (m ≡ n → ⊥) → weight (phase_of (t.status m)) ≤ weight (phase_of (s.status m))
+    pub rests : is_at_rest (t.status n) ≡ true
+    pub there : (m : ℕ) → (m ≡ n → ⊥) → phase_of (s.status m) ≢ P.Waiting → t.status m ≡ s.status m
 
   finished : (r : Outcome) → IsFinishedBy (finishing scripts x n r s)
   finished r = record {
     here = ap is_held (put_here n (Finished r) s.status);
+    ended = ap is_finished (put_here n (Finished r) s.status);
     weight_here = ap (λ (q : NodeStatus). weight (phase_of q)) (put_here n (Finished r) s.status);
     there = λ m ne. put_elsewhere m n (Finished r) s.status ne;
   }
@@ -141,6 +177,8 @@ module _ (plan : Planned) (world : Start) (n : ℕ) (s : RunNodes) where
           weight_here = omega arith;
           no_more = λ m ne. let same : weight (phase_of (o.status m)) ≡ weight (phase_of (s.status m)) = ap (λ (q : NodeStatus). weight (phase_of q))
               (put_elsewhere m n now s.status ne) in omega arith;
+          rests = ap is_at_rest (put_here n now s.status) ∙ open-rests (ended_well scripts x n b s) (frames_left scripts x n b s);
+          there = λ m ne entered. put_elsewhere m n now s.status ne;
         }
 
     barred : IsOpenedBy (barring scripts x n (frames_left scripts x n b s) o)
@@ -151,6 +189,10 @@ module _ (plan : Planned) (world : Start) (n : ℕ) (s : RunNodes) where
           held = λ m. finished-held (stands_in scripts x m n) (o.status m) r ∙ is.held m;
           weight_here = let less = finished-weight (stands_in scripts x n n) (o.status n) r in let most = is.weight_here in omega arith;
           no_more = λ m ne. let less = finished-weight (stands_in scripts x m n) (o.status m) r in let most = is.no_more m ne in omega arith;
+          rests = ap is_at_rest (finished-entered (stands_in scripts x n n) (o.status n) r (rests-entered (o.status n) is.rests)) ∙ is.rests;
+          there = λ m ne entered.
+              let same : o.status m ≡ s.status m = is.there m ne entered in
+              finished-entered (stands_in scripts x m n) (o.status m) r (λ w. entered (ap phase_of (sym same) ∙ w)) ∙ same;
         }
 
     either : (well : Bool) → IsOpenedBy (cond well o (barring scripts x n (frames_left scripts x n b s) o))

@@ -13,3 +13,4 @@ pub mod LeaveRuns
 pub mod LeaveBooks
 pub mod LastEvents
 pub mod HeldNodes
+pub mod Progresses

@@ -1,5 +1,7 @@
 -- The run that a book's history is in full, and how it goes on by an Enter or a Shut that nothing refuses.
-use Rattle.std.proofs.Common.{◌≡◌, ℕ, ◌<◌, List, [], ◌∷◌, ◌++◌, Option, None, Bool, true, false, is_none, leb, length, refl, sym, ap, ◌∙◌, subst, arith}
+use Rattle.std.proofs.Common.{◌≡◌, ℕ, ◌<◌, List, [], ◌∷◌, ◌++◌, Option, None, Bool, true, false, is_none, leb, length, not, refl, sym, ap, ◌∙◌, subst, arith}
+use Rattle.std.proofs.Math.Dec.{eqb}
+use Rattle.std.proofs.lemmas.Bool.{eqb-true}
 use Rattle.iso_book.specs.Books.{BookView, refusal_in, state_in, suite_in, with_event}
 use Rattle.iso_isolation.proofs.Accepted.{MayShut, enter_passes, enter_told, in_plan, not_refused, shut_passes, shut_told}
 use Rattle.iso_isolation.proofs.Going.{goes_on}
@@ -35,6 +37,10 @@ use Rattle.iso_suites.specs.SuiteStates.{IsReached, RunState, stopped_if}
 -- what contracts see of a book with these parts
 abbrev pub book_of : Planned → Start → ℕ → Bool → List Event → BookView
 book_of plan world workers stopped es = record { plan = plan; world = world; workers = workers; history = es; stopped = stopped }
+
+not-not : (p : Bool) → not p ≡ false → p ≡ true
+not-not true e = refl
+not-not false e = absurd cc
 
 module _ (b : BookView) where
   -- the state of its history, were it not stopped
@@ -117,6 +123,12 @@ module _ (b : BookView) where
           let less = in_plan (suite_in b).nodes n (not_refused (leb (suite_in b).nodes n) Why.NoNode none) in
           let count = nodes-are b.plan in
           omega (arith, less, count)
+
+      -- and its owner is who shuts it
+      pub own-shut : (state_in b).owner n ≡ w
+      own-shut =
+          let none = (shut_passes scripts (suite_in b) b.workers (state_in b) w n (accepted (Code.Shut w n) allowed)).owner in
+          eqb-true ((state_in b).owner n) w (not-not (eqb ((state_in b).owner n) w) (not_refused (not (eqb ((state_in b).owner n) w)) Why.NotOwner none))
 
 -- its standing refuses what the state machine refuses
 pub refusal-is : (b : BookView) (v : Standing) → v.plan ≡ b.plan → workers_in v ≡ b.workers → (e : Event) → Standings.refusal_in v (started b.world) (state_in b) (event_of e) ≡ refusal_in b e

@@ -4,8 +4,10 @@
 -- (`BookView`); the state that the history in full gives (`state_in`); why the state machine
 -- refuses an event there (`refusal_in`); how many events may still come (`weight`, `left_in`); what
 -- every book is (`IsBook`); which nodes are held in two books alike, but for one that was entered
--- or left (`HoldSame`, `HoldAlike`, `HoldAfter`).
--- Also in: `Holdings`.
+-- or left (`HoldSame`, `HoldAlike`, `HoldAfter`); how far a node that was entered, shut or left has
+-- come, and that every other one that was entered stays as it was (`HasEntered`, `HasShut`,
+-- `HasGoneOn`, `StayEntered`).
+-- Also in: `Holdings`, `Progress`.
 use Rattle.std.specs.Prelude.{◌≡◌, ◌≤◌, ◌<◌, ◌+◌, ◌*◌, ℕ, zero, suc, List, [], ◌∷◌, ◌++◌, Option, Bool, false, length, refl}
 use Rattle.std.specs.Coded.{Coded, code_by, coded×, coded_list, coded_bool, coded_ℕ}
 use Rattle.iso_isolation.specs.Histories.{IsHistory, state_of}

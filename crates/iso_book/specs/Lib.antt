@@ -2,3 +2,4 @@ pub mod Books
 pub mod Turns
 pub mod Leaves
 pub mod Holdings
+pub mod Progress

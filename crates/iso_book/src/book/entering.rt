@@ -3,6 +3,7 @@ ghost use Rattle.std.specs.Prelude.{◌≡◌, ◌<◌, MatchOption, MatchResult
 ghost use Rattle.std.specs.Option.{option_map};
 ghost use Rattle.iso_book.specs.Books.{refusal_in, with_event};
 ghost use Rattle.iso_book.specs.Holdings.{HoldAlike};
+ghost use Rattle.iso_book.specs.Progress.{HasEntered};
 ghost use Rattle.iso_book.specs.Turns.{BeginsIn, IsAllowed, IsEntered, IsNotTaken, IsRefusedBy, IsTaken, MayEnterWith, ReadsStart, handed};
 ghost use Rattle.iso_locks.specs.Vaults.{IsLentTo};
 ghost use Rattle.iso_plan.specs.Paths.{parent};
@@ -30,6 +31,7 @@ impl<'a> Book<'a> {
             (MayEnterWith self.old node tray.old) self.old self.new tray.old tray.new) }
         ensures tray { OnOk result (IsEntered node tray.old tray.new) }
         ensures held { OnOk result (HoldAlike node self.old self.new) }
+        ensures progress { OnOk result (HasEntered worker node self.old self.new) }
     {
         if !self.is_made_for(tray) {
             let refused = self
@@ -60,6 +62,7 @@ impl<'a> Book<'a> {
             (MayEnterWith self.old node tray.old) self.old self.new tray.old tray.new) }
         ensures tray { OnOk result (IsEntered node tray.old tray.new) }
         ensures held { OnOk result (HoldAlike node self.old self.new) }
+        ensures progress { OnOk result (HasEntered worker node self.old self.new) }
     {
         if let Some(refused) = self.refusal_of_enter(worker, node, tray) {
             return Err(CoreFault::Refused(refused));
@@ -124,6 +127,7 @@ impl<'a> Book<'a> {
         ensures lent { IsLentTo node tray.old tray.new }
         ensures reads { ReadsStart node tray.new }
         ensures held { HoldAlike node self.old self.new }
+        ensures progress { HasEntered worker node self.old self.new }
     {
         laws::nodes_are_a_tree(self.plan);
         results_follow_nodes(self.plan);

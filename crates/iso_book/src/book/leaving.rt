@@ -3,6 +3,7 @@ ghost use Rattle.std.specs.Prelude.{◌≡◌, ◌<◌, ℕ, MatchOption, MatchR
 ghost use Rattle.iso_book.specs.Books.{with_event};
 ghost use Rattle.iso_book.specs.Holdings.{HoldAfter};
 ghost use Rattle.iso_book.specs.Leaves.{Began, IsLeft, IsNotLeft, MayBring, after_leave, booking_in, home_after, is_last, is_of_worker, is_under_way, leave_refusal_in};
+ghost use Rattle.iso_book.specs.Progress.{HasGoneOn};
 ghost use Rattle.iso_book.specs.Turns.{GoesOnWith, IsAllowed, IsRefusedBy, ReadsStart};
 ghost use Rattle.iso_lifecycle.specs.DoneViews.{DoneView};
 ghost use Rattle.iso_locks.specs.Trays.{is_lent};
@@ -52,6 +53,8 @@ impl<'a> Book<'a> {
         ensures reads { OnOk result ((n : ℕ) → is_lent tray.new.lent n ≡ true
             → ReadsStart n tray.new) }
         ensures held { OnOk result (HoldAfter done.kind done.subject.node self.old self.new) }
+        ensures progress { OnOk result
+            (HasGoneOn done.kind done.subject.node self.old self.new) }
     {
         if !self.is_made_for(tray) {
             let refused = self
@@ -87,6 +90,8 @@ impl<'a> Book<'a> {
         ensures reads { OnOk result ((n : ℕ) → is_lent tray.new.lent n ≡ true
             → ReadsStart n tray.new) }
         ensures held { OnOk result (HoldAfter done.kind done.subject.node self.old self.new) }
+        ensures progress { OnOk result
+            (HasGoneOn done.kind done.subject.node self.old self.new) }
     {
         if let Some(refused) = self.refusal_of_leave(worker, &done, tray) {
             return Err((refused, done));
@@ -176,6 +181,7 @@ impl<'a> Book<'a> {
         ensures tray { tray.new ≡ after_leave done.kind done.subject.node tray.old }
         ensures reads { (n : ℕ) → is_lent tray.new.lent n ≡ true → ReadsStart n tray.new }
         ensures held { HoldAfter done.kind done.subject.node self.old self.new }
+        ensures progress { HasGoneOn done.kind done.subject.node self.old self.new }
     {
         laws::nodes_are_a_tree(self.plan);
         iso_suites::laws::histories_go_on_by_leaves(self.plan);

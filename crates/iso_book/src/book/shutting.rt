@@ -3,6 +3,7 @@ ghost use Rattle.std.specs.Prelude.{◌≡◌, ◌<◌, MatchOption, MatchResult
 ghost use Rattle.std.specs.Option.{option_map};
 ghost use Rattle.iso_book.specs.Books.{refusal_in, with_event};
 ghost use Rattle.iso_book.specs.Holdings.{HoldSame};
+ghost use Rattle.iso_book.specs.Progress.{HasShut};
 ghost use Rattle.iso_book.specs.Turns.{GoesOnWith, IsAllowed, IsNotTaken, IsRefusedBy, IsShut, IsTaken, handed};
 ghost use Rattle.iso_lifecycle.specs.Subjects.{subject};
 ghost use Rattle.iso_lifecycle.specs.WholeBodies.{CanBegin};
@@ -29,6 +30,7 @@ impl<'a> Book<'a> {
             (GoesOnWith self.old node tray.old) self.old self.new tray.old tray.new) }
         ensures tray { OnOk result (IsShut node tray.old tray.new) }
         ensures held { OnOk result (HoldSame self.old self.new) }
+        ensures progress { OnOk result (HasShut worker node self.old self.new) }
     {
         if !self.is_made_for(tray) {
             let refused = self.kind_of_shut(worker, node).unwrap_or(Refused::Stranger);
@@ -50,6 +52,7 @@ impl<'a> Book<'a> {
             (GoesOnWith self.old node tray.old) self.old self.new tray.old tray.new) }
         ensures tray { OnOk result (IsShut node tray.old tray.new) }
         ensures held { OnOk result (HoldSame self.old self.new) }
+        ensures progress { OnOk result (HasShut worker node self.old self.new) }
     {
         if let Some(refused) = self.refusal_of_shut(worker, node, tray) {
             return Err(CoreFault::Refused(refused));
@@ -107,6 +110,7 @@ impl<'a> Book<'a> {
         requires { refusal_in self.old (Event.Shut worker node) ≡ None }
         ensures book { self.new ≡ with_event self.old (Event.Shut worker node) }
         ensures held { HoldSame self.old self.new }
+        ensures progress { HasShut worker node self.old self.new }
     {
         laws::nodes_are_a_tree(self.plan);
         results_follow_nodes(self.plan);

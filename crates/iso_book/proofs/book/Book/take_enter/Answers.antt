@@ -4,9 +4,11 @@ use Rattle.iso_book.proofs.Afters.{StandsAfter, book-as, has-room, view-next}
 use Rattle.iso_book.proofs.Enters.{can-lend, due, entered, history-entered, lends, state-entered, waiting}
 use Rattle.iso_book.proofs.HeldNodes.{hold-alike, lent-apart}
 use Rattle.iso_book.proofs.Homes.{unflat}
+use Rattle.iso_book.proofs.Progresses.{entered-as}
 use Rattle.iso_book.proofs.Runs.{book_of}
 use Rattle.iso_book.specs.Books.{BookView, IsBook, refusal_in, state_in, suite_in, with_event}
 use Rattle.iso_book.specs.Holdings.{HoldAlike}
+use Rattle.iso_book.specs.Progress.{HasEntered}
 use Rattle.iso_book.specs.Turns.{MayEnterWith}
 use Rattle.iso_isolation.specs.Events as E
 use Rattle.iso_isolation.specs.Events.{after}
@@ -89,18 +91,17 @@ module _ (c : After-lent_nodes_find_their_values) where
       (book-as b i.standing i.vault i.results room c.self.invariant (Code.Enter w n) (after scripts (suite_in b) (state_in b) (E.Enter w n)) c.enter.new.self (lending n i.vault) i.results on
       (history-entered b i.standing i.vault i.results room c.self.invariant c.nodes_are_a_tree.ensures w n h) next c.push_reserved.new.self.items c.push_reserved.ensures.items))
 
-  view-is : book_of c.self.inside.plan.now c.self.inside.world.now c.self.inside.workers c.enter.new.self.stopped c.push_reserved.new.self.items ≡ with_event c.args.self.now (Code.Enter w n)
-  view-is =
+  view-at : book_of c.self.inside.plan.now c.self.inside.world.now c.self.inside.workers c.enter.new.self.stopped c.push_reserved.new.self.items ≡ with_event b (Code.Enter w n)
+  view-at =
       let i = c.self.inside in
       view-next b i.standing i.vault i.results room c.self.invariant (Code.Enter w n) (after scripts (suite_in b) (state_in b) (E.Enter w n)) c.enter.new.self (lending n i.vault) i.results on
       (history-entered b i.standing i.vault i.results room c.self.invariant c.nodes_are_a_tree.ensures w n h) next c.push_reserved.new.self.items c.push_reserved.ensures.items
-      ∙ ap (λ (v : BookView). with_event v (Code.Enter w n)) c.self.view_is
 
 pub invariant_of-self : goal.invariant_of-self
 invariant_of-self c = book-is c
 
 pub returns-clause-book : goal.returns-clause-book
-returns-clause-book c = view-is c
+returns-clause-book c = view-at c ∙ ap (λ (v : BookView). with_event v (Code.Enter c.args.worker c.args.node)) c.self.view_is
 
 pub returns-clause-reads : goal.returns-clause-reads
 returns-clause-reads c =
@@ -114,3 +115,10 @@ returns-clause-held c =
     subst (λ (v : BookView). HoldAlike c.args.node v seen) c.self.view_is
     (hold-alike (b c) seen i.vault.lent c.lend_free.new.self.lent c.args.node
     (λ m apart. ap (λ (v : VaultView). is_lent v.lent m) (vault-is c) ∙ lent-apart c.args.node i.vault m apart) refl c.self.invariant.lent (book-is c).lent)
+
+pub returns-clause-progress : goal.returns-clause-progress
+returns-clause-progress c =
+    let i = c.self.inside in
+    let seen = book_of i.plan.now i.world.now i.workers c.enter.new.self.stopped c.push_reserved.new.self.items in
+    subst (λ (v : BookView). HasEntered c.args.worker c.args.node v seen) c.self.view_is
+    (entered-as (b c) seen c.args.worker c.args.node (ap state_in (view-at c) ∙ next c))

@@ -2,10 +2,11 @@ use Rattle.std.proofs.Common.{◌≡◌, ℕ, None, Bool, true, false, not, refl
 use Rattle.std.specs.Vec.{vec_capacity}
 use Rattle.iso_book.proofs.HeldNodes.{hold-after}
 use Rattle.iso_book.specs.Holdings.{HoldAfter}
-use Rattle.iso_book.proofs.LeaveBooks.{AtBook, at-book, can-put, can-take-back, ends-as, has-its-body, has-room, left-as, view-left}
+use Rattle.iso_book.proofs.LeaveBooks.{AtBook, at-book, can-put, can-take-back, ends-as, goes-on, has-its-body, has-room, left-as, view-left}
 use Rattle.iso_book.proofs.Runs.{book_of}
 use Rattle.iso_book.specs.Books.{BookView, IsBook, with_event}
 use Rattle.iso_book.specs.Leaves.{after_leave, home_after, is_last, leave_refusal_in}
+use Rattle.iso_book.specs.Progress.{HasGoneOn}
 use Rattle.iso_book.specs.Turns.{holds_writers}
 use Rattle.iso_isolation.specs.Events as E
 use Rattle.iso_lifecycle.specs.ResultViews.{ResultsView, is_barring, with_done}
@@ -135,13 +136,23 @@ returns-clause-held c =
     subst (λ (v : BookView). HoldAfter d.kind d.subject.node v seen) c.self.view_is
     (hold-after d.kind d.subject.node i.vault (old c) seen c.bring_home.new.vault.lent (ap (λ (v : VaultView). v.lent) (vault-is c)) refl c.self.invariant.lent (book-is c).lent)
 
-pub returns-clause-book : goal.returns-clause-book
-returns-clause-book c =
+view-at : (c : After-new) → book_of c.self.inside.plan.now c.self.inside.world.now c.self.inside.workers c.leave.new.self.stopped c.push_reserved.new.self.items
+    ≡ with_event (old c) (Code.Leave c.args.worker)
+view-at c =
     let i = c.self.inside in
-    let w = c.args.worker in
-    view-left (old c) i.standing i.vault i.results (vec_capacity i.history) w c.args.done (at c) c.results_follow_leaves.ensures.leave c.leave.new.self c.leave.ensures.same (looks c)
-    c.push_reserved.new.self.items c.push_reserved.ensures.items
-    ∙ ap (λ (q : BookView). with_event q (Code.Leave w)) c.self.view_is
+    view-left (old c) i.standing i.vault i.results (vec_capacity i.history) c.args.worker c.args.done (at c) c.results_follow_leaves.ensures.leave c.leave.new.self c.leave.ensures.same
+    (looks c) c.push_reserved.new.self.items c.push_reserved.ensures.items
+
+pub returns-clause-book : goal.returns-clause-book
+returns-clause-book c = view-at c ∙ ap (λ (q : BookView). with_event q (Code.Leave c.args.worker)) c.self.view_is
+
+pub returns-clause-progress : goal.returns-clause-progress
+returns-clause-progress c =
+    let i = c.self.inside in
+    let d = c.args.done in
+    let seen = book_of i.plan.now i.world.now i.workers c.leave.new.self.stopped c.push_reserved.new.self.items in
+    subst (λ (v : BookView). HasGoneOn d.kind d.subject.node v seen) c.self.view_is
+    (subst (HasGoneOn d.kind d.subject.node (old c)) (sym (view-at c)) (goes-on (old c) i.standing i.vault i.results (vec_capacity i.history) c.args.worker d (at c)))
 
 pub returns-clause-reads : goal.returns-clause-reads
 returns-clause-reads c = λ n holds k read.

@@ -4,8 +4,10 @@ use Rattle.std.proofs.Common.{refl, ◌≡◌, None, ℕ, ap, sym, ◌∙◌, su
 use Rattle.std.specs.Vec.{vec_capacity}
 use Rattle.iso_book.proofs.Afters.{StandsAfter, book-as, has-room, view-next}
 use Rattle.iso_book.proofs.Shuts.{due, history-shut, rests, shut, state-shut}
-use Rattle.iso_book.proofs.Runs.{book_of}
+use Rattle.iso_book.proofs.Progresses.{shut-as}
+use Rattle.iso_book.proofs.Runs.{book_of, own-shut}
 use Rattle.iso_book.specs.Books.{BookView, IsBook, refusal_in, state_in, suite_in, with_event}
+use Rattle.iso_book.specs.Progress.{HasShut}
 use Rattle.iso_isolation.specs.Events as E
 use Rattle.iso_isolation.specs.Events.{after}
 use Rattle.iso_standing.specs.declared.event.Event.TheVariants as Code
@@ -62,18 +64,17 @@ module _ (c : After-push_reserved) where
       (book-as b i.standing i.vault i.results room c.self.invariant (Code.Shut w n) (after scripts (suite_in b) (state_in b) (E.Shut w n)) c.shut.new.self i.vault i.results on
       (history-shut b i.standing i.vault i.results room c.self.invariant c.nodes_are_a_tree.ensures w n h) next c.push_reserved.new.self.items c.push_reserved.ensures.items)
 
-  view-is : book_of c.self.inside.plan.now c.self.inside.world.now c.self.inside.workers c.shut.new.self.stopped c.push_reserved.new.self.items ≡ with_event c.args.self.now (Code.Shut w n)
-  view-is =
+  view-at : book_of c.self.inside.plan.now c.self.inside.world.now c.self.inside.workers c.shut.new.self.stopped c.push_reserved.new.self.items ≡ with_event b (Code.Shut w n)
+  view-at =
       let i = c.self.inside in
       view-next b i.standing i.vault i.results room c.self.invariant (Code.Shut w n) (after scripts (suite_in b) (state_in b) (E.Shut w n)) c.shut.new.self i.vault i.results on
       (history-shut b i.standing i.vault i.results room c.self.invariant c.nodes_are_a_tree.ensures w n h) next c.push_reserved.new.self.items c.push_reserved.ensures.items
-      ∙ ap (λ (v : BookView). with_event v (Code.Shut w n)) c.self.view_is
 
 pub invariant_of-self : goal.invariant_of-self
 invariant_of-self c = book-is c
 
 pub returns-clause-book : goal.returns-clause-book
-returns-clause-book c = view-is c
+returns-clause-book c = view-at c ∙ ap (λ (v : BookView). with_event v (Code.Shut c.args.worker c.args.node)) c.self.view_is
 
 pub returns-clause-held : goal.returns-clause-held
 returns-clause-held c =
@@ -81,3 +82,10 @@ returns-clause-held c =
     let seen = book_of i.plan.now i.world.now i.workers c.shut.new.self.stopped c.push_reserved.new.self.items in
     subst (λ (v : BookView). HoldSame v seen) c.self.view_is
     (hold-same (b c) seen i.vault.lent i.vault.lent (λ m. refl) refl c.self.invariant.lent (book-is c).lent)
+
+pub returns-clause-progress : goal.returns-clause-progress
+returns-clause-progress c =
+    let i = c.self.inside in
+    let seen = book_of i.plan.now i.world.now i.workers c.shut.new.self.stopped c.push_reserved.new.self.items in
+    subst (λ (v : BookView). HasShut c.args.worker c.args.node v seen) c.self.view_is
+    (shut-as (b c) seen c.args.worker c.args.node (ap state_in (view-at c) ∙ next c) (own-shut (b c) c.args.worker c.args.node (h c)))
