@@ -1,12 +1,14 @@
 pub mod Answered
 pub mod AuditLemmas
 pub mod Begun
+pub mod ComingLemmas
 pub mod DeskLemmas
 pub mod FreeSeats
 pub mod FreeTrays
 pub mod HintLemmas
 pub mod KeyLemmas
 pub mod LooseLemmas
+pub mod PlaceLemmas
 pub mod NextLemmas
 pub mod NoNodes
 pub mod NodeTrays

@@ -11,10 +11,10 @@ use Rattle.iso_plan.proofs.HeldLemmas.{count-more, count-none, count-small}
 use Rattle.iso_plan.proofs.PathLemmas.{eq_not, eq_same}
 use Rattle.iso_plan.specs.HeldNodes.{count}
 
-closed : (n m : ℕ) → place_of (replicate n Closed) m ≡ Closed
-closed zero m = refl
-closed (suc n) zero = refl
-closed (suc n) (suc m) = closed n m
+pub all-closed : (n m : ℕ) → place_of (replicate n Closed) m ≡ Closed
+all-closed zero m = refl
+all-closed (suc n) zero = refl
+all-closed (suc n) (suc m) = all-closed n m
 
 not-in-line : (p : Place) (l : Line) → line_in p ≡ Some l → is_loose p ≡ false
 not-in-line (InLine s) l e = refl
@@ -89,7 +89,7 @@ has-room ps n loose p was is h few l w i =
 
 -- where all are closed, none is loose
 pub none-loose : (n : ℕ) → loose_in (replicate n Closed) ≡ 0
-none-loose n = count-none (λ k. is_loose (place_of (replicate n Closed) k)) (length (replicate n Closed)) (λ m h. ap is_loose (closed n m))
+none-loose n = count-none (λ k. is_loose (place_of (replicate n Closed) k)) (length (replicate n Closed)) (λ m h. ap is_loose (all-closed n m))
 
 -- who leaves a line for a place that isn't a loose one
 pub left-line : (ps : List Place) (n : ℕ) (p : Place) (l : Line) (loose : ℕ) → n < length ps → StandsIn ps l n → is_loose p ≡ false → loose ≡ loose_in ps → loose ≡ loose_in (set ps n p)

@@ -7,11 +7,11 @@ use Rattle.std.specs.Option.{option_map, option_or}
 use Rattle.iso_book.specs.Books.{BookView, refusal_in, state_in, suite_in}
 use Rattle.iso_desk.specs.Marking.{has}
 use Rattle.iso_desk.specs.Offers.{NothingOffered, excludes}
-use Rattle.iso_desk.specs.Places.{StandsIn}
+use Rattle.iso_desk.specs.Places.{StandsIn, place_of}
 use Rattle.iso_desk.specs.declared.line.KeyLine.{KeyLine}
 use Rattle.iso_desk.specs.declared.line.Line.TheVariants.{Key}
 use Rattle.iso_desk.specs.declared.line.Party.{Party}
-use Rattle.iso_floor.specs.Desks.{AreMarksOf, CanEnterNone, held_nodes}
+use Rattle.iso_floor.specs.Desks.{AreMarksOf, CanEnterNone, IsAt, held_nodes}
 use Rattle.iso_floor.specs.KeyMarks.{is_excluded, is_taken}
 use Rattle.iso_floor.specs.Schedulers.{HasNothingIn, SchedulerView, Takes, WaitRightly, access_in}
 use Rattle.iso_isolation.specs.Refusals.{LockHeld, Refused, already_entered, earlier_sibling, first_of, lock_held, lowest_below, no_node, no_worker, not_owner_of_parent, parent_closed, stopped, worker_busy}
@@ -29,6 +29,7 @@ use Rattle.iso_plan.specs.Tree.{Row}
 use Rattle.iso_plan.specs.declared.lock.Lock.{Lock}
 use Rattle.iso_standing.specs.declared.event.Event.TheVariants.{Enter}
 use Rattle.iso_suites.specs.ScriptLanguage.{scripts}
+use Rattle.iso_floor.proofs.ComingLemmas.{at-refused}
 use Rattle.iso_floor.proofs.HintLemmas.{some-excluded}
 use Rattle.iso_floor.proofs.TakenLemmas.{held-at}
 
@@ -138,11 +139,12 @@ refused-all b s w p marks right nothing n l of stands =
     excluded-among tree (held_nodes b) (access_in l) l.key (locks tree n) takes.taken (excluded-by b s marks l.key l.writes takes.known closed) in
     refused-held b w n (some-excluded tree (held_nodes b) n (recursion_from_All (λ (k : Lock). k.key < length (keys tree)) (locks tree n) (locks-known tree n)) ∙ among)
 
-pub enter-none : (b : BookView) (s : SchedulerView) (w : ℕ) (is_over : Bool) (seen : Option ℕ) → AreMarksOf b s.keys → WaitRightly (tree_of b.plan) s.table.places → HasNothingIn s is_over w seen
-    → CanEnterNone (record { book = b; scheduler = s }) w
-enter-none b s w is_over seen marks right nothing =
+pub enter-none : (b : BookView) (s : SchedulerView) (w : ℕ) (is_over : Bool) (seen : Option ℕ) → AreMarksOf b s.keys → WaitRightly (tree_of b.plan) s.table.places
+    → ((n : ℕ) → IsAt b n (place_of s.table.places n)) → HasNothingIn s is_over w seen → CanEnterNone (record { book = b; scheduler = s }) w
+enter-none b s w is_over seen marks right places nothing =
     record {
       own = nothing.own;
       alone = refused-all b s w _ marks right nothing.alone;
       others = refused-all b s w _ marks right nothing.others;
+      entered = λ n e. at-refused b w n (place_of s.table.places n) e (places n);
     }

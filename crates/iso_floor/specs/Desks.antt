@@ -1,26 +1,32 @@
 -- What contracts see of a desk, and what its scheduler says truly of its book.
 --
 -- desk: A book with its scheduler (`DeskView`), of which the marks are those of the keys that the
--- book's held nodes take (`held_nodes`, `AreMarksOf`), and each node in a line of a key takes that
--- key with the line's access (`IsDesk`); that a worker could enter no node of its own lines or of
--- everyone's (`CanEnterNone`). No public clause cites it.
-use Rattle.std.specs.Prelude.{◌≡◌, ◌≢◌, ◌<◌, ℕ, List, Bool, None, ◌||◌, length}
+-- book's held nodes take (`held_nodes`, `AreMarksOf`), each node in a line of a key takes that key
+-- with the line's access, and each node that is with a worker, open or over is so in the book
+-- (`IsAt`, `IsDesk`); that a worker could enter no node of its own lines or of everyone's, and none
+-- that was entered (`CanEnterNone`). No public clause cites it.
+use Rattle.std.specs.Prelude.{◌≡◌, ◌≢◌, ◌<◌, ℕ, List, Bool, true, None, ◌||◌, length}
 use Rattle.iso_book.specs.Books.{BookView, refusal_in, state_in}
+use Rattle.iso_book.specs.Progress.{owner_in, phase_in}
 use Rattle.iso_desk.specs.Marking.{has}
-use Rattle.iso_desk.specs.Places.{IsEmpty, StandsIn}
+use Rattle.iso_desk.specs.Places.{IsEmpty, StandsIn, place_of}
 use Rattle.iso_desk.specs.declared.line.KeyLine.{KeyLine}
 use Rattle.iso_desk.specs.declared.line.Line.TheVariants.{Key, Own}
 use Rattle.iso_desk.specs.declared.line.Party.TheVariants.{Everyone, Worker}
+use Rattle.iso_desk.specs.declared.place.Place.{Place}
+use Rattle.iso_desk.specs.declared.place.Place.TheVariants.{Closed, Loose, InLine, With, Open, Over}
 use Rattle.iso_floor.specs.Grounds.{IsBookOf}
 use Rattle.iso_floor.specs.KeyMarks.{KeysView, is_taken}
-use Rattle.iso_floor.specs.Schedulers.{IsFor, SchedulerView, WaitRightly}
+use Rattle.iso_floor.specs.Schedulers.{IsFor, SchedulerView, WaitRightly, is_entered}
 use Rattle.iso_isolation.specs.States.{is_held}
 use Rattle.iso_model.specs.declared.access.Access.TheVariants.{Read, Write}
 use Rattle.iso_plan.specs.Paths.{column}
 use Rattle.iso_plan.specs.Planned.{Planned}
 use Rattle.iso_plan.specs.RowView.{tree_of}
 use Rattle.iso_settings.specs.Worlds.{Start}
+use Rattle.iso_standing.specs.Phases.{bare}
 use Rattle.iso_standing.specs.declared.event.Event.TheVariants.{Enter}
+use Rattle.iso_standing.specs.declared.phase.Phase.TheVariants as Phases
 
 -- the book, and where its nodes stand
 pub record DeskView : Type 0 where
@@ -38,21 +44,36 @@ pub record AreMarksOf (b : BookView) (v : KeysView) : Type 0 where
   pub held : (k : ℕ) → k < 256 → has v.held k ≡ (is_taken (tree_of b.plan) (held_nodes b) Write k
       || is_taken (tree_of b.plan) (held_nodes b) Read k)
 
+-- a node of a book has come so far that it may have a place: with a worker it is held and that
+-- worker's, as an open class it is open, and who is over is finished
+abbrev pub IsAt : BookView → ℕ → Place → Type 0
+IsAt b n Closed = Unit {0}
+IsAt b n Loose = Unit {0}
+IsAt b n (InLine s) = Unit {0}
+IsAt b n (With w) = (is_held (bare (phase_in b n)) ≡ true) × (owner_in b n ≡ w)
+IsAt b n Open = phase_in b n ≡ Phases.Open
+IsAt b n Over = phase_in b n ≡ Phases.Finished
+
 -- What every desk is: the book is of its ground, the scheduler is for its nodes and workers, the
--- marks are those of the keys that the book's held nodes take, and each node in a line of a key
--- takes that key with the line's access.
+-- marks are those of the keys that the book's held nodes take, each node in a line of a key takes
+-- that key with the line's access, and each node has come so far that it may have its place.
 pub record IsDesk (plan : Planned) (start : Start) (workers : ℕ) (b : BookView)
     (s : SchedulerView) : Type 0 where
   pub book : IsBookOf plan start workers b
   pub scheduler : IsFor (length plan.rows) workers s
   pub marks : AreMarksOf b s.keys
   pub lines : WaitRightly plan.rows s.table.places
+  pub places : (n : ℕ) → IsAt b n (place_of s.table.places n)
 
 -- A worker could enter nothing that waits for it: nobody stands in its own line, and the book
--- refuses it each node that stands in a line of a key, of the worker's own or of everyone's.
+-- refuses it each node that stands in a line of a key, of the worker's own or of everyone's, and
+-- each that has the place of one that was entered. What is left is Loose, Closed, or stands in a
+-- line of another worker.
 pub record CanEnterNone (d : DeskView) (w : ℕ) : Type 0 where
   pub own : IsEmpty d.scheduler.table.places (Own w)
   pub alone : (n : ℕ) (l : KeyLine) → l.party ≡ Worker w
       → StandsIn d.scheduler.table.places (Key l) n → refusal_in d.book (Enter w n) ≢ None
   pub others : (n : ℕ) (l : KeyLine) → l.party ≡ Everyone
       → StandsIn d.scheduler.table.places (Key l) n → refusal_in d.book (Enter w n) ≢ None
+  pub entered : (n : ℕ) → is_entered (place_of d.scheduler.table.places n) ≡ true
+      → refusal_in d.book (Enter w n) ≢ None

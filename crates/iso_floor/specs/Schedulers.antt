@@ -4,10 +4,11 @@
 -- put or taken next (`put`, `next_taken`), the line in which a node waits (`waiting_line`), which
 -- node a worker attempts or shuts next, and that there is none (`IsNextNode`, `HasNone`); who has
 -- nothing to wake for (`HasNothingIn`); how many nodes are loose (`loose_in`); that each node in a
--- line of a key takes that key with the line's access (`Takes`, `WaitRightly`). No public clause
--- cites it.
+-- line of a key takes that key with the line's access (`Takes`, `WaitRightly`); which nodes have the
+-- place of one that was entered (`is_entered`), and that a step gives that to none, or to one
+-- (`KeepsPlaces`, `IsMoved`). No public clause cites it.
 -- Also in: `Nexts`.
-use Rattle.std.specs.Prelude.{◌≡◌, ◌<◌, ◌==◌, ℕ, List, Option, None, Some, Bool, true, false, cond, is_some, length, not}
+use Rattle.std.specs.Prelude.{◌≡◌, ◌≢◌, ◌<◌, ◌==◌, ℕ, List, Option, None, Some, Bool, true, false, cond, is_some, length, not}
 use Rattle.iso_desk.specs.Crews.{HasNothing}
 use Rattle.iso_desk.specs.Places.{StandsIn, TableView, line_in, moved, place_of}
 use Rattle.iso_desk.specs.declared.crew.Member.{Member}
@@ -104,3 +105,23 @@ KeepsSizes old new = (nodes workers : ℕ) → IsFor nodes workers old → IsFor
 abbrev pub KeepsLines : (old new : SchedulerView) → Type 0
 KeepsLines old new = (tree : List Row) → WaitRightly tree old.table.places
     → WaitRightly tree new.table.places
+
+-- whether a place is one of a node that was entered: with a worker, open or over
+abbrev pub is_entered : Place → Bool
+is_entered Closed = false
+is_entered Loose = false
+is_entered (InLine s) = false
+is_entered (With w) = true
+is_entered Open = true
+is_entered Over = true
+
+-- a step gives no node the place of one that was entered: who has one had it before
+abbrev pub KeepsPlaces : (old new : SchedulerView) → Type 0
+KeepsPlaces old new = (n : ℕ) → is_entered (place_of new.table.places n) ≡ true
+    → place_of new.table.places n ≡ place_of old.table.places n
+
+-- a step gives one node alone the place of one that was entered, and this place
+pub record IsMoved (n : ℕ) (p : Place) (old new : List Place) : Type 0 where
+  pub here : is_entered (place_of new n) ≡ true → place_of new n ≡ p
+  pub others : (m : ℕ) → m ≢ n → is_entered (place_of new m) ≡ true
+      → place_of new m ≡ place_of old m

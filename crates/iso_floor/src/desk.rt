@@ -2,16 +2,18 @@
 ghost use Rattle.std.specs.Prelude.{◌≡◌, ◌<◌, ℕ, IfOk, IfSome, MatchResult, None, OnOk, length, not, true};
 ghost use Rattle.iso_book.specs.Books.{BookView};
 ghost use Rattle.iso_book.specs.Leaves.{IsLeft, IsNotLeft, MayBring, after_leave};
+ghost use Rattle.iso_book.specs.Progress.{phase_in};
 ghost use Rattle.iso_book.specs.Turns.{GoesOnWith, IsEntered, IsNotTaken, IsShut, IsTaken, MayEnterWith, ReadsStart};
 ghost use Rattle.iso_desk.specs.Crews.{awaits, member_of};
 ghost use Rattle.iso_floor.specs.Answering.{HasRun, has_changed};
 ghost use Rattle.iso_floor.specs.Desks.{CanEnterNone};
 ghost use Rattle.iso_floor.specs.Grounds.{IsBookOf, IsTrayOf};
-ghost use Rattle.iso_floor.specs.Schedulers.{KeepsLines, KeepsSizes};
+ghost use Rattle.iso_floor.specs.Schedulers.{KeepsLines, KeepsPlaces, KeepsSizes};
 ghost use Rattle.iso_locks.specs.Trays.{is_lent};
 ghost use Rattle.iso_plan.specs.HeldNodes.{takes_in};
 ghost use Rattle.iso_plan.specs.Locks.{locks};
 ghost use Rattle.iso_standing.specs.CodeEvents.{refused_of};
+ghost use Rattle.iso_standing.specs.declared.phase.Phase.TheVariants.{Open};
 
 use crate::ground::Ground;
 use crate::hints::Hints;
@@ -102,7 +104,7 @@ impl<'a, G: Ground> Desk<'a, G> {
     /// Whom the event that was booked wakes: those who wait for a change, where somebody does, and
     /// one worker that waits and has something to wake for, which is called by it. Where nobody is
     /// called, no worker that waits and wasn't called could enter a node in its own lines or in
-    /// everyone's.
+    /// everyone's, or one that was entered.
     pub(crate) fn wakes(&mut self) -> Wakes
         ensures book { self.new.book ≡ self.old.book }
         ensures nobody { result.worker ≡ None → (w : ℕ) → w < length self.old.scheduler.members
@@ -235,13 +237,14 @@ impl<'a, G: Ground> Desk<'a, G> {
             .wait_for(self.book.plan(), node, lock, worker)
     }
 
-    /// Opens a class up that its worker left open, and posts what may run beside others in it.
+    /// Opens a class up that is open in the book, and posts what may run beside others in it.
     pub(crate) fn open_up(
         &mut self,
         class: u32,
         worker: u32,
         owner: &mut Owner,
     ) -> Result<(), AllocError>
+        requires { phase_in self.old.book class ≡ Open }
         ensures { self.new.book ≡ self.old.book }
     {
         let plan = self.book.plan();
@@ -386,6 +389,7 @@ fn post_root(
 ) -> Result<(), AllocError>
     ensures sizes { KeepsSizes scheduler.old scheduler.new }
     ensures lines { KeepsLines scheduler.old scheduler.new }
+    ensures places { KeepsPlaces scheduler.old scheduler.new }
     ensures keys { scheduler.new.keys ≡ scheduler.old.keys }
 {
     match seats.first_mut() {

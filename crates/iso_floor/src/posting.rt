@@ -1,6 +1,6 @@
 //! What goes into the deques: what may run beside others, once its class is open.
 ghost use Rattle.std.specs.Prelude.{◌≡◌};
-ghost use Rattle.iso_floor.specs.Schedulers.{KeepsLines, KeepsSizes};
+ghost use Rattle.iso_floor.specs.Schedulers.{KeepsLines, KeepsPlaces, KeepsSizes};
 
 use crate::nodes::{children_of, is_concurrent};
 use crate::scheduler::Scheduler;
@@ -17,6 +17,7 @@ pub(crate) fn post_children(
 ) -> Result<(), AllocError>
     ensures sizes { KeepsSizes scheduler.old scheduler.new }
     ensures lines { KeepsLines scheduler.old scheduler.new }
+    ensures places { KeepsPlaces scheduler.old scheduler.new }
     ensures keys { scheduler.new.keys ≡ scheduler.old.keys }
 {
     let mut posted = false;

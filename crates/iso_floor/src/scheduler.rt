@@ -24,16 +24,16 @@
 //!     of everyone's is on offer, and no node lies in a deque, as far as it has seen.
 //! 11. Every turn, Leave and stop ends with a call: one worker that waits, wasn't called, and has
 //!     something to wake for.
-ghost use Rattle.std.specs.Prelude.{◌≡◌, ◌≢◌, ◌<◌, ◌≤◌, ◌+◌, ◌^◌, ◌==◌, ℕ, List, IfOk, IfSome, IsTrue, MatchOption, None, OnErr, OnOk, cond, false, length, not, true};
+ghost use Rattle.std.specs.Prelude.{◌≡◌, ◌≢◌, ◌<◌, ◌≤◌, ◌+◌, ◌^◌, ◌==◌, ℕ, List, [], IfOk, IfSome, IsTrue, MatchOption, None, OnErr, OnOk, cond, false, length, not, true};
 ghost use Rattle.std.specs.Bool.{Decides};
 ghost use Rattle.iso_desk.specs.Crews.{awaits, called, looking, member_of, waiting};
 ghost use Rattle.iso_desk.specs.Lines.{IsLineOf};
 ghost use Rattle.iso_desk.specs.Marking.{has, room};
 ghost use Rattle.iso_desk.specs.Places.{headed, line_in, lined_up, place_of};
-ghost use Rattle.iso_desk.specs.declared.place.Place.TheVariants.{Loose, Over, With};
+ghost use Rattle.iso_desk.specs.declared.place.Place.TheVariants.{Loose, Open, Over, With};
 ghost use Rattle.iso_floor.specs.KeyMarks.{AreRenewed};
 ghost use Rattle.iso_floor.specs.Nexts.{HasNone, IsNextNode};
-ghost use Rattle.iso_floor.specs.Schedulers.{HasNothingIn, IsFor, IsFree, KeepsLines, KeepsSizes, WaitRightly, is_loose, loose_in, next_taken, put, waiting_line};
+ghost use Rattle.iso_floor.specs.Schedulers.{HasNothingIn, IsFor, IsFree, IsMoved, KeepsLines, KeepsPlaces, KeepsSizes, WaitRightly, is_entered, is_loose, loose_in, next_taken, put, waiting_line};
 ghost use Rattle.iso_lifecycle.specs.declared.kind.BodyKind.TheVariants.{BeforeAll};
 ghost use Rattle.iso_plan.specs.HeldNodes.{takes_in};
 ghost use Rattle.iso_plan.specs.KeyTable.{keys};
@@ -116,6 +116,7 @@ impl Scheduler {
         ensures held { IfOk result (λ s. (k : ℕ) → has s.keys.held k ≡ false) }
         ensures written { IfOk result (λ s. (k : ℕ) → has s.keys.written k ≡ false) }
         ensures lines { IfOk result (λ s. (tree : List Row) → WaitRightly tree s.table.places) }
+        ensures places { IfOk result (λ s. IsMoved 0 Open [] s.table.places) }
     {
         let mut scheduler = Scheduler::closed(alloc, plan, workers)?;
         scheduler.open(plan, 0, FIRST_WORKER)?;
@@ -128,6 +129,8 @@ impl Scheduler {
         ensures held { IfOk result (λ s. (k : ℕ) → has s.keys.held k ≡ false) }
         ensures written { IfOk result (λ s. (k : ℕ) → has s.keys.written k ≡ false) }
         ensures lines { IfOk result (λ s. (tree : List Row) → WaitRightly tree s.table.places) }
+        ensures places { IfOk result (λ s. (n : ℕ) → is_entered (place_of s.table.places n)
+            ≡ false) }
     {
         let nodes = plan.len() as usize;
         Ok(Scheduler {
@@ -160,6 +163,8 @@ impl Scheduler {
         ensures rest { self.new ≡ record self.old { table = self.new.table } }
         ensures sizes { KeepsSizes self.old self.new }
         ensures lines { KeepsLines self.old self.new }
+        ensures places { IsMoved class Open self.old.table.places
+            self.new.table.places }
     {
         self.own(class, owner);
         self.put(class, Place::Open);
@@ -171,6 +176,7 @@ impl Scheduler {
         ensures step { self.new ≡ record self.old { table = put node Loose self.old.table } }
         ensures sizes { KeepsSizes self.old self.new }
         ensures lines { KeepsLines self.old self.new }
+        ensures places { KeepsPlaces self.old self.new }
     {
         self.put(node, Place::Loose);
     }
@@ -221,6 +227,7 @@ impl Scheduler {
         ensures left { self.new ≡ record self.old { table = next_taken result self.old.table } }
         ensures sizes { KeepsSizes self.old self.new }
         ensures lines { KeepsLines self.old self.new }
+        ensures places { KeepsPlaces self.old self.new }
     {
         if worker >= self.table.workers() {
             return None;
@@ -249,6 +256,7 @@ impl Scheduler {
         ensures sizes { KeepsSizes self.old self.new }
         ensures lines { (tree : List Row) → takes_in lock.access lock.key (locks tree node) ≡ true
             → WaitRightly tree self.old.table.places → WaitRightly tree self.new.table.places }
+        ensures places { KeepsPlaces self.old self.new }
     {
         let party = if is_concurrent(plan, node) {
             Party::Everyone
@@ -312,6 +320,8 @@ impl Scheduler {
         ensures past { length plan.now.rows ≤ node → self.new.keys ≡ self.old.keys }
         ensures sizes { KeepsSizes self.old self.new }
         ensures lines { KeepsLines self.old self.new }
+        ensures places { kind ≢ BeforeAll → IsMoved node Over self.old.table.places
+            self.new.table.places }
     {
         match kind {
             BodyKind::BeforeAll => {
@@ -345,6 +355,8 @@ impl Scheduler {
         ensures rest { self.new ≡ record self.old { table = self.new.table; keys = self.new.keys } }
         ensures sizes { KeepsSizes self.old self.new }
         ensures lines { KeepsLines self.old self.new }
+        ensures places { IsMoved node Over self.old.table.places
+            self.new.table.places }
     {
         let class = parent_of(plan, node);
         self.end(plan, held, node, class);
@@ -360,6 +372,8 @@ impl Scheduler {
         ensures rest { self.new ≡ record self.old { table = self.new.table; keys = self.new.keys } }
         ensures sizes { KeepsSizes self.old self.new }
         ensures lines { KeepsLines self.old self.new }
+        ensures places { IsMoved node Over self.old.table.places
+            self.new.table.places }
     {
         self.put(node, Place::Over);
         self.renew(plan, held, node);
@@ -372,6 +386,7 @@ impl Scheduler {
         ensures rest { self.new ≡ record self.old { table = self.new.table } }
         ensures sizes { KeepsSizes self.old self.new }
         ensures lines { KeepsLines self.old self.new }
+        ensures places { KeepsPlaces self.old self.new }
     {
         if self.place(class) != Place::Open {
             return Ok(());
@@ -509,6 +524,8 @@ impl Scheduler {
         ensures step { self.new ≡ record self.old { table = put node place self.old.table } }
         ensures sizes { KeepsSizes self.old self.new }
         ensures lines { KeepsLines self.old self.new }
+        ensures places { IsMoved node place self.old.table.places
+            self.new.table.places }
     {
         if self.is_free(node) {
             let was = is_loose(self.table.place(node));
@@ -592,6 +609,7 @@ impl Scheduler {
         ensures rest { self.new ≡ record self.old { table = self.new.table } }
         ensures sizes { KeepsSizes self.old self.new }
         ensures lines { KeepsLines self.old self.new }
+        ensures places { KeepsPlaces self.old self.new }
     {
         match self.next_child(plan, class) {
             Some(child) => self.give_to_owner(class, child),
@@ -619,6 +637,7 @@ impl Scheduler {
         ensures rest { self.new ≡ record self.old { table = self.new.table } }
         ensures sizes { KeepsSizes self.old self.new }
         ensures lines { KeepsLines self.old self.new }
+        ensures places { KeepsPlaces self.old self.new }
     {
         let Some(kept) = self.classes.get(class as usize) else {
             return Ok(())

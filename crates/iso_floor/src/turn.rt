@@ -1,6 +1,8 @@
 //! What a worker finds to do.
 ghost use Rattle.std.specs.Prelude.{◌≡◌, MatchOption};
+ghost use Rattle.iso_book.specs.Progress.{phase_in};
 ghost use Rattle.iso_floor.specs.Turning.{IsTurn};
+ghost use Rattle.iso_standing.specs.declared.phase.Phase.TheVariants.{Open};
 
 use crate::desk::Desk;
 use crate::ground::Ground;
@@ -135,6 +137,7 @@ impl<'a, G: Ground> Seat<'a, G> {
 
     // Opens a class up to the other workers, whose children aren't done.
     fn open_up(&mut self, desk: &mut Desk<'a, G>, class: u32) -> Option<Turn>
+        requires { phase_in desk.old.book class ≡ Open }
         ensures { MatchOption result (self.new ≡ self.old) (λ turn. IsTurn turn self.old self.new) }
     {
         let worker = self.worker();

@@ -1,3 +1,5 @@
+use Rattle.std.proofs.Common.{ap}
+use Rattle.iso_floor.specs.Schedulers.{SchedulerView}
 use Rattle.iso_standing.specs.declared.event.Event.TheVariants.{Enter}
 use Rattle.iso_floor.proofs.DeskLemmas.{desk-entered}
 use Rattle.iso_floor.proofs.desk.Desk.enter.Goals as goal
@@ -12,7 +14,7 @@ invariant_of-self-2 g c =
       desk =
           desk-entered g.G.Ground.plan g.G.Ground.start g.G.Ground.workers i.book c.enter_own.new.self (Enter c.args.worker n) entered.event.book c.plan.result.now c.nodes_are_a_tree.ensures
           c.plan.ensures
-          i.scheduler c.enter.new.self n c.plan-2.result.now c.held.result.now.held entered.held c.plan-2.ensures c.held.ensures.held step.keys step.past step.sizes step.lines
-          c.self.invariant.desk;
+          i.scheduler c.enter.new.self c.args.worker n c.plan-2.result.now c.held.result.now.held entered.held c.plan-2.ensures c.held.ensures.held step.keys step.past step.sizes step.lines
+          entered.progress (ap (λ (x : SchedulerView). x.table) step.place) c.self.invariant.desk;
       seats = c.self.invariant.seats;
     }

@@ -1,5 +1,6 @@
 use Rattle.std.proofs.Common.{ℕ, subst, sym}
 use Rattle.iso_book.specs.Holdings.{HoldAfter}
+use Rattle.iso_book.specs.Progress.{HasGoneOn}
 use Rattle.iso_floor.specs.Desks.{IsDesk}
 use Rattle.iso_lifecycle.specs.declared.kind.BodyKind.{BodyKind}
 use Rattle.iso_standing.specs.declared.event.Event.TheVariants.{Leave}
@@ -15,10 +16,12 @@ invariant_of-self-then-is_err g c =
     let a = c.leave_own.new.self in
     let held : HoldAfter c.kind-kind.result c.node-node.result b a =
     subst (λ (k : BodyKind). HoldAfter k c.node-node.result b a) (sym c.kind-kind.ensures) (subst (λ (n : ℕ). HoldAfter c.args.done.kind n b a) (sym c.node-node.ensures) left.held) in
+    let progress : HasGoneOn c.kind-kind.result c.node-node.result b a =
+    subst (λ (k : BodyKind). HasGoneOn k c.node-node.result b a) (sym c.kind-kind.ensures) (subst (λ (n : ℕ). HasGoneOn c.args.done.kind n b a) (sym c.node-node.ensures) left.progress) in
     let is : IsDesk g.G.Ground.plan g.G.Ground.start g.G.Ground.workers a c.leave-left.new.self =
     desk-left g.G.Ground.plan g.G.Ground.start g.G.Ground.workers i.book c.leave_own.new.self (Leave c.args.worker) left.event.book c.plan.result.now c.nodes_are_a_tree.ensures c.plan.ensures
     i.scheduler c.leave-left.new.self c.kind-kind.result c.node-node.result c.plan-2.result.now c.held.result.now.held held c.plan-2.ensures c.held.ensures.held step.stays step.keys step.past
-    step.sizes step.lines c.self.invariant.desk in
+    step.sizes step.lines progress step.places c.self.invariant.desk in
     record { desk = desk-stopped g.G.Ground.plan g.G.Ground.start g.G.Ground.workers a c.stop.new.self c.leave-left.new.self c.stop.ensures is; seats = c.self.invariant.seats }
 
 pub invariant_of-self-else-is_err : goal.invariant_of-self-else-is_err
@@ -30,10 +33,12 @@ invariant_of-self-else-is_err g c =
     let a = c.leave_own.new.self in
     let held : HoldAfter c.kind-kind.result c.node-node.result b a =
     subst (λ (k : BodyKind). HoldAfter k c.node-node.result b a) (sym c.kind-kind.ensures) (subst (λ (n : ℕ). HoldAfter c.args.done.kind n b a) (sym c.node-node.ensures) left.held) in
+    let progress : HasGoneOn c.kind-kind.result c.node-node.result b a =
+    subst (λ (k : BodyKind). HasGoneOn k c.node-node.result b a) (sym c.kind-kind.ensures) (subst (λ (n : ℕ). HasGoneOn c.args.done.kind n b a) (sym c.node-node.ensures) left.progress) in
     let is : IsDesk g.G.Ground.plan g.G.Ground.start g.G.Ground.workers a c.leave-left.new.self =
     desk-left g.G.Ground.plan g.G.Ground.start g.G.Ground.workers i.book c.leave_own.new.self (Leave c.args.worker) left.event.book c.plan.result.now c.nodes_are_a_tree.ensures c.plan.ensures
     i.scheduler c.leave-left.new.self c.kind-kind.result c.node-node.result c.plan-2.result.now c.held.result.now.held held c.plan-2.ensures c.held.ensures.held step.stays step.keys step.past
-    step.sizes step.lines c.self.invariant.desk in
+    step.sizes step.lines progress step.places c.self.invariant.desk in
     record { desk = is; seats = c.self.invariant.seats }
 
 pub returns-clause-event : goal.returns-clause-event

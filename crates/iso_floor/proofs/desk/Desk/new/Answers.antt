@@ -1,9 +1,11 @@
 use Rattle.std.proofs.Common.{rules, ap, length, subst, sym, ◌∙◌}
 use Rattle.iso_desk.specs.Marking.{has}
+use Rattle.iso_desk.specs.declared.place.Place.TheVariants.{Open}
 use Rattle.iso_floor.specs.Desks.{IsDesk}
 use Rattle.iso_floor.specs.KeyMarks.{KeysView}
 use Rattle.iso_floor.specs.Schedulers.{SchedulerView}
 use Rattle.iso_floor.proofs.DeskLemmas.{desk-new}
+use Rattle.iso_floor.proofs.PlaceLemmas.{moved-kept}
 use Rattle.iso_floor.proofs.desk.Desk.new.Goals as goal
 
 pub invariant_of-result-2 : goal.invariant_of-result-2
@@ -19,6 +21,6 @@ invariant_of-result-2 g c =
           c.in_ok-new.ensures c.nodes_are_a_tree.ensures
           (posted.sizes (length p.rows) c.args.workers new.sizes) (λ k. ap (λ (v : KeysView). has v.held k) posted.keys ∙ new.held k)
           (λ k. ap (λ (v : KeysView). has v.written k) posted.keys ∙ new.written k)
-          (posted.lines p.rows (new.lines p.rows)));
+          (posted.lines p.rows (new.lines p.rows)) (moved-kept _ _ _ 0 Open new.places posted.places));
       seats = search rules;
     }

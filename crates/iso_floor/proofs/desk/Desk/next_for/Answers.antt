@@ -6,6 +6,6 @@ invariant_of-self g c =
     let i = c.self.inside in
     record {
       desk = desk-table g.G.Ground.plan g.G.Ground.start g.G.Ground.workers i.book i.scheduler c.next_for.new.self c.next_for.ensures.left c.next_for.ensures.sizes
-          (c.next_for.ensures.lines g.G.Ground.plan.rows) c.self.invariant.desk;
+          (c.next_for.ensures.lines g.G.Ground.plan.rows) c.next_for.ensures.places c.self.invariant.desk;
       seats = c.self.invariant.seats;
     }

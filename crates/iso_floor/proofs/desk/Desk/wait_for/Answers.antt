@@ -6,6 +6,6 @@ invariant_of-self g c =
     let i = c.self.inside in
     record {
       desk = desk-table g.G.Ground.plan g.G.Ground.start g.G.Ground.workers i.book i.scheduler c.wait_for.new.self c.wait_for.ensures.rest c.wait_for.ensures.sizes
-          (c.wait_for.ensures.lines g.G.Ground.plan.rows c.requires) c.self.invariant.desk;
+          (c.wait_for.ensures.lines g.G.Ground.plan.rows c.requires) c.wait_for.ensures.places c.self.invariant.desk;
       seats = c.self.invariant.seats;
     }

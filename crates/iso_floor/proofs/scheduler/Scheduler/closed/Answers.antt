@@ -1,10 +1,11 @@
 use Rattle.std.proofs.Common.{List, ap, length, sym, ◌∙◌}
 use Rattle.std.proofs.lemmas.List.{length-replicate}
 use Rattle.iso_desk.specs.Crews.{fresh}
-use Rattle.iso_desk.specs.Places.{TableView}
+use Rattle.iso_desk.specs.Places.{TableView, place_of}
 use Rattle.iso_desk.specs.declared.crew.Member.{Member}
-use Rattle.iso_floor.specs.Schedulers.{loose_in}
+use Rattle.iso_floor.specs.Schedulers.{is_entered, loose_in}
 use Rattle.iso_floor.proofs.LooseLemmas.{none-loose}
+use Rattle.iso_floor.proofs.LooseLemmas.{all-closed}
 use Rattle.iso_floor.proofs.scheduler.Scheduler.closed.Goals as goal
 
 pub invariant_of-result : goal.invariant_of-result
@@ -15,3 +16,6 @@ invariant_of-result c =
           ∙ sym (ap (λ (t : TableView). t.workers) c.in_ok-new.ensures);
       loose_are = sym (ap (λ (t : TableView). loose_in t.places) c.in_ok-new.ensures ∙ none-loose c.len.result);
     }
+
+pub returns-clause-places : goal.returns-clause-places
+returns-clause-places c = λ m. ap (λ (t : TableView). is_entered (place_of t.places m)) c.in_ok-new.ensures ∙ ap is_entered (all-closed c.len.result m)

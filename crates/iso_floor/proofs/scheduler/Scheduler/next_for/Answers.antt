@@ -5,6 +5,7 @@ use Rattle.iso_floor.specs.Schedulers.{SchedulerView, WaitRightly, loose_in}
 use Rattle.iso_floor.proofs.LooseLemmas.{left-line}
 use Rattle.iso_floor.proofs.RightLemmas.{right-moved}
 use Rattle.iso_floor.proofs.SchedulerLemmas.{stands-within}
+use Rattle.iso_floor.proofs.PlaceLemmas.{Keeps, keeps-set}
 use Rattle.iso_floor.proofs.scheduler.Scheduler.next_for.Goals as goal
 
 pub invariant_of-self : goal.invariant_of-self
@@ -26,3 +27,9 @@ returns-clause-lines c =
     λ tree right.
     subst (λ (t : TableView). WaitRightly tree t.places) (sym c.leave.ensures)
     (right-moved tree c.self.inside.table n Closed refl (subst (λ (s : SchedulerView). WaitRightly tree s.table.places) (sym c.self.view_is) right))
+
+pub returns-clause-places : goal.returns-clause-places
+returns-clause-places c =
+    let places = c.self.inside.table.places in
+    subst (λ (s : SchedulerView). Keeps s.table.places c.leave.new.self.places) c.self.view_is
+    (subst (λ (t : TableView). Keeps places t.places) (sym c.leave.ensures) (keeps-set places c.in_ok-node.node Closed refl))

@@ -4,6 +4,8 @@ use Rattle.iso_floor.specs.Schedulers.{IsFree, SchedulerView, WaitRightly, is_lo
 use Rattle.iso_floor.proofs.LooseLemmas.{has-room, recount, was-counted}
 use Rattle.iso_floor.proofs.RightLemmas.{right-moved}
 use Rattle.iso_floor.proofs.SchedulerLemmas.{put-kept}
+use Rattle.iso_floor.specs.Schedulers.{IsMoved}
+use Rattle.iso_floor.proofs.PlaceLemmas.{moved-put, moved-set}
 use Rattle.iso_floor.proofs.scheduler.Scheduler.put.Goals as goal
 
 pub recounted-self-inside-requires-clause-was : goal.recounted-self-inside-requires-clause-was
@@ -42,3 +44,15 @@ returns-then-is_free-clause-lines c =
     λ tree right.
     subst (λ (t : TableView). WaitRightly tree t.places) (sym c.put.ensures)
     (right-moved tree c.self.inside.table c.args.node c.args.place c.requires (subst (λ (s : SchedulerView). WaitRightly tree s.table.places) (sym c.self.view_is) right))
+
+pub returns-then-is_free-clause-places : goal.returns-then-is_free-clause-places
+returns-then-is_free-clause-places c =
+    let places = c.self.inside.table.places in
+    subst (λ (s : SchedulerView). IsMoved c.args.node c.args.place s.table.places c.put.new.self.places) c.self.view_is
+    (subst (λ (t : TableView). IsMoved c.args.node c.args.place places t.places) (sym c.put.ensures) (moved-set places c.args.node c.args.place))
+
+pub returns-else-is_free-clause-places : goal.returns-else-is_free-clause-places
+returns-else-is_free-clause-places c =
+    let t = c.args.self.now.table in
+    subst (λ (u : TableView). IsMoved c.args.node c.args.place t.places u.places) (put-kept t c.args.node c.args.place (λ f. let no = c.is_free.ensures.free.1 f in cc))
+    (moved-put t c.args.node c.args.place)
