@@ -167,7 +167,7 @@ impl<'a, W: Sink> BufferedPrinter<'a, W> {
     }
 }
 
-/// Writes bytes to a sink to which so many were written, and tells how many that makes.
+/// Writes bytes to a sink that took `written` before, and tells how many it took with them.
 fn bytes_to<W: Sink>(sink: &mut W, written: u64, bytes: &[u8]) -> (Result<(), SinkFailed>, u64)
     requires { written ≤ (W.account sink.old).count }
     ensures wrote { OnOk result.0 (Wrote (W.account sink.old) (W.account sink.new) bytes.now) }
@@ -180,7 +180,7 @@ fn bytes_to<W: Sink>(sink: &mut W, written: u64, bytes: &[u8]) -> (Result<(), Si
     (result, printer.written())
 }
 
-/// Writes a line to a sink to which so many bytes were written, and tells how many that makes.
+/// Writes a line to a sink that took `written` bytes before, and tells how many it took then.
 fn line_to<W: Sink>(
     sink: &mut W,
     written: u64,
