@@ -19,6 +19,7 @@ pub mod MergeLemmas
 pub mod MergedLemmas
 pub mod ModeLemmas
 pub mod NodeSetLemmas
+pub mod NoIsolation
 pub mod NumberLemmas
 pub mod PathLemmas
 pub mod PathTextLemmas

@@ -1,5 +1,6 @@
 //! Which top-level classes are isolated, or hold a class that is (JUnit 5, `@Isolated`).
 ghost use Rattle.std.specs.Prelude.{◌≡◌, ◌<◌, ◌≤◌, ◌||◌, ◌&&◌, ℕ, false, true, IfOk, IfSome, length, slice_index_or};
+ghost use Rattle.std.specs.List.{list_any};
 ghost use Rattle.iso_model.specs.declared.limits.TheConstants.{NODES};
 ghost use Rattle.iso_plan.specs.KeyTable.{kind_marks};
 ghost use Rattle.iso_plan.specs.Locks.{holds_isolated, is_isolated, is_that, marks_global};
@@ -19,12 +20,29 @@ pub(crate) fn isolated(alloc: Global, rows: &[Row]) -> Result<Vec<bool>, AllocEr
     ensures { IfOk result (λ v. v.items ≡ column (holds_isolated (nodes_in rows.now))
         (length rows.now)) }
 {
+    if !any_isolates(rows) {
+        return Ok(vec![in alloc; false; rows.len()]?);
+    }
     let tops = tops(alloc, rows)?;
     let mut isolated = vec![in alloc; false; rows.len()]?;
     'nodes: for n in 0..rows.len() {
         note_isolation(&mut isolated, tops[n], rows[n].kind.isolates());
     }
     Ok(isolated)
+}
+
+/// Whether a node is an isolated class, or a mark that is written on one names the global key. Where
+/// this isn't so, no node asks for isolation.
+fn any_isolates(rows: &[Row]) -> bool
+    ensures { result ≡ list_any (λ r. is_isolated (kind_of r.kind) || marks_global r.written.items)
+        rows.now }
+{
+    'rows: for row in rows {
+        if row.kind.is_isolated() || marks_global(&row.written) {
+            return true;
+        }
+    }
+    false
 }
 
 /// Notes that a top-level class holds a node which asks for isolation, if it does.
@@ -51,12 +69,19 @@ fn tops(alloc: Global, rows: &[Row]) -> Result<Vec<Option<u32>>, AllocError>
 }
 
 impl Kind {
+    /// Whether the node is an isolated class.
+    fn is_isolated(&self) -> bool
+        ensures { result ≡ is_isolated (kind_of self.now) }
+    {
+        matches!(self, Kind::Class { isolated: true, .. })
+    }
+
     /// Whether the node asks for isolation.
     pub(crate) fn isolates(&self) -> bool
         ensures { result ≡ (is_isolated (kind_of self.now)
             || marks_global (kind_marks (kind_of self.now))) }
     {
-        matches!(self, Kind::Class { isolated: true, .. }) || marks_global(self.marks())
+        self.is_isolated() || marks_global(self.marks())
     }
 }
 

@@ -1,10 +1,9 @@
 //! The access rights of each node.
 ghost use Rattle.std.specs.Prelude.{◌≡◌, ◌<◌, ◌↔◌, ℕ, List, IfOk, IsTrue, length, map};
 ghost use Rattle.iso_model.specs.Rights.{rights_of, strongest};
-ghost use Rattle.iso_plan.specs.KeyTable.{kind_marks};
 ghost use Rattle.iso_plan.specs.NodeChains.{node_rights};
 ghost use Rattle.iso_plan.specs.Paths.{IsTree, column};
-ghost use Rattle.iso_plan.specs.RowView.{kind_of, nodes_in, rights_in};
+ghost use Rattle.iso_plan.specs.RowView.{nodes_in, rights_in};
 
 use crate::row::Row;
 use iso_model::heads::Mark;
@@ -14,7 +13,7 @@ use std::alloc::{AllocError, Global};
 use std::sync::Arc;
 
 /// The access rights that each node's chain gives: those of the node's parent, which it
-/// shares, and its own. A node without marks has its parent's, and one with the marks of the
+/// shares, and its own. A node without marks has its parent's, and one with the written marks of the
 /// sibling before it that one's.
 pub(crate) fn rights(alloc: Global, rows: &[Row]) -> Result<Vec<Arc<Rights>>, AllocError>
     requires { IsTree (nodes_in rows.now) }
@@ -53,13 +52,13 @@ fn rights_at(
     below(alloc, &known[row.parent as usize], row.kind.marks())
 }
 
-/// Whether two nodes are children of one class and have the same marks: so they have the same
-/// rights.
-fn are_alike(a: &Row, b: &Row) -> bool
+/// Whether two nodes are children of one class, with the same marks written on them: so they have
+/// the same effective marks and the same rights.
+pub(crate) fn are_alike(a: &Row, b: &Row) -> bool
     ensures { IsTrue result ↔ ((a.now.parent ≡ b.now.parent)
-        × (kind_marks (kind_of a.now.kind) ≡ kind_marks (kind_of b.now.kind))) }
+        × (a.now.written.items ≡ b.now.written.items)) }
 {
-    a.parent == b.parent && same_marks(a.kind.marks(), b.kind.marks())
+    a.parent == b.parent && same_marks(&a.written, &b.written)
 }
 
 /// The rights of a child of a class with these rights, where these are the child's own marks: one

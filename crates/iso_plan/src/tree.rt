@@ -25,12 +25,50 @@ pub(crate) fn written_tree(
     ensures fits { IfOk result (λ v. vec_len v ≤ most) }
     ensures full { IfErr result (IsFull most (length (written_tree (map script_of scripts.now)))) }
 {
-    let mut rows = Vec::new(alloc);
+    let mut rows = Vec::with_capacity(alloc, room_for(scripts, most))?;
     rows.push(root(alloc))?;
     'scripts: for script in scripts {
         add_team(alloc, &mut rows, script, most)?;
     }
     Ok(rows)
+}
+
+/// For how many nodes of scripts room is made at once: for all of them and the root, but for no more
+/// than `most`.
+fn room_for(scripts: &[Script], most: u32) -> usize {
+    let mut count = 1usize;
+    'scripts: for script in scripts {
+        count = count.saturating_add(count_classes(&script.classes));
+    }
+    count.min(most as usize)
+}
+
+/// How many nodes classes have.
+fn count_classes(classes: &[Class]) -> usize {
+    let mut count = 0usize;
+    'classes: for class in classes {
+        count = count.saturating_add(count_class(class));
+    }
+    count
+}
+
+/// How many nodes a class has. It calls itself once for each class around the innermost one.
+#[cycle(count)]
+fn count_class(class: &Class) -> usize {
+    let mut count = 1usize;
+    'members: for member in &class.members {
+        count = count.saturating_add(count_member(member));
+    }
+    count
+}
+
+/// How many nodes a member has.
+#[cycle(count)]
+fn count_member(member: &Member) -> usize {
+    match member {
+        Member::Class(class) => count_class(class),
+        Member::Test(_) => 1,
+    }
 }
 
 /// The root.

@@ -1,14 +1,30 @@
-use Rattle.std.proofs.Common.{◌≡◌, ◌<◌, ◌≤◌, ◌||◌, ◌&&◌, ℕ, Option, Some, None, Bool, false, IfSome, length, map, get_or, refl, ap, ap₂, sym, ◌∙◌, add-one, arith}
+use Rattle.std.proofs.Common.{rules, List, [], ◌∷◌, ◌≡◌, ◌<◌, ◌≤◌, ◌||◌, ◌&&◌, ℕ, Option, Some, None, Bool, false, IfSome, length, map, get_or, refl, ap, ap₂, sym, ◌∙◌, add-one, arith}
 use Rattle.std.proofs.lemmas.List.{length-map, get_or_default}
-use Rattle.iso_plan.proofs.ColumnLemmas.{length-column, column-read, column-from, row-at}
+use Rattle.std.specs.List.{list_any}
+use Rattle.iso_plan.proofs.ColumnLemmas.{length-column, column-read, column-from, replicate-column, row-at}
+use Rattle.iso_plan.proofs.NoIsolation.{asks, none-isolated}
 use Rattle.iso_plan.proofs.SoFar.{all-isolate, isolates_below}
 use Rattle.iso_plan.proofs.TopLemmas.{top, top-le, isolates-next}
 use Rattle.iso_plan.specs.KeyTable.{kind_marks}
 use Rattle.iso_plan.specs.Locks.{holds_isolated, is_isolated, is_that, isolates, marks_global}
-use Rattle.iso_plan.specs.Paths.{is_top}
-use Rattle.iso_plan.specs.RowView.{row_of}
+use Rattle.iso_plan.specs.Paths.{column, is_top}
+use Rattle.iso_plan.specs.RowView.{kind_of, row_of}
+use Rattle.iso_plan.specs.declared.row.Row.{Row}
 use Rattle.iso_plan.specs.Tree as T
 use Rattle.iso_plan.proofs.isolated.isolated.Goals as goal
+
+asked : (rs : List Row) → list_any asks (map row_of rs) ≡ list_any (λ (r : Row). is_isolated (kind_of r.kind) || marks_global r.written.items) rs
+asked [] = refl
+asked (r ∷ rs) = ap (λ (b : Bool). asks (row_of r) || b) (asked rs)
+
+pub returns-then-not-any_isolates : goal.returns-then-not-any_isolates
+returns-then-not-any_isolates c =
+    let rows = c.args.rows.now in
+    let tree = map row_of rows in
+    let off : c.any_isolates.result ≡ false = c.if-not-any_isolates.true in
+    let calm : list_any asks tree ≡ false = asked rows ∙ sym c.any_isolates.ensures ∙ off in
+    c.in_ok-vec.ensures.items_if_clones_equal (λ y h. search rules) ∙ replicate-column false (length rows)
+    ∙ ap (λ (f : ℕ → Bool). column f (length rows)) (λ i n. sym (none-isolated tree c.requires.tree calm n) i)
 
 pub index-requires : goal.index-requires
 index-requires c =

@@ -1,7 +1,10 @@
-use Rattle.std.proofs.Common.{◌≡◌, ◌<◌, ◌-◌, ℕ, List, map, Option, None, ap, sym, ◌∙◌, arith}
+use Rattle.std.proofs.Common.{◌≡◌, ◌<◌, ◌-◌, ℕ, List, length, map, Option, None, ap, ap₂, sym, ◌∙◌, arith}
+use Rattle.std.proofs.lemmas.List.{length-map}
 use Rattle.std.proofs.lemmas.Result.{IfOk-weaker}
 use Rattle.iso_model.specs.Rights.{access_in}
+use Rattle.iso_model.specs.Targets.{effective}
 use Rattle.iso_model.specs.declared.access.Access.{Access}
+use Rattle.iso_model.specs.declared.heads.Mark.{Mark}
 use Rattle.iso_plan.proofs.ColumnLemmas.{row-at, view-read, within-views}
 use Rattle.iso_plan.proofs.LawLemmas.{rights-alike, rights-below, root-rights}
 use Rattle.iso_plan.specs.KeyTable.{kind_marks}
@@ -31,8 +34,11 @@ returns-then-are_alike c = λ k.
     let here : row_at tree n ≡ row_of b = row-at rows n b (omega arith) ∙ ap row_of (sym c.index-rows-n-then-n-gt1.is) in
     let alike = c.are_alike.ensures.0 c.if-are_alike.true in
     let class : parent tree (n - 1) ≡ parent tree n = ap (λ (r : T.Row). r.parent) before ∙ alike.0 ∙ sym (ap (λ (r : T.Row). r.parent) here) in
+    let written : (row_at tree (n - 1)).written ≡ (row_at tree n).written = ap (λ (r : T.Row). r.written) before ∙ alike.1 ∙ sym (ap (λ (r : T.Row). r.written) here) in
+    let many : length tree ≡ length rows = length-map rows row_of in
     let marks : kind_marks (row_at tree (n - 1)).kind ≡ kind_marks (row_at tree n).kind =
-    ap (λ (r : T.Row). kind_marks r.kind) before ∙ alike.1 ∙ sym (ap (λ (r : T.Row). kind_marks r.kind) here) in
+    c.requires.tree.marked (n - 1) (omega arith) (omega arith) ∙ ap₂ (λ (p : ℕ) (own : List Mark). effective (row_at tree p).written own) class written
+    ∙ sym (c.requires.tree.marked n (omega arith) (omega arith)) in
     let known : rights_in c.index-known-n.result ≡ node_rights tree (n - 1) =
     ap rights_in c.index-known-n.is ∙ view-read rights_in (node_rights tree) c.args.known.now n (n - 1) c.index-known-n.result (λ _. None) c.requires.known (omega arith) in
     ap (λ es. access_in es k) c.in_ok-clone.ensures.cases ∙ ap (λ (f : List ℕ → Option Access). f k) known
