@@ -24,6 +24,7 @@ pub mod NumberLemmas
 pub mod PathLemmas
 pub mod PathTextLemmas
 pub mod PreorderLemmas
+pub mod RepeatLemmas
 pub mod SameMarks
 pub mod SameTrees
 pub mod SelectFirst

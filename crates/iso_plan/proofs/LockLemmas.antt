@@ -116,27 +116,52 @@ listed-from f (k ∷ ks) [] i h each =
 listed-from f (k ∷ ks) (o ∷ os) i h each =
     ap₂ (λ (x : Option Access) (ls : List Lock). lock_of i x ++ ls) (each 0 (omega arith)) (listed-from f ks os (suc i) (omega arith) (λ j l. each (suc j) (omega arith)))
 
--- tables of accesses by key number for l nodes, where what is marked on the first n is gathered
-pub record TablesAre (tree : List Row) (l : ℕ) (tables : List (List (Option Access))) (n : ℕ) : Type 0 where
-  pub each : length tables ≡ l
-  pub sizes : (m : ℕ) → m < l → length (get_or tables m []) ≡ cond (is_top tree m || is_locking tree m) (length (keys tree)) 0
-  pub so_far : (m i : ℕ) → m < l → i < length (keys tree) → get_or (get_or tables m []) i None ≡ taken_below tree m (get_or (keys tree) i []) n
+-- how many accesses a node's table has: none where it is left out
+abbrev pub size_of : List Row → (ℕ → Bool) → ℕ → ℕ
+size_of tree out m = cond (out m) 0 (cond (is_top tree m || is_locking tree m) (length (keys tree)) 0)
 
-pub tables-start : (tree : List Row) (l : ℕ) (tables : List (List (Option Access))) → tables ≡ column (own_table tree (length (keys tree))) l → TablesAre tree l tables 0
-tables-start tree l tables e =
-    let size : ℕ → ℕ = λ m. cond (is_top tree m || is_locking tree m) (length (keys tree)) 0 in
+-- tables of accesses by key number for l nodes, where what is marked on the first n is gathered, and those of some are left out
+pub record TablesAre (tree : List Row) (out : ℕ → Bool) (l : ℕ) (tables : List (List (Option Access))) (n : ℕ) : Type 0 where
+  pub each : length tables ≡ l
+  pub sizes : (m : ℕ) → m < l → length (get_or tables m []) ≡ size_of tree out m
+  pub so_far : (m i : ℕ) → m < l → out m ≡ false → i < length (keys tree) → get_or (get_or tables m []) i None ≡ taken_below tree m (get_or (keys tree) i []) n
+
+-- the tables before anything is gathered
+abbrev pub first_table : List Row → (ℕ → Bool) → ℕ → List (Option Access)
+first_table tree out n = cond (out n) [] (own_table tree (length (keys tree)) n)
+
+first_size : (tree : List Row) (m : ℕ) (b : Bool) → length (cond b [] (own_table tree (length (keys tree)) m)) ≡ cond b 0 (cond (is_top tree m || is_locking tree m) (length (keys tree)) 0)
+first_size tree m true = refl
+first_size tree m false =
+    let size = cond (is_top tree m || is_locking tree m) (length (keys tree)) 0 in
+    first-length (own_global tree m) (replicate size None) ∙ length-replicate size None
+
+pub tables-start : (tree : List Row) (out : ℕ → Bool) (l : ℕ) (tables : List (List (Option Access))) → tables ≡ column (first_table tree out) l → TablesAre tree out l tables 0
+tables-start tree out l tables e =
     record {
-      each = ap length e ∙ length-column (own_table tree (length (keys tree))) l;
-      sizes = λ m h. ap length (column-read (own_table tree (length (keys tree))) tables l m [] e h) ∙ first-length (own_global tree m) (replicate (size m) None) ∙ length-replicate (size m) None;
-      so_far = λ m i h k. ap (λ (t : List (Option Access)). get_or t i None) (column-read (own_table tree (length (keys tree))) tables l m [] e h) ∙ own-start tree m i k;
+      each = ap length e ∙ length-column (first_table tree out) l;
+      sizes = λ m h. ap length (column-read (first_table tree out) tables l m [] e h) ∙ first_size tree m (out m);
+      so_far = λ m i h kept k. ap (λ (t : List (Option Access)). get_or t i None) (column-read (first_table tree out) tables l m [] e h)
+          ∙ ap (λ (b : Bool). get_or (cond b [] (own_table tree (length (keys tree)) m)) i None) kept ∙ own-start tree m i k;
     }
 
-pub tables-skip : (tree : List Row) → IsBelow tree → (l : ℕ) (tables : List (List (Option Access))) (n : ℕ) → TablesAre tree l tables n → locking_node tree n ≡ None → TablesAre tree l tables (n + 1)
-tables-skip tree b l tables n t e =
+pub tables-skip : (tree : List Row) (out : ℕ → Bool) → IsBelow tree → (l : ℕ) (tables : List (List (Option Access))) (n : ℕ) → TablesAre tree out l tables n → locking_node tree n ≡ None
+    → TablesAre tree out l tables (n + 1)
+tables-skip tree out b l tables n t e =
     record {
       each = t.each;
       sizes = t.sizes;
-      so_far = λ m i h k. rw add-one (t.so_far m i h k ∙ sym (taken-other tree b m n (get_or (keys tree) i []) (ap (λ (o : Option ℕ). is_that o m) e)));
+      so_far = λ m i h kept k. rw add-one (t.so_far m i h kept k ∙ sym (taken-other tree b m n (get_or (keys tree) i []) (ap (λ (o : Option ℕ). is_that o m) e)));
+    }
+
+-- a node adds nothing where it adds nothing to what each node takes whose table isn't left out
+pub tables-stay : (tree : List Row) (out : ℕ → Bool) (l : ℕ) (tables : List (List (Option Access))) (n : ℕ) → TablesAre tree out l tables n
+    → ((m : ℕ) (k : List ℕ) → out m ≡ false → taken_below tree m k (suc n) ≡ taken_below tree m k n) → TablesAre tree out l tables (n + 1)
+tables-stay tree out l tables n t same =
+    record {
+      each = t.each;
+      sizes = t.sizes;
+      so_far = λ m i h kept k. rw add-one (t.so_far m i h kept k ∙ sym (same m (get_or (keys tree) i []) kept));
     }
 
 or_true : (b : Bool) → (b || true) ≡ true
@@ -144,59 +169,69 @@ or_true true = refl
 or_true false = refl
 
 -- a locking node has a table of all keys
-pub locking-size : (tree : List Row) → IsBelow tree → (l : ℕ) (tables : List (List (Option Access))) (n m : ℕ)
-    → TablesAre tree l tables n → locking_node tree n ≡ Some m → m < l → length (get_or tables m []) ≡ length (keys tree)
-locking-size tree b l tables n m t e h =
-    t.sizes m h ∙ ap (λ (u : Bool). cond (is_top tree m || u) (length (keys tree)) 0) (locking-locks tree b m n e) ∙ ap (λ (u : Bool). cond u (length (keys tree)) 0) (or_true (is_top tree m))
+pub locking-size : (tree : List Row) (out : ℕ → Bool) → IsBelow tree → (l : ℕ) (tables : List (List (Option Access))) (n m : ℕ)
+    → TablesAre tree out l tables n → locking_node tree n ≡ Some m → m < l → out m ≡ false → length (get_or tables m []) ≡ length (keys tree)
+locking-size tree out b l tables n m t e h kept =
+    t.sizes m h ∙ ap (λ (o : Bool). cond o 0 (cond (is_top tree m || is_locking tree m) (length (keys tree)) 0)) kept
+    ∙ ap (λ (u : Bool). cond (is_top tree m || u) (length (keys tree)) 0) (locking-locks tree b m n e) ∙ ap (λ (u : Bool). cond u (length (keys tree)) 0) (or_true (is_top tree m))
 
-size_by : (tree : List Row) (l : ℕ) (tables : List (List (Option Access))) (n m : ℕ) (new : List (Option Access)) → TablesAre tree l tables n → m < length tables
+size_by : (tree : List Row) (out : ℕ → Bool) (l : ℕ) (tables : List (List (Option Access))) (n m : ℕ) (new : List (Option Access)) → TablesAre tree out l tables n → m < length tables
     → length new ≡ length (get_or tables m []) → (j : ℕ) → j < l → (u : Bool) → (m == j) ≡ u
-    → length (get_or (set tables m new) j []) ≡ cond (is_top tree j || is_locking tree j) (length (keys tree)) 0
-size_by tree l tables n m new t w s j h true e =
+    → length (get_or (set tables m new) j []) ≡ size_of tree out j
+size_by tree out l tables n m new t w s j h true e =
     let same : m ≡ j = eq_from m j e in
     ap (λ (k : ℕ). length (get_or (set tables m new) k [])) (sym same) ∙ ap length (get_or-set_same tables m new [] w) ∙ s ∙ ap (λ (k : ℕ). length (get_or tables k [])) same ∙ t.sizes j h
-size_by tree l tables n m new t w s j h false e =
+size_by tree out l tables n m new t w s j h false e =
     ap length (get_or-set_other tables m j new [] (λ same. let yes : (m == j) ≡ true = ap (λ k. m == k) same ∙ eq_same m in absurd (cc))) ∙ t.sizes j h
 
-so_far_by : (tree : List Row) → IsBelow tree → (l : ℕ) (tables : List (List (Option Access))) (n m : ℕ) (new : List (Option Access)) → TablesAre tree l tables n → locking_node tree n ≡ Some m
-    → m < l → m < length tables → ((i : ℕ) → i < length (keys tree) → get_or new i None ≡ strongest (declared tree n (get_or (keys tree) i [])) (get_or (get_or tables m []) i None))
-    → (j i : ℕ) → j < l → i < length (keys tree) → (u : Bool) → (m == j) ≡ u → get_or (get_or (set tables m new) j []) i None ≡ taken_below tree j (get_or (keys tree) i []) (suc n)
-so_far_by tree b l tables n m new t own hm w each j i hj hi true e =
+so_far_by : (tree : List Row) (out : ℕ → Bool) → IsBelow tree → (l : ℕ) (tables : List (List (Option Access))) (n m : ℕ) (new : List (Option Access)) → TablesAre tree out l tables n
+    → locking_node tree n ≡ Some m → m < l → m < length tables
+    → ((i : ℕ) → i < length (keys tree) → get_or new i None ≡ strongest (declared tree n (get_or (keys tree) i [])) (get_or (get_or tables m []) i None))
+    → (j i : ℕ) → j < l → out j ≡ false → i < length (keys tree) → (u : Bool) → (m == j) ≡ u → get_or (get_or (set tables m new) j []) i None ≡ taken_below tree j (get_or (keys tree) i []) (suc n)
+so_far_by tree out b l tables n m new t own hm w each j i hj kept hi true e =
     let same : m ≡ j = eq_from m j e in
     let k = get_or (keys tree) i [] in
     ap (λ (x : ℕ). get_or (get_or (set tables m new) x []) i None) (sym same) ∙ ap (λ (x : List (Option Access)). get_or x i None) (get_or-set_same tables m new [] w)
-    ∙ each i hi ∙ ap (strongest (declared tree n k)) (t.so_far m i hm hi) ∙ sym (taken-same tree b m n k own) ∙ ap (λ (x : ℕ). taken_below tree x k (suc n)) same
-so_far_by tree b l tables n m new t own hm w each j i hj hi false e =
+    ∙ each i hi ∙ ap (strongest (declared tree n k)) (t.so_far m i hm (ap out same ∙ kept) hi) ∙ sym (taken-same tree b m n k own) ∙ ap (λ (x : ℕ). taken_below tree x k (suc n)) same
+so_far_by tree out b l tables n m new t own hm w each j i hj kept hi false e =
     let k = get_or (keys tree) i [] in
     ap (λ (x : List (Option Access)). get_or x i None) (get_or-set_other tables m j new [] (λ same. let yes : (m == j) ≡ true = ap (λ k. m == k) same ∙ eq_same m in absurd (cc)))
-    ∙ t.so_far j i hj hi ∙ sym (taken-other tree b j n k (ap (λ (o : Option ℕ). is_that o j) own ∙ e))
+    ∙ t.so_far j i hj kept hi ∙ sym (taken-other tree b j n k (ap (λ (o : Option ℕ). is_that o j) own ∙ e))
 
 -- what is marked on a node is gathered in the table of its locking node
-pub tables-gather : (tree : List Row) → IsBelow tree → (l : ℕ) (tables : List (List (Option Access))) (n m : ℕ) (new : List (Option Access))
-    → TablesAre tree l tables n → locking_node tree n ≡ Some m → m < l → length new ≡ length (get_or tables m [])
-    → ((i : ℕ) → i < length (keys tree) → get_or new i None ≡ strongest (declared tree n (get_or (keys tree) i [])) (get_or (get_or tables m []) i None)) → TablesAre tree l (set tables m new) (n + 1)
-tables-gather tree b l tables n m new t own h s each =
+pub tables-gather : (tree : List Row) (out : ℕ → Bool) → IsBelow tree → (l : ℕ) (tables : List (List (Option Access))) (n m : ℕ) (new : List (Option Access))
+    → TablesAre tree out l tables n → locking_node tree n ≡ Some m → m < l → length new ≡ length (get_or tables m [])
+    → ((i : ℕ) → i < length (keys tree) → get_or new i None ≡ strongest (declared tree n (get_or (keys tree) i [])) (get_or (get_or tables m []) i None))
+    → TablesAre tree out l (set tables m new) (n + 1)
+tables-gather tree out b l tables n m new t own h s each =
     let w : m < length tables = rw t.each h in
     record {
       each = length-set tables m new ∙ t.each;
-      sizes = λ j hj. size_by tree l tables n m new t w s j hj (m == j) refl;
-      so_far = λ j i hj hi. rw add-one (so_far_by tree b l tables n m new t own h w each j i hj hi (m == j) refl);
+      sizes = λ j hj. size_by tree out l tables n m new t w s j hj (m == j) refl;
+      so_far = λ j i hj kept hi. rw add-one (so_far_by tree out b l tables n m new t own h w each j i hj kept hi (m == j) refl);
     }
 
 few_by : (b : Bool) (k : ℕ) → cond b k 0 ≤ k
 few_by true k = omega arith
 few_by false k = omega arith
 
-pub table-fits : (tree : List Row) (l : ℕ) (tables : List (List (Option Access))) (n m : ℕ) → TablesAre tree l tables n → m < l → length (get_or tables m []) ≤ length (keys tree)
-table-fits tree l tables n m t h =
+fewer_by : (b : Bool) (n k : ℕ) → n ≤ k → cond b 0 n ≤ k
+fewer_by true n k h = omega arith
+fewer_by false n k h = h
+
+pub table-fits : (tree : List Row) (out : ℕ → Bool) (l : ℕ) (tables : List (List (Option Access))) (n m : ℕ) → TablesAre tree out l tables n → m < l → length (get_or tables m []) ≤ length (keys tree)
+table-fits tree out l tables n m t h =
     let size = t.sizes m h in
-    let few : cond (is_top tree m || is_locking tree m) (length (keys tree)) 0 ≤ length (keys tree) = few_by (is_top tree m || is_locking tree m) (length (keys tree)) in
+    let some = cond (is_top tree m || is_locking tree m) (length (keys tree)) 0 in
+    let few : some ≤ length (keys tree) = few_by (is_top tree m || is_locking tree m) (length (keys tree)) in
+    let fewer : cond (out m) 0 some ≤ length (keys tree) = fewer_by (out m) some (length (keys tree)) few in
     omega arith
 
 -- where all is gathered, the tables have the locks
-pub tables-end : (tree : List Row) (l : ℕ) (tables : List (List (Option Access))) (m : ℕ) → TablesAre tree l tables (length tree) → m < l → locks_from 0 (get_or tables m []) ≡ locks tree m
-tables-end tree l tables m t h =
-    listed-from (taken tree m) (keys tree) (get_or tables m []) 0 (table-fits tree l tables (length tree) m t h) (λ i k. t.so_far m i h k ∙ sym (all-taken tree m (get_or (keys tree) i [])))
+pub tables-end : (tree : List Row) (out : ℕ → Bool) (l : ℕ) (tables : List (List (Option Access))) (m : ℕ) → TablesAre tree out l tables (length tree) → m < l → out m ≡ false
+    → locks_from 0 (get_or tables m []) ≡ locks tree m
+tables-end tree out l tables m t h kept =
+    listed-from (taken tree m) (keys tree) (get_or tables m []) 0 (table-fits tree out l tables (length tree) m t h) (λ i k. t.so_far m i h kept k ∙ sym (all-taken tree m (get_or (keys tree) i [])))
 
 known_by : (os : List (Option Access)) (i most : ℕ) → i + length os ≤ most → AllByRecursion (λ (l : Lock). l.key < most) (locks_from i os)
 known_by [] i most h = tt

@@ -25,7 +25,7 @@ use Rattle.iso_model.specs.contracts.heads.TestHead as test
 use Rattle.iso_model.specs.contracts.tree.Stmt as stmt
 use Rattle.iso_desk.proofs.marks.Marks.TheSendSync as desk_marks
 use Rattle.iso_plan.proofs.held_nodes.KeyUse.TheSendSync as key_use
-use Rattle.iso_plan.proofs.lock.Lock.TheSendSync as lock
+use Rattle.iso_plan.proofs.shared_locks.SharedLocks.TheSendSync as lock
 use Rattle.std.specs.contracts.option.Option as option
 use denote.Ref.{NamedLft}
 use denote.RattleType.{RattleType}

@@ -12,7 +12,6 @@ use Rattle.iso_plan.specs.RowView.{heads_in, nodes_in, rights_in}
 use Rattle.iso_plan.specs.declared.columns.Chained.{Chained}
 use Rattle.iso_plan.specs.declared.columns.Keyed.{Keyed}
 use Rattle.iso_plan.specs.declared.columns.Locked.{Locked}
-use Rattle.iso_plan.specs.declared.lock.Lock.{Lock}
 use Rattle.iso_plan.specs.declared.row.Row.{Row}
 use Rattle.iso_settings.specs.declared.settings.Settings.{Settings}
 
@@ -27,8 +26,7 @@ pub record IsChained (rows : List Row) (c : Chained) : Type 0 where
 -- their locking nodes and locks
 pub record IsLocked (rows : List Row) (l : Locked) : Type 0 where
   pub locking_are : l.locking.items ≡ column (locking_node (nodes_in rows)) (length rows)
-  pub locks_are : map (λ (v : Vec Lock Global). v.items) l.locks.items
-      ≡ column (locks (nodes_in rows)) (length rows)
+  pub locks_are : l.locks.items ≡ column (locks (nodes_in rows)) (length rows)
 
 -- the keys, and the locks and modes of all nodes under settings
 pub record IsKeyed (rows : List Row) (settings : Settings) (k : Keyed) : Type 0 where

@@ -18,6 +18,7 @@ pub mod PathTexts
 pub mod Paths
 pub mod Planned
 pub mod Preorder
+pub mod Repeated
 pub mod Rising
 pub mod RowView
 pub mod SameNodes

@@ -12,12 +12,12 @@ use crate::child_lists::children;
 use crate::fault::PlanError;
 use crate::isolated::isolated;
 use crate::keys::{copied, number_keys, numbers};
-use crate::lock::Lock;
 use crate::locking::locking_nodes;
 use crate::locks::locks;
 use crate::modes::modes;
 use crate::rights::rights;
 use crate::row::Row;
+use crate::shared_locks::SharedLocks;
 use indexmap::IndexSet;
 use iso_model::heads::ClassHead;
 use iso_model::key_map::KeyMap;
@@ -40,7 +40,7 @@ pub(crate) struct Chained {
 #[derive(Drop)]
 pub(crate) struct Locked {
     pub locking: Vec<Option<u32>>,
-    pub locks: Vec<Vec<Lock>>,
+    pub locks: Vec<SharedLocks>,
 }
 
 /// The keys of a plan by number, with what its nodes lock of them, and their modes.

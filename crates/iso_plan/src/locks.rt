@@ -1,6 +1,6 @@
 //! The locks of each node: what is marked on it and below it, gathered where it is the locking
 //! node.
-ghost use Rattle.std.specs.Prelude.{◌≡◌, ◌<◌, ◌≤◌, ◌+◌, ◌&&◌, ℕ, None, Some, [], IfOk, IfSome, ◌||◌, cond, length, map, not, replicate, slice_index_or, slice_set, bytes_eq};
+ghost use Rattle.std.specs.Prelude.{◌≡◌, ◌<◌, ◌≤◌, ◌+◌, ◌-◌, ◌&&◌, ℕ, List, Bool, None, Some, [], false, true, IfOk, IfSome, ◌||◌, cond, length, map, not, replicate, slice_index_or, slice_set, bytes_eq};
 ghost use Rattle.std.specs.List.{IsDistinct};
 ghost use Rattle.iso_model.specs.Rights.{declared_by, rights_of, strongest};
 ghost use Rattle.iso_model.specs.declared.access.Access.TheVariants.{Read, Write};
@@ -10,9 +10,12 @@ ghost use Rattle.iso_plan.specs.Locks.{holds_isolated, is_that, locking_node, lo
 ghost use Rattle.iso_plan.specs.Paths.{IsTree, column, is_root};
 ghost use Rattle.iso_plan.specs.RowView.{nodes_in};
 ghost use Rattle.iso_plan.specs.Tables.{own_table, with_first};
+ghost use Rattle.iso_plan.specs.declared.lock.Lock.{Lock};
 
 use crate::lock::Lock;
+use crate::repeated::repeated;
 use crate::row::Row;
+use crate::shared_locks::SharedLocks;
 use indexmap::IndexSet;
 use iso_model::access::Access;
 use iso_model::heads::Mark;
@@ -25,7 +28,7 @@ pub(crate) fn locks(
     key_table: &IndexSet<&str>,
     isolated: &[bool],
     locking: &[Option<u32>],
-) -> Result<Vec<Vec<Lock>>, AllocError>
+) -> Result<Vec<SharedLocks>, AllocError>
     requires tree { IsTree (nodes_in rows.now) }
     requires fits { length rows.now ≤ NODES }
     requires keys { map (λ k. k.now) key_table.now.keys ≡ keys (nodes_in rows.now) }
@@ -33,41 +36,52 @@ pub(crate) fn locks(
     requires isolated { isolated.now ≡ column (holds_isolated (nodes_in rows.now))
         (length rows.now) }
     requires locking { locking.now ≡ column (locking_node (nodes_in rows.now)) (length rows.now) }
-    ensures { IfOk result (λ v. map (λ l. l.items) v.items
-        ≡ column (locks (nodes_in rows.now)) (length rows.now)) }
+    ensures { IfOk result (λ v. v.items ≡ column (locks (nodes_in rows.now)) (length rows.now)) }
 {
     let mut followers = vec![in alloc; 0; key_table.len()]?;
-    let mut tables = own_tables(alloc, rows, key_table.len(), isolated, locking)?;
+    let repeated = repeated(alloc, rows)?;
+    let mut tables = own_tables(alloc, rows, key_table.len(), isolated, locking, &repeated)?;
     'nodes: for n in 0..rows.len() {
+        if repeated[n] {
+            continue;
+        }
         if let Some(m) = locking[n] {
             let marks = rows[n].kind.marks();
             gather(&mut tables[m as usize], key_table, &mut followers, marks);
         }
     }
-    listed_tables(alloc, &tables)
+    listed_tables(alloc, &tables, &repeated)
 }
 
 /// For each node that takes keys an access by key number: a top-level class takes the global key,
-/// and nothing is gathered yet. All other nodes have empty tables.
+/// and nothing is gathered yet. All other nodes have empty tables, and so have those that repeat
+/// the node before them.
 fn own_tables(
     alloc: Global,
     rows: &[Row],
     count: usize,
     isolated: &[bool],
     locking: &[Option<u32>],
+    repeated: &[bool],
 ) -> Result<Vec<Vec<Option<Access>>>, AllocError>
     requires fits { length rows.now ≤ NODES }
     requires isolated { isolated.now ≡ column (holds_isolated (nodes_in rows.now))
         (length rows.now) }
     requires locking { locking.now ≡ column (locking_node (nodes_in rows.now)) (length rows.now) }
+    requires repeated { length repeated.now ≡ length rows.now }
     ensures { IfOk result (λ v. map (λ t. t.items) v.items
-        ≡ column (own_table (nodes_in rows.now) count) (length rows.now)) }
+        ≡ column (λ n. cond (slice_index_or repeated.now n false) []
+        (own_table (nodes_in rows.now) count n)) (length rows.now)) }
 {
     let mut tables = Vec::with_capacity(alloc, rows.len())?;
     'nodes: for n in 0..rows.len() {
-        let top = is_top(n, rows[n].parent);
-        let locks = is_that(locking[n], n as u32);
-        let table = own_table(alloc, top, isolated[n], locks, count)?;
+        let table = if repeated[n] {
+            Vec::new(alloc)
+        } else {
+            let top = is_top(n, rows[n].parent);
+            let locks = is_that(locking[n], n as u32);
+            own_table(alloc, top, isolated[n], locks, count)?
+        };
         tables.push(table)?;
     }
     Ok(tables)
@@ -206,19 +220,31 @@ fn number_of(keys: &IndexSet<&str>, guess: usize, key: &str) -> Option<usize>
     keys.get_index_of(key)
 }
 
-/// The locks of each table.
+/// The locks of each table. A node that repeats the one before it shares that one's.
 fn listed_tables(
     alloc: Global,
     tables: &[Vec<Option<Access>>],
-) -> Result<Vec<Vec<Lock>>, AllocError>
-    requires { (n : ℕ) → n < length tables.now
+    repeated: &[bool],
+) -> Result<Vec<SharedLocks>, AllocError>
+    requires fits { (n : ℕ) → n < length tables.now
         → length (slice_index_or (map (λ t. t.items) tables.now) n []) ≤ KEYS + 1 }
-    ensures { IfOk result (λ v. map (λ l. l.items) v.items
-        ≡ map (λ t. locks_from 0 t.items) tables.now) }
+    requires each { length repeated.now ≡ length tables.now }
+    requires later { (n : ℕ) → slice_index_or repeated.now n false ≡ true → 0 < n }
+    ensures { (locks : ℕ → List Lock)
+        → ((n : ℕ) → n < length tables.now → slice_index_or repeated.now n false ≡ false
+        → locks_from 0 (slice_index_or (map (λ t. t.items) tables.now) n []) ≡ locks n)
+        → ((n : ℕ) → n < length tables.now → slice_index_or repeated.now n false ≡ true
+        → locks (n - 1) ≡ locks n)
+        → IfOk result (λ v. v.items ≡ column locks (length tables.now)) }
 {
-    let mut locks = Vec::with_capacity(alloc, tables.len())?;
-    'tables: for table in tables {
-        locks.push(listed(alloc, table)?)?;
+    let mut locks: Vec<SharedLocks> = Vec::with_capacity(alloc, tables.len())?;
+    'tables: for n in 0..tables.len() {
+        let own = if repeated[n] {
+            locks[n - 1].share()?
+        } else {
+            SharedLocks::new(alloc, listed(alloc, &tables[n])?)?
+        };
+        locks.push(own)?;
     }
     Ok(locks)
 }

@@ -7,8 +7,9 @@ ghost use Rattle.iso_plan.specs.Modes.{mode, nearest_mode};
 ghost use Rattle.iso_plan.specs.Paths.{IsTree, column, path};
 ghost use Rattle.iso_plan.specs.RowView.{nodes_in};
 
-use crate::lock::{Lock, takes_write};
+use crate::lock::takes_write;
 use crate::row::Row;
+use crate::shared_locks::SharedLocks;
 use iso_model::script::Mode;
 use iso_settings::settings::Settings;
 use std::alloc::{AllocError, Global};
@@ -19,10 +20,10 @@ pub(crate) fn modes(
     alloc: Global,
     rows: &[Row],
     settings: Settings,
-    taken: &[Vec<Lock>],
+    taken: &[SharedLocks],
 ) -> Result<Vec<Mode>, AllocError>
     requires tree { IsTree (nodes_in rows.now) }
-    requires taken { map (λ l. l.items) taken.now
+    requires taken { taken.now
         ≡ column (locks (nodes_in rows.now)) (length rows.now) }
     ensures { IfOk result (λ v. v.items ≡ column (mode (nodes_in rows.now) settings)
         (length rows.now)) }
@@ -75,9 +76,9 @@ fn nearest_modes(alloc: Global, rows: &[Row]) -> Result<Vec<Option<Mode>>, Alloc
 }
 
 /// For each node whether it, or one of its enclosing classes, takes a key for READ_WRITE.
-fn writing(alloc: Global, rows: &[Row], taken: &[Vec<Lock>]) -> Result<Vec<bool>, AllocError>
+fn writing(alloc: Global, rows: &[Row], taken: &[SharedLocks]) -> Result<Vec<bool>, AllocError>
     requires tree { IsTree (nodes_in rows.now) }
-    requires taken { map (λ l. l.items) taken.now
+    requires taken { taken.now
         ≡ column (locks (nodes_in rows.now)) (length rows.now) }
     ensures { IfOk result (λ v. v.items
         ≡ column (λ n. list_any (takes_write (nodes_in rows.now)) (path (nodes_in rows.now) n))
@@ -87,7 +88,7 @@ fn writing(alloc: Global, rows: &[Row], taken: &[Vec<Lock>]) -> Result<Vec<bool>
     writing.push(false)?;
     'nodes: for n in 1..rows.len() {
         let above = writing[rows[n].parent as usize];
-        writing.push(takes_write(&taken[n]) || above)?;
+        writing.push(takes_write(taken[n].as_slice()) || above)?;
     }
     Ok(writing)
 }

@@ -29,6 +29,7 @@ use crate::nodes::kept_rows;
 use crate::paths::is_path_of;
 use crate::row::{Kind, Row};
 use crate::same::same_rows;
+use crate::shared_locks::SharedLocks;
 use iso_model::chain::Chain;
 use iso_model::heads::{ClassHead, Mark};
 use iso_model::key_map::KeyMap;
@@ -54,7 +55,7 @@ pub struct Plan {
     keys: Vec<Text>,
     numbers: KeyMap<usize>,
     locking: Vec<Option<u32>>,
-    locks: Vec<Vec<Lock>>,
+    locks: Vec<SharedLocks>,
     modes: Vec<Mode>,
     /// How many classes the longest of the chains has: each tray asks for it.
     depth: usize,
@@ -77,7 +78,7 @@ impl Model for Plan {
     ghost invariant = { λ p. IsPlan (nodes_in p.rows.items) p.settings
         (map (λ c. c.items) p.children.items)
         (map heads_in p.chains.items) (map rights_in p.rights.items) p.keys.items p.numbers
-        p.locking.items (map (λ l. l.items) p.locks.items) p.modes.items p.depth };
+        p.locking.items p.locks.items p.modes.items p.depth };
 }
 
 /// The plan of scripts under settings.
@@ -282,7 +283,7 @@ impl Plan {
         ensures locks { result.now ≡ locks (tree_of self.now) node }
         ensures known { All (λ l. l.key < length (keys (tree_of self.now))) result.now }
     {
-        &self.locks[node as usize]
+        self.locks[node as usize].as_slice()
     }
 
     /// The locking node of a node's path, which takes the keys of all its descendants: a

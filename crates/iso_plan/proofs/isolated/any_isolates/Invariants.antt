@@ -5,4 +5,5 @@ use Rattle.iso_plan.specs.RowView.{kind_of}
 use Rattle.iso_plan.proofs.isolated.any_isolates.Given as goal
 
 abbrev pub invariant-rows : goal.invariant-rows
-invariant-rows l = list_any (λ r. is_isolated (kind_of r.kind) || marks_global r.written.items) (drop l.row-index l.rows) ≡ list_any (λ r. is_isolated (kind_of r.kind) || marks_global r.written.items) l.rows
+invariant-rows l = list_any (λ r. is_isolated (kind_of r.kind) || marks_global r.written.items) (drop l.row-index l.rows)
+    ≡ list_any (λ r. is_isolated (kind_of r.kind) || marks_global r.written.items) l.rows

@@ -1,4 +1,4 @@
-use Rattle.std.proofs.Common.{◌≡◌, ◌||◌, ◌&&◌, ℕ, List, Option, Some, None, Bool, false, cond, not, replicate, length, map, ap, ap₂, sym, ◌∙◌, arith}
+use Rattle.std.proofs.Common.{◌≡◌, [], get_or, ◌||◌, ◌&&◌, ℕ, List, Option, Some, None, Bool, false, cond, not, replicate, length, map, ap, ap₂, sym, ◌∙◌, arith}
 use Rattle.std.proofs.lemmas.List.{map_push}
 use Rattle.std.specs.declared.alloc.Global.{Global}
 use Rattle.std.specs.declared.vec.Vec.{Vec}
@@ -10,6 +10,7 @@ use Rattle.iso_plan.specs.Paths.{column, is_root, is_top}
 use Rattle.iso_plan.specs.RowView.{row_of}
 use Rattle.iso_plan.specs.Tables.{own_table, with_first}
 use Rattle.iso_plan.proofs.locks.own_tables.Goals as goal
+use Rattle.iso_plan.proofs.locks.own_tables.Goals.{then-repeated-n, else-repeated-n+in_ok-table}
 
 abbrev accesses : Vec (Option Access) Global → List (Option Access)
 accesses v = v.items
@@ -33,17 +34,23 @@ nodes-preserved c =
     let n = c.nodes.n in
     let k = c.args.count in
     let v = c.nodes.tables in
+    let left : Bool → List (Option Access) = λ b. cond b [] (own_table tree k n) in
     let made : Bool → Bool → Bool → List (Option Access) = λ t i l. with_first (cond t (Some (cond i Write Read)) None) (replicate (cond (t || l) k 0) None) in
-    let top : c.is_top-top.result ≡ is_top tree n = c.is_top-top.ensures ∙ ap (λ (p : ℕ). not (is_root n) && is_root p) (sym (parent-at rows n c.index-rows-n.result (omega arith))) in
     let isolated = column-read (holds_isolated tree) c.args.isolated.now (length rows) n false c.requires.isolated (omega arith) in
-    let locking : c.is_that-locks.result ≡ is_locking tree n = c.is_that-locks.ensures
-    ∙ ap (λ (o : Option ℕ). is_that o n) (column-read (locking_node tree) c.args.locking.now (length rows) n None c.requires.locking (omega arith)) in
-    let this : accesses c.in_ok-table.table ≡ own_table tree k n =
-    c.in_ok-table.ensures ∙ ap₂ (λ (t i : Bool). made t i c.is_that-locks.result) top isolated ∙ ap (made (is_top tree n) (holds_isolated tree n)) locking in
-    ap (map accesses) c.in_ok-push.ensures.items ∙ map_push accesses v.items c.in_ok-table.table
-    ∙ column-push (own_table tree k) (map accesses v.items) n (accesses c.in_ok-table.table) c.nodes.invariant this
+    let this : accesses c.if-repeated-n.table ≡ left (get_or c.args.repeated.now n false) =
+    elim c.if-repeated-n.branch [
+      | then-repeated-n w ↦ ap accesses w.table-is ∙ w.new-table.ensures.items ∙ sym (ap left w.if-repeated-n.true)
+      | else-repeated-n+in_ok-table w ↦
+          let top : w.is_top-top.result ≡ is_top tree n = w.is_top-top.ensures ∙ ap (λ (p : ℕ). not (is_root n) && is_root p) (sym (parent-at rows n w.index-rows-n.result (omega arith))) in
+          let locking : w.is_that-locks.result ≡ is_locking tree n = w.is_that-locks.ensures
+          ∙ ap (λ (o : Option ℕ). is_that o n) (column-read (locking_node tree) c.args.locking.now (length rows) n None c.requires.locking (omega arith)) in
+          ap accesses w.table-is ∙ w.in_ok-table.ensures ∙ ap₂ (λ (t i : Bool). made t i w.is_that-locks.result) top isolated ∙ ap (made (is_top tree n) (holds_isolated tree n)) locking
+          ∙ sym (ap left w.if-repeated-n.false)
+    ] in
+    ap (map accesses) c.in_ok-push.ensures.items ∙ map_push accesses v.items c.if-repeated-n.table
+    ∙ column-push (λ m. cond (get_or c.args.repeated.now m false) [] (own_table tree k m)) (map accesses v.items) n (accesses c.if-repeated-n.table) c.nodes.invariant this
 
 pub returns : goal.returns
 returns c =
     let last : c.nodes.n ≡ length c.args.rows.now = omega arith in
-    c.nodes.invariant ∙ ap (column (own_table (map row_of c.args.rows.now) c.args.count)) last
+    c.nodes.invariant ∙ ap (column (λ m. cond (get_or c.args.repeated.now m false) [] (own_table (map row_of c.args.rows.now) c.args.count m))) last

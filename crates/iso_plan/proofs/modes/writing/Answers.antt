@@ -1,19 +1,13 @@
 use Rattle.std.proofs.Common.{◌≡◌, [], ◌++◌, ◌∷◌, ◌||◌, ℕ, ◌<◌, List, Bool, false, length, map, get_or, ap, ap₂, sym, ◌∙◌, arith}
-use Rattle.std.proofs.lemmas.List.{length-map, get_or-map}
+use Rattle.std.proofs.lemmas.List.{length-map}
 use Rattle.std.specs.List.{list_any}
-use Rattle.std.specs.declared.alloc.Global.{Global}
-use Rattle.std.specs.declared.vec.Vec.{Vec}
-use Rattle.iso_plan.proofs.ColumnLemmas.{length-column, column-read, column-push, parent-at}
+use Rattle.iso_plan.proofs.ColumnLemmas.{length-column, column-read, within-column, column-push, parent-at}
 use Rattle.iso_plan.proofs.PathLemmas.{path-root, path-step}
 use Rattle.iso_plan.specs.Locks.{is_write, locks, takes_write}
 use Rattle.iso_plan.specs.Paths.{column, path, parent}
 use Rattle.iso_plan.specs.RowView.{row_of}
-use Rattle.iso_plan.specs.declared.lock.Lock.{Lock}
 use Rattle.iso_plan.proofs.modes.writing.Goals as goal
 use Rattle.iso_plan.proofs.modes.writing.Goals.{then-takes_write, else-takes_write}
-
-abbrev listed : Vec Lock Global → List Lock
-listed v = v.items
 
 pub nodes-init : goal.nodes-init
 nodes-init c =
@@ -31,13 +25,8 @@ index-above-requires c =
     let below : parent tree n < n = c.requires.tree.below n (omega arith) in
     omega (arith, v.ok.0)
 
-within : (vs : List (Vec Lock Global)) (f : ℕ → List Lock) (l n : ℕ) → map listed vs ≡ column f l → n < l → n < length vs
-within vs f l n e h =
-    let count : length vs ≡ l = sym (length-map vs listed) ∙ ap length e ∙ length-column f l in
-    omega arith
-
 pub bounds-taken-n : goal.bounds-taken-n
-bounds-taken-n c = within c.args.taken.now (locks (map row_of c.args.rows.now)) (length c.args.rows.now) c.nodes.n c.requires.taken (omega arith)
+bounds-taken-n c = within-column (locks (map row_of c.args.rows.now)) c.args.taken.now (length c.args.rows.now) c.nodes.n c.requires.taken (omega arith)
 
 pub nodes-preserved : goal.nodes-preserved
 nodes-preserved c =
@@ -51,9 +40,8 @@ nodes-preserved c =
     let f : ℕ → Bool = λ m. list_any (takes_write tree) (path tree m) in
     let above : c.index-above.result.now ≡ f (parent tree n) = c.index-above.ensures ∙ column-read f v.items n p c.index-above.result.now c.nodes.invariant (omega arith) ∙ ap f (sym at) in
     let own : c.takes_write.result ≡ takes_write tree n =
-    c.takes_write.ensures ∙ ap (list_any is_write) (c.deref.ensures.value ∙ ap listed c.index-taken-n.is
-    ∙ sym (get_or-map listed c.args.taken.now n c.index-taken-n.result [] (within c.args.taken.now (locks tree) (length rows) n c.requires.taken (omega arith)))
-    ∙ column-read (locks tree) (map listed c.args.taken.now) (length rows) n [] c.requires.taken (omega arith)) in
+    c.takes_write.ensures ∙ ap (list_any is_write) (c.as_slice.ensures ∙ c.index-taken-n.is
+    ∙ column-read (locks tree) c.args.taken.now (length rows) n c.index-taken-n.result c.requires.taken (omega arith)) in
     let joined : c.if-takes_write.push ≡ (c.takes_write.result || c.index-above.result.now) = elim c.if-takes_write.branch [
       | then-takes_write w ↦ w.push-is ∙ w.if-takes_write.true ∙ sym (ap (λ (b : Bool). b || c.index-above.result.now) w.if-takes_write.true)
       | else-takes_write w ↦ w.push-is ∙ sym (ap (λ (b : Bool). b || c.index-above.result.now) w.if-takes_write.false)

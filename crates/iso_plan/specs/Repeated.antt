@@ -1,0 +1,15 @@
+-- Tests that repeat the node before them.
+--
+-- tests that repeat the one before them: Both are tests of one class, with the same marks written
+-- on them (`Repeats`). They take the same keys, so that the later one shares the other's locks.
+use Rattle.std.specs.Prelude.{◌≡◌, ℕ, ◌<◌, ◌-◌, List, true}
+use Rattle.iso_plan.specs.Paths.{is_test, parent, row_at}
+use Rattle.iso_plan.specs.Tree.{Row}
+
+-- the node and the one before it are tests of one class, with the same marks written on them
+pub record Repeats (tree : List Row) (n : ℕ) : Type 0 where
+  pub later : 1 < n
+  pub first : is_test (row_at tree (n - 1)).kind ≡ true
+  pub second : is_test (row_at tree n).kind ≡ true
+  pub class : parent tree (n - 1) ≡ parent tree n
+  pub written : (row_at tree (n - 1)).written ≡ (row_at tree n).written
